@@ -1,0 +1,5 @@
+pub mod Letters
+pub mod Order
+pub mod Span
+pub mod Nodes
+pub mod RowOrder

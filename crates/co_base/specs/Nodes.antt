@@ -1,0 +1,14 @@
+-- The nodes of a federation and the bytes that stand for them in logs.
+use Rattle.std.specs.Prelude.{ℕ, ◌≤◌, ◌+◌}
+use Rattle.co_base.specs.declared.node.Node.{Node}
+use Rattle.co_base.specs.declared.node.Node.TheVariants.{Member, Coord}
+
+-- members are numbered 1 to 16, coordinators 1 to 8
+abbrev pub IsValidNode : Node → Type 0
+IsValidNode (Member number) = (1 ≤ number) × (number ≤ 16)
+IsValidNode (Coord number) = (1 ≤ number) × (number ≤ 8)
+
+-- a member's byte is its number, a coordinator's is 128 and its number
+abbrev pub node_byte : Node → ℕ
+node_byte (Member number) = number
+node_byte (Coord number) = 128 + number

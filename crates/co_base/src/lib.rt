@@ -1,0 +1,43 @@
+//! The words that the whole federation speaks: transaction numbers, nodes, keys, values, ranges,
+//! operations, replies and the small lists of these.
+//!
+//! A `Key`, a `Value`, a `Range`, `Rows` and `Txns` are valid from the moment they are made, and a
+//! contract sees each as what it stands for: text as its bytes, a list as a list.
+#![tactic(auto)]
+
+mod fault;
+mod head;
+mod key;
+mod leaves;
+mod letters;
+mod mark;
+mod node;
+mod op;
+mod part;
+mod range;
+mod reply;
+mod row;
+mod rows;
+mod sequence;
+mod txn;
+mod txns;
+mod value;
+mod written;
+
+pub use fault::BaseFault;
+pub use head::{Head, Kind, Kinds};
+pub use key::Key;
+pub use leaves::{Bytes, Leaves};
+pub use mark::{Mark, MarkKind, Marks};
+pub use node::Node;
+pub use op::Op;
+pub use part::{Part, Parts};
+pub use range::{Range, Ranges};
+pub use reply::{Replies, Reply};
+pub use row::Row;
+pub use rows::Rows;
+pub use sequence::Sequence;
+pub use txn::Txn;
+pub use txns::Txns;
+pub use value::Value;
+pub use written::{Writes, Written};

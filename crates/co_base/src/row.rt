@@ -1,0 +1,12 @@
+//! Records.
+use crate::key::Key;
+use crate::value::Value;
+
+/// A record: a key and its value.
+#[derive(Debug, Drop, PartialEq)]
+pub struct Row {
+    /// The name of the record.
+    pub key: Key,
+    /// What it holds.
+    pub value: Value,
+}

@@ -1,0 +1,13 @@
+//! What happens in a federation, and what it answers: the messages between nodes, the events that a
+//! schedule lists, the answers of nodes and the items of a transcript.
+#![tactic(auto)]
+
+mod answer;
+mod event;
+mod item;
+mod message;
+
+pub use answer::{Answer, Cause};
+pub use event::Event;
+pub use item::{Item, ItemKind, Items};
+pub use message::{Message, Messages};
