@@ -1,0 +1,10 @@
+pub mod Table
+pub mod Keys
+pub mod Changes
+pub mod EngineState
+pub mod ReadRule
+pub mod LockRule
+pub mod Conflicts
+pub mod StaleRead
+pub mod VotingRule
+pub mod Effects
