@@ -1,0 +1,155 @@
+-- Commitment ordering (Raz, VLDB 1992), as a test on the items of a transcript alone: where an operation of one
+-- committed transaction stands before a conflicting one of another, it is decided first.
+use Rattle.std.specs.Prelude.{ℕ, Bool, true, false, not, ◌&&◌, ◌||◌, ◌==◌, ◌≡◌, ◌≢◌, ◌⊎◌, List, [], ◌∷◌, ◌++◌, if◌then◌else◌, Option, None, Some}
+use Rattle.co_base.specs.declared.head.Kind.{Kind}
+use Rattle.co_base.specs.declared.head.Kind.TheVariants.{Lock, Occ, Mv}
+use Rattle.co_base.specs.declared.mark.Mark.{Mark}
+use Rattle.co_base.specs.declared.mark.MarkKind.{MarkKind}
+use Rattle.co_base.specs.declared.mark.MarkKind.TheVariants as kind
+use Rattle.co_base.specs.declared.node.Node.{Node}
+use Rattle.co_base.specs.declared.node.Node.TheVariants as node
+use Rattle.co_base.specs.declared.op.Op.{Op}
+use Rattle.co_base.specs.declared.op.Op.TheVariants as op
+use Rattle.co_base.specs.Span.{Span, span_has}
+use Rattle.co_base.specs.declared.written.Written.{Written}
+use Rattle.co_message.specs.declared.answer.Answer.{Answer}
+use Rattle.co_message.specs.declared.answer.Answer.TheVariants as answer
+use Rattle.co_message.specs.declared.event.Event.{Event}
+use Rattle.co_message.specs.declared.event.Event.TheVariants as event
+use Rattle.co_message.specs.declared.item.ItemKind.{ItemKind}
+use Rattle.co_message.specs.declared.item.ItemKind.TheVariants as item
+use Rattle.co_state.specs.Changes.{span_read, change_made}
+use Rattle.co_state.specs.Keys.{same_key}
+use Rattle.co_plain.specs.Numbers.{has_number}
+use Rattle.co_plain.specs.Opening.{kind_of}
+use Rattle.co_plain.specs.Sessions.{same_node}
+
+-- what the items tell of conflicts
+pub data Trace : Type 0 where
+  -- a transaction was begun, and this node decides it
+  Began : ℕ → Node → Trace
+  -- an operation was answered at a member
+  Operated : ℕ → ℕ → Op → Trace
+  -- a commit record became stable at a node
+  Committed : Node → ℕ → Trace
+
+abbrev pub traced_commit : MarkKind → Node → ℕ → List Trace
+traced_commit kind.Commit at t = Committed at t ∷ []
+traced_commit _ at t = []
+
+abbrev pub operation_in : Event → Option (ℕ × ℕ × Op)
+operation_in (event.Read t m key) = Some (t, m, op.Read key)
+operation_in (event.Write t m key value) = Some (t, m, op.Write key value)
+operation_in (event.Erase t m key) = Some (t, m, op.Erase key)
+operation_in (event.Scan t m span) = Some (t, m, op.Scan span)
+operation_in _ = None
+
+abbrev pub operated_by : Option (ℕ × ℕ × Op) → List Trace
+operated_by None = []
+operated_by (Some o) = Operated o.0 o.1 o.2 ∷ []
+
+abbrev pub begun_in : Event → List Trace
+begun_in (event.Begin t c) = Began t (node.Coord c) ∷ []
+begun_in _ = []
+
+-- an event whose answer follows it at once
+abbrev pub traced_answer : Event → Answer → List Trace
+traced_answer e (answer.Replied reply) = operated_by (operation_in e)
+traced_answer e answer.Begun = begun_in e
+traced_answer e _ = []
+
+abbrev pub trace_from : Option Event → List ItemKind → List Trace
+trace_from last [] = []
+trace_from last (item.Head head ∷ items) = trace_from None items
+trace_from last (item.Event e ∷ items) = trace_from (Some e) items
+trace_from last (item.Log mark ∷ items) = traced_commit mark.kind mark.node mark.number ++ trace_from last items
+trace_from last (item.Sent message ∷ items) = trace_from last items
+trace_from None (item.Answered a ∷ items) = trace_from None items
+trace_from (Some e) (item.Answered a ∷ items) = traced_answer e a ++ trace_from None items
+
+abbrev pub trace_of : List ItemKind → List Trace
+trace_of items = trace_from None items
+
+-- the node that decides a transaction
+abbrev pub decider_in : List Trace → ℕ → Option Node
+decider_in [] t = None
+decider_in (Began u by ∷ rest) t = if u == t then Some by else decider_in rest t
+decider_in (Operated u m o ∷ rest) t = decider_in rest t
+decider_in (Committed at u ∷ rest) t = decider_in rest t
+
+abbrev pub decides_at : Option Node → Node → Bool
+decides_at None at = false
+decides_at (Some by) at = same_node by at
+
+-- the transactions in the order in which they were decided
+abbrev pub decided_in : List Trace → List Trace → List ℕ
+decided_in whole [] = []
+decided_in whole (Began u by ∷ rest) = decided_in whole rest
+decided_in whole (Operated u m o ∷ rest) = decided_in whole rest
+decided_in whole (Committed at t ∷ rest) =
+    if decides_at (decider_in whole t) at then t ∷ decided_in whole rest else decided_in whole rest
+
+-- whether the member installed the transaction in this part of the trace
+abbrev pub installs : List Trace → ℕ → ℕ → Bool
+installs [] m t = false
+installs (Began u by ∷ rest) m t = installs rest m t
+installs (Operated u n o ∷ rest) m t = installs rest m t
+installs (Committed at u ∷ rest) m t = same_node at (node.Member m) && (u == t) || installs rest m t
+
+-- the part before the transaction's first operation at the member
+abbrev pub before_first : List Trace → ℕ → ℕ → List Trace
+before_first [] m t = []
+before_first (Began u by ∷ rest) m t = Began u by ∷ before_first rest m t
+before_first (Committed at u ∷ rest) m t = Committed at u ∷ before_first rest m t
+before_first (Operated u n o ∷ rest) m t = if (u == t) && (n == m) then [] else Operated u n o ∷ before_first rest m t
+
+-- the part that an operation behind this one sees
+abbrev pub part_seen : Kind → List Trace → ℕ → ℕ → List Trace
+part_seen Lock before m t = before
+part_seen Occ before m t = before
+part_seen Mv before m t = before_first before m t
+
+-- an operation of a transaction at a member, answered before its decision, and the trace before it
+pub record OperatedIn (trace : List Trace) (t m : ℕ) (o : Op) (before : List Trace) : Type 0 where
+  pub rest : List Trace
+  pub place : trace ≡ before ++ Operated t m o ∷ rest
+  pub undecided : has_number (decided_in trace before) t ≡ false
+
+-- a read of the key, and whether it sees the other one's install
+pub record ReadsKey (kinds : List Kind) (trace : List Trace) (t m : ℕ) (key : List ℕ) (other : ℕ) (sees : Bool) : Type 0 where
+  pub o : Op
+  pub before : List Trace
+  pub operated : OperatedIn trace t m o before
+  pub span : Span
+  pub reads : span_read o ≡ Some span
+  pub has : span_has span key ≡ true
+  pub seen : installs (part_seen (kind_of kinds m) before m t) m other ≡ sees
+
+-- a write of the key
+pub record WritesKey (trace : List Trace) (t m : ℕ) (key : List ℕ) : Type 0 where
+  pub o : Op
+  pub before : List Trace
+  pub operated : OperatedIn trace t m o before
+  pub change : Written
+  pub writes : change_made o ≡ Some change
+  pub same : same_key change.key key ≡ true
+
+-- the first one's install stands before the second one's, or is the only one
+pub data InstalledFirst (trace : List Trace) (m t u : ℕ) : Type 0 where
+  Before : (before rest : List Trace) → trace ≡ before ++ rest → installs before m t ≡ true → installs before m u ≡ false → InstalledFirst trace m t u
+
+-- t precedes u at a member: u read what t wrote, t read what u overwrote later, or both wrote one key
+pub data Precedes (kinds : List Kind) (trace : List Trace) (t u m : ℕ) : Type 0 where
+  ReadAfter : (key : List ℕ) → WritesKey trace t m key → ReadsKey kinds trace u m key t true → Precedes kinds trace t u m
+  ReadBefore : (key : List ℕ) → ReadsKey kinds trace t m key u false → WritesKey trace u m key → Precedes kinds trace t u m
+  WroteBefore : (key : List ℕ) → WritesKey trace t m key → WritesKey trace u m key → InstalledFirst trace m t u → Precedes kinds trace t u m
+
+-- t stands before u in the list
+pub data StandsBefore (order : List ℕ) (t u : ℕ) : Type 0 where
+  Stands : (before rest : List ℕ) → order ≡ before ++ u ∷ rest → has_number before t ≡ true → StandsBefore order t u
+
+abbrev pub IsCommitmentOrdered : List Kind → List ItemKind → Type 0
+IsCommitmentOrdered kinds items =
+    (t u m : ℕ) → t ≢ u → has_number (decided_in (trace_of items) (trace_of items)) t ≡ true →
+    has_number (decided_in (trace_of items) (trace_of items)) u ≡ true → Precedes kinds (trace_of items) t u m →
+    StandsBefore (decided_in (trace_of items) (trace_of items)) t u

@@ -1,0 +1,58 @@
+-- What a coordinator's log tells: the commits that wait for acknowledgements, and every number seen.
+use Rattle.std.specs.Prelude.{ℕ, Bool, true, false, not, ◌&&◌, ◌==◌, nat_le, suc, List, [], ◌∷◌, if◌then◌else◌, Option, None, Some}
+use Rattle.co_record.specs.declared.record.Record.{Record}
+use Rattle.co_record.specs.declared.record.Record.TheVariants as log
+use Rattle.co_state.specs.Table.{Table, no_entries, look, put, without, holds}
+use Rattle.co_plain.specs.MemberView.{Numbers, with_number}
+
+-- the commits without end, each with its participants; and the numbers of all commits
+pub record CoordView : Type 0 where
+  pub unended : Table (List ℕ)
+  pub seen : Numbers
+
+abbrev pub no_commits : CoordView
+no_commits = record { unended = no_entries; seen = no_entries }
+
+-- a commit without participants counts as ended at once
+abbrev pub unended_with : Table (List ℕ) → ℕ → List ℕ → Table (List ℕ)
+unended_with unended t [] = unended
+unended_with unended t (m ∷ ms) = put unended t (m ∷ ms)
+
+abbrev pub coord_told_by : CoordView → Record → CoordView
+coord_told_by v (log.Header node generation) = v
+coord_told_by v (log.Prepare t coord count reads writes) = v
+coord_told_by v (log.Commit t members) = record { unended = unended_with v.unended t members; seen = with_number v.seen t }
+coord_told_by v (log.Abort t) = v
+coord_told_by v (log.End t) = record { unended = without v.unended t; seen = v.seen }
+coord_told_by v (log.Checkpoint rows undos committed) = v
+
+-- what a log tells, its newest record first
+abbrev pub recovered_commits : List Record → CoordView
+recovered_commits [] = no_commits
+recovered_commits (r ∷ rs) = coord_told_by (recovered_commits rs) r
+
+abbrev pub all_up_to : ℕ → List ℕ → Bool
+all_up_to most [] = true
+all_up_to most (m ∷ ms) = nat_le 1 m && nat_le m most && all_up_to most ms
+
+-- Which record may stand where in a coordinator's log, in a federation of so many members.
+abbrev pub coord_allows : ℕ → ℕ → CoordView → Record → Bool
+coord_allows members place v (log.Header node generation) = place == 0
+coord_allows members place v (log.Checkpoint rows undos committed) = false
+coord_allows members place v (log.Prepare t coord count reads writes) = false
+coord_allows members place v (log.Commit t ms) = nat_le 1 place && not (holds v.seen t) && all_up_to members ms
+coord_allows members place v (log.Abort t) = false
+coord_allows members place v (log.End t) = holds v.unended t
+
+abbrev pub first_refused_commit : ℕ → ℕ → CoordView → List Record → Option ℕ
+first_refused_commit members place v [] = None
+first_refused_commit members place v (r ∷ rs) =
+    if coord_allows members place v r then first_refused_commit members (suc place) (coord_told_by v r) rs else Some place
+
+-- of a whole log, its oldest record first: the place of the first record that is not allowed
+abbrev pub first_refused_at_coord : ℕ → List Record → Option ℕ
+first_refused_at_coord members records = first_refused_commit members 0 no_commits records
+
+-- whether the file has a commit of the transaction, ended or not
+abbrev pub has_commit_of : List Record → ℕ → Bool
+has_commit_of records t = holds (recovered_commits records).seen t

@@ -1,0 +1,94 @@
+-- A step of one member: its state after, its answer, at most one message, and what became stable.
+use Rattle.std.specs.Prelude.{ℕ, Bool, true, false, List, [], ◌∷◌, ◌++◌, if◌then◌else◌, Option, None, Some}
+use Rattle.co_base.specs.declared.mark.Mark.{Mark}
+use Rattle.co_base.specs.declared.node.Node.TheVariants as node
+use Rattle.co_message.specs.declared.answer.Answer.{Answer}
+use Rattle.co_message.specs.declared.answer.Answer.TheVariants as answer
+use Rattle.co_message.specs.declared.message.Message.{Message}
+use Rattle.co_record.specs.declared.record.Record.{Record}
+use Rattle.co_state.specs.declared.engine_state.EngineState.{EngineState}
+use Rattle.co_state.specs.Table.{no_entries, look, put, without, holds}
+use Rattle.co_state.specs.Effects.{after_drop}
+use Rattle.co_plain.specs.declared.member_state.MemberState.{MemberState}
+use Rattle.co_plain.specs.declared.log_state.LogState.{LogState}
+use Rattle.co_plain.specs.LogWrite.{Outcome, Completes, StopsAt, outcome_of, batch_is_stable, with_batch, crashed_log, marks_of}
+use Rattle.co_plain.specs.MemberView.{MemberView, recovered_view, engine_from}
+
+pub record MemberStep : Type 0 where
+  pub state : MemberState
+  pub answer : Answer
+  pub sent : Option Message
+  pub marks : List Mark
+
+-- only an answer
+abbrev pub says : MemberState → Answer → MemberStep
+says x a = record { state = x; answer = a; sent = None; marks = [] }
+
+-- an answer and a message
+abbrev pub says_and_sends : MemberState → Answer → Message → MemberStep
+says_and_sends x a message = record { state = x; answer = a; sent = Some message; marks = [] }
+
+-- where a transaction stands at a member
+pub data Standing : Type 0 where
+  IsActive : Standing
+  IsVoted : Standing
+  IsInstalled : Standing
+  IsAbsent : Standing
+
+abbrev pub standing_by : Bool → Bool → Bool → Standing
+standing_by true voted committed = IsActive
+standing_by false true committed = IsVoted
+standing_by false false true = IsInstalled
+standing_by false false false = IsAbsent
+
+abbrev pub standing_of : MemberState → ℕ → Standing
+standing_of x t = standing_by (holds x.engine.active t) (holds x.engine.voted t) (holds x.committed t)
+
+-- The member goes down. What is left is what its stable records tell: no active transaction, no asked
+-- mark, no waiting record and no armed stop.
+abbrev pub member_from : MemberState → LogState → MemberView → MemberState
+member_from x l v =
+    record { up = false; engine = engine_from x.engine.kind v; committed = v.committed; asked = no_entries; log = l }
+
+abbrev pub member_down : MemberState → LogState → MemberState
+member_down x l = member_from x (crashed_log l) (recovered_view l.stable)
+
+-- the same member with another log
+abbrev pub with_log : MemberState → LogState → MemberState
+with_log x l = record { up = x.up; engine = x.engine; committed = x.committed; asked = x.asked; log = l }
+
+-- the same member with another engine state
+abbrev pub with_engine : MemberState → EngineState → MemberState
+with_engine x b = record { up = x.up; engine = b; committed = x.committed; asked = x.asked; log = x.log }
+
+-- an undecided transaction is forgotten, with its asked mark
+abbrev pub dropped : MemberState → ℕ → MemberState
+dropped x t =
+    record { up = x.up; engine = after_drop x.engine t; committed = x.committed; asked = without x.asked t; log = x.log }
+
+-- a stopped write of a batch: the completed write and a crash where the batch counts, else the crash alone
+abbrev pub stopped_member : ℕ → MemberState → ℕ → Bool → List Record → MemberStep
+stopped_member m x call true batch =
+    record {
+      state = member_down x (with_batch x.log batch);
+      answer = answer.Stopped call;
+      sent = None;
+      marks = marks_of (node.Member m) (batch ++ x.log.waiting);
+    }
+stopped_member m x call false batch =
+    record { state = member_down x x.log; answer = answer.Stopped call; sent = None; marks = [] }
+
+-- The batch of the waiting records and these, newest first, is forced. What is to follow, the next state,
+-- the answer and the message, follows where the write completes.
+abbrev pub forced_by : ℕ → MemberState → List Record → Outcome → MemberState → Answer → Option Message → MemberStep
+forced_by m x batch Completes next a message =
+    record {
+      state = with_log next (with_batch x.log batch);
+      answer = a;
+      sent = message;
+      marks = marks_of (node.Member m) (batch ++ x.log.waiting);
+    }
+forced_by m x batch (StopsAt call leaves) next a message = stopped_member m x call (batch_is_stable call leaves) batch
+
+abbrev pub force_member : ℕ → MemberState → List Record → MemberState → Answer → Option Message → MemberStep
+force_member m x batch next a message = forced_by m x batch (outcome_of x.log.armed 4) next a message

@@ -1,0 +1,41 @@
+-- Sound logs: those that a run over the same numbers of members and coordinators leaves. Fresh logs are sound.
+use Rattle.std.specs.Prelude.{ℕ, Bool, true, false, ◌||◌, ◌≡◌, List, Option, None, Some}
+use Rattle.co_record.specs.declared.record.Record.{Record}
+use Rattle.co_state.specs.Table.{look, holds}
+use Rattle.co_plain.specs.Numbers.{has_number}
+use Rattle.co_plain.specs.MemberView.{recovered_view}
+use Rattle.co_plain.specs.CoordView.{recovered_commits, has_commit_of}
+use Rattle.co_plain.specs.Decisions.{votes_for}
+
+-- the log has the transaction voted for the coordinator; has it voted; has it committed
+abbrev pub log_votes_for : List Record → ℕ → ℕ → Bool
+log_votes_for records t c = votes_for (look (recovered_view records).voted t) c
+
+abbrev pub log_has_voted : List Record → ℕ → Bool
+log_has_voted records t = holds (recovered_view records).voted t
+
+abbrev pub log_has_committed : List Record → ℕ → Bool
+log_has_committed records t = holds (recovered_view records).committed t
+
+-- a commit without end, with its participants
+abbrev pub unended_in : List Record → ℕ → Option (List ℕ)
+unended_in records t = look (recovered_commits records).unended t
+
+abbrev pub has_unended : List Record → ℕ → Bool
+has_unended records t = holds (recovered_commits records).unended t
+
+pub record AreSound (member_log coord_log : ℕ → List Record) : Type 0 where
+  -- the votes on a transaction and its commit without end name one coordinator
+  pub one_vote : (t m n c d : ℕ) → log_votes_for (member_log m) t c ≡ true → log_votes_for (member_log n) t d ≡ true → c ≡ d
+  pub vote_and_commit : (t m c d : ℕ) → log_votes_for (member_log m) t c ≡ true → has_unended (coord_log d) t ≡ true → c ≡ d
+  pub one_commit : (t c d : ℕ) → has_unended (coord_log c) t ≡ true → has_unended (coord_log d) t ≡ true → c ≡ d
+  -- each participant of a commit without end voted or committed, and each member that voted for it takes part
+  pub participants : (t c m : ℕ) (members : List ℕ) → unended_in (coord_log c) t ≡ Some members → has_number members m ≡ true →
+      (log_has_voted (member_log m) t || log_has_committed (member_log m) t) ≡ true
+  pub voters : (t c m : ℕ) (members : List ℕ) → unended_in (coord_log c) t ≡ Some members → log_votes_for (member_log m) t c ≡ true →
+      has_number members m ≡ true
+  -- where a transaction is voted and its coordinator has no commit of it without end, nobody committed it
+  pub nowhere_committed : (t m c n : ℕ) → log_votes_for (member_log m) t c ≡ true → has_unended (coord_log c) t ≡ false →
+      log_has_committed (member_log n) t ≡ false
+  pub nowhere_decided : (t m c d : ℕ) → log_votes_for (member_log m) t c ≡ true → has_unended (coord_log c) t ≡ false →
+      has_commit_of (coord_log d) t ≡ false

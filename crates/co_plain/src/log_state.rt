@@ -1,0 +1,26 @@
+//! The log of one node, as records.
+use co_base::Leaves;
+use co_record::Record;
+use co_state::History;
+
+/// An armed stop: the next log write ends in one of its device calls.
+#[derive(Debug, Drop)]
+pub struct Stop {
+    /// The number of the device call in that write, 1 to 4.
+    pub call: u8,
+    /// Which image of the file is left.
+    pub leaves: Leaves,
+}
+
+/// The log of one node.
+#[derive(Drop)]
+pub struct LogState {
+    /// The records that a crash leaves, newest first.
+    pub stable: History<Record>,
+    /// The records that go out with the next forced one, newest first. A crash loses them.
+    pub waiting: History<Record>,
+    /// The armed stop.
+    pub armed: Option<Stop>,
+    /// Whether the spare file is closed, so that it may be filled.
+    pub spare_closed: bool,
+}
