@@ -19,6 +19,8 @@ mod reply;
 mod row;
 mod rows;
 mod sequence;
+#[cfg(test)]
+mod tests;
 mod txn;
 mod txns;
 mod value;

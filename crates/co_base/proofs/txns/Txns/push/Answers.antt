@@ -1,4 +1,3 @@
-use Rattle.std.proofs.Common.{rules}
 use Rattle.co_base.proofs.txns.Txns.push.Goals as goal
 
 pub invariant_of-self-2 : goal.invariant_of-self-2
