@@ -23,3 +23,4 @@ pub mod SoundLogs
 pub mod CommitmentOrder
 pub mod Promises
 pub mod Invariants
+pub mod Moves

@@ -1,0 +1,283 @@
+-- Moves: the small changes that every event is made of. An invariant is proved for each move, and not for each
+-- cell of the tables. A guard is a product of tests and messages: what must hold before the move.
+use Rattle.std.specs.Prelude.{ℕ, Bool, true, false, not, ◌&&◌, ◌||◌, ◌==◌, ◌≡◌, ◌≢◌, ◌⊎◌, ◌≤◌, ◌+◌, List, [], ◌∷◌, ◌++◌, if◌then◌else◌, Option, None, Some}
+use Rattle.co_base.specs.declared.leaves.Leaves.{Leaves}
+use Rattle.co_base.specs.declared.node.Node.TheVariants as node
+use Rattle.co_base.specs.declared.op.Op.{Op}
+use Rattle.co_base.specs.declared.part.Part.{Part}
+use Rattle.co_message.specs.declared.message.Message.{Message}
+use Rattle.co_message.specs.declared.message.Message.TheVariants as message
+use Rattle.co_record.specs.declared.record.Record.TheVariants as log
+use Rattle.co_state.specs.declared.engine_state.Operation.{Operation}
+use Rattle.co_state.specs.Table.{look, put, without, holds}
+use Rattle.co_state.specs.Changes.{sets_of}
+use Rattle.co_state.specs.EngineState.{operations_of}
+use Rattle.co_state.specs.ReadRule.{operation_reply}
+use Rattle.co_state.specs.LockRule.{lock_blocker}
+use Rattle.co_state.specs.VotingRule.{VoteYes, vote_of, kept_count}
+use Rattle.co_state.specs.Effects.{with_operation}
+use Rattle.co_plain.specs.declared.coord_state.CoordState.{CoordState}
+use Rattle.co_plain.specs.declared.coord_state.Entry.{Entry}
+use Rattle.co_plain.specs.declared.coord_state.Entry.TheVariants as entry
+use Rattle.co_plain.specs.declared.log_state.Stop.{Stop}
+use Rattle.co_plain.specs.declared.member_state.MemberState.{MemberState}
+use Rattle.co_plain.specs.declared.session.Decided.{Decided}
+use Rattle.co_plain.specs.declared.session.Session.{Session}
+use Rattle.co_plain.specs.Numbers.{has_number}
+use Rattle.co_plain.specs.LogWrite.{with_batch, with_filled_spare, with_spare, with_stop, with_waiting, generation_of}
+use Rattle.co_plain.specs.MemberStep.{with_log, with_engine, dropped, member_down}
+use Rattle.co_plain.specs.Member.{most_operations, prepare_record, voted_state, installed_state, with_mark, coord_of}
+use Rattle.co_plain.specs.MemberLog.{member_spare}
+use Rattle.co_plain.specs.LocalCommit.{local_coord}
+use Rattle.co_plain.specs.CoordStep.{with_table, with_coord_log, coord_down, has_part, first_lacking, members_of}
+use Rattle.co_plain.specs.CoordLog.{coord_spare}
+use Rattle.co_plain.specs.Sessions.{count_at, parts_of, begun_by, with_told, asked_to_end}
+use Rattle.co_plain.specs.Wire.{send_one, was_sent}
+use Rattle.co_plain.specs.Federation.{Federation, with_member, with_coord, with_session}
+use Rattle.co_plain.specs.Step.{is_used, disarmed}
+use Rattle.co_plain.specs.Decisions.{told_of, is_asked, is_decided, IsPresumedAborted, IsDecided}
+use Rattle.co_plain.specs.SoundLogs.{log_has_committed}
+use Rattle.co_plain.specs.Invariants.{TakesPart}
+
+pub data Move : Type 0 where
+  -- of a member: an answered operation, with the session's entry; a prepare is marked; a vote; what is forgotten;
+  -- an install; a local transaction is cast, decided and installed at once
+  Operate : ℕ → ℕ → Op → Move
+  MarkAsked : ℕ → ℕ → ℕ → ℕ → Move
+  Cast : ℕ → ℕ → ℕ → ℕ → Move
+  DropActive : ℕ → ℕ → Move
+  DropVoted : ℕ → ℕ → Move
+  Install : ℕ → ℕ → Move
+  CommitLocally : ℕ → ℕ → Move
+  -- of a member's log
+  CrashMember : ℕ → Move
+  RestartMember : ℕ → Move
+  ArmMember : ℕ → Option Stop → Move
+  CloseMemberSpare : ℕ → Bool → Move
+  FillMemberSpare : ℕ → Move
+  -- of a coordinator
+  Begin : ℕ → ℕ → Move
+  Collect : ℕ → ℕ → Move
+  RecordYes : ℕ → ℕ → ℕ → Move
+  Decide : ℕ → ℕ → Move
+  Leave : ℕ → ℕ → Move
+  RecordAck : ℕ → ℕ → ℕ → Move
+  End : ℕ → ℕ → Move
+  -- of a coordinator's log
+  CrashCoord : ℕ → Move
+  RestartCoord : ℕ → Move
+  ArmCoord : ℕ → Option Stop → Move
+  CloseCoordSpare : ℕ → Bool → Move
+  FillCoordSpare : ℕ → Move
+  -- of the client and the network
+  BeginLocal : ℕ → ℕ → Move
+  AskEnd : ℕ → Move
+  Send : Message → Move
+
+-- the session of a transaction, where it was begun
+abbrev pub session_told : Federation → ℕ → Session → Federation
+session_told s t session = with_session s t session
+
+abbrev pub entered_reply : Federation → ℕ → ℕ → Op → Option Session → Federation
+entered_reply s t m o None = s
+entered_reply s t m o (Some session) =
+    with_session s t (with_told session (record { site = record { member = m; op = o }; reply = operation_reply (s.member m).engine t o }))
+
+abbrev pub marked_over : Federation → ℕ → Option Session → Federation
+marked_over s t None = s
+marked_over s t (Some session) = with_session s t (asked_to_end session)
+
+abbrev pub cast_state : MemberState → ℕ → ℕ → ℕ → MemberState
+cast_state x t c n =
+    with_log (voted_state x t c n) (with_batch x.log (prepare_record t c n (sets_of (operations_of x.engine t)) ∷ []))
+
+abbrev pub install_state : MemberState → ℕ → MemberState
+install_state x t = with_log (installed_state x t) (with_batch x.log (log.Commit t [] ∷ []))
+
+abbrev pub local_state : MemberState → ℕ → ℕ → MemberState
+local_state x t n =
+    with_log (installed_state (voted_state x t local_coord n) t)
+    (with_batch x.log (log.Commit t [] ∷ prepare_record t local_coord n (sets_of (operations_of x.engine t)) ∷ []))
+
+abbrev pub restarted : MemberState → MemberState
+restarted x = record { up = true; engine = x.engine; committed = x.committed; asked = x.asked; log = x.log }
+
+-- the decision order grows
+abbrev pub with_decision : Federation → ℕ → Federation
+with_decision s t =
+    record {
+      kinds = s.kinds;
+      coordinators = s.coordinators;
+      member = s.member;
+      coord = s.coord;
+      sessions = s.sessions;
+      sent = s.sent;
+      decided = record { txn = t; told = told_of s t } ∷ s.decided;
+      opened_member = s.opened_member;
+      opened_coord = s.opened_coord;
+      used = s.used;
+    }
+
+abbrev pub with_message : Federation → Message → Federation
+with_message s note =
+    record {
+      kinds = s.kinds;
+      coordinators = s.coordinators;
+      member = s.member;
+      coord = s.coord;
+      sessions = s.sessions;
+      sent = send_one s.sent note;
+      decided = s.decided;
+      opened_member = s.opened_member;
+      opened_coord = s.opened_coord;
+      used = s.used;
+    }
+
+abbrev pub entry_at : Federation → ℕ → ℕ → Option Entry
+entry_at s t c = look (s.coord c).table t
+
+abbrev pub with_entry : Federation → ℕ → ℕ → Entry → Federation
+with_entry s t c e = with_coord s c (with_table (s.coord c) (put (s.coord c).table t e))
+
+abbrev pub without_entry : Federation → ℕ → ℕ → Federation
+without_entry s t c = with_coord s c (with_table (s.coord c) (without (s.coord c).table t))
+
+-- a coordinator's commit is forced. Without participants the transaction leaves the table at once.
+abbrev pub table_decided : CoordState → ℕ → List ℕ → CoordState
+table_decided x t [] = with_table x (without x.table t)
+table_decided x t (m ∷ ms) = with_table x (put x.table t (entry.Committed (m ∷ ms) []))
+
+abbrev pub decide_members : CoordState → ℕ → List ℕ → CoordState
+decide_members x t members = with_coord_log (table_decided x t members) (with_batch x.log (log.Commit t members ∷ []))
+
+abbrev pub decide_entry : CoordState → ℕ → Option Entry → CoordState
+decide_entry x t None = x
+decide_entry x t (Some entry.Idle) = decide_members x t []
+decide_entry x t (Some (entry.Collecting parts yeses)) = decide_members x t (members_of parts)
+decide_entry x t (Some (entry.Committed members acks)) = x
+
+abbrev pub record_yes : Federation → ℕ → ℕ → ℕ → Option Entry → Federation
+record_yes s t c m (Some (entry.Collecting parts yeses)) = with_entry s t c (entry.Collecting parts (m ∷ yeses))
+record_yes s t c m _ = s
+
+abbrev pub record_ack : Federation → ℕ → ℕ → ℕ → Option Entry → Federation
+record_ack s t c m (Some (entry.Committed members acks)) = with_entry s t c (entry.Committed members (m ∷ acks))
+record_ack s t c m _ = s
+
+-- what each move leaves
+abbrev pub effect : Federation → Move → Federation
+effect s (Operate t m o) =
+    with_member (entered_reply s t m o (look s.sessions t)) m (with_engine (s.member m) (with_operation (s.member m).engine t o))
+effect s (MarkAsked t m c n) = with_member s m (with_mark (s.member m) t c n)
+effect s (Cast t m c n) = with_member s m (cast_state (s.member m) t c n)
+effect s (DropActive t m) = with_member s m (dropped (s.member m) t)
+effect s (DropVoted t m) = with_member s m (with_log (dropped (s.member m) t) (with_waiting (s.member m).log (log.Abort t)))
+effect s (Install t m) = with_member s m (install_state (s.member m) t)
+effect s (CommitLocally t m) =
+    with_decision
+    (with_member (marked_over s t (look s.sessions t)) m (local_state (s.member m) t (count_at (told_of s t) m))) t
+effect s (CrashMember m) = with_member s m (member_down (s.member m) (s.member m).log)
+effect s (RestartMember m) = with_member s m (restarted (s.member m))
+effect s (ArmMember m stop) = with_member s m (with_log (s.member m) (with_stop (s.member m).log stop))
+effect s (CloseMemberSpare m closed) = with_member s m (with_log (s.member m) (with_spare (s.member m).log closed))
+effect s (FillMemberSpare m) =
+    with_member s m
+    (with_log (s.member m) (with_filled_spare (s.member m).log (member_spare m (s.member m) (generation_of (s.member m).log.stable + 1))))
+effect s (Begin t c) = with_entry (with_session s t (begun_by (node.Coord c))) t c entry.Idle
+effect s (Collect t c) = with_entry s t c (entry.Collecting (parts_of (told_of s t)) [])
+effect s (RecordYes t c m) = record_yes s t c m (entry_at s t c)
+effect s (Decide t c) = with_decision (with_coord s c (decide_entry (s.coord c) t (entry_at s t c))) t
+effect s (Leave t c) = without_entry s t c
+effect s (RecordAck t c m) = record_ack s t c m (entry_at s t c)
+effect s (End t c) =
+    with_coord s c
+    (with_coord_log (with_table (s.coord c) (without (s.coord c).table t)) (with_waiting (s.coord c).log (log.End t)))
+effect s (CrashCoord c) = with_coord s c (coord_down (s.coord c).log)
+effect s (RestartCoord c) = with_coord s c (record { up = true; table = (s.coord c).table; log = (s.coord c).log })
+effect s (ArmCoord c stop) = with_coord s c (with_coord_log (s.coord c) (with_stop (s.coord c).log stop))
+effect s (CloseCoordSpare c closed) = with_coord s c (with_coord_log (s.coord c) (with_spare (s.coord c).log closed))
+effect s (FillCoordSpare c) =
+    with_coord s c
+    (with_coord_log (s.coord c) (with_filled_spare (s.coord c).log (coord_spare c (s.coord c) (generation_of (s.coord c).log.stable + 1))))
+effect s (BeginLocal t m) = with_session s t (begun_by (node.Member m))
+effect s (AskEnd t) = marked_over s t (look s.sessions t)
+effect s (Send note) = with_message s note
+
+-- a session of a transaction of a coordinator, of a local one, and one that was not asked to end
+abbrev pub session_by_coord : Option Session → ℕ → Type 0
+session_by_coord None c = ⊥
+session_by_coord (Some session) c = session.by ≡ node.Coord c
+
+abbrev pub session_by_member : Option Session → ℕ → Type 0
+session_by_member None m = ⊥
+session_by_member (Some session) m = session.by ≡ node.Member m
+
+abbrev pub may_operate_at : Option Session → ℕ → Type 0
+may_operate_at None m = ⊥
+may_operate_at (Some session) m = (session.asked ≡ false) × ((n : ℕ) → session.by ≡ node.Member n → n ≡ m)
+
+-- what a message that is sent must say truly
+abbrev pub may_send : Federation → Message → Type 0
+may_send s (message.Prepare t c m n) =
+    (parts : List Part) × (yeses : List ℕ) × (entry_at s t c ≡ Some (entry.Collecting parts yeses)) × (has_part parts m ≡ true) × (n ≡ count_at (told_of s t) m)
+may_send s (message.Vote t m c true) = (holds (s.member m).engine.voted t ≡ true) × (coord_of (s.member m) t ≡ c)
+may_send s (message.Vote t m c false) = (n : ℕ) × (was_sent s.sent (message.Prepare t c m n) ≡ true)
+may_send s (message.Decide t c m true) = IsDecided s t × TakesPart s t m
+may_send s (message.Decide t c m false) = IsPresumedAborted s t ⊎ (log_has_committed (s.member m).log.stable t ≡ true)
+may_send s (message.Ask t m c) = (holds (s.member m).engine.voted t ≡ true) × (coord_of (s.member m) t ≡ c)
+may_send s (message.Ack t m c) = (holds (s.member m).committed t ≡ true) × (was_sent s.sent (message.Decide t c m true) ≡ true)
+
+-- what must hold before each move
+abbrev pub Guard : Federation → Move → Type 0
+Guard s (Operate t m o) =
+    may_operate_at (look s.sessions t) m × (kept_count (s.member m).engine t ≡ count_at (told_of s t) m)
+    × (count_at (told_of s t) m ≢ most_operations) × (lock_blocker (s.member m).engine t o ≡ None)
+Guard s (MarkAsked t m c n) = (holds (s.member m).engine.active t ≡ true) × (was_sent s.sent (message.Prepare t c m n) ≡ true)
+Guard s (Cast t m c n) = (was_sent s.sent (message.Prepare t c m n) ≡ true) × (vote_of (s.member m).engine t n ≡ VoteYes)
+Guard s (DropActive t m) = holds (s.member m).engine.active t ≡ true
+Guard s (DropVoted t m) = (holds (s.member m).engine.voted t ≡ true) × IsPresumedAborted s t
+Guard s (Install t m) = (holds (s.member m).engine.voted t ≡ true) × IsDecided s t
+Guard s (CommitLocally t m) =
+    session_by_member (look s.sessions t) m × (is_asked s t ≡ false) × (1 ≤ count_at (told_of s t) m)
+    × (vote_of (s.member m).engine t (count_at (told_of s t) m) ≡ VoteYes)
+Guard s (CrashMember m) = Unit {0}
+Guard s (RestartMember m) = Unit {0}
+Guard s (ArmMember m stop) = Unit {0}
+Guard s (CloseMemberSpare m closed) = Unit {0}
+Guard s (FillMemberSpare m) = Unit {0}
+Guard s (Begin t c) = is_used s t ≡ false
+Guard s (Collect t c) =
+    (entry_at s t c ≡ Some entry.Idle) × session_by_coord (look s.sessions t) c × (is_asked s t ≡ true) × (parts_of (told_of s t) ≢ [])
+Guard s (RecordYes t c m) =
+    (parts : List Part) × (yeses : List ℕ) × (entry_at s t c ≡ Some (entry.Collecting parts yeses)) × (has_part parts m ≡ true)
+    × (was_sent s.sent (message.Vote t m c true) ≡ true) × (first_lacking (members_of parts) (m ∷ yeses) ≢ None)
+Guard s (Decide t c) =
+    ((entry_at s t c ≡ Some entry.Idle) × (parts_of (told_of s t) ≡ []))
+    ⊎ ((parts : List Part) × (yeses : List ℕ) × (m : ℕ) × (entry_at s t c ≡ Some (entry.Collecting parts yeses))
+    × (was_sent s.sent (message.Vote t m c true) ≡ true) × (first_lacking (members_of parts) (m ∷ yeses) ≡ None))
+Guard s (Leave t c) =
+    (entry_at s t c ≡ Some entry.Idle)
+    ⊎ ((parts : List Part) × (yeses : List ℕ) × (entry_at s t c ≡ Some (entry.Collecting parts yeses)))
+Guard s (RecordAck t c m) =
+    (members : List ℕ) × (acks : List ℕ) × (entry_at s t c ≡ Some (entry.Committed members acks)) × (has_number members m ≡ true)
+    × (was_sent s.sent (message.Ack t m c) ≡ true) × (first_lacking members (m ∷ acks) ≢ None)
+Guard s (End t c) =
+    (members : List ℕ) × (acks : List ℕ) × (m : ℕ) × (entry_at s t c ≡ Some (entry.Committed members acks))
+    × (was_sent s.sent (message.Ack t m c) ≡ true) × (first_lacking members (m ∷ acks) ≡ None)
+Guard s (CrashCoord c) = Unit {0}
+Guard s (RestartCoord c) = Unit {0}
+Guard s (ArmCoord c stop) = Unit {0}
+Guard s (CloseCoordSpare c closed) = Unit {0}
+Guard s (FillCoordSpare c) = Unit {0}
+Guard s (BeginLocal t m) = is_used s t ≡ false
+Guard s (AskEnd t) = holds s.sessions t ≡ true
+Guard s (Send note) = may_send s note
+
+-- moves one after another, and their guards, each where it stands
+abbrev pub all_effects : List Move → Federation → Federation
+all_effects [] s = s
+all_effects (move ∷ moves) s = all_effects moves (effect s move)
+
+abbrev pub GuardsHold : List Move → Federation → Type 0
+GuardsHold [] s = Unit {0}
+GuardsHold (move ∷ moves) s = Guard s move × GuardsHold moves (effect s move)
