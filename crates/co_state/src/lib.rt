@@ -8,11 +8,10 @@
 mod engine_state;
 mod history;
 mod pair;
-mod record_map;
 mod table;
 
 pub use engine_state::{EngineState, Install, Operation, Operations, Sets, Vote};
 pub use history::History;
 pub use pair::{Pair, PairKind, Pairs};
-pub use record_map::RecordMap;
+pub use co_serial::RecordMap;
 pub use table::Table;
