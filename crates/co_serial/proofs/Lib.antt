@@ -1,3 +1,4 @@
 pub mod MapViews
 mod RecordRows
 mod Families
+mod Layers

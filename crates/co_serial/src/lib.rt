@@ -5,6 +5,7 @@
 //! on serial executions).
 #![tactic(auto)]
 
+mod changes;
 mod record_map;
 mod serial_map;
 mod site;
