@@ -1,8 +1,9 @@
 //! The state of an engine as plain data.
 use crate::history::History;
-use crate::record_map::RecordMap;
+
 use crate::table::Table;
 use co_base::{Kind, Op, Ranges, Txn, Writes};
+use co_serial::RecordMap;
 
 /// What a transaction read and wrote at a member: the ranges in ascending order, each once, and the
 /// changes by key, each key once.

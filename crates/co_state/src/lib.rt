@@ -5,14 +5,23 @@
 //! sets, chains of versions), its answers are compared with these.
 #![tactic(auto)]
 
+mod changes;
+mod copies;
 mod engine_state;
 mod history;
+mod meeting;
 mod pair;
-mod record_map;
+mod places;
+mod sets;
+
 mod table;
 
+pub use co_serial::RecordMap;
+pub use copies::{copy_ranges, copy_writes};
 pub use engine_state::{EngineState, Install, Operation, Operations, Sets, Vote};
 pub use history::History;
+pub use meeting::{reads_key, reads_meet, writes_key, writes_meet, writes_within};
 pub use pair::{Pair, PairKind, Pairs};
-pub use record_map::RecordMap;
+pub use places::{put_change, put_range};
+pub use changes::{change_made, range_read, sets_of};
 pub use table::Table;

@@ -1,0 +1,4 @@
+pub mod MapViews
+mod RecordRows
+mod Families
+mod Layers
