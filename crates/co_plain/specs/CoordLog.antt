@@ -11,8 +11,11 @@ use Rattle.co_record.specs.declared.record.Record.TheVariants as log
 use Rattle.co_plain.specs.declared.coord_state.CoordState.{CoordState}
 use Rattle.co_plain.specs.declared.coord_state.Entry.{Entry}
 use Rattle.co_plain.specs.declared.coord_state.Entry.TheVariants as entry
-use Rattle.co_plain.specs.LogWrite.{Outcome, Completes, StopsAt, outcome_of, batch_is_stable, closes_spare, with_filled_spare, with_spare, with_stop, generation_of}
-use Rattle.co_plain.specs.CoordStep.{CoordStep, coord_says, with_coord_log, coord_down}
+use Rattle.co_plain.specs.declared.outcome.Outcome.{Outcome}
+use Rattle.co_plain.specs.declared.outcome.Outcome.TheVariants.{Completes, StopsAt}
+use Rattle.co_plain.specs.LogWrite.{outcome_of, batch_is_stable, closes_spare, with_filled_spare, with_spare, with_stop, generation_of}
+use Rattle.co_plain.specs.declared.coord_step.CoordStep.{CoordStep}
+use Rattle.co_plain.specs.CoordStep.{coord_says, with_coord_log, coord_down}
 
 abbrev pub commit_onto : List Record → ℕ → Entry → List Record
 commit_onto records t entry.Idle = records

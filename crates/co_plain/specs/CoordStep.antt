@@ -10,18 +10,16 @@ use Rattle.co_message.specs.declared.message.Message.{Message}
 use Rattle.co_record.specs.declared.record.Record.{Record}
 use Rattle.co_state.specs.Table.{Table, put, without, look}
 use Rattle.co_plain.specs.declared.coord_state.CoordState.{CoordState}
+use Rattle.co_plain.specs.declared.coord_step.CoordStep.{CoordStep}
 use Rattle.co_plain.specs.declared.coord_state.Entry.{Entry}
 use Rattle.co_plain.specs.declared.coord_state.Entry.TheVariants as entry
 use Rattle.co_plain.specs.declared.log_state.LogState.{LogState}
-use Rattle.co_plain.specs.LogWrite.{Outcome, Completes, StopsAt, outcome_of, batch_is_stable, with_batch, crashed_log, marks_of}
-use Rattle.co_plain.specs.CoordView.{CoordView, recovered_commits}
+use Rattle.co_plain.specs.declared.outcome.Outcome.{Outcome}
+use Rattle.co_plain.specs.declared.outcome.Outcome.TheVariants.{Completes, StopsAt}
+use Rattle.co_plain.specs.LogWrite.{outcome_of, batch_is_stable, with_batch, crashed_log, marks_of}
+use Rattle.co_plain.specs.declared.coord_view.CoordView.{CoordView}
+use Rattle.co_plain.specs.CoordView.{recovered_commits}
 use Rattle.co_plain.specs.Numbers.{has_number}
-
-pub record CoordStep : Type 0 where
-  pub state : CoordState
-  pub answer : Answer
-  pub sent : List Message
-  pub marks : List Mark
 
 abbrev pub coord_says : CoordState → Answer → CoordStep
 coord_says x a = record { state = x; answer = a; sent = []; marks = [] }
@@ -58,27 +56,25 @@ coord_from l v = record { up = false; table = table_from (entries v.unended); lo
 abbrev pub coord_down : LogState → CoordState
 coord_down l = coord_from (crashed_log l) (recovered_commits l.stable)
 
+-- a stopped write of a batch: the completed write and a crash where the batch counts, else the crash alone
 abbrev pub stopped_coord : ℕ → CoordState → ℕ → Bool → List Record → CoordStep
-stopped_coord c x call true batch =
+stopped_coord c next call true batch =
     record {
-      state = coord_down (with_batch x.log batch);
-      answer = answer.Stopped call;
-      sent = [];
-      marks = marks_of (node.Coord c) (batch ++ x.log.waiting);
+      state = coord_down (with_batch next.log batch);
+      answer = answer.Stopped call; sent = []; marks = marks_of (node.Coord c) (batch ++ next.log.waiting);
     }
-stopped_coord c x call false batch =
-    record { state = coord_down x.log; answer = answer.Stopped call; sent = []; marks = [] }
+stopped_coord c next call false batch =
+    record { state = coord_down next.log; answer = answer.Stopped call; sent = []; marks = [] }
 
--- the batch of the waiting records and these, newest first, is forced
-abbrev pub coord_forced_by : ℕ → CoordState → List Record → Outcome → CoordState → Answer → List Message → CoordStep
-coord_forced_by c x batch Completes next a messages =
+-- The batch of the waiting records and these, newest first, is forced. The state that is given is the one to
+-- follow, with the log as it was.
+abbrev pub coord_forced_by : ℕ → CoordState → List Record → Answer → List Message → Outcome → CoordStep
+coord_forced_by c next batch a messages Completes =
     record {
-      state = with_coord_log next (with_batch x.log batch);
-      answer = a;
-      sent = messages;
-      marks = marks_of (node.Coord c) (batch ++ x.log.waiting);
+      state = with_coord_log next (with_batch next.log batch);
+      answer = a; sent = messages; marks = marks_of (node.Coord c) (batch ++ next.log.waiting);
     }
-coord_forced_by c x batch (StopsAt call leaves) next a messages = stopped_coord c x call (batch_is_stable call leaves) batch
+coord_forced_by c next batch a messages (StopsAt call leaves) = stopped_coord c next call (batch_is_stable call leaves) batch
 
-abbrev pub force_coord : ℕ → CoordState → List Record → CoordState → Answer → List Message → CoordStep
-force_coord c x batch next a messages = coord_forced_by c x batch (outcome_of x.log.armed 4) next a messages
+abbrev pub force_coord : ℕ → CoordState → List Record → Answer → List Message → CoordStep
+force_coord c next batch a messages = coord_forced_by c next batch a messages (outcome_of next.log.armed 4)

@@ -3,13 +3,10 @@ use Rattle.std.specs.Prelude.{ℕ, Bool, true, false, not, ◌&&◌, ◌==◌, n
 use Rattle.co_record.specs.declared.record.Record.{Record}
 use Rattle.co_record.specs.declared.record.Record.TheVariants as log
 use Rattle.co_state.specs.Table.{Table, no_entries, look, put, without, holds}
+use Rattle.co_plain.specs.declared.coord_view.CoordView.{CoordView}
 use Rattle.co_plain.specs.MemberView.{Numbers, with_number}
 
--- the commits without end, each with its participants; and the numbers of all commits
-pub record CoordView : Type 0 where
-  pub unended : Table (List ℕ)
-  pub seen : Numbers
-
+-- A view has the commits without end, each with its participants, and the numbers of all commits.
 abbrev pub no_commits : CoordView
 no_commits = record { unended = no_entries; seen = no_entries }
 

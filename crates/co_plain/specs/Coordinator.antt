@@ -14,7 +14,8 @@ use Rattle.co_plain.specs.declared.coord_state.CoordState.{CoordState}
 use Rattle.co_plain.specs.declared.coord_state.Entry.{Entry}
 use Rattle.co_plain.specs.declared.coord_state.Entry.TheVariants as entry
 use Rattle.co_plain.specs.LogWrite.{with_waiting}
-use Rattle.co_plain.specs.CoordStep.{CoordStep, coord_says, coord_sends, with_table, with_coord_log, has_part, first_lacking, members_of, force_coord}
+use Rattle.co_plain.specs.declared.coord_step.CoordStep.{CoordStep}
+use Rattle.co_plain.specs.CoordStep.{coord_says, coord_sends, with_table, with_coord_log, has_part, first_lacking, members_of, force_coord}
 
 -- the messages to participants, in their order
 abbrev pub prepares_to : ℕ → ℕ → List Part → List Message
@@ -43,7 +44,7 @@ coord_begin x t = coord_says (with_table x (put x.table t entry.Idle)) answer.Be
 
 -- the client asks for the commit: a transaction without participants is decided at once
 abbrev pub ask_commit : ℕ → CoordState → ℕ → List Part → CoordStep
-ask_commit c x t [] = force_coord c x (log.Commit t [] ∷ []) (with_table x (without x.table t)) answer.Committed []
+ask_commit c x t [] = force_coord c (with_table x (without x.table t)) (log.Commit t [] ∷ []) answer.Committed []
 ask_commit c x t (p ∷ ps) =
     coord_sends (with_table x (put x.table t (entry.Collecting (p ∷ ps) []))) (answer.Waiting p.member) (prepares_to c t (p ∷ ps))
 
@@ -72,8 +73,7 @@ abbrev pub decided_by : ℕ → CoordState → ℕ → List Part → List ℕ �
 decided_by c x t parts yeses (Some m) =
     coord_says (with_table x (put x.table t (entry.Collecting parts yeses))) (answer.Waiting m)
 decided_by c x t parts yeses None =
-    force_coord c x (log.Commit t (members_of parts) ∷ [])
-    (with_table x (put x.table t (entry.Committed (members_of parts) [])))
+    force_coord c (with_table x (put x.table t (entry.Committed (members_of parts) []))) (log.Commit t (members_of parts) ∷ [])
     answer.Committed (decisions_to c t true (members_of parts))
 
 -- a yes of a member that is no participant, or that said yes before, changes nothing

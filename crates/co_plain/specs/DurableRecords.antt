@@ -6,7 +6,8 @@ use Rattle.co_record.specs.declared.record.Record.{Record}
 use Rattle.co_serial.specs.Records.{Records, with_changes}
 use Rattle.co_serial.specs.SerialRun.{AllRecords}
 use Rattle.co_state.specs.declared.engine_state.Vote.{Vote}
-use Rattle.co_plain.specs.MemberView.{MemberView, recovered_view}
+use Rattle.co_plain.specs.declared.member_view.MemberView.{MemberView}
+use Rattle.co_plain.specs.MemberView.{recovered_view}
 use Rattle.co_plain.specs.CoordView.{has_commit_of}
 use Rattle.co_plain.specs.Federation.{Federation}
 

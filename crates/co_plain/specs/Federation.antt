@@ -18,8 +18,8 @@ use Rattle.co_plain.specs.declared.member_state.MemberState.{MemberState}
 use Rattle.co_plain.specs.declared.session.Decided.{Decided}
 use Rattle.co_plain.specs.declared.session.Session.{Session}
 use Rattle.co_plain.specs.MemberView.{Numbers}
-use Rattle.co_plain.specs.MemberStep.{MemberStep}
-use Rattle.co_plain.specs.CoordStep.{CoordStep}
+use Rattle.co_plain.specs.declared.member_step.MemberStep.{MemberStep}
+use Rattle.co_plain.specs.declared.coord_step.CoordStep.{CoordStep}
 use Rattle.co_plain.specs.Sessions.{same_node}
 use Rattle.co_plain.specs.Wire.{send_all}
 

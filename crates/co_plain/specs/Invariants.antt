@@ -29,7 +29,8 @@ use Rattle.co_plain.specs.declared.session.Decided.{Decided}
 use Rattle.co_plain.specs.declared.session.Session.{Session}
 use Rattle.co_plain.specs.declared.session.Told.{Told}
 use Rattle.co_plain.specs.Numbers.{has_number}
-use Rattle.co_plain.specs.MemberView.{MemberView, view_of, recovered_view, sets_conflict}
+use Rattle.co_plain.specs.declared.member_view.MemberView.{MemberView}
+use Rattle.co_plain.specs.MemberView.{view_of, recovered_view, sets_conflict}
 use Rattle.co_plain.specs.CoordView.{recovered_commits, has_commit_of}
 use Rattle.co_plain.specs.CoordStep.{first_lacking, members_of}
 use Rattle.co_plain.specs.Sessions.{told_at, count_at, parts_of}

@@ -7,7 +7,10 @@ use Rattle.co_state.specs.Changes.{sets_of}
 use Rattle.co_state.specs.EngineState.{operations_of}
 use Rattle.co_state.specs.VotingRule.{Verdict, LostOperations, StaleRead, HeldBy, VoteYes, vote_of, kept_count}
 use Rattle.co_plain.specs.declared.member_state.MemberState.{MemberState}
-use Rattle.co_plain.specs.MemberStep.{MemberStep, says, Standing, IsActive, IsVoted, IsInstalled, IsAbsent, standing_of, dropped, force_member}
+use Rattle.co_plain.specs.declared.member_step.MemberStep.{MemberStep}
+use Rattle.co_plain.specs.declared.standing.Standing.{Standing}
+use Rattle.co_plain.specs.declared.standing.Standing.TheVariants.{IsActive, IsVoted, IsInstalled, IsAbsent}
+use Rattle.co_plain.specs.MemberStep.{says, standing_of, dropped, force_member}
 use Rattle.co_plain.specs.Member.{prepare_record, voted_state, installed_state}
 
 -- the coordinator number that stands in the prepare record of a local transaction
@@ -21,8 +24,8 @@ local_commit_by m x t count LostOperations = says (dropped x t) (answer.NoLost (
 local_commit_by m x t count (StaleRead key) = says (dropped x t) (answer.NoStale key)
 local_commit_by m x t count (HeldBy u) = says x (answer.Held u)
 local_commit_by m x t count VoteYes =
-    force_member m x (log.Commit t [] ∷ prepare_record t local_coord count (sets_of (operations_of x.engine t)) ∷ [])
-    (installed_state (voted_state x t local_coord count) t) answer.Committed None
+    force_member m (installed_state (voted_state x t local_coord count) t)
+      (log.Commit t [] ∷ prepare_record t local_coord count (sets_of (operations_of x.engine t)) ∷ []) answer.Committed None
 
 -- a local transaction without operations is nowhere
 abbrev pub member_local_commit : ℕ → MemberState → ℕ → ℕ → MemberStep

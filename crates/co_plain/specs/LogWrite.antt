@@ -3,7 +3,7 @@
 -- A batch is written with a closed gate behind it, synced, its gate is opened, and that is synced: device
 -- calls 1 to 4. So the batch counts exactly where the image has its gate open, which only a stop in call 3
 -- or 4 leaves to the image.
-use Rattle.std.specs.Prelude.{ℕ, Bool, true, false, not, ◌&&◌, ◌==◌, nat_le, List, [], ◌∷◌, ◌++◌, if◌then◌else◌, Option, None, Some}
+use Rattle.std.specs.Prelude.{ℕ, Bool, true, false, not, ◌&&◌, ◌==◌, nat_le, List, [], ◌∷◌, ◌++◌, map, reverse, if◌then◌else◌, Option, None, Some}
 use Rattle.co_base.specs.declared.leaves.Leaves.{Leaves}
 use Rattle.co_base.specs.declared.leaves.Leaves.TheVariants.{Old, New, Filled}
 use Rattle.co_base.specs.declared.mark.Mark.{Mark}
@@ -14,6 +14,8 @@ use Rattle.co_record.specs.declared.record.Record.{Record}
 use Rattle.co_record.specs.declared.record.Record.TheVariants as log
 use Rattle.co_plain.specs.declared.log_state.LogState.{LogState}
 use Rattle.co_plain.specs.declared.log_state.Stop.{Stop}
+use Rattle.co_plain.specs.declared.outcome.Outcome.{Outcome}
+use Rattle.co_plain.specs.declared.outcome.Outcome.TheVariants.{Completes, StopsAt}
 
 -- the byte of an open gate
 abbrev pub open_gate : ℕ
@@ -40,12 +42,7 @@ closes_spare Old = false
 closes_spare New = true
 closes_spare (Filled bytes) = begins_closed bytes
 
--- how a log write of so many device calls ends
-pub data Outcome : Type 0 where
-  Completes : Outcome
-  StopsAt : ℕ → Leaves → Outcome
-
--- an armed stop above the count of device calls passes unused
+-- How a log write of so many device calls ends. An armed stop above that count passes unused.
 abbrev pub outcome_of : Option Stop → ℕ → Outcome
 outcome_of None calls = Completes
 outcome_of (Some stop) calls = if nat_le stop.call calls then StopsAt stop.call stop.leaves else Completes
@@ -89,8 +86,7 @@ mark_of node (log.Checkpoint rows undos committed) = record { node = node; kind 
 
 -- the marks of records that are listed newest first, the oldest mark first
 abbrev pub marks_of : Node → List Record → List Mark
-marks_of node [] = []
-marks_of node (r ∷ rs) = marks_of node rs ++ mark_of node r ∷ []
+marks_of node records = map (mark_of node) (reverse records)
 
 -- the generation of a file: that of its header, which is its oldest record
 abbrev pub generation_of : List Record → ℕ

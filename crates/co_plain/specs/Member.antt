@@ -22,7 +22,10 @@ use Rattle.co_plain.specs.declared.member_state.AskedMark.{AskedMark}
 use Rattle.co_plain.specs.declared.member_state.MemberState.{MemberState}
 use Rattle.co_plain.specs.MemberView.{with_number}
 use Rattle.co_plain.specs.LogWrite.{with_waiting}
-use Rattle.co_plain.specs.MemberStep.{MemberStep, says, says_and_sends, Standing, IsActive, IsVoted, IsInstalled, IsAbsent, standing_of, with_log, with_engine, dropped, force_member}
+use Rattle.co_plain.specs.declared.member_step.MemberStep.{MemberStep}
+use Rattle.co_plain.specs.declared.standing.Standing.{Standing}
+use Rattle.co_plain.specs.declared.standing.Standing.TheVariants.{IsActive, IsVoted, IsInstalled, IsAbsent}
+use Rattle.co_plain.specs.MemberStep.{says, says_and_sends, standing_of, with_log, with_engine, dropped, force_member}
 
 -- the most operations of one transaction that a member answers
 abbrev pub most_operations : ℕ
@@ -57,8 +60,8 @@ vote_by m x t coord count LostOperations =
 vote_by m x t coord count (StaleRead key) = says_and_sends (dropped x t) (answer.NoStale key) (message.Vote t m coord false)
 vote_by m x t coord count (HeldBy u) = says x (answer.Held u)
 vote_by m x t coord count VoteYes =
-    force_member m x (prepare_record t coord count (sets_of (operations_of x.engine t)) ∷ [])
-    (voted_state x t coord count) answer.Yes (Some (message.Vote t m coord true))
+    force_member m (voted_state x t coord count) (prepare_record t coord count (sets_of (operations_of x.engine t)) ∷ [])
+      answer.Yes (Some (message.Vote t m coord true))
 
 abbrev pub vote_on : ℕ → MemberState → ℕ → ℕ → ℕ → MemberStep
 vote_on m x t coord count = vote_by m x t coord count (vote_of x.engine t count)
@@ -109,7 +112,7 @@ installed_state x t =
 abbrev pub commit_by : ℕ → MemberState → ℕ → ℕ → Standing → MemberStep
 commit_by m x t coord IsActive = says x answer.Absent
 commit_by m x t coord IsVoted =
-    force_member m x (log.Commit t [] ∷ []) (installed_state x t) answer.Installed (Some (message.Ack t m coord))
+    force_member m (installed_state x t) (log.Commit t [] ∷ []) answer.Installed (Some (message.Ack t m coord))
 commit_by m x t coord IsInstalled = says_and_sends x answer.Already (message.Ack t m coord)
 commit_by m x t coord IsAbsent = says x answer.Absent
 

@@ -11,8 +11,11 @@ use Rattle.co_record.specs.declared.record.Record.TheVariants as log
 use Rattle.co_state.specs.declared.engine_state.Vote.{Vote}
 use Rattle.co_state.specs.Effects.{dumped_rows, dumped_undos}
 use Rattle.co_plain.specs.declared.member_state.MemberState.{MemberState}
-use Rattle.co_plain.specs.LogWrite.{Outcome, Completes, StopsAt, outcome_of, batch_is_stable, closes_spare, with_filled_spare, with_spare, with_stop, generation_of}
-use Rattle.co_plain.specs.MemberStep.{MemberStep, says, with_log, member_down}
+use Rattle.co_plain.specs.declared.outcome.Outcome.{Outcome}
+use Rattle.co_plain.specs.declared.outcome.Outcome.TheVariants.{Completes, StopsAt}
+use Rattle.co_plain.specs.LogWrite.{outcome_of, batch_is_stable, closes_spare, with_filled_spare, with_spare, with_stop, generation_of}
+use Rattle.co_plain.specs.declared.member_step.MemberStep.{MemberStep}
+use Rattle.co_plain.specs.MemberStep.{says, with_log, member_down}
 use Rattle.co_plain.specs.Member.{prepare_record}
 
 -- the prepare records of these voted transactions on top of other records, the last one newest

@@ -11,14 +11,14 @@ use Rattle.co_state.specs.Table.{no_entries, look, put, without, holds}
 use Rattle.co_state.specs.Effects.{after_drop}
 use Rattle.co_plain.specs.declared.member_state.MemberState.{MemberState}
 use Rattle.co_plain.specs.declared.log_state.LogState.{LogState}
-use Rattle.co_plain.specs.LogWrite.{Outcome, Completes, StopsAt, outcome_of, batch_is_stable, with_batch, crashed_log, marks_of}
-use Rattle.co_plain.specs.MemberView.{MemberView, recovered_view, engine_from}
-
-pub record MemberStep : Type 0 where
-  pub state : MemberState
-  pub answer : Answer
-  pub sent : Option Message
-  pub marks : List Mark
+use Rattle.co_plain.specs.declared.member_step.MemberStep.{MemberStep}
+use Rattle.co_plain.specs.declared.standing.Standing.{Standing}
+use Rattle.co_plain.specs.declared.standing.Standing.TheVariants.{IsActive, IsVoted, IsInstalled, IsAbsent}
+use Rattle.co_plain.specs.declared.outcome.Outcome.{Outcome}
+use Rattle.co_plain.specs.declared.outcome.Outcome.TheVariants.{Completes, StopsAt}
+use Rattle.co_plain.specs.LogWrite.{outcome_of, batch_is_stable, with_batch, crashed_log, marks_of}
+use Rattle.co_plain.specs.declared.member_view.MemberView.{MemberView}
+use Rattle.co_plain.specs.MemberView.{recovered_view, engine_from}
 
 -- only an answer
 abbrev pub says : MemberState → Answer → MemberStep
@@ -29,12 +29,6 @@ abbrev pub says_and_sends : MemberState → Answer → Message → MemberStep
 says_and_sends x a message = record { state = x; answer = a; sent = Some message; marks = [] }
 
 -- where a transaction stands at a member
-pub data Standing : Type 0 where
-  IsActive : Standing
-  IsVoted : Standing
-  IsInstalled : Standing
-  IsAbsent : Standing
-
 abbrev pub standing_by : Bool → Bool → Bool → Standing
 standing_by true voted committed = IsActive
 standing_by false true committed = IsVoted
@@ -66,29 +60,25 @@ abbrev pub dropped : MemberState → ℕ → MemberState
 dropped x t =
     record { up = x.up; engine = after_drop x.engine t; committed = x.committed; asked = without x.asked t; log = x.log }
 
--- a stopped write of a batch: the completed write and a crash where the batch counts, else the crash alone
+-- A stopped write of a batch: the completed write and a crash where the batch counts, else the crash alone.
 abbrev pub stopped_member : ℕ → MemberState → ℕ → Bool → List Record → MemberStep
-stopped_member m x call true batch =
+stopped_member m next call true batch =
     record {
-      state = member_down x (with_batch x.log batch);
-      answer = answer.Stopped call;
-      sent = None;
-      marks = marks_of (node.Member m) (batch ++ x.log.waiting);
+      state = member_down next (with_batch next.log batch);
+      answer = answer.Stopped call; sent = None; marks = marks_of (node.Member m) (batch ++ next.log.waiting);
     }
-stopped_member m x call false batch =
-    record { state = member_down x x.log; answer = answer.Stopped call; sent = None; marks = [] }
+stopped_member m next call false batch =
+    record { state = member_down next next.log; answer = answer.Stopped call; sent = None; marks = [] }
 
--- The batch of the waiting records and these, newest first, is forced. What is to follow, the next state,
--- the answer and the message, follows where the write completes.
-abbrev pub forced_by : ℕ → MemberState → List Record → Outcome → MemberState → Answer → Option Message → MemberStep
-forced_by m x batch Completes next a message =
+-- The batch of the waiting records and these, newest first, is forced. The state that is given is the one to
+-- follow, with the log as it was. It follows, with the answer and the message, where the write completes.
+abbrev pub forced_by : ℕ → MemberState → List Record → Answer → Option Message → Outcome → MemberStep
+forced_by m next batch a message Completes =
     record {
-      state = with_log next (with_batch x.log batch);
-      answer = a;
-      sent = message;
-      marks = marks_of (node.Member m) (batch ++ x.log.waiting);
+      state = with_log next (with_batch next.log batch);
+      answer = a; sent = message; marks = marks_of (node.Member m) (batch ++ next.log.waiting);
     }
-forced_by m x batch (StopsAt call leaves) next a message = stopped_member m x call (batch_is_stable call leaves) batch
+forced_by m next batch a message (StopsAt call leaves) = stopped_member m next call (batch_is_stable call leaves) batch
 
-abbrev pub force_member : ℕ → MemberState → List Record → MemberState → Answer → Option Message → MemberStep
-force_member m x batch next a message = forced_by m x batch (outcome_of x.log.armed 4) next a message
+abbrev pub force_member : ℕ → MemberState → List Record → Answer → Option Message → MemberStep
+force_member m next batch a message = forced_by m next batch a message (outcome_of next.log.armed 4)

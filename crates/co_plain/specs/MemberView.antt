@@ -13,6 +13,7 @@ use Rattle.co_state.specs.Table.{Table, no_entries, look, put, without, holds, l
 use Rattle.co_state.specs.Keys.{reads_meet, writes_meet}
 use Rattle.co_state.specs.EngineState.{installed_records}
 use Rattle.co_state.specs.Effects.{records_from, restored}
+use Rattle.co_plain.specs.declared.member_view.MemberView.{MemberView}
 
 -- a set of transactions
 abbrev pub Numbers : Type 0
@@ -25,12 +26,7 @@ abbrev pub numbers_from : List ℕ → Numbers
 numbers_from [] = no_entries
 numbers_from (t ∷ ts) = with_number (numbers_from ts) t
 
--- the installed records, the voted transactions, and the transactions that are committed here
-pub record MemberView : Type 0 where
-  pub records : Records
-  pub voted : Table Vote
-  pub committed : Numbers
-
+-- A view has the installed records, the voted transactions, and the transactions that are committed here.
 abbrev pub nothing_known : MemberView
 nothing_known = record { records = empty; voted = no_entries; committed = no_entries }
 

@@ -16,7 +16,8 @@ use Rattle.co_plain.specs.declared.coord_state.CoordState.{CoordState}
 use Rattle.co_plain.specs.declared.log_state.LogState.{LogState}
 use Rattle.co_plain.specs.declared.member_state.MemberState.{MemberState}
 use Rattle.co_plain.specs.LogWrite.{marks_of}
-use Rattle.co_plain.specs.MemberView.{MemberView, Numbers, numbers_from, recovered_view, engine_from}
+use Rattle.co_plain.specs.declared.member_view.MemberView.{MemberView}
+use Rattle.co_plain.specs.MemberView.{Numbers, numbers_from, recovered_view, engine_from}
 use Rattle.co_plain.specs.CoordView.{recovered_commits}
 use Rattle.co_plain.specs.CoordStep.{table_from}
 use Rattle.co_plain.specs.Federation.{Federation, Stepped, items_of}

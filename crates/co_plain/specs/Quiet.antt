@@ -14,7 +14,9 @@ use Rattle.co_plain.specs.declared.coord_state.Entry.TheVariants as entry
 use Rattle.co_plain.specs.declared.member_state.AskedMark.{AskedMark}
 use Rattle.co_plain.specs.declared.member_state.MemberState.{MemberState}
 use Rattle.co_plain.specs.MemberView.{Numbers, numbers_from}
-use Rattle.co_plain.specs.MemberStep.{Standing, IsActive, IsVoted, IsInstalled, IsAbsent, standing_of}
+use Rattle.co_plain.specs.declared.standing.Standing.{Standing}
+use Rattle.co_plain.specs.declared.standing.Standing.TheVariants.{IsActive, IsVoted, IsInstalled, IsAbsent}
+use Rattle.co_plain.specs.MemberStep.{standing_of}
 use Rattle.co_plain.specs.CoordStep.{has_part}
 use Rattle.co_plain.specs.Decisions.{votes_for}
 use Rattle.co_plain.specs.Opening.{union_to}

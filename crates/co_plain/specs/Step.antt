@@ -20,11 +20,13 @@ use Rattle.co_plain.specs.declared.happening.Happening.TheVariants as happening
 use Rattle.co_plain.specs.declared.member_state.MemberState.{MemberState}
 use Rattle.co_plain.specs.declared.session.Session.{Session}
 use Rattle.co_plain.specs.LogWrite.{with_stop}
-use Rattle.co_plain.specs.MemberStep.{MemberStep, with_log}
+use Rattle.co_plain.specs.declared.member_step.MemberStep.{MemberStep}
+use Rattle.co_plain.specs.MemberStep.{with_log}
 use Rattle.co_plain.specs.Member.{member_op, member_deliver, member_vote, member_timer, member_ask, member_decide, coord_of}
 use Rattle.co_plain.specs.MemberLog.{member_checkpoint, member_crash, member_restart, member_arm}
 use Rattle.co_plain.specs.LocalCommit.{member_local_commit, member_local_abort}
-use Rattle.co_plain.specs.CoordStep.{CoordStep, with_coord_log}
+use Rattle.co_plain.specs.declared.coord_step.CoordStep.{CoordStep}
+use Rattle.co_plain.specs.CoordStep.{with_coord_log}
 use Rattle.co_plain.specs.Coordinator.{coord_begin, coord_commit, coord_abort, coord_deliver, coord_timer, coord_resend}
 use Rattle.co_plain.specs.CoordLog.{coord_checkpoint, coord_crash, coord_restart, coord_arm}
 use Rattle.co_plain.specs.Sessions.{Leave, Refuses, Grants, leave_to_visit, leave_to_end, count_at, parts_of, begun_by, with_told, asked_to_end}

@@ -5,13 +5,25 @@
 #![tactic(auto)]
 
 mod coord_state;
+mod coord_step;
+mod coord_view;
 mod happening;
 mod log_state;
 mod member_state;
+mod member_step;
+mod member_view;
+mod outcome;
 mod session;
+mod standing;
 
 pub use coord_state::{CoordState, Entry};
+pub use coord_step::CoordStep;
+pub use coord_view::CoordView;
 pub use happening::Happening;
 pub use log_state::{LogState, Stop};
 pub use member_state::{AskedMark, MemberState};
+pub use member_step::MemberStep;
+pub use member_view::MemberView;
+pub use outcome::Outcome;
 pub use session::{Decided, Session, Told};
+pub use standing::Standing;
