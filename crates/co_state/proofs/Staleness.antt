@@ -62,7 +62,7 @@ keys_since-more xs p place stamp x h e is s =
 pub since_more : (found : Option (List ℕ)) (span : Option Span) (xs : List Install) (p place stamp : ℕ) (x : Install)
     → p < length xs → p + 1 ≡ place → x ≡ get_or xs p x → stamp ≤ p
     → least_with (least_with found (filter (range_has span) (map (λ w. w.key) x.writes))) (overwritten span (keys_since (reverse (take p xs)) stamp))
-      ≡ least_with found (overwritten span (keys_since (reverse (take place xs)) stamp))
+    ≡ least_with found (overwritten span (keys_since (reverse (take place xs)) stamp))
 since_more found span xs p place stamp x h e is s =
     let old = keys_since (reverse (take p xs)) stamp in
     let ks = map (λ w. w.key) x.writes in
@@ -90,6 +90,6 @@ since_none found span xs place stamp h s =
 pub stale_more : (found : Option (List ℕ)) (is : List Install) (xs : List Operation) (p place : ℕ) (x : Operation)
     → p < length xs → p + 1 ≡ place → x ≡ get_or xs p x
     → least_with (least_with found (overwritten (span_read x.op) (keys_since is x.stamp))) (stale_keys is (reverse (take p xs)))
-      ≡ least_with found (stale_keys is (reverse (take place xs)))
+    ≡ least_with found (stale_keys is (reverse (take place xs)))
 stale_more found is xs p place x h e at =
     sym (least_with-append found _ _) ∙ ap (λ os. least_with found (stale_keys is os)) (sym (newest_more xs p x h at)) ∙ ap (λ n. least_with found (stale_keys is (reverse (take n xs)))) e

@@ -15,7 +15,12 @@ use std::alloc::{AllocError, Global};
 
 impl EngineState {
     /// A new state: these records, these voted transactions, and no install yet.
-    pub fn restored(alloc: Global, kind: Kind, records: RecordMap, voted: Table<Vote>) -> EngineState
+    pub fn restored(
+        alloc: Global,
+        kind: Kind,
+        records: RecordMap,
+        voted: Table<Vote>,
+    ) -> EngineState
         ensures { result ≡ restored kind records voted }
     {
         EngineState {

@@ -59,7 +59,12 @@ fn active_blocks(alloc: Global, oldest_first: &[Operation], op: &Op) -> Result<b
 }
 
 /// The least other active transaction that is in the way of the operation.
-pub fn active_in_way(alloc: Global, active: &Table<Operations>, t: Txn, op: &Op) -> Result<Option<Txn>, AllocError>
+pub fn active_in_way(
+    alloc: Global,
+    active: &Table<Operations>,
+    t: Txn,
+    op: &Op,
+) -> Result<Option<Txn>, AllocError>
     ensures { IfOk result (λ found. found ≡ least_where (λ u os. not (u == t) && active_blocks os op.now) active.now) }
 {
     for (txn, operations) in active.iter() {

@@ -28,7 +28,12 @@ pub fn copy_records(alloc: Global, records: &RecordMap) -> Result<RecordMap, All
 }
 
 /// The first so many installs laid over the base.
-pub fn records_at(alloc: Global, base: &RecordMap, oldest_first: &[Install], count: u64) -> Result<RecordMap, AllocError>
+pub fn records_at(
+    alloc: Global,
+    base: &RecordMap,
+    oldest_first: &[Install],
+    count: u64,
+) -> Result<RecordMap, AllocError>
     ensures { IfOk result (λ records. records ≡ records_at base.now (reverse oldest_first.now) count) }
 {
     let mut records = copy_records(alloc, base)?;

@@ -33,7 +33,12 @@ impl EngineState {
     pub fn installed_records(&self, alloc: Global) -> Result<RecordMap, AllocError>
         ensures { IfOk result (λ records. records ≡ installed_records self.now) }
     {
-        records_at(alloc, &self.base, self.installed.oldest_first(), self.installed.len() as u64)
+        records_at(
+            alloc,
+            &self.base,
+            self.installed.oldest_first(),
+            self.installed.len() as u64,
+        )
     }
 
     /// What an undecided transaction read and wrote; nothing where it is absent.
@@ -72,7 +77,12 @@ impl EngineState {
     pub fn reply(&self, alloc: Global, t: Txn, op: &Op) -> Result<Reply, AllocError>
         ensures { IfOk result (λ reply. reply ≡ operation_reply self.now t op.now) }
     {
-        let mut records = records_at(alloc, &self.base, self.installed.oldest_first(), self.snapshot_of(t))?;
+        let mut records = records_at(
+            alloc,
+            &self.base,
+            self.installed.oldest_first(),
+            self.snapshot_of(t),
+        )?;
         let own = sets_of(alloc, self.operations_of(t))?;
         records.lay(own.writes())?;
         records.apply(alloc, op)

@@ -44,7 +44,11 @@ fn least_changed<'a>(found: Option<&'a Key>, op: &Op, changes: &'a [Written]) ->
 }
 
 /// The least key that was found before, or that an install after the operation wrote in what it read.
-fn least_since<'a>(found: Option<&'a Key>, operation: &Operation, installs: &'a [Install]) -> Option<&'a Key>
+fn least_since<'a>(
+    found: Option<&'a Key>,
+    operation: &Operation,
+    installs: &'a [Install],
+) -> Option<&'a Key>
     ensures { option_copied result ≡ least_with (option_copied found.entry) (overwritten (span_read operation.now.op) (keys_since (reverse installs.now) operation.now.stamp)) }
 {
     let mut least = found;

@@ -25,7 +25,12 @@ fn voted_holds(own: &Sets, other: &Sets) -> bool
 }
 
 /// The least other active transaction that is in the way of the vote.
-pub fn active_before(alloc: Global, active: &Table<Operations>, t: Txn, own: &Sets) -> Result<Option<Txn>, AllocError>
+pub fn active_before(
+    alloc: Global,
+    active: &Table<Operations>,
+    t: Txn,
+    own: &Sets,
+) -> Result<Option<Txn>, AllocError>
     ensures { IfOk result (λ found. found ≡ least_where (λ u os. not (u == t) && active_holds own.now os) active.now) }
 {
     for (txn, operations) in active.iter() {
