@@ -1,2 +1,6 @@
 mod Placing
 mod Newest
+mod Rows
+mod Staleness
+mod Tables
+mod Joining

@@ -6,5 +6,6 @@ pub mod ReadRule
 pub mod LockRule
 pub mod Conflicts
 pub mod StaleRead
+pub mod Search
 pub mod VotingRule
 pub mod Effects

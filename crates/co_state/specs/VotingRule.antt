@@ -4,22 +4,13 @@ use Rattle.std.specs.Prelude.{ℕ, Bool, ◌&&◌, ◌||◌, not, ◌==◌, List
 use Rattle.co_state.specs.declared.engine_state.EngineState.{EngineState}
 use Rattle.co_state.specs.declared.engine_state.Operation.{Operation}
 use Rattle.co_state.specs.declared.engine_state.Sets.{Sets}
+use Rattle.co_state.specs.declared.verdict.Verdict.{Verdict}
+use Rattle.co_state.specs.declared.verdict.Verdict.TheVariants.{LostOperations, StaleRead, HeldBy, VoteYes}
 use Rattle.co_state.specs.Table.{least_where, lesser}
 use Rattle.co_state.specs.Keys.{reads_meet, writes_meet}
 use Rattle.co_state.specs.Changes.{sets_of}
 use Rattle.co_state.specs.EngineState.{operations_of}
 use Rattle.co_state.specs.StaleRead.{stale_key}
-
--- what the rule says of a transaction
-pub data Verdict : Type 0 where
-  -- no: operations were lost here
-  LostOperations : Verdict
-  -- no: this key was read and has been overwritten
-  StaleRead : List ℕ → Verdict
-  -- not yet: this transaction is in the way
-  HeldBy : ℕ → Verdict
-  -- yes
-  VoteYes : Verdict
 
 -- an active transaction is in the way that read what this one wrote
 abbrev pub active_holds : Sets → List Operation → Bool

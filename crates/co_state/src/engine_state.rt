@@ -1,6 +1,5 @@
 //! The state of an engine as plain data.
 use crate::history::History;
-
 use crate::table::Table;
 use co_base::{Kind, Op, Ranges, Txn, Writes};
 use co_serial::RecordMap;

@@ -7,21 +7,33 @@
 
 mod changes;
 mod copies;
+mod effects;
 mod engine_state;
 mod history;
+mod locking;
 mod meeting;
 mod pair;
 mod places;
+mod records;
+mod rules;
 mod sets;
-
+mod stale;
 mod table;
+mod verdict;
+mod voting;
 
+pub use changes::{change_made, range_read, sets_of};
 pub use co_serial::RecordMap;
 pub use copies::{copy_ranges, copy_writes};
+pub use effects::join;
 pub use engine_state::{EngineState, Install, Operation, Operations, Sets, Vote};
 pub use history::History;
+pub use locking::{active_in_way, lesser, sets_block, voted_in_way, writes_block};
 pub use meeting::{reads_key, reads_meet, writes_key, writes_meet, writes_within};
 pub use pair::{Pair, PairKind, Pairs};
 pub use places::{put_change, put_range};
-pub use changes::{change_made, range_read, sets_of};
+pub use records::{copy_records, records_at, records_from};
+pub use stale::{reads, stale_key};
 pub use table::Table;
+pub use verdict::Verdict;
+pub use voting::{active_before, voted_before};
