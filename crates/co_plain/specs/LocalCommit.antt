@@ -5,7 +5,9 @@ use Rattle.co_message.specs.declared.answer.Cause.TheVariants as cause
 use Rattle.co_record.specs.declared.record.Record.TheVariants as log
 use Rattle.co_state.specs.Changes.{sets_of}
 use Rattle.co_state.specs.EngineState.{operations_of}
-use Rattle.co_state.specs.VotingRule.{Verdict, LostOperations, StaleRead, HeldBy, VoteYes, vote_of, kept_count}
+use Rattle.co_state.specs.declared.verdict.Verdict.{Verdict}
+use Rattle.co_state.specs.declared.verdict.Verdict.TheVariants.{LostOperations, StaleRead, HeldBy, VoteYes}
+use Rattle.co_state.specs.VotingRule.{vote_of, kept_count}
 use Rattle.co_plain.specs.declared.member_state.MemberState.{MemberState}
 use Rattle.co_plain.specs.declared.member_step.MemberStep.{MemberStep}
 use Rattle.co_plain.specs.declared.standing.Standing.{Standing}

@@ -16,7 +16,9 @@ use Rattle.co_state.specs.Changes.{sets_of}
 use Rattle.co_state.specs.EngineState.{operations_of}
 use Rattle.co_state.specs.ReadRule.{operation_reply}
 use Rattle.co_state.specs.LockRule.{lock_blocker}
-use Rattle.co_state.specs.VotingRule.{Verdict, LostOperations, StaleRead, HeldBy, VoteYes, vote_of, kept_count}
+use Rattle.co_state.specs.declared.verdict.Verdict.{Verdict}
+use Rattle.co_state.specs.declared.verdict.Verdict.TheVariants.{LostOperations, StaleRead, HeldBy, VoteYes}
+use Rattle.co_state.specs.VotingRule.{vote_of, kept_count}
 use Rattle.co_state.specs.Effects.{with_operation, after_cast, after_install}
 use Rattle.co_plain.specs.declared.member_state.AskedMark.{AskedMark}
 use Rattle.co_plain.specs.declared.member_state.MemberState.{MemberState}

@@ -14,7 +14,8 @@ use Rattle.co_state.specs.Changes.{sets_of}
 use Rattle.co_state.specs.EngineState.{operations_of}
 use Rattle.co_state.specs.ReadRule.{operation_reply}
 use Rattle.co_state.specs.LockRule.{lock_blocker}
-use Rattle.co_state.specs.VotingRule.{VoteYes, vote_of, kept_count}
+use Rattle.co_state.specs.declared.verdict.Verdict.TheVariants.{VoteYes}
+use Rattle.co_state.specs.VotingRule.{vote_of, kept_count}
 use Rattle.co_state.specs.Effects.{with_operation}
 use Rattle.co_plain.specs.declared.coord_state.CoordState.{CoordState}
 use Rattle.co_plain.specs.declared.coord_state.Entry.{Entry}
