@@ -5,6 +5,10 @@
 //! on serial executions).
 #![tactic(auto)]
 
+mod record_map;
+mod serial_map;
 mod site;
 
+pub use record_map::RecordMap;
+pub use serial_map::{SerialMap, run_whole};
 pub use site::{Site, Sites};

@@ -1,0 +1,3 @@
+pub mod MapViews
+mod RecordRows
+mod Families
