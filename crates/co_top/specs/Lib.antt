@@ -1,0 +1,5 @@
+pub mod Wire
+pub mod Session
+pub mod Member
+pub mod Coordinator
+pub mod Federation
