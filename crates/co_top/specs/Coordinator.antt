@@ -1,5 +1,6 @@
 -- The coordinator: its table of transactions that are not over.
-use Rattle.std.specs.Prelude.{ℕ, ◌==◌, Bool, ◌&&◌, not, true, List, [], ◌∷◌, map, if◌then◌else◌, list_any, Option, None, Some}
+use Rattle.std.specs.List.{list_any}
+use Rattle.std.specs.Prelude.{ℕ, ◌==◌, Bool, ◌&&◌, not, true, List, [], ◌∷◌, map, if◌then◌else◌, Option, None, Some}
 use Rattle.std.specs.Ordering.{nat_cmp}
 use Rattle.std.specs.FinMap.{FinMap, get, insert, remove}
 use Rattle.co_base.specs.declared.part.Part.{Part}
@@ -51,10 +52,10 @@ commit_to txn coord p = Decide txn coord p.member true
 abbrev pub commit_idle : Entries → ℕ → ℕ → List Part → CoordEffect
 commit_idle table txn coord [] = record { table = remove table txn; sent = []; answer = AnswerCommitted }
 commit_idle table txn coord (p ∷ ps) = record {
-    table = insert table txn (Collecting (p ∷ ps) []);
-    sent = map (prepare_to txn coord) (p ∷ ps);
-    answer = Waiting p.member
-  }
+  table = insert table txn (Collecting (p ∷ ps) []);
+  sent = map (prepare_to txn coord) (p ∷ ps);
+  answer = Waiting p.member;
+}
 
 -- only an idle transaction is waiting for its client
 abbrev pub commit_entry : Entries → ℕ → ℕ → List Part → Option Entry → CoordEffect
@@ -66,15 +67,15 @@ commit_entry table txn coord parts (Some (Committed all acks)) = remains table U
 -- the last missing yes decides
 abbrev pub after_yes : Entries → ℕ → ℕ → List Part → List ℕ → Option ℕ → CoordEffect
 after_yes table txn coord parts yeses None = record {
-    table = insert table txn (Committed parts []);
-    sent = map (commit_to txn coord) parts;
-    answer = AnswerCommitted
-  }
+  table = insert table txn (Committed parts []);
+  sent = map (commit_to txn coord) parts;
+  answer = AnswerCommitted;
+}
 after_yes table txn coord parts yeses (Some member) = record {
-    table = insert table txn (Collecting parts yeses);
-    sent = [];
-    answer = Waiting member
-  }
+  table = insert table txn (Collecting parts yeses);
+  sent = [];
+  answer = Waiting member;
+}
 
 abbrev pub yes_entry : Entries → ℕ → ℕ → ℕ → Option Entry → CoordEffect
 yes_entry table txn coord member None = remains table Unknown

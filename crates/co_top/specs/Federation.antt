@@ -57,10 +57,10 @@ refused s answer = record { after = s; sent = []; answer = answer }
 abbrev pub begin : Federation → ℕ → ℕ → Option Session → Outcome
 begin s txn coord (Some session) = refused s Used
 begin s txn coord None = record {
-    after = record s { table = insert s.table txn Idle; sessions = insert s.sessions txn (new_session coord) };
-    sent = [];
-    answer = Begun
-  }
+  after = record s { table = insert s.table txn Idle; sessions = insert s.sessions txn (new_session coord) };
+  sent = [];
+  answer = Begun;
+}
 
 -- the sessions after an operation: a reply is entered, any other answer is not
 abbrev pub noted : Sessions → ℕ → Session → ℕ → Op → Answer → Sessions
@@ -70,17 +70,17 @@ noted sessions txn session member op _ = sessions
 -- a member did its part, and its messages are sent
 abbrev pub at_member : Federation → ℕ → MemberEffect → Outcome
 at_member s number step = record {
-    after = record s { members = with_at s.members number step.member; sent = with_all_sent s.sent step.sent };
-    sent = step.sent;
-    answer = step.answer
-  }
+  after = record s { members = with_at s.members number step.member; sent = with_all_sent s.sent step.sent };
+  sent = step.sent;
+  answer = step.answer;
+}
 
 abbrev pub operated : Federation → ℕ → ℕ → Op → Session → MemberEffect → Outcome
 operated s txn number op session step = record {
-    after = record s { members = with_at s.members number step.member; sessions = noted s.sessions txn session number op step.answer };
-    sent = [];
-    answer = step.answer
-  }
+  after = record s { members = with_at s.members number step.member; sessions = noted s.sessions txn session number op step.answer };
+  sent = [];
+  answer = step.answer;
+}
 
 -- an operation of a transaction that was begun and was not asked to end
 abbrev pub operate : Federation → ℕ → ℕ → Op → Option Session → MemberEffect → Outcome
@@ -99,15 +99,15 @@ done_of (Some session) = session.done
 -- the coordinator did its part: its messages are sent, and what it answers may be a decision
 abbrev pub at_coordinator : Federation → ℕ → Sessions → CoordEffect → Outcome
 at_coordinator s txn sessions step = record {
-    after = record s {
-      table = step.table;
-      sessions = sessions;
-      sent = with_all_sent s.sent step.sent;
-      decided = decisions_after s.decided txn (done_of (get s.sessions txn)) step.answer
-    };
-    sent = step.sent;
-    answer = step.answer
-  }
+  after = record s {
+    table = step.table;
+    sessions = sessions;
+    sent = with_all_sent s.sent step.sent;
+    decided = decisions_after s.decided txn (done_of (get s.sessions txn)) step.answer;
+  };
+  sent = step.sent;
+  answer = step.answer;
+}
 
 -- the client asks for the commit, once
 abbrev pub commit : Federation → ℕ → Option Session → Outcome

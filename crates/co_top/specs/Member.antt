@@ -1,5 +1,6 @@
 -- One member: its records, and its transactions that are not installed yet, with their locks.
-use Rattle.std.specs.Prelude.{ℕ, ◌+◌, ◌==◌, Bool, true, false, ◌&&◌, ◌||◌, not, nat_eq, List, [], ◌∷◌, length, if◌then◌else◌, list_any, Option, None, Some}
+use Rattle.std.specs.List.{list_any}
+use Rattle.std.specs.Prelude.{ℕ, ◌+◌, ◌==◌, Bool, true, false, ◌&&◌, ◌||◌, not, nat_eq, List, [], ◌∷◌, length, if◌then◌else◌, Option, None, Some}
 use Rattle.std.specs.Ordering.{nat_cmp}
 use Rattle.std.specs.Cmp.Lexicographic.{pointwise}
 use Rattle.std.specs.FinMap.{FinMap, entries, get, insert, remove}
@@ -82,17 +83,17 @@ with_local member txn local = record { rows = member.rows; locals = insert membe
 
 abbrev pub read_unblocked : Member → ℕ → List ℕ → Local → MemberEffect
 read_unblocked member txn key local = record {
-    member = with_local member txn (record { voted = local.voted; reads = key ∷ local.reads; writes = local.writes });
-    sent = [];
-    answer = Replied (Got (value_seen member.rows local key))
-  }
+  member = with_local member txn (record { voted = local.voted; reads = key ∷ local.reads; writes = local.writes });
+  sent = [];
+  answer = Replied (Got (value_seen member.rows local key));
+}
 
 abbrev pub write_unblocked : Member → ℕ → List ℕ → List ℕ → Local → MemberEffect
 write_unblocked member txn key value local = record {
-    member = with_local member txn (record { voted = local.voted; reads = local.reads; writes = record { key = key; value = value } ∷ local.writes });
-    sent = [];
-    answer = Replied Done
-  }
+  member = with_local member txn (record { voted = local.voted; reads = local.reads; writes = record { key = key; value = value } ∷ local.writes });
+  sent = [];
+  answer = Replied Done;
+}
 
 -- an operation: there may be too many, it may have to wait, and else it is done
 abbrev pub unless_blocked : Member → Option ℕ → MemberEffect → MemberEffect
@@ -118,15 +119,15 @@ has_number number numbers = list_any (λ n. n == number) numbers
 -- decision, so nothing stands against it, and nothing is ever lost, so it has all its operations.
 abbrev pub prepare_local : Member → ℕ → ℕ → ℕ → ℕ → Option Local → MemberEffect
 prepare_local member txn number coord count None = record {
-    member = member;
-    sent = Vote txn number coord false ∷ [];
-    answer = NoLost 0 count
-  }
+  member = member;
+  sent = Vote txn number coord false ∷ [];
+  answer = NoLost 0 count;
+}
 prepare_local member txn number coord count (Some local) = record {
-    member = with_local member txn (record { voted = true; reads = local.reads; writes = local.writes });
-    sent = Vote txn number coord true ∷ [];
-    answer = if local.voted then Voted else Yes
-  }
+  member = with_local member txn (record { voted = true; reads = local.reads; writes = local.writes });
+  sent = Vote txn number coord true ∷ [];
+  answer = if local.voted then Voted else Yes;
+}
 
 abbrev pub member_prepare : Member → ℕ → ℕ → ℕ → ℕ → MemberEffect
 member_prepare member txn number coord count =
@@ -142,7 +143,7 @@ install_local member txn number coord (Some local) =
     then record {
       member = record { rows = overlay member.rows local.writes; locals = remove member.locals txn; installed = txn ∷ member.installed };
       sent = Ack txn number coord ∷ [];
-      answer = Installed
+      answer = Installed;
     }
     else stays member Absent
 

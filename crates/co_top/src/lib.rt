@@ -5,7 +5,7 @@ mod coordinator;
 mod history;
 mod member;
 mod reader;
-mod run;
+mod replay;
 mod session;
 mod status;
 mod table;
@@ -15,7 +15,7 @@ mod words;
 mod world;
 
 pub use history::History;
-pub use run::run;
+pub use replay::run;
 pub use status::Status;
 pub use table::Table;
 pub use world::{Happened, World};

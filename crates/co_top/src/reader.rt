@@ -1,5 +1,5 @@
 //! Reading the lines of a schedule.
-ghost use Rattle.std.specs.Prelude.{◌≡◌, ◌≤◌, ℕ, IfOk, IfSome, IsNone};
+ghost use Rattle.std.specs.Prelude.{◌≡◌, ◌≤◌, ◌⊎◌, length, IfSome, IsTrue};
 
 use crate::words::Words;
 use co_base::{BaseFault, Key, Txn, Value};
@@ -18,8 +18,10 @@ pub fn read_line(alloc: Global, line: &[u8], members: u8) -> Result<Option<Event
         read_write(alloc, &words, members)?
     } else if is_form(&words, b"commit", 2) {
         read_commit(&words)
-    } else if is_form(&words, b"deliver", 6) || is_form(&words, b"deliver", 5) {
+    } else if is_form(&words, b"deliver", 6) {
         read_deliver(&words, members)
+    } else if is_form(&words, b"deliver", 5) {
+        read_ack(&words, members)
     } else {
         None
     };
@@ -27,41 +29,55 @@ pub fn read_line(alloc: Global, line: &[u8], members: u8) -> Result<Option<Event
 }
 
 /// Whether the line begins with this word and has so many words.
-fn is_form(words: &Words, form: &[u8], len: usize) -> bool {
+fn is_form(words: &Words, form: &[u8], len: usize) -> bool
+    ensures { IsTrue result → length words.now ≡ len }
+{
     words.len() == len && words.len() > 0 && words.at(0) == form
 }
 
-fn read_begin(words: &Words) -> Option<Event> {
+fn read_begin(words: &Words) -> Option<Event>
+    requires { length words.now ≡ 3 }
+{
     let txn = read_txn(words.at(1))?;
     let coord = read_coord(words.at(2))?;
     Some(Event::Begin { txn, coord })
 }
 
-fn read_commit(words: &Words) -> Option<Event> {
+fn read_commit(words: &Words) -> Option<Event>
+    requires { length words.now ≡ 2 }
+{
     let txn = read_txn(words.at(1))?;
     Some(Event::Commit { txn })
 }
 
-fn read_read(alloc: Global, words: &Words, members: u8) -> Result<Option<Event>, AllocError> {
-    let (Some(txn), Some(member)) = (read_txn(words.at(1)), read_member(words.at(2), members))
-    else {
+fn read_read(alloc: Global, words: &Words, members: u8) -> Result<Option<Event>, AllocError>
+    requires { length words.now ≡ 4 }
+{
+    let Some(txn) = read_txn(words.at(1)) else {
         return Ok(None);
     };
-    match read_key(alloc, words.at(3))? {
-        Some(key) => Ok(Some(Event::Read { txn, member, key })),
-        None => Ok(None),
-    }
+    let Some(member) = read_member(words.at(2), members) else {
+        return Ok(None);
+    };
+    let Some(key) = read_key(alloc, words.at(3))? else {
+        return Ok(None);
+    };
+    Ok(Some(Event::Read { txn, member, key }))
 }
 
-fn read_write(alloc: Global, words: &Words, members: u8) -> Result<Option<Event>, AllocError> {
-    let (Some(txn), Some(member)) = (read_txn(words.at(1)), read_member(words.at(2), members))
-    else {
+fn read_write(alloc: Global, words: &Words, members: u8) -> Result<Option<Event>, AllocError>
+    requires { length words.now ≡ 5 }
+{
+    let Some(txn) = read_txn(words.at(1)) else {
         return Ok(None);
     };
-    let (Some(key), Some(value)) = (
-        read_key(alloc, words.at(3))?,
-        read_value(alloc, words.at(4))?,
-    ) else {
+    let Some(member) = read_member(words.at(2), members) else {
+        return Ok(None);
+    };
+    let Some(key) = read_key(alloc, words.at(3))? else {
+        return Ok(None);
+    };
+    let Some(value) = read_value(alloc, words.at(4))? else {
         return Ok(None);
     };
     Ok(Some(Event::Write {
@@ -72,14 +88,10 @@ fn read_write(alloc: Global, words: &Words, members: u8) -> Result<Option<Event>
     }))
 }
 
-fn read_deliver(words: &Words, members: u8) -> Option<Event> {
+fn read_deliver(words: &Words, members: u8) -> Option<Event>
+    requires { length words.now ≡ 6 }
+{
     let kind = words.at(1);
-    if words.len() == 5 {
-        if kind == b"ack".as_slice() {
-            return read_ack(words, members);
-        }
-        return None;
-    }
     if kind == b"prepare".as_slice() {
         read_prepare(words, members)
     } else if kind == b"vote".as_slice() {
@@ -91,7 +103,9 @@ fn read_deliver(words: &Words, members: u8) -> Option<Event> {
     }
 }
 
-fn read_prepare(words: &Words, members: u8) -> Option<Event> {
+fn read_prepare(words: &Words, members: u8) -> Option<Event>
+    requires { length words.now ≡ 6 }
+{
     let txn = read_txn(words.at(2))?;
     let coord = read_coord(words.at(3))?;
     let member = read_member(words.at(4), members)?;
@@ -104,7 +118,9 @@ fn read_prepare(words: &Words, members: u8) -> Option<Event> {
     }))
 }
 
-fn read_vote(words: &Words, members: u8) -> Option<Event> {
+fn read_vote(words: &Words, members: u8) -> Option<Event>
+    requires { length words.now ≡ 6 }
+{
     let txn = read_txn(words.at(2))?;
     let member = read_member(words.at(3), members)?;
     let coord = read_coord(words.at(4))?;
@@ -120,7 +136,9 @@ fn read_vote(words: &Words, members: u8) -> Option<Event> {
     }
 }
 
-fn read_decide(words: &Words, members: u8) -> Option<Event> {
+fn read_decide(words: &Words, members: u8) -> Option<Event>
+    requires { length words.now ≡ 6 }
+{
     let txn = read_txn(words.at(2))?;
     let coord = read_coord(words.at(3))?;
     let member = read_member(words.at(4), members)?;
@@ -136,7 +154,12 @@ fn read_decide(words: &Words, members: u8) -> Option<Event> {
     }
 }
 
-fn read_ack(words: &Words, members: u8) -> Option<Event> {
+fn read_ack(words: &Words, members: u8) -> Option<Event>
+    requires { length words.now ≡ 5 }
+{
+    if words.at(1) != b"ack".as_slice() {
+        return None;
+    }
     let txn = read_txn(words.at(2))?;
     let member = read_member(words.at(3), members)?;
     let coord = read_coord(words.at(4))?;
@@ -144,7 +167,9 @@ fn read_ack(words: &Words, members: u8) -> Option<Event> {
 }
 
 /// A number in decimal digits, without a leading zero but for `0` itself, and not above `most`.
-fn read_number(word: &[u8], most: u32) -> Option<u32> {
+fn read_number(word: &[u8], most: u32) -> Option<u32>
+    ensures { IfSome result (λ number. number ≤ most) }
+{
     if word.is_empty() || (word.len() > 1 && word[0] == b'0') {
         return None;
     }
@@ -179,7 +204,9 @@ fn read_count(word: &[u8]) -> Option<u16> {
 }
 
 /// The name of the member with this letter and a number of 1 to `most`.
-fn read_name(word: &[u8], letter: u8, most: u8) -> Option<u8> {
+fn read_name(word: &[u8], letter: u8, most: u8) -> Option<u8>
+    ensures { IfSome result (λ number. (1 ≤ number) × (number ≤ most)) }
+{
     if word.is_empty() || word[0] != letter {
         return None;
     }

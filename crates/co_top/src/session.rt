@@ -1,14 +1,11 @@
 //! What the clients saw of their transactions.
-ghost use Rattle.std.specs.Prelude.{◌≡◌, ◌≤◌, ◌<◌, ℕ, Ok, Err, IfOk, IfErr, OnOk, OnErr, length, None, Some};
-ghost use Rattle.std.specs.FinMap as map;
-ghost use Rattle.co_top.specs.declared.session.SessionFault.TheVariants.{Used, NotBegun, Asked};
+ghost use Rattle.std.specs.Prelude.{◌≡◌, IfOk};
 
 use crate::history::History;
 use crate::table::Table;
 use co_base::{Part, Parts, Reply, Row, Rows, Txn};
 use co_serial::Site;
 use std::alloc::{AllocError, Global};
-use std::marker::Model;
 use thiserror::Error;
 
 /// Why a session refuses.
@@ -45,38 +42,22 @@ pub struct Session {
     pub done: History<Done>,
 }
 
-/// The sessions of all transactions. A contract sees the table of them.
+/// The sessions of all transactions.
 #[derive(Drop)]
 pub struct Sessions {
     table: Table<Session>,
 }
 
-impl Model for Sessions {
-    ghost use Rattle.std.specs.Ordering.{nat_cmp};
-    ghost use Rattle.std.specs.FinMap.{FinMap};
-    ghost use Rattle.co_top.specs.declared.session.Session.{Session};
-
-    ghost Value = { FinMap nat_cmp Session };
-
-    ghost view = { λ s. s.table };
-}
-
 impl Sessions {
-    ghost use Rattle.co_top.specs.Session.{new_session, parts_of, with_answer, with_end_asked, done_of, may_begin_of, may_act_of};
-
     /// No transactions. Takes no memory.
-    pub fn new(alloc: Global) -> Sessions
-        ensures { result ≡ map.empty }
-    {
+    pub fn new(alloc: Global) -> Sessions {
         Sessions {
             table: Table::new(alloc),
         }
     }
 
     /// Whether the transaction may be begun. `Used` comes exactly where it was begun before.
-    pub fn may_begin(&self, txn: Txn) -> Result<(), SessionFault>
-        ensures { result ≡ may_begin_of (map.get self.now txn) }
-    {
+    pub fn may_begin(&self, txn: Txn) -> Result<(), SessionFault> {
         match self.table.get(txn) {
             Some(_) => Err(SessionFault::Used),
             None => Ok(()),
@@ -84,9 +65,7 @@ impl Sessions {
     }
 
     /// Begins a transaction at a coordinator.
-    pub fn begin(&mut self, alloc: Global, txn: Txn, coord: u8) -> Result<(), AllocError>
-        ensures { OnOk result (self.new ≡ map.insert self.old txn (new_session coord)) }
-    {
+    pub fn begin(&mut self, alloc: Global, txn: Txn, coord: u8) -> Result<(), AllocError> {
         let session = Session {
             coord,
             asked: false,
@@ -97,9 +76,7 @@ impl Sessions {
 
     /// The coordinator of a transaction that may act. `NotBegun` comes exactly where it was not
     /// begun, `Asked` exactly where it was asked to end.
-    pub fn may_act(&self, txn: Txn) -> Result<u8, SessionFault>
-        ensures { result ≡ may_act_of (map.get self.now txn) }
-    {
+    pub fn may_act(&self, txn: Txn) -> Result<u8, SessionFault> {
         match self.table.get(txn) {
             None => Err(SessionFault::NotBegun),
             Some(session) => {
@@ -113,9 +90,7 @@ impl Sessions {
     }
 
     /// Enters an answered operation of a transaction that was begun.
-    pub fn answered(&mut self, txn: Txn, site: Site, reply: Reply) -> Result<(), AllocError>
-        ensures { (session : Session) → map.get self.old txn ≡ Some session → OnOk result (self.new ≡ map.insert self.old txn (with_answer session site.member site.op reply)) }
-    {
+    pub fn answered(&mut self, txn: Txn, site: Site, reply: Reply) -> Result<(), AllocError> {
         if let Some(mut session) = self.table.take(txn) {
             session.done.push(Done { site, reply })?;
             self.table.put(txn, session)?;
@@ -125,9 +100,7 @@ impl Sessions {
 
     /// The participants of a transaction among the first members: those that answered an
     /// operation, ascending, each with how many it answered.
-    pub fn parts(&self, alloc: Global, txn: Txn, members: u8) -> Result<Parts, AllocError>
-        ensures { IfOk result (λ parts. parts ≡ parts_of members (done_of (map.get self.now txn))) }
-    {
+    pub fn parts(&self, alloc: Global, txn: Txn, members: u8) -> Result<Parts, AllocError> {
         match self.table.get(txn) {
             None => parts_among(alloc, &[], members),
             Some(session) => parts_among(alloc, session.done.oldest_first(), members),
@@ -135,9 +108,7 @@ impl Sessions {
     }
 
     /// Notes that the end of a transaction was asked.
-    pub fn asked(&mut self, txn: Txn) -> Result<(), AllocError>
-        ensures { (session : Session) → map.get self.old txn ≡ Some session → OnOk result (self.new ≡ map.insert self.old txn (with_end_asked session)) }
-    {
+    pub fn asked(&mut self, txn: Txn) -> Result<(), AllocError> {
         if let Some(mut session) = self.table.take(txn) {
             session.asked = true;
             self.table.put(txn, session)?;

@@ -128,12 +128,7 @@ pub fn put_message(message: &Message, into: &mut Vec<u8>) -> Result<(), AllocErr
 }
 
 /// Appends a transaction, a member and a coordinator.
-fn put_from_member(
-    txn: Txn,
-    member: u8,
-    coord: u8,
-    into: &mut Vec<u8>,
-) -> Result<(), AllocError> {
+fn put_from_member(txn: Txn, member: u8, coord: u8, into: &mut Vec<u8>) -> Result<(), AllocError> {
     put_number(txn.0, into)?;
     put_member(member, into)?;
     put_coord(coord, into)

@@ -1,6 +1,5 @@
 //! What was sent.
-ghost use Rattle.std.specs.Prelude.{◌≡◌, ◌↔◌, [], OnOk, OnErr, IsErr, false};
-ghost use Rattle.co_top.specs.Wire.{was_sent, with_sent, with_all_sent};
+ghost use Rattle.std.specs.Prelude.{◌≡◌, []};
 
 use crate::history::History;
 use co_message::Message;
@@ -43,10 +42,7 @@ impl Wire {
     }
 
     /// Sends a message, unless it was sent before. Want of memory leaves the wire as it was.
-    pub fn send(&mut self, message: Message) -> Result<(), AllocError>
-        ensures ok { OnOk result (self.new ≡ with_sent self.old message) }
-        ensures err { OnErr result (self.new ≡ self.old) }
-    {
+    pub fn send(&mut self, message: Message) -> Result<(), AllocError> {
         if self.has(&message) {
             return Ok(());
         }
@@ -54,9 +50,7 @@ impl Wire {
     }
 
     /// Sends messages one after another.
-    pub fn send_all(&mut self, messages: &[Message]) -> Result<(), AllocError>
-        ensures { OnOk result (self.new ≡ with_all_sent self.old messages.now) }
-    {
+    pub fn send_all(&mut self, messages: &[Message]) -> Result<(), AllocError> {
         for message in messages {
             self.send(*message)?;
         }
@@ -64,9 +58,7 @@ impl Wire {
     }
 
     /// Whether the message may arrive. `Unsent` comes exactly where it was never sent.
-    pub fn get(&self, message: &Message) -> Result<(), WireFault>
-        ensures { IsErr result ↔ (was_sent message.now self.now ≡ false) }
-    {
+    pub fn get(&self, message: &Message) -> Result<(), WireFault> {
         if self.has(message) {
             Ok(())
         } else {
@@ -75,9 +67,7 @@ impl Wire {
     }
 
     /// Whether the message was sent.
-    fn has(&self, message: &Message) -> bool
-        ensures { result ≡ was_sent message.now self.now }
-    {
+    fn has(&self, message: &Message) -> bool {
         for place in 0..self.sent.len() {
             if self.sent.at(place) == message {
                 return true;

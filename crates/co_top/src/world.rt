@@ -1,5 +1,5 @@
 //! The federation: members, the coordinator, sessions and the wire.
-ghost use Rattle.std.specs.Prelude.{◌≡◌, ◌≤◌, ◌<◌, ℕ, [], IfOk, OnOk, OnErr, length};
+ghost use Rattle.std.specs.Prelude.{◌≡◌, ◌+◌, ◌<◌, IfSome, length};
 
 use crate::coordinator::{CoordStep, Coordinator};
 use crate::member::{Member, MemberStep};
@@ -81,7 +81,9 @@ impl World {
         if let Err(fault) = self.sessions.may_act(txn) {
             return Ok(quiet(alloc, refusal(&fault)));
         }
-        let place = usize::from(member) - 1;
+        let Some(place) = self.place_of(member) else {
+            return Ok(quiet(alloc, Answer::Unknown));
+        };
         let answer = self.members[place].read(alloc, txn, key)?;
         let op = Op::Read(key.copy()?);
         self.operated(alloc, txn, Site { member, op }, answer)
@@ -99,7 +101,9 @@ impl World {
         if let Err(fault) = self.sessions.may_act(txn) {
             return Ok(quiet(alloc, refusal(&fault)));
         }
-        let place = usize::from(member) - 1;
+        let Some(place) = self.place_of(member) else {
+            return Ok(quiet(alloc, Answer::Unknown));
+        };
         let answer = self.members[place].write(alloc, txn, key, value)?;
         let op = Op::Write(key.copy()?, value.copy()?);
         self.operated(alloc, txn, Site { member, op }, answer)
@@ -114,7 +118,8 @@ impl World {
         answer: Answer,
     ) -> Result<Happened, AllocError> {
         if let Answer::Replied(reply) = &answer {
-            self.sessions.answered(txn, site, copy_reply(alloc, reply)?)?;
+            self.sessions
+                .answered(txn, site, copy_reply(alloc, reply)?)?;
         }
         Ok(quiet(alloc, answer))
     }
@@ -143,11 +148,7 @@ impl World {
                 coord,
                 member,
                 count,
-            } => {
-                let place = usize::from(member) - 1;
-                let step = self.members[place].prepare(txn, member, coord, count)?;
-                self.by_member(alloc, step)
-            }
+            } => self.prepare(alloc, txn, coord, member, count),
             Message::Vote {
                 txn,
                 member,
@@ -162,11 +163,7 @@ impl World {
                 coord,
                 member,
                 commit: true,
-            } => {
-                let place = usize::from(member) - 1;
-                let step = self.members[place].commit(txn, member, coord)?;
-                self.by_member(alloc, step)
-            }
+            } => self.install(alloc, txn, coord, member),
             Message::Ack { txn, member, .. } => {
                 let step = self.coordinator.ack(alloc, txn, member)?;
                 self.by_coordinator(step)
@@ -175,26 +172,68 @@ impl World {
         }
     }
 
+    /// A member is asked for its vote.
+    fn prepare(
+        &mut self,
+        alloc: Global,
+        txn: Txn,
+        coord: u8,
+        member: u8,
+        count: u16,
+    ) -> Result<Happened, AllocError> {
+        let Some(place) = self.place_of(member) else {
+            return Ok(quiet(alloc, Answer::Unknown));
+        };
+        let step = self.members[place].prepare(txn, member, coord, count)?;
+        self.by_member(alloc, step)
+    }
+
+    /// A member is told of a commit.
+    fn install(
+        &mut self,
+        alloc: Global,
+        txn: Txn,
+        coord: u8,
+        member: u8,
+    ) -> Result<Happened, AllocError> {
+        let Some(place) = self.place_of(member) else {
+            return Ok(quiet(alloc, Answer::Unknown));
+        };
+        let step = self.members[place].commit(txn, member, coord)?;
+        self.by_member(alloc, step)
+    }
+
+    /// The place of a member, where it is in the head.
+    fn place_of(&self, member: u8) -> Option<usize>
+        ensures { IfSome result (λ place. (place + 1 ≡ member) × (place < length self.now.members.items)) }
+    {
+        let member = usize::from(member);
+        if 1 <= member && member <= self.members.len() {
+            Some(member - 1)
+        } else {
+            None
+        }
+    }
+
     /// Sends what a member sends.
     fn by_member(&mut self, alloc: Global, step: MemberStep) -> Result<Happened, AllocError> {
-        let mut sent = Messages::new(alloc);
-        if let Some(message) = step.sent {
-            sent.push(message)?;
+        let MemberStep { answer, sent } = step;
+        let mut messages = Messages::new(alloc);
+        if let Some(message) = sent {
+            messages.push(message)?;
         }
-        self.wire.send_all(sent.as_slice())?;
+        self.wire.send_all(messages.as_slice())?;
         Ok(Happened {
-            sent,
-            answer: step.answer,
+            sent: messages,
+            answer,
         })
     }
 
     /// Sends what the coordinator sends.
     fn by_coordinator(&mut self, step: CoordStep) -> Result<Happened, AllocError> {
-        self.wire.send_all(step.sent.as_slice())?;
-        Ok(Happened {
-            sent: step.sent,
-            answer: step.answer,
-        })
+        let CoordStep { answer, sent } = step;
+        self.wire.send_all(sent.as_slice())?;
+        Ok(Happened { sent, answer })
     }
 }
 

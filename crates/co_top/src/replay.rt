@@ -33,7 +33,9 @@ pub fn run<S: Source, K: Sink, N: Sink>(
 
 /// Whether the words are `run` and the name of a directory.
 fn is_run(words: &[String]) -> bool {
-    words.len() == 2 && words[0].as_bytes() == b"run".as_slice() && is_directory(words[1].as_bytes())
+    words.len() == 2
+        && words[0].as_bytes() == b"run".as_slice()
+        && is_directory(words[1].as_bytes())
 }
 
 /// Whether the word may name a directory.
@@ -59,7 +61,7 @@ fn replay<S: Source, K: Sink>(alloc: Global, source: &mut S, out: &mut K) -> Sta
 /// The input, or its first bytes where it is too long: one more than may be done.
 fn read_all<S: Source>(alloc: Global, source: &mut S) -> Result<Vec<u8>, SourceFault> {
     let mut input = Vec::new(alloc);
-    while input.len() <= MOST_BYTES {
+    'reading: while input.len() <= MOST_BYTES {
         let most = (MOST_BYTES - input.len()) as u32 + 1;
         match source.take(alloc, most)? {
             Taken::Bytes(bytes) => input.extend_from_slice(bytes.as_slice())?,
@@ -119,7 +121,7 @@ fn replay_lines<K: Sink>(
 
 /// The number of the line at a place.
 fn line_number(index: usize) -> u32 {
-    u32::try_from(index).unwrap_or(u32::MAX - 1) + 1
+    u32::try_from(index).unwrap_or(u32::MAX).saturating_add(1)
 }
 
 /// Reads the head: how many locking members it has.
