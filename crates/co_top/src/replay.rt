@@ -1,12 +1,13 @@
 //! The top call.
-ghost use Rattle.std.specs.Prelude.{◌≡◌, ◌≤◌, ◌<◌, ◌^◌, ℕ, length};
+ghost use Rattle.std.specs.Prelude.{◌≡◌, ◌≤◌, ◌↔◌, IsErrOf, false};
+ghost use Rattle.co_outside.specs.Faults.{HasRisen};
+ghost use Rattle.co_top.specs.Command.{is_run, is_directory};
 
 use crate::reader::read_line;
 use crate::status::Status;
 use crate::text::{put_head, put_item, put_number};
-use crate::world::World;
-use co_base::{Head, Kind, Kinds};
-use co_message::{Answer, Event, Item, ItemKind};
+use crate::world::{Happened, World};
+use co_message::{Event, Item, ItemKind};
 use co_outside::{Sink, SinkFault, Source, SourceFault, Taken};
 use std::alloc::{AllocError, Global};
 
@@ -21,7 +22,11 @@ pub fn run<S: Source, K: Sink, N: Sink>(
     source: &mut S,
     out: &mut K,
     notes: &mut N,
-) -> Status {
+) -> Status
+    ensures usage { (result ≡ Status.Usage) ↔ (is_run words.now ≡ false) }
+    ensures read { result ≡ Status.Read → HasRisen (S.faults source.old) (S.faults source.new) }
+    ensures write { result ≡ Status.Write → HasRisen (K.faults out.old) (K.faults out.new) }
+{
     let status = if is_run(words) {
         replay(alloc, source, out)
     } else {
@@ -32,19 +37,33 @@ pub fn run<S: Source, K: Sink, N: Sink>(
 }
 
 /// Whether the words are `run` and the name of a directory.
-fn is_run(words: &[String]) -> bool {
-    words.len() == 2
-        && words[0].as_bytes() == b"run".as_slice()
-        && is_directory(words[1].as_bytes())
+fn is_run(words: &[String]) -> bool
+    ensures { result ≡ is_run words.now }
+{
+    match words {
+        [command, directory] => {
+            command.as_bytes() == b"run".as_slice() && is_directory(directory.as_bytes())
+        }
+        _ => false,
+    }
 }
 
 /// Whether the word may name a directory.
-fn is_directory(word: &[u8]) -> bool {
-    !word.is_empty() && word[0] != b'-'
+fn is_directory(word: &[u8]) -> bool
+    ensures { result ≡ is_directory word.now }
+{
+    match word {
+        [] => false,
+        [first, ..] => *first != b'-',
+    }
 }
 
 /// Replays the schedule of the source.
-fn replay<S: Source, K: Sink>(alloc: Global, source: &mut S, out: &mut K) -> Status {
+fn replay<S: Source, K: Sink>(alloc: Global, source: &mut S, out: &mut K) -> Status
+    ensures read { result ≡ Status.Read → HasRisen (S.faults source.old) (S.faults source.new) }
+    ensures write { result ≡ Status.Write → HasRisen (K.faults out.old) (K.faults out.new) }
+    ensures command { result ≡ Status.Usage → ⊥ }
+{
     let input = match read_all(alloc, source) {
         Ok(input) => input,
         Err(SourceFault::Failed) => return Status::Read,
@@ -59,7 +78,10 @@ fn replay<S: Source, K: Sink>(alloc: Global, source: &mut S, out: &mut K) -> Sta
 }
 
 /// The input, or its first bytes where it is too long: one more than may be done.
-fn read_all<S: Source>(alloc: Global, source: &mut S) -> Result<Vec<u8>, SourceFault> {
+fn read_all<S: Source>(alloc: Global, source: &mut S) -> Result<Vec<u8>, SourceFault>
+    ensures counts { S.faults source.old ≤ S.faults source.new }
+    ensures failed { IsErrOf result SourceFault.Failed → HasRisen (S.faults source.old) (S.faults source.new) }
+{
     let mut input = Vec::new(alloc);
     'reading: while input.len() <= MOST_BYTES {
         let most = (MOST_BYTES - input.len()) as u32 + 1;
@@ -76,7 +98,10 @@ fn replay_text<K: Sink>(
     alloc: Global,
     input: &[u8],
     out: &mut K,
-) -> Result<Option<u32>, SinkFault> {
+) -> Result<Option<u32>, SinkFault>
+    ensures counts { K.faults out.old ≤ K.faults out.new }
+    ensures failed { IsErrOf result SinkFault.Failed → HasRisen (K.faults out.old) (K.faults out.new) }
+{
     let mut lines: Vec<&[u8]> = input.split(|b| *b == b'\n').collect(alloc)?;
     if input.is_empty() || input[input.len() - 1] == b'\n' {
         let _ = lines.pop();
@@ -97,24 +122,38 @@ fn replay_lines<K: Sink>(
     alloc: Global,
     lines: &[&[u8]],
     out: &mut K,
-) -> Result<Option<u32>, SinkFault> {
-    if lines.is_empty() {
-        return Ok(Some(1));
-    }
-    let Some(members) = read_head(alloc, lines[0])? else {
+) -> Result<Option<u32>, SinkFault>
+    ensures counts { K.faults out.old ≤ K.faults out.new }
+    ensures failed { IsErrOf result SinkFault.Failed → HasRisen (K.faults out.old) (K.faults out.new) }
+{
+    let Some(head) = lines.first() else {
         return Ok(Some(1));
     };
-    let mut world = World::new(alloc, members)?;
+    let Some(members) = read_head(alloc, head)? else {
+        return Ok(Some(1));
+    };
     put_head_items(alloc, members, out)?;
+    let world = World::new(alloc, members)?;
+    replay_events(alloc, world, members, &lines[1..], out)
+}
+
+/// Replays the lines behind the head, and gives the first one that is not done.
+fn replay_events<K: Sink>(
+    alloc: Global,
+    mut world: World,
+    members: u8,
+    lines: &[&[u8]],
+    out: &mut K,
+) -> Result<Option<u32>, SinkFault>
+    ensures counts { K.faults out.old ≤ K.faults out.new }
+    ensures failed { IsErrOf result SinkFault.Failed → HasRisen (K.faults out.old) (K.faults out.new) }
+{
     for (index, line) in lines.iter().enumerate() {
-        if index == 0 {
-            continue;
+        let number = line_number(index).saturating_add(1);
+        match read_line(alloc, line, members)? {
+            Some(event) => play(alloc, &mut world, number, event, out)?,
+            None => return Ok(Some(number)),
         }
-        let number = line_number(index);
-        let Some(event) = read_line(alloc, line, members)? else {
-            return Ok(Some(number));
-        };
-        play(alloc, &mut world, number, event, out)?;
     }
     Ok(None)
 }
@@ -137,11 +176,11 @@ fn read_head(alloc: Global, line: &[u8]) -> Result<Option<u8>, AllocError> {
 }
 
 /// Puts the items of the head.
-fn put_head_items<K: Sink>(alloc: Global, members: u8, out: &mut K) -> Result<(), SinkFault> {
-    let mut text = Vec::new(alloc);
-    text.extend_from_slice(b"1 event ")?;
-    put_head(usize::from(members), &mut text)?;
-    text.extend_from_slice(b"\n1 reply open\n")?;
+fn put_head_items<K: Sink>(alloc: Global, members: u8, out: &mut K) -> Result<(), SinkFault>
+    ensures counts { K.faults out.old ≤ K.faults out.new }
+    ensures failed { IsErrOf result SinkFault.Failed → HasRisen (K.faults out.old) (K.faults out.new) }
+{
+    let text = head_items(alloc, members)?;
     put_all(alloc, text.as_slice(), out)
 }
 
@@ -152,37 +191,50 @@ fn play<K: Sink>(
     number: u32,
     event: Event,
     out: &mut K,
-) -> Result<(), SinkFault> {
-    let happened = world.step(alloc, &event)?;
-    let mut text = Vec::new(alloc);
-    put_item(
-        &Item {
-            number,
-            what: ItemKind::Event(event),
-        },
-        &mut text,
-    )?;
-    for message in happened.sent.as_slice() {
-        put_item(
-            &Item {
-                number,
-                what: ItemKind::Sent(*message),
-            },
-            &mut text,
-        )?;
-    }
-    put_item(
-        &Item {
-            number,
-            what: ItemKind::Answered(happened.answer),
-        },
-        &mut text,
-    )?;
+) -> Result<(), SinkFault>
+    ensures counts { K.faults out.old ≤ K.faults out.new }
+    ensures failed { IsErrOf result SinkFault.Failed → HasRisen (K.faults out.old) (K.faults out.new) }
+{
+    let text = items_of(alloc, world, number, event)?;
     put_all(alloc, text.as_slice(), out)
 }
 
+/// Does one event, and gives the text of its items: the event, what it sends, and its answer.
+fn items_of(
+    alloc: Global,
+    world: &mut World,
+    number: u32,
+    event: Event,
+) -> Result<Vec<u8>, AllocError> {
+    let Happened { sent, answer } = world.step(alloc, &event)?;
+    let mut text = Vec::new(alloc);
+    put_kind(number, ItemKind::Event(event), &mut text)?;
+    for message in sent.as_slice() {
+        put_kind(number, ItemKind::Sent(*message), &mut text)?;
+    }
+    put_kind(number, ItemKind::Answered(answer), &mut text)?;
+    Ok(text)
+}
+
+/// Appends the item of this number that tells this.
+fn put_kind(number: u32, what: ItemKind, into: &mut Vec<u8>) -> Result<(), AllocError> {
+    put_item(&Item { number, what }, into)
+}
+
+/// The text of the items of the head.
+fn head_items(alloc: Global, members: u8) -> Result<Vec<u8>, AllocError> {
+    let mut text = Vec::new(alloc);
+    text.extend_from_slice(b"1 event ")?;
+    put_head(usize::from(members), &mut text)?;
+    text.extend_from_slice(b"\n1 reply open\n")?;
+    Ok(text)
+}
+
 /// Puts a whole text.
-fn put_all<K: Sink>(alloc: Global, text: &[u8], out: &mut K) -> Result<(), SinkFault> {
+fn put_all<K: Sink>(alloc: Global, text: &[u8], out: &mut K) -> Result<(), SinkFault>
+    ensures counts { K.faults out.old ≤ K.faults out.new }
+    ensures failed { IsErrOf result SinkFault.Failed → HasRisen (K.faults out.old) (K.faults out.new) }
+{
     let mut at = 0;
     while at < text.len() {
         let count = out.put(alloc, &text[at..])?;

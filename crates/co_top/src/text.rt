@@ -1,7 +1,7 @@
 //! The text of items.
 ghost use Rattle.std.specs.Prelude.{◌≡◌, ◌++◌, ◌∷◌, [], OnOk};
 
-use co_base::{Head, Reply, Txn};
+use co_base::{Reply, Txn};
 use co_message::{Answer, Event, Item, ItemKind, Message};
 use std::alloc::AllocError;
 
