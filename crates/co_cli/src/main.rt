@@ -4,9 +4,8 @@
 
 use co_outside::{SinkStd, SourceStd};
 use co_top::run;
-use std::env;
-use std::io;
 use std::process::ExitCode;
+use std::{env, io};
 
 fn main(rt: HostRuntime) -> io::Result<ExitCode> {
     let alloc = rt.alloc();

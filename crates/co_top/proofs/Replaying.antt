@@ -67,7 +67,7 @@ pub key_test : (key k : List ℕ) → eq_by_cmp key_cmp k key ≡ same_key key k
 key_test key k = (eq_by_cmp_equiv nat_list_cmp_total).symm k key ∙ sym (tests_alike key k)
 
 value_op : (r base : Records) (op : Op) (ws : List Row) (k : List ℕ) → IsPlainOp op → get r k ≡ or_else (newest_write ws k) (get base k)
-  → get (records_after r op) k ≡ or_else (newest_write (add_write op ws) k) (get base k)
+    → get (records_after r op) k ≡ or_else (newest_write (add_write op ws) k) (get base k)
 value_op r base (Read key) ws k p h = h
 value_op r base (Write key value) ws k p h =
     get-insert nat_list_cmp_total r key value k ∙ ap (λ b. cond b (Some value) (get r k)) (key_test key k)
@@ -80,8 +80,8 @@ pub value_left : (all : AllRecords) (ds : List Done) (m : ℕ) (k : List ℕ) �
 value_left all [] m k h = refl
 value_left all (d ∷ ds) m k h =
     elim (d.site.member == m) as (λ b. (d.site.member == m) ≡ b
-        → get (if b then records_after (left all ds d.site.member) d.site.op else left all ds m) k
-          ≡ or_else (newest_write (if b then add_write d.site.op (writes_at m ds) else writes_at m ds) k) (get (all m) k)) [
+    → get (if b then records_after (left all ds d.site.member) d.site.op else left all ds m) k
+    ≡ or_else (newest_write (if b then add_write d.site.op (writes_at m ds) else writes_at m ds) k) (get (all m) k)) [
       | true ↦ λ t. ap (λ n. get (records_after (left all ds n) d.site.op) k) (same_number d.site.member m t)
           ∙ value_op (left all ds m) (all m) d.site.op (writes_at m ds) k h.2 (value_left all ds m k h.0)
       | false ↦ λ _. value_left all ds m k h.0
@@ -100,7 +100,7 @@ more_op (Scan span) rs k h = h
 more_reads : (m : ℕ) (d : Done) (ds : List Done) (k : List ℕ) → is_read k (reads_at m ds) ≡ true → is_read k (reads_at m (d ∷ ds)) ≡ true
 more_reads m d ds k h =
     elim (d.site.member == m) as (λ b. is_read k (if b then add_read d.site.op (reads_at m ds) else reads_at m ds) ≡ true)
-      [ true ↦ more_op d.site.op (reads_at m ds) k h | false ↦ h ]
+    [ true ↦ more_op d.site.op (reads_at m ds) k h | false ↦ h ]
 
 pub key_itself : (k : List ℕ) → same_key k k ≡ true
 key_itself k = search (comparing, rules)
@@ -120,8 +120,11 @@ pub replays_on : (all next : AllRecords) (ds : List Done) → ((m : ℕ) (k : Li
 replays_on all next [] same h = tt
 replays_on all next (d ∷ ds) same h =
     let rest : Replays next ds = replays_on all next ds (λ m k r. same m k (more_reads m d ds k r)) h.0 in
-    let n : ℕ = d.site.member in
-    (rest, h.1 ∙ same_reply d.site.op (left all ds d.site.member) (left next ds d.site.member) h.2 (λ key e.
-        value_left all ds d.site.member key h.0
-        ∙ ap (or_else (newest_write (writes_at d.site.member ds) key)) (sym (same d.site.member key (read_now d.site.member d.site.op key (reads_at d.site.member ds) e)))
-        ∙ sym (value_left next ds d.site.member key rest)), h.2)
+    let n : ℕ = d.site.member in (
+      rest,
+      h.1 ∙ same_reply d.site.op (left all ds d.site.member) (left next ds d.site.member) h.2 (λ key e.
+          value_left all ds d.site.member key h.0
+          ∙ ap (or_else (newest_write (writes_at d.site.member ds) key)) (sym (same d.site.member key (read_now d.site.member d.site.op key (reads_at d.site.member ds) e)))
+          ∙ sym (value_left next ds d.site.member key rest)),
+      h.2,
+    )

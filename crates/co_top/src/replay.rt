@@ -94,11 +94,7 @@ fn read_all<S: Source>(alloc: Global, source: &mut S) -> Result<Vec<u8>, SourceF
 }
 
 /// Replays the lines of a text, and gives the first line that is not done.
-fn replay_text<K: Sink>(
-    alloc: Global,
-    input: &[u8],
-    out: &mut K,
-) -> Result<Option<u32>, SinkFault>
+fn replay_text<K: Sink>(alloc: Global, input: &[u8], out: &mut K) -> Result<Option<u32>, SinkFault>
     ensures counts { K.faults out.old ≤ K.faults out.new }
     ensures failed { IsErrOf result SinkFault.Failed → HasRisen (K.faults out.old) (K.faults out.new) }
 {
