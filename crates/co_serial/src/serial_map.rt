@@ -116,3 +116,51 @@ pub fn run_whole(alloc: Global, map: &mut SerialMap, sites: &[Site]) -> Result<R
     }
     Ok(replies)
 }
+
+#[cfg(test)]
+mod tests {
+    use super::*;
+    use co_base::Op;
+    use std::test::Fail;
+
+    fn key(alloc: Global, text: &[u8]) -> Result<Key, Fail> {
+        Ok(Key::new(alloc, text)?)
+    }
+
+    fn value(alloc: Global, text: &[u8]) -> Result<Value, Fail> {
+        Ok(Value::new(alloc, text)?)
+    }
+
+    #[test]
+    fn a_record_is_set_at_its_member(rt: HostRuntime) -> Result<(), Fail> {
+        let alloc = rt.alloc();
+        let mut map = SerialMap::new(alloc);
+        map.set(3, key(alloc, b"a")?, value(alloc, b"5")?)?;
+        let a = key(alloc, b"a")?;
+        assert!(rt; map.get(3, &a) == Some(&value(alloc, b"5")?));
+        assert!(rt; map.get(2, &a).is_none());
+        assert_eq!(rt; map.rows(3)?.len(), 1);
+        assert_eq!(rt; map.rows(9)?.len(), 0);
+        Ok(())
+    }
+
+    #[test]
+    fn a_transaction_reads_its_own_write(rt: HostRuntime) -> Result<(), Fail> {
+        let alloc = rt.alloc();
+        let mut map = SerialMap::new(alloc);
+        let mut sites = Vec::new(alloc);
+        let write = Op::Write(key(alloc, b"a")?, value(alloc, b"5")?);
+        sites.push(Site {
+            member: 1,
+            op: write,
+        })?;
+        sites.push(Site {
+            member: 1,
+            op: Op::Read(key(alloc, b"a")?),
+        })?;
+        let replies = run_whole(alloc, &mut map, sites.as_slice())?;
+        assert_eq!(rt; replies.len(), 2);
+        assert!(rt; *replies.at(1) == Reply::Got(Some(value(alloc, b"5")?)));
+        Ok(())
+    }
+}

@@ -1,0 +1,17 @@
+//! Calls that are to fail, for the forms in memory.
+ghost use Rattle.std.specs.Prelude.{◌≡◌, ◌-◌, ◌↔◌, IsTrue, Contains, map};
+
+/// Counts one call: whether it is one of those that are to fail.
+///
+/// Each number says how many calls there are until one that is to fail, itself included; 0 says
+/// that it is past.
+pub(crate) fn is_due(calls: &mut [u32]) -> bool
+    ensures due { IsTrue result ↔ Contains calls.old 1 }
+    ensures counted { calls.new ≡ map (λ n. n - 1) calls.old }
+{
+    let due = calls.iter().any(|n| *n == 1);
+    for n in calls.iter_mut() {
+        *n = n.saturating_sub(1);
+    }
+    due
+}

@@ -1,0 +1,21 @@
+//! The outside of the program: where bytes come from, where they go, and the directory of logs.
+//!
+//! Each trait says what its calls tell of the content, where it can be told, and that a call
+//! answers `Failed` only where the count of faults rose in it. A form in memory tells its content
+//! and fails at named calls; a form over std's readers, writers and files tells nothing.
+#![tactic(auto)]
+
+mod failing;
+mod sink;
+mod sink_memory;
+mod sink_std;
+mod source;
+mod source_memory;
+mod source_std;
+
+pub use sink::{Sink, SinkFault};
+pub use sink_memory::SinkMemory;
+pub use sink_std::SinkStd;
+pub use source::{Source, SourceFault, Taken};
+pub use source_memory::SourceMemory;
+pub use source_std::SourceStd;

@@ -1,0 +1,40 @@
+//! A sink over std's writers.
+ghost use Rattle.std.specs.Prelude.{None};
+
+use crate::sink::{Sink, SinkFault};
+use std::alloc::Global;
+use std::io::Write;
+
+/// A sink over a writer of std. It tells nothing of what it holds.
+#[derive(Drop)]
+pub struct SinkStd<W: Write + Drop> {
+    writer: W,
+    faults: u64,
+}
+
+impl<W: Write + Drop> SinkStd<W> {
+    /// A sink into the writer.
+    pub fn new(writer: W) -> SinkStd<W> {
+        SinkStd { writer, faults: 0 }
+    }
+}
+
+impl<W: Write + Drop> Sink for SinkStd<W> {
+    ghost told = { λ _. None };
+
+    ghost faults = { λ s. s.faults };
+
+    fn put(&mut self, _alloc: Global, piece: &[u8]) -> Result<u32, SinkFault> {
+        if piece.is_empty() {
+            return Ok(0);
+        }
+        let front = &piece[..piece.len().min(u32::MAX as usize)];
+        match self.writer.write(front) {
+            Ok(0) | Err(_) => {
+                self.faults = self.faults.saturating_add(1);
+                Err(SinkFault::Failed)
+            }
+            Ok(count) => Ok(count as u32),
+        }
+    }
+}

@@ -1,0 +1,46 @@
+//! A source over std's readers.
+ghost use Rattle.std.specs.Prelude.{None};
+
+use crate::source::{Source, SourceFault, Taken};
+use co_base::Bytes;
+use std::alloc::Global;
+use std::io::Read;
+
+/// The most bytes that one call takes from the reader.
+const MOST_AT_ONCE: u32 = 65536;
+
+/// A source over a reader of std. It tells nothing of what is left.
+#[derive(Drop)]
+pub struct SourceStd<R: Read + Drop> {
+    reader: R,
+    faults: u64,
+}
+
+impl<R: Read + Drop> SourceStd<R> {
+    /// A source of what the reader gives.
+    pub fn new(reader: R) -> SourceStd<R> {
+        SourceStd { reader, faults: 0 }
+    }
+}
+
+impl<R: Read + Drop> Source for SourceStd<R> {
+    ghost left = { λ _. None };
+
+    ghost faults = { λ s. s.faults };
+
+    fn take(&mut self, alloc: Global, most: u32) -> Result<Taken, SourceFault> {
+        let room = most.min(MOST_AT_ONCE);
+        let mut piece = vec![in alloc; 0u8; room as usize]?;
+        match self.reader.read(&mut piece) {
+            Ok(0) => Ok(Taken::End),
+            Ok(count) => {
+                piece.truncate(count);
+                Ok(Taken::Bytes(Bytes::of(piece)))
+            }
+            Err(_) => {
+                self.faults = self.faults.saturating_add(1);
+                Err(SourceFault::Failed)
+            }
+        }
+    }
+}
