@@ -134,14 +134,3 @@ at_open_gate walk batches passed within opened = at_gate walk batches passed wit
 pub breaks : (walk : GateWalk) (batches : List (List ℕ)) → HasPassed walk batches → 1 < length walk.source → walk.at < length walk.source → get_or walk.source walk.at 0 ≡ open_gate → ¬ (HasBatch (drop (walk.at + 1) walk.source)) → IsBrokenAt walk.source walk.at
 breaks walk batches passed long within opened broken =
     record { made = long; batches = batches; behind = record { each = passed.each; behind = drop (walk.at + 1) walk.source; text = at_open_gate walk batches passed within opened; broken = broken }; place = passed.place }
-
-pub goes_on : (walk : GateWalk) (batches : List (List ℕ)) (records : List ℕ) (to : ℕ) → HasPassed walk batches → walk.at < length walk.source → get_or walk.source walk.at 0 ≡ open_gate → IsBatch records
-    → drop (walk.at + 1) walk.source ≡ batch_text records ++ drop (4 + length records) (drop (walk.at + 1) walk.source) → to ≡ walk.at + 5 + length records → HasPassed (record { source = walk.source; at = to }) (batches ++ records ∷ [])
-goes_on walk batches records to passed within opened one text there =
-    let rest : drop (4 + length records) (drop (walk.at + 1) walk.source) ≡ drop to walk.source = drop-drop (4 + length records) (walk.at + 1) walk.source ∙ ap (λ (n : ℕ). drop n walk.source) (omega arith) in
-    let whole : walk.source ≡ gated batches ++ open_gate ∷ (batch_text records ++ drop to walk.source) = at_open_gate walk batches passed within opened ∙ ap (λ (t : List ℕ). gated batches ++ open_gate ∷ t) (text ∙ ap (λ (t : List ℕ). batch_text records ++ t) rest) in
-    record {
-      each = each_more batches records passed.each one;
-      text = whole ∙ sym (gated_more batches records (drop to walk.source));
-      place = there ∙ ap (λ (n : ℕ). n + 5 + length records) passed.place ∙ sym (longer batches records);
-    }
