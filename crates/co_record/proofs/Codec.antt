@@ -83,17 +83,26 @@ codec-then {A} {B} a b ta tb Fa Fb ca cb = record {
   }
 
 -- what is read, as something else
-pub codec-as : {A B : Type 0} (f : A → B) (g : B → A) (a : Reader A) (ta : A → List ℕ) (Fa : A → Type 0) → ((x : A) → g (f x) ≡ x) → ((y : B) → f (g y) ≡ y) → IsCodec a ta Fa
+pub as_takes : {A B : Type 0} (f : A → B) (a : Reader A) (ta : A → List ℕ) (Fa : A → Type 0) → IsCodec a ta Fa → (bytes : List ℕ) (y : B) (rest : List ℕ) → IsBytes bytes → as_at f a bytes ≡ Ok (y, rest)
+    → (x : A) × (f x ≡ y) × Takes bytes (ta x) rest × Fa x
+as_takes {A} {B} f a ta Fa ca bytes y rest fits e =
+    let p = bind_ok (a bytes) (λ u. Ok (f u.0, u.1)) (y, rest) e in
+    let t = ca.takes bytes p.0.0 p.0.1 fits p.1 in
+    let made : B × List ℕ = (f p.0.0, p.0.1) in
+    let same = ok_is made (y, rest) p.2 in
+    (p.0.0, ap (λ (z : B × List ℕ). z.0) same, subst (λ (r : List ℕ). Takes bytes (ta p.0.0) r) (ap (λ (z : B × List ℕ). z.1) same) t.0, t.1)
+
+pub as_again : {A B : Type 0} (f : A → B) (a : Reader A) (ta : A → List ℕ) (Fa : A → Type 0) → IsCodec a ta Fa → (x : A) (rest : List ℕ) → Fa x → as_at f a (ta x ++ rest) ≡ Ok (f x, rest)
+as_again {A} {B} f a ta Fa ca x rest fits = ap (λ (r : Result (A × List ℕ) Miss). r >>= λ u. Ok (f u.0, u.1)) (ca.again x rest fits)
+
+pub codec-as : {A B : Type 0} (f : A → B) (g : B → A) (a : Reader A) (ta : A → List ℕ) (Fa : A → Type 0) → ((x : A) → Fa x → g (f x) ≡ x) → ((y : B) → Fa (g y) → f (g y) ≡ y) → IsCodec a ta Fa
     → IsCodec (as_at f a) (λ y. ta (g y)) (λ y. Fa (g y))
 codec-as {A} {B} f g a ta Fa there back ca = record {
     takes = λ bytes y rest fits e.
-        let p = bind_ok (a bytes) (λ u. Ok (f u.0, u.1)) (y, rest) e in
-        let t = ca.takes bytes p.0.0 p.0.1 fits p.1 in
-        let made : B × List ℕ = (f p.0.0, p.0.1) in
-        subst (λ (z : B × List ℕ). Takes bytes (ta (g z.0)) z.1 × Fa (g z.0)) (ok_is made (y, rest) p.2)
-            (subst (λ (x : A). Takes bytes (ta x) p.0.1 × Fa x) (sym (there p.0.0)) t);
-    again = λ y rest fits.
-        ap (λ (r : Result (A × List ℕ) Miss). r >>= λ u. Ok (f u.0, u.1)) (ca.again (g y) rest fits) ∙ ap (λ (z : B). done (z, rest)) (back y);
+        let t = as_takes f a ta Fa ca bytes y rest fits e in
+        let same : g y ≡ t.0 = ap g (sym t.1) ∙ there t.0 t.3 in
+        subst (λ (x : A). Takes bytes (ta x) rest × Fa x) (sym same) (t.2, t.3);
+    again = λ y rest fits. as_again f a ta Fa ca (g y) rest fits ∙ ap (λ (z : B). done (z, rest)) (back y fits);
   }
 
 -- a field that a test admits

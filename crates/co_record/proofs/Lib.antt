@@ -1,2 +1,5 @@
 pub mod Loop
+pub mod Elements
 pub mod Codec
+pub mod Parts
+pub mod Records

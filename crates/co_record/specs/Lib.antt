@@ -1,3 +1,4 @@
 pub mod Format
 pub mod Spelling
 pub mod Reading
+pub mod Lent

@@ -10,6 +10,8 @@ use Rattle.co_base.specs.declared.node.Node.{Node}
 use Rattle.co_base.specs.declared.node.Node.TheVariants.{Member, Coord}
 use Rattle.co_base.specs.declared.row.Row.{Row}
 use Rattle.co_base.specs.declared.written.Written.{Written}
+use Rattle.co_record.specs.declared.element.PairKind.{PairKind}
+use Rattle.co_record.specs.declared.element.PairKind.TheVariants.{Bounds, Entry}
 use Rattle.co_record.specs.declared.miss.Miss.{Miss}
 use Rattle.co_record.specs.declared.miss.Miss.TheVariants.{Short, Kind, Outside}
 use Rattle.co_record.specs.declared.record.Record.{Record}
@@ -145,6 +147,11 @@ items_end read cmp n bytes = steps (next_at read cmp) n (None, bytes) >>= λ x. 
 abbrev pub items_at : {A : Type 0} → Reader A → (A → A → Ordering) → ℕ → Reader (List A)
 items_at read cmp n bytes = items_end read cmp n bytes >>= λ rest. Ok (elements read n bytes, rest)
 
+-- the pairs of a list of ranges, or of rows
+abbrev pub pair_at : PairKind → Reader (List ℕ × List ℕ)
+pair_at Bounds = bounds_at
+pair_at Entry = entry_at
+
 abbrev pub row_cmp : Row → Row → Ordering
 row_cmp = on (λ r. r.key) key_cmp
 
@@ -175,7 +182,7 @@ abbrev pub is_node_byte : ℕ → Bool
 is_node_byte b = within 1 most_members b || within 129 136 b
 
 abbrev pub node_of : ℕ → Node
-node_of b = if nat_le b most_members then Member b else Coord (b - 128)
+node_of b = if nat_lt b 128 then Member b else Coord (b - 128)
 
 unfoldable pub node_at : Reader Node
 node_at = as_at node_of (where_at is_node_byte byte_at)
@@ -190,6 +197,12 @@ prepare_at = as_at (λ p. Prepare p.0 p.1.0 p.1.1.0 p.1.1.1.0 p.1.1.1.1)
 unfoldable pub commit_at : Reader Record
 commit_at = as_at (λ p. Commit p.0 p.1) (then_at txn_at members_at)
 
+unfoldable pub abort_at : Reader Record
+abort_at = as_at Abort txn_at
+
+unfoldable pub end_at : Reader Record
+end_at = as_at End txn_at
+
 unfoldable pub checkpoint_at : Reader Record
 checkpoint_at = as_at (λ p. Checkpoint p.0 p.1.0 p.1.1) (then_at rows_at (then_at undos_at txns_at))
 
@@ -200,7 +213,7 @@ record_at (kind ∷ fields) =
     if kind == 1 then header_at fields
     else if kind == 2 then prepare_at fields
     else if kind == 3 then commit_at fields
-    else if kind == 4 then as_at Abort txn_at fields
-    else if kind == 5 then as_at End txn_at fields
+    else if kind == 4 then abort_at fields
+    else if kind == 5 then end_at fields
     else if kind == 6 then checkpoint_at fields
     else Err Kind

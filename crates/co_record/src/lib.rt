@@ -1,12 +1,22 @@
 //! The records of a log.
 #![tactic(auto)]
 
+mod element;
 mod fault;
 mod field;
 mod format;
+mod list;
 mod miss;
+mod order;
+mod part;
+mod read;
 mod record;
+mod view;
+mod walk;
 
 pub use fault::RecordFault;
 pub use format::VERSION;
+pub use read::read_record;
 pub use record::Record;
+pub use view::RecordView;
+pub use walk::{ChangeWalk, MemberWalk, PairWalk, TxnWalk};
