@@ -15,6 +15,7 @@ use Rattle.std.specs.List.Sorted.{IsStrictlySortedBy}
 use Rattle.co_record.specs.declared.miss.Miss.{Miss}
 use Rattle.co_record.specs.declared.record.Record.{Record}
 use Rattle.co_record.specs.declared.record.Record.TheVariants.{Header, Prepare, Commit, Abort, End, Checkpoint}
+use Rattle.co_record.specs.Lent.{StandsAt, placed, reading}
 use Rattle.co_record.specs.Format.{version, most_operations, most_members, most_coordinators}
 use Rattle.co_record.specs.Spelling.{spelling, IsSpelled, listed, range_text, change_text, row_text, txn_text, IsRange, IsChange, IsRow, IsTxn, IsMember, AreInKeyOrder}
 use Rattle.co_record.specs.Reading.{Reader, then_at, as_at, byte_within, number_within, number_at, txn_at, ranges_at, writes_at, members_at, rows_at, undos_at, txns_at, node_at, header_at, prepare_at, commit_at, abort_at, end_at, checkpoint_at, record_at}
@@ -238,3 +239,22 @@ record_again (Checkpoint rows undos committed) rest fits =
     let w = fits.0 in
     let h = fits.1 in
     checkpoint_again (rows, (undos, committed)) rest ((w.0, (h.0, h.1)), ((w.1, (h.2, w.2)), (w.3, (h.3, h.4))))
+
+pub record_shrinks : (bytes : List ℕ) (r : Record) (rest : List ℕ) → IsBytes bytes → record_at bytes ≡ Ok (r, rest) → length rest ≤ length bytes
+record_shrinks bytes r rest fits e =
+    let t = (record_takes bytes r rest fits e).0.parts in
+    omega (arith, ap length t, length-append (spelling r) rest)
+
+-- the record that is read stands at the front
+pub stands : (bytes : List ℕ) (r : Record) (rest : List ℕ) → IsBytes bytes → record_at bytes ≡ Ok (r, rest) → StandsAt bytes r (length bytes - length rest)
+stands bytes r rest fits e =
+    let t = record_takes bytes r rest fits e in
+    let many : length bytes - length rest ≡ length (spelling r) = omega (arith, ap length t.0.parts, length-append (spelling r) rest) in
+    let left : drop (length bytes - length rest) bytes ≡ rest = ap (drop (length bytes - length rest)) t.0.parts ∙ drop_at (spelling r) rest (length bytes - length rest) (sym many) in
+    record { spelled = t.1; text = t.0.parts ∙ ap (λ (x : List ℕ). spelling r ++ x) (sym left); length_is = many }
+
+-- what stands at the front is read
+pub reads : (bytes : List ℕ) (r : Record) (rest : List ℕ) → IsSpelled r → bytes ≡ spelling r ++ rest → reading bytes ≡ Ok (r, length (spelling r))
+reads bytes r rest fits e =
+    let many : length bytes - length rest ≡ length (spelling r) = omega (arith, ap length e, length-append (spelling r) rest) in
+    ap (placed (length bytes)) (ap record_at e ∙ record_again r rest fits) ∙ ap (λ (n : ℕ). Ok (r, n)) many

@@ -45,3 +45,7 @@ pub record StandsAt (bytes : List ℕ) (item : Record) (count : ℕ) : Type 0 wh
   pub spelled : IsSpelled item
   pub text : bytes ≡ spelling item ++ drop count bytes
   pub length_is : count ≡ length (spelling item)
+
+-- the new bytes begin with the old ones
+abbrev pub Begins : List ℕ → List ℕ → Type 0
+Begins old new = (more : List ℕ) × (new ≡ old ++ more)

@@ -9,6 +9,7 @@ mod list;
 mod miss;
 mod order;
 mod part;
+mod put;
 mod read;
 mod record;
 mod view;
@@ -16,6 +17,7 @@ mod walk;
 
 pub use fault::RecordFault;
 pub use format::VERSION;
+pub use put::put_record;
 pub use read::read_record;
 pub use record::Record;
 pub use view::RecordView;

@@ -10,5 +10,5 @@ use Rattle.co_record.proofs.list.read_ranges.Goals as goal
 pub returns : goal.returns
 unfolding ranges_at
 returns c =
-    list_read (number_within w16 0 most_operations) range_at span_cmp _ _ _ _ c.in_ok-count.ensures c.in_ok-rest.ensures
+    list_read (number_within w16 0 most_operations) range_at span_cmp c.args.bytes.now _ _ _ c.in_ok-count.ensures c.in_ok-rest.ensures
     ∙ ap (λ (xs : List Span). Ok (xs, c.in_ok-rest.rest.now)) (elements_as span_of bounds_at _ _ ∙ ap (map span_of) (sym (rw c.from.ensures at c.new.ensures)))
