@@ -134,3 +134,19 @@ at_open_gate walk batches passed within opened = at_gate walk batches passed wit
 pub breaks : (walk : GateWalk) (batches : List (List ℕ)) → HasPassed walk batches → 1 < length walk.source → walk.at < length walk.source → get_or walk.source walk.at 0 ≡ open_gate → ¬ (HasBatch (drop (walk.at + 1) walk.source)) → IsBrokenAt walk.source walk.at
 breaks walk batches passed long within opened broken =
     record { made = long; batches = batches; behind = record { each = passed.each; behind = drop (walk.at + 1) walk.source; text = at_open_gate walk batches passed within opened; broken = broken }; place = passed.place }
+
+first_ones : (xs ys : List (List ℕ)) (g : ℕ) (r tail : List ℕ) → AllByRecursion IsBatch xs → AllByRecursion IsBatch ys → g ≢ open_gate → gated xs ++ tail ≡ gated ys ++ g ∷ r → (more : List (List ℕ)) × (ys ≡ xs ++ more)
+first_ones [] ys g r tail ex ey cg e = (ys, refl)
+first_ones (x ∷ xs) [] g r tail ex ey cg e = absurd (cg (sym (tails open_gate g (batch_text x ++ gated xs ++ tail) r e).0))
+first_ones (x ∷ xs) (y ∷ ys) g r tail ex ey cg e =
+    let both = step x y xs ys tail (g ∷ r) ex.0 ey.0 e in
+    let more = first_ones xs ys g r tail ex.1 ey.1 cg both.1 in
+    (more.0, ap (λ (b : List ℕ). b ∷ ys) (sym both.0) ∙ ap (λ (bs : List (List ℕ)). x ∷ bs) more.1)
+
+-- what was passed comes first
+pub passed_first : (walk : GateWalk) (passed batches : List (List ℕ)) → HasPassed walk passed → IsLogText walk.source batches → (more : List (List ℕ)) × (batches ≡ passed ++ more)
+passed_first walk passed batches p text =
+    elim text [
+      | inl a ↦ ([], a.1 ∙ sym (append-nil passed ∙ nothing passed (drop walk.at walk.source) (subst (λ (t : List ℕ). length t ≤ 1) p.text a.0)))
+      | inr a ↦ first_ones passed batches a.1.gate a.1.rest (drop walk.at walk.source) p.each a.1.each a.1.closed (sym p.text ∙ a.1.text)
+    ]

@@ -67,6 +67,7 @@ impl<'a> Batches<'a> {
     /// stood. Takes no memory.
     pub fn next(&mut self) -> Option<Result<Batch<'a>, FrameFault>>
         ensures text { (batches : List (List ℕ)) → HasPassed self.old batches → Tells self.old result self.new batches }
+        ensures source { self.new.source ≡ self.old.source }
         ensures lent { IfSome result (λ told. IfOk told (λ batch. IsLentFrom self.old batch)) }
     {
         if self.bytes.len() <= 1 || self.bytes[self.at] != OPEN_GATE {

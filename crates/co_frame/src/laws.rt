@@ -1,7 +1,7 @@
 //! What a writer of logs may rely on.
 ghost use Rattle.std.specs.Prelude.{◌≡◌, ◌≢◌, ℕ, [], ◌∷◌, ◌++◌, List};
 ghost use Rattle.std.specs.List.{AllByRecursion};
-ghost use Rattle.co_frame.specs.LogText.{IsBatch, IsLogText, IsBrokenAt, batch_text, gated, open_gate};
+ghost use Rattle.co_frame.specs.LogText.{GateWalk, HasPassed, IsBatch, IsLogText, IsBrokenAt, batch_text, gated, open_gate};
 
 /// Whatever is written behind a gate that is not open, the batches stay as they were.
 pub fn closed_gate_hides()
@@ -22,3 +22,12 @@ pub fn one_reading()
     ensures broken { (bytes : List ℕ) (this that : ℕ) → IsBrokenAt bytes this → IsBrokenAt bytes that → this ≡ that }
     ensures either { (bytes : List ℕ) (batches : List (List ℕ)) (at : ℕ) → IsLogText bytes batches → IsBrokenAt bytes at → ⊥ }
 {}
+
+/// The batches that a walk has passed are the first ones of its text.
+pub fn passed_come_first()
+    ensures {
+        (walk : GateWalk) (passed batches : List (List ℕ)) → HasPassed walk passed →
+        IsLogText walk.source batches → (more : List (List ℕ)) × (batches ≡ passed ++ more)
+    }
+{
+}

@@ -13,7 +13,7 @@ mod put;
 pub use batch::Batch;
 pub use batches::{Batches, CLOSED_GATE, MOST_LOG_BYTES, OPEN_GATE};
 pub use fault::FrameFault;
-pub use laws::{closed_gate_hides, one_reading, open_gate_adds};
+pub use laws::{closed_gate_hides, one_reading, open_gate_adds, passed_come_first};
 pub use put::put_batch;
 
 #[cfg(test)]

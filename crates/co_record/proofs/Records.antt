@@ -19,7 +19,7 @@ use Rattle.co_record.specs.Lent.{StandsAt, placed, reading}
 use Rattle.co_record.specs.Format.{version, most_operations, most_members, most_coordinators}
 use Rattle.co_record.specs.Spelling.{spelling, IsSpelled, listed, range_text, change_text, row_text, txn_text, IsRange, IsChange, IsRow, IsTxn, IsMember, AreInKeyOrder}
 use Rattle.co_record.specs.Reading.{Reader, then_at, as_at, byte_within, number_within, number_at, txn_at, ranges_at, writes_at, members_at, rows_at, undos_at, txns_at, node_at, header_at, prepare_at, commit_at, abort_at, end_at, checkpoint_at, record_at}
-use Rattle.co_record.proofs.Codec.{IsBytes, IsBytes-rest, IsCodec, Takes, one_byte, as_takes, as_again, codec-then, codec-byte_within, codec-number, codec-number_within, wide16, wide32}
+use Rattle.co_record.proofs.Codec.{ok_is, IsBytes, IsBytes-rest, IsCodec, Takes, one_byte, as_takes, as_again, codec-then, codec-byte_within, codec-number, codec-number_within, wide16, wide32}
 use Rattle.co_record.proofs.Parts.{IsUpTo, codec-node, codec-ranges, codec-writes, codec-members, codec-rows, codec-undos, codec-txns, codec-txn}
 
 -- a kind byte in front
@@ -258,3 +258,11 @@ pub reads : (bytes : List ℕ) (r : Record) (rest : List ℕ) → IsSpelled r �
 reads bytes r rest fits e =
     let many : length bytes - length rest ≡ length (spelling r) = omega (arith, ap length e, length-append (spelling r) rest) in
     ap (placed (length bytes)) (ap record_at e ∙ record_again r rest fits) ∙ ap (λ (n : ℕ). Ok (r, n)) many
+
+-- two spellings at the front of the same bytes are of one record
+pub spelled_once : (this that : Record) (a b : List ℕ) → IsSpelled this → IsSpelled that → spelling this ++ a ≡ spelling that ++ b → (this ≡ that) × (a ≡ b)
+spelled_once this that a b f g e =
+    let x : Record × List ℕ = (this, a) in
+    let y : Record × List ℕ = (that, b) in
+    let same : x ≡ y = ok_is x y (sym (record_again this a f) ∙ ap record_at e ∙ record_again that b g) in
+    (ap (λ (z : Record × List ℕ). z.0) same, ap (λ (z : Record × List ℕ). z.1) same)

@@ -5,6 +5,7 @@ mod element;
 mod fault;
 mod field;
 mod format;
+mod laws;
 mod list;
 mod miss;
 mod order;
@@ -17,8 +18,12 @@ mod walk;
 
 pub use fault::RecordFault;
 pub use format::VERSION;
+pub use laws::one_spelling;
 pub use put::put_record;
 pub use read::read_record;
 pub use record::Record;
 pub use view::RecordView;
 pub use walk::{ChangeWalk, MemberWalk, PairWalk, TxnWalk};
+
+#[cfg(test)]
+mod tests;
