@@ -84,4 +84,4 @@ Tells old (Some (Ok batch)) new batches = HasPassed new (batches ++ batch.record
 
 -- a lent batch is the source's slice at its place, behind a gate and four bytes of length
 abbrev pub IsLentFrom : GateWalk → Batch → Type 0
-IsLentFrom old batch = (batch.at ≡ old.at + 5) × (batch.records.now ≡ slice_range old.source batch.at (batch.at + length batch.records.now))
+IsLentFrom old batch = IsBatch batch.records.now × (batch.at ≡ old.at + 5) × (batch.records.now ≡ slice_range old.source batch.at (batch.at + length batch.records.now))

@@ -68,6 +68,7 @@ impl<'a> Batches<'a> {
     pub fn next(&mut self) -> Option<Result<Batch<'a>, FrameFault>>
         ensures text { (batches : List (List ℕ)) → HasPassed self.old batches → Tells self.old result self.new batches }
         ensures source { self.new.source ≡ self.old.source }
+        ensures moves { IfSome result (λ told. IfOk told (λ batch. (self.new.at ≡ batch.at + length batch.records.now) × (self.new.at < length self.new.source))) }
         ensures lent { IfSome result (λ told. IfOk told (λ batch. IsLentFrom self.old batch)) }
     {
         if self.bytes.len() <= 1 || self.bytes[self.at] != OPEN_GATE {

@@ -3,3 +3,4 @@ pub mod Elements
 pub mod Codec
 pub mod Parts
 pub mod Records
+pub mod Walks

@@ -2,3 +2,4 @@ pub mod Format
 pub mod Spelling
 pub mod Reading
 pub mod Lent
+pub mod Stored

@@ -14,6 +14,7 @@ mod put;
 mod read;
 mod record;
 mod view;
+mod views;
 mod walk;
 
 pub use fault::RecordFault;
@@ -23,6 +24,7 @@ pub use put::put_record;
 pub use read::read_record;
 pub use record::Record;
 pub use view::RecordView;
+pub use views::Views;
 pub use walk::{ChangeWalk, MemberWalk, PairWalk, TxnWalk};
 
 #[cfg(test)]

@@ -14,4 +14,4 @@ pub returns-in_default-clause-text : goal.returns-in_default-clause-text
 returns-in_default-clause-text c = told_broken _ _ _ c.self.view_is c.if-self-le1.false (c.self.invariant.1 c.if-self-le1.false) c.if-self.false c.in_default.ensures.none
 
 pub returns-clause-lent : goal.returns-clause-lent
-returns-clause-lent c = lent _ _ _ _ _ c.self.view_is c.in-Some.ensures.text
+returns-clause-lent c = let p = lent _ _ _ _ _ c.self.view_is c.in-Some.ensures.text in (c.in-Some.ensures.batch.0, p.0, p.1)
