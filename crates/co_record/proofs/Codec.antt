@@ -69,18 +69,18 @@ pub record IsCodec {A : Type 0} (read : Reader A) (text : A → List ℕ) (Fits 
 pub codec-then : {A B : Type 0} (a : Reader A) (b : Reader B) (ta : A → List ℕ) (tb : B → List ℕ) (Fa : A → Type 0) (Fb : B → Type 0) → IsCodec a ta Fa → IsCodec b tb Fb
     → IsCodec (then_at a b) (λ p. ta p.0 ++ tb p.1) (λ p. Fa p.0 × Fb p.1)
 codec-then {A} {B} a b ta tb Fa Fb ca cb = record {
-    takes = λ bytes x rest fits e.
-        let p = bind_ok (a bytes) (λ u. b u.1 >>= λ v. Ok ((u.0, v.0), v.1)) (x, rest) e in
-        let q = bind_ok (b p.0.1) (λ v. Ok ((p.0.0, v.0), v.1)) (x, rest) p.2 in
-        let t = ca.takes bytes p.0.0 p.0.1 fits p.1 in
-        let u = cb.takes p.0.1 q.0.0 q.0.1 t.0.rest_fits q.1 in
-        let made : (A × B) × List ℕ = ((p.0.0, q.0.0), q.0.1) in
-        subst (λ (y : (A × B) × List ℕ). Takes bytes (ta y.0.0 ++ tb y.0.1) y.1 × (Fa y.0.0 × Fb y.0.1)) (ok_is made (x, rest) q.2) (Takes-then bytes (ta p.0.0) p.0.1 (tb q.0.0) q.0.1 t.0 u.0, (t.1, u.1));
-    again = λ x rest fits.
-        let one : a (ta x.0 ++ tb x.1 ++ rest) ≡ Ok (x.0, tb x.1 ++ rest) = ap a (append_assoc (ta x.0) (tb x.1) rest) ∙ ca.again x.0 (tb x.1 ++ rest) fits.0 in
-        ap (λ (r : Result (A × List ℕ) Miss). r >>= λ u. b u.1 >>= λ v. Ok ((u.0, v.0), v.1)) one
-        ∙ ap (λ (r : Result (B × List ℕ) Miss). r >>= λ v. Ok ((x.0, v.0), v.1)) (cb.again x.1 rest fits.1);
-  }
+  takes = λ bytes x rest fits e.
+      let p = bind_ok (a bytes) (λ u. b u.1 >>= λ v. Ok ((u.0, v.0), v.1)) (x, rest) e in
+      let q = bind_ok (b p.0.1) (λ v. Ok ((p.0.0, v.0), v.1)) (x, rest) p.2 in
+      let t = ca.takes bytes p.0.0 p.0.1 fits p.1 in
+      let u = cb.takes p.0.1 q.0.0 q.0.1 t.0.rest_fits q.1 in
+      let made : (A × B) × List ℕ = ((p.0.0, q.0.0), q.0.1) in
+      subst (λ (y : (A × B) × List ℕ). Takes bytes (ta y.0.0 ++ tb y.0.1) y.1 × (Fa y.0.0 × Fb y.0.1)) (ok_is made (x, rest) q.2) (Takes-then bytes (ta p.0.0) p.0.1 (tb q.0.0) q.0.1 t.0 u.0, (t.1, u.1));
+  again = λ x rest fits.
+      let one : a (ta x.0 ++ tb x.1 ++ rest) ≡ Ok (x.0, tb x.1 ++ rest) = ap a (append_assoc (ta x.0) (tb x.1) rest) ∙ ca.again x.0 (tb x.1 ++ rest) fits.0 in
+      ap (λ (r : Result (A × List ℕ) Miss). r >>= λ u. b u.1 >>= λ v. Ok ((u.0, v.0), v.1)) one
+      ∙ ap (λ (r : Result (B × List ℕ) Miss). r >>= λ v. Ok ((x.0, v.0), v.1)) (cb.again x.1 rest fits.1);
+}
 
 -- what is read, as something else
 pub as_takes : {A B : Type 0} (f : A → B) (a : Reader A) (ta : A → List ℕ) (Fa : A → Type 0) → IsCodec a ta Fa → (bytes : List ℕ) (y : B) (rest : List ℕ) → IsBytes bytes → as_at f a bytes ≡ Ok (y, rest)
@@ -98,47 +98,47 @@ as_again {A} {B} f a ta Fa ca x rest fits = ap (λ (r : Result (A × List ℕ) M
 pub codec-as : {A B : Type 0} (f : A → B) (g : B → A) (a : Reader A) (ta : A → List ℕ) (Fa : A → Type 0) → ((x : A) → Fa x → g (f x) ≡ x) → ((y : B) → Fa (g y) → f (g y) ≡ y) → IsCodec a ta Fa
     → IsCodec (as_at f a) (λ y. ta (g y)) (λ y. Fa (g y))
 codec-as {A} {B} f g a ta Fa there back ca = record {
-    takes = λ bytes y rest fits e.
-        let t = as_takes f a ta Fa ca bytes y rest fits e in
-        let same : g y ≡ t.0 = ap g (sym t.1) ∙ there t.0 t.3 in
-        subst (λ (x : A). Takes bytes (ta x) rest × Fa x) (sym same) (t.2, t.3);
-    again = λ y rest fits. as_again f a ta Fa ca (g y) rest fits ∙ ap (λ (z : B). done (z, rest)) (back y fits);
-  }
+  takes = λ bytes y rest fits e.
+      let t = as_takes f a ta Fa ca bytes y rest fits e in
+      let same : g y ≡ t.0 = ap g (sym t.1) ∙ there t.0 t.3 in
+      subst (λ (x : A). Takes bytes (ta x) rest × Fa x) (sym same) (t.2, t.3);
+  again = λ y rest fits. as_again f a ta Fa ca (g y) rest fits ∙ ap (λ (z : B). done (z, rest)) (back y fits);
+}
 
 -- a field that a test admits
 pub codec-where : {A : Type 0} (test : A → Bool) (a : Reader A) (ta : A → List ℕ) (Fa : A → Type 0) → IsCodec a ta Fa → IsCodec (where_at test a) ta (λ x. Fa x × (test x ≡ true))
 codec-where {A} test a ta Fa ca = record {
-    takes = λ bytes x rest fits e.
-        let p = bind_ok (a bytes) (λ u. cond (test u.0) (Ok u) (Err (Outside (length bytes)))) (x, rest) e in
-        let g = guard_ok (test p.0.0) (Outside (length bytes)) p.0 (x, rest) p.2 in
-        let t = ca.takes bytes p.0.0 p.0.1 fits p.1 in
-        subst (λ (y : A × List ℕ). Takes bytes (ta y.0) y.1 × (Fa y.0 × (test y.0 ≡ true))) g.1 (t.0, (t.1, g.0));
-    again = λ x rest fits.
-        ap (λ (r : Result (A × List ℕ) Miss). r >>= λ u. cond (test u.0) (Ok u) (Err (Outside (length (ta x ++ rest))))) (ca.again x rest fits.0)
-        ∙ ap (λ (b : Bool). cond b (done (x, rest)) (Err (Outside (length (ta x ++ rest))))) fits.1;
-  }
+  takes = λ bytes x rest fits e.
+      let p = bind_ok (a bytes) (λ u. cond (test u.0) (Ok u) (Err (Outside (length bytes)))) (x, rest) e in
+      let g = guard_ok (test p.0.0) (Outside (length bytes)) p.0 (x, rest) p.2 in
+      let t = ca.takes bytes p.0.0 p.0.1 fits p.1 in
+      subst (λ (y : A × List ℕ). Takes bytes (ta y.0) y.1 × (Fa y.0 × (test y.0 ≡ true))) g.1 (t.0, (t.1, g.0));
+  again = λ x rest fits.
+      ap (λ (r : Result (A × List ℕ) Miss). r >>= λ u. cond (test u.0) (Ok u) (Err (Outside (length (ta x ++ rest))))) (ca.again x rest fits.0)
+      ∙ ap (λ (b : Bool). cond b (done (x, rest)) (Err (Outside (length (ta x ++ rest))))) fits.1;
+}
 
 -- other words for what fits
 pub codec-fits : {A : Type 0} (a : Reader A) (t s : A → List ℕ) (F G : A → Type 0) → ((x : A) → t x ≡ s x) → ((x : A) → F x → G x) → ((x : A) → G x → F x) → IsCodec a t F → IsCodec a s G
 codec-fits {A} a t s F G same to from c = record {
-    takes = λ bytes x rest fits e. let p = c.takes bytes x rest fits e in (subst (λ (w : List ℕ). Takes bytes w rest) (same x) p.0, to x p.1);
-    again = λ x rest fits. ap (λ (w : List ℕ). a (w ++ rest)) (sym (same x)) ∙ c.again x rest (from x fits);
-  }
+  takes = λ bytes x rest fits e. let p = c.takes bytes x rest fits e in (subst (λ (w : List ℕ). Takes bytes w rest) (same x) p.0, to x p.1);
+  again = λ x rest fits. ap (λ (w : List ℕ). a (w ++ rest)) (sym (same x)) ∙ c.again x rest (from x fits);
+}
 
 -- a count, and then as many as it says
 pub codec-counted : {A : Type 0} (count : Reader ℕ) (body : ℕ → Reader (List A)) (tc : ℕ → List ℕ) (tb : List A → List ℕ) (Fc : ℕ → Type 0) (Fb : List A → Type 0)
     → IsCodec count tc Fc → ((n : ℕ) → IsCodec (body n) tb (λ xs. (length xs ≡ n) × Fb xs)) → IsCodec (counted_at count body) (λ xs. tc (length xs) ++ tb xs) (λ xs. Fc (length xs) × Fb xs)
 codec-counted {A} count body tc tb Fc Fb cc' cb = record {
-    takes = λ bytes xs rest fits e.
-        let p = bind_ok (count bytes) (λ n. body n.0 n.1) (xs, rest) e in
-        let t = cc'.takes bytes p.0.0 p.0.1 fits p.1 in
-        let u = (cb p.0.0).takes p.0.1 xs rest t.0.rest_fits p.2 in
-        let both = Takes-then bytes (tc p.0.0) p.0.1 (tb xs) rest t.0 u.0 in
-        (subst (λ (k : ℕ). Takes bytes (tc k ++ tb xs) rest) (sym u.1.0) both, (subst Fc (sym u.1.0) t.1, u.1.1));
-    again = λ xs rest fits.
-        let one : count (tc (length xs) ++ tb xs ++ rest) ≡ Ok (length xs, tb xs ++ rest) = ap count (append_assoc (tc (length xs)) (tb xs) rest) ∙ cc'.again (length xs) (tb xs ++ rest) fits.0 in
-        ap (λ (r : Result (ℕ × List ℕ) Miss). r >>= λ n. body n.0 n.1) one ∙ (cb (length xs)).again xs rest (refl, fits.1);
-  }
+  takes = λ bytes xs rest fits e.
+      let p = bind_ok (count bytes) (λ n. body n.0 n.1) (xs, rest) e in
+      let t = cc'.takes bytes p.0.0 p.0.1 fits p.1 in
+      let u = (cb p.0.0).takes p.0.1 xs rest t.0.rest_fits p.2 in
+      let both = Takes-then bytes (tc p.0.0) p.0.1 (tb xs) rest t.0 u.0 in
+      (subst (λ (k : ℕ). Takes bytes (tc k ++ tb xs) rest) (sym u.1.0) both, (subst Fc (sym u.1.0) t.1, u.1.1));
+  again = λ xs rest fits.
+      let one : count (tc (length xs) ++ tb xs ++ rest) ≡ Ok (length xs, tb xs ++ rest) = ap count (append_assoc (tc (length xs)) (tb xs) rest) ∙ cc'.again (length xs) (tb xs ++ rest) fits.0 in
+      ap (λ (r : Result (ℕ × List ℕ) Miss). r >>= λ n. body n.0 n.1) one ∙ (cb (length xs)).again xs rest (refl, fits.1);
+}
 
 -- ---- numbers
 
@@ -147,9 +147,9 @@ one_byte n = n ∷ []
 
 pub codec-byte : IsCodec byte_at one_byte (λ n. n < 256)
 codec-byte = record {
-    takes = λ bytes n rest fits e. byte_takes bytes n rest fits e;
-    again = λ n rest fits. refl;
-  }
+  takes = λ bytes n rest fits e. byte_takes bytes n rest fits e;
+  again = λ n rest fits. refl;
+}
   where
     byte_takes : (bytes : List ℕ) (n : ℕ) (rest : List ℕ) → IsBytes bytes → byte_at bytes ≡ Ok (n, rest) → Takes bytes (one_byte n) rest × (n < 256)
     byte_takes [] n rest fits e = absurd cc
@@ -238,7 +238,7 @@ letters_take (suc n) bytes rest fits e =
     let first = letter_first bytes p.0 p.1 in
     let more = letters_take n p.0 rest (IsBytes-rest first.0 p.0 (subst IsBytes first.1 fits)) p.2 in
     subst (λ (t : List ℕ). (suc n ≤ length t) × Takes t (take (suc n) t) rest × (length (take (suc n) t) ≡ suc n) × AllByRecursion IsLetter (take (suc n) t)) (sym first.1)
-        (omega (arith, more.0), record { parts = ap (λ (t : List ℕ). first.0 ∷ t) more.1.parts; rest_fits = more.1.rest_fits }, ap suc more.2, (first.2, more.3))
+    (omega (arith, more.0), record { parts = ap (λ (t : List ℕ). first.0 ∷ t) more.1.parts; rest_fits = more.1.rest_fits }, ap suc more.2, (first.2, more.3))
 
 letters_far : (n : ℕ) (bytes rest : List ℕ) → steps past_letter n bytes ≡ Ok rest → n ≤ length bytes
 unfolding steps
@@ -262,14 +262,14 @@ letters_again (x ∷ xs) rest all =
 
 pub codec-letters : (n : ℕ) → IsCodec (letters_at n) (λ xs. xs) (λ xs. (length xs ≡ n) × AllByRecursion IsLetter xs)
 codec-letters n = record {
-    takes = λ bytes xs rest fits e.
-        let p = bind_ok (steps past_letter n bytes) (λ r. done (take n bytes, r)) (xs, rest) e in
-        let t = letters_take n bytes p.0 fits p.1 in
-        subst (λ (x : List ℕ × List ℕ). Takes bytes x.0 x.1 × ((length x.0 ≡ n) × AllByRecursion IsLetter x.0)) (ok_is (take n bytes, p.0) (xs, rest) p.2) (t.1, (t.2, t.3));
-    again = λ xs rest fits.
-        ap (λ (r : Result (List ℕ) Miss). r >>= λ y. done (take n (xs ++ rest), y)) (ap (λ (k : ℕ). steps past_letter k (xs ++ rest)) (sym fits.0) ∙ letters_again xs rest fits.1)
-        ∙ ap (λ (t : List ℕ). done (t, rest)) (take_at xs rest n fits.0);
-  }
+  takes = λ bytes xs rest fits e.
+      let p = bind_ok (steps past_letter n bytes) (λ r. done (take n bytes, r)) (xs, rest) e in
+      let t = letters_take n bytes p.0 fits p.1 in
+      subst (λ (x : List ℕ × List ℕ). Takes bytes x.0 x.1 × ((length x.0 ≡ n) × AllByRecursion IsLetter x.0)) (ok_is (take n bytes, p.0) (xs, rest) p.2) (t.1, (t.2, t.3));
+  again = λ xs rest fits.
+      ap (λ (r : Result (List ℕ) Miss). r >>= λ y. done (take n (xs ++ rest), y)) (ap (λ (k : ℕ). steps past_letter k (xs ++ rest)) (sym fits.0) ∙ letters_again xs rest fits.1)
+      ∙ ap (λ (t : List ℕ). done (t, rest)) (take_at xs rest n fits.0);
+}
 
 -- ---- elements in their order
 
@@ -294,7 +294,7 @@ module _ {A : Type 0} (read : Reader A) (cmp : A → A → Ordering) (text : A �
       let more = items_take n (Some q.0.0) q.0.1 end t.0.rest_fits e' in
       let list : elements read (suc n) bytes ≡ q.0.0 ∷ elements read n q.0.1 = ap (λ (r : Result (A × List ℕ) Miss). elim r [ Ok x ↦ x.0 ∷ elements read n x.1 | Err d ↦ [] ]) q.1 in
       subst (λ (xs : List A). Takes bytes (flat_map text xs) end.1 × (length xs ≡ suc n) × AllByRecursion Fits xs × Ascends cmp before xs) (sym list)
-          (Takes-then bytes (text q.0.0) q.0.1 (flat_map text (elements read n q.0.1)) end.1 t.0 more.0, ap suc more.1, (t.1, more.2), (g.0, more.3))
+      (Takes-then bytes (text q.0.0) q.0.1 (flat_map text (elements read n q.0.1)) end.1 t.0 more.0, ap suc more.1, (t.1, more.2), (g.0, more.3))
 
   items_again : (xs : List A) (before : Option A) (rest : List ℕ) → AllByRecursion Fits xs → Ascends cmp before xs
       → (elements read (length xs) (flat_map text xs ++ rest) ≡ xs) × ((last : Option A) × (steps (next_at read cmp) (length xs) (before, flat_map text xs ++ rest) ≡ Ok (last, rest)))
@@ -306,23 +306,24 @@ module _ {A : Type 0} (read : Reader A) (cmp : A → A → Ordering) (text : A �
       let one : read (flat_map text (x ∷ xs) ++ rest) ≡ Ok (x, flat_map text xs ++ rest) = ap read regrouped ∙ codec.again x (flat_map text xs ++ rest) all.0 in
       let whole = flat_map text (x ∷ xs) ++ rest in
       let next : next_at read cmp (before, whole) ≡ Ok (Some x, flat_map text xs ++ rest) =
-          ap (λ (r : Result (A × List ℕ) Miss). r >>= λ u. cond (follows cmp before u.0) (Ok (Some u.0, u.1)) (Err (Outside (length whole)))) one
-          ∙ ap (λ (b : Bool). cond b (done (Some x, flat_map text xs ++ rest)) (Err (Outside (length whole)))) up.0 in
-      (ap (λ (r : Result (A × List ℕ) Miss). elim r [ Ok u ↦ u.0 ∷ elements read (length xs) u.1 | Err d ↦ [] ]) one ∙ ap (λ (ys : List A). x ∷ ys) more.0,
-       (more.1.0, ap (λ (r : Result (Option A × List ℕ) Miss). r >>= steps (next_at read cmp) (length xs)) next ∙ more.1.1))
+      ap (λ (r : Result (A × List ℕ) Miss). r >>= λ u. cond (follows cmp before u.0) (Ok (Some u.0, u.1)) (Err (Outside (length whole)))) one
+      ∙ ap (λ (b : Bool). cond b (done (Some x, flat_map text xs ++ rest)) (Err (Outside (length whole)))) up.0 in (
+        ap (λ (r : Result (A × List ℕ) Miss). elim r [ Ok u ↦ u.0 ∷ elements read (length xs) u.1 | Err d ↦ [] ]) one ∙ ap (λ (ys : List A). x ∷ ys) more.0,
+        (more.1.0, ap (λ (r : Result (Option A × List ℕ) Miss). r >>= steps (next_at read cmp) (length xs)) next ∙ more.1.1),
+      )
 
   pub codec-items : (n : ℕ) → IsCodec (items_at read cmp n) (flat_map text) (λ xs. (length xs ≡ n) × (AllByRecursion Fits xs × Ascends cmp None xs))
   codec-items n = record {
-      takes = λ bytes xs rest fits e.
-          let p = bind_ok (items_end read cmp n bytes) (λ r. done (elements read n bytes, r)) (xs, rest) e in
-          let q = bind_ok (steps (next_at read cmp) n (None, bytes)) (λ x. done x.1) p.0 p.1 in
-          let t = items_take n None bytes q.0 fits q.1 in
-          let same : q.0.1 ≡ p.0 = ok_is q.0.1 p.0 q.2 in
-          subst (λ (x : List A × List ℕ). Takes bytes (flat_map text x.0) x.1 × ((length x.0 ≡ n) × (AllByRecursion Fits x.0 × Ascends cmp None x.0))) (ok_is (elements read n bytes, p.0) (xs, rest) p.2)
-              (subst (λ (r : List ℕ). Takes bytes (flat_map text (elements read n bytes)) r) same t.0, (t.1, (t.2, t.3)));
-      again = λ xs rest fits.
-          subst (λ (k : ℕ). items_at read cmp k (flat_map text xs ++ rest) ≡ Ok (xs, rest)) fits.0
-              (let t = items_again xs None rest fits.1.0 fits.1.1 in
-               ap (λ (r : Result (Option A × List ℕ) Miss). (r >>= λ x. done x.1) >>= λ z. done (elements read (length xs) (flat_map text xs ++ rest), z)) t.1.1
-               ∙ ap (λ (ys : List A). done (ys, rest)) t.0);
-    }
+    takes = λ bytes xs rest fits e.
+        let p = bind_ok (items_end read cmp n bytes) (λ r. done (elements read n bytes, r)) (xs, rest) e in
+        let q = bind_ok (steps (next_at read cmp) n (None, bytes)) (λ x. done x.1) p.0 p.1 in
+        let t = items_take n None bytes q.0 fits q.1 in
+        let same : q.0.1 ≡ p.0 = ok_is q.0.1 p.0 q.2 in
+        subst (λ (x : List A × List ℕ). Takes bytes (flat_map text x.0) x.1 × ((length x.0 ≡ n) × (AllByRecursion Fits x.0 × Ascends cmp None x.0))) (ok_is (elements read n bytes, p.0) (xs, rest) p.2)
+        (subst (λ (r : List ℕ). Takes bytes (flat_map text (elements read n bytes)) r) same t.0, (t.1, (t.2, t.3)));
+    again = λ xs rest fits.
+        subst (λ (k : ℕ). items_at read cmp k (flat_map text xs ++ rest) ≡ Ok (xs, rest)) fits.0
+        (let t = items_again xs None rest fits.1.0 fits.1.1 in
+        ap (λ (r : Result (Option A × List ℕ) Miss). (r >>= λ x. done x.1) >>= λ z. done (elements read (length xs) (flat_map text xs ++ rest), z)) t.1.1
+        ∙ ap (λ (ys : List A). done (ys, rest)) t.0);
+  }

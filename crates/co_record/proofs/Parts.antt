@@ -62,21 +62,21 @@ true_not false e = refl
 codec-bounds : IsCodec bounds_at (λ p. key_text p.0 ++ key_text p.1) IsBounds
 unfolding bounds_at
 codec-bounds = record {
-    takes = λ bytes x rest fits e.
-        let p = bind_ok (key_at bytes) (λ lo. where_at (λ hi. not (is_gt (key_cmp lo.0 hi))) key_at lo.1 >>= λ hi. Ok ((lo.0, hi.0), hi.1)) (x, rest) e in
-        let q = bind_ok (where_at (λ hi. not (is_gt (key_cmp p.0.0 hi))) key_at p.0.1) (λ hi. Ok ((p.0.0, hi.0), hi.1)) (x, rest) p.2 in
-        let t = codec-key.takes bytes p.0.0 p.0.1 fits p.1 in
-        let u = (codec-where (λ hi. not (is_gt (key_cmp p.0.0 hi))) key_at key_text IsKey codec-key).takes p.0.1 q.0.0 q.0.1 t.0.rest_fits q.1 in
-        let made : (List ℕ × List ℕ) × List ℕ = ((p.0.0, q.0.0), q.0.1) in
-        subst (λ (y : (List ℕ × List ℕ) × List ℕ). Takes bytes (key_text y.0.0 ++ key_text y.0.1) y.1 × IsBounds y.0) (ok_is made (x, rest) q.2)
-            (Takes-then bytes (key_text p.0.0) p.0.1 (key_text q.0.0) q.0.1 t.0 u.0, (t.1, u.1.0, not_true _ u.1.1));
-    again = λ x rest fits.
-        let tested = where_at (λ hi. not (is_gt (key_cmp x.0 hi))) key_at in
-        ap (λ (r : Result (List ℕ × List ℕ) Miss). r >>= λ lo. where_at (λ hi. not (is_gt (key_cmp lo.0 hi))) key_at lo.1 >>= λ hi. Ok ((lo.0, hi.0), hi.1))
-            (ap key_at (append_assoc (key_text x.0) (key_text x.1) rest) ∙ codec-key.again x.0 (key_text x.1 ++ rest) fits.0)
-        ∙ ap (λ (r : Result (List ℕ × List ℕ) Miss). r >>= λ hi. Ok ((x.0, hi.0), hi.1))
-            ((codec-where (λ hi. not (is_gt (key_cmp x.0 hi))) key_at key_text IsKey codec-key).again x.1 rest (fits.1, true_not _ fits.2));
-  }
+  takes = λ bytes x rest fits e.
+      let p = bind_ok (key_at bytes) (λ lo. where_at (λ hi. not (is_gt (key_cmp lo.0 hi))) key_at lo.1 >>= λ hi. Ok ((lo.0, hi.0), hi.1)) (x, rest) e in
+      let q = bind_ok (where_at (λ hi. not (is_gt (key_cmp p.0.0 hi))) key_at p.0.1) (λ hi. Ok ((p.0.0, hi.0), hi.1)) (x, rest) p.2 in
+      let t = codec-key.takes bytes p.0.0 p.0.1 fits p.1 in
+      let u = (codec-where (λ hi. not (is_gt (key_cmp p.0.0 hi))) key_at key_text IsKey codec-key).takes p.0.1 q.0.0 q.0.1 t.0.rest_fits q.1 in
+      let made : (List ℕ × List ℕ) × List ℕ = ((p.0.0, q.0.0), q.0.1) in
+      subst (λ (y : (List ℕ × List ℕ) × List ℕ). Takes bytes (key_text y.0.0 ++ key_text y.0.1) y.1 × IsBounds y.0) (ok_is made (x, rest) q.2)
+      (Takes-then bytes (key_text p.0.0) p.0.1 (key_text q.0.0) q.0.1 t.0 u.0, (t.1, u.1.0, not_true _ u.1.1));
+  again = λ x rest fits.
+      let tested = where_at (λ hi. not (is_gt (key_cmp x.0 hi))) key_at in
+      ap (λ (r : Result (List ℕ × List ℕ) Miss). r >>= λ lo. where_at (λ hi. not (is_gt (key_cmp lo.0 hi))) key_at lo.1 >>= λ hi. Ok ((lo.0, hi.0), hi.1))
+      (ap key_at (append_assoc (key_text x.0) (key_text x.1) rest) ∙ codec-key.again x.0 (key_text x.1 ++ rest) fits.0)
+      ∙ ap (λ (r : Result (List ℕ × List ℕ) Miss). r >>= λ hi. Ok ((x.0, hi.0), hi.1))
+      ((codec-where (λ hi. not (is_gt (key_cmp x.0 hi))) key_at key_text IsKey codec-key).again x.1 rest (fits.1, true_not _ fits.2));
+}
 
 pub codec-range : IsCodec range_at range_text IsRange
 codec-range = codec-as span_of pair_of_span bounds_at (λ p. key_text p.0 ++ key_text p.1) IsBounds (λ p h. refl) (λ s h. refl) codec-bounds
@@ -96,7 +96,7 @@ held_takes (zero ∷ bytes) o rest fits e =
 held_takes (suc zero ∷ bytes) o rest fits e =
     let t = as_takes Some value_at value_text IsValue codec-value bytes o rest (IsBytes-rest 1 bytes fits) e in
     subst (λ (x : Option (List ℕ)). Takes (1 ∷ bytes) (held_text x) rest × IfSome x IsValue) t.1
-        (record { parts = ap (λ (w : List ℕ). 1 ∷ w) t.2.parts; rest_fits = t.2.rest_fits }, t.3)
+    (record { parts = ap (λ (w : List ℕ). 1 ∷ w) t.2.parts; rest_fits = t.2.rest_fits }, t.3)
 held_takes (suc (suc b) ∷ bytes) o rest fits e = absurd cc
 
 held_again : (o : Option (List ℕ)) (rest : List ℕ) → IfSome o IsValue → held_at (held_text o ++ rest) ≡ Ok (o, rest)
@@ -162,7 +162,7 @@ ascends_plain {A} cmp total xs up = ascends (λ (x : A). x) cmp total xs (subst 
 -- ---- lists
 
 module _ {A : Type 0} (count : Reader ℕ) (tc : ℕ → List ℕ) (Fc : ℕ → Type 0) (counts : IsCodec count tc Fc) (read : Reader A) (cmp : A → A → Ordering) (text : A → List ℕ) (Fits : A → Type 0) (codec : IsCodec read text Fits) (In : List A → Type 0)
-  (to : (xs : List A) → Ascends cmp None xs → In xs) (from : (xs : List A) → In xs → Ascends cmp None xs) where
+    (to : (xs : List A) → Ascends cmp None xs → In xs) (from : (xs : List A) → In xs → Ascends cmp None xs) where
   pub codec-list : IsCodec (counted_at count (items_at read cmp)) (λ xs. tc (length xs) ++ flat_map text xs) (λ xs. Fc (length xs) × (AllByRecursion Fits xs × In xs))
   codec-list = codec-fits (counted_at count (items_at read cmp)) (λ xs. tc (length xs) ++ flat_map text xs) (λ xs. tc (length xs) ++ flat_map text xs) (λ xs. Fc (length xs) × (AllByRecursion Fits xs × Ascends cmp None xs)) (λ xs. Fc (length xs) × (AllByRecursion Fits xs × In xs))
       (λ xs. refl) (λ xs h. (h.0, (h.1.0, to xs h.1.1))) (λ xs h. (h.0, (h.1.0, from xs h.1.1)))
@@ -236,15 +236,16 @@ byte_back b e =
           subst (λ (t : Bool). (node_byte (cond t (Member b) (Coord (b - 128))) ≡ b) × IsValidNode (cond t (Member b) (Coord (b - 128)))) (sym (lt-ltb b 128 (omega (arith, f.1)))) (refl, f)
       | inr h ↦ let f = within_is 129 136 b h in
           subst (λ (t : Bool). (node_byte (cond t (Member b) (Coord (b - 128))) ≡ b) × IsValidNode (cond t (Member b) (Coord (b - 128)))) (sym (le-ltb b 128 (omega (arith, f.0))))
-            (omega (arith, f.0), (omega (arith, f.0), omega (arith, f.1)))
+          (omega (arith, f.0), (omega (arith, f.0), omega (arith, f.1)))
     ]
 
 node_back : (node : Node) → IsValidNode node → (is_node_byte (node_byte node) ≡ true) × (node_of (node_byte node) ≡ node)
 node_back (Member n) valid =
     (or_left _ _ (is_within 1 most_members n valid.0 valid.1), ap (λ (t : Bool). cond t (Member n) (Coord (n - 128))) (lt-ltb n 128 (omega (arith, valid.1))))
-node_back (Coord n) valid =
-    (true_or _ _ (is_within 129 136 (128 + n) (omega (arith, valid.0)) (omega (arith, valid.1))),
-     ap (λ (t : Bool). cond t (Member (128 + n)) (Coord (128 + n - 128))) (le-ltb (128 + n) 128 (omega arith)) ∙ ap Coord (omega arith))
+node_back (Coord n) valid = (
+  true_or _ _ (is_within 129 136 (128 + n) (omega (arith, valid.0)) (omega (arith, valid.1))),
+  ap (λ (t : Bool). cond t (Member (128 + n)) (Coord (128 + n - 128))) (le-ltb (128 + n) 128 (omega arith)) ∙ ap Coord (omega arith),
+)
 
 small_byte : (node : Node) → IsValidNode node → node_byte node < 256
 small_byte (Member n) h = omega (arith, h.1)
@@ -259,14 +260,14 @@ codec-node_byte = codec-where is_node_byte byte_at one_byte (λ n. n < 256) code
 pub codec-node : IsCodec node_at (λ node. one_byte (node_byte node)) IsValidNode
 unfolding node_at
 codec-node = record {
-    takes = λ bytes node rest fits e.
-        let t = as_takes node_of (where_at is_node_byte byte_at) one_byte IsNodeByte codec-node_byte bytes node rest fits e in
-        let h = byte_back t.0 t.3.1 in
-        subst (λ (n : Node). Takes bytes (one_byte (node_byte n)) rest × IsValidNode n) t.1 (subst (λ (k : ℕ). Takes bytes (one_byte k) rest) (sym h.0) t.2, h.1);
-    again = λ node rest valid.
-        let h = node_back node valid in
-        as_again node_of (where_at is_node_byte byte_at) one_byte IsNodeByte codec-node_byte (node_byte node) rest (small_byte node valid, h.0) ∙ ap (λ (n : Node). Ok (n, rest)) h.1;
-  }
+  takes = λ bytes node rest fits e.
+      let t = as_takes node_of (where_at is_node_byte byte_at) one_byte IsNodeByte codec-node_byte bytes node rest fits e in
+      let h = byte_back t.0 t.3.1 in
+      subst (λ (n : Node). Takes bytes (one_byte (node_byte n)) rest × IsValidNode n) t.1 (subst (λ (k : ℕ). Takes bytes (one_byte k) rest) (sym h.0) t.2, h.1);
+  again = λ node rest valid.
+      let h = node_back node valid in
+      as_again node_of (where_at is_node_byte byte_at) one_byte IsNodeByte codec-node_byte (node_byte node) rest (small_byte node valid, h.0) ∙ ap (λ (n : Node). Ok (n, rest)) h.1;
+}
 
 -- a byte that stands for no valid node
 no_node : (b : ℕ) (t : Bool) → is_node_byte b ≡ t → ((node : Node) → IsValidNode node → node_byte node ≢ b) → is_node_byte b ≡ false

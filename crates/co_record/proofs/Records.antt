@@ -50,7 +50,7 @@ header_takes bytes r rest fits e =
     let t = as_takes (λ p. Header p.1.0 p.1.1) header_parts header_text IsHeader codec-header bytes r rest fits e in
     let one : t.0.0 ≡ version = omega (arith, t.3.0.0, t.3.0.1) in
     subst (λ (y : Record). Takes (1 ∷ bytes) (spelling y) rest × IsSpelled y) t.1
-        (subst (λ (v : ℕ). Takes (1 ∷ bytes) (1 ∷ v ∷ node_byte t.0.1.0 ∷ to_be_bytes w32 t.0.1.1) rest) one (behind 1 bytes (header_text t.0) rest t.2), (t.3.1.0, t.3.1.1))
+    (subst (λ (v : ℕ). Takes (1 ∷ bytes) (1 ∷ v ∷ node_byte t.0.1.0 ∷ to_be_bytes w32 t.0.1.1) rest) one (behind 1 bytes (header_text t.0) rest t.2), (t.3.1.0, t.3.1.1))
 
 header_again : (node : Node) (generation : ℕ) (rest : List ℕ) → IsValidNode node → generation < 2 ^ 32 → header_at (header_text (version, (node, generation)) ++ rest) ≡ Ok (Header node generation, rest)
 unfolding header_at
@@ -86,20 +86,20 @@ codec-prepare : IsCodec (then_at txn_at coords_at) prepare_text IsPrepare
 codec-prepare = codec-then txn_at coords_at txn_text (λ p. one_byte p.0 ++ (to_be_bytes w16 p.1.0 ++ (listed w16 range_text p.1.1.0 ++ listed w16 change_text p.1.1.1))) IsTxn
     (λ p. ((1 ≤ p.0) × (p.0 ≤ most_coordinators)) × (((1 ≤ p.1.0) × (p.1.0 ≤ most_operations)) × (AreReads p.1.1.0 × AreWrites p.1.1.1))) codec-txn
     (codec-then (byte_within 1 most_coordinators) counts_at one_byte (λ p. to_be_bytes w16 p.0 ++ (listed w16 range_text p.1.0 ++ listed w16 change_text p.1.1)) (λ n. (1 ≤ n) × (n ≤ most_coordinators))
-        (λ p. ((1 ≤ p.0) × (p.0 ≤ most_operations)) × (AreReads p.1.0 × AreWrites p.1.1)) (codec-byte_within 1 most_coordinators (omega arith))
-        (codec-then (number_within w16 1 most_operations) lists_at (to_be_bytes w16) (λ p. listed w16 range_text p.0 ++ listed w16 change_text p.1) (λ n. (1 ≤ n) × (n ≤ most_operations)) (λ p. AreReads p.0 × AreWrites p.1)
-            (codec-number_within w16 (2 ^ 16) 1 most_operations wide16 (omega arith))
-            (codec-then ranges_at writes_at (listed w16 range_text) (listed w16 change_text) AreReads AreWrites codec-ranges codec-writes)))
-
+    (λ p. ((1 ≤ p.0) × (p.0 ≤ most_operations)) × (AreReads p.1.0 × AreWrites p.1.1)) (codec-byte_within 1 most_coordinators (omega arith))
+    (codec-then (number_within w16 1 most_operations) lists_at (to_be_bytes w16) (λ p. listed w16 range_text p.0 ++ listed w16 change_text p.1) (λ n. (1 ≤ n) × (n ≤ most_operations)) (λ p. AreReads p.0 × AreWrites p.1)
+    (codec-number_within w16 (2 ^ 16) 1 most_operations wide16 (omega arith))
+    (codec-then ranges_at writes_at (listed w16 range_text) (listed w16 change_text) AreReads AreWrites codec-ranges codec-writes)))
 
 prepare_takes : (bytes : List ℕ) (r : Record) (rest : List ℕ) → IsBytes bytes → prepare_at bytes ≡ Ok (r, rest) → Takes (2 ∷ bytes) (spelling r) rest × IsSpelled r
 unfolding prepare_at
 prepare_takes bytes r rest fits e =
     let t = as_takes (λ (p : PrepareParts). Prepare p.0 p.1.0 p.1.1.0 p.1.1.1.0 p.1.1.1.1) (then_at txn_at coords_at) prepare_text IsPrepare codec-prepare bytes r rest fits e in
     let f = t.3 in
-    subst (λ (y : Record). Takes (2 ∷ bytes) (spelling y) rest × IsSpelled y) t.1
-        (behind 2 bytes (prepare_text t.0) rest t.2,
-         ((f.1.0, f.1.1.0, f.1.1.1.0.0.1, f.1.1.1.0.1.1, f.1.1.1.1.0.1, f.1.1.1.1.1.1), (f.0, f.1.1.1.0.1.0, f.1.1.1.1.1.0)))
+    subst (λ (y : Record). Takes (2 ∷ bytes) (spelling y) rest × IsSpelled y) t.1 (
+      behind 2 bytes (prepare_text t.0) rest t.2,
+      ((f.1.0, f.1.1.0, f.1.1.1.0.0.1, f.1.1.1.0.1.1, f.1.1.1.1.0.1, f.1.1.1.1.1.1), (f.0, f.1.1.1.0.1.0, f.1.1.1.1.1.0)),
+    )
 
 -- ---- commits
 
@@ -114,7 +114,7 @@ unfolding commit_at
 commit_takes bytes r rest fits e =
     let t = as_takes (λ (p : ℕ × List ℕ). Commit p.0 p.1) (then_at txn_at members_at) (λ p. txn_text p.0 ++ (length p.1 ∷ p.1)) (λ p. IsTxn p.0 × AreMembers p.1) codec-commit bytes r rest fits e in
     subst (λ (y : Record). Takes (3 ∷ bytes) (spelling y) rest × IsSpelled y) t.1
-        (behind 3 bytes (txn_text t.0.0 ++ (length t.0.1 ∷ t.0.1)) rest t.2, ((t.3.1.0.1, t.3.1.1.0, t.3.1.1.1), t.3.0))
+    (behind 3 bytes (txn_text t.0.0 ++ (length t.0.1 ∷ t.0.1)) rest t.2, ((t.3.1.0.1, t.3.1.1.0, t.3.1.1.1), t.3.0))
 
 abort_takes : (bytes : List ℕ) (r : Record) (rest : List ℕ) → IsBytes bytes → abort_at bytes ≡ Ok (r, rest) → Takes (4 ∷ bytes) (spelling r) rest × IsSpelled r
 unfolding abort_at
@@ -160,9 +160,10 @@ unfolding checkpoint_at
 checkpoint_takes bytes r rest fits e =
     let t = as_takes (λ (p : CheckpointParts). Checkpoint p.0 p.1.0 p.1.1) checkpoint_parts checkpoint_text IsCheckpoint codec-checkpoint bytes r rest fits e in
     let f = t.3 in
-    subst (λ (y : Record). Takes (6 ∷ bytes) (spelling y) rest × IsSpelled y) t.1
-        (behind 6 bytes (checkpoint_text t.0) rest t.2,
-         ((f.0.0, f.1.0.0, f.1.0.1.1, f.1.1.0), (f.0.1.0, f.0.1.1, f.1.0.1.0, f.1.1.1.0, f.1.1.1.1)))
+    subst (λ (y : Record). Takes (6 ∷ bytes) (spelling y) rest × IsSpelled y) t.1 (
+      behind 6 bytes (checkpoint_text t.0) rest t.2,
+      ((f.0.0, f.1.0.0, f.1.0.1.1, f.1.1.0), (f.0.1.0, f.0.1.1, f.1.0.1.0, f.1.1.1.0, f.1.1.1.1)),
+    )
 
 -- ---- records
 
@@ -187,21 +188,21 @@ record_takes (kind ∷ fields) r rest fits e =
     elim (pick kind 1 (header_at fields) _ (r, rest) e) [
       | inl h ↦ as_kind kind 1 fields r rest h.0 (header_takes fields r rest f h.1)
       | inr e2 ↦ elim (pick kind 2 (prepare_at fields) _ (r, rest) e2) [
-          | inl h ↦ as_kind kind 2 fields r rest h.0 (prepare_takes fields r rest f h.1)
-          | inr e3 ↦ elim (pick kind 3 (commit_at fields) _ (r, rest) e3) [
-              | inl h ↦ as_kind kind 3 fields r rest h.0 (commit_takes fields r rest f h.1)
-              | inr e4 ↦ elim (pick kind 4 (abort_at fields) _ (r, rest) e4) [
-                  | inl h ↦ as_kind kind 4 fields r rest h.0 (abort_takes fields r rest f h.1)
-                  | inr e5 ↦ elim (pick kind 5 (end_at fields) _ (r, rest) e5) [
-                      | inl h ↦ as_kind kind 5 fields r rest h.0 (end_takes fields r rest f h.1)
-                      | inr e6 ↦ elim (pick kind 6 (checkpoint_at fields) _ (r, rest) e6) [
-                          | inl h ↦ as_kind kind 6 fields r rest h.0 (checkpoint_takes fields r rest f h.1)
-                          | inr e7 ↦ absurd cc
-                        ]
-                    ]
-                ]
+        | inl h ↦ as_kind kind 2 fields r rest h.0 (prepare_takes fields r rest f h.1)
+        | inr e3 ↦ elim (pick kind 3 (commit_at fields) _ (r, rest) e3) [
+          | inl h ↦ as_kind kind 3 fields r rest h.0 (commit_takes fields r rest f h.1)
+          | inr e4 ↦ elim (pick kind 4 (abort_at fields) _ (r, rest) e4) [
+            | inl h ↦ as_kind kind 4 fields r rest h.0 (abort_takes fields r rest f h.1)
+            | inr e5 ↦ elim (pick kind 5 (end_at fields) _ (r, rest) e5) [
+              | inl h ↦ as_kind kind 5 fields r rest h.0 (end_takes fields r rest f h.1)
+              | inr e6 ↦ elim (pick kind 6 (checkpoint_at fields) _ (r, rest) e6) [
+                | inl h ↦ as_kind kind 6 fields r rest h.0 (checkpoint_takes fields r rest f h.1)
+                | inr e7 ↦ absurd cc
+              ]
             ]
+          ]
         ]
+      ]
     ]
 
 prepare_again : (p : PrepareParts) (rest : List ℕ) → IsPrepare p → prepare_at (prepare_text p ++ rest) ≡ Ok (Prepare p.0 p.1.0 p.1.1.0 p.1.1.1.0 p.1.1.1.1, rest)

@@ -104,18 +104,21 @@ lent gates at count rest after r cut shown items given =
     let same : x ≡ y = cc in
     let is_r : f.0 ≡ r = ap (λ (z : Record × ℕ). z.0) same in
     let is_count : length (spelling f.0) ≡ count = ap (λ (z : Record × ℕ). z.1) same in
-    let tail : after ≡ f.2 = cut ∙ ap (drop count) f.5 ∙ drop_at (spelling f.0) f.2 count is_count in
-    (f.1 ++ left.back, f.3 ∙ ap (λ (z : Record). (at, z) ∷ (f.1 ++ left.back)) is_r, record {
-      front = f.1;
-      back = left.back;
-      both = refl;
-      here = subst (λ (t : List ℕ). AreRecords (at + count) t f.1) (sym tail) (subst (λ (n : ℕ). AreRecords (at + n) f.2 f.1) is_count f.6);
-      passed = left.passed;
-      batches = left.batches;
-      has_passed = left.has_passed;
-      text = left.text;
-      behind = left.behind;
-    })
+    let tail : after ≡ f.2 = cut ∙ ap (drop count) f.5 ∙ drop_at (spelling f.0) f.2 count is_count in (
+      f.1 ++ left.back,
+      f.3 ∙ ap (λ (z : Record). (at, z) ∷ (f.1 ++ left.back)) is_r,
+      record {
+        front = f.1;
+        back = left.back;
+        both = refl;
+        here = subst (λ (t : List ℕ). AreRecords (at + count) t f.1) (sym tail) (subst (λ (n : ℕ). AreRecords (at + n) f.2 f.1) is_count f.6);
+        passed = left.passed;
+        batches = left.batches;
+        has_passed = left.has_passed;
+        text = left.text;
+        behind = left.behind;
+      },
+    )
 
 -- what is left is read
 pub not_missed : (gates : GateWalk) (at : ℕ) (rest : List ℕ) (fault : RecordFault) → ((item : Record) (tail : List ℕ) → IsSpelled item → rest ≡ spelling item ++ tail → answer item (length (spelling item)) ≡ Err fault)
@@ -129,13 +132,13 @@ not_missed gates at rest fault shown items given =
 
 pub at_front : (bytes : List ℕ) (items : List (ℕ × Record)) → HasRecords bytes items → HasLeft (walk_of (record { source = bytes; at = 0 }) 0 []) items
 at_front bytes items has = record {
-    front = [];
-    back = items;
-    both = refl;
-    here = refl;
-    passed = [];
-    batches = has.0;
-    has_passed = record { each = tt; text = refl; place = refl };
-    text = has.1;
-    behind = has.2;
-  }
+  front = [];
+  back = items;
+  both = refl;
+  here = refl;
+  passed = [];
+  batches = has.0;
+  has_passed = record { each = tt; text = refl; place = refl };
+  text = has.1;
+  behind = has.2;
+}

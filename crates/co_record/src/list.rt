@@ -4,9 +4,7 @@ ghost use Rattle.std.specs.Ordering.{nat_cmp};
 ghost use Rattle.co_base.specs.Span.{span_cmp};
 ghost use Rattle.co_record.specs.Reading.{Gives, next_at, items_end, range_at, row_at, change_at, member_at, txn_at, span_of, row_of, row_cmp, change_cmp, ranges_at, rows_at, writes_at, undos_at, members_at, txns_at};
 
-use crate::element::{
-    read_bounds, read_change, read_entry, read_member, Change, Pair, PairKind,
-};
+use crate::element::{Change, Pair, PairKind, read_bounds, read_change, read_entry, read_member};
 use crate::field::{read_byte_within, read_u16_within, read_u32};
 use crate::format::{MOST_MEMBERS, MOST_OPERATIONS};
 use crate::miss::Miss;
@@ -68,7 +66,10 @@ fn skip_rows(count: u32, bytes: &[u8]) -> Result<&[u8], Miss>
 }
 
 /// The next of a list of changes, each with a key above the one before it.
-fn next_change<'a>(before: Option<Change<'a>>, bytes: &'a [u8]) -> Result<(Change<'a>, &'a [u8]), Miss>
+fn next_change<'a>(
+    before: Option<Change<'a>>,
+    bytes: &'a [u8],
+) -> Result<(Change<'a>, &'a [u8]), Miss>
     ensures { Gives (λ x. (Some (record { key = x.0.0.now; value = option_copied x.0.1 }), x.1.now)) result (next_at change_at change_cmp (option_map (λ p. record { key = p.0.now; value = option_copied p.1 }) before.entry, bytes.now)) }
 {
     let (item, rest) = read_change(bytes)?;
@@ -155,7 +156,10 @@ pub fn read_ranges(bytes: &[u8]) -> Result<(PairWalk<'_>, &[u8]), Miss>
 {
     let (count, first) = read_u16_within(0, MOST_OPERATIONS, bytes)?;
     let rest = skip_ranges(count, first)?;
-    Ok((PairWalk::new(PairKind::Bounds, u32::from(count), first), rest))
+    Ok((
+        PairWalk::new(PairKind::Bounds, u32::from(count), first),
+        rest,
+    ))
 }
 
 /// The writes of a transaction.

@@ -37,10 +37,8 @@ fn next_bytes<'a>(batches: &mut Batches<'a>, at: usize, rest: &'a [u8]) -> Optio
     requires size { at + length rest.now ≤ most_log_bytes }
     ensures source { batches.new.source ≡ batches.old.source }
     ensures size { IfSome result (λ found. found.0 + length found.1.now ≤ most_log_bytes) }
-    ensures left {
-        (items : List (ℕ × Record)) → HasLeft (record { gates = batches.old; at = at; rest = rest.now }) items →
-        MatchOption result (items ≡ []) (λ found. HasLeft (record { gates = batches.new; at = found.0; rest = found.1.now }) items × (0 < length found.1.now))
-    }
+    ensures left { (items : List (ℕ × Record)) → HasLeft (record { gates = batches.old; at = at; rest = rest.now }) items →
+        MatchOption result (items ≡ []) (λ found. HasLeft (record { gates = batches.new; at = found.0; rest = found.1.now }) items × (0 < length found.1.now)) }
 {
     if rest.len() > 0 {
         return Some((at, rest));

@@ -2,7 +2,7 @@
 ghost use Rattle.std.specs.Prelude.{◌≡◌, ℕ, List, [], ◌∷◌, map, option_copied, MatchOption};
 ghost use Rattle.co_record.specs.Reading.{elements, pair_at, change_at, member_at, txn_at};
 
-use crate::element::{read_change, read_member, read_pair, PairKind};
+use crate::element::{PairKind, read_change, read_member, read_pair};
 use crate::field::read_u32;
 use co_base::Txn;
 use std::marker::Model;
