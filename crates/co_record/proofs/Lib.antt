@@ -4,3 +4,4 @@ pub mod Codec
 pub mod Parts
 pub mod Records
 pub mod Walks
+pub mod Short

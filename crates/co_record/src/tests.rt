@@ -39,248 +39,215 @@ fn judge(bytes: &[u8]) -> Judged {
     }
 }
 
+/// Bytes, and what reading them gives.
+static ANSWERS: [(&[u8], Judged); 8] = [
+    (b"", Judged::Short),
+    (b"\x04\x00\x00\x00", Judged::Short),
+    (b"\x04\x00\x00\x00\x01\xff", Judged::Read(5)),
+    (b"\xff", Judged::Kind),
+    (b"\x01\x00", Judged::Field(1)),
+    (b"\x02\x00\x00\x00\x01\x00", Judged::Field(5)),
+    (b"\x02\x00\x00\x00\x01\x01\x00\x00", Judged::Field(6)),
+    (
+        b"\x02\x00\x00\x00\x01\x01\x00\x02\x00\x02\x01\x61\x01\x61\x01\x61\x01\x61",
+        Judged::Field(14),
+    ),
+];
+
+/// Bytes, and what reading them gives.
+static RECORDS: [(&[u8], Judged); 22] = [
+    (b"\x04\x00\x00\x00\x00", Judged::Read(5)),
+    (b"\x04\x10\x7d\x16\x60", Judged::Read(5)),
+    (b"\x05\xff\xff\xff\xff", Judged::Read(5)),
+    (b"\x05\x61\x64\x01\x36", Judged::Read(5)),
+    (b"\x04\x2b\x9e\xf2\xc9", Judged::Read(5)),
+    (b"\x05\x00\x00\x00\x00", Judged::Read(5)),
+    (b"\x03\x00\x00\x00\x00\x00", Judged::Read(6)),
+    (b"\x03\x00\x00\x00\x01\x00", Judged::Read(6)),
+    (b"\x03\xff\xff\xff\xff\x00", Judged::Read(6)),
+    (b"\x03\xff\xff\x01\xff\x00", Judged::Read(6)),
+    (b"\x01\x01\x10\x00\x00\x00\x10", Judged::Read(7)),
+    (b"\x01\x01\x88\xff\xff\x61\xff", Judged::Read(7)),
+    (b"\x01\x01\x10\x00\x00\x00\x00", Judged::Read(7)),
+    (b"\x01\x01\x01\x00\x00\x00\x00", Judged::Read(7)),
+    (
+        b"\x02\x00\x00\x00\x00\x01\x00\x01\x00\x00\x00\x00",
+        Judged::Read(12),
+    ),
+    (
+        b"\x02\xff\xff\xff\xff\x08\x00\x01\x00\x00\x00\x00",
+        Judged::Read(12),
+    ),
+    (
+        b"\x02\xff\xff\xff\xff\x04\x00\x02\x00\x00\x00\x00",
+        Judged::Read(12),
+    ),
+    (
+        b"\x02\xbe\x13\x24\x66\x07\x04\x00\x00\x00\x00\x01\x01\x61\x00",
+        Judged::Read(15),
+    ),
+    (
+        b"\x06\x00\x00\x00\x00\x00\x00\x00\x00\x00\x00\x00\x01\x00\x00\x00\x07",
+        Judged::Read(17),
+    ),
+    (
+        b"\x06\x00\x00\x00\x01\x01\x7e\x00\x01\x76\x00\x00\x00\x00\x00\x00\x00\x00",
+        Judged::Read(18),
+    ),
+    (
+        b"\x06\x00\x00\x00\x01\x02\x7e\x7e\x00\x01\x76\x00\x00\x00\x00\x00\x00\x00\x00",
+        Judged::Read(19),
+    ),
+    (
+        b"\x06\x00\x00\x00\x01\x01\x39\x00\x01\x76\x00\x00\x00\x01\x01\x21\x00\x00\x00\x00\x00",
+        Judged::Read(21),
+    ),
+];
+
+/// Bytes, and what reading them gives.
+static FAULTS: [(&[u8], Judged); 27] = [
+    (b"\x01\x88\xff\xff\xff", Judged::Field(1)),
+    (b"\x01\x01\x00\x00\x7e\x00", Judged::Field(2)),
+    (b"\x03\x00\x00\x00\x01\x01\x00", Judged::Field(6)),
+    (b"\x03\xff\xff\xff\x02\x03\x08\xd5", Judged::Field(7)),
+    (b"\x03\xff\xff\x7f\xff\xff\x02\x0d\x0f", Judged::Field(5)),
+    (
+        b"\x02\xff\xff\xff\x07\x04\x00\x00\x00\x00\x00",
+        Judged::Field(6),
+    ),
+    (
+        b"\x02\x00\x00\x00\x01\x02\x00\x01\x00\x7f\x00\x00\x00",
+        Judged::Field(10),
+    ),
+    (
+        b"\x02\xff\xff\xff\xff\x08\x00\x01\x00\x01\x01\x30\x30\x00\x00",
+        Judged::Field(12),
+    ),
+    (
+        b"\x02\xff\xff\xff\x06\x00\x01\x00\x00\x00\x01\x01\x39\x01\x01\x76",
+        Judged::Field(5),
+    ),
+    (
+        b"\x02\xff\xff\xff\xff\x02\x04\x00\x00\x01\x01\x42\x02\x42\x7a\x00\x01\x00",
+        Judged::Field(17),
+    ),
+    (
+        b"\x02\x27\xca\xf3\xb4\x08\x00\x02\x00\x01\x02\x21\x42\x03\x21\x7a\x00\x00",
+        Judged::Field(16),
+    ),
+    (
+        b"\x02\x00\x00\x00\x00\x03\x00\x02\x00\x01\x03\x21\x7e\xe6\x03\x21\x7e\x21\x00\x00",
+        Judged::Field(13),
+    ),
+    (
+        b"\x02\x00\x00\x00\x00\x06\x04\x00\x00\x00\x00\x01\x02\x7e\x11\x01\x00\x03\x78\x79\x7e",
+        Judged::Field(14),
+    ),
+    (
+        b"\x06\x00\x00\x00\x01\x01\x00\x01\x76\x00\x00\x00\x00\x00\x00\x00\x01\x00\x00\x00\x23",
+        Judged::Field(6),
+    ),
+    (
+        b"\x03\x00\x00\x00\x00\x10\x01\x02\x03\x04\x05\x06\x07\x00\x09\x20\x0b\x0c\x0d\x0e\x0f\x10",
+        Judged::Field(13),
+    ),
+    (
+        b"\x02\x4f\x42\xfc\xb2\x06\x00\x01\x00\x01\x03\x61\x21\x21\x04\x7f\x61\x21\x21\x7a\x00\x00",
+        Judged::Field(15),
+    ),
+    (
+        b"\x03\x00\x00\x00\x00\x10\x01\x02\x03\x04\x05\x06\x07\x08\x09\x00\x0a\x0b\x0c\x0d\x0e\x0f\x10",
+        Judged::Field(15),
+    ),
+    (
+        b"\x06\x00\x00\x00\x01\x01\x39\x89\x01\x76\x00\x00\x00\x01\x01\x41\x00\x00\x00\x00\x01\x00\x00\x00\x26",
+        Judged::Field(7),
+    ),
+    (
+        b"\x06\x00\x00\x00\x02\x02\x21\x30\x00\x01\x01\x76\x01\x61\x00\x01\x76\x00\x00\x00\x00\x00\x00\x00\x00",
+        Judged::Field(10),
+    ),
+    (
+        b"\x06\x20\x00\x00\x00\x00\x00\x00\x01\x03\x42\x39\x61\x01\x00\x03\x78\x79\x7e\x00\x00\x00\x01\x00\x00\x00\x31",
+        Judged::Field(5),
+    ),
+    (
+        b"\x06\x00\x00\x00\x00\x00\x00\x01\x00\x00\x00\x00\x04\x00\x00\x00\x0f\x00\x00\x00\x11\x00\x00\x00\x1b\x00\x00\x00\x20",
+        Judged::Field(9),
+    ),
+    (
+        b"\x02\x00\x00\x00\x00\x03\x00\x02\x00\x02\x03\x21\x41\x21\x03\x21\x41\x21\x02\x42\x7e\x02\x42\x61\x7e\x11\x01\x01\x41\x01\x00\x01\x76",
+        Judged::Field(21),
+    ),
+    (
+        b"\x02\xea\x20\x08\x53\x05\x00\x01\x00\x04\x01\x39\x02\x39\x7a\x01\x41\x01\x02\x42\x41\x03\x42\x41\x7a\x02\x7e\x42\x03\x7e\x42\x7a\x00\x00",
+        Judged::Field(18),
+    ),
+    (
+        b"\x06\x00\x00\x00\x00\x00\x00\x00\x03\x02\x30\x7e\x00\x01\x01\x01\x00\x03\x78\x79\x7e\x01\x7e\x01\x00\x01\x76\x00\x00\x00\x01\x00\x00\x00\x0f",
+        Judged::Field(14),
+    ),
+    (
+        b"\x02\x00\x00\x00\x00\x07\x00\x01\x01\x00\x01\x02\x62\x7e\x02\x62\x7e\x00\x02\x03\x39\x7e\x62\x01\x00\x01\x76\x02\x7e\x30\x01\x00\x03\x78\x79\x7e\xa2",
+        Judged::Field(11),
+    ),
+    (
+        b"\x06\x00\x00\x00\x03\x01\x42\x00\x01\x76\x03\x61\x7e\x30\x00\x01\x76\x20\x62\x7e\x42\x00\x01\x76\x00\x00\x00\x00\x00\x00\x00\x01\x00\x00\x00\x00\x8f",
+        Judged::Field(21),
+    ),
+    (
+        b"\x06\x00\x00\x00\x01\x02\x62\x62\x00\x01\x76\x00\x00\x00\x00\x01\x02\x61\x62\x01\x01\x00\x21\x21\x21\x21\x21\x21\x21\x21\x21\x21\x21\x21\x21\x21\x21\x21\x21\x21\x21\x21",
+        Judged::Field(27),
+    ),
+];
+
+/// Bytes, and what reading them gives.
+static SHORT: [(&[u8], Judged); 11] = [
+    (b"\x01", Judged::Short),
+    (b"\x05", Judged::Short),
+    (b"\x03", Judged::Short),
+    (b"\x02", Judged::Short),
+    (b"\x04", Judged::Short),
+    (b"\x04\x00", Judged::Short),
+    (b"\x03\xff", Judged::Short),
+    (
+        b"\x06\x00\x00\x00\x00\x00\x00\x00\x00\x00\x00\x00\x04\x00\x00",
+        Judged::Short,
+    ),
+    (
+        b"\x06\x00\x00\x00\x00\x00\x00\x00\x01\x02\x61\x39\x01\x00\x01\x76\x00",
+        Judged::Short,
+    ),
+    (b"\xff\xff\xff", Judged::Kind),
+    (b"\x7b\x11\x00", Judged::Kind),
+];
+
 #[test]
 fn the_first_fault_from_the_left_is_answered(rt: HostRuntime) {
-    assert_eq!(rt; judge(b""), Judged::Short);
-    assert_eq!(rt; judge(b"\x04\x00\x00\x00"), Judged::Short);
-    assert_eq!(rt; judge(b"\x04\x00\x00\x00\x01\xff"), Judged::Read(5));
-    assert_eq!(rt; judge(b"\xff"), Judged::Kind);
-    assert_eq!(rt; judge(b"\x01\x00"), Judged::Field(1));
-    assert_eq!(rt; judge(b"\x02\x00\x00\x00\x01\x00"), Judged::Field(5));
-    assert_eq!(rt;
-        judge(b"\x02\x00\x00\x00\x01\x01\x00\x00"),
-        Judged::Field(6)
-    );
-    assert_eq!(rt;
-        judge(b"\x02\x00\x00\x00\x01\x01\x00\x02\x00\x02\x01\x61\x01\x61\x01\x61\x01\x61"),
-        Judged::Field(14)
-    );
+    for (bytes, wanted) in &ANSWERS {
+        assert_eq!(rt; judge(bytes), *wanted);
+    }
 }
 
 #[test]
-fn records_of_each_kind_are_read_1(rt: HostRuntime) {
-    assert_eq!(rt; judge(b"\x04\x00\x00\x00\x00"), Judged::Read(5));
-    assert_eq!(rt; judge(b"\x04\x10\x7d\x16\x60"), Judged::Read(5));
-    assert_eq!(rt; judge(b"\x05\xff\xff\xff\xff"), Judged::Read(5));
-    assert_eq!(rt; judge(b"\x05\x61\x64\x01\x36"), Judged::Read(5));
-    assert_eq!(rt; judge(b"\x04\x2b\x9e\xf2\xc9"), Judged::Read(5));
-    assert_eq!(rt; judge(b"\x05\x00\x00\x00\x00"), Judged::Read(5));
-    assert_eq!(rt; judge(b"\x03\x00\x00\x00\x00\x00"), Judged::Read(6));
-    assert_eq!(rt; judge(b"\x03\x00\x00\x00\x01\x00"), Judged::Read(6));
+fn records_of_each_kind_are_read(rt: HostRuntime) {
+    for (bytes, wanted) in &RECORDS {
+        assert_eq!(rt; judge(bytes), *wanted);
+    }
 }
 
 #[test]
-fn records_of_each_kind_are_read_2(rt: HostRuntime) {
-    assert_eq!(rt; judge(b"\x03\xff\xff\xff\xff\x00"), Judged::Read(6));
-    assert_eq!(rt; judge(b"\x03\xff\xff\x01\xff\x00"), Judged::Read(6));
-    assert_eq!(rt; judge(b"\x01\x01\x10\x00\x00\x00\x10"), Judged::Read(7));
-    assert_eq!(rt; judge(b"\x01\x01\x88\xff\xff\x61\xff"), Judged::Read(7));
-    assert_eq!(rt; judge(b"\x01\x01\x10\x00\x00\x00\x00"), Judged::Read(7));
-    assert_eq!(rt; judge(b"\x01\x01\x01\x00\x00\x00\x00"), Judged::Read(7));
-    assert_eq!(rt;
-        judge(b"\x02\x00\x00\x00\x00\x01\x00\x01\x00\x00\x00\x00"),
-        Judged::Read(12)
-    );
-    assert_eq!(rt;
-        judge(b"\x02\xff\xff\xff\xff\x08\x00\x01\x00\x00\x00\x00"),
-        Judged::Read(12)
-    );
-    assert_eq!(rt;
-        judge(b"\x02\xff\xff\xff\xff\x04\x00\x02\x00\x00\x00\x00"),
-        Judged::Read(12)
-    );
-    assert_eq!(rt;
-        judge(b"\x02\xbe\x13\x24\x66\x07\x04\x00\x00\x00\x00\x01\x01\x61\x00"),
-        Judged::Read(15)
-    );
+fn a_field_outside_its_set_is_found_at_its_place(rt: HostRuntime) {
+    for (bytes, wanted) in &FAULTS {
+        assert_eq!(rt; judge(bytes), *wanted);
+    }
 }
 
 #[test]
-fn records_of_each_kind_are_read_3(rt: HostRuntime) {
-    assert_eq!(rt;
-        judge(b"\x06\x00\x00\x00\x00\x00\x00\x00\x00\x00\x00\x00\x01\x00\x00\x00\x07"),
-        Judged::Read(17)
-    );
-    assert_eq!(rt;
-        judge(b"\x06\x00\x00\x00\x01\x01\x7e\x00\x01\x76\x00\x00\x00\x00\x00\x00\x00\x00"),
-        Judged::Read(18)
-    );
-    assert_eq!(rt;
-        judge(b"\x06\x00\x00\x00\x01\x02\x7e\x7e\x00\x01\x76\x00\x00\x00\x00\x00\x00\x00\x00"),
-        Judged::Read(19)
-    );
-    assert_eq!(rt;
-        judge(
-            b"\x06\x00\x00\x00\x01\x01\x39\x00\x01\x76\x00\x00\x00\x01\x01\x21\x00\x00\x00\x00\x00"
-        ),
-        Judged::Read(21)
-    );
-}
-
-#[test]
-fn a_field_outside_its_set_is_found_at_its_place_1(rt: HostRuntime) {
-    assert_eq!(rt; judge(b"\x01\x88\xff\xff\xff"), Judged::Field(1));
-    assert_eq!(rt; judge(b"\x01\x01\x00\x00\x7e\x00"), Judged::Field(2));
-    assert_eq!(rt; judge(b"\x03\x00\x00\x00\x01\x01\x00"), Judged::Field(6));
-    assert_eq!(rt;
-        judge(b"\x03\xff\xff\xff\x02\x03\x08\xd5"),
-        Judged::Field(7)
-    );
-    assert_eq!(rt;
-        judge(b"\x03\xff\xff\x7f\xff\xff\x02\x0d\x0f"),
-        Judged::Field(5)
-    );
-    assert_eq!(rt;
-        judge(b"\x02\xff\xff\xff\x07\x04\x00\x00\x00\x00\x00"),
-        Judged::Field(6)
-    );
-    assert_eq!(rt;
-        judge(b"\x02\x00\x00\x00\x01\x02\x00\x01\x00\x7f\x00\x00\x00"),
-        Judged::Field(10)
-    );
-    assert_eq!(rt;
-        judge(b"\x02\xff\xff\xff\xff\x08\x00\x01\x00\x01\x01\x30\x30\x00\x00"),
-        Judged::Field(12)
-    );
-    assert_eq!(rt;
-        judge(b"\x02\xff\xff\xff\x06\x00\x01\x00\x00\x00\x01\x01\x39\x01\x01\x76"),
-        Judged::Field(5)
-    );
-    assert_eq!(rt;
-        judge(b"\x02\xff\xff\xff\xff\x02\x04\x00\x00\x01\x01\x42\x02\x42\x7a\x00\x01\x00"),
-        Judged::Field(17)
-    );
-}
-
-#[test]
-fn a_field_outside_its_set_is_found_at_its_place_2(rt: HostRuntime) {
-    assert_eq!(rt;
-        judge(b"\x02\x27\xca\xf3\xb4\x08\x00\x02\x00\x01\x02\x21\x42\x03\x21\x7a\x00\x00"),
-        Judged::Field(16)
-    );
-    assert_eq!(rt;
-        judge(b"\x02\x00\x00\x00\x00\x03\x00\x02\x00\x01\x03\x21\x7e\xe6\x03\x21\x7e\x21\x00\x00"),
-        Judged::Field(13)
-    );
-    assert_eq!(rt;
-        judge(
-            b"\x02\x00\x00\x00\x00\x06\x04\x00\x00\x00\x00\x01\x02\x7e\x11\x01\x00\x03\x78\x79\x7e"
-        ),
-        Judged::Field(14)
-    );
-    assert_eq!(rt;
-        judge(
-            b"\x06\x00\x00\x00\x01\x01\x00\x01\x76\x00\x00\x00\x00\x00\x00\x00\x01\x00\x00\x00\x23"
-        ),
-        Judged::Field(6)
-    );
-    assert_eq!(rt;
-        judge(
-            b"\x03\x00\x00\x00\x00\x10\x01\x02\x03\x04\x05\x06\x07\x00\x09\x20\x0b\x0c\x0d\x0e\x0f\x10"
-        ),
-        Judged::Field(13)
-    );
-    assert_eq!(rt;
-        judge(
-            b"\x02\x4f\x42\xfc\xb2\x06\x00\x01\x00\x01\x03\x61\x21\x21\x04\x7f\x61\x21\x21\x7a\x00\x00"
-        ),
-        Judged::Field(15)
-    );
-    assert_eq!(rt;
-        judge(
-            b"\x03\x00\x00\x00\x00\x10\x01\x02\x03\x04\x05\x06\x07\x08\x09\x00\x0a\x0b\x0c\x0d\x0e\x0f\x10"
-        ),
-        Judged::Field(15)
-    );
-    assert_eq!(rt;
-        judge(
-            b"\x06\x00\x00\x00\x01\x01\x39\x89\x01\x76\x00\x00\x00\x01\x01\x41\x00\x00\x00\x00\x01\x00\x00\x00\x26"
-        ),
-        Judged::Field(7)
-    );
-    assert_eq!(rt;
-        judge(
-            b"\x06\x00\x00\x00\x02\x02\x21\x30\x00\x01\x01\x76\x01\x61\x00\x01\x76\x00\x00\x00\x00\x00\x00\x00\x00"
-        ),
-        Judged::Field(10)
-    );
-    assert_eq!(rt;
-        judge(
-            b"\x06\x20\x00\x00\x00\x00\x00\x00\x01\x03\x42\x39\x61\x01\x00\x03\x78\x79\x7e\x00\x00\x00\x01\x00\x00\x00\x31"
-        ),
-        Judged::Field(5)
-    );
-}
-
-#[test]
-fn a_field_outside_its_set_is_found_at_its_place_3(rt: HostRuntime) {
-    assert_eq!(rt;
-        judge(
-            b"\x06\x00\x00\x00\x00\x00\x00\x01\x00\x00\x00\x00\x04\x00\x00\x00\x0f\x00\x00\x00\x11\x00\x00\x00\x1b\x00\x00\x00\x20"
-        ),
-        Judged::Field(9)
-    );
-    assert_eq!(rt;
-        judge(
-            b"\x02\x00\x00\x00\x00\x03\x00\x02\x00\x02\x03\x21\x41\x21\x03\x21\x41\x21\x02\x42\x7e\x02\x42\x61\x7e\x11\x01\x01\x41\x01\x00\x01\x76"
-        ),
-        Judged::Field(21)
-    );
-    assert_eq!(rt;
-        judge(
-            b"\x02\xea\x20\x08\x53\x05\x00\x01\x00\x04\x01\x39\x02\x39\x7a\x01\x41\x01\x02\x42\x41\x03\x42\x41\x7a\x02\x7e\x42\x03\x7e\x42\x7a\x00\x00"
-        ),
-        Judged::Field(18)
-    );
-    assert_eq!(rt;
-        judge(
-            b"\x06\x00\x00\x00\x00\x00\x00\x00\x03\x02\x30\x7e\x00\x01\x01\x01\x00\x03\x78\x79\x7e\x01\x7e\x01\x00\x01\x76\x00\x00\x00\x01\x00\x00\x00\x0f"
-        ),
-        Judged::Field(14)
-    );
-    assert_eq!(rt;
-        judge(
-            b"\x02\x00\x00\x00\x00\x07\x00\x01\x01\x00\x01\x02\x62\x7e\x02\x62\x7e\x00\x02\x03\x39\x7e\x62\x01\x00\x01\x76\x02\x7e\x30\x01\x00\x03\x78\x79\x7e\xa2"
-        ),
-        Judged::Field(11)
-    );
-    assert_eq!(rt;
-        judge(
-            b"\x06\x00\x00\x00\x03\x01\x42\x00\x01\x76\x03\x61\x7e\x30\x00\x01\x76\x20\x62\x7e\x42\x00\x01\x76\x00\x00\x00\x00\x00\x00\x00\x01\x00\x00\x00\x00\x8f"
-        ),
-        Judged::Field(21)
-    );
-    assert_eq!(rt;
-        judge(
-            b"\x06\x00\x00\x00\x01\x02\x62\x62\x00\x01\x76\x00\x00\x00\x00\x01\x02\x61\x62\x01\x01\x00\x21\x21\x21\x21\x21\x21\x21\x21\x21\x21\x21\x21\x21\x21\x21\x21\x21\x21\x21\x21"
-        ),
-        Judged::Field(27)
-    );
-}
-
-#[test]
-fn bytes_that_end_early_are_short_1(rt: HostRuntime) {
-    assert_eq!(rt; judge(b"\x01"), Judged::Short);
-    assert_eq!(rt; judge(b"\x05"), Judged::Short);
-    assert_eq!(rt; judge(b"\x03"), Judged::Short);
-    assert_eq!(rt; judge(b"\x02"), Judged::Short);
-    assert_eq!(rt; judge(b"\x04"), Judged::Short);
-}
-
-#[test]
-fn bytes_that_end_early_are_short_2(rt: HostRuntime) {
-    assert_eq!(rt; judge(b"\x04\x00"), Judged::Short);
-    assert_eq!(rt; judge(b"\x03\xff"), Judged::Short);
-    assert_eq!(rt; judge(b"\xff\xff\xff"), Judged::Kind);
-    assert_eq!(rt; judge(b"\x7b\x11\x00"), Judged::Kind);
-    assert_eq!(rt;
-        judge(b"\x06\x00\x00\x00\x00\x00\x00\x00\x00\x00\x00\x00\x04\x00\x00"),
-        Judged::Short
-    );
-    assert_eq!(rt;
-        judge(b"\x06\x00\x00\x00\x00\x00\x00\x00\x01\x02\x61\x39\x01\x00\x01\x76\x00"),
-        Judged::Short
-    );
+fn bytes_that_end_early_are_short(rt: HostRuntime) {
+    for (bytes, wanted) in &SHORT {
+        assert_eq!(rt; judge(bytes), *wanted);
+    }
 }
 
 /// Opens the last gate of a file, or the first one, and appends a batch behind it.
@@ -303,7 +270,7 @@ fn header(alloc: Global, node: Node, generation: u32) -> Result<Vec<u8>, Fail>
     Ok(batch)
 }
 
-#[tactic(auto, unfolding(std::specs::List::Sorted::IsStrictlySortedBy))]
+#[tactic(auto, using(crate::proofs::Short::short_lists))]
 fn prepare(alloc: Global) -> Result<Vec<u8>, Fail> {
     let key = Key::new(alloc, b"a")?;
     let mut reads = Ranges::new(alloc);
@@ -325,7 +292,7 @@ fn prepare(alloc: Global) -> Result<Vec<u8>, Fail> {
     Ok(batch)
 }
 
-#[tactic(auto, unfolding(std::specs::List::Sorted::IsStrictlySortedBy))]
+#[tactic(auto, using(crate::proofs::Short::short_lists))]
 fn commit_of_none(alloc: Global) -> Result<Vec<u8>, Fail> {
     let mut batch = Vec::new(alloc);
     put_record(
@@ -338,7 +305,7 @@ fn commit_of_none(alloc: Global) -> Result<Vec<u8>, Fail> {
     Ok(batch)
 }
 
-#[tactic(auto, unfolding(std::specs::List::Sorted::IsStrictlySortedBy))]
+#[tactic(auto, using(crate::proofs::Short::short_lists))]
 fn commit_of_two(alloc: Global) -> Result<Vec<u8>, Fail> {
     let mut members = Bytes::new(alloc);
     members.push(1)?;
@@ -354,7 +321,7 @@ fn commit_of_two(alloc: Global) -> Result<Vec<u8>, Fail> {
     Ok(batch)
 }
 
-#[tactic(auto, unfolding(std::specs::List::Sorted::IsStrictlySortedBy))]
+#[tactic(auto, using(crate::proofs::Short::short_lists))]
 fn checkpoint(alloc: Global, batch: &mut Vec<u8>) -> Result<(), Fail> {
     let mut rows = Rows::new(alloc);
     rows.push(Row {
@@ -414,7 +381,10 @@ fn the_log_of_a_checkpoint_is_written(rt: HostRuntime) -> Result<(), Fail> {
 /// The record at a place of a file, up to its next gate.
 fn view_at(file: &[u8], from: usize, to: usize) -> Option<RecordView<'_>> {
     if from <= to && to <= file.len() && file.len() < 4096 {
-        read_record(&file[from..to]).ok().map(|found| found.0)
+        match read_record(&file[from..to]) {
+            Ok((view, _)) => Some(view),
+            Err(_) => None,
+        }
     } else {
         None
     }
