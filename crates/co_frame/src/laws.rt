@@ -25,9 +25,6 @@ pub fn one_reading()
 
 /// The batches that a walk has passed are the first ones of its text.
 pub fn passed_come_first()
-    ensures {
-        (walk : GateWalk) (passed batches : List (List ℕ)) → HasPassed walk passed →
-        IsLogText walk.source batches → (more : List (List ℕ)) × (batches ≡ passed ++ more)
-    }
-{
-}
+    ensures { (walk : GateWalk) (passed batches : List (List ℕ)) → HasPassed walk passed →
+        IsLogText walk.source batches → (more : List (List ℕ)) × (batches ≡ passed ++ more) }
+{}
