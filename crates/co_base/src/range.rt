@@ -1,5 +1,5 @@
 //! Ranges of keys.
-ghost use Rattle.std.specs.Prelude.{◌≡◌, ◌↔◌, IfOk, IsErrOf, IsTrue, ◌&&◌, nat_eq, refl};
+ghost use Rattle.std.specs.Prelude.{◌≡◌, ◌↔◌, IfOk, IsErrOf, IsTrue, ◌&&◌, nat_eq, refl, false};
 ghost use Rattle.std.specs.Ordering.{is_gt, as_partial_cmp};
 ghost use Rattle.std.specs.Cmp.Lexicographic.{pointwise};
 ghost use Rattle.std.specs.Cmp.{partial_order_from_own_ties};
@@ -77,6 +77,15 @@ impl Range {
         ensures { result.now ≡ self.now.hi }
     {
         &self.hi
+    }
+
+    /// The least key and the greatest key, of which the least is not above the greatest.
+    pub fn bounds(&self) -> (&Key, &Key)
+        ensures lo { result.0.now ≡ self.now.lo }
+        ensures hi { result.1.now ≡ self.now.hi }
+        ensures order { is_gt (key_cmp result.0.now result.1.now) ≡ false }
+    {
+        (&self.lo, &self.hi)
     }
 
     /// Whether the key stands in the range.

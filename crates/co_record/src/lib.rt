@@ -1,6 +1,31 @@
 //! The records of a log.
 #![tactic(auto)]
 
+mod element;
+mod fault;
+mod field;
+mod format;
+mod laws;
+mod list;
+mod miss;
+mod order;
+mod part;
+mod put;
+mod read;
 mod record;
+mod view;
+mod views;
+mod walk;
 
+pub use fault::RecordFault;
+pub use format::VERSION;
+pub use laws::one_spelling;
+pub use put::put_record;
+pub use read::read_record;
 pub use record::Record;
+pub use view::RecordView;
+pub use views::Views;
+pub use walk::{ChangeWalk, MemberWalk, PairWalk, TxnWalk};
+
+#[cfg(test)]
+mod tests;

@@ -1,0 +1,20 @@
+//! Gates and batches: what stands in a log file, whatever its records say.
+//!
+//! A batch counts only behind an open gate, and a gate is opened only once its batch is stable, so a
+//! file holds its old batches or its old ones and the new one (the commit of a log write as one byte).
+#![tactic(auto)]
+
+mod batch;
+mod batches;
+mod fault;
+mod laws;
+mod put;
+
+pub use batch::Batch;
+pub use batches::{Batches, CLOSED_GATE, MOST_LOG_BYTES, OPEN_GATE};
+pub use fault::FrameFault;
+pub use laws::{closed_gate_hides, one_reading, open_gate_adds, passed_come_first};
+pub use put::put_batch;
+
+#[cfg(test)]
+mod tests;

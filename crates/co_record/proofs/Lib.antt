@@ -1,0 +1,7 @@
+pub mod Loop
+pub mod Elements
+pub mod Codec
+pub mod Parts
+pub mod Records
+pub mod Walks
+pub mod Short

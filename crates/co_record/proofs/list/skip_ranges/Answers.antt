@@ -1,0 +1,17 @@
+use Rattle.std.proofs.lemmas.Result.{err_from_is_err_and}
+use Rattle.std.specs.Ordering.{nat_cmp}
+use Rattle.co_base.specs.Span.{span_cmp}
+use Rattle.co_record.specs.Reading.{next_at, range_at, span_of, row_of}
+use Rattle.co_record.proofs.Loop.{goes_on, items_fail, items_done}
+use Rattle.co_record.proofs.list.skip_ranges.Goals as goal
+
+pub returns-in_err-item : goal.returns-in_err-item
+returns-in_err-item c =
+    let p = err_from_is_err_and c.from_residual.result c.from_residual.ensures.1 in
+    rw (p.1, p.2) (items_fail range_at span_cmp _ c.loop.counter _ _ _ _ c.loop-test.true c.in_err-item.ensures c.loop.invariant)
+
+pub loop-preserved : goal.loop-preserved
+loop-preserved c = goes_on (next_at range_at span_cmp) _ c.loop.counter _ _ _ c.loop-test.true c.in_ok-item.ensures c.loop.invariant
+
+pub returns : goal.returns
+returns c = items_done range_at span_cmp _ c.loop.counter _ _ _ c.loop-test.false c.loop.invariant

@@ -1,0 +1,16 @@
+use Rattle.std.proofs.Common.{◌≡◌, ℕ, List, length, Err, sym, ap, ◌∙◌, arith}
+use Rattle.co_record.specs.Lent.{placed}
+use Rattle.co_record.proofs.Records.{record_shrinks, stands, reads}
+use Rattle.co_record.proofs.read.read_record.Goals as goal
+
+pub overflow_sub-result : goal.overflow_sub-result
+overflow_sub-result c = record_shrinks _ _ _ (λ i. omega (arith, c.type_inv.bytes i)) c.in-Ok.ensures
+
+pub returns-in-Ok-clause-found : goal.returns-in-Ok-clause-found
+returns-in-Ok-clause-found c = stands _ _ _ (λ i. omega (arith, c.type_inv.bytes i)) c.in-Ok.ensures
+
+pub returns-in-Ok-clause-only : goal.returns-in-Ok-clause-only
+returns-in-Ok-clause-only c = λ item rest fits e. sym (reads c.args.bytes.now item rest fits e) ∙ ap (placed (length c.args.bytes.now)) c.in-Ok.ensures
+
+pub returns-in-Err-clause-only : goal.returns-in-Err-clause-only
+returns-in-Err-clause-only c = λ item rest fits e. sym (reads c.args.bytes.now item rest fits e) ∙ ap (placed (length c.args.bytes.now)) c.in-Err.ensures ∙ ap Err (sym c.fault_of.ensures)

@@ -1,0 +1,5 @@
+pub mod Format
+pub mod Spelling
+pub mod Reading
+pub mod Lent
+pub mod Stored

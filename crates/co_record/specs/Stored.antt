@@ -1,0 +1,48 @@
+-- The records of a log text, each with its place, and what a walk over them has left.
+use Rattle.std.specs.Prelude.{◌≡◌, ℕ, ◌+◌, ◌≤◌, List, [], ◌∷◌, ◌++◌, length, Option, Some, None}
+use Rattle.co_frame.specs.LogText.{GateWalk, HasPassed, IsLogText}
+use Rattle.co_record.specs.declared.record.Record.{Record}
+use Rattle.co_record.specs.declared.view.RecordView.{RecordView}
+use Rattle.co_record.specs.Lent.{record_of}
+use Rattle.co_record.specs.Spelling.{spelling, IsSpelled}
+
+-- the bytes from this place on are these records, one after another to the end
+abbrev pub AreRecords : ℕ → List ℕ → List (ℕ × Record) → Type 0
+AreRecords at bytes [] = bytes ≡ []
+AreRecords at bytes (item ∷ items) =
+    (item.0 ≡ at) × IsSpelled item.1
+    × ((rest : List ℕ) × (bytes ≡ spelling item.1 ++ rest) × AreRecords (at + length (spelling item.1)) rest items)
+
+-- the batches behind the gate at this place hold these records: a gate and a length stand before each batch
+abbrev pub HoldRecords : ℕ → List (List ℕ) → List (ℕ × Record) → Type 0
+HoldRecords gate [] items = items ≡ []
+HoldRecords gate (batch ∷ batches) items =
+    (front : List (ℕ × Record)) × (back : List (ℕ × Record)) × (items ≡ front ++ back)
+    × AreRecords (gate + 5) batch front × HoldRecords (gate + 5 + length batch) batches back
+
+-- the log text has these records: those of its batches
+abbrev pub HasRecords : List ℕ → List (ℕ × Record) → Type 0
+HasRecords bytes items = (batches : List (List ℕ)) × IsLogText bytes batches × HoldRecords 0 batches items
+
+-- how far a walk over records has come: the walk over the batches, and what is left of the batch
+pub record RecordWalk : Type 0 where
+  pub gates : GateWalk
+  pub at : ℕ
+  pub rest : List ℕ
+
+-- the walk has these records left: those in the rest of its batch, and those of the batches behind
+pub record HasLeft (walk : RecordWalk) (items : List (ℕ × Record)) : Type 0 where
+  pub front : List (ℕ × Record)
+  pub back : List (ℕ × Record)
+  pub both : items ≡ front ++ back
+  pub here : AreRecords walk.at walk.rest front
+  pub passed : List (List ℕ)
+  pub batches : List (List ℕ)
+  pub has_passed : HasPassed walk.gates passed
+  pub text : IsLogText walk.gates.source (passed ++ batches)
+  pub behind : HoldRecords walk.gates.at batches back
+
+-- the next record and its place, which the walk then has no more; or that none is left
+abbrev pub Lends : Option (ℕ × RecordView) → RecordWalk → List (ℕ × Record) → Type 0
+Lends None new items = items ≡ []
+Lends (Some lent) new items = (more : List (ℕ × Record)) × (items ≡ (lent.0, record_of lent.1) ∷ more) × HasLeft new more
