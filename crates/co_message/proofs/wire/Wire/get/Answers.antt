@@ -1,4 +1,4 @@
-use Rattle.std.proofs.Common.{◌≡◌, ◌∙◌, ap, sym, Bool, true, false, true≢false, refl}
+use Rattle.std.proofs.Common.{◌≡◌, ◌∙◌, ap, sym, true, false, true≢false, refl}
 use Rattle.co_message.proofs.Sent.{derived_same, found}
 use Rattle.co_message.specs.Sent.{was_sent}
 use Rattle.co_message.proofs.wire.Wire.get.Goals as goal

@@ -1,4 +1,4 @@
-use Rattle.std.proofs.Common.{◌≡◌, ◌∙◌, ap, reverse}
+use Rattle.std.proofs.Common.{◌∙◌, ap, reverse}
 use Rattle.co_message.proofs.Sent.{derived_same, inserted}
 use Rattle.co_message.specs.Sent.{send_one}
 use Rattle.co_message.proofs.wire.Wire.send.Goals as goal
