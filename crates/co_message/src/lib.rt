@@ -6,8 +6,10 @@ mod answer;
 mod event;
 mod item;
 mod message;
+mod wire;
 
 pub use answer::{Answer, Cause};
 pub use event::Event;
 pub use item::{Item, ItemKind, Items};
 pub use message::{Message, Messages};
+pub use wire::{Wire, WireFault};

@@ -1,0 +1,14 @@
+use Rattle.std.proofs.Common.{◌≡◌, ◌<◌, ◌+◌, ◌∙◌, ap, sym, subst, arith, reverse}
+use Rattle.co_plain.specs.Sessions.{count_at}
+use Rattle.co_session.specs.Clients.{count_among}
+use Rattle.co_session.proofs.Counts.{counts_told}
+use Rattle.co_session.proofs.client.Client.tell.Goals as goal
+
+pub count_one-requires : goal.count_one-requires
+count_one-requires c =
+    let m = c.args.told.site.member in
+    let same : count_among c.self.inside.counts.items m ≡ count_at c.args.self.now.told m =
+    ap (λ ps. count_among ps m) c.self.invariant.0
+    ∙ counts_told (reverse c.self.inside.told.items) m
+    ∙ ap (λ session. count_at session.told m) c.self.view_is in
+    omega (arith, same, c.requires)

@@ -1,0 +1,16 @@
+use Rattle.std.proofs.Common.{◌≡◌, ◌∙◌, ap, sym, refl, Option, None, Some, Bool, true, false, is_some, true≢false}
+use Rattle.co_state.specs.Table.{look}
+use Rattle.co_session.proofs.Tables.{looked, rewritten}
+use Rattle.co_session.specs.Clients.{carried_of}
+use Rattle.co_session.proofs.sessions.Sessions.carried.Goals as goal
+
+pub returns-in-None : goal.returns-in-None
+returns-in-None c =
+    ap (λ o. carried_of o c.args.member)
+    (c.in-None.ensures.value ∙ sym (looked c.self.inside.begun.entries c.args.t) ∙ ap (λ x. look x.sessions c.args.t) c.self.view_is)
+
+pub returns-in-Some : goal.returns-in-Some
+returns-in-Some c =
+    c.carried.ensures
+    ∙ ap (λ o. carried_of o c.args.member)
+    (c.in-Some.ensures.value ∙ sym (looked c.self.inside.begun.entries c.args.t) ∙ ap (λ x. look x.sessions c.args.t) c.self.view_is)

@@ -1,0 +1,15 @@
+use Rattle.std.proofs.Common.{◌≡◌, ◌∙◌, ap, sym}
+use Rattle.co_state.specs.Table.{look}
+use Rattle.co_session.proofs.Tables.{looked}
+use Rattle.co_session.specs.Clients.{parts_at}
+use Rattle.co_session.proofs.sessions.Sessions.parts.Goals as goal
+
+pub returns-in-None : goal.returns-in-None
+returns-in-None c =
+    c.new.ensures
+    ∙ ap parts_at (c.in-None.ensures.value ∙ sym (looked c.self.inside.begun.entries c.args.t) ∙ ap (λ x. look x.sessions c.args.t) c.self.view_is)
+
+pub returns-in-Some : goal.returns-in-Some
+returns-in-Some c =
+    rw (← ap parts_at (c.in-Some.ensures.value ∙ sym (looked c.self.inside.begun.entries c.args.t) ∙ ap (λ x. look x.sessions c.args.t) c.self.view_is))
+    c.parts.ensures

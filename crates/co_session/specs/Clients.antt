@@ -1,0 +1,85 @@
+-- What the clients did, as plain data.
+use Rattle.std.specs.Prelude.{ℕ, Bool, true, false, ◌≡◌, ◌==◌, ◌||◌, ◌+◌, ◌++◌, List, [], ◌∷◌, length, nat_le, if◌then◌else◌, Option, None, Some}
+use Rattle.co_base.specs.declared.node.Node.{Node}
+use Rattle.co_base.specs.declared.node.Node.TheVariants as node
+use Rattle.co_base.specs.declared.part.Part.{Part}
+use Rattle.co_state.specs.Table.{Table, look, put, holds, no_entries}
+use Rattle.co_plain.specs.declared.session.Session.{Session}
+use Rattle.co_plain.specs.declared.session.Told.{Told}
+use Rattle.co_plain.specs.Numbers.{has_number}
+use Rattle.co_plain.specs.Sessions.{count_at, parts_of, begun_by, with_told, asked_to_end}
+
+pub record Clients : Type 0 where
+  -- the transactions that were begun in this run, each with its session
+  pub sessions : Table Session
+  -- their numbers in the order of their begin
+  pub begun : List ℕ
+  -- the numbers that stand in the opened logs, ascending
+  pub used : List ℕ
+
+-- the count of a member among participants; none of one that is absent
+abbrev pub count_among : List Part → ℕ → ℕ
+count_among [] m = 0
+count_among (p ∷ ps) m = if p.member == m then p.count else count_among ps m
+
+abbrev pub none_begun : List ℕ → Clients
+none_begun used = record { sessions = no_entries; begun = []; used = used }
+
+-- whether the number was begun in this run, or stands in an opened log
+abbrev pub is_used : Clients → ℕ → Bool
+is_used x t = holds x.sessions t || has_number x.used t
+
+-- whether there are as many numbers as there may be
+abbrev pub is_full : Clients → Bool
+is_full x = nat_le 65536 (length x.begun + length x.used)
+
+-- a transaction is begun at a node
+abbrev pub with_begun : Clients → ℕ → Node → Clients
+with_begun x t by = record { sessions = put x.sessions t (begun_by by); begun = x.begun ++ t ∷ []; used = x.used }
+
+abbrev pub with_session : Clients → ℕ → Session → Clients
+with_session x t session = record { sessions = put x.sessions t session; begun = x.begun; used = x.used }
+
+-- a change of the session of a transaction that was begun
+abbrev pub changed : Clients → ℕ → (Session → Session) → Option Session → Clients
+changed x t change None = x
+changed x t change (Some session) = with_session x t (change session)
+
+-- one more operation was answered
+abbrev pub with_answered : Clients → ℕ → Told → Clients
+with_answered x t o = changed x t (λ session. with_told session o) (look x.sessions t)
+
+-- the transaction was asked to end
+abbrev pub with_asked : Clients → ℕ → Clients
+with_asked x t = changed x t asked_to_end (look x.sessions t)
+
+-- how many operations were answered at the member; none where the transaction was not begun
+abbrev pub carried_of : Option Session → ℕ → ℕ
+carried_of None m = 0
+carried_of (Some session) m = count_at session.told m
+
+abbrev pub carried_in : Clients → ℕ → ℕ → ℕ
+carried_in x t m = carried_of (look x.sessions t) m
+
+-- the participants, ascending by member
+abbrev pub parts_at : Option Session → List Part
+parts_at None = []
+parts_at (Some session) = parts_of session.told
+
+abbrev pub parts_in : Clients → ℕ → List Part
+parts_in x t = parts_at (look x.sessions t)
+
+-- whether the transaction was begun and asked to end
+abbrev pub is_asked_at : Option Session → Bool
+is_asked_at None = false
+is_asked_at (Some session) = session.asked
+
+abbrev pub is_asked_in : Clients → ℕ → Bool
+is_asked_in x t = is_asked_at (look x.sessions t)
+
+-- the transaction was begun at this coordinator, and not asked to end
+pub record IsGranted (x : Clients) (t c : ℕ) : Type 0 where
+  pub session : Session
+  pub begun : look x.sessions t ≡ Some session
+  pub coordinator : session.by ≡ node.Coord c
+  pub unasked : session.asked ≡ false

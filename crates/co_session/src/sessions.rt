@@ -1,0 +1,270 @@
+//! The sessions of this run.
+ghost use Rattle.std.specs.Prelude.{◌≡◌, ◌≢◌, ◌↔◌, ◌<◌, ◌≤◌, ℕ, true, false, Some, None, OnOk, OnErr, IfOk, IsOk, IsErrOf, is_some};
+ghost use Rattle.co_base.specs.declared.node.Node.TheVariants as node;
+ghost use Rattle.co_state.specs.Table.{look, holds};
+ghost use Rattle.co_plain.specs.Sessions.{count_at, parts_of};
+ghost use Rattle.co_session.specs.Clients.{Clients, is_used, is_full, none_begun, with_begun, with_answered, with_asked, carried_in, parts_in, IsGranted, is_asked_in};
+
+use crate::client::Client;
+use crate::fault::SessionFault;
+use co_base::{Parts, Reply, Txn, Txns};
+use co_plain::Told;
+use co_serial::Site;
+use indexmap::IndexMap;
+use std::alloc::{AllocError, Global};
+use std::marker::Model;
+
+/// The transactions that clients began in this run, in the order of their begin, and the numbers that stand
+/// in the opened logs.
+///
+/// A contract sees a table of sessions, the begun numbers in order, and the used numbers.
+#[derive(Drop)]
+pub struct Sessions {
+    begun: IndexMap<Txn, Client>,
+    used: Txns,
+}
+
+impl Model for Sessions {
+    ghost use Rattle.std.specs.FinMap.{from_entries};
+    ghost use Rattle.indexmap.specs.IndexMap.{keys};
+    ghost use Rattle.co_session.specs.Clients.{Clients};
+    ghost use Rattle.co_base.specs.Order.{IsAscending};
+    ghost use Rattle.std.specs.FinMap as map;
+    ghost use Rattle.std.specs.Ordering.{nat_cmp};
+    ghost use Rattle.std.specs.Coded.{codes, coded_ℕ};
+    ghost use Rattle.co_plain.specs.contracts.session.Session as session;
+
+    ghost Value = { Clients };
+
+    ghost coded = { Prim.hlevel (codes, map.code {R = nat_cmp} coded_ℕ session.the_row.coded) };
+
+    ghost view = { λ s. record { sessions = from_entries s.begun.entries; begun = keys s.begun; used = s.used } };
+
+    ghost invariant = { λ s. IsAscending s.used };
+}
+
+impl Sessions {
+    /// The most numbers that are begun in this run or stand in the opened logs.
+    pub const MOST: usize = 65_536;
+
+    /// No transaction was begun in this run. `used` has the numbers that stand in the opened logs.
+    pub fn attach(alloc: Global, used: Txns) -> Result<Sessions, AllocError>
+        ensures { IfOk result (λ sessions. sessions ≡ none_begun used) }
+    {
+        let _ = used.as_slice();
+        Ok(Sessions {
+            begun: IndexMap::new(alloc),
+            used,
+        })
+    }
+
+    /// Whether a client may begin the transaction: `Used` exactly where it was begun in this run or stands in
+    /// an opened log, else `Count` exactly where `MOST` numbers or more are begun or used.
+    pub fn may_begin(&self, t: Txn) -> Result<(), SessionFault>
+        ensures ok { IsOk result ↔ ((is_used self.now t ≡ false) × (is_full self.now ≡ false)) }
+        ensures used { IsErrOf result SessionFault.Used ↔ (is_used self.now t ≡ true) }
+        ensures count { IsErrOf result SessionFault.Count ↔ ((is_used self.now t ≡ false) × (is_full self.now ≡ true)) }
+    {
+        if self.is_used(t) {
+            return Err(SessionFault::Used);
+        }
+        if self.is_full() {
+            return Err(SessionFault::Count);
+        }
+        Ok(())
+    }
+
+    /// Whether the transaction was begun in this run, or stands in an opened log.
+    fn is_used(&self, t: Txn) -> bool
+        ensures { result ≡ is_used self.now t }
+    {
+        if self.begun.contains_key(&t) {
+            return true;
+        }
+        self.used.as_slice().binary_search(&t).is_ok()
+    }
+
+    /// Whether as many numbers are begun or used as there may be.
+    fn is_full(&self) -> bool
+        ensures { result ≡ is_full self.now }
+    {
+        let used = self.used.as_slice().len();
+        self.begun.len() + used >= Sessions::MOST
+    }
+
+    /// A client begins the transaction at a coordinator. `may_begin` said yes. Want of memory leaves the
+    /// sessions as they were.
+    pub fn begin(&mut self, alloc: Global, t: Txn, coord: u8) -> Result<(), AllocError>
+        requires unused { is_used self.old t ≡ false }
+        requires room { is_full self.old ≡ false }
+        ensures ok { OnOk result (self.new ≡ with_begun self.old t (node.Coord coord)) }
+        ensures err { OnErr result (self.new ≡ self.old) }
+    {
+        self.begun.insert(t, Client::begun(alloc, coord))?;
+        Ok(())
+    }
+
+    /// Whether a client may act in the transaction, and at which coordinator it was begun: `NotBegun` exactly
+    /// where it was not begun in this run, else `Asked` exactly where it was asked to end.
+    pub fn may_act(&self, t: Txn) -> Result<u8, SessionFault>
+        ensures ok { IfOk result (IsGranted self.now t) }
+        ensures not_begun { IsErrOf result SessionFault.NotBegun ↔ (holds self.now.sessions t ≡ false) }
+        ensures asked { IsErrOf result SessionFault.Asked ↔ (is_asked_in self.now t ≡ true) }
+    {
+        match self.begun.get(&t) {
+            None => Err(SessionFault::NotBegun),
+            Some(client) => {
+                if client.is_asked() {
+                    return Err(SessionFault::Asked);
+                }
+                Ok(client.coord())
+            }
+        }
+    }
+
+    /// How many operations of the transaction were answered at the member: 0 where it was not begun in this
+    /// run. Takes no memory.
+    pub fn carried(&self, t: Txn, member: u8) -> u16
+        ensures { result ≡ carried_in self.now t member }
+    {
+        match self.begun.get(&t) {
+            None => 0,
+            Some(client) => client.carried(member),
+        }
+    }
+
+    /// An operation of the transaction was answered. Want of memory leaves the sessions as they were.
+    pub fn answered(&mut self, t: Txn, site: Site, reply: Reply) -> Result<(), AllocError>
+        requires begun { holds self.old.sessions t ≡ true }
+        requires member { (1 ≤ site.member) × (site.member ≤ 16) }
+        requires count { carried_in self.old t site.member < 1024 }
+        ensures ok { OnOk result (self.new ≡ with_answered self.old t (record { site = site; reply = reply })) }
+        ensures err { OnErr result (self.new ≡ self.old) }
+    {
+        let Some(client) = self.begun.get_mut(&t) else {
+            unreachable!()
+        };
+        client.tell(Told { site, reply })
+    }
+
+    /// The participants of the transaction, ascending by member, each with its count.
+    pub fn parts(&self, alloc: Global, t: Txn) -> Result<Parts, AllocError>
+        requires begun { holds self.now.sessions t ≡ true }
+        ensures { IfOk result (λ parts. parts ≡ parts_in self.now t) }
+    {
+        match self.begun.get(&t) {
+            None => Ok(Parts::new(alloc)),
+            Some(client) => client.parts(),
+        }
+    }
+
+    /// The transaction was asked to end, and its coordinator answered. Takes no memory.
+    pub fn asked(&mut self, t: Txn)
+        requires begun { holds self.old.sessions t ≡ true }
+        ensures { self.new ≡ with_asked self.old t }
+    {
+        let Some(client) = self.begun.get_mut(&t) else {
+            unreachable!()
+        };
+        client.ask();
+    }
+}
+
+#[cfg(test)]
+mod tests {
+    use super::*;
+    use co_base::{Key, Op, Value};
+
+    fn fresh(alloc: Global) -> Option<Sessions> {
+        Sessions::attach(alloc, Txns::new(alloc)).ok()
+    }
+
+    fn a_write(alloc: Global) -> Option<Op> {
+        let key = Key::new(alloc, b"k").ok()?;
+        let value = Value::new(alloc, b"v").ok()?;
+        Some(Op::Write(key, value))
+    }
+
+    fn begin(alloc: Global, sessions: &mut Sessions, t: Txn) -> bool {
+        match sessions.may_begin(t) {
+            Ok(()) => sessions.begin(alloc, t, 2).is_ok(),
+            Err(_) => false,
+        }
+    }
+
+    fn write_at(alloc: Global, sessions: &mut Sessions, t: Txn, member: u8) -> bool {
+        let Some(op) = a_write(alloc) else {
+            return false;
+        };
+        if member < 1 {
+            return false;
+        }
+        if member > 16 {
+            return false;
+        }
+        if sessions.carried(t, member) >= 1024 {
+            return false;
+        }
+        match sessions.may_act(t) {
+            Ok(_) => sessions.answered(t, Site { member, op }, Reply::Done).is_ok(),
+            Err(_) => false,
+        }
+    }
+
+    fn parts_of(alloc: Global, sessions: &Sessions, t: Txn) -> Option<Parts> {
+        match sessions.may_act(t) {
+            Ok(_) => sessions.parts(alloc, t).ok(),
+            Err(_) => None,
+        }
+    }
+
+    fn ask(sessions: &mut Sessions, t: Txn) -> bool {
+        match sessions.may_act(t) {
+            Ok(_) => {
+                sessions.asked(t);
+                true
+            }
+            Err(_) => false,
+        }
+    }
+
+    #[test]
+    fn a_number_is_begun_once_and_acts_until_it_is_asked(rt: HostRuntime) {
+        let alloc = rt.alloc();
+        let Some(mut sessions) = fresh(alloc) else {
+            assert!(rt; false);
+            return;
+        };
+        assert!(rt; matches!(sessions.may_act(Txn(3)), Err(SessionFault::NotBegun)));
+        assert!(rt; begin(alloc, &mut sessions, Txn(7)));
+        assert!(rt; matches!(sessions.may_begin(Txn(7)), Err(SessionFault::Used)));
+        assert!(rt; matches!(sessions.may_act(Txn(7)), Ok(2)));
+        assert!(rt; ask(&mut sessions, Txn(7)));
+        assert!(rt; matches!(sessions.may_act(Txn(7)), Err(SessionFault::Asked)));
+    }
+
+    #[test]
+    fn participants_ascend_with_their_counts(rt: HostRuntime) {
+        let alloc = rt.alloc();
+        let Some(mut sessions) = fresh(alloc) else {
+            assert!(rt; false);
+            return;
+        };
+        assert!(rt; begin(alloc, &mut sessions, Txn(7)));
+        for member in [9, 2, 9, 16, 9] {
+            assert!(rt; write_at(alloc, &mut sessions, Txn(7), member));
+        }
+        for (member, count) in [(1, 0), (2, 1), (9, 3), (16, 1), (200, 0)] {
+            assert!(rt; sessions.carried(Txn(7), member) == count, "at {member}");
+        }
+        assert!(rt; sessions.carried(Txn(8), 9) == 0);
+        let Some(parts) = parts_of(alloc, &sessions, Txn(7)) else {
+            assert!(rt; false);
+            return;
+        };
+        assert!(rt; parts.len() == 3);
+        for (part, (member, count)) in parts.as_slice().iter().zip([(2, 1), (9, 3), (16, 1)]) {
+            assert!(rt; part.member == member && part.count == count);
+        }
+    }
+}

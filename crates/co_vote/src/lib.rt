@@ -1,0 +1,13 @@
+//! The two small decisions of a member: its ballot on a transaction, and what a timer does.
+//!
+//! `ballot` is the voting rule of commitment ordering (Raz, *The principle of commitment ordering*, VLDB
+//! 1992; the profile is this project's own) on the five values that it looks at.
+#![tactic(auto)]
+
+mod firing;
+mod verdict;
+mod voting;
+
+pub use firing::{Fire, Phase, timer};
+pub use verdict::Ballot;
+pub use voting::ballot;
