@@ -1,13 +1,13 @@
-// A library with one function.
+//! What every engine promises, whatever it keeps: the answers that the state of an engine gives.
+//!
+//! An engine stands for a state, by a relation of its own. Each call answers as that state does, and
+//! afterwards the engine stands for the state that the call leaves.
 #![tactic(auto)]
 
-ghost use Rattle.std.specs.Prelude.{◌≡◌};
-ghost use Rattle.co_engine.specs.Echo.{echo_of};
+mod answers;
+mod command;
+mod engine;
 
-// The `ensures` clause is the contract: what `echo` returns is `echo_of` of its argument, a definition
-// in `specs/Echo.antt`, which a caller's clause can cite too.
-pub fn echo(x: usize) -> usize
-    ensures { result ≡ echo_of x }
-{
-    x
-}
+pub use answers::{Dump, Seen};
+pub use command::{Answers, Command, Played};
+pub use engine::Engine;
