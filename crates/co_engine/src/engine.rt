@@ -29,14 +29,25 @@ pub trait Engine: Sized {
     ghost stands_for: { Self → EngineState → Type 0 };
 
     /// A new engine with these records, no installs, no active transactions and these voted ones.
-    fn restore(alloc: Global, kind: Kind, rows: Rows, voted: &[Prepared]) -> Result<Self, AllocError>
+    fn restore(
+        alloc: Global,
+        kind: Kind,
+        rows: Rows,
+        voted: &[Prepared],
+    ) -> Result<Self, AllocError>
         requires taken { takes kind }
         requires free { IsTrue (are_free voted.now) }
         ensures { IfOk result (λ engine. stands_for engine (restored kind (records_from rows) (votes_of voted.now))) };
 
     /// Reads a record, by a transaction that has neither voted nor been installed. The pairs of that
     /// transaction which are new are added.
-    fn read(&mut self, alloc: Global, t: Txn, key: &Key, pairs: &mut Pairs) -> Result<Seen, AllocError>
+    fn read(
+        &mut self,
+        alloc: Global,
+        t: Txn,
+        key: &Key,
+        pairs: &mut Pairs,
+    ) -> Result<Seen, AllocError>
         ensures seen { (b : EngineState) → stands_for self.old b → IsTrue (may_operate b t) → IfOk result (λ seen. seen ≡ seen_of b t (Read key.now)) }
         ensures state { (b : EngineState) → stands_for self.old b → IsTrue (may_operate b t) → OnOk result (stands_for self.new (after_operation b t (Read key.now))) }
         ensures pairs { (b : EngineState) → stands_for self.old b → IsTrue (may_operate b t) → OnOk result (AppendsNewPairs b (after_operation b t (Read key.now)) pairs.old pairs.new) }
@@ -44,7 +55,13 @@ pub trait Engine: Sized {
 
     /// Reads the records of a range, by a transaction that has neither voted nor been installed. The
     /// pairs of that transaction which are new are added.
-    fn scan(&mut self, alloc: Global, t: Txn, range: &Range, pairs: &mut Pairs) -> Result<Seen, AllocError>
+    fn scan(
+        &mut self,
+        alloc: Global,
+        t: Txn,
+        range: &Range,
+        pairs: &mut Pairs,
+    ) -> Result<Seen, AllocError>
         ensures seen { (b : EngineState) → stands_for self.old b → IsTrue (may_operate b t) → IfOk result (λ seen. seen ≡ seen_of b t (Scan range.now)) }
         ensures state { (b : EngineState) → stands_for self.old b → IsTrue (may_operate b t) → OnOk result (stands_for self.new (after_operation b t (Scan range.now))) }
         ensures pairs { (b : EngineState) → stands_for self.old b → IsTrue (may_operate b t) → OnOk result (AppendsNewPairs b (after_operation b t (Scan range.now)) pairs.old pairs.new) }
@@ -52,7 +69,14 @@ pub trait Engine: Sized {
 
     /// Writes a record, or takes it away where there is no value, by a transaction that has neither
     /// voted nor been installed. The pairs of that transaction which are new are added.
-    fn write(&mut self, alloc: Global, t: Txn, key: &Key, value: Option<&Value>, pairs: &mut Pairs) -> Result<Seen, AllocError>
+    fn write(
+        &mut self,
+        alloc: Global,
+        t: Txn,
+        key: &Key,
+        value: Option<&Value>,
+        pairs: &mut Pairs,
+    ) -> Result<Seen, AllocError>
         ensures seen { (b : EngineState) → stands_for self.old b → IsTrue (may_operate b t) → IfOk result (λ seen. seen ≡ seen_of b t (writing key.now (option_copied value.entry))) }
         ensures state { (b : EngineState) → stands_for self.old b → IsTrue (may_operate b t) → OnOk result (stands_for self.new (after_operation b t (writing key.now (option_copied value.entry)))) }
         ensures pairs { (b : EngineState) → stands_for self.old b → IsTrue (may_operate b t) → OnOk result (AppendsNewPairs b (after_operation b t (writing key.now (option_copied value.entry))) pairs.old pairs.new) }

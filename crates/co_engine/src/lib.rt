@@ -7,7 +7,10 @@
 mod answers;
 mod command;
 mod engine;
+mod known;
+mod player;
 
 pub use answers::{Dump, Seen};
 pub use command::{Answers, Command, Played};
 pub use engine::Engine;
+pub use player::play;
