@@ -20,6 +20,8 @@ mod rules;
 mod sets;
 mod stale;
 mod table;
+#[cfg(test)]
+mod tests;
 mod verdict;
 mod voting;
 
