@@ -1,0 +1,2 @@
+//! The disk model over the directory of logs.
+#![tactic(auto)]
