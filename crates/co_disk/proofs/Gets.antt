@@ -1,7 +1,10 @@
 -- What stands at a place of lists that were joined, cut or laid over.
-use Rattle.std.proofs.Common.{◌≡◌, ℕ, zero, suc, ◌+◌, ◌-◌, ◌<◌, ◌≤◌, List, [], ◌∷◌, ◌++◌, length, take, drop, refl, sym, ◌∙◌, ap, arith, length-append, length-drop}
+use Rattle.std.proofs.Common.{◌≡◌, ◌⊎◌, inl, inr, true, false, ℕ, zero, suc, ◌+◌, ◌-◌, ◌<◌, ◌≤◌, List, [], ◌∷◌, ◌++◌, length, take, drop, refl, sym, ◌∙◌, ap, arith, length-append, length-drop}
+use borrow.Rule.Slice.PartMut.{put_mid}
+use Rattle.std.proofs.lemmas.Slice.{put_mid-paste}
 use Rattle.std.proofs.lemmas.Bool.{cases_Bool}
-use Rattle.std.specs.Prelude.{Option, Some, None, slice_get, max, min}
+use Rattle.std.proofs.lemmas.Bool.Decides.{nat_tests}
+use Rattle.std.specs.Prelude.{Option, Some, None, slice_get, nat_lt, max, min}
 use Rattle.co_outside.specs.Overlay.{overlaid, IsTorn}
 
 pub get_left : (xs ys : List ℕ) (place : ℕ) → place < length xs → slice_get (xs ++ ys) place ≡ slice_get xs place
@@ -92,3 +95,56 @@ module _ (bytes : List ℕ) (at : ℕ) (piece : List ℕ) (within : at ≤ lengt
     before = get_before;
     behind = get_behind;
   }
+
+-- a piece laid into the front of bytes stands in their front
+pub overlaid_front : (bytes piece : List ℕ) (len at : ℕ) → len ≤ length bytes → at + length piece ≤ len → take len (overlaid bytes at piece) ≡ overlaid (take len bytes) at piece
+overlaid_front bytes piece len at le inside = same_everywhere _ _ (λ place. at_place place (cases_Bool (nat_lt place len)))
+  where
+    front : List ℕ
+    front = take len bytes
+
+    front_long : length (take len bytes) ≡ len
+    front_long = length_take len bytes le
+
+    within : at ≤ length (take len bytes)
+    within = omega (arith, front_long)
+
+    whole : at ≤ length bytes
+    whole = omega arith
+
+    long : length (overlaid bytes at piece) ≡ max (length bytes) (at + length piece)
+    long = length_overlaid bytes at piece whole
+
+    below : (place : ℕ) → place < len → (nat_lt place at ≡ true) ⊎ (nat_lt place at ≡ false) → slice_get (overlaid bytes at piece) place ≡ slice_get (overlaid (take len bytes) at piece) place
+    below place lt (inl before) =
+        let first : place < at = grind (arith, nat_tests) in
+        get_before bytes at piece whole place first ∙ sym (get_before (take len bytes) at piece within place first ∙ get_take len bytes place lt)
+    below place lt (inr from) = elim (cases_Bool (nat_lt place (at + length piece))) [
+      | inl in_piece ↦
+          let n = place - at in
+          let is : place ≡ at + n = grind (arith, nat_tests) in
+          let small : n < length piece = grind (arith, nat_tests) in
+          ap (λ p. slice_get (overlaid bytes at piece) p) is ∙ get_inside bytes at piece whole n small ∙ sym (ap (λ p. slice_get (overlaid (take len bytes) at piece) p) is ∙ get_inside (take len bytes) at piece within n small)
+      | inr behind ↦
+          let past : at + length piece ≤ place = grind (arith, nat_tests) in
+          get_behind bytes at piece whole place past ∙ sym (get_behind (take len bytes) at piece within place past ∙ get_take len bytes place lt)
+    ]
+
+    at_place : (place : ℕ) → (nat_lt place len ≡ true) ⊎ (nat_lt place len ≡ false) → slice_get (take len (overlaid bytes at piece)) place ≡ slice_get (overlaid (take len bytes) at piece) place
+    at_place place (inl less) =
+        let lt : place < len = grind (arith, nat_tests) in
+        get_take len (overlaid bytes at piece) place lt ∙ below place lt (cases_Bool (nat_lt place at))
+    at_place place (inr not_less) =
+        let past : len ≤ place = grind (arith, nat_tests) in
+        get_past (take len (overlaid bytes at piece)) place (omega (arith, length_take len (overlaid bytes at piece) (omega (arith, long))))
+        ∙ sym (get_past (overlaid (take len bytes) at piece) place (omega (arith, length_overlaid (take len bytes) at piece within, front_long)))
+
+-- a part that was written is a piece laid in
+pub part_overlaid : (bytes : List ℕ) (at count : ℕ) (part piece : List ℕ) → part ≡ piece → count ≡ length piece → put_mid at count bytes part ≡ overlaid bytes at piece
+part_overlaid bytes at count part piece same long =
+    put_mid-paste at count bytes part piece (length piece) same (sym long) refl
+    ∙ ap (λ (mid : List ℕ). take at bytes ++ mid ++ drop (at + length piece) bytes) (take_whole piece)
+  where
+    take_whole : (xs : List ℕ) → take (length xs) xs ≡ xs
+    take_whole [] = refl
+    take_whole (x ∷ xs) = ap (λ (l : List ℕ). x ∷ l) (take_whole xs)

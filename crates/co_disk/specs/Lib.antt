@@ -1,1 +1,2 @@
 pub mod DiskModel
+pub mod Kept

@@ -1,2 +1,5 @@
 //! The disk model over the directory of logs.
 #![tactic(auto)]
+
+mod image;
+mod touched;
