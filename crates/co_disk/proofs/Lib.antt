@@ -1,3 +1,4 @@
 pub mod Gets
 pub mod Images
 pub mod Fill
+pub mod Noted

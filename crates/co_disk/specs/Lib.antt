@@ -1,2 +1,4 @@
 pub mod DiskModel
 pub mod Kept
+pub mod Homes
+pub mod Laying

@@ -1,9 +1,10 @@
 //! Writes that are not stable yet, and the bytes that stood there before.
-ghost use Rattle.std.specs.Prelude.{◌≡◌, ◌≤◌, ◌<◌, ◌+◌, ◌++◌, length, take, drop, map, IfOk, true, false};
+ghost use Rattle.std.specs.Prelude.{◌≡◌, ◌≤◌, ◌<◌, ◌+◌, ◌++◌, [], length, take, drop, map, IfOk, IsOk, OnOk, OnErr, true, false};
 ghost use Rattle.co_outside.specs.Overlay.{overlaid};
-ghost use Rattle.co_disk.specs.DiskModel.{any_covers};
-ghost use Rattle.co_disk.specs.Kept.{entries, write_of, entry_of, taken_back, IsFit};
+ghost use Rattle.co_disk.specs.DiskModel.{any_covers, after_write};
+ghost use Rattle.co_disk.specs.Kept.{entries, write_of, entry_of, state_of, IsKept};
 
+use co_outside::lay;
 use std::alloc::{AllocError, Global};
 
 /// A write of one byte inside the length while nothing else was pending. It takes no memory.
@@ -89,5 +90,45 @@ pub(crate) fn take_back(
         at + before.len()
     } else {
         len
+    }
+}
+
+/// Lays a write over the bytes and notes it as pending. Want of memory leaves all as it was; a
+/// write of one byte inside the length while nothing is pending takes none.
+pub(crate) fn note(
+    alloc: Global,
+    bytes: &mut Vec<u8>,
+    first: &mut Option<FirstByte>,
+    touched: &mut Vec<Touched>,
+    at: u32,
+    piece: &[u8],
+) -> Result<(), AllocError>
+    requires kept { IsKept bytes.old.items (entries first.old touched.old.items) }
+    requires at { at ≤ length bytes.old.items }
+    requires end { at + length piece.now ≤ 268435456 }
+    ensures kept { IsKept bytes.new.items (entries first.new touched.new.items) }
+    ensures noted { OnOk result (state_of bytes.new.items (entries first.new touched.new.items) ≡ after_write (state_of bytes.old.items (entries first.old touched.old.items)) at piece.now) }
+    ensures read { OnOk result (bytes.new.items ≡ overlaid bytes.old.items at piece.now) }
+    ensures stays { OnErr result (state_of bytes.new.items (entries first.new touched.new.items) ≡ state_of bytes.old.items (entries first.old touched.old.items)) }
+    ensures memory { length piece.now ≡ 1 → at < length bytes.old.items → entries first.old touched.old.items ≡ [] → IsOk result }
+{
+    let from = at as usize;
+    if piece.len() == 1 && from < bytes.len() && touched.is_empty() && first.is_none() {
+        *first = Some(FirstByte {
+            at,
+            byte: piece[0],
+            before: bytes[from],
+        });
+        bytes[from] = piece[0];
+        return Ok(());
+    }
+    let len = touched.len();
+    touched.push(Touched::note(alloc, bytes, at, piece)?)?;
+    match lay(bytes, from, piece) {
+        Ok(()) => Ok(()),
+        Err(e) => {
+            touched.truncate(len);
+            Err(e)
+        }
     }
 }

@@ -16,17 +16,17 @@ loop-place-preserved c =
     let place = c.loop-place.place in
     elim c.if-is_covered.branch [
       | then-is_covered w ↦ record {
-          room = omega (arith, w.used-is);
-          within = omega (arith, w.bytes-is);
-          filled = λ sound long.
-              rw (w.bytes-is, w.used-is) (filled_touched _ c.args.with.now c.args.bytes.now place used c.loop-place.bytes (get_or c.args.with.now used 0) (c.loop-place.invariant.filled sound long) (sym c.is_covered.ensures ∙ w.if-is_covered.true) (omega arith) (omega arith) (slice_get-get_or c.args.with.now used 0 (omega arith)));
-        }
+        room = omega (arith, w.used-is);
+        within = omega (arith, w.bytes-is);
+        filled = λ sound long.
+            rw (w.bytes-is, w.used-is) (filled_touched _ c.args.with.now c.args.bytes.now place used c.loop-place.bytes (get_or c.args.with.now used 0) (c.loop-place.invariant.filled sound long) (sym c.is_covered.ensures ∙ w.if-is_covered.true) (omega arith) (omega arith) (slice_get-get_or c.args.with.now used 0 (omega arith)));
+      }
       | else-is_covered w ↦ record {
-          room = omega (arith, w.used-is);
-          within = omega (arith, w.bytes-is);
-          filled = λ sound long.
-              rw (w.bytes-is, w.used-is) (filled_untouched _ c.args.with.now c.args.bytes.now c.args.stable place used c.loop-place.bytes refl c.requires sound long (c.loop-place.invariant.filled sound long) (sym c.is_covered.ensures ∙ w.if-is_covered.false) (omega arith));
-        }
+        room = omega (arith, w.used-is);
+        within = omega (arith, w.bytes-is);
+        filled = λ sound long.
+            rw (w.bytes-is, w.used-is) (filled_untouched _ c.args.with.now c.args.bytes.now c.args.stable place used c.loop-place.bytes refl c.requires sound long (c.loop-place.invariant.filled sound long) (sym c.is_covered.ensures ∙ w.if-is_covered.false) (omega arith));
+      }
     ]
 
 pub returns-clause-chosen : goal.returns-clause-chosen
