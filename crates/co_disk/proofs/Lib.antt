@@ -2,3 +2,4 @@ pub mod Gets
 pub mod Images
 pub mod Fill
 pub mod Noted
+pub mod Lays

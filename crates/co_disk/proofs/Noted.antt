@@ -152,8 +152,7 @@ one_byte bytes None (t ∷ touched) at piece old none empty lt one was end kept 
 one_byte bytes None [] at piece old none empty lt one was end kept =
     let laid = set_overlaid bytes at piece lt one in
     let is = first_is bytes at piece (get_or piece 0 0) old lt one refl was in
-    let same : state_of (set bytes at (get_or piece 0 0)) (first_entry (record { at = at; byte = get_or piece 0 0; before = old }) ∷ []) ≡ state_of (overlaid bytes at piece) (entry bytes at piece ∷ []) = λ i. state_of (laid i) (is i ∷ []) in
-    (
+    let same : state_of (set bytes at (get_or piece 0 0)) (first_entry (record { at = at; byte = get_or piece 0 0; before = old }) ∷ []) ≡ state_of (overlaid bytes at piece) (entry bytes at piece ∷ []) = λ i. state_of (laid i) (is i ∷ []) in (
       rw (laid, is) (noted_kept bytes [] at piece (omega arith) end kept),
       same ∙ noted_state bytes [] at piece (omega arith),
     )
@@ -163,8 +162,7 @@ pub one_more : (bytes new_bytes : List ℕ) (first : Option FirstByte) (touched 
     → IsKept new_bytes (entries first new_touched) × (state_of new_bytes (entries first new_touched) ≡ after_write (state_of bytes (entries first touched)) at piece)
 one_more bytes new_bytes first touched new_touched t at piece within end same_at same_piece same_before laid pushed kept =
     let es : entries first new_touched ≡ entries first touched ++ entry bytes at piece ∷ [] =
-    ap (λ (ts : List Touched). entries first ts) pushed ∙ entries_more first touched t ∙ ap (λ e. entries first touched ++ e ∷ []) (entry_is bytes at piece (entry_of t) same_at same_piece same_before) in
-    (
+    ap (λ (ts : List Touched). entries first ts) pushed ∙ entries_more first touched t ∙ ap (λ e. entries first touched ++ e ∷ []) (entry_is bytes at piece (entry_of t) same_at same_piece same_before) in (
       rw (laid, es) (noted_kept bytes (entries first touched) at piece within end kept),
       rw (laid, es) (noted_state bytes (entries first touched) at piece within),
     )

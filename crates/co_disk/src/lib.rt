@@ -2,4 +2,5 @@
 #![tactic(auto)]
 
 mod image;
+mod laying;
 mod touched;

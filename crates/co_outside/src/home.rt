@@ -1,5 +1,5 @@
 //! The directory of logs.
-ghost use Rattle.std.specs.Prelude.{◌≡◌, ◌≢◌, ◌≤◌, ◌+◌, List, ℕ, Option, Some, length, take, max, option_map, OnOk, OnErr, IfOk, IsErrOf};
+ghost use Rattle.std.specs.Prelude.{◌≡◌, ◌≢◌, ◌≤◌, ◌+◌, List, ℕ, Option, None, Some, length, take, max, option_map, OnOk, OnErr, IfOk, IsErrOf};
 ghost use Rattle.co_outside.specs.declared.spot.Spot.{Spot};
 ghost use Rattle.co_outside.specs.declared.home.HomeFault.TheVariants.{Memory};
 ghost use Rattle.co_outside.specs.Home.{File, written, shortened, unclean, cleaned, OthersStay, IsCounted, IsTornFile};
@@ -94,6 +94,8 @@ pub trait Home {
     /// The first `most` bytes of the file, or all of a shorter one.
     fn read_all(&mut self, alloc: Global, spot: Spot, most: u32) -> Result<Vec<u8>, HomeFault>
         ensures bytes { IfOk result (λ v. gives self.old spot most v.items) }
+        ensures most { IfOk result (λ v. length v.items ≤ most) }
+        ensures reached { IfOk result (λ v. length v.items ≤ reach self.old spot) }
         ensures file { file self.new spot ≡ file self.old spot }
         ensures reach { reach self.new spot ≡ reach self.old spot }
         ensures others { OthersStay file reach entered spot self.old self.new }
@@ -113,6 +115,7 @@ pub trait Home {
         ensures written { OnOk result (file self.new spot ≡ option_map (written at piece.now) (file self.old spot)) }
         ensures reach { OnOk result (max (reach self.old spot) (at + length piece.now) ≤ reach self.new spot) }
         ensures torn { OnErr result (IsTornFile at (length piece.now) (file self.old spot) (file self.new spot)) }
+        ensures untold { OnErr result (file self.old spot ≡ None → file self.new spot ≡ None) }
         ensures kept { OnErr result (reach self.old spot ≤ reach self.new spot) }
         ensures memory { at + length piece.now ≤ reach self.old spot → IsErrOf result HomeFault.Memory → ⊥ }
         ensures others { OthersStay file reach entered spot self.old self.new }

@@ -121,7 +121,9 @@ impl Home for HomeStd {
             Ok(()) => folder::read(&self.rt, alloc, self.path.as_str(), most),
             Err(e) => Err(e),
         };
-        self.answer(spot, done)
+        let mut bytes = self.answer(spot, done)?;
+        bytes.truncate(most as usize);
+        Ok(bytes)
     }
 
     fn write_at(
