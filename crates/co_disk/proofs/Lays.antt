@@ -1,6 +1,9 @@
 -- The parts of an image are laid into a file.
 use Rattle.std.proofs.Common.{◌≡◌, ℕ, ◌+◌, ◌-◌, ◌<◌, ◌≤◌, ◌⊎◌, Bool, true, false, List, [], ◌∷◌, ◌++◌, length, take, drop, refl, sym, ◌∙◌, ap, subst, inl, inr, arith, length-drop}
-use Rattle.std.proofs.lemmas.List.{length-take}
+use Rattle.std.proofs.Common.{zero, suc, map, get_or}
+use Rattle.std.proofs.lemmas.List.{length-take, map-append, take_more}
+use Rattle.co_disk.specs.declared.touched.Touched.{Touched}
+use Rattle.co_disk.specs.Kept.{Entry, entry_of, write_of}
 use Rattle.std.proofs.lemmas.Bool.{cases_Bool}
 use Rattle.std.proofs.lemmas.Bool.Decides.{nat_tests}
 use Rattle.std.specs.Prelude.{Option, Some, None, Result, Ok, Err, OnOk, OnErr, slice_get, max, min, nat_lt, nat_le, option_map, ◌||◌}
@@ -121,3 +124,36 @@ at_ok (Err e) a b f = tt
 pub at_err : {T E : Type 0} (result : Result T E) {A B C : Type 0} → OnErr result A → OnErr result B → (A → B → C) → OnErr result C
 at_err (Ok x) a b f = tt
 at_err (Err e) a b f = f a b
+
+writes_of : List Touched → List Write
+writes_of touched = map write_of (map entry_of touched)
+
+-- one of the writes covers a place, so some write does
+pub covered_one : (place : ℕ) (touched : List Touched) (i : ℕ) (t : Touched) → i < length touched → t ≡ get_or touched i t → covers place (write_of (entry_of t)) ≡ true → any_covers place (map write_of (map entry_of touched)) ≡ true
+covered_one place [] i t lt is covered = absurd (omega arith)
+covered_one place (u ∷ touched) zero t lt is covered = ap (λ b. b || any_covers place (map write_of (map entry_of touched))) (ap (λ v. covers place (write_of (entry_of v))) (sym is) ∙ covered)
+covered_one place (u ∷ touched) (suc i) t lt is covered = or_true (covers place (write_of (entry_of u))) _ (covered_one place touched i t (omega arith) is covered)
+  where
+    or_true : (a b : Bool) → b ≡ true → a || b ≡ true
+    or_true true b h = refl
+    or_true false b h = h
+
+-- the writes up to the next one
+pub writes_take : (touched : List Touched) (i : ℕ) (t : Touched) → i < length touched → t ≡ get_or touched i t → map write_of (map entry_of (take (i + 1) touched)) ≡ map write_of (map entry_of (take i touched)) ++ write_of (entry_of t) ∷ []
+writes_take touched i t lt is =
+    ap (λ (ts : List Touched). map write_of (map entry_of ts)) (take_more touched i t lt ∙ ap (λ v. take i touched ++ v ∷ []) (sym is))
+    ∙ ap (λ (es : List Entry). map write_of es) (map-append entry_of (take i touched) (t ∷ []))
+    ∙ map-append write_of (map entry_of (take i touched)) (entry_of t ∷ [])
+
+-- before any part is laid
+pub laid_none : (disk : DiskState) (image : List ℕ) (file : Option File) (reach : ℕ) → IsImageIn disk file → IsLaidTo disk image [] file reach
+laid_none disk image file reach images = record {
+  images = images;
+  laid = λ f told place lt some. absurd (cc);
+  reached = λ place lt some. absurd (cc);
+}
+
+-- a fact that holds anyway holds at an error
+pub at_error : {T E : Type 0} (result : Result T E) (P : Type 0) → P → OnErr result P
+at_error (Ok x) P holds = tt
+at_error (Err e) P holds = holds

@@ -3,3 +3,4 @@ pub mod Images
 pub mod Fill
 pub mod Noted
 pub mod Lays
+pub mod Rests
