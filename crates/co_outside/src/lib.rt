@@ -20,6 +20,8 @@ mod source_memory;
 mod source_std;
 mod spot;
 mod stored;
+#[cfg(test)]
+mod tests;
 
 pub use home::{FailAt, Home, HomeCall, HomeFault};
 pub use home_memory::HomeMemory;
