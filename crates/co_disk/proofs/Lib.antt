@@ -4,3 +4,4 @@ pub mod Fill
 pub mod Noted
 pub mod Lays
 pub mod Rests
+pub mod Writes
