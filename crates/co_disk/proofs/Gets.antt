@@ -148,3 +148,13 @@ part_overlaid bytes at count part piece same long =
     take_whole : (xs : List ℕ) → take (length xs) xs ≡ xs
     take_whole [] = refl
     take_whole (x ∷ xs) = ap (λ (l : List ℕ). x ∷ l) (take_whole xs)
+
+-- lists that agree up to both ends are the same
+pub same_to : (xs ys : List ℕ) (n : ℕ) → max (length xs) (length ys) ≤ n → ((p : ℕ) → p < n → slice_get xs p ≡ slice_get ys p) → xs ≡ ys
+same_to xs ys n ends same = same_everywhere xs ys (λ p. at_place p (cases_Bool (nat_lt p n)))
+  where
+    at_place : (p : ℕ) → (nat_lt p n ≡ true) ⊎ (nat_lt p n ≡ false) → slice_get xs p ≡ slice_get ys p
+    at_place p (inl less) = same p (grind (arith, nat_tests))
+    at_place p (inr past) =
+        let le : n ≤ p = grind (arith, nat_tests) in
+        get_past xs p (omega arith) ∙ sym (get_past ys p (omega arith))

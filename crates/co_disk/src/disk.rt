@@ -1,10 +1,11 @@
 //! A disk over one file of the directory of logs.
 ghost use Rattle.std.specs.Prelude.{◌≡◌, ◌≤◌, ◌<◌, ◌+◌, ◌↔◌, [], List, ℕ, Some, length, slice_get, OnOk, OnErr, IfOk, IfErr, IsOk, IsErrOf};
 
+use crate::difference::first_difference;
 use crate::fault::DiskFault;
 use crate::touched::{FirstByte, Touched, note};
 use co_outside::{Home, Spot};
-use std::alloc::{AllocError, Global};
+use std::alloc::Global;
 use std::marker::Model;
 
 /// The most bytes of a file: 268,435,456.
@@ -127,5 +128,26 @@ impl Disk {
         self.first = None;
         self.touched.clear();
         Ok(())
+    }
+
+    /// Reads the file again. `Differs` comes exactly where it is not what a read of the disk gives,
+    /// with the first place and both bytes there; never over a home that tells the file.
+    pub fn reread<H: Home>(&mut self, home: &mut H) -> Result<(), DiskFault>
+        requires agrees { Agrees (H.file home.old self.old.spot) (H.reach home.old self.old.spot) (read_of self.old.state) }
+        ensures disk { self.new ≡ self.old }
+        ensures same { OnOk result (H.gives home.old self.old.spot 268435457 (read_of self.old.state)) }
+        ensures file { H.file home.new self.old.spot ≡ H.file home.old self.old.spot }
+        ensures rest { RestStays H.file H.reach H.entered H.faults self.old.spot home.old home.new }
+        ensures device { IsErrOf result DiskFault.Device → HasFailed H.faults H.last_failed self.old.spot home.old home.new }
+    {
+        let read = home.read_all(self.alloc, self.spot, MOST_BYTES + 1)?;
+        match first_difference(&self.bytes, &read) {
+            None => Ok(()),
+            Some(place) => Err(DiskFault::Differs {
+                at: place as u32,
+                kept: self.bytes.get(place).copied(),
+                read: read.get(place).copied(),
+            }),
+        }
     }
 }

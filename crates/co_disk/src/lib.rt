@@ -2,11 +2,16 @@
 //! leave of them.
 #![tactic(auto)]
 
+mod difference;
 mod disk;
 mod fault;
 mod image;
+mod laws;
 mod laying;
+#[cfg(test)]
+mod tests;
 mod touched;
 
 pub use disk::Disk;
 pub use fault::DiskFault;
+pub use laws::chosen_are_images;

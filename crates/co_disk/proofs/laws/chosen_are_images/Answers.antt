@@ -1,0 +1,8 @@
+use Rattle.co_disk.proofs.Images.{chosen_is_image, read_is_image}
+use Rattle.co_disk.proofs.laws.chosen_are_images.Goals as goal
+
+pub returns-clause-chosen : goal.returns-clause-chosen
+returns-clause-chosen c = chosen_is_image
+
+pub returns-clause-read : goal.returns-clause-read
+returns-clause-read c = read_is_image
