@@ -92,7 +92,7 @@ filled_untouched disk with old stable place used bytes front short sound long so
         let same : place ≡ p = grind (arith, nat_tests) in
         subst (λ q. slice_get bytes q ≡ left_at disk (Filled with) q) same (so_far.rest place (omega arith) ∙ is_stable (cases_Bool (nat_lt place stable)) ∙ sym left_here)
 
-rank_grows : (disk : DiskState) (place more : ℕ) → touched_before disk place ≤ touched_before disk (place + more)
+pub rank_grows : (disk : DiskState) (place more : ℕ) → touched_before disk place ≤ touched_before disk (place + more)
 rank_grows disk place zero = let e : place + 0 ≡ place = omega arith in omega (arith, ap (touched_before disk) e)
 rank_grows disk place (suc more) =
     let e : place + suc more ≡ suc (place + more) = omega arith in

@@ -5,3 +5,4 @@ pub mod Noted
 pub mod Lays
 pub mod Rests
 pub mod Writes
+pub mod Filling
