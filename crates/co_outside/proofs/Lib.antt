@@ -1,0 +1,3 @@
+pub mod Files
+pub mod Overlays
+pub mod TornFiles

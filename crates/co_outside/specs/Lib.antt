@@ -3,3 +3,9 @@ pub mod Source
 pub mod Sink
 pub mod SourceMemory
 pub mod SinkMemory
+pub mod Home
+pub mod Overlay
+pub mod Stored
+pub mod HomeMemory
+pub mod HomeMemoryLaws
+pub mod Untold

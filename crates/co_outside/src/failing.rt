@@ -1,6 +1,9 @@
 //! Calls that are to fail, for the forms in memory.
 ghost use Rattle.std.specs.Prelude.{◌≡◌, ◌-◌, ◌↔◌, IsTrue, Contains, map};
 
+use crate::home::{FailAt, HomeCall};
+use crate::spot::Spot;
+
 /// Counts one call: whether it is one of those that are to fail.
 ///
 /// Each number says how many calls there are until one that is to fail, itself included; 0 says
@@ -12,6 +15,23 @@ pub(crate) fn is_due(calls: &mut [u32]) -> bool
     let due = calls.iter().any(|n| *n == 1);
     for n in calls.iter_mut() {
         *n = n.saturating_sub(1);
+    }
+    due
+}
+
+/// The same for the calls of one kind on one spot.
+pub(crate) fn is_call_due(calls: &mut [FailAt], spot: Spot, call: HomeCall) -> bool
+    ensures { IsTrue result ↔ Contains calls.old (record { spot = spot; call = call; number = 1 }) }
+{
+    let due = calls.contains(&FailAt {
+        spot,
+        call,
+        number: 1,
+    });
+    for at in calls.iter_mut() {
+        if at.spot == spot && at.call == call {
+            at.number = at.number.saturating_sub(1);
+        }
     }
     due
 }

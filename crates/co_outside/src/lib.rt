@@ -6,16 +6,32 @@
 #![tactic(auto)]
 
 mod failing;
+mod folder;
+mod home;
+mod home_memory;
+mod home_std;
+mod home_twist;
+mod laying;
 mod sink;
 mod sink_memory;
 mod sink_std;
 mod source;
 mod source_memory;
 mod source_std;
+mod spot;
+mod stored;
+#[cfg(test)]
+mod tests;
 
+pub use home::{FailAt, Home, HomeCall, HomeFault};
+pub use home_memory::HomeMemory;
+pub use home_std::HomeStd;
+pub use home_twist::HomeTwist;
+pub use laying::lay;
 pub use sink::{Sink, SinkFault};
 pub use sink_memory::SinkMemory;
 pub use sink_std::SinkStd;
 pub use source::{Source, SourceFault, Taken};
 pub use source_memory::SourceMemory;
 pub use source_std::SourceStd;
+pub use spot::Spot;

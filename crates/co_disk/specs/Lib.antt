@@ -1,0 +1,6 @@
+pub mod DiskModel
+pub mod Kept
+pub mod Homes
+pub mod Laying
+pub mod Faults
+pub mod DiskView

@@ -1,0 +1,153 @@
+//! A disk over one file of the directory of logs.
+ghost use Rattle.std.specs.Prelude.{◌≡◌, ◌≤◌, ◌<◌, ◌+◌, ◌↔◌, [], List, ℕ, Some, length, slice_get, OnOk, OnErr, IfOk, IfErr, IsOk, IsErrOf};
+
+use crate::difference::first_difference;
+use crate::fault::DiskFault;
+use crate::touched::{FirstByte, Touched, note};
+use co_outside::{Home, Spot};
+use std::alloc::Global;
+use std::marker::Model;
+
+/// The most bytes of a file: 268,435,456.
+const MOST_BYTES: u32 = 268_435_456;
+
+/// The stable bytes and the pending writes of one file, which are written through to the home.
+///
+/// It keeps one buffer, what a read gives, and of each pending write its bytes and those that
+/// stood there before; a write costs its piece, and a sync no copy of the file.
+#[derive(Drop)]
+pub struct Disk {
+    alloc: Global,
+    spot: Spot,
+    bytes: Vec<u8>,
+    first: Option<FirstByte>,
+    touched: Vec<Touched>,
+}
+
+impl Model for Disk {
+    ghost use Rattle.co_disk.specs.DiskView.{DiskView};
+    ghost use Rattle.co_disk.specs.Kept.{entries, state_of, IsKept};
+
+    ghost Value = { DiskView };
+
+    ghost view = { λ d. record { spot = d.spot; state = state_of d.bytes.items (entries d.first d.touched.items) } };
+
+    ghost invariant = { λ d. IsKept d.bytes.items (entries d.first d.touched.items) };
+}
+
+impl Disk {
+    ghost use Rattle.co_outside.specs.Home.{File};
+    ghost use Rattle.co_disk.specs.DiskModel.{read_of, stable_disk, after_write, after_sync, IsImage, IsSound};
+    ghost use Rattle.co_disk.specs.Faults.{IsFirstDifference};
+    ghost use Rattle.co_disk.specs.Homes.{Agrees, IsImageIn, IsClean, RestStays, HasFailed};
+
+    /// Reads the file of a spot; all its bytes are stable. `Long` comes where it has more than
+    /// 268,435,456 bytes, `Device` only where the home failed.
+    pub fn attach<H: Home>(alloc: Global, home: &mut H, spot: Spot) -> Result<Disk, DiskFault>
+        ensures spot { IfOk result (λ d. d.spot ≡ spot) }
+        ensures state { IfOk result (λ d. H.gives home.old spot 268435457 d.state.stable × (d.state ≡ stable_disk d.state.stable)) }
+        ensures short { IfOk result (λ d. length d.state.stable ≤ 268435456) }
+        ensures agrees { IfOk result (λ d. Agrees (H.file home.new spot) (H.reach home.new spot) d.state.stable) }
+        ensures long { IsErrOf result DiskFault.Long → (f : File) → H.file home.old spot ≡ Some f → 268435456 < length f.bytes }
+        ensures file { H.file home.new spot ≡ H.file home.old spot }
+        ensures rest { RestStays H.file H.reach H.entered H.faults spot home.old home.new }
+        ensures device { IsErrOf result DiskFault.Device → HasFailed H.faults H.last_failed spot home.old home.new }
+    {
+        let bytes = home.read_all(alloc, spot, MOST_BYTES + 1)?;
+        if bytes.len() > MOST_BYTES as usize {
+            return Err(DiskFault::Long);
+        }
+        Ok(Disk {
+            alloc,
+            spot,
+            bytes,
+            first: None,
+            touched: Vec::new(alloc),
+        })
+    }
+
+    /// What a read gives: the stable bytes with the pending writes laid over them in order.
+    pub fn bytes(&self) -> &[u8]
+        ensures read { result.now ≡ read_of self.now.state }
+        ensures short { length result.now ≤ 268435456 }
+        ensures sound { IsSound self.now.state }
+    {
+        self.bytes.as_slice()
+    }
+
+    /// The spot of its file.
+    pub fn spot(&self) -> Spot
+        ensures { result ≡ self.now.spot }
+    {
+        self.spot
+    }
+
+    /// Writes a piece, which is pending until a sync.
+    pub fn write_at<H: Home>(
+        &mut self,
+        home: &mut H,
+        at: u32,
+        piece: &[u8],
+    ) -> Result<(), DiskFault>
+        requires agrees { Agrees (H.file home.old self.old.spot) (H.reach home.old self.old.spot) (read_of self.old.state) }
+        requires at { at ≤ length (read_of self.old.state) }
+        requires end { at + length piece.now ≤ 268435456 }
+        ensures spot { self.new.spot ≡ self.old.spot }
+        ensures written { OnOk result (self.new.state ≡ after_write self.old.state at piece.now) }
+        ensures agrees { OnOk result (Agrees (H.file home.new self.old.spot) (H.reach home.new self.old.spot) (read_of self.new.state)) }
+        ensures image { IsImageIn (after_write self.old.state at piece.now) (H.file home.new self.old.spot) }
+        ensures memory { length piece.now ≡ 1 → at < length (read_of self.old.state) → self.old.state.pending ≡ [] → IsErrOf result DiskFault.Memory → ⊥ }
+        ensures rest { RestStays H.file H.reach H.entered H.faults self.old.spot home.old home.new }
+        ensures device { IsErrOf result DiskFault.Device → HasFailed H.faults H.last_failed self.old.spot home.old home.new }
+    {
+        note(
+            self.alloc,
+            &mut self.bytes,
+            &mut self.first,
+            &mut self.touched,
+            at,
+            piece,
+        )?;
+        home.write_at(self.alloc, self.spot, at, piece)?;
+        Ok(())
+    }
+
+    /// Makes every pending write stable. Never answers `Memory`.
+    pub fn sync<H: Home>(&mut self, home: &mut H) -> Result<(), DiskFault>
+        requires agrees { Agrees (H.file home.old self.old.spot) (H.reach home.old self.old.spot) (read_of self.old.state) }
+        ensures spot { self.new.spot ≡ self.old.spot }
+        ensures synced { OnOk result (self.new.state ≡ after_sync self.old.state) }
+        ensures agrees { OnOk result (Agrees (H.file home.new self.old.spot) (H.reach home.new self.old.spot) (read_of self.new.state)) }
+        ensures clean { OnOk result (IsClean (H.file home.new self.old.spot)) }
+        ensures image { IsImageIn self.old.state (H.file home.new self.old.spot) }
+        ensures memory { IsErrOf result DiskFault.Memory → ⊥ }
+        ensures rest { RestStays H.file H.reach H.entered H.faults self.old.spot home.old home.new }
+        ensures device { IsErrOf result DiskFault.Device → HasFailed H.faults H.last_failed self.old.spot home.old home.new }
+    {
+        home.sync(self.spot)?;
+        self.first = None;
+        self.touched.clear();
+        Ok(())
+    }
+
+    /// Reads the file again. `Differs` comes exactly where it is not what a read of the disk gives,
+    /// with the first place and both bytes there; never over a home that tells the file.
+    pub fn reread<H: Home>(&mut self, home: &mut H) -> Result<(), DiskFault>
+        requires agrees { Agrees (H.file home.old self.old.spot) (H.reach home.old self.old.spot) (read_of self.old.state) }
+        ensures disk { self.new ≡ self.old }
+        ensures same { OnOk result (H.gives home.old self.old.spot 268435457 (read_of self.old.state)) }
+        ensures file { H.file home.new self.old.spot ≡ H.file home.old self.old.spot }
+        ensures rest { RestStays H.file H.reach H.entered H.faults self.old.spot home.old home.new }
+        ensures device { IsErrOf result DiskFault.Device → HasFailed H.faults H.last_failed self.old.spot home.old home.new }
+    {
+        let read = home.read_all(self.alloc, self.spot, MOST_BYTES + 1)?;
+        match first_difference(&self.bytes, &read) {
+            None => Ok(()),
+            Some(place) => Err(DiskFault::Differs {
+                at: place as u32,
+                kept: self.bytes.get(place).copied(),
+                read: read.get(place).copied(),
+            }),
+        }
+    }
+}

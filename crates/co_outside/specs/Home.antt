@@ -1,0 +1,50 @@
+-- What the calls of a home leave.
+use Rattle.std.specs.Prelude.{ℕ, ◌≤◌, ◌≡◌, ◌≢◌, Some, Bool, true, false, List, [], take, Option, Result, IsErrOf}
+use Rattle.co_outside.specs.declared.spot.Spot.{Spot}
+use Rattle.co_outside.specs.declared.home.HomeFault.{HomeFault}
+use Rattle.co_outside.specs.declared.home.HomeFault.TheVariants.{Failed}
+use Rattle.co_outside.specs.Faults.{HasRisen}
+use Rattle.co_outside.specs.Overlay.{overlaid, IsTorn}
+
+-- a file: its bytes, and whether it is clean, that is, stable since its last change
+pub record File : Type 0 where
+  pub bytes : List ℕ
+  pub clean : Bool
+
+-- an absent file is empty
+abbrev pub empty_file : File
+empty_file = record { bytes = []; clean = true }
+
+-- the file with a piece laid in; it is not clean then
+abbrev pub written : ℕ → List ℕ → File → File
+written at piece file = record { bytes = overlaid file.bytes at piece; clean = false }
+
+-- the file cut to a length; it is not clean then
+abbrev pub shortened : ℕ → File → File
+shortened len file = record { bytes = take len file.bytes; clean = false }
+
+-- the same bytes, not clean
+abbrev pub unclean : File → File
+unclean file = record { bytes = file.bytes; clean = false }
+
+-- the same bytes, clean
+abbrev pub cleaned : File → File
+cleaned file = record { bytes = file.bytes; clean = true }
+
+-- what a failed write leaves of a file that is told: it is told, torn and not clean
+abbrev pub IsTornFile : ℕ → ℕ → Option File → Option File → Type 0
+IsTornFile at count old new = (before : File) → old ≡ Some before → (after : File) × (new ≡ Some after) × (after.clean ≡ false) × IsTorn at count before.bytes after.bytes
+
+-- the files at all other spots stay as they were, and the directory stays entered
+pub record OthersStay {H : Type 0} (file : H → Spot → Option File) (reach : H → Spot → ℕ) (entered : H → Option (List ℕ)) (spot : Spot) (old new : H) : Type 0 where
+  pub files : (s : Spot) → s ≢ spot → file new s ≡ file old s
+  pub reaches : (s : Spot) → s ≢ spot → reach new s ≡ reach old s
+  pub directory : entered new ≡ entered old
+
+-- The count of faults never falls. Where the call failed the count rose, and the call's spot is that
+-- of the last failed call; else the last failed call is the one from before.
+pub record IsCounted {H T : Type 0} (faults : H → ℕ) (last_failed : H → Spot) (spot : Spot) (old new : H) (result : Result T HomeFault) : Type 0 where
+  pub count : faults old ≤ faults new
+  pub failed : IsErrOf result Failed → HasRisen (faults old) (faults new)
+  pub named : IsErrOf result Failed → last_failed new ≡ spot
+  pub kept : (IsErrOf result Failed → ⊥) → last_failed new ≡ last_failed old
