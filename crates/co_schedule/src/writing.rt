@@ -18,7 +18,7 @@ pub fn append_word(out: &mut Vec<u8>, word: &[u8]) -> Result<(), AllocError>
 }
 
 /// Appends a space and the number.
-pub fn append_number(out: &mut Vec<u8>, number: u32) -> Result<(), AllocError>
+pub fn append_number(out: &mut Vec<u8>, number: u64) -> Result<(), AllocError>
     ensures { OnOk result (out.new.items ≡ out.old.items ++ space ∷ decimal number) }
 {
     append_word(out, Buffer::new().format(number).as_bytes())
@@ -77,7 +77,7 @@ fn append_at_member(
     ensures { OnOk result (out.new.items ≡ out.old.items ++ spaced (form.now ∷ decimal txn ∷ member_word member ∷ [])) }
 {
     out.extend_from_slice(form)?;
-    append_number(out, txn.0)?;
+    append_number(out, u64::from(txn.0))?;
     append_member(out, member)
 }
 
@@ -90,7 +90,7 @@ fn append_at_coord(
     ensures { OnOk result (out.new.items ≡ out.old.items ++ spaced (form.now ∷ decimal txn ∷ coord_word coord ∷ [])) }
 {
     out.extend_from_slice(form)?;
-    append_number(out, txn.0)?;
+    append_number(out, u64::from(txn.0))?;
     append_coord(out, coord)
 }
 
@@ -98,7 +98,7 @@ fn append_of_txn(out: &mut Vec<u8>, form: &[u8], txn: Txn) -> Result<(), AllocEr
     ensures { OnOk result (out.new.items ≡ out.old.items ++ spaced (form.now ∷ decimal txn ∷ [])) }
 {
     out.extend_from_slice(form)?;
-    append_number(out, txn.0)
+    append_number(out, u64::from(txn.0))
 }
 
 fn append_of_node(out: &mut Vec<u8>, form: &[u8], node: Node) -> Result<(), AllocError>
@@ -118,7 +118,7 @@ fn append_from_coord(
     ensures { OnOk result (out.new.items ≡ out.old.items ++ behind (form.now ∷ decimal txn ∷ coord_word coord ∷ member_word member ∷ [])) }
 {
     append_word(out, form)?;
-    append_number(out, txn.0)?;
+    append_number(out, u64::from(txn.0))?;
     append_coord(out, coord)?;
     append_member(out, member)
 }
@@ -133,7 +133,7 @@ fn append_from_member(
     ensures { OnOk result (out.new.items ≡ out.old.items ++ behind (form.now ∷ decimal txn ∷ member_word member ∷ coord_word coord ∷ [])) }
 {
     append_word(out, form)?;
-    append_number(out, txn.0)?;
+    append_number(out, u64::from(txn.0))?;
     append_member(out, member)?;
     append_coord(out, coord)
 }
@@ -150,7 +150,7 @@ pub fn append_message(out: &mut Vec<u8>, message: &Message) -> Result<(), AllocE
             count,
         } => {
             append_from_coord(out, b"prepare", txn, coord, member)?;
-            append_number(out, u32::from(count))
+            append_number(out, u64::from(count))
         }
         Message::Vote {
             txn,
@@ -221,7 +221,7 @@ pub fn append_event(out: &mut Vec<u8>, event: &Event) -> Result<(), AllocError>
         Event::Restart(node) => append_of_node(out, b"restart", *node),
         Event::Arm { node, call, leaves } => {
             append_of_node(out, b"arm", *node)?;
-            append_number(out, u32::from(*call))?;
+            append_number(out, u64::from(*call))?;
             append_leaves(out, leaves)
         }
         Event::Checkpoint(node) => append_of_node(out, b"checkpoint", *node),
@@ -254,7 +254,7 @@ pub fn append_head(out: &mut Vec<u8>, head: &Head) -> Result<(), AllocError>
     out.extend_from_slice(b"members")?;
     append_kinds(out, head.kinds.as_slice())?;
     append_word(out, b"coords")?;
-    append_number(out, u32::from(head.coords))
+    append_number(out, u64::from(head.coords))
 }
 
 /// Appends the one line of the event, without a newline. `Long` comes exactly where the line has

@@ -1,0 +1,6 @@
+//! The items of a transcript, both ways.
+#![tactic(auto)]
+
+mod writing;
+
+pub use writing::put_item;
