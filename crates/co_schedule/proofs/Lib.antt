@@ -1,1 +1,4 @@
-pub mod Words
+pub mod Spaced
+pub mod Cutting
+pub mod Numbers
+pub mod Steps

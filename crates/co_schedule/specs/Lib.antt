@@ -1,2 +1,5 @@
 pub mod Words
 pub mod Spelling
+pub mod Places
+pub mod Grammar
+pub mod View

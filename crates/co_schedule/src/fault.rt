@@ -66,3 +66,13 @@ impl<T: Drop> From<AllocFailed<T>> for LineFault {
         LineFault::Memory
     }
 }
+
+/// What is wrong with a line, and how many bytes of the line there are from that place on.
+#[derive(Clone, Copy, Debug, PartialEq, Eq)]
+pub struct Mistake {
+    /// What is wrong.
+    pub kind: LineKind,
+    /// The count of bytes from the word that is wrong or too much to the end of the line, 0 where a
+    /// word is missing.
+    pub left: usize,
+}

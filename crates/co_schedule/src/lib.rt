@@ -2,9 +2,16 @@
 #![tactic(auto)]
 
 mod fault;
+mod form;
+mod view;
+mod word;
+mod words;
 mod writing;
 
-pub use fault::{LineFault, LineKind};
+pub use fault::{LineFault, LineKind, Mistake};
+pub use form::{Form, MessageForm, form_of, message_form_of};
+pub use view::{LeavesView, LineView};
+pub use words::Words;
 pub use writing::{
     LONGEST_LINE, append_event, append_head, append_message, append_node, append_number, append_word, put_line,
 };
