@@ -1,6 +1,6 @@
 -- One place of a line.
 use Rattle.std.proofs.Common.{◌≡◌, ℕ, ◌+◌, Bool, true, false, cond, List, [], ◌∷◌, length, map, Option, None, Some, Result, Ok, Err, refl, sym, ap, ◌∙◌, ◌||◌}
-use Rattle.std.specs.Prelude.{find}
+use Rattle.std.specs.Prelude.{find, IfSome, is_some}
 use Rattle.std.specs.List.{list_any}
 use Rattle.std.specs.Str.{bytes_eq}
 use Rattle.std.proofs.lemmas.Slice.Eq.{bytes_eq-Decides}
@@ -43,3 +43,15 @@ not_here word_of word x xs false e others = others e
 pub not_found_by_word : {F : Type 0} (word_of : F → Word) (word : Word) (all : List F) → find (λ x. bytes_eq (word_of x) word) all ≡ None → list_any (λ known. bytes_eq known word) (map word_of all) ≡ false
 not_found_by_word word_of word [] e = refl
 not_found_by_word word_of word (x ∷ xs) e = not_here word_of word x xs (bytes_eq (word_of x) word) e (not_found_by_word word_of word xs)
+
+-- what a table gives for a word has that word, and is what the table gives for its own
+pub table_finds : {F : Type 0} (word_of : F → Word) (word : Word) (all : List F) (r : Option F) → r ≡ find (λ x. bytes_eq (word_of x) word) all → IfSome r (λ f. (word ≡ word_of f) × (find (λ x. bytes_eq (word_of x) (word_of f)) all ≡ Some f))
+table_finds word_of word all None e = tt
+table_finds word_of word all (Some f) e =
+    let it = found_by_word word_of word all f (sym e) in
+    (it.0, ap (λ (w : Word). find (λ x. bytes_eq (word_of x) w) all) (sym it.0) ∙ sym e)
+
+-- a table gives something for its words alone
+pub table_tests : {F : Type 0} (word_of : F → Word) (word : Word) (all : List F) (r : Option F) → r ≡ find (λ x. bytes_eq (word_of x) word) all → is_some r ≡ list_any (λ known. bytes_eq known word) (map word_of all)
+table_tests word_of word all None e = sym (not_found_by_word word_of word all (sym e))
+table_tests word_of word all (Some f) e = sym (found_by_word word_of word all f (sym e)).1

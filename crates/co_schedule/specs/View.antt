@@ -97,8 +97,13 @@ IsEventFor members coords (event.Restart node) = IsNode members coords node
 IsEventFor members coords (event.Arm node call leaves) = IsNode members coords node × IsWithin 1 4 call × IsLeaves leaves
 IsEventFor members coords (event.Checkpoint node) = IsNode members coords node
 
--- the word is the one of this image
-abbrev pub SpellsLeaves : List ℕ → LeavesView → Type 0
-SpellsLeaves word lent.Old = word ≡ codes "old"
-SpellsLeaves word lent.New = word ≡ codes "new"
-SpellsLeaves word (lent.Digits digits) = (word ≡ 120 ∷ digits.now) × (is_hex digits.now ≡ true)
+-- the word that the image was lent from
+abbrev pub view_word : LeavesView → List ℕ
+view_word lent.Old = codes "old"
+view_word lent.New = codes "new"
+view_word (lent.Digits digits) = 120 ∷ digits.now
+
+abbrev pub IsSpelledLeaves : LeavesView → Type 0
+IsSpelledLeaves lent.Old = Unit {0}
+IsSpelledLeaves lent.New = Unit {0}
+IsSpelledLeaves (lent.Digits digits) = is_hex digits.now ≡ true

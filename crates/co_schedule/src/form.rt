@@ -1,6 +1,7 @@
 //! The first words of lines and messages.
-ghost use Rattle.std.specs.Prelude.{◌≡◌};
-ghost use Rattle.co_schedule.specs.Grammar.{form_word, form_named, message_word, message_named};
+ghost use Rattle.std.specs.Prelude.{◌≡◌, Some, IfSome, is_some, map};
+ghost use Rattle.co_schedule.specs.Places.{is_in, one_of};
+ghost use Rattle.co_schedule.specs.Grammar.{form_word, form_named, all_forms, message_word, message_named, all_messages};
 
 /// The forms of events.
 #[derive(Clone, Copy, Debug, PartialEq, Eq)]
@@ -65,11 +66,18 @@ fn word_of(form: Form) -> &'static [u8]
     }
 }
 
-/// The form whose word this is.
-pub fn form_of(word: &[u8]) -> Option<Form>
+fn find_form(word: &[u8]) -> Option<Form>
     ensures { result ≡ form_named word.now }
 {
     FORMS.iter().copied().find(|form| word_of(*form) == word)
+}
+
+/// The form whose word this is.
+pub fn form_of(word: &[u8]) -> Option<Form>
+    ensures found { IfSome result (λ form. (word.now ≡ form_word form) × (form_named (form_word form) ≡ Some form)) }
+    ensures test { is_some result ≡ is_in (one_of (map form_word all_forms)) word.now }
+{
+    find_form(word)
 }
 
 /// The kinds of messages.
@@ -102,9 +110,16 @@ fn message_word_of(form: MessageForm) -> &'static [u8]
     }
 }
 
-/// The kind of message whose word this is.
-pub fn message_form_of(word: &[u8]) -> Option<MessageForm>
+fn find_message_form(word: &[u8]) -> Option<MessageForm>
     ensures { result ≡ message_named word.now }
 {
     MESSAGE_FORMS.iter().copied().find(|form| message_word_of(*form) == word)
+}
+
+/// The kind of message whose word this is.
+pub fn message_form_of(word: &[u8]) -> Option<MessageForm>
+    ensures found { IfSome result (λ form. (word.now ≡ message_word form) × (message_named (message_word form) ≡ Some form)) }
+    ensures test { is_some result ≡ is_in (one_of (map message_word all_messages)) word.now }
+{
+    find_message_form(word)
 }

@@ -2,6 +2,7 @@
 #![tactic(auto)]
 
 mod fault;
+mod fields;
 mod form;
 mod view;
 mod word;

@@ -3,7 +3,7 @@ ghost use Rattle.std.specs.Prelude.{◌∷◌, ◌||◌, is_some, ◌≡◌, ◌
 ghost use Rattle.std.specs.List.{list_all};
 ghost use Rattle.co_schedule.specs.Places.{is_text, is_hex, is_lower_digit, is_visible, is_number, is_named, is_leaves};
 ghost use Rattle.co_schedule.specs.Spelling.{node_word};
-ghost use Rattle.co_schedule.specs.View.{IsWithin, IsNode, SpellsLeaves};
+ghost use Rattle.co_schedule.specs.View.{IsWithin, IsNode, IsSpelledLeaves, view_word};
 
 use crate::view::LeavesView;
 use co_base::Node;
@@ -105,7 +105,7 @@ pub fn node_within(word: &[u8], members: u8, coords: u8) -> Option<Node>
 
 /// The chosen image that the word spells.
 pub fn leaves_of_word(word: &[u8]) -> Option<LeavesView<'_>>
-    ensures found { IfSome result (λ leaves. SpellsLeaves word.now leaves) }
+    ensures found { IfSome result (λ leaves. IsSpelledLeaves leaves × (word.now ≡ view_word leaves)) }
     ensures test { is_some result ≡ is_leaves word.now }
 {
     if word == b"old".as_slice() {

@@ -37,6 +37,7 @@ fn cut(line: &[u8]) -> (&[u8], Option<&[u8]>)
 }
 
 /// A word, and the count of bytes from its start to the end of the line.
+#[derive(Clone, Copy)]
 pub struct Piece<'a> {
     pub word: &'a [u8],
     pub left: usize,
