@@ -1,5 +1,5 @@
 -- The one spelling of each event, as the list of its words.
-use Rattle.std.specs.Prelude.{ℕ, List, [], ◌∷◌, ◌++◌, map, Bool, true, false, codes, decimal}
+use Rattle.std.specs.Prelude.{ℕ, List, [], ◌∷◌, ◌++◌, map, Bool, if◌then◌else◌, codes, decimal}
 use Rattle.hex.specs.Hex.{encode_lower}
 use Rattle.co_base.specs.Span.{Span}
 use Rattle.co_base.specs.declared.node.Node.{Node}
@@ -39,12 +39,10 @@ leaves_word New = codes "new"
 leaves_word (Filled bytes) = 120 ∷ encode_lower bytes
 
 abbrev pub vote_word : Bool → Word
-vote_word true = codes "yes"
-vote_word false = codes "no"
+vote_word in_favour = if in_favour then codes "yes" else codes "no"
 
 abbrev pub decision_word : Bool → Word
-decision_word true = codes "commit"
-decision_word false = codes "abort"
+decision_word commit = if commit then codes "commit" else codes "abort"
 
 -- a message: its kind, the transaction, the sender, the receiver, and what it says
 abbrev pub message_words : Message → List Word

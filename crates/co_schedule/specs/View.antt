@@ -1,5 +1,5 @@
 -- The event that a view of a line stands for, and the events that a federation has lines for.
-use Rattle.std.specs.Prelude.{ℕ, ◌≤◌, ◌≡◌, false, true, List, [], ◌∷◌, codes, Result, All, ◌<◌}
+use Rattle.std.specs.Prelude.{ℕ, ◌≤◌, ◌≡◌, false, true, List, [], ◌∷◌, codes, decimal, Result, All, ◌<◌}
 use Rattle.std.specs.Result.{result_unwrap_or}
 use Rattle.std.specs.Ordering.{is_gt}
 use Rattle.hex.specs.Hex.{decode_of}
@@ -14,7 +14,9 @@ use Rattle.co_message.specs.declared.message.Message.{Message}
 use Rattle.co_message.specs.declared.message.Message.TheVariants as message
 use Rattle.co_message.specs.declared.event.Event.{Event}
 use Rattle.co_message.specs.declared.event.Event.TheVariants as event
-use Rattle.co_schedule.specs.Places.{is_hex}
+use Rattle.co_schedule.specs.Words.{Word}
+use Rattle.co_schedule.specs.Spelling.{member_word, coord_word, node_word, message_words}
+use Rattle.co_schedule.specs.Places.{is_hex, is_text}
 use Rattle.co_schedule.specs.declared.view.LineView.{LineView}
 use Rattle.co_schedule.specs.declared.view.LineView.TheVariants as view
 use Rattle.co_schedule.specs.declared.view.LeavesView.{LeavesView}
@@ -107,3 +109,41 @@ abbrev pub IsSpelledLeaves : LeavesView → Type 0
 IsSpelledLeaves lent.Old = Unit {0}
 IsSpelledLeaves lent.New = Unit {0}
 IsSpelledLeaves (lent.Digits digits) = is_hex digits.now ≡ true
+
+-- the words that a view was lent from
+abbrev pub view_words : LineView → List Word
+view_words (view.Begin txn coord) = codes "begin" ∷ decimal txn ∷ coord_word coord ∷ []
+view_words (view.Read txn member key) = codes "read" ∷ decimal txn ∷ member_word member ∷ key.now ∷ []
+view_words (view.Write txn member key value) = codes "write" ∷ decimal txn ∷ member_word member ∷ key.now ∷ value.now ∷ []
+view_words (view.Erase txn member key) = codes "erase" ∷ decimal txn ∷ member_word member ∷ key.now ∷ []
+view_words (view.Scan txn member lo hi) = codes "scan" ∷ decimal txn ∷ member_word member ∷ lo.now ∷ hi.now ∷ []
+view_words (view.Commit txn) = codes "commit" ∷ decimal txn ∷ []
+view_words (view.Abort txn) = codes "abort" ∷ decimal txn ∷ []
+view_words (view.Deliver message) = codes "deliver" ∷ message_words message
+view_words (view.Vote txn member) = codes "vote" ∷ decimal txn ∷ member_word member ∷ []
+view_words (view.Timer txn node) = codes "timer" ∷ decimal txn ∷ node_word node ∷ []
+view_words (view.Ask txn member) = codes "ask" ∷ decimal txn ∷ member_word member ∷ []
+view_words (view.Resend txn coord) = codes "resend" ∷ decimal txn ∷ coord_word coord ∷ []
+view_words (view.Crash node) = codes "crash" ∷ node_word node ∷ []
+view_words (view.Restart node) = codes "restart" ∷ node_word node ∷ []
+view_words (view.Arm node call leaves) = codes "arm" ∷ node_word node ∷ decimal call ∷ view_word leaves ∷ []
+view_words (view.Checkpoint node) = codes "checkpoint" ∷ node_word node ∷ []
+
+-- what was lent is in its sets
+abbrev pub IsViewFor : ℕ → ℕ → LineView → Type 0
+IsViewFor members coords (view.Begin txn coord) = IsTxn txn × IsWithin 1 coords coord
+IsViewFor members coords (view.Read txn member key) = IsTxn txn × IsWithin 1 members member × (is_text most_key_bytes key.now ≡ true)
+IsViewFor members coords (view.Write txn member key value) = IsTxn txn × IsWithin 1 members member × (is_text most_key_bytes key.now ≡ true) × (is_text most_value_bytes value.now ≡ true)
+IsViewFor members coords (view.Erase txn member key) = IsTxn txn × IsWithin 1 members member × (is_text most_key_bytes key.now ≡ true)
+IsViewFor members coords (view.Scan txn member lo hi) = IsTxn txn × IsWithin 1 members member × (is_text most_key_bytes lo.now ≡ true) × (is_text most_key_bytes hi.now ≡ true) × (is_gt (key_cmp lo.now hi.now) ≡ false)
+IsViewFor members coords (view.Commit txn) = IsTxn txn
+IsViewFor members coords (view.Abort txn) = IsTxn txn
+IsViewFor members coords (view.Deliver message) = IsMessageFor members coords message
+IsViewFor members coords (view.Vote txn member) = IsTxn txn × IsWithin 1 members member
+IsViewFor members coords (view.Timer txn node) = IsTxn txn × IsNode members coords node
+IsViewFor members coords (view.Ask txn member) = IsTxn txn × IsWithin 1 members member
+IsViewFor members coords (view.Resend txn coord) = IsTxn txn × IsWithin 1 coords coord
+IsViewFor members coords (view.Crash node) = IsNode members coords node
+IsViewFor members coords (view.Restart node) = IsNode members coords node
+IsViewFor members coords (view.Arm node call leaves) = IsNode members coords node × IsWithin 1 4 call × IsSpelledLeaves leaves
+IsViewFor members coords (view.Checkpoint node) = IsNode members coords node

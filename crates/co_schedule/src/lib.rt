@@ -1,16 +1,20 @@
 //! Schedule lines, both ways.
 #![tactic(auto)]
 
+mod counts;
 mod fault;
 mod fields;
 mod form;
+mod reading;
 mod view;
 mod word;
 mod words;
 mod writing;
 
+pub use counts::NodeCounts;
 pub use fault::{LineFault, LineKind, Mistake};
 pub use form::{Form, MessageForm, form_of, message_form_of};
+pub use reading::read_message;
 pub use view::{LeavesView, LineView};
 pub use words::Words;
 pub use writing::{
