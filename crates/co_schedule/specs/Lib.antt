@@ -3,3 +3,4 @@ pub mod Spelling
 pub mod Places
 pub mod Grammar
 pub mod View
+pub mod Faults

@@ -2,7 +2,7 @@
 use Rattle.std.specs.Prelude.{ℕ, ◌≤◌, ◌≡◌, false, true, List, [], ◌∷◌, codes, decimal, Result, All, ◌<◌}
 use Rattle.std.specs.Result.{result_unwrap_or}
 use Rattle.std.specs.Ordering.{is_gt}
-use Rattle.hex.specs.Hex.{decode_of}
+use Rattle.hex.specs.Hex.{decode_of, IsBytes}
 use Rattle.co_base.specs.Letters.{IsText, most_key_bytes, most_value_bytes}
 use Rattle.co_base.specs.Order.{key_cmp}
 use Rattle.co_base.specs.Span.{Span}
@@ -67,7 +67,7 @@ IsCount count = count ≤ 65535
 abbrev pub IsLeaves : Leaves → Type 0
 IsLeaves leaves.Old = Unit {0}
 IsLeaves leaves.New = Unit {0}
-IsLeaves (leaves.Filled bytes) = All (λ byte. byte < 256) bytes
+IsLeaves (leaves.Filled bytes) = IsBytes bytes
 
 abbrev pub IsKey : List ℕ → Type 0
 IsKey = IsText most_key_bytes

@@ -14,7 +14,7 @@ mod writing;
 pub use counts::NodeCounts;
 pub use fault::{LineFault, LineKind, Mistake};
 pub use form::{Form, MessageForm, form_of, message_form_of};
-pub use reading::read_message;
+pub use reading::{read_event, read_line, read_message};
 pub use view::{LeavesView, LineView};
 pub use words::Words;
 pub use writing::{

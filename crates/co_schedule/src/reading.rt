@@ -1,20 +1,23 @@
 //! Lines as events.
-ghost use Rattle.std.specs.Prelude.{◌≡◌, [], ◌∷◌, codes, decimal, true, false, Some, IfOk, IfErr};
+ghost use Rattle.std.specs.Prelude.{◌≡◌, ◌<◌, ◌≤◌, ◌↔◌, [], ◌∷◌, length, codes, decimal, true, false, Some, Err, IfOk, IfErr, IsOkAnd};
 ghost use Rattle.std.specs.Ordering.{is_gt};
 ghost use Rattle.co_base.specs.Letters.{most_key_bytes, most_value_bytes};
 ghost use Rattle.co_base.specs.Order.{key_cmp};
 ghost use Rattle.co_schedule.specs.Words.{words_of};
-ghost use Rattle.co_schedule.specs.Spelling.{member_word, coord_word, node_word, message_words};
+ghost use Rattle.co_schedule.specs.Spelling.{member_word, coord_word, node_word, message_words, event_words, line_text};
+ghost use Rattle.co_schedule.specs.Faults.{fault_of_kind, fault_in};
+ghost use Rattle.co_message.specs.declared.event.Event.{Event};
 ghost use Rattle.co_schedule.specs.Places.{number, member, coord, node, key, key_from, value, one_of, leaves, is_text, nothing, place, ◌▸◌, first_fault};
 ghost use Rattle.co_schedule.specs.Grammar.{txn, count, call, answers, decisions, form_word, message_word, message_fields, message_places, event_fields, event_places};
-ghost use Rattle.co_schedule.specs.View.{IsWithin, IsNode, IsTxn, IsCount, IsMessageFor, IsSpelledLeaves, view_word, view_words, IsViewFor};
+ghost use Rattle.co_schedule.specs.View.{IsWithin, IsNode, IsTxn, IsCount, IsMessageFor, IsSpelledLeaves, view_word, view_words, event_of, IsEventFor, IsViewFor};
 
 use crate::counts::NodeCounts;
-use crate::fault::Mistake;
+use crate::fault::{LineFault, LineKind, Mistake};
 use crate::form::{Form, MessageForm};
 use crate::view::{LeavesView, LineView};
 use crate::words::Words;
-use co_base::{Node, Txn};
+use crate::writing::LONGEST_LINE;
+use co_base::{Head, Node, Txn};
 use co_message::Message;
 
 fn txn_alone(words: &mut Words<'_>) -> Result<Txn, Mistake>
@@ -65,15 +68,34 @@ fn node_alone(words: &mut Words<'_>, nodes: NodeCounts) -> Result<Node, Mistake>
     Ok(node)
 }
 
-fn key_at<'a>(words: &mut Words<'a>, nodes: NodeCounts) -> Result<(Txn, u8, &'a [u8]), Mistake>
-    ensures found { IfOk result (λ x. IsTxn x.0 × IsWithin 1 nodes.members x.1 × (is_text most_key_bytes x.2.now ≡ true) × (words.old ≡ decimal x.0 ∷ member_word x.1 ∷ x.2.now ∷ [])) }
-    ensures fault { IfErr result (λ mistake. first_fault (txn ▸ member nodes.members ▸ key ▸ nothing) words.old ≡ Some mistake) }
+fn read<'a>(words: &mut Words<'a>, nodes: NodeCounts) -> Result<LineView<'a>, Mistake>
+    ensures found { IfOk result (λ view. IsViewFor nodes.members nodes.coords view × (codes "read" ∷ words.old ≡ view_words view)) }
+    ensures fault { IfErr result (λ mistake. first_fault (event_fields nodes.members nodes.coords Form.Read) words.old ≡ Some mistake) }
 {
     let number = words.number(0, u32::MAX)?;
     let member = words.member(nodes.members)?;
     let key = words.key()?;
     words.end()?;
-    Ok((Txn(number), member, key))
+    Ok(LineView::Read {
+        txn: Txn(number),
+        member,
+        key,
+    })
+}
+
+fn erase<'a>(words: &mut Words<'a>, nodes: NodeCounts) -> Result<LineView<'a>, Mistake>
+    ensures found { IfOk result (λ view. IsViewFor nodes.members nodes.coords view × (codes "erase" ∷ words.old ≡ view_words view)) }
+    ensures fault { IfErr result (λ mistake. first_fault (event_fields nodes.members nodes.coords Form.Erase) words.old ≡ Some mistake) }
+{
+    let number = words.number(0, u32::MAX)?;
+    let member = words.member(nodes.members)?;
+    let key = words.key()?;
+    words.end()?;
+    Ok(LineView::Erase {
+        txn: Txn(number),
+        member,
+        key,
+    })
 }
 
 fn write<'a>(words: &mut Words<'a>, nodes: NodeCounts) -> Result<LineView<'a>, Mistake>
@@ -217,4 +239,124 @@ pub fn read_message(words: &mut Words<'_>, nodes: NodeCounts) -> Result<Message,
 {
     let form = words.message_form()?;
     message_of(words, nodes, form)
+}
+
+fn view_of<'a>(
+    words: &mut Words<'a>,
+    nodes: NodeCounts,
+    form: Form,
+) -> Result<LineView<'a>, Mistake>
+    ensures found { IfOk result (λ view. IsViewFor nodes.members nodes.coords view × (form_word form ∷ words.old ≡ view_words view)) }
+    ensures fault { IfErr result (λ mistake. first_fault (event_fields nodes.members nodes.coords form) words.old ≡ Some mistake) }
+{
+    match form {
+        Form::Begin => {
+            let (txn, coord) = txn_and_coord(words, nodes)?;
+            Ok(LineView::Begin { txn, coord })
+        }
+        Form::Read => read(words, nodes),
+        Form::Write => write(words, nodes),
+        Form::Erase => erase(words, nodes),
+        Form::Scan => scan(words, nodes),
+        Form::Commit => {
+            let txn = txn_alone(words)?;
+            Ok(LineView::Commit { txn })
+        }
+        Form::Abort => {
+            let txn = txn_alone(words)?;
+            Ok(LineView::Abort { txn })
+        }
+        Form::Deliver => {
+            let message = read_message(words, nodes)?;
+            Ok(LineView::Deliver(message))
+        }
+        Form::Vote => {
+            let (txn, member) = txn_and_member(words, nodes)?;
+            Ok(LineView::Vote { txn, member })
+        }
+        Form::Timer => {
+            let (txn, node) = txn_and_node(words, nodes)?;
+            Ok(LineView::Timer { txn, node })
+        }
+        Form::Ask => {
+            let (txn, member) = txn_and_member(words, nodes)?;
+            Ok(LineView::Ask { txn, member })
+        }
+        Form::Resend => {
+            let (txn, coord) = txn_and_coord(words, nodes)?;
+            Ok(LineView::Resend { txn, coord })
+        }
+        Form::Crash => {
+            let node = node_alone(words, nodes)?;
+            Ok(LineView::Crash(node))
+        }
+        Form::Restart => {
+            let node = node_alone(words, nodes)?;
+            Ok(LineView::Restart(node))
+        }
+        Form::Arm => arm(words, nodes),
+        Form::Checkpoint => {
+            let node = node_alone(words, nodes)?;
+            Ok(LineView::Checkpoint(node))
+        }
+    }
+}
+
+/// Reads an event, which is all that is left.
+pub fn read_event<'a>(words: &mut Words<'a>, nodes: NodeCounts) -> Result<LineView<'a>, Mistake>
+    ensures found { IfOk result (λ view. IsViewFor nodes.members nodes.coords view × (words.old ≡ view_words view)) }
+    ensures fault { IfErr result (λ mistake. first_fault (event_places nodes.members nodes.coords) words.old ≡ Some mistake) }
+{
+    let form = words.form()?;
+    view_of(words, nodes, form)
+}
+
+fn fault_of(kind: LineKind) -> LineFault
+    ensures { result ≡ fault_of_kind kind }
+{
+    match kind {
+        LineKind::Word => LineFault::Word,
+        LineKind::Number => LineFault::Number,
+        LineKind::Name => LineFault::Name,
+        LineKind::Extra => LineFault::Extra,
+        LineKind::Head => LineFault::Head,
+    }
+}
+
+fn event_in(line: &[u8], nodes: NodeCounts) -> Result<LineView<'_>, Mistake>
+    ensures found { IfOk result (λ view. IsEventFor nodes.members nodes.coords (event_of view) × (words_of line.now ≡ event_words (event_of view))) }
+    ensures fault { IfErr result (λ mistake. first_fault (event_places nodes.members nodes.coords) (words_of line.now) ≡ Some mistake) }
+{
+    let mut words = Words::of(line);
+    read_event(&mut words, nodes)
+}
+
+fn read_for(line: &[u8], nodes: NodeCounts) -> Result<LineView<'_>, LineFault>
+    requires { (nodes.members ≤ 16) × (nodes.coords ≤ 8) }
+    ensures found { IfOk result (λ view. IsEventFor nodes.members nodes.coords (event_of view) × (line.now ≡ line_text (event_of view))) }
+    ensures only { (event : Event) → IsEventFor nodes.members nodes.coords event → line.now ≡ line_text event → length line.now ≤ 1024 → IsOkAnd result (λ view. event_of view ≡ event) }
+    ensures long { (result ≡ Err LineFault.Long) ↔ (1024 < length line.now) }
+    ensures fault { length line.now ≤ 1024 → IfErr result (λ fault. fault_in (event_places nodes.members nodes.coords) line.now ≡ Some fault) }
+{
+    if line.len() > LONGEST_LINE {
+        return Err(LineFault::Long);
+    }
+    match event_in(line, nodes) {
+        Ok(view) => Ok(view),
+        Err(mistake) => Err(fault_of(mistake.kind)),
+    }
+}
+
+/// Reads a line, without its newline, as an event of a federation with this head. The view lends
+/// keys, values and digits out of the line.
+///
+/// `Long` comes exactly where the line has more than 1,024 bytes. Otherwise the fault is the first
+/// one from the left. No memory is taken.
+pub fn read_line<'a>(line: &'a [u8], head: &Head) -> Result<LineView<'a>, LineFault>
+    ensures found { IfOk result (λ view. IsEventFor (length head.now.kinds) head.now.coords (event_of view) × (line.now ≡ line_text (event_of view))) }
+    ensures only { (event : Event) → IsEventFor (length head.now.kinds) head.now.coords event → line.now ≡ line_text event → length line.now ≤ 1024 → IsOkAnd result (λ view. event_of view ≡ event) }
+    ensures long { (result ≡ Err LineFault.Long) ↔ (1024 < length line.now) }
+    ensures fault { length line.now ≤ 1024 → IfErr result (λ fault. fault_in (event_places (length head.now.kinds) head.now.coords) line.now ≡ Some fault) }
+{
+    read_for(line, NodeCounts::of(head))
 }
