@@ -8,3 +8,4 @@ pub mod Views
 pub mod Fitting
 pub mod Complete
 pub mod Unique
+pub mod Laws
