@@ -5,7 +5,7 @@ use Rattle.std.specs.List.{list_all, slice_split}
 use Rattle.std.specs.Ordering.{is_gt}
 use Rattle.std.specs.Str.{all_ascii_digits}
 use Rattle.std.specs.Char.{is_ascii_digit}
-use Rattle.std.proofs.lemmas.Bool.{leb-true, eqb-true}
+use Rattle.std.proofs.lemmas.Bool.{leb-true, eqb-true, le-ltb}
 use Rattle.std.proofs.lemmas.Fmt.{digits_decimal}
 use Rattle.std.proofs.lemmas.Str.Parse.{numerals_by_value, tells_all_ascii_digits}
 use Rattle.std.proofs.lemmas.List.Elements.{All-nil, All-cons}
@@ -21,7 +21,7 @@ use Rattle.co_base.specs.declared.leaves.Leaves.{Leaves}
 use Rattle.co_base.specs.declared.leaves.Leaves.TheVariants as leaves
 use Rattle.co_schedule.specs.Words.{Word, space, behind, spaced, words_of}
 use Rattle.co_schedule.specs.Spelling.{member_word, coord_word, node_word, leaves_word, vote_word, decision_word}
-use Rattle.co_schedule.specs.Places.{Want, number, member, coord, node, key, key_from, value, one_of, is_in, is_number, is_named, is_visible, is_text, is_lower_digit, is_hex, Places, nothing, place, first_fault, go_on}
+use Rattle.co_schedule.specs.Places.{Want, number, member, coord, node, key, key_from, value, one_of, is_in, is_number, is_named, is_visible, is_text, is_lower_digit, is_hex, Places, nothing, place, within, first_fault, go_on}
 use Rattle.co_schedule.specs.Places as places
 use Rattle.co_schedule.specs.View.{IsWithin, IsNode, IsLeaves, IsKey}
 use Rattle.co_schedule.proofs.Numbers.{both, and_true, is_number-decimal}
@@ -43,6 +43,7 @@ Fits nothing [] = Unit {0}
 Fits nothing (word ∷ words) = ⊥
 Fits (place want next) [] = ⊥
 Fits (place want next) (word ∷ words) = Taken want word × Fits (next word) words
+Fits (within most places) words = (length (spaced words) ≤ most) × Fits places words
 
 -- what fits has no fault
 pub fits_first_fault : (places : Places) (words : List Word) → Fits places words → first_fault places words ≡ None
@@ -51,6 +52,10 @@ fits_first_fault nothing (word ∷ words) it = absurd it
 fits_first_fault (place want next) [] it = absurd it
 fits_first_fault (place want next) (word ∷ words) it =
     ap (λ r. go_on r (λ w ws. first_fault (next w) ws)) (step_takes want word words it.0.wanted) ∙ fits_first_fault (next word) words it.1
+
+fits_first_fault (within most places) words it =
+    let short : ltb most (length (spaced words)) ≡ false = le-ltb _ _ it.0 in
+    rw short (fits_first_fault places words it.1)
 
 none_is_space : (word : Word) → no_space word ≡ true → All (λ byte. (byte == space) ≡ false) word
 none_is_space [] e = All-nil (λ byte. (byte == space) ≡ false)
@@ -70,6 +75,8 @@ words_of-spaced (place want next) first [] whole it = absurd it
 words_of-spaced (place want next) first (word ∷ words) whole it =
     slice_split_at (λ byte. byte == space) first space (word ++ behind words) (none_is_space first whole) refl
     ∙ ap (λ (rest : List Word). first ∷ rest) (words_of-spaced (next word) word words it.0.whole it.1)
+
+words_of-spaced (within most places) first words whole it = words_of-spaced places first words whole it.1
 
 -- the line of words that fit has these words
 pub words_of-fit : (want : Want) (next : Word → Places) (words : List Word) → Fits (place want next) words → words_of (spaced words) ≡ words

@@ -9,3 +9,4 @@ pub mod Fitting
 pub mod Complete
 pub mod Unique
 pub mod Laws
+pub mod Heads

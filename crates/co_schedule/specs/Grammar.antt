@@ -1,7 +1,10 @@
 -- The places of each line.
-use Rattle.std.specs.Prelude.{ℕ, List, [], ◌∷◌, map, find, Option, None, Some, codes, ◌^◌, ◌-◌}
+use Rattle.std.specs.Prelude.{ℕ, zero, suc, if◌then◌else◌, List, [], ◌∷◌, map, find, Option, None, Some, codes, ◌^◌, ◌-◌}
 use Rattle.std.specs.Str.{bytes_eq}
+use Rattle.co_base.specs.declared.head.Kind.{Kind}
+use Rattle.co_base.specs.declared.head.Kind.TheVariants.{Lock, Occ, Mv}
 use Rattle.co_schedule.specs.Words.{Word}
+use Rattle.co_schedule.specs.Spelling.{kind_word}
 use Rattle.co_schedule.specs.Places.{Want, number, member, coord, node, key, key_from, value, one_of, leaves, Places, nothing, place, ◌▸◌}
 use Rattle.co_schedule.specs.declared.form.Form.{Form}
 use Rattle.co_schedule.specs.declared.form.Form.TheVariants as form
@@ -105,3 +108,22 @@ event_chosen members coords (Some chosen) = event_fields members coords chosen
 -- an event
 abbrev pub event_places : ℕ → ℕ → Places
 event_places members coords = place (one_of (map form_word all_forms)) (λ word. event_chosen members coords (form_named word))
+
+abbrev pub all_kinds : List Kind
+all_kinds = Lock ∷ Occ ∷ Mv ∷ []
+
+abbrev pub kind_named : Word → Option Kind
+kind_named word = find (λ k. bytes_eq (kind_word k) word) all_kinds
+
+-- the count of coordinators, and the end
+abbrev pub coords_places : Places
+coords_places = number 1 8 ▸ nothing
+
+-- the kinds of at most so many more members, and then the coordinators
+abbrev pub kinds_places : ℕ → Places
+kinds_places zero = one_of (codes "coords" ∷ []) ▸ coords_places
+kinds_places (suc more) = place (one_of (codes "coords" ∷ map kind_word all_kinds)) (λ word. if bytes_eq (codes "coords") word then coords_places else kinds_places more)
+
+-- a head: its first word, and the kinds of 1 to 16 members
+abbrev pub head_places : Places
+head_places = one_of (codes "members" ∷ []) ▸ one_of (map kind_word all_kinds) ▸ kinds_places 15

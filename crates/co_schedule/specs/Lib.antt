@@ -4,3 +4,4 @@ pub mod Places
 pub mod Grammar
 pub mod View
 pub mod Faults
+pub mod Heads

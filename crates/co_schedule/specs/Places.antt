@@ -1,5 +1,5 @@
 -- What may stand at each place of a line, and the first place from the left that has something else.
-use Rattle.std.specs.Prelude.{ℕ, ◌+◌, ◌-◌, ◌==◌, ◌%◌, nat_le, Bool, true, false, ◌&&◌, ◌||◌, not, if◌then◌else◌, List, [], ◌∷◌, length, Option, None, Some, Result, Ok, Err, codes, decimal}
+use Rattle.std.specs.Prelude.{ℕ, ◌+◌, ◌-◌, ◌==◌, ◌%◌, nat_le, nat_lt, Bool, true, false, ◌&&◌, ◌||◌, not, if◌then◌else◌, List, [], ◌∷◌, length, Option, None, Some, Result, Ok, Err, codes, decimal}
 use Rattle.std.specs.List.{list_all, list_any}
 use Rattle.std.specs.Str.{bytes_eq}
 use Rattle.std.specs.Str.Parse.{digits_value}
@@ -90,19 +90,25 @@ wrong want (word ∷ words) = record { kind = kind_at (kind_of want) word; left 
 abbrev pub missing : Mistake
 missing = record { kind = kind.Word; left = 0 }
 
--- or a word stands behind the last one
+-- a word stands behind the last one,
 abbrev pub extra : List Word → Mistake
 extra words = record { kind = kind.Extra; left = length (spaced words) }
+
+-- or what is left is too long, and is not looked at
+abbrev pub too_long : List Word → Mistake
+too_long words = record { kind = kind.Word; left = length (spaced words) }
 
 -- one place: the word that stands there, and the words behind it
 unfoldable pub step : Want → List Word → Result (Word × List Word) Mistake
 step want [] = Err missing
 step want (word ∷ words) = if is_in want word then Ok (word, words) else Err (wrong want (word ∷ words))
 
--- the places of a line from left to right; what a place wants may depend on the words before it
+-- the places of a line from left to right: nothing more; a place, where what follows may depend on its
+-- word; or places for words that have so many bytes at most, with the spaces between them
 pub data Places : Type 0 where
   nothing : Places
   place : Want → (Word → Places) → Places
+  within : ℕ → Places → Places
 
 -- a place, whatever stands there
 infixr 6 ◌▸◌
@@ -120,4 +126,5 @@ go_on (Err mistake) next = Some mistake
 -- the first fault from the left, where there is one
 abbrev pub first_fault : Places → List Word → Option Mistake
 first_fault nothing words = ended words
+first_fault (within most places) words = if nat_lt most (length (spaced words)) then Some (too_long words) else first_fault places words
 first_fault (place want behind_it) words = go_on (step want words) (λ word rest. first_fault (behind_it word) rest)

@@ -76,3 +76,32 @@ pub struct Mistake {
     /// word is missing.
     pub left: usize,
 }
+
+/// Why something that takes memory was not read.
+#[derive(Debug, Drop)]
+pub enum ReadFault {
+    /// The line has a mistake.
+    Mistake(Mistake),
+    /// There was no memory.
+    Memory,
+}
+
+impl From<Mistake> for ReadFault {
+    ghost use Rattle.co_schedule.specs.declared.fault.ReadFault.TheVariants as read;
+
+    ghost from_gives = { λ m e. e ≡ read.Mistake m };
+
+    fn from(mistake: Mistake) -> ReadFault {
+        ReadFault::Mistake(mistake)
+    }
+}
+
+impl From<AllocError> for ReadFault {
+    ghost use Rattle.co_schedule.specs.declared.fault.ReadFault.TheVariants.{Memory};
+
+    ghost from_gives = { λ _ e. e ≡ Memory };
+
+    fn from(_e: AllocError) -> ReadFault {
+        ReadFault::Memory
+    }
+}

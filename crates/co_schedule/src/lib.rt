@@ -5,6 +5,7 @@ mod counts;
 mod fault;
 mod fields;
 mod form;
+mod head;
 mod reading;
 mod view;
 mod word;
@@ -12,11 +13,15 @@ mod words;
 mod writing;
 
 pub use counts::NodeCounts;
-pub use fault::{LineFault, LineKind, Mistake};
+pub use fault::{LineFault, LineKind, Mistake, ReadFault};
 pub use form::{Form, MessageForm, form_of, message_form_of};
+pub use head::{read_head, read_head_kinds};
 pub use reading::{read_event, read_line, read_message};
 pub use view::{LeavesView, LineView};
 pub use words::Words;
 pub use writing::{
     LONGEST_LINE, append_event, append_head, append_message, append_node, append_number, append_word, put_line,
 };
+
+#[cfg(test)]
+mod tests;

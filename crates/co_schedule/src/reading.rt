@@ -9,7 +9,7 @@ ghost use Rattle.co_schedule.specs.Faults.{fault_of_kind, fault_in};
 ghost use Rattle.co_message.specs.declared.event.Event.{Event};
 ghost use Rattle.co_schedule.specs.Places.{number, member, coord, node, key, key_from, value, one_of, leaves, is_text, nothing, place, ◌▸◌, first_fault};
 ghost use Rattle.co_schedule.specs.Grammar.{txn, count, call, answers, decisions, form_word, message_word, message_fields, message_places, event_fields, event_places};
-ghost use Rattle.co_schedule.specs.View.{IsWithin, IsNode, IsTxn, IsCount, IsMessageFor, IsSpelledLeaves, view_word, view_words, event_of, IsEventFor, IsViewFor};
+ghost use Rattle.co_schedule.specs.View.{IsWithin, IsNode, IsTxn, IsCount, IsMessageFor, IsSpelledLeaves, view_word, view_words, event_of, HasTexts, IsEventFor, IsViewFor};
 
 use crate::counts::NodeCounts;
 use crate::fault::{LineFault, LineKind, Mistake};
@@ -335,6 +335,7 @@ fn read_for(line: &[u8], nodes: NodeCounts) -> Result<LineView<'_>, LineFault>
     requires { (nodes.members ≤ 16) × (nodes.coords ≤ 8) }
     ensures found { IfOk result (λ view. IsEventFor nodes.members nodes.coords (event_of view) × (line.now ≡ line_text (event_of view))) }
     ensures only { (event : Event) → IsEventFor nodes.members nodes.coords event → line.now ≡ line_text event → length line.now ≤ 1024 → IsOkAnd result (λ view. event_of view ≡ event) }
+    ensures texts { IfOk result (λ view. HasTexts (event_of view)) }
     ensures long { (result ≡ Err LineFault.Long) ↔ (1024 < length line.now) }
     ensures fault { length line.now ≤ 1024 → IfErr result (λ fault. fault_in (event_places nodes.members nodes.coords) line.now ≡ Some fault) }
 {
@@ -355,6 +356,7 @@ fn read_for(line: &[u8], nodes: NodeCounts) -> Result<LineView<'_>, LineFault>
 pub fn read_line<'a>(line: &'a [u8], head: &Head) -> Result<LineView<'a>, LineFault>
     ensures found { IfOk result (λ view. IsEventFor (length head.now.kinds) head.now.coords (event_of view) × (line.now ≡ line_text (event_of view))) }
     ensures only { (event : Event) → IsEventFor (length head.now.kinds) head.now.coords event → line.now ≡ line_text event → length line.now ≤ 1024 → IsOkAnd result (λ view. event_of view ≡ event) }
+    ensures texts { IfOk result (λ view. HasTexts (event_of view)) }
     ensures long { (result ≡ Err LineFault.Long) ↔ (1024 < length line.now) }
     ensures fault { length line.now ≤ 1024 → IfErr result (λ fault. fault_in (event_places (length head.now.kinds) head.now.coords) line.now ≡ Some fault) }
 {

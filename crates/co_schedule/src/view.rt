@@ -3,7 +3,7 @@ ghost use Rattle.std.specs.Prelude.{◌≡◌, false, IfOk};
 ghost use Rattle.std.specs.Ordering.{is_gt};
 ghost use Rattle.co_base.specs.Letters.{IsText, most_key_bytes, most_value_bytes};
 ghost use Rattle.co_base.specs.Order.{key_cmp};
-ghost use Rattle.co_schedule.specs.View.{leaves_of, event_of, IsEventFor};
+ghost use Rattle.co_schedule.specs.View.{leaves_of, event_of, HasTexts};
 
 use co_base::{Bytes, Key, Leaves, Node, Range, Txn, Value};
 use co_message::{Event, Message};
@@ -104,7 +104,7 @@ fn leaves_of_view(alloc: Global, leaves: &LeavesView<'_>) -> Result<Leaves, Allo
 impl<'a> LineView<'a> {
     /// The event, with texts of its own.
     pub fn event(&self, alloc: Global) -> Result<Event, AllocError>
-        requires { IsEventFor 255 255 (event_of self.now) }
+        requires { HasTexts (event_of self.now) }
         ensures { IfOk result (λ event. event ≡ event_of self.now) }
     {
         Ok(match self {

@@ -1,7 +1,7 @@
 //! A line, word for word.
-ghost use Rattle.std.specs.Prelude.{◌≡◌, ◌==◌, ◌∷◌, length, [], Some, OnOk, IfOk, IfErr, position};
+ghost use Rattle.std.specs.Prelude.{◌≡◌, ◌<◌, ◌≤◌, ◌==◌, ◌∷◌, length, [], Some, OnOk, IfOk, IfErr, position};
 ghost use Rattle.co_schedule.specs.Words.{space, words_of, words_left, spaced};
-ghost use Rattle.co_schedule.specs.Places.{missing, first_fault, nothing, kind_at};
+ghost use Rattle.co_schedule.specs.Places.{missing, too_long, first_fault, nothing, kind_at};
 
 use crate::fault::{LineKind, Mistake};
 use std::marker::Model;
@@ -69,6 +69,20 @@ impl<'a> Words<'a> {
                     left: rest.len(),
                 })
             }
+        }
+    }
+
+    /// Tests that what is left has at most so many bytes.
+    pub fn within(&self, most: usize) -> Result<(), Mistake>
+        ensures found { OnOk result (length (spaced self.now) ≤ most) }
+        ensures fault { IfErr result (λ mistake. (most < length (spaced self.now)) × (mistake ≡ too_long self.now)) }
+    {
+        match self.rest {
+            Some(rest) if rest.len() > most => Err(Mistake {
+                kind: LineKind::Word,
+                left: rest.len(),
+            }),
+            _ => Ok(()),
         }
     }
 

@@ -228,7 +228,8 @@ pub fn append_event(out: &mut Vec<u8>, event: &Event) -> Result<(), AllocError>
     }
 }
 
-fn kind_text(kind: Kind) -> &'static [u8]
+/// The word of the kind.
+pub fn kind_text(kind: Kind) -> &'static [u8]
     ensures { result.now ≡ kind_word kind }
 {
     match kind {

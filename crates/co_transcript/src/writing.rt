@@ -10,7 +10,8 @@ use co_schedule::{append_event, append_head, append_message, append_node, append
 use itoa::Buffer;
 use std::alloc::AllocError;
 
-fn mark_text(kind: MarkKind) -> &'static [u8]
+/// The word of the kind of record.
+pub fn mark_text(kind: MarkKind) -> &'static [u8]
     ensures { result.now ≡ mark_word kind }
 {
     match kind {
@@ -23,7 +24,8 @@ fn mark_text(kind: MarkKind) -> &'static [u8]
     }
 }
 
-fn cause_text(cause: Cause) -> &'static [u8]
+/// The word of the cause.
+pub fn cause_text(cause: Cause) -> &'static [u8]
     ensures { result.now ≡ cause_word cause }
 {
     match cause {
