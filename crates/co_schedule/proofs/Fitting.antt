@@ -52,7 +52,6 @@ fits_first_fault nothing (word ∷ words) it = absurd it
 fits_first_fault (place want next) [] it = absurd it
 fits_first_fault (place want next) (word ∷ words) it =
     ap (λ r. go_on r (λ w ws. first_fault (next w) ws)) (step_takes want word words it.0.wanted) ∙ fits_first_fault (next word) words it.1
-
 fits_first_fault (within most places) words it =
     let short : ltb most (length (spaced words)) ≡ false = le-ltb _ _ it.0 in
     rw short (fits_first_fault places words it.1)
@@ -63,9 +62,9 @@ none_is_space (byte ∷ bytes) e =
     let it = both (not (byte == space)) (no_space bytes) e in
     All-cons (λ b. (b == space) ≡ false) byte bytes (not_true (byte == space) it.0) (none_is_space bytes it.1)
   where
-  not_true : (b : Bool) → not b ≡ true → b ≡ false
-  not_true true e = absurd cc
-  not_true false e = refl
+    not_true : (b : Bool) → not b ≡ true → b ≡ false
+    not_true true e = absurd cc
+    not_true false e = refl
 
 -- the words of words with spaces between them are these words
 pub words_of-spaced : (places : Places) (first : Word) (words : List Word) → no_space first ≡ true → Fits places words → words_of (first ++ behind words) ≡ first ∷ words
@@ -75,7 +74,6 @@ words_of-spaced (place want next) first [] whole it = absurd it
 words_of-spaced (place want next) first (word ∷ words) whole it =
     slice_split_at (λ byte. byte == space) first space (word ++ behind words) (none_is_space first whole) refl
     ∙ ap (λ (rest : List Word). first ∷ rest) (words_of-spaced (next word) word words it.0.whole it.1)
-
 words_of-spaced (within most places) first words whole it = words_of-spaced places first words whole it.1
 
 -- the line of words that fit has these words

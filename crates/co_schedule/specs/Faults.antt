@@ -7,7 +7,6 @@ use Rattle.co_schedule.specs.declared.fault.LineKind.{LineKind}
 use Rattle.co_schedule.specs.declared.fault.LineKind.TheVariants as kind
 use Rattle.co_schedule.specs.declared.fault.LineFault.{LineFault}
 use Rattle.co_schedule.specs.declared.fault.LineFault.TheVariants as fault
-
 use Rattle.co_schedule.specs.declared.fault.ReadFault.{ReadFault}
 use Rattle.co_schedule.specs.declared.fault.ReadFault.TheVariants as read
 

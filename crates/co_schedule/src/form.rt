@@ -113,7 +113,10 @@ fn message_word_of(form: MessageForm) -> &'static [u8]
 fn find_message_form(word: &[u8]) -> Option<MessageForm>
     ensures { result ≡ message_named word.now }
 {
-    MESSAGE_FORMS.iter().copied().find(|form| message_word_of(*form) == word)
+    MESSAGE_FORMS
+        .iter()
+        .copied()
+        .find(|form| message_word_of(*form) == word)
 }
 
 /// The kind of message whose word this is.

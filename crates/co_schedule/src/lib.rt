@@ -20,7 +20,8 @@ pub use reading::{read_event, read_line, read_message};
 pub use view::{LeavesView, LineView};
 pub use words::Words;
 pub use writing::{
-    LONGEST_LINE, append_event, append_head, append_message, append_node, append_number, append_word, put_line,
+    LONGEST_LINE, append_event, append_head, append_message, append_node, append_number,
+    append_word, put_line,
 };
 
 #[cfg(test)]

@@ -87,12 +87,20 @@ fn a_long_line_is_long_first(rt: HostRuntime) -> Result<(), Fail> {
 
 #[test]
 fn a_first_line_is_a_head_or_none(rt: HostRuntime) -> Result<(), Fail> {
-    for line in [b"members coords 1".as_slice(), b"members lock coords 9".as_slice(), b"".as_slice(), b"members lock coords 1 ".as_slice()] {
+    for line in [
+        b"members coords 1".as_slice(),
+        b"members lock coords 9".as_slice(),
+        b"".as_slice(),
+        b"members lock coords 1 ".as_slice(),
+    ] {
         assert!(rt; matches!(read_head(rt.alloc(), line), Err(LineFault::Head)));
     }
     let head = read_head(rt.alloc(), b"members lock occ mv coords 8")?;
     let mut written = Vec::new(rt.alloc());
     append_head(&mut written, &head)?;
-    assert_eq!(rt; written.as_slice(), b"members lock occ mv coords 8".as_slice());
+    assert_eq!(rt;
+        written.as_slice(),
+        b"members lock occ mv coords 8".as_slice()
+    );
     Ok(())
 }

@@ -68,12 +68,7 @@ fn append_leaves(out: &mut Vec<u8>, leaves: &Leaves) -> Result<(), AllocError>
     }
 }
 
-fn append_at_member(
-    out: &mut Vec<u8>,
-    form: &[u8],
-    txn: Txn,
-    member: u8,
-) -> Result<(), AllocError>
+fn append_at_member(out: &mut Vec<u8>, form: &[u8], txn: Txn, member: u8) -> Result<(), AllocError>
     ensures { OnOk result (out.new.items ≡ out.old.items ++ spaced (form.now ∷ decimal txn ∷ member_word member ∷ [])) }
 {
     out.extend_from_slice(form)?;
@@ -81,12 +76,7 @@ fn append_at_member(
     append_member(out, member)
 }
 
-fn append_at_coord(
-    out: &mut Vec<u8>,
-    form: &[u8],
-    txn: Txn,
-    coord: u8,
-) -> Result<(), AllocError>
+fn append_at_coord(out: &mut Vec<u8>, form: &[u8], txn: Txn, coord: u8) -> Result<(), AllocError>
     ensures { OnOk result (out.new.items ≡ out.old.items ++ spaced (form.now ∷ decimal txn ∷ coord_word coord ∷ [])) }
 {
     out.extend_from_slice(form)?;

@@ -4,3 +4,6 @@
 mod writing;
 
 pub use writing::put_item;
+
+#[cfg(test)]
+mod tests;

@@ -6,7 +6,9 @@ ghost use Rattle.co_transcript.specs.Spelling.{mark_word, cause_word, row_words,
 
 use co_base::{Mark, MarkKind, Node, Reply, Row};
 use co_message::{Answer, Cause, Item, ItemKind};
-use co_schedule::{append_event, append_head, append_message, append_node, append_number, append_word};
+use co_schedule::{
+    append_event, append_head, append_message, append_node, append_number, append_word,
+};
 use itoa::Buffer;
 use std::alloc::AllocError;
 
