@@ -60,3 +60,8 @@ HasTexts-for m c (event.Checkpoint n) it = tt
 pub event_found : {E : Type 0} (m c : ℕ) (r : Result LineView E) (words line : List Word) → words ≡ line → IfOk r (λ view. IsViewFor m c view × (words ≡ view_words view)) → IfOk r (λ view. IsEventFor m c (event_of view) × (line ≡ event_words (event_of view)))
 event_found m c (Ok view) words line e it = (IsEventFor-view m c view it.0, sym e ∙ it.1 ∙ view_words-event m c view it.0)
 event_found m c (Err x) words line e it = tt
+
+-- an event that was made of a view
+pub event_made : (m c : ℕ) (v : LineView) (e : Event) (words : List Word) → IsViewFor m c v → words ≡ view_words v → e ≡ event_of v → IsEventFor m c e × (words ≡ event_words e)
+event_made m c v e words it h same =
+    (subst (IsEventFor m c) (sym same) (IsEventFor-view m c v it), h ∙ view_words-event m c v it ∙ ap event_words (sym same))

@@ -36,6 +36,11 @@ all_forms = form.Begin ∷ form.Read ∷ form.Write ∷ form.Erase ∷ form.Scan
 abbrev pub form_named : Word → Option Form
 form_named word = find (λ f. bytes_eq (form_word f) word) all_forms
 
+-- the word of a form, or `members`
+abbrev pub form_or_members_word : Option Form → Word
+form_or_members_word None = codes "members"
+form_or_members_word (Some f) = form_word f
+
 abbrev pub message_word : MessageForm → Word
 message_word message.Prepare = codes "prepare"
 message_word message.Vote = codes "vote"

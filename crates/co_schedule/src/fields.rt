@@ -1,11 +1,11 @@
 //! The fields of a line, each read from the front of what is left.
 ghost use Rattle.std.specs.Prelude.{◌≡◌, ◌≤◌, [], ◌∷◌, map, codes, decimal, true, false, if◌then◌else◌, Ok, Err, Some, IfOk, IfErr};
-ghost use Rattle.std.specs.Ordering.{is_gt};
+ghost use Rattle.std.specs.Ordering.{is_gt, is_lt};
 ghost use Rattle.co_base.specs.Letters.{most_key_bytes, most_value_bytes};
 ghost use Rattle.co_base.specs.Order.{key_cmp};
 ghost use Rattle.co_schedule.specs.Spelling.{member_word, coord_word, node_word};
-ghost use Rattle.co_schedule.specs.Places.{step, number, member, coord, node, key, key_from, value, one_of, leaves, is_text};
-ghost use Rattle.co_schedule.specs.Grammar.{form_word, form_named, all_forms, message_word, message_named, all_messages};
+ghost use Rattle.co_schedule.specs.Places.{step, number, member, coord, node, key, key_from, key_above, value, one_of, leaves, is_text};
+ghost use Rattle.co_schedule.specs.Grammar.{form_or_members_word, form_word, form_named, all_forms, message_word, message_named, all_messages};
 ghost use Rattle.co_schedule.specs.View.{IsWithin, IsNode, IsSpelledLeaves, view_word};
 
 use crate::fault::{LineKind, Mistake};
@@ -97,6 +97,20 @@ impl<'a> Words<'a> {
         }
     }
 
+    /// Reads a key that is above another.
+    pub fn key_above(&mut self, before: &[u8]) -> Result<&'a [u8], Mistake>
+        ensures found { IfOk result (λ text. (is_text most_key_bytes text.now ≡ true) × (is_lt (key_cmp before.now text.now) ≡ true) × (self.old ≡ text.now ∷ self.new)) }
+        ensures taken { IfOk result (λ text. step (key_above before.now) self.old ≡ Ok (text.now, self.new)) }
+        ensures fault { IfErr result (λ mistake. step (key_above before.now) self.old ≡ Err mistake) }
+    {
+        let piece = self.take()?;
+        if is_text_of(piece.word, Key::MOST) && before.cmp(piece.word).is_lt() {
+            Ok(piece.word)
+        } else {
+            Err(piece.wrong(LineKind::Name))
+        }
+    }
+
     /// Reads a value.
     pub fn value(&mut self) -> Result<&'a [u8], Mistake>
         ensures found { IfOk result (λ text. (is_text most_value_bytes text.now ≡ true) × (self.old ≡ text.now ∷ self.new)) }
@@ -150,6 +164,22 @@ impl<'a> Words<'a> {
         let piece = self.take()?;
         match form_of(piece.word) {
             Some(form) => Ok(form),
+            None => Err(piece.wrong(LineKind::Word)),
+        }
+    }
+
+    /// Reads the first word of an event or of a head, for which no form stands.
+    pub fn form_or_members(&mut self) -> Result<Option<Form>, Mistake>
+        ensures found { IfOk result (λ form. self.old ≡ form_or_members_word form ∷ self.new) }
+        ensures taken { IfOk result (λ form. step (one_of (codes "members" ∷ map form_word all_forms)) self.old ≡ Ok (form_or_members_word form, self.new)) }
+        ensures fault { IfErr result (λ mistake. step (one_of (codes "members" ∷ map form_word all_forms)) self.old ≡ Err mistake) }
+    {
+        let piece = self.take()?;
+        if b"members".as_slice() == piece.word {
+            return Ok(None);
+        }
+        match form_of(piece.word) {
+            Some(form) => Ok(Some(form)),
             None => Err(piece.wrong(LineKind::Word)),
         }
     }

@@ -5,20 +5,21 @@ ghost use Rattle.co_base.specs.Letters.{most_key_bytes, most_value_bytes};
 ghost use Rattle.co_base.specs.Order.{key_cmp};
 ghost use Rattle.co_schedule.specs.Words.{words_of};
 ghost use Rattle.co_schedule.specs.Spelling.{member_word, coord_word, node_word, message_words, event_words, line_text};
-ghost use Rattle.co_schedule.specs.Faults.{fault_of_kind, fault_in};
+ghost use Rattle.co_schedule.specs.Faults.{fault_of_kind, fault_in, IsFirstFault};
 ghost use Rattle.co_message.specs.declared.event.Event.{Event};
 ghost use Rattle.co_schedule.specs.Places.{number, member, coord, node, key, key_from, value, one_of, leaves, is_text, nothing, place, ◌▸◌, first_fault};
 ghost use Rattle.co_schedule.specs.Grammar.{txn, count, call, answers, decisions, form_word, message_word, message_fields, message_places, event_fields, event_places};
 ghost use Rattle.co_schedule.specs.View.{IsWithin, IsNode, IsTxn, IsCount, IsMessageFor, IsSpelledLeaves, view_word, view_words, event_of, HasTexts, IsEventFor, IsViewFor};
 
 use crate::counts::NodeCounts;
-use crate::fault::{LineFault, LineKind, Mistake};
+use crate::fault::{LineFault, LineKind, Mistake, ReadFault};
 use crate::form::{Form, MessageForm};
 use crate::view::{LeavesView, LineView};
 use crate::words::Words;
 use crate::writing::LONGEST_LINE;
 use co_base::{Head, Node, Txn};
-use co_message::Message;
+use co_message::{Event, Message};
+use std::alloc::Global;
 
 fn txn_alone(words: &mut Words<'_>) -> Result<Txn, Mistake>
     ensures found { IfOk result (λ t. IsTxn t × (words.old ≡ decimal t ∷ [])) }
@@ -309,6 +310,22 @@ pub fn read_event<'a>(words: &mut Words<'a>, nodes: NodeCounts) -> Result<LineVi
 {
     let form = words.form()?;
     view_of(words, nodes, form)
+}
+
+/// Reads an event behind its first word, with texts of its own.
+pub fn read_event_fields(
+    alloc: Global,
+    words: &mut Words<'_>,
+    nodes: NodeCounts,
+    form: Form,
+) -> Result<Event, ReadFault>
+    ensures found { IfOk result (λ event. IsEventFor nodes.members nodes.coords event × (form_word form ∷ words.old ≡ event_words event)) }
+    ensures fault { IfErr result (IsFirstFault (event_fields nodes.members nodes.coords form) words.old) }
+{
+    match view_of(words, nodes, form) {
+        Ok(view) => Ok(view.event(alloc)?),
+        Err(mistake) => Err(ReadFault::Mistake(mistake)),
+    }
 }
 
 fn fault_of(kind: LineKind) -> LineFault

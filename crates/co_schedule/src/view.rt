@@ -98,7 +98,8 @@ pub enum LineView<'a> {
     Checkpoint(Node),
 }
 
-fn key_of(alloc: Global, text: &[u8]) -> Result<Key, AllocError>
+/// The key of this text.
+pub fn key_of(alloc: Global, text: &[u8]) -> Result<Key, AllocError>
     requires { IsText most_key_bytes text.now }
     ensures { IfOk result (λ key. key ≡ text.now) }
 {
@@ -108,7 +109,8 @@ fn key_of(alloc: Global, text: &[u8]) -> Result<Key, AllocError>
     }
 }
 
-fn value_of(alloc: Global, text: &[u8]) -> Result<Value, AllocError>
+/// The value of this text.
+pub fn value_of(alloc: Global, text: &[u8]) -> Result<Value, AllocError>
     requires { IsText most_value_bytes text.now }
     ensures { IfOk result (λ value. value ≡ text.now) }
 {
