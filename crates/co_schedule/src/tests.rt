@@ -68,7 +68,11 @@ fn a_line_is_read_and_written_again(rt: HostRuntime) -> Result<(), Fail> {
         b"checkpoint m1",
     ];
     for line in rows.iter() {
-        let event = read_line(line, &head)?.event(rt.alloc())?;
+        let event = match read_line(line, &head) {
+            Ok(view) => Some(view.event(rt.alloc())?),
+            Err(_) => None,
+        };
+        let event = event.ok_or("the line is an event")?;
         let mut written = Vec::new(rt.alloc());
         put_line(&event, &mut written)?;
         assert_eq!(rt; written.as_slice(), *line);
