@@ -1,0 +1,12 @@
+pub mod Spaced
+pub mod Cutting
+pub mod Numbers
+pub mod Steps
+pub mod Texts
+pub mod Hex
+pub mod Views
+pub mod Fitting
+pub mod Complete
+pub mod Unique
+pub mod Laws
+pub mod Heads

@@ -1,0 +1,5 @@
+use Rattle.co_schedule.proofs.Laws.{event_found}
+use Rattle.co_schedule.proofs.reading.event_in.Goals as goal
+
+pub returns-clause-found : goal.returns-clause-found
+returns-clause-found c = event_found _ _ c.read_event.result _ _ c.of-words.ensures c.read_event.ensures.found

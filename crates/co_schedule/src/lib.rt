@@ -1,0 +1,28 @@
+//! Schedule lines, both ways.
+#![tactic(auto)]
+
+mod counts;
+mod fault;
+mod fields;
+mod form;
+mod head;
+mod reading;
+mod view;
+mod word;
+mod words;
+mod writing;
+
+pub use counts::NodeCounts;
+pub use fault::{LineFault, LineKind, Mistake, ReadFault};
+pub use form::{Form, MessageForm, form_of, message_form_of};
+pub use head::{read_head, read_head_kinds};
+pub use reading::{read_event, read_event_fields, read_line, read_message};
+pub use view::{LeavesView, LineView, key_of, value_of};
+pub use words::{Piece, Words};
+pub use writing::{
+    LONGEST_LINE, append_event, append_head, append_message, append_node, append_number,
+    append_word, put_line,
+};
+
+#[cfg(test)]
+mod tests;

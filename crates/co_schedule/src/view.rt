@@ -1,0 +1,218 @@
+//! Lines as they were read, with their texts lent.
+ghost use Rattle.std.specs.Prelude.{◌≡◌, false, IfOk};
+ghost use Rattle.std.specs.Ordering.{is_gt};
+ghost use Rattle.co_base.specs.Letters.{IsText, most_key_bytes, most_value_bytes};
+ghost use Rattle.co_base.specs.Order.{key_cmp};
+ghost use Rattle.co_schedule.specs.View.{leaves_of, event_of, HasTexts};
+
+use co_base::{Bytes, Key, Leaves, Node, Range, Txn, Value};
+use co_message::{Event, Message};
+use std::alloc::{AllocError, Global};
+
+/// The chosen image of an armed stop, with its digits lent.
+#[derive(Clone, Copy, Debug, PartialEq, Eq)]
+pub enum LeavesView<'a> {
+    /// The stable bytes alone.
+    Old,
+    /// Every pending write.
+    New,
+    /// These bytes, as two digits for each.
+    Digits(&'a [u8]),
+}
+
+/// An event whose keys, values and digits are lent from its line.
+#[derive(Clone, Copy, Debug, PartialEq, Eq)]
+pub enum LineView<'a> {
+    /// A client begins the transaction at a coordinator.
+    Begin {
+        txn: Txn,
+        coord: u8,
+    },
+    /// A read of one record.
+    Read {
+        txn: Txn,
+        member: u8,
+        key: &'a [u8],
+    },
+    /// A write of one record.
+    Write {
+        txn: Txn,
+        member: u8,
+        key: &'a [u8],
+        value: &'a [u8],
+    },
+    /// An erasure of one record.
+    Erase {
+        txn: Txn,
+        member: u8,
+        key: &'a [u8],
+    },
+    /// A read of the records of a range.
+    Scan {
+        txn: Txn,
+        member: u8,
+        lo: &'a [u8],
+        hi: &'a [u8],
+    },
+    /// The client asks for the commit.
+    Commit {
+        txn: Txn,
+    },
+    /// The client asks for the abort.
+    Abort {
+        txn: Txn,
+    },
+    /// A message that was sent arrives.
+    Deliver(Message),
+    /// The member tries a vote again that it held back.
+    Vote {
+        txn: Txn,
+        member: u8,
+    },
+    /// The timer of the transaction fires at the node.
+    Timer {
+        txn: Txn,
+        node: Node,
+    },
+    /// A member that voted asks its coordinator.
+    Ask {
+        txn: Txn,
+        member: u8,
+    },
+    /// The coordinator sends again what was not answered.
+    Resend {
+        txn: Txn,
+        coord: u8,
+    },
+    /// The node stops between two log writes.
+    Crash(Node),
+    /// The node starts again from its log.
+    Restart(Node),
+    /// The next log write of the node stops in this device call, 1 to 4, and leaves this image.
+    Arm {
+        node: Node,
+        call: u8,
+        leaves: LeavesView<'a>,
+    },
+    /// One step of a checkpoint.
+    Checkpoint(Node),
+}
+
+/// The key of this text.
+pub fn key_of(alloc: Global, text: &[u8]) -> Result<Key, AllocError>
+    requires { IsText most_key_bytes text.now }
+    ensures { IfOk result (λ key. key ≡ text.now) }
+{
+    match Key::new(alloc, text) {
+        Ok(key) => Ok(key),
+        Err(_) => Err(AllocError),
+    }
+}
+
+/// The value of this text.
+pub fn value_of(alloc: Global, text: &[u8]) -> Result<Value, AllocError>
+    requires { IsText most_value_bytes text.now }
+    ensures { IfOk result (λ value. value ≡ text.now) }
+{
+    match Value::new(alloc, text) {
+        Ok(value) => Ok(value),
+        Err(_) => Err(AllocError),
+    }
+}
+
+fn range_of(alloc: Global, lo: &[u8], hi: &[u8]) -> Result<Range, AllocError>
+    requires texts { IsText most_key_bytes lo.now × IsText most_key_bytes hi.now }
+    requires order { is_gt (key_cmp lo.now hi.now) ≡ false }
+    ensures { IfOk result (λ range. range ≡ record { lo = lo.now; hi = hi.now }) }
+{
+    match Range::new(key_of(alloc, lo)?, key_of(alloc, hi)?) {
+        Ok(range) => Ok(range),
+        Err(_) => Err(AllocError),
+    }
+}
+
+fn leaves_of_view(alloc: Global, leaves: &LeavesView<'_>) -> Result<Leaves, AllocError>
+    ensures { IfOk result (λ l. l ≡ leaves_of leaves.now) }
+{
+    match leaves {
+        LeavesView::Old => Ok(Leaves::Old),
+        LeavesView::New => Ok(Leaves::New),
+        LeavesView::Digits(digits) => match hex::decode(alloc, *digits) {
+            Ok(bytes) => Ok(Leaves::Filled(Bytes::of(bytes))),
+            Err(_) => Err(AllocError),
+        },
+    }
+}
+
+impl<'a> LineView<'a> {
+    /// The event, with texts of its own.
+    pub fn event(&self, alloc: Global) -> Result<Event, AllocError>
+        requires { HasTexts (event_of self.now) }
+        ensures { IfOk result (λ event. event ≡ event_of self.now) }
+    {
+        Ok(match self {
+            LineView::Begin { txn, coord } => Event::Begin {
+                txn: *txn,
+                coord: *coord,
+            },
+            LineView::Read { txn, member, key } => Event::Read {
+                txn: *txn,
+                member: *member,
+                key: key_of(alloc, key)?,
+            },
+            LineView::Write {
+                txn,
+                member,
+                key,
+                value,
+            } => Event::Write {
+                txn: *txn,
+                member: *member,
+                key: key_of(alloc, key)?,
+                value: value_of(alloc, value)?,
+            },
+            LineView::Erase { txn, member, key } => Event::Erase {
+                txn: *txn,
+                member: *member,
+                key: key_of(alloc, key)?,
+            },
+            LineView::Scan {
+                txn,
+                member,
+                lo,
+                hi,
+            } => Event::Scan {
+                txn: *txn,
+                member: *member,
+                range: range_of(alloc, lo, hi)?,
+            },
+            LineView::Commit { txn } => Event::Commit { txn: *txn },
+            LineView::Abort { txn } => Event::Abort { txn: *txn },
+            LineView::Deliver(message) => Event::Deliver(*message),
+            LineView::Vote { txn, member } => Event::Vote {
+                txn: *txn,
+                member: *member,
+            },
+            LineView::Timer { txn, node } => Event::Timer {
+                txn: *txn,
+                node: *node,
+            },
+            LineView::Ask { txn, member } => Event::Ask {
+                txn: *txn,
+                member: *member,
+            },
+            LineView::Resend { txn, coord } => Event::Resend {
+                txn: *txn,
+                coord: *coord,
+            },
+            LineView::Crash(node) => Event::Crash(*node),
+            LineView::Restart(node) => Event::Restart(*node),
+            LineView::Arm { node, call, leaves } => Event::Arm {
+                node: *node,
+                call: *call,
+                leaves: leaves_of_view(alloc, leaves)?,
+            },
+            LineView::Checkpoint(node) => Event::Checkpoint(*node),
+        })
+    }
+}

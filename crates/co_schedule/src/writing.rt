@@ -1,0 +1,269 @@
+//! Events as lines.
+ghost use Rattle.std.specs.Prelude.{◌≡◌, ◌<◌, ◌≤◌, [], ◌∷◌, map, ◌++◌, ◌⊎◌, length, OnOk, OnErr, IfErr, IsErrOf, decimal, codes};
+ghost use Rattle.co_schedule.specs.Words.{space, behind, spaced};
+ghost use Rattle.co_schedule.specs.Spelling.{member_word, coord_word, node_word, leaves_word, message_words, event_words, line_text, head_text, kind_word};
+
+use crate::fault::LineFault;
+use co_base::{Head, Kind, Leaves, Node, Txn};
+use co_message::{Event, Message};
+use itoa::Buffer;
+use std::alloc::AllocError;
+
+/// Appends a space and the word.
+pub fn append_word(out: &mut Vec<u8>, word: &[u8]) -> Result<(), AllocError>
+    ensures { OnOk result (out.new.items ≡ out.old.items ++ space ∷ word.now) }
+{
+    out.push(b' ')?;
+    out.extend_from_slice(word)
+}
+
+/// Appends a space and the number.
+pub fn append_number(out: &mut Vec<u8>, number: u64) -> Result<(), AllocError>
+    ensures { OnOk result (out.new.items ≡ out.old.items ++ space ∷ decimal number) }
+{
+    append_word(out, Buffer::new().format(number).as_bytes())
+}
+
+fn append_named(out: &mut Vec<u8>, letter: u8, number: u8) -> Result<(), AllocError>
+    ensures { OnOk result (out.new.items ≡ out.old.items ++ space ∷ letter ∷ decimal number) }
+{
+    out.push(b' ')?;
+    out.push(letter)?;
+    out.extend_from_slice(Buffer::new().format(number).as_bytes())
+}
+
+fn append_member(out: &mut Vec<u8>, number: u8) -> Result<(), AllocError>
+    ensures { OnOk result (out.new.items ≡ out.old.items ++ space ∷ member_word number) }
+{
+    append_named(out, b'm', number)
+}
+
+fn append_coord(out: &mut Vec<u8>, number: u8) -> Result<(), AllocError>
+    ensures { OnOk result (out.new.items ≡ out.old.items ++ space ∷ coord_word number) }
+{
+    append_named(out, b'c', number)
+}
+
+/// Appends a space and the name of the node.
+pub fn append_node(out: &mut Vec<u8>, node: Node) -> Result<(), AllocError>
+    ensures { OnOk result (out.new.items ≡ out.old.items ++ space ∷ node_word node) }
+{
+    match node {
+        Node::Member(number) => append_member(out, number),
+        Node::Coord(number) => append_coord(out, number),
+    }
+}
+
+fn append_leaves(out: &mut Vec<u8>, leaves: &Leaves) -> Result<(), AllocError>
+    ensures { OnOk result (out.new.items ≡ out.old.items ++ space ∷ leaves_word leaves.now) }
+{
+    match leaves {
+        Leaves::Old => append_word(out, b"old"),
+        Leaves::New => append_word(out, b"new"),
+        Leaves::Filled(bytes) => {
+            append_word(out, b"x")?;
+            let digits = hex::encode(*out.allocator(), bytes.as_slice())?;
+            out.extend_from_slice(digits.as_bytes())
+        }
+    }
+}
+
+fn append_at_member(out: &mut Vec<u8>, form: &[u8], txn: Txn, member: u8) -> Result<(), AllocError>
+    ensures { OnOk result (out.new.items ≡ out.old.items ++ spaced (form.now ∷ decimal txn ∷ member_word member ∷ [])) }
+{
+    out.extend_from_slice(form)?;
+    append_number(out, u64::from(txn.0))?;
+    append_member(out, member)
+}
+
+fn append_at_coord(out: &mut Vec<u8>, form: &[u8], txn: Txn, coord: u8) -> Result<(), AllocError>
+    ensures { OnOk result (out.new.items ≡ out.old.items ++ spaced (form.now ∷ decimal txn ∷ coord_word coord ∷ [])) }
+{
+    out.extend_from_slice(form)?;
+    append_number(out, u64::from(txn.0))?;
+    append_coord(out, coord)
+}
+
+fn append_of_txn(out: &mut Vec<u8>, form: &[u8], txn: Txn) -> Result<(), AllocError>
+    ensures { OnOk result (out.new.items ≡ out.old.items ++ spaced (form.now ∷ decimal txn ∷ [])) }
+{
+    out.extend_from_slice(form)?;
+    append_number(out, u64::from(txn.0))
+}
+
+fn append_of_node(out: &mut Vec<u8>, form: &[u8], node: Node) -> Result<(), AllocError>
+    ensures { OnOk result (out.new.items ≡ out.old.items ++ spaced (form.now ∷ node_word node ∷ [])) }
+{
+    out.extend_from_slice(form)?;
+    append_node(out, node)
+}
+
+fn append_from_coord(
+    out: &mut Vec<u8>,
+    form: &[u8],
+    txn: Txn,
+    coord: u8,
+    member: u8,
+) -> Result<(), AllocError>
+    ensures { OnOk result (out.new.items ≡ out.old.items ++ behind (form.now ∷ decimal txn ∷ coord_word coord ∷ member_word member ∷ [])) }
+{
+    append_word(out, form)?;
+    append_number(out, u64::from(txn.0))?;
+    append_coord(out, coord)?;
+    append_member(out, member)
+}
+
+fn append_from_member(
+    out: &mut Vec<u8>,
+    form: &[u8],
+    txn: Txn,
+    member: u8,
+    coord: u8,
+) -> Result<(), AllocError>
+    ensures { OnOk result (out.new.items ≡ out.old.items ++ behind (form.now ∷ decimal txn ∷ member_word member ∷ coord_word coord ∷ [])) }
+{
+    append_word(out, form)?;
+    append_number(out, u64::from(txn.0))?;
+    append_member(out, member)?;
+    append_coord(out, coord)
+}
+
+/// Appends the words of the message, each behind a space.
+pub fn append_message(out: &mut Vec<u8>, message: &Message) -> Result<(), AllocError>
+    ensures { OnOk result (out.new.items ≡ out.old.items ++ behind (message_words message.now)) }
+{
+    match *message {
+        Message::Prepare {
+            txn,
+            coord,
+            member,
+            count,
+        } => {
+            append_from_coord(out, b"prepare", txn, coord, member)?;
+            append_number(out, u64::from(count))
+        }
+        Message::Vote {
+            txn,
+            member,
+            coord,
+            yes,
+        } => {
+            append_from_member(out, b"vote", txn, member, coord)?;
+            append_word(out, if yes { b"yes" } else { b"no" })
+        }
+        Message::Decide {
+            txn,
+            coord,
+            member,
+            commit,
+        } => {
+            append_from_coord(out, b"decide", txn, coord, member)?;
+            append_word(out, if commit { b"commit" } else { b"abort" })
+        }
+        Message::Ask { txn, member, coord } => append_from_member(out, b"ask", txn, member, coord),
+        Message::Ack { txn, member, coord } => append_from_member(out, b"ack", txn, member, coord),
+    }
+}
+
+/// Appends the line of the event, however long it is.
+pub fn append_event(out: &mut Vec<u8>, event: &Event) -> Result<(), AllocError>
+    ensures { OnOk result (out.new.items ≡ out.old.items ++ line_text event.now) }
+{
+    match event {
+        Event::Begin { txn, coord } => append_at_coord(out, b"begin", *txn, *coord),
+        Event::Read { txn, member, key } => {
+            append_at_member(out, b"read", *txn, *member)?;
+            append_word(out, key.text())
+        }
+        Event::Write {
+            txn,
+            member,
+            key,
+            value,
+        } => {
+            append_at_member(out, b"write", *txn, *member)?;
+            append_word(out, key.text())?;
+            append_word(out, value.text())
+        }
+        Event::Erase { txn, member, key } => {
+            append_at_member(out, b"erase", *txn, *member)?;
+            append_word(out, key.text())
+        }
+        Event::Scan { txn, member, range } => {
+            append_at_member(out, b"scan", *txn, *member)?;
+            append_word(out, range.lo().text())?;
+            append_word(out, range.hi().text())
+        }
+        Event::Commit { txn } => append_of_txn(out, b"commit", *txn),
+        Event::Abort { txn } => append_of_txn(out, b"abort", *txn),
+        Event::Deliver(message) => {
+            out.extend_from_slice(b"deliver")?;
+            append_message(out, message)
+        }
+        Event::Vote { txn, member } => append_at_member(out, b"vote", *txn, *member),
+        Event::Timer { txn, node } => {
+            append_of_txn(out, b"timer", *txn)?;
+            append_node(out, *node)
+        }
+        Event::Ask { txn, member } => append_at_member(out, b"ask", *txn, *member),
+        Event::Resend { txn, coord } => append_at_coord(out, b"resend", *txn, *coord),
+        Event::Crash(node) => append_of_node(out, b"crash", *node),
+        Event::Restart(node) => append_of_node(out, b"restart", *node),
+        Event::Arm { node, call, leaves } => {
+            append_of_node(out, b"arm", *node)?;
+            append_number(out, u64::from(*call))?;
+            append_leaves(out, leaves)
+        }
+        Event::Checkpoint(node) => append_of_node(out, b"checkpoint", *node),
+    }
+}
+
+/// The word of the kind.
+pub fn kind_text(kind: Kind) -> &'static [u8]
+    ensures { result.now ≡ kind_word kind }
+{
+    match kind {
+        Kind::Lock => b"lock",
+        Kind::Occ => b"occ",
+        Kind::Mv => b"mv",
+    }
+}
+
+fn append_kinds(out: &mut Vec<u8>, kinds: &[Kind]) -> Result<(), AllocError>
+    ensures { OnOk result (out.new.items ≡ out.old.items ++ behind (map kind_word kinds.now)) }
+{
+    for kind in kinds {
+        append_word(out, kind_text(*kind))?;
+    }
+    Ok(())
+}
+
+/// Appends the line of the head.
+pub fn append_head(out: &mut Vec<u8>, head: &Head) -> Result<(), AllocError>
+    ensures { OnOk result (out.new.items ≡ out.old.items ++ head_text head.now) }
+{
+    out.extend_from_slice(b"members")?;
+    append_kinds(out, head.kinds.as_slice())?;
+    append_word(out, b"coords")?;
+    append_number(out, u64::from(head.coords))
+}
+
+/// Appends the one line of the event, without a newline. `Long` comes exactly where the line has
+/// more than 1,024 bytes, unless memory ran out before. After a fault nothing is appended.
+pub fn put_line(event: &Event, into: &mut Vec<u8>) -> Result<(), LineFault>
+    ensures ok { OnOk result ((into.new.items ≡ into.old.items ++ line_text event.now) × (length (line_text event.now) ≤ 1024)) }
+    ensures long { IsErrOf result LineFault.Long → 1024 < length (line_text event.now) }
+    ensures faults { IfErr result (λ fault. (fault ≡ LineFault.Long) ⊎ (fault ≡ LineFault.Memory)) }
+    ensures err { OnErr result (into.new.items ≡ into.old.items) }
+{
+    let mut line = Vec::new(*into.allocator());
+    append_event(&mut line, event)?;
+    if line.len() > LONGEST_LINE {
+        return Err(LineFault::Long);
+    }
+    into.extend_from_slice(&line)?;
+    Ok(())
+}
+
+/// The most bytes of a line, without its newline.
+pub const LONGEST_LINE: usize = 1024;
