@@ -1,5 +1,5 @@
 -- What a player knows, after each call.
-use Rattle.std.proofs.Common.{◌≡◌, T, ℕ, Bool, true, false, cond, ◌&&◌, ◌||◌, not, List, [], ◌∷◌, if◌then◌else◌, is_some, Option, None, Some, Result, Ok, Err, OnOk, IsTrue, refl, sym, ap, ◌∙◌, subst, eqb→eq, eq-eqb, ◌+◌, ◌<◌, length, drop, get_or, arith}
+use Rattle.std.proofs.Common.{◌≡◌, T, ℕ, Bool, true, false, cond, ◌||◌, List, ◌∷◌, if◌then◌else◌, is_some, Option, None, Some, IsTrue, refl, sym, ap, ◌∙◌, subst, eqb→eq, eq-eqb, ◌+◌, ◌<◌, length, drop, get_or, arith}
 use Rattle.std.proofs.lemmas.List.{drop_more, drop_all}
 use Rattle.co_base.specs.declared.head.Kind.{Kind}
 use Rattle.co_serial.specs.Records.{Records}
@@ -13,7 +13,6 @@ use Rattle.std.specs.declared.cmp.Ordering.TheVariants.{Less, Equal, Greater}
 use Rattle.co_base.specs.declared.op.Op.{Op}
 use Rattle.co_base.specs.declared.reply.Reply.{Reply}
 use Rattle.co_state.specs.declared.engine_state.EngineState.{EngineState}
-use Rattle.co_state.specs.declared.engine_state.Install.{Install}
 use Rattle.co_state.specs.declared.engine_state.Operation.{Operation}
 use Rattle.co_state.specs.declared.engine_state.Vote.{Vote}
 use Rattle.co_state.specs.Table.{Table, no_entries, look, put, without, holds}
@@ -21,7 +20,6 @@ use Rattle.co_state.specs.Effects.{restored, after_operation, after_cast, after_
 use Rattle.co_state.specs.LockRule.{lock_blocker}
 use Rattle.co_state.specs.ReadRule.{operation_reply}
 use Rattle.co_state.proofs.Tables.{look-put, look-without}
-use Rattle.co_engine.specs.declared.answers.Seen.{Seen}
 use Rattle.co_engine.specs.declared.answers.Seen.TheVariants.{Answer, Blocked}
 use Rattle.co_engine.specs.declared.known.Known.{Known}
 use Rattle.co_engine.specs.Calls.{votes_of, vote_in, is_installed, seen_by, seen_of}

@@ -1,5 +1,5 @@
 -- What the calls of an engine ask for and what they answer, by the state that the engine stands for.
-use Rattle.std.specs.Prelude.{ℕ, Bool, ◌≡◌, true, false, ◌||◌, ◌&&◌, not, ◌==◌, List, [], ◌∷◌, ◌++◌, Option, None, Some}
+use Rattle.std.specs.Prelude.{ℕ, Bool, ◌≡◌, false, ◌||◌, ◌&&◌, not, ◌==◌, List, [], ◌∷◌, ◌++◌, Option, None, Some}
 use Rattle.co_base.specs.declared.op.Op.{Op}
 use Rattle.co_base.specs.declared.op.Op.TheVariants.{Write, Erase}
 use Rattle.co_base.specs.declared.reply.Reply.{Reply}

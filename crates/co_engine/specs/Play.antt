@@ -1,9 +1,8 @@
 -- What a list of commands comes to: each call answers by the state that the calls before it left, and a
 -- call whose condition is not met is refused and changes nothing.
-use Rattle.std.specs.Prelude.{ℕ, Bool, ◌≡◌, true, false, List, [], ◌∷◌, if◌then◌else◌, Option}
+use Rattle.std.specs.Prelude.{ℕ, Bool, ◌≡◌, true, false, List, [], ◌∷◌, if◌then◌else◌}
 use Rattle.co_base.specs.declared.op.Op.{Op}
 use Rattle.co_base.specs.declared.op.Op.TheVariants as op
-use Rattle.co_engine.specs.declared.answers.Seen.{Seen}
 use Rattle.co_engine.specs.declared.command.Command.{Command}
 use Rattle.co_engine.specs.declared.command.Command.TheVariants.{Read, Scan, Write, Cast, Install, Drop}
 use Rattle.co_engine.specs.declared.command.Played.{Played}

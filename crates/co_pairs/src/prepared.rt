@@ -40,7 +40,10 @@ impl Prepared {
 fn clash(one: &Prepared, other: &Prepared) -> bool
     ensures { result ≡ clash one.now other.now }
 {
-    one.txn == other.txn || one.sets.meets(&other.sets) || other.sets.meets(&one.sets) || one.sets.both(&other.sets)
+    one.txn == other.txn
+        || one.sets.meets(&other.sets)
+        || other.sets.meets(&one.sets)
+        || one.sets.both(&other.sets)
 }
 
 /// Whether one prepared transaction clashes with some of the others.

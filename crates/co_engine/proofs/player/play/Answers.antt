@@ -1,4 +1,4 @@
-use Rattle.std.proofs.Common.{◌≡◌, List, ◌+◌, take, ap, sym, ◌∙◌, subst}
+use Rattle.std.proofs.Common.{List, ◌+◌, take, sym, subst}
 use Rattle.co_state.specs.declared.engine_state.EngineState.{EngineState}
 use Rattle.co_state.specs.Effects.{restored, records_from}
 use Rattle.co_engine.specs.declared.command.Played.{Played}

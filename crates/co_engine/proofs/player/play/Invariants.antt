@@ -1,4 +1,4 @@
-use Rattle.std.proofs.Common.{◌≡◌, take}
+use Rattle.std.proofs.Common.{take}
 use Rattle.co_state.specs.Effects.{restored, records_from}
 use Rattle.co_engine.specs.Calls.{votes_of}
 use Rattle.co_engine.specs.Known.{IsKnown}

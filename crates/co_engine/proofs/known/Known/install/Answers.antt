@@ -1,4 +1,4 @@
-use Rattle.std.proofs.Common.{◌≡◌, ap, sym, ◌∙◌, subst}
+use Rattle.std.proofs.Common.{sym, subst}
 use Rattle.co_engine.specs.declared.known.Known.{Known}
 use Rattle.co_engine.specs.Known.{IsKnown}
 use Rattle.co_state.proofs.Tables.{on_ok}

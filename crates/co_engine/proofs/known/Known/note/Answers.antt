@@ -1,5 +1,4 @@
-use Rattle.std.proofs.Common.{◌≡◌, ap, sym, ◌∙◌}
-use Rattle.co_engine.specs.declared.known.Known.{Known}
+use Rattle.std.proofs.Common.{sym, ◌∙◌}
 use Rattle.co_engine.specs.Known.{IsKnown}
 use Rattle.co_state.proofs.Tables.{on_ok}
 use Rattle.co_state.specs.Effects.{after_operation}

@@ -1,4 +1,4 @@
-use Rattle.std.proofs.Common.{◌≡◌, ℕ, ◌≤◌, ◌+◌, ◌-◌, ◌<◌, length, drop, ap, sym, ◌∙◌, subst, arith}
+use Rattle.std.proofs.Common.{◌≡◌, ◌-◌, drop, ap, sym, ◌∙◌, subst, arith}
 use Rattle.co_engine.specs.declared.known.Known.{Known}
 use Rattle.co_engine.specs.Known.{IsKnown}
 use Rattle.co_engine.specs.Calls.{votes_of}
