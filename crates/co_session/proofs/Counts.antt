@@ -95,7 +95,7 @@ counts_told (o ∷ os) m = by (counts_told os m) (o.site.member == m) refl
     by rest true e =
         let same = eqb-true o.site.member m e in
         let one : count_among (with_part o.site.member (parts_of os)) m ≡ count_among (parts_of os) m + 1 =
-            ap (λ k. count_among (with_part k (parts_of os)) m) same ∙ counts_one m (parts_of os) (parts_ascend os) in
+        ap (λ k. count_among (with_part k (parts_of os)) m) same ∙ counts_one m (parts_of os) (parts_ascend os) in
         one ∙ ap (λ n. n + 1) rest ∙ ap (λ b. if b then count_at os m + 1 else count_at os m) (sym e)
     by rest false e =
         keeps_others o.site.member m (parts_of os) (eqb-false o.site.member m e)
@@ -108,5 +108,5 @@ counted_at [] i m p l is e = absurd (omega (arith, l))
 counted_at (x ∷ xs) zero m p l is e =
     let same : x ≡ p = sym is in
     sym (counts_here m x xs (sym (ap (λ q. q.member) same ∙ e))
-        ∙ (λ i. record { member = (ap (λ q. q.member) same ∙ e) i; count = (same i).count + 1 } ∷ xs))
+    ∙ (λ i. record { member = (ap (λ q. q.member) same ∙ e) i; count = (same i).count + 1 } ∷ xs))
 counted_at (x ∷ xs) (suc i) m p l is e = ap (λ ps. x ∷ ps) (counted_at xs i m p (omega (arith, l)) is e)

@@ -45,9 +45,9 @@ module _ {X : Type 0} where
   rewritten es fs k w says =
       same_map nat_cmp_total nat_cmp-IsAntisymmetric (from_entries fs) (put (from_entries es) k w)
       (λ q. looked fs q ∙ says q ∙ ap (λ b. cond b (Some w) (lookup (nat_eq q) es)) (swap_test k q)
-          ∙ ap (cond (nat_eq q k) (Some w)) (sym (looked es q))
-          ∙ ap (λ b. cond b (Some w) (look (from_entries {R = nat_cmp} es) q)) (sym (same_test q k))
-          ∙ sym (get-insert nat_cmp_total (from_entries es) k w q))
+      ∙ ap (cond (nat_eq q k) (Some w)) (sym (looked es q))
+      ∙ ap (λ b. cond b (Some w) (look (from_entries {R = nat_cmp} es) q)) (sym (same_test q k))
+      ∙ sym (get-insert nat_cmp_total (from_entries es) k w q))
 
 pub none_from : {X : Type 0} {o : Option X} → is_some o ≡ false → o ≡ None
 none_from {o = None} e = refl

@@ -28,7 +28,10 @@ pub(crate) fn count_one(parts: &mut Vec<Part>, member: u8) -> Result<(), AllocEr
     for place in 0..parts.len() {
         let part = parts[place];
         if part.member == member {
-            parts[place] = Part { member, count: part.count + 1 };
+            parts[place] = Part {
+                member,
+                count: part.count + 1,
+            };
             return Ok(());
         }
         if member < part.member {

@@ -29,7 +29,6 @@ impl Model for Sessions {
     ghost use Rattle.indexmap.specs.IndexMap.{keys};
     ghost use Rattle.co_session.specs.Clients.{Clients};
     ghost use Rattle.co_base.specs.Order.{IsAscending};
-
     ghost use Rattle.std.specs.FinMap as map;
     ghost use Rattle.std.specs.Ordering.{nat_cmp};
     ghost use Rattle.std.specs.Coded.{codes, coded_ℕ};
@@ -142,7 +141,9 @@ impl Sessions {
         ensures ok { OnOk result (self.new ≡ with_answered self.old t (record { site = site; reply = reply })) }
         ensures err { OnErr result (self.new ≡ self.old) }
     {
-        let Some(client) = self.begun.get_mut(&t) else { unreachable!() };
+        let Some(client) = self.begun.get_mut(&t) else {
+            unreachable!()
+        };
         client.tell(Told { site, reply })
     }
 
@@ -162,7 +163,108 @@ impl Sessions {
         requires begun { holds self.old.sessions t ≡ true }
         ensures { self.new ≡ with_asked self.old t }
     {
-        let Some(client) = self.begun.get_mut(&t) else { unreachable!() };
+        let Some(client) = self.begun.get_mut(&t) else {
+            unreachable!()
+        };
         client.ask();
+    }
+}
+
+#[cfg(test)]
+mod tests {
+    use super::*;
+    use co_base::{Key, Op, Value};
+
+    fn fresh(alloc: Global) -> Option<Sessions> {
+        Sessions::attach(alloc, Txns::new(alloc)).ok()
+    }
+
+    fn a_write(alloc: Global) -> Option<Op> {
+        let key = Key::new(alloc, b"k").ok()?;
+        let value = Value::new(alloc, b"v").ok()?;
+        Some(Op::Write(key, value))
+    }
+
+    fn begin(alloc: Global, sessions: &mut Sessions, t: Txn) -> bool {
+        match sessions.may_begin(t) {
+            Ok(()) => sessions.begin(alloc, t, 2).is_ok(),
+            Err(_) => false,
+        }
+    }
+
+    fn write_at(alloc: Global, sessions: &mut Sessions, t: Txn, member: u8) -> bool {
+        let Some(op) = a_write(alloc) else {
+            return false;
+        };
+        if member < 1 {
+            return false;
+        }
+        if member > 16 {
+            return false;
+        }
+        if sessions.carried(t, member) >= 1024 {
+            return false;
+        }
+        match sessions.may_act(t) {
+            Ok(_) => sessions.answered(t, Site { member, op }, Reply::Done).is_ok(),
+            Err(_) => false,
+        }
+    }
+
+    fn parts_of(alloc: Global, sessions: &Sessions, t: Txn) -> Option<Parts> {
+        match sessions.may_act(t) {
+            Ok(_) => sessions.parts(alloc, t).ok(),
+            Err(_) => None,
+        }
+    }
+
+    fn ask(sessions: &mut Sessions, t: Txn) -> bool {
+        match sessions.may_act(t) {
+            Ok(_) => {
+                sessions.asked(t);
+                true
+            }
+            Err(_) => false,
+        }
+    }
+
+    #[test]
+    fn a_number_is_begun_once_and_acts_until_it_is_asked(rt: HostRuntime) {
+        let alloc = rt.alloc();
+        let Some(mut sessions) = fresh(alloc) else {
+            assert!(rt; false);
+            return;
+        };
+        assert!(rt; matches!(sessions.may_act(Txn(3)), Err(SessionFault::NotBegun)));
+        assert!(rt; begin(alloc, &mut sessions, Txn(7)));
+        assert!(rt; matches!(sessions.may_begin(Txn(7)), Err(SessionFault::Used)));
+        assert!(rt; matches!(sessions.may_act(Txn(7)), Ok(2)));
+        assert!(rt; ask(&mut sessions, Txn(7)));
+        assert!(rt; matches!(sessions.may_act(Txn(7)), Err(SessionFault::Asked)));
+    }
+
+    #[test]
+    fn participants_ascend_with_their_counts(rt: HostRuntime) {
+        let alloc = rt.alloc();
+        let Some(mut sessions) = fresh(alloc) else {
+            assert!(rt; false);
+            return;
+        };
+        assert!(rt; begin(alloc, &mut sessions, Txn(7)));
+        for member in [9, 2, 9, 16, 9] {
+            assert!(rt; write_at(alloc, &mut sessions, Txn(7), member));
+        }
+        for (member, count) in [(1, 0), (2, 1), (9, 3), (16, 1), (200, 0)] {
+            assert!(rt; sessions.carried(Txn(7), member) == count, "at {member}");
+        }
+        assert!(rt; sessions.carried(Txn(8), 9) == 0);
+        let Some(parts) = parts_of(alloc, &sessions, Txn(7)) else {
+            assert!(rt; false);
+            return;
+        };
+        assert!(rt; parts.len() == 3);
+        for (part, (member, count)) in parts.as_slice().iter().zip([(2, 1), (9, 3), (16, 1)]) {
+            assert!(rt; part.member == member && part.count == count);
+        }
     }
 }

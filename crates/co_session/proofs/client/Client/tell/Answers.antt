@@ -8,7 +8,7 @@ pub count_one-requires : goal.count_one-requires
 count_one-requires c =
     let m = c.args.told.site.member in
     let same : count_among c.self.inside.counts.items m ≡ count_at c.args.self.now.told m =
-        ap (λ ps. count_among ps m) c.self.invariant.0
-        ∙ counts_told (reverse c.self.inside.told.items) m
-        ∙ ap (λ session. count_at session.told m) c.self.view_is in
+    ap (λ ps. count_among ps m) c.self.invariant.0
+    ∙ counts_told (reverse c.self.inside.told.items) m
+    ∙ ap (λ session. count_at session.told m) c.self.view_is in
     omega (arith, same, c.requires)

@@ -25,7 +25,7 @@ unreachable-requires c =
 pub tell-requires : goal.tell-requires
 tell-requires c =
     let was : look c.args.self.now.sessions c.args.t ≡ Some c.in-Some.client.now =
-        ap (λ x. look x.sessions c.args.t) (sym c.self.view_is) ∙ looked c.self.inside.begun.entries c.args.t ∙ sym c.in-Some.ensures.value in
+    ap (λ x. look x.sessions c.args.t) (sym c.self.view_is) ∙ looked c.self.inside.begun.entries c.args.t ∙ sym c.in-Some.ensures.value in
     let same = ap (λ o. carried_of o c.args.site.member) was in
     omega (arith, same, c.requires.count)
 
@@ -39,12 +39,12 @@ returns-clause-ok c =
     let o : Told = record { site = c.args.site; reply = c.args.reply } in
     on_ok c.tell.result
     (λ told. (λ i. record {
-        sessions = (table ∙ ap (put (from_entries es) c.args.t) told) i;
-        begun = wrote.1 i;
-        used = c.self.inside.used;
-      })
-      ∙ ap (changed old c.args.t (λ session. with_told session o)) (c.in-Some.ensures.value ∙ sym (looked es c.args.t))
-      ∙ ap (λ x. with_answered x c.args.t o) c.self.view_is)
+      sessions = (table ∙ ap (put (from_entries es) c.args.t) told) i;
+      begun = wrote.1 i;
+      used = c.self.inside.used;
+    })
+    ∙ ap (changed old c.args.t (λ session. with_told session o)) (c.in-Some.ensures.value ∙ sym (looked es c.args.t))
+    ∙ ap (λ x. with_answered x c.args.t o) c.self.view_is)
     c.tell.ensures.ok
 
 pub returns-clause-err : goal.returns-clause-err
@@ -53,5 +53,5 @@ returns-clause-err c =
     let wrote = c.get_mut.follows.holds c.tell.new.self in
     on_err c.tell.result
     (λ same. let kept = wrote.0 ∙ ap (set_value (nat_eq c.args.t) es) same ∙ set_value_same (nat_eq c.args.t) es c.in-Some.client.now (sym c.in-Some.ensures.value) in
-      (λ i. record { sessions = from_entries (kept i); begun = keys_of (kept i); used = c.self.inside.used }) ∙ c.self.view_is)
+    (λ i. record { sessions = from_entries (kept i); begun = keys_of (kept i); used = c.self.inside.used }) ∙ c.self.view_is)
     c.tell.ensures.err

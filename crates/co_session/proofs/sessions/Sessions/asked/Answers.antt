@@ -20,9 +20,9 @@ returns c =
     let there = sym (ap is_some c.in-Some.ensures.value) in
     let table = rewritten es (c.get_mut.follows.lender c.ask.new.self).entries c.args.t c.ask.new.self (wrote.3 there).0 in
     (λ i. record {
-        sessions = (table ∙ ap (put (from_entries es) c.args.t) c.ask.ensures) i;
-        begun = wrote.1 i;
-        used = c.self.inside.used;
-      })
+      sessions = (table ∙ ap (put (from_entries es) c.args.t) c.ask.ensures) i;
+      begun = wrote.1 i;
+      used = c.self.inside.used;
+    })
     ∙ ap (changed old c.args.t asked_to_end) (c.in-Some.ensures.value ∙ sym (looked es c.args.t))
     ∙ ap (λ x. with_asked x c.args.t) c.self.view_is

@@ -16,14 +16,14 @@ returns-clause-ok c =
     let es = c.self.inside.begun.entries in
     let client = begun_by (node.Coord c.args.coord) in
     let absent : lookup (nat_eq c.args.t) es ≡ None =
-        sym (looked es c.args.t) ∙ none_from (unused_absent _ _ (ap (λ x. is_used x c.args.t) c.self.view_is ∙ c.requires.unused)) in
+    sym (looked es c.args.t) ∙ none_from (unused_absent _ _ (ap (λ x. is_used x c.args.t) c.self.view_is ∙ c.requires.unused)) in
     let table = rewritten es c.insert.new.self.entries c.args.t c.begun.result c.in_ok-insert.ensures.updates.0 in
     let order : keys_of c.insert.new.self.entries ≡ keys_of es ++ c.args.t ∷ [] =
-        ap keys_of (c.in_ok-insert.ensures.entries ∙ insert_entry-new nat_eq c.self.inside.begun c.args.t c.begun.result absent)
-        ∙ keys_more es c.args.t c.begun.result in
+    ap keys_of (c.in_ok-insert.ensures.entries ∙ insert_entry-new nat_eq c.self.inside.begun c.args.t c.begun.result absent)
+    ∙ keys_more es c.args.t c.begun.result in
     (λ i. record {
-        sessions = (table ∙ ap (put (from_entries es) c.args.t) c.begun.ensures) i;
-        begun = order i;
-        used = c.self.inside.used;
-      })
+      sessions = (table ∙ ap (put (from_entries es) c.args.t) c.begun.ensures) i;
+      begun = order i;
+      used = c.self.inside.used;
+    })
     ∙ ap (λ x. with_begun x c.args.t (node.Coord c.args.coord)) c.self.view_is

@@ -17,5 +17,5 @@ returns c =
     ∙ found_used c.as_slice.result.now c.args.t c.binary_search.result c.as_slice.ensures.ascending c.binary_search.ensures.position
     ∙ ap (λ xs. has_number xs c.args.t) c.as_slice.ensures.value
     ∙ ap (λ b. b || has_number c.self.inside.used c.args.t)
-      (c.if-contains_key.ensures ∙ ap is_some (sym (looked c.self.inside.begun.entries c.args.t)))
+    (c.if-contains_key.ensures ∙ ap is_some (sym (looked c.self.inside.begun.entries c.args.t)))
     ∙ ap (λ x. is_used x c.args.t) c.self.view_is
