@@ -20,6 +20,7 @@ use std::marker::Model;
 /// A contract sees a table of sessions, the begun numbers in order, and the used numbers.
 #[derive(Drop)]
 pub struct Sessions {
+    alloc: Global,
     begun: IndexMap<Txn, Client>,
     used: Txns,
 }
@@ -53,6 +54,7 @@ impl Sessions {
     {
         let _ = used.as_slice();
         Ok(Sessions {
+            alloc,
             begun: IndexMap::new(alloc),
             used,
         })
@@ -94,13 +96,13 @@ impl Sessions {
 
     /// A client begins the transaction at a coordinator. `may_begin` said yes. Want of memory leaves the
     /// sessions as they were.
-    pub fn begin(&mut self, alloc: Global, t: Txn, coord: u8) -> Result<(), AllocError>
+    pub fn begin(&mut self, t: Txn, coord: u8) -> Result<(), AllocError>
         requires unused { is_used self.old t ≡ false }
         requires room { is_full self.old ≡ false }
         ensures ok { OnOk result (self.new ≡ with_begun self.old t (node.Coord coord)) }
         ensures err { OnErr result (self.new ≡ self.old) }
     {
-        self.begun.insert(t, Client::begun(alloc, coord))?;
+        self.begun.insert(t, Client::begun(self.alloc, coord))?;
         Ok(())
     }
 
@@ -148,12 +150,12 @@ impl Sessions {
     }
 
     /// The participants of the transaction, ascending by member, each with its count.
-    pub fn parts(&self, alloc: Global, t: Txn) -> Result<Parts, AllocError>
+    pub fn parts(&self, t: Txn) -> Result<Parts, AllocError>
         requires begun { holds self.now.sessions t ≡ true }
         ensures { IfOk result (λ parts. parts ≡ parts_in self.now t) }
     {
         match self.begun.get(&t) {
-            None => Ok(Parts::new(alloc)),
+            None => Ok(Parts::new(self.alloc)),
             Some(client) => client.parts(),
         }
     }
@@ -185,9 +187,9 @@ mod tests {
         Some(Op::Write(key, value))
     }
 
-    fn begin(alloc: Global, sessions: &mut Sessions, t: Txn) -> bool {
+    fn begin(sessions: &mut Sessions, t: Txn) -> bool {
         match sessions.may_begin(t) {
-            Ok(()) => sessions.begin(alloc, t, 2).is_ok(),
+            Ok(()) => sessions.begin(t, 2).is_ok(),
             Err(_) => false,
         }
     }
@@ -211,9 +213,9 @@ mod tests {
         }
     }
 
-    fn parts_of(alloc: Global, sessions: &Sessions, t: Txn) -> Option<Parts> {
+    fn parts_of(sessions: &Sessions, t: Txn) -> Option<Parts> {
         match sessions.may_act(t) {
-            Ok(_) => sessions.parts(alloc, t).ok(),
+            Ok(_) => sessions.parts(t).ok(),
             Err(_) => None,
         }
     }
@@ -236,7 +238,7 @@ mod tests {
             return;
         };
         assert!(rt; matches!(sessions.may_act(Txn(3)), Err(SessionFault::NotBegun)));
-        assert!(rt; begin(alloc, &mut sessions, Txn(7)));
+        assert!(rt; begin(&mut sessions, Txn(7)));
         assert!(rt; matches!(sessions.may_begin(Txn(7)), Err(SessionFault::Used)));
         assert!(rt; matches!(sessions.may_act(Txn(7)), Ok(2)));
         assert!(rt; ask(&mut sessions, Txn(7)));
@@ -250,7 +252,7 @@ mod tests {
             assert!(rt; false);
             return;
         };
-        assert!(rt; begin(alloc, &mut sessions, Txn(7)));
+        assert!(rt; begin(&mut sessions, Txn(7)));
         for member in [9, 2, 9, 16, 9] {
             assert!(rt; write_at(alloc, &mut sessions, Txn(7), member));
         }
@@ -258,7 +260,7 @@ mod tests {
             assert!(rt; sessions.carried(Txn(7), member) == count, "at {member}");
         }
         assert!(rt; sessions.carried(Txn(8), 9) == 0);
-        let Some(parts) = parts_of(alloc, &sessions, Txn(7)) else {
+        let Some(parts) = parts_of(&sessions, Txn(7)) else {
             assert!(rt; false);
             return;
         };
