@@ -7,7 +7,9 @@ use Rattle.co_base.specs.declared.node.Node.{Node}
 use Rattle.co_base.specs.declared.node.Node.TheVariants as node
 use Rattle.co_state.specs.declared.engine_state.EngineState.{EngineState}
 use Rattle.co_state.specs.Table.{look, holds, no_entries}
-use Rattle.co_state.specs.VotingRule.{Verdict, LostOperations, StaleRead, HeldBy, VoteYes, vote_of}
+use Rattle.co_state.specs.declared.verdict.Verdict.{Verdict}
+use Rattle.co_state.specs.declared.verdict.Verdict.TheVariants.{LostOperations, StaleRead, HeldBy, VoteYes}
+use Rattle.co_state.specs.VotingRule.{vote_of}
 use Rattle.co_plain.specs.Numbers.{has_number}
 use Rattle.co_plain.specs.declared.coord_state.Entry.{Entry}
 use Rattle.co_plain.specs.declared.coord_state.Entry.TheVariants as entry
