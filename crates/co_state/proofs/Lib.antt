@@ -2,5 +2,5 @@ mod Placing
 mod Newest
 mod Rows
 mod Staleness
-mod Tables
+pub mod Tables
 mod Joining

@@ -9,3 +9,4 @@ pub mod StaleRead
 pub mod Search
 pub mod VotingRule
 pub mod Effects
+pub mod Joined

@@ -1,15 +1,14 @@
 //! What calls leave of the state of an engine.
 ghost use Rattle.std.specs.Prelude.{◌≡◌, IfOk, OnOk};
-ghost use Rattle.co_state.specs.Effects.{with_operation, after_cast, after_install, after_drop, restored, joined};
+ghost use Rattle.co_state.specs.Effects.{with_operation, after_cast, after_install, after_drop, restored};
 ghost use Rattle.co_state.specs.EngineState.{operations_in};
 ghost use Rattle.co_state.specs.Table.{look, without};
 
 use crate::changes::sets_of;
 use crate::engine_state::{EngineState, Install, Operation, Operations, Vote};
 use crate::history::History;
-use crate::places::put_change;
 use crate::table::Table;
-use co_base::{Kind, Op, Txn, Written};
+use co_base::{Kind, Op, Txn};
 use co_serial::RecordMap;
 use std::alloc::{AllocError, Global};
 
@@ -87,16 +86,4 @@ fn take_operations(alloc: Global, active: &mut Table<Operations>, t: Txn) -> Ope
         Some(operations) => operations,
         None => History::new(alloc),
     }
-}
-
-/// Lays changes over others, the last one first.
-pub fn join(changes: &mut Vec<Written>, others: &[Written]) -> Result<(), AllocError>
-    ensures { OnOk result (changes.new.items ≡ joined others.now changes.old.items) }
-{
-    let mut place = others.len();
-    while 0 < place {
-        place -= 1;
-        put_change(changes, others[place].copy()?)?;
-    }
-    Ok(())
 }

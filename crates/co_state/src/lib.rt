@@ -7,6 +7,7 @@
 
 mod changes;
 mod copies;
+mod dumps;
 mod effects;
 mod engine_state;
 mod history;
@@ -19,13 +20,15 @@ mod rules;
 mod sets;
 mod stale;
 mod table;
+#[cfg(test)]
+mod tests;
 mod verdict;
 mod voting;
 
 pub use changes::{change_made, range_read, sets_of};
 pub use co_serial::RecordMap;
 pub use copies::{copy_ranges, copy_writes};
-pub use effects::join;
+pub use dumps::join;
 pub use engine_state::{EngineState, Install, Operation, Operations, Sets, Vote};
 pub use history::History;
 pub use locking::{active_in_way, lesser, sets_block, voted_in_way, writes_block};

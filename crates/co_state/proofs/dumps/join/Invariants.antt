@@ -1,6 +1,6 @@
 use Rattle.std.proofs.Common.{◌≡◌, ◌≤◌, length, take}
 use Rattle.co_state.specs.Effects.{joined}
-use Rattle.co_state.proofs.effects.join.Given as goal
+use Rattle.co_state.proofs.dumps.join.Given as goal
 
 abbrev pub invariant-loop-place : goal.invariant-loop-place
 invariant-loop-place l = record {

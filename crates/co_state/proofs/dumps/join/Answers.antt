@@ -2,7 +2,7 @@ use Rattle.std.proofs.Common.{◌≡◌, ◌<◌, ◌+◌, ◌-◌, ap, sym, ◌
 use Rattle.co_state.specs.Changes.{put_change}
 use Rattle.co_state.specs.Effects.{joined}
 use Rattle.co_state.proofs.Joining.{joined_more}
-use Rattle.co_state.proofs.effects.join.Goals as goal
+use Rattle.co_state.proofs.dumps.join.Goals as goal
 
 pub loop-place-preserved : goal.loop-place-preserved
 loop-place-preserved c =

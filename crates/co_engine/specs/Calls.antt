@@ -1,0 +1,56 @@
+-- What the calls of an engine ask for and what they answer, by the state that the engine stands for.
+use Rattle.std.specs.Prelude.{ℕ, Bool, ◌≡◌, false, ◌||◌, ◌&&◌, not, ◌==◌, List, [], ◌∷◌, ◌++◌, Option, None, Some}
+use Rattle.co_base.specs.declared.op.Op.{Op}
+use Rattle.co_base.specs.declared.op.Op.TheVariants.{Write, Erase}
+use Rattle.co_base.specs.declared.reply.Reply.{Reply}
+use Rattle.co_engine.specs.declared.answers.Seen.{Seen}
+use Rattle.co_engine.specs.declared.answers.Seen.TheVariants.{Answer, Blocked}
+use Rattle.co_pairs.specs.declared.prepared.Prepared.{Prepared}
+use Rattle.co_state.specs.declared.engine_state.EngineState.{EngineState}
+use Rattle.co_state.specs.declared.engine_state.Install.{Install}
+use Rattle.co_state.specs.declared.engine_state.Vote.{Vote}
+use Rattle.co_state.specs.declared.pair.Pair.{Pair}
+use Rattle.co_state.specs.Conflicts.{AreNewPairs}
+use Rattle.co_state.specs.LockRule.{lock_blocker}
+use Rattle.co_state.specs.ReadRule.{operation_reply}
+use Rattle.co_state.specs.Table.{Table, no_entries, put, holds}
+
+abbrev pub is_installed : List Install → ℕ → Bool
+is_installed [] t = false
+is_installed (i ∷ is) t = (i.txn == t) || is_installed is t
+
+-- operations come from transactions that have neither voted nor been installed
+abbrev pub may_operate : EngineState → ℕ → Bool
+may_operate b t = not (holds b.voted t) && not (is_installed b.installed t)
+
+-- an operation is blocked where a transaction is in the way, and else it is answered
+abbrev pub seen_by : Option ℕ → Reply → Seen
+seen_by (Some u) reply = Blocked u
+seen_by None reply = Answer reply
+
+abbrev pub seen_of : EngineState → ℕ → Op → Seen
+seen_of b t op = seen_by (lock_blocker b t op) (operation_reply b t op)
+
+-- a write without a value takes the record away
+abbrev pub writing : List ℕ → Option (List ℕ) → Op
+writing key None = Erase key
+writing key (Some value) = Write key value
+
+abbrev pub vote_in : Prepared → Vote
+vote_in p = record { coord = p.coord; count = p.count; sets = p.sets }
+
+-- the prepared transactions as voted ones
+abbrev pub votes_of : List Prepared → Table Vote
+votes_of [] = no_entries
+votes_of (p ∷ ps) = put (votes_of ps) p.txn (vote_in p)
+
+-- a list begins with what it held
+pub record Appends (before after : List Pair) : Type 0 where
+  pub added : List Pair
+  pub appended : after ≡ before ++ added
+
+-- and what was added are the pairs that are new
+pub record AppendsNewPairs (old new : EngineState) (before after : List Pair) : Type 0 where
+  pub added : List Pair
+  pub appended : after ≡ before ++ added
+  pub exactly_new : AreNewPairs old new added

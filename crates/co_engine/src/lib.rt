@@ -1,0 +1,16 @@
+//! What every engine promises, whatever it keeps: the answers that the state of an engine gives.
+//!
+//! An engine stands for a state, by a relation of its own. Each call answers as that state does, and
+//! afterwards the engine stands for the state that the call leaves.
+#![tactic(auto)]
+
+mod answers;
+mod command;
+mod engine;
+mod known;
+mod player;
+
+pub use answers::{Dump, Seen};
+pub use command::{Answers, Command, Played};
+pub use engine::Engine;
+pub use player::play;

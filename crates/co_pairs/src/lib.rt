@@ -1,0 +1,7 @@
+//! What transactions read and wrote, the conflicts between them, and transactions that have prepared.
+#![tactic(auto)]
+
+mod prepared;
+
+pub use co_state::{Pair, PairKind, Pairs, Sets};
+pub use prepared::{Prepared, PreparedList, are_free};
