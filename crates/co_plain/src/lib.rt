@@ -5,6 +5,7 @@
 #![tactic(auto)]
 
 mod coord_force;
+mod coord_log;
 mod coord_messages;
 mod coord_past;
 mod coord_state;
@@ -13,10 +14,12 @@ mod coord_view;
 mod coordinator;
 mod entry;
 mod happening;
+mod local_commit;
 mod log_state;
 mod marks;
 mod member;
 mod member_force;
+mod member_log;
 mod member_past;
 mod member_state;
 mod member_states;

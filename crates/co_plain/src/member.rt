@@ -147,7 +147,7 @@ fn vote_on(
 ) -> Result<MemberStep, AllocError>
     ensures { IfOk result (λ step. step ≡ vote_on member x t coord count) }
 {
-    let verdict = x.engine.vote_of(alloc, t, count)?;
+    let verdict = x.engine.vote_of(alloc, t, usize::from(count))?;
     vote_by(alloc, member, x, t, coord, count, verdict)
 }
 
