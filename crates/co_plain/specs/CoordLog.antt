@@ -13,6 +13,7 @@ use Rattle.co_plain.specs.declared.coord_state.Entry.{Entry}
 use Rattle.co_plain.specs.declared.coord_state.Entry.TheVariants as entry
 use Rattle.co_plain.specs.declared.outcome.Outcome.{Outcome}
 use Rattle.co_plain.specs.declared.outcome.Outcome.TheVariants.{Completes, StopsAt}
+use Rattle.co_plain.specs.Numbers.{next_generation}
 use Rattle.co_plain.specs.LogWrite.{outcome_of, batch_is_stable, closes_spare, with_filled_spare, with_spare, with_stop, generation_of}
 use Rattle.co_plain.specs.declared.coord_step.CoordStep.{CoordStep}
 use Rattle.co_plain.specs.CoordStep.{coord_says, with_coord_log, coord_down}
@@ -61,7 +62,7 @@ coord_close_by x (StopsAt call leaves) = coord_says (coord_down (with_spare x.lo
 
 abbrev pub coord_checkpoint_by : ℕ → CoordState → Bool → CoordStep
 coord_checkpoint_by c x false = coord_close_by x (outcome_of x.log.armed 2)
-coord_checkpoint_by c x true = coord_fill_by c x (generation_of x.log.stable + 1) (outcome_of x.log.armed 4)
+coord_checkpoint_by c x true = coord_fill_by c x (next_generation (generation_of x.log.stable)) (outcome_of x.log.armed 4)
 
 abbrev pub coord_checkpoint : ℕ → CoordState → CoordStep
 coord_checkpoint c x = coord_checkpoint_by c x x.log.spare_closed

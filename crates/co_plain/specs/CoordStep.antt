@@ -1,6 +1,7 @@
 -- A step of one coordinator: its state after, its answer, the messages it sends, and what became stable.
 use Rattle.std.specs.Prelude.{ℕ, Bool, true, false, not, List, [], ◌∷◌, ◌++◌, map, filter, if◌then◌else◌, Option, None, Some, ◌==◌, ◌||◌}
-use Rattle.std.specs.FinMap.{entries, from_entries}
+use Rattle.std.specs.FinMap.{entries}
+use Rattle.std.specs.List.{list_any}
 use Rattle.co_base.specs.declared.mark.Mark.{Mark}
 use Rattle.co_base.specs.declared.node.Node.TheVariants as node
 use Rattle.co_base.specs.declared.part.Part.{Part}
@@ -8,7 +9,7 @@ use Rattle.co_message.specs.declared.answer.Answer.{Answer}
 use Rattle.co_message.specs.declared.answer.Answer.TheVariants as answer
 use Rattle.co_message.specs.declared.message.Message.{Message}
 use Rattle.co_record.specs.declared.record.Record.{Record}
-use Rattle.co_state.specs.Table.{Table, put, without, look}
+use Rattle.co_state.specs.Table.{Table, no_entries, put, without, look}
 use Rattle.co_plain.specs.declared.coord_state.CoordState.{CoordState}
 use Rattle.co_plain.specs.declared.coord_step.CoordStep.{CoordStep}
 use Rattle.co_plain.specs.declared.coord_state.Entry.{Entry}
@@ -33,21 +34,20 @@ with_table x table = record { up = x.up; table = table; log = x.log }
 abbrev pub with_coord_log : CoordState → LogState → CoordState
 with_coord_log x l = record { up = x.up; table = x.table; log = l }
 
+-- whether the member takes part
 abbrev pub has_part : List Part → ℕ → Bool
-has_part [] m = false
-has_part (p ∷ ps) m = (p.member == m) || has_part ps m
-
--- the first of these members that is not among those
-abbrev pub first_lacking : List ℕ → List ℕ → Option ℕ
-first_lacking [] given = None
-first_lacking (m ∷ ms) given = if has_number given m then first_lacking ms given else Some m
+has_part parts m = list_any (λ p. p.member == m) parts
 
 abbrev pub members_of : List Part → List ℕ
 members_of parts = map (λ p. p.member) parts
 
 -- the commits that a log tells, none of them acknowledged
+abbrev pub table_onto : Table Entry → List (ℕ × List ℕ) → Table Entry
+table_onto table [] = table
+table_onto table (e ∷ es) = table_onto (put table e.0 (entry.Committed e.1 [])) es
+
 abbrev pub table_from : List (ℕ × List ℕ) → Table Entry
-table_from es = from_entries (map (λ e. (e.0, entry.Committed e.1 [])) es)
+table_from es = table_onto no_entries es
 
 -- the coordinator goes down: what is left is what its stable records tell
 abbrev pub coord_from : LogState → CoordView → CoordState
@@ -61,7 +61,9 @@ abbrev pub stopped_coord : ℕ → CoordState → ℕ → Bool → List Record �
 stopped_coord c next call true batch =
     record {
       state = coord_down (with_batch next.log batch);
-      answer = answer.Stopped call; sent = []; marks = marks_of (node.Coord c) (batch ++ next.log.waiting);
+      answer = answer.Stopped call;
+      sent = [];
+      marks = marks_of (node.Coord c) (batch ++ next.log.waiting);
     }
 stopped_coord c next call false batch =
     record { state = coord_down next.log; answer = answer.Stopped call; sent = []; marks = [] }
@@ -72,7 +74,9 @@ abbrev pub coord_forced_by : ℕ → CoordState → List Record → Answer → L
 coord_forced_by c next batch a messages Completes =
     record {
       state = with_coord_log next (with_batch next.log batch);
-      answer = a; sent = messages; marks = marks_of (node.Coord c) (batch ++ next.log.waiting);
+      answer = a;
+      sent = messages;
+      marks = marks_of (node.Coord c) (batch ++ next.log.waiting);
     }
 coord_forced_by c next batch a messages (StopsAt call leaves) = stopped_coord c next call (batch_is_stable call leaves) batch
 

@@ -4,18 +4,19 @@
 use Rattle.std.specs.Prelude.{ℕ, Bool, true, false, not, ◌&&◌, ◌||◌, List, [], ◌∷◌, map, filter, if◌then◌else◌, Option, None, Some}
 use Rattle.co_base.specs.declared.part.Part.{Part}
 use Rattle.co_message.specs.declared.answer.Answer.TheVariants as answer
+use Rattle.co_message.specs.declared.answer.Cause.{Cause}
 use Rattle.co_message.specs.declared.answer.Cause.TheVariants as cause
 use Rattle.co_message.specs.declared.message.Message.{Message}
 use Rattle.co_message.specs.declared.message.Message.TheVariants as message
 use Rattle.co_record.specs.declared.record.Record.TheVariants as log
 use Rattle.co_state.specs.Table.{look, put, without}
-use Rattle.co_plain.specs.Numbers.{has_number}
+use Rattle.co_plain.specs.Numbers.{first_lacking, has_number, numbers_lacking}
 use Rattle.co_plain.specs.declared.coord_state.CoordState.{CoordState}
 use Rattle.co_plain.specs.declared.coord_state.Entry.{Entry}
 use Rattle.co_plain.specs.declared.coord_state.Entry.TheVariants as entry
 use Rattle.co_plain.specs.LogWrite.{with_waiting}
 use Rattle.co_plain.specs.declared.coord_step.CoordStep.{CoordStep}
-use Rattle.co_plain.specs.CoordStep.{coord_says, coord_sends, with_table, with_coord_log, has_part, first_lacking, members_of, force_coord}
+use Rattle.co_plain.specs.CoordStep.{coord_says, coord_sends, with_table, with_coord_log, has_part, members_of, force_coord}
 
 -- the messages to participants, in their order
 abbrev pub prepares_to : ℕ → ℕ → List Part → List Message
@@ -26,9 +27,6 @@ decisions_to c t commit members = map (λ m. message.Decide t c m commit) member
 
 abbrev pub parts_lacking : List Part → List ℕ → List Part
 parts_lacking parts yeses = filter (λ p. not (has_number yeses p.member)) parts
-
-abbrev pub members_lacking : List ℕ → List ℕ → List ℕ
-members_lacking members acks = filter (λ m. not (has_number acks m)) members
 
 abbrev pub member_or_none : Option ℕ → ℕ
 member_or_none None = 0
@@ -57,11 +55,16 @@ commit_entry c x t parts (Some (entry.Committed ms acks)) = coord_says x answer.
 abbrev pub coord_commit : ℕ → CoordState → ℕ → List Part → CoordStep
 coord_commit c x t parts = commit_entry c x t parts (look x.table t)
 
+-- a transaction leaves the table by this cause, and its participants are told
+abbrev pub aborts : ℕ → CoordState → ℕ → Cause → List Part → CoordStep
+aborts c x t by parts =
+    coord_sends (with_table x (without x.table t)) (answer.Aborted by) (decisions_to c t false (members_of parts))
+
 -- the client asks for the abort
 abbrev pub abort_entry : ℕ → CoordState → ℕ → List Part → Option Entry → CoordStep
 abort_entry c x t parts None = coord_says x answer.Unknown
 abort_entry c x t parts (Some entry.Idle) =
-    coord_sends (with_table x (without x.table t)) (answer.Aborted cause.Client) (decisions_to c t false (members_of parts))
+    aborts c x t cause.Client parts
 abort_entry c x t parts (Some (entry.Collecting ps yeses)) = waits x ps yeses
 abort_entry c x t parts (Some (entry.Committed ms acks)) = coord_says x answer.Decided
 
@@ -93,7 +96,7 @@ yes_entry c x t m (Some (entry.Committed members acks)) = coord_says x answer.De
 abbrev pub no_counted : ℕ → CoordState → ℕ → ℕ → List Part → List ℕ → CoordStep
 no_counted c x t m parts yeses =
     if has_part parts m
-    then coord_sends (with_table x (without x.table t)) (answer.Aborted cause.Vote) (decisions_to c t false (members_of parts))
+    then aborts c x t cause.Vote parts
     else waits x parts yeses
 
 abbrev pub no_entry : ℕ → CoordState → ℕ → ℕ → Option Entry → CoordStep
@@ -142,7 +145,7 @@ abbrev pub timer_entry : ℕ → CoordState → ℕ → Option Entry → CoordSt
 timer_entry c x t None = coord_says x answer.Unknown
 timer_entry c x t (Some entry.Idle) = coord_says (with_table x (without x.table t)) (answer.Aborted cause.Timer)
 timer_entry c x t (Some (entry.Collecting parts yeses)) =
-    coord_sends (with_table x (without x.table t)) (answer.Aborted cause.Timer) (decisions_to c t false (members_of parts))
+    aborts c x t cause.Timer parts
 timer_entry c x t (Some (entry.Committed members acks)) = coord_says x answer.Decided
 
 abbrev pub coord_timer : ℕ → CoordState → ℕ → CoordStep
@@ -155,7 +158,7 @@ resend_entry c x t (Some entry.Idle) = coord_says x answer.Idle
 resend_entry c x t (Some (entry.Collecting parts yeses)) =
     coord_sends x (answer.Waiting (member_or_none (first_lacking (members_of parts) yeses))) (prepares_to c t (parts_lacking parts yeses))
 resend_entry c x t (Some (entry.Committed members acks)) =
-    coord_sends x answer.Decided (decisions_to c t true (members_lacking members acks))
+    coord_sends x answer.Decided (decisions_to c t true (numbers_lacking members acks))
 
 abbrev pub coord_resend : ℕ → CoordState → ℕ → CoordStep
 coord_resend c x t = resend_entry c x t (look x.table t)

@@ -28,11 +28,11 @@ use Rattle.co_plain.specs.declared.member_state.MemberState.{MemberState}
 use Rattle.co_plain.specs.declared.session.Decided.{Decided}
 use Rattle.co_plain.specs.declared.session.Session.{Session}
 use Rattle.co_plain.specs.declared.session.Told.{Told}
-use Rattle.co_plain.specs.Numbers.{has_number}
+use Rattle.co_plain.specs.Numbers.{first_lacking, has_number}
 use Rattle.co_plain.specs.declared.member_view.MemberView.{MemberView}
 use Rattle.co_plain.specs.MemberView.{view_of, recovered_view, sets_conflict}
 use Rattle.co_plain.specs.CoordView.{recovered_commits, has_commit_of}
-use Rattle.co_plain.specs.CoordStep.{first_lacking, members_of}
+use Rattle.co_plain.specs.CoordStep.{members_of}
 use Rattle.co_plain.specs.Sessions.{told_at, count_at, parts_of}
 use Rattle.co_plain.specs.Wire.{was_sent}
 use Rattle.co_plain.specs.Federation.{Federation}

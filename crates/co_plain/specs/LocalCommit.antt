@@ -12,6 +12,7 @@ use Rattle.co_plain.specs.declared.member_state.MemberState.{MemberState}
 use Rattle.co_plain.specs.declared.member_step.MemberStep.{MemberStep}
 use Rattle.co_plain.specs.declared.standing.Standing.{Standing}
 use Rattle.co_plain.specs.declared.standing.Standing.TheVariants.{IsActive, IsVoted, IsInstalled, IsAbsent}
+use Rattle.co_plain.specs.Numbers.{counted}
 use Rattle.co_plain.specs.MemberStep.{says, standing_of, dropped, force_member}
 use Rattle.co_plain.specs.Member.{prepare_record, voted_state, installed_state}
 
@@ -22,12 +23,12 @@ local_coord = 1
 -- By the same rule as a vote. Where it says yes, the prepare record and the commit record go out in one
 -- batch, so the transaction is never voted between two events.
 abbrev pub local_commit_by : ℕ → MemberState → ℕ → ℕ → Verdict → MemberStep
-local_commit_by m x t count LostOperations = says (dropped x t) (answer.NoLost (kept_count x.engine t) count)
+local_commit_by m x t count LostOperations = says (dropped x t) (answer.NoLost (counted (kept_count x.engine t)) (counted count))
 local_commit_by m x t count (StaleRead key) = says (dropped x t) (answer.NoStale key)
 local_commit_by m x t count (HeldBy u) = says x (answer.Held u)
 local_commit_by m x t count VoteYes =
-    force_member m (installed_state (voted_state x t local_coord count) t)
-      (log.Commit t [] ∷ prepare_record t local_coord count (sets_of (operations_of x.engine t)) ∷ []) answer.Committed None
+    force_member m (installed_state (voted_state x t local_coord (counted count)) t)
+    (log.Commit t [] ∷ prepare_record t local_coord (counted count) (sets_of (operations_of x.engine t)) ∷ []) answer.Committed None
 
 -- a local transaction without operations is nowhere
 abbrev pub member_local_commit : ℕ → MemberState → ℕ → ℕ → MemberStep

@@ -3,7 +3,7 @@
 -- A batch is written with a closed gate behind it, synced, its gate is opened, and that is synced: device
 -- calls 1 to 4. So the batch counts exactly where the image has its gate open, which only a stop in call 3
 -- or 4 leaves to the image.
-use Rattle.std.specs.Prelude.{ℕ, Bool, true, false, not, ◌&&◌, ◌==◌, nat_le, List, [], ◌∷◌, ◌++◌, map, reverse, if◌then◌else◌, Option, None, Some}
+use Rattle.std.specs.Prelude.{ℕ, Bool, true, false, not, ◌&&◌, ◌==◌, nat_le, List, [], ◌∷◌, ◌++◌, map, reverse, slice_get, if◌then◌else◌, Option, None, Some}
 use Rattle.co_base.specs.declared.leaves.Leaves.{Leaves}
 use Rattle.co_base.specs.declared.leaves.Leaves.TheVariants.{Old, New, Filled}
 use Rattle.co_base.specs.declared.mark.Mark.{Mark}
@@ -89,11 +89,14 @@ abbrev pub marks_of : Node → List Record → List Mark
 marks_of node records = map (mark_of node) (reverse records)
 
 -- the generation of a file: that of its header, which is its oldest record
+abbrev pub generation_in : Option Record → ℕ
+generation_in None = 0
+generation_in (Some (log.Header owner generation)) = generation
+generation_in (Some (log.Prepare t coord count reads writes)) = 0
+generation_in (Some (log.Commit t members)) = 0
+generation_in (Some (log.Abort t)) = 0
+generation_in (Some (log.End t)) = 0
+generation_in (Some (log.Checkpoint rows undos committed)) = 0
+
 abbrev pub generation_of : List Record → ℕ
-generation_of [] = 0
-generation_of (log.Header owner generation ∷ rs) = generation
-generation_of (log.Prepare t coord count reads writes ∷ rs) = generation_of rs
-generation_of (log.Commit t members ∷ rs) = generation_of rs
-generation_of (log.Abort t ∷ rs) = generation_of rs
-generation_of (log.End t ∷ rs) = generation_of rs
-generation_of (log.Checkpoint rows undos committed ∷ rs) = generation_of rs
+generation_of records = generation_in (slice_get (reverse records) 0)

@@ -27,6 +27,7 @@ use Rattle.co_plain.specs.LogWrite.{with_waiting}
 use Rattle.co_plain.specs.declared.member_step.MemberStep.{MemberStep}
 use Rattle.co_plain.specs.declared.standing.Standing.{Standing}
 use Rattle.co_plain.specs.declared.standing.Standing.TheVariants.{IsActive, IsVoted, IsInstalled, IsAbsent}
+use Rattle.co_plain.specs.Numbers.{counted}
 use Rattle.co_plain.specs.MemberStep.{says, says_and_sends, standing_of, with_log, with_engine, dropped, force_member}
 
 -- the most operations of one transaction that a member answers
@@ -43,7 +44,7 @@ abbrev pub member_op : MemberState → ℕ → ℕ → Op → MemberStep
 member_op x t carried op =
     if kept_count x.engine t == carried
     then (if carried == most_operations then says x answer.TooMany else unless_blocked x t op (lock_blocker x.engine t op))
-    else says x (answer.Gone (kept_count x.engine t) carried)
+    else says x (answer.Gone (counted (kept_count x.engine t)) (counted carried))
 
 -- the record that a vote forces
 abbrev pub prepare_record : ℕ → ℕ → ℕ → Sets → Record
@@ -58,12 +59,12 @@ voted_state x t coord count =
 -- and the transaction is dropped; nothing is sent while another one is in the way.
 abbrev pub vote_by : ℕ → MemberState → ℕ → ℕ → ℕ → Verdict → MemberStep
 vote_by m x t coord count LostOperations =
-    says_and_sends (dropped x t) (answer.NoLost (kept_count x.engine t) count) (message.Vote t m coord false)
+    says_and_sends (dropped x t) (answer.NoLost (counted (kept_count x.engine t)) count) (message.Vote t m coord false)
 vote_by m x t coord count (StaleRead key) = says_and_sends (dropped x t) (answer.NoStale key) (message.Vote t m coord false)
 vote_by m x t coord count (HeldBy u) = says x (answer.Held u)
 vote_by m x t coord count VoteYes =
     force_member m (voted_state x t coord count) (prepare_record t coord count (sets_of (operations_of x.engine t)) ∷ [])
-      answer.Yes (Some (message.Vote t m coord true))
+    answer.Yes (Some (message.Vote t m coord true))
 
 abbrev pub vote_on : ℕ → MemberState → ℕ → ℕ → ℕ → MemberStep
 vote_on m x t coord count = vote_by m x t coord count (vote_of x.engine t count)

@@ -13,6 +13,7 @@ use Rattle.co_state.specs.Effects.{dumped_rows, dumped_undos}
 use Rattle.co_plain.specs.declared.member_state.MemberState.{MemberState}
 use Rattle.co_plain.specs.declared.outcome.Outcome.{Outcome}
 use Rattle.co_plain.specs.declared.outcome.Outcome.TheVariants.{Completes, StopsAt}
+use Rattle.co_plain.specs.Numbers.{next_generation}
 use Rattle.co_plain.specs.LogWrite.{outcome_of, batch_is_stable, closes_spare, with_filled_spare, with_spare, with_stop, generation_of}
 use Rattle.co_plain.specs.declared.member_step.MemberStep.{MemberStep}
 use Rattle.co_plain.specs.MemberStep.{says, with_log, member_down}
@@ -65,7 +66,7 @@ close_by x (StopsAt call leaves) = says (member_down x (with_spare x.log (closes
 -- one step of a checkpoint: first the spare is closed, and then filled
 abbrev pub checkpoint_by : ℕ → MemberState → Bool → MemberStep
 checkpoint_by m x false = close_by x (outcome_of x.log.armed 2)
-checkpoint_by m x true = fill_by m x (generation_of x.log.stable + 1) (outcome_of x.log.armed 4)
+checkpoint_by m x true = fill_by m x (next_generation (generation_of x.log.stable)) (outcome_of x.log.armed 4)
 
 abbrev pub member_checkpoint : ℕ → MemberState → MemberStep
 member_checkpoint m x = checkpoint_by m x x.log.spare_closed

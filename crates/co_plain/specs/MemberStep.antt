@@ -1,5 +1,6 @@
 -- A step of one member: its state after, its answer, at most one message, and what became stable.
 use Rattle.std.specs.Prelude.{ℕ, Bool, true, false, List, [], ◌∷◌, ◌++◌, if◌then◌else◌, Option, None, Some}
+use Rattle.co_base.specs.declared.head.Kind.{Kind}
 use Rattle.co_base.specs.declared.mark.Mark.{Mark}
 use Rattle.co_base.specs.declared.node.Node.TheVariants as node
 use Rattle.co_message.specs.declared.answer.Answer.{Answer}
@@ -40,12 +41,15 @@ standing_of x t = standing_by (holds x.engine.active t) (holds x.engine.voted t)
 
 -- The member goes down. What is left is what its stable records tell: no active transaction, no asked
 -- mark, no waiting record and no armed stop.
-abbrev pub member_from : MemberState → LogState → MemberView → MemberState
-member_from x l v =
-    record { up = false; engine = engine_from x.engine.kind v; committed = v.committed; asked = no_entries; log = l }
+abbrev pub member_from : Kind → LogState → MemberView → MemberState
+member_from kind l v =
+    record { up = false; engine = engine_from kind v; committed = v.committed; asked = no_entries; log = l }
+
+abbrev pub member_down_with : Kind → LogState → MemberState
+member_down_with kind l = member_from kind (crashed_log l) (recovered_view l.stable)
 
 abbrev pub member_down : MemberState → LogState → MemberState
-member_down x l = member_from x (crashed_log l) (recovered_view l.stable)
+member_down x l = member_down_with x.engine.kind l
 
 -- the same member with another log
 abbrev pub with_log : MemberState → LogState → MemberState
@@ -65,7 +69,9 @@ abbrev pub stopped_member : ℕ → MemberState → ℕ → Bool → List Record
 stopped_member m next call true batch =
     record {
       state = member_down next (with_batch next.log batch);
-      answer = answer.Stopped call; sent = None; marks = marks_of (node.Member m) (batch ++ next.log.waiting);
+      answer = answer.Stopped call;
+      sent = None;
+      marks = marks_of (node.Member m) (batch ++ next.log.waiting);
     }
 stopped_member m next call false batch =
     record { state = member_down next next.log; answer = answer.Stopped call; sent = None; marks = [] }
@@ -76,7 +82,9 @@ abbrev pub forced_by : ℕ → MemberState → List Record → Answer → Option
 forced_by m next batch a message Completes =
     record {
       state = with_log next (with_batch next.log batch);
-      answer = a; sent = message; marks = marks_of (node.Member m) (batch ++ next.log.waiting);
+      answer = a;
+      sent = message;
+      marks = marks_of (node.Member m) (batch ++ next.log.waiting);
     }
 forced_by m next batch a message (StopsAt call leaves) = stopped_member m next call (batch_is_stable call leaves) batch
 

@@ -22,9 +22,12 @@ Numbers = Table (Unit {0})
 abbrev pub with_number : Numbers → ℕ → Numbers
 with_number numbers t = put numbers t tt
 
+abbrev pub with_numbers : Numbers → List ℕ → Numbers
+with_numbers numbers [] = numbers
+with_numbers numbers (t ∷ ts) = with_numbers (with_number numbers t) ts
+
 abbrev pub numbers_from : List ℕ → Numbers
-numbers_from [] = no_entries
-numbers_from (t ∷ ts) = with_number (numbers_from ts) t
+numbers_from ts = with_numbers no_entries ts
 
 -- A view has the installed records, the voted transactions, and the transactions that are committed here.
 abbrev pub nothing_known : MemberView

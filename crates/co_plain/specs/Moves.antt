@@ -24,13 +24,13 @@ use Rattle.co_plain.specs.declared.log_state.Stop.{Stop}
 use Rattle.co_plain.specs.declared.member_state.MemberState.{MemberState}
 use Rattle.co_plain.specs.declared.session.Decided.{Decided}
 use Rattle.co_plain.specs.declared.session.Session.{Session}
-use Rattle.co_plain.specs.Numbers.{has_number}
+use Rattle.co_plain.specs.Numbers.{counted, first_lacking, has_number, next_generation}
 use Rattle.co_plain.specs.LogWrite.{with_batch, with_filled_spare, with_spare, with_stop, with_waiting, generation_of}
 use Rattle.co_plain.specs.MemberStep.{with_log, with_engine, dropped, member_down}
 use Rattle.co_plain.specs.Member.{most_operations, prepare_record, voted_state, installed_state, with_mark, coord_of}
 use Rattle.co_plain.specs.MemberLog.{member_spare}
 use Rattle.co_plain.specs.LocalCommit.{local_coord}
-use Rattle.co_plain.specs.CoordStep.{with_table, with_coord_log, coord_down, has_part, first_lacking, members_of}
+use Rattle.co_plain.specs.CoordStep.{with_table, with_coord_log, coord_down, has_part, members_of}
 use Rattle.co_plain.specs.CoordLog.{coord_spare}
 use Rattle.co_plain.specs.Sessions.{count_at, parts_of, begun_by, with_told, asked_to_end}
 use Rattle.co_plain.specs.Wire.{send_one, was_sent}
@@ -97,8 +97,8 @@ install_state x t = with_log (installed_state x t) (with_batch x.log (log.Commit
 
 abbrev pub local_state : MemberState → ℕ → ℕ → MemberState
 local_state x t n =
-    with_log (installed_state (voted_state x t local_coord n) t)
-    (with_batch x.log (log.Commit t [] ∷ prepare_record t local_coord n (sets_of (operations_of x.engine t)) ∷ []))
+    with_log (installed_state (voted_state x t local_coord (counted n)) t)
+    (with_batch x.log (log.Commit t [] ∷ prepare_record t local_coord (counted n) (sets_of (operations_of x.engine t)) ∷ []))
 
 abbrev pub restarted : MemberState → MemberState
 restarted x = record { up = true; engine = x.engine; committed = x.committed; asked = x.asked; log = x.log }
@@ -183,7 +183,7 @@ effect s (ArmMember m stop) = with_member s m (with_log (s.member m) (with_stop 
 effect s (CloseMemberSpare m closed) = with_member s m (with_log (s.member m) (with_spare (s.member m).log closed))
 effect s (FillMemberSpare m) =
     with_member s m
-    (with_log (s.member m) (with_filled_spare (s.member m).log (member_spare m (s.member m) (generation_of (s.member m).log.stable + 1))))
+    (with_log (s.member m) (with_filled_spare (s.member m).log (member_spare m (s.member m) (next_generation (generation_of (s.member m).log.stable)))))
 effect s (Begin t c) = with_entry (with_session s t (begun_by (node.Coord c))) t c entry.Idle
 effect s (Collect t c) = with_entry s t c (entry.Collecting (parts_of (told_of s t)) [])
 effect s (RecordYes t c m) = record_yes s t c m (entry_at s t c)
@@ -199,7 +199,7 @@ effect s (ArmCoord c stop) = with_coord s c (with_coord_log (s.coord c) (with_st
 effect s (CloseCoordSpare c closed) = with_coord s c (with_coord_log (s.coord c) (with_spare (s.coord c).log closed))
 effect s (FillCoordSpare c) =
     with_coord s c
-    (with_coord_log (s.coord c) (with_filled_spare (s.coord c).log (coord_spare c (s.coord c) (generation_of (s.coord c).log.stable + 1))))
+    (with_coord_log (s.coord c) (with_filled_spare (s.coord c).log (coord_spare c (s.coord c) (next_generation (generation_of (s.coord c).log.stable)))))
 effect s (BeginLocal t m) = with_session s t (begun_by (node.Member m))
 effect s (AskEnd t) = marked_over s t (look s.sessions t)
 effect s (Send note) = with_message s note

@@ -1,5 +1,6 @@
 -- The messages that were ever sent in this run. Each may be delivered never, late, again and in any order.
 use Rattle.std.specs.Prelude.{ℕ, Bool, true, false, ◌==◌, ◌&&◌, ◌||◌, List, [], ◌∷◌, if◌then◌else◌}
+use Rattle.std.specs.List.{list_any}
 use Rattle.co_message.specs.declared.message.Message.{Message}
 use Rattle.co_message.specs.declared.message.Message.TheVariants as message
 
@@ -17,8 +18,7 @@ same_message (message.Ack t m c) (message.Ack u o d) = (t == u) && (m == o) && (
 same_message _ _ = false
 
 abbrev pub was_sent : List Message → Message → Bool
-was_sent [] message = false
-was_sent (other ∷ others) message = same_message other message || was_sent others message
+was_sent sent message = list_any (λ other. same_message other message) sent
 
 -- one more message; each stands once, the one that was first sent last stands first
 abbrev pub send_one : List Message → Message → List Message

@@ -1,7 +1,7 @@
 //! The plain state of one coordinator.
 use crate::log_state::LogState;
 use co_base::{Bytes, Parts};
-use co_state::{History, Table};
+use co_state::Table;
 
 /// What a coordinator knows of a transaction in its table.
 #[derive(Drop)]
@@ -13,14 +13,14 @@ pub enum Entry {
         /// The participants, ascending by member, each with its count of operations.
         parts: Parts,
         /// The members that said yes, newest first.
-        yeses: History<u8>,
+        yeses: Bytes,
     },
     /// It is committed.
     Committed {
         /// The participants, ascending.
         members: Bytes,
         /// The members that acknowledged, newest first.
-        acks: History<u8>,
+        acks: Bytes,
     },
 }
 

@@ -4,14 +4,28 @@
 //! event, runs, and what is promised of them. `docs/DEFINITIONS.md` says each in words.
 #![tactic(auto)]
 
+mod coord_force;
+mod coord_log;
+mod coord_messages;
+mod coord_past;
 mod coord_state;
 mod coord_step;
 mod coord_view;
+mod coordinator;
+mod entry;
 mod happening;
+mod local_commit;
 mod log_state;
+mod marks;
+mod member;
+mod member_force;
+mod member_log;
+mod member_past;
 mod member_state;
+mod member_states;
 mod member_step;
 mod member_view;
+mod numbers;
 mod outcome;
 mod session;
 mod standing;

@@ -1,5 +1,5 @@
 //! Lists that grow by newer and newer elements.
-ghost use Rattle.std.specs.Prelude.{◌≡◌, ◌==◌, ◌<◌, [], ◌∷◌, length, reverse, slice_get, OnOk, OnErr};
+ghost use Rattle.std.specs.Prelude.{◌≡◌, ◌==◌, ◌<◌, [], ◌∷◌, ◌++◌, length, reverse, slice_get, OnOk, OnErr};
 
 use std::alloc::{AllocError, Global};
 use std::marker::Model;
@@ -57,6 +57,13 @@ impl<T> History<T> {
         self.oldest_first.as_slice()
     }
 
+    /// The elements as a vector, the oldest first.
+    pub fn into_oldest_first(self) -> Vec<T>
+        ensures { reverse result.items ≡ self }
+    {
+        self.oldest_first
+    }
+
     /// Adds a newest element. Want of memory leaves the list as it was.
     pub fn push(&mut self, item: T) -> Result<(), AllocError>
     where
@@ -65,6 +72,17 @@ impl<T> History<T> {
         ensures err { OnErr result (self.new ≡ self.old) }
     {
         self.oldest_first.push(item)?;
+        Ok(())
+    }
+
+    /// Adds elements, the oldest first. Want of memory leaves the list as it was.
+    pub fn extend(&mut self, newer: Vec<T>) -> Result<(), AllocError>
+    where
+        T: Drop,
+        ensures { OnOk result (self.new ≡ reverse newer.items ++ self.old) }
+    {
+        let mut newer = newer;
+        self.oldest_first.append(&mut newer)?;
         Ok(())
     }
 }

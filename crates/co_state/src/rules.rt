@@ -125,10 +125,10 @@ impl EngineState {
     }
 
     /// What the voting rule says of a transaction of which the client saw so many answers here.
-    pub fn vote_of(&self, alloc: Global, t: Txn, carried: u16) -> Result<Verdict, AllocError>
+    pub fn vote_of(&self, alloc: Global, t: Txn, carried: usize) -> Result<Verdict, AllocError>
         ensures { IfOk result (λ verdict. verdict ≡ vote_of self.now t carried) }
     {
-        if self.kept_count(t) != usize::from(carried) {
+        if self.kept_count(t) != carried {
             return Ok(Verdict::LostOperations);
         }
         if let Some(key) = self.stale_key(t) {
