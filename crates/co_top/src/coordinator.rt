@@ -2,10 +2,9 @@
 ghost use Rattle.std.specs.Prelude.{◌≡◌, ℕ, [], IfOk, OnOk, OnErr, None, Some};
 ghost use Rattle.std.specs.FinMap as map;
 
-use crate::history::History;
-use crate::table::Table;
 use co_base::{Parts, Txn};
 use co_message::{Answer, Message, Messages};
+use co_state::{History, Table};
 use std::alloc::{AllocError, Global};
 
 /// A transaction in the table of its coordinator.
@@ -44,7 +43,7 @@ impl Coordinator {
 
     /// Enters a transaction as idle.
     pub fn begin(&mut self, alloc: Global, txn: Txn) -> Result<CoordStep, AllocError> {
-        self.table.put(txn, Entry::Idle)?;
+        self.table.insert(txn, Entry::Idle)?;
         Ok(quiet(alloc, Answer::Begun))
     }
 
@@ -60,13 +59,13 @@ impl Coordinator {
             return Ok(quiet(alloc, Answer::Unknown));
         }
         if parts.is_empty() {
-            let _ = self.table.take(txn);
+            let _ = self.table.remove(txn);
             return Ok(quiet(alloc, Answer::Committed));
         }
         let member = parts.at(0).member;
         let sent = prepares(alloc, txn, coord, &parts)?;
         self.table
-            .put(txn, Entry::Collecting(parts, History::new(alloc)))?;
+            .insert(txn, Entry::Collecting(parts, History::new(alloc)))?;
         Ok(CoordStep {
             answer: Answer::Waiting(member),
             sent,
@@ -81,14 +80,14 @@ impl Coordinator {
         coord: u8,
         member: u8,
     ) -> Result<CoordStep, AllocError> {
-        match self.table.take(txn) {
+        match self.table.remove(txn) {
             None => Ok(quiet(alloc, Answer::Unknown)),
             Some(Entry::Idle) => {
-                self.table.put(txn, Entry::Idle)?;
+                self.table.insert(txn, Entry::Idle)?;
                 Ok(quiet(alloc, Answer::Idle))
             }
             Some(Entry::Committed(parts, acks)) => {
-                self.table.put(txn, Entry::Committed(parts, acks))?;
+                self.table.insert(txn, Entry::Committed(parts, acks))?;
                 Ok(quiet(alloc, Answer::Decided))
             }
             Some(Entry::Collecting(parts, mut yeses)) => {
@@ -109,13 +108,13 @@ impl Coordinator {
     ) -> Result<CoordStep, AllocError> {
         match first_lacking(&parts, &yeses) {
             Some(missing) => {
-                self.table.put(txn, Entry::Collecting(parts, yeses))?;
+                self.table.insert(txn, Entry::Collecting(parts, yeses))?;
                 Ok(quiet(alloc, Answer::Waiting(missing)))
             }
             None => {
                 let sent = commits(alloc, txn, coord, &parts)?;
                 self.table
-                    .put(txn, Entry::Committed(parts, History::new(alloc)))?;
+                    .insert(txn, Entry::Committed(parts, History::new(alloc)))?;
                 Ok(CoordStep {
                     answer: Answer::Committed,
                     sent,
@@ -126,10 +125,10 @@ impl Coordinator {
 
     /// A participant acknowledges the commit.
     pub fn ack(&mut self, alloc: Global, txn: Txn, member: u8) -> Result<CoordStep, AllocError> {
-        match self.table.take(txn) {
+        match self.table.remove(txn) {
             None => Ok(quiet(alloc, Answer::Unknown)),
             Some(Entry::Idle) => {
-                self.table.put(txn, Entry::Idle)?;
+                self.table.insert(txn, Entry::Idle)?;
                 Ok(quiet(alloc, Answer::Idle))
             }
             Some(Entry::Collecting(parts, yeses)) => {
@@ -137,7 +136,7 @@ impl Coordinator {
                     Some(missing) => Answer::Waiting(missing),
                     None => Answer::Decided,
                 };
-                self.table.put(txn, Entry::Collecting(parts, yeses))?;
+                self.table.insert(txn, Entry::Collecting(parts, yeses))?;
                 Ok(quiet(alloc, answer))
             }
             Some(Entry::Committed(parts, mut acks)) => {
@@ -158,7 +157,7 @@ impl Coordinator {
         if first_lacking(&parts, &acks).is_none() {
             return Ok(quiet(alloc, Answer::Ended));
         }
-        self.table.put(txn, Entry::Committed(parts, acks))?;
+        self.table.insert(txn, Entry::Committed(parts, acks))?;
         Ok(quiet(alloc, Answer::Decided))
     }
 

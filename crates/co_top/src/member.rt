@@ -1,11 +1,10 @@
 //! One member in memory, with strict locks that are held to the decision.
 ghost use Rattle.std.specs.Prelude.{◌≡◌, ◌+◌, ℕ, [], IfOk, IfSome, OnOk, OnErr, option_to_list, option_copied, length};
 
-use crate::history::History;
-use crate::table::Table;
 use co_base::{Key, Op, Reply, Row, Txn, Value};
 use co_message::{Answer, Message};
 use co_serial::RecordMap;
+use co_state::{History, Table};
 use std::alloc::{AllocError, Global};
 
 /// The most operations of one transaction that a member answers.
@@ -114,7 +113,7 @@ impl Member {
         let mut local = self.take_local(alloc, txn);
         let seen = self.value_seen(&local, key)?;
         local.reads.push(key.copy()?)?;
-        self.locals.put(txn, local)?;
+        self.locals.insert(txn, local)?;
         Ok(Answer::Replied(Reply::Got(seen)))
     }
 
@@ -138,7 +137,7 @@ impl Member {
             value: value.copy()?,
         };
         local.writes.push(row)?;
-        self.locals.put(txn, local)?;
+        self.locals.insert(txn, local)?;
         Ok(Answer::Replied(Reply::Done))
     }
 
@@ -153,7 +152,7 @@ impl Member {
         if self.has_installed(txn) {
             return Ok(MemberStep::quiet(Answer::Already));
         }
-        let Some(mut local) = self.locals.take(txn) else {
+        let Some(mut local) = self.locals.remove(txn) else {
             return Ok(MemberStep {
                 answer: Answer::NoLost {
                     kept: 0,
@@ -173,7 +172,7 @@ impl Member {
             Answer::Yes
         };
         local.voted = true;
-        self.locals.put(txn, local)?;
+        self.locals.insert(txn, local)?;
         Ok(MemberStep {
             answer,
             sent: Some(Message::Vote {
@@ -197,7 +196,7 @@ impl Member {
         if !self.has_voted(txn) {
             return Ok(MemberStep::quiet(Answer::Absent));
         }
-        if let Some(local) = self.locals.take(txn) {
+        if let Some(local) = self.locals.remove(txn) {
             self.install(&local)?;
             self.installed.push(txn)?;
         }
@@ -217,7 +216,7 @@ impl Member {
 
     /// The transaction as it stands here, taken out of the table.
     fn take_local(&mut self, alloc: Global, txn: Txn) -> Local {
-        match self.locals.take(txn) {
+        match self.locals.remove(txn) {
             Some(local) => local,
             None => Local::new(alloc),
         }

@@ -1,10 +1,9 @@
 //! What the clients saw of their transactions.
 ghost use Rattle.std.specs.Prelude.{◌≡◌, IfOk};
 
-use crate::history::History;
-use crate::table::Table;
 use co_base::{Part, Parts, Reply, Row, Rows, Txn};
 use co_serial::Site;
+use co_state::{History, Table};
 use std::alloc::{AllocError, Global};
 use thiserror::Error;
 
@@ -71,7 +70,7 @@ impl Sessions {
             asked: false,
             done: History::new(alloc),
         };
-        self.table.put(txn, session)
+        self.table.insert(txn, session)
     }
 
     /// The coordinator of a transaction that may act. `NotBegun` comes exactly where it was not
@@ -91,9 +90,9 @@ impl Sessions {
 
     /// Enters an answered operation of a transaction that was begun.
     pub fn answered(&mut self, txn: Txn, site: Site, reply: Reply) -> Result<(), AllocError> {
-        if let Some(mut session) = self.table.take(txn) {
+        if let Some(mut session) = self.table.remove(txn) {
             session.done.push(Done { site, reply })?;
-            self.table.put(txn, session)?;
+            self.table.insert(txn, session)?;
         }
         Ok(())
     }
@@ -109,9 +108,9 @@ impl Sessions {
 
     /// Notes that the end of a transaction was asked.
     pub fn asked(&mut self, txn: Txn) -> Result<(), AllocError> {
-        if let Some(mut session) = self.table.take(txn) {
+        if let Some(mut session) = self.table.remove(txn) {
             session.asked = true;
-            self.table.put(txn, session)?;
+            self.table.insert(txn, session)?;
         }
         Ok(())
     }

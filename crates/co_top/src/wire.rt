@@ -1,8 +1,8 @@
 //! What was sent.
 ghost use Rattle.std.specs.Prelude.{◌≡◌, []};
 
-use crate::history::History;
 use co_message::Message;
+use co_state::History;
 use std::alloc::{AllocError, Global};
 use std::marker::Model;
 use thiserror::Error;

@@ -1,9 +1,0 @@
-use Rattle.std.proofs.Common.{ap, ◌∙◌}
-use Rattle.std.specs.FinMap.{insert, nat_cmp-IsAntisymmetric}
-use Rattle.std.specs.Cmp.{nat_cmp_total}
-use Rattle.co_serial.proofs.MapViews.{view-insert}
-use Rattle.co_top.proofs.table.Table.put.Goals as goal
-
-pub returns-clause-ok : goal.returns-clause-ok
-returns-clause-ok g c = view-insert nat_cmp_total nat_cmp-IsAntisymmetric _ _ c.args.txn c.args.entry c.in_ok-insert.ensures.updates.0
-    ∙ ap (λ m. insert m c.args.txn c.args.entry) c.self.view_is
