@@ -24,3 +24,4 @@ pub mod CommitmentOrder
 pub mod Promises
 pub mod Invariants
 pub mod Moves
+pub mod PlainProgram

@@ -99,7 +99,7 @@ vote_where_asked m x t (Some mark) = vote_on m x t mark.coord mark.count
 
 abbrev pub vote_again_by : ℕ → MemberState → ℕ → Standing → MemberStep
 vote_again_by m x t IsActive = vote_where_asked m x t (look x.asked t)
-vote_again_by m x t IsVoted = says_and_sends x answer.Voted (message.Vote t m (coord_of x t) true)
+vote_again_by m x t IsVoted = says x answer.Voted
 vote_again_by m x t IsInstalled = says x answer.Already
 vote_again_by m x t IsAbsent = says x answer.Absent
 

@@ -35,6 +35,11 @@ abbrev pub parts_of : List Told → List Part
 parts_of [] = []
 parts_of (o ∷ os) = with_part o.site.member (parts_of os)
 
+-- the count of a member among participants; none of one that is absent
+abbrev pub count_among : List Part → ℕ → ℕ
+count_among [] m = 0
+count_among (p ∷ ps) m = if p.member == m then p.count else count_among ps m
+
 abbrev pub same_node : Node → Node → Bool
 same_node (node.Member m) (node.Member n) = m == n
 same_node (node.Member m) (node.Coord n) = false

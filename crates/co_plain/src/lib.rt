@@ -12,6 +12,7 @@ mod coord_state;
 mod coord_step;
 mod coord_view;
 mod coordinator;
+mod count;
 mod entry;
 mod happening;
 mod local_commit;
@@ -25,19 +26,38 @@ mod member_state;
 mod member_states;
 mod member_step;
 mod member_view;
+mod nodes;
+mod noting;
 mod numbers;
 mod outcome;
+mod plain_federation;
 mod session;
 mod standing;
+mod told;
 
+pub use coord_log::{coord_arm, coord_checkpoint, coord_crash, coord_restart, with_coord_stop};
+pub use coord_messages::{coord_ack, coord_ask, coord_deliver, coord_vote};
 pub use coord_state::{CoordState, Entry};
 pub use coord_step::CoordStep;
 pub use coord_view::CoordView;
+pub use coordinator::{coord_abort, coord_begin, coord_commit, coord_resend, coord_timer};
+pub use count::{count_among, count_one};
 pub use happening::Happening;
+pub use local_commit::{member_local_abort, member_local_commit};
 pub use log_state::{LogState, Stop};
+pub use member::{
+    MOST_OPERATIONS, member_ask, member_decide, member_deliver, member_op, member_prepare,
+    member_timer, member_vote,
+};
+pub use member_log::{member_arm, member_checkpoint, member_crash, member_restart, with_stop};
 pub use member_state::{AskedMark, MemberState};
+pub use member_states::standing_of;
 pub use member_step::MemberStep;
 pub use member_view::MemberView;
+pub use nodes::{put_coord, put_member, take_coord, take_member};
+pub use noting::{decide_all, items_of, message_list, same_node, send_all};
 pub use outcome::Outcome;
+pub use plain_federation::PlainFederation;
 pub use session::{Decided, Session, Told};
 pub use standing::Standing;
+pub use told::{asked_to_end, begun_by, copy_reply, copy_session, count_at, parts_of, with_told};

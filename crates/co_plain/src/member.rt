@@ -217,7 +217,7 @@ pub fn member_vote(
 {
     match standing_of(&x, t) {
         Standing::IsActive => vote_where_asked(alloc, member, x, t),
-        Standing::IsVoted => Ok(votes_again(alloc, member, x, t)),
+        Standing::IsVoted => Ok(says(alloc, x, Answer::Voted)),
         Standing::IsInstalled => Ok(says(alloc, x, Answer::Already)),
         Standing::IsAbsent => Ok(says(alloc, x, Answer::Absent)),
     }

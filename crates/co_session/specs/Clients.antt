@@ -17,11 +17,6 @@ pub record Clients : Type 0 where
   -- the numbers that stand in the opened logs, ascending
   pub used : List ℕ
 
--- the count of a member among participants; none of one that is absent
-abbrev pub count_among : List Part → ℕ → ℕ
-count_among [] m = 0
-count_among (p ∷ ps) m = if p.member == m then p.count else count_among ps m
-
 abbrev pub none_begun : List ℕ → Clients
 none_begun used = record { sessions = no_entries; begun = []; used = used }
 

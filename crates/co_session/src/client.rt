@@ -3,9 +3,8 @@ ghost use Rattle.std.specs.Prelude.{◌≡◌, ◌+◌, ◌<◌, ◌^◌, OnOk, 
 ghost use Rattle.co_base.specs.declared.node.Node.TheVariants as node;
 ghost use Rattle.co_plain.specs.Sessions.{count_at, parts_of, begun_by, with_told, asked_to_end};
 
-use crate::count;
 use co_base::{Node, Part, Parts};
-use co_plain::Told;
+use co_plain::{Told, count_among, count_one};
 use std::alloc::{AllocError, Global};
 use std::marker::Model;
 
@@ -68,7 +67,7 @@ impl Client {
     pub(crate) fn carried(&self, member: u8) -> u16
         ensures { result ≡ count_at self.now.told member }
     {
-        count::count_at(self.counts.as_slice(), member)
+        count_among(self.counts.as_slice(), member)
     }
 
     /// The participants, ascending by member, each with its count.
@@ -87,7 +86,7 @@ impl Client {
     {
         let member = told.site.member;
         self.told.reserve(1)?;
-        count::count_one(&mut self.counts, member)?;
+        count_one(&mut self.counts, member)?;
         self.told.push(told)?;
         Ok(())
     }

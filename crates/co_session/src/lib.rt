@@ -6,7 +6,6 @@
 #![tactic(auto)]
 
 mod client;
-mod count;
 mod fault;
 mod sessions;
 

@@ -1,7 +1,7 @@
 use Rattle.std.proofs.Common.{◌≡◌, ◌∙◌, ap}
 use Rattle.co_plain.specs.Sessions.{count_at}
-use Rattle.co_session.specs.Clients.{count_among}
-use Rattle.co_session.proofs.Counts.{counts_told}
+use Rattle.co_plain.specs.Sessions.{count_among}
+use Rattle.co_plain.proofs.Counts.{counts_told}
 use Rattle.co_session.proofs.client.Client.carried.Goals as goal
 
 pub returns : goal.returns
