@@ -6,3 +6,6 @@ pub mod Lays
 pub mod Rests
 pub mod Writes
 pub mod Filling
+pub mod Leaving
+pub mod HomeFaults
+pub mod Rereads

@@ -4,3 +4,4 @@ pub mod Homes
 pub mod Laying
 pub mod Faults
 pub mod DiskView
+pub mod Stops

@@ -1,5 +1,5 @@
 //! Where two files differ.
-ghost use Rattle.std.specs.Prelude.{◌≡◌, MatchOption};
+ghost use Rattle.std.specs.Prelude.{◌≡◌, slice_get, MatchOption};
 ghost use Rattle.co_disk.specs.Faults.{IsFirstDifference};
 
 /// The first place where the bytes differ, where there is one; a missing byte differs from any.
@@ -12,4 +12,11 @@ pub(crate) fn first_difference(kept: &[u8], read: &[u8]) -> Option<usize>
         }
     }
     None
+}
+
+/// The byte at a place, where there is one.
+pub(crate) fn byte_at(bytes: &[u8], place: usize) -> Option<u8>
+    ensures { result ≡ slice_get bytes.now place }
+{
+    bytes.get(place).copied()
 }

@@ -1,10 +1,14 @@
 //! A disk over one file of the directory of logs.
-ghost use Rattle.std.specs.Prelude.{◌≡◌, ◌≤◌, ◌<◌, ◌+◌, ◌↔◌, [], List, ℕ, Some, length, slice_get, OnOk, OnErr, IfOk, IfErr, IsOk, IsErrOf};
+ghost use Rattle.std.specs.Prelude.{◌≡◌, ◌≤◌, ◌<◌, ◌+◌, ◌↔◌, [], List, ℕ, None, Some, length, slice_get, OnOk, OnErr, IfOk, IfErr, IsOk, IsErrOf};
 
-use crate::difference::first_difference;
+use crate::difference::{byte_at, first_difference};
 use crate::fault::DiskFault;
+use crate::image::choose;
+use crate::laying::lay_image;
+use crate::stop::{Armed, count};
 use crate::touched::{FirstByte, Touched, note};
-use co_outside::{Home, Spot};
+use co_base::Leaves;
+use co_outside::{Home, HomeFault, Spot};
 use std::alloc::Global;
 use std::marker::Model;
 
@@ -22,6 +26,7 @@ pub struct Disk {
     bytes: Vec<u8>,
     first: Option<FirstByte>,
     touched: Vec<Touched>,
+    armed: Option<Armed>,
 }
 
 impl Model for Disk {
@@ -30,7 +35,7 @@ impl Model for Disk {
 
     ghost Value = { DiskView };
 
-    ghost view = { λ d. record { spot = d.spot; state = state_of d.bytes.items (entries d.first d.touched.items) } };
+    ghost view = { λ d. record { spot = d.spot; state = state_of d.bytes.items (entries d.first d.touched.items); armed = d.armed } };
 
     ghost invariant = { λ d. IsKept d.bytes.items (entries d.first d.touched.items) };
 }
@@ -38,16 +43,20 @@ impl Model for Disk {
 impl Disk {
     ghost use Rattle.co_outside.specs.Home.{File};
     ghost use Rattle.co_disk.specs.DiskModel.{read_of, stable_disk, after_write, after_sync, IsImage, IsSound};
-    ghost use Rattle.co_disk.specs.Faults.{IsFirstDifference};
+    ghost use Rattle.co_disk.specs.Faults.{IsOfAttach, IsOfWrite, IsOfSync, IsOfReread};
     ghost use Rattle.co_disk.specs.Homes.{Agrees, IsImageIn, IsClean, RestStays, HasFailed};
+    ghost use Rattle.co_disk.specs.Laying.{BeginWithin, EndWithin};
+    ghost use Rattle.co_disk.specs.Stops.{armed_for, stop_here, after_call, IsLeft, IsStopped};
 
     /// Reads the file of a spot; all its bytes are stable. `Long` comes where it has more than
-    /// 268,435,456 bytes, `Device` only where the home failed.
+    /// 268,435,456 bytes, `Device` only where the home failed, `Memory` where there was none.
     pub fn attach<H: Home>(alloc: Global, home: &mut H, spot: Spot) -> Result<Disk, DiskFault>
         ensures spot { IfOk result (λ d. d.spot ≡ spot) }
         ensures state { IfOk result (λ d. H.gives home.old spot 268435457 d.state.stable × (d.state ≡ stable_disk d.state.stable)) }
         ensures short { IfOk result (λ d. length d.state.stable ≤ 268435456) }
+        ensures disarmed { IfOk result (λ d. d.armed ≡ None) }
         ensures agrees { IfOk result (λ d. Agrees (H.file home.new spot) (H.reach home.new spot) d.state.stable) }
+        ensures faults { IfErr result (IsOfAttach (H.gives home.old spot 268435457)) }
         ensures long { IsErrOf result DiskFault.Long → (f : File) → H.file home.old spot ≡ Some f → 268435456 < length f.bytes }
         ensures file { H.file home.new spot ≡ H.file home.old spot }
         ensures rest { RestStays H.file H.reach H.entered H.faults spot home.old home.new }
@@ -63,6 +72,7 @@ impl Disk {
             bytes,
             first: None,
             touched: Vec::new(alloc),
+            armed: None,
         })
     }
 
@@ -82,7 +92,9 @@ impl Disk {
         self.spot
     }
 
-    /// Writes a piece, which is pending until a sync.
+    /// Writes a piece, which is pending until a sync. `Device` comes only where the home failed;
+    /// `Stopped` where this is the device call of an armed stop: the write counts as pending, it does
+    /// not reach the home, and the image that was chosen is left; `Memory` where there was none.
     pub fn write_at<H: Home>(
         &mut self,
         home: &mut H,
@@ -94,6 +106,11 @@ impl Disk {
         requires end { at + length piece.now ≤ 268435456 }
         ensures spot { self.new.spot ≡ self.old.spot }
         ensures written { OnOk result (self.new.state ≡ after_write self.old.state at piece.now) }
+        ensures passed { OnOk result (stop_here self.old.armed ≡ None) }
+        ensures counted { OnOk result (self.new.armed ≡ after_call self.old.armed) }
+        ensures stopped { (call : ℕ) → IsErrOf result (DiskFault.Stopped call) → IsStopped self.old.armed call (after_write self.old.state at piece.now) self.new }
+        ensures left { (call : ℕ) → IsErrOf result (DiskFault.Stopped call) → Agrees (H.file home.new self.old.spot) (H.reach home.new self.old.spot) (read_of self.new.state) × IsClean (H.file home.new self.old.spot) }
+        ensures faults { IfErr result IsOfWrite }
         ensures agrees { OnOk result (Agrees (H.file home.new self.old.spot) (H.reach home.new self.old.spot) (read_of self.new.state)) }
         ensures image { IsImageIn (after_write self.old.state at piece.now) (H.file home.new self.old.spot) }
         ensures memory { length piece.now ≡ 1 → at < length (read_of self.old.state) → self.old.state.pending ≡ [] → IsErrOf result DiskFault.Memory → ⊥ }
@@ -108,35 +125,90 @@ impl Disk {
             at,
             piece,
         )?;
+        if let Some(stop) = count(&mut self.armed) {
+            self.leave(home, &stop.leaves)?;
+            return Err(DiskFault::Stopped { call: stop.call });
+        }
         home.write_at(self.alloc, self.spot, at, piece)?;
         Ok(())
     }
 
-    /// Makes every pending write stable. Never answers `Memory`.
+    /// Makes every pending write stable. `Device` comes only where the home failed; `Stopped` where
+    /// this is the device call of an armed stop: all writes are pending still, and the image that was
+    /// chosen is left. Never answers `Memory`.
     pub fn sync<H: Home>(&mut self, home: &mut H) -> Result<(), DiskFault>
         requires agrees { Agrees (H.file home.old self.old.spot) (H.reach home.old self.old.spot) (read_of self.old.state) }
         ensures spot { self.new.spot ≡ self.old.spot }
         ensures synced { OnOk result (self.new.state ≡ after_sync self.old.state) }
+        ensures passed { OnOk result (stop_here self.old.armed ≡ None) }
+        ensures counted { OnOk result (self.new.armed ≡ after_call self.old.armed) }
+        ensures stopped { (call : ℕ) → IsErrOf result (DiskFault.Stopped call) → IsStopped self.old.armed call self.old.state self.new }
+        ensures left { (call : ℕ) → IsErrOf result (DiskFault.Stopped call) → Agrees (H.file home.new self.old.spot) (H.reach home.new self.old.spot) (read_of self.new.state) × IsClean (H.file home.new self.old.spot) }
+        ensures faults { IfErr result IsOfSync }
         ensures agrees { OnOk result (Agrees (H.file home.new self.old.spot) (H.reach home.new self.old.spot) (read_of self.new.state)) }
         ensures clean { OnOk result (IsClean (H.file home.new self.old.spot)) }
         ensures image { IsImageIn self.old.state (H.file home.new self.old.spot) }
-        ensures memory { IsErrOf result DiskFault.Memory → ⊥ }
         ensures rest { RestStays H.file H.reach H.entered H.faults self.old.spot home.old home.new }
         ensures device { IsErrOf result DiskFault.Device → HasFailed H.faults H.last_failed self.old.spot home.old home.new }
     {
+        if let Some(stop) = count(&mut self.armed) {
+            self.leave(home, &stop.leaves)?;
+            return Err(DiskFault::Stopped { call: stop.call });
+        }
         home.sync(self.spot)?;
         self.first = None;
         self.touched.clear();
         Ok(())
     }
 
+    /// Arms a stop: the device call with this number, counted from 1 on, answers `Stopped` and leaves
+    /// this image. An armed stop is replaced.
+    pub fn arm(&mut self, stop: u8, leaves: Leaves)
+        requires { (1 ≤ stop) × (stop ≤ 4) }
+        ensures { self.new ≡ record { spot = self.old.spot; state = self.old.state; armed = Some (armed_for stop leaves) } }
+    {
+        self.armed = Some(Armed {
+            call: stop,
+            left: stop,
+            leaves,
+        });
+    }
+
+    /// Takes the armed stop away.
+    pub fn disarm(&mut self)
+        ensures { self.new ≡ record { spot = self.old.spot; state = self.old.state; armed = None } }
+    {
+        self.armed = None;
+    }
+
+    /// A crash: replaces the bytes by the chosen image, here and in the home, and syncs the home. An
+    /// armed stop is lost. `Device` comes only where the home failed, and no other fault does.
+    pub fn power_cut<H: Home>(&mut self, home: &mut H, leaves: &Leaves) -> Result<(), DiskFault>
+        requires agrees { Agrees (H.file home.old self.old.spot) (H.reach home.old self.old.spot) (read_of self.old.state) }
+        ensures spot { self.new.spot ≡ self.old.spot }
+        ensures left { IsLeft self.old.state leaves.now self.new.state }
+        ensures disarmed { self.new.armed ≡ None }
+        ensures agrees { OnOk result (Agrees (H.file home.new self.old.spot) (H.reach home.new self.old.spot) (read_of self.new.state)) }
+        ensures clean { OnOk result (IsClean (H.file home.new self.old.spot)) }
+        ensures image { IsImageIn self.old.state (H.file home.new self.old.spot) }
+        ensures faults { IfErr result (λ e. e ≡ DiskFault.Device) }
+        ensures rest { RestStays H.file H.reach H.entered H.faults self.old.spot home.old home.new }
+        ensures device { IsErrOf result DiskFault.Device → HasFailed H.faults H.last_failed self.old.spot home.old home.new }
+    {
+        self.armed = None;
+        self.leave(home, leaves)?;
+        Ok(())
+    }
+
     /// Reads the file again. `Differs` comes exactly where it is not what a read of the disk gives,
-    /// with the first place and both bytes there; never over a home that tells the file.
+    /// with the first place and both bytes there; never over a home that tells the file. `Device` comes
+    /// only where the home failed, `Memory` where there was none.
     pub fn reread<H: Home>(&mut self, home: &mut H) -> Result<(), DiskFault>
         requires agrees { Agrees (H.file home.old self.old.spot) (H.reach home.old self.old.spot) (read_of self.old.state) }
         ensures disk { self.new ≡ self.old }
         ensures same { OnOk result (H.gives home.old self.old.spot 268435457 (read_of self.old.state)) }
         ensures file { H.file home.new self.old.spot ≡ H.file home.old self.old.spot }
+        ensures faults { IfErr result (IsOfReread (H.gives home.old self.old.spot 268435457) (read_of self.old.state) (H.file home.old self.old.spot)) }
         ensures rest { RestStays H.file H.reach H.entered H.faults self.old.spot home.old home.new }
         ensures device { IsErrOf result DiskFault.Device → HasFailed H.faults H.last_failed self.old.spot home.old home.new }
     {
@@ -145,9 +217,39 @@ impl Disk {
             None => Ok(()),
             Some(place) => Err(DiskFault::Differs {
                 at: place as u32,
-                kept: self.bytes.get(place).copied(),
-                read: read.get(place).copied(),
+                kept: byte_at(&self.bytes, place),
+                read: byte_at(&read, place),
             }),
         }
+    }
+
+    /// Replaces the bytes by the chosen image, here and in the home, and syncs the home. Whatever
+    /// the answer is, nothing is pending then.
+    fn leave<H: Home>(&mut self, home: &mut H, leaves: &Leaves) -> Result<(), HomeFault>
+        requires reach { length self.old.state.stable ≤ H.reach home.old self.old.spot }
+        requires begins { BeginWithin (H.reach home.old self.old.spot) self.old.state.pending }
+        requires images { IsImageIn self.old.state (H.file home.old self.old.spot) }
+        ensures spot { self.new.spot ≡ self.old.spot }
+        ensures armed { self.new.armed ≡ self.old.armed }
+        ensures left { IsLeft self.old.state leaves.now self.new.state }
+        ensures agrees { OnOk result (Agrees (H.file home.new self.old.spot) (H.reach home.new self.old.spot) (read_of self.new.state)) }
+        ensures clean { OnOk result (IsClean (H.file home.new self.old.spot)) }
+        ensures image { IsImageIn self.old.state (H.file home.new self.old.spot) }
+        ensures memory { EndWithin (H.reach home.old self.old.spot) self.old.state.pending → IsErrOf result HomeFault.Memory → ⊥ }
+        ensures rest { RestStays H.file H.reach H.entered H.faults self.old.spot home.old home.new }
+        ensures fault { IsErrOf result HomeFault.Failed → HasFailed H.faults H.last_failed self.old.spot home.old home.new }
+    {
+        choose(&mut self.bytes, &self.first, &self.touched, leaves);
+        let laid = lay_image(
+            self.alloc,
+            home,
+            self.spot,
+            &self.bytes,
+            &self.first,
+            &self.touched,
+        );
+        self.first = None;
+        self.touched.clear();
+        laid
     }
 }

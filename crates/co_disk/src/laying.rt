@@ -1,17 +1,17 @@
 //! A chosen image on its way into the home.
-ghost use Rattle.std.specs.Prelude.{◌≡◌, ◌≤◌, ◌<◌, ◌+◌, ◌++◌, ◌∷◌, [], ℕ, List, length, map, true, All, OnOk, OnErr, IsErrOf};
+ghost use Rattle.std.specs.Prelude.{◌≡◌, ◌≤◌, ◌<◌, ◌+◌, ◌++◌, ◌∷◌, [], ℕ, List, length, map, true, All, IfSome, OnOk, OnErr, IsErrOf};
 ghost use Rattle.co_outside.specs.Home.{File, OthersStay};
 ghost use Rattle.co_disk.specs.DiskModel.{Write, DiskState, covers, is_touched, any_covers, read_of, IsImage};
-ghost use Rattle.co_disk.specs.Homes.{IsImageIn, RestStays, HasFailed};
-ghost use Rattle.co_disk.specs.Kept.{write_of, entry_of};
-ghost use Rattle.co_disk.specs.Laying.{IsLaidTo};
+ghost use Rattle.co_disk.specs.Homes.{Agrees, IsImageIn, IsClean, RestStays, HasFailed};
+ghost use Rattle.co_disk.specs.Kept.{write_of, entry_of, entries};
+ghost use Rattle.co_disk.specs.Laying.{IsLaidTo, IsToLay, BeginWithin, EndWithin};
 
-use crate::touched::Touched;
+use crate::touched::{FirstByte, Touched};
 use co_outside::{Home, HomeFault, Spot};
 use std::alloc::Global;
 
 /// Lays the part of the image in one written range into the home.
-pub(crate) fn lay_part<H: Home>(
+fn lay_part<H: Home>(
     alloc: Global,
     home: &mut H,
     spot: Spot,
@@ -65,4 +65,82 @@ fn lay_parts<H: Home>(
         lay_part(alloc, home, spot, image, t.at, t.piece.len())?;
     }
     Ok(())
+}
+
+/// Lays the part of the image at the first byte into the home, where there is one.
+fn lay_first<H: Home>(
+    alloc: Global,
+    home: &mut H,
+    spot: Spot,
+    image: &[u8],
+    first: &Option<FirstByte>,
+) -> Result<(), HomeFault>
+    requires at { IfSome first.now (λ f. f.at ≤ H.reach home.old spot) }
+    ensures laid { (disk : DiskState)
+        → ((place : ℕ) → any_covers place (map write_of (entries first.now [])) ≡ true → is_touched disk place ≡ true) → length image.now ≤ length (read_of disk)
+        → IsLaidTo disk image.now [] (H.file home.old spot) (H.reach home.old spot)
+        → OnOk result (IsLaidTo disk image.now (map write_of (entries first.now [])) (H.file home.new spot) (H.reach home.new spot)) }
+    ensures failed { (disk : DiskState)
+        → ((place : ℕ) → any_covers place (map write_of (entries first.now [])) ≡ true → is_touched disk place ≡ true) → length image.now ≤ length (read_of disk)
+        → IsImageIn disk (H.file home.old spot) → OnErr result (IsImageIn disk (H.file home.new spot)) }
+    ensures memory { IfSome first.now (λ f. f.at + 1 ≤ H.reach home.old spot) → IsErrOf result HomeFault.Memory → ⊥ }
+    ensures reach { H.reach home.old spot ≤ H.reach home.new spot }
+    ensures rest { RestStays H.file H.reach H.entered H.faults spot home.old home.new }
+    ensures fault { IsErrOf result HomeFault.Failed → HasFailed H.faults H.last_failed spot home.old home.new }
+{
+    match first {
+        Some(f) => lay_part(alloc, home, spot, image, f.at, 1),
+        None => Ok(()),
+    }
+}
+
+/// Lays the parts of the image in the ranges of all pending writes into the home.
+fn lay_all<H: Home>(
+    alloc: Global,
+    home: &mut H,
+    spot: Spot,
+    image: &[u8],
+    first: &Option<FirstByte>,
+    touched: &[Touched],
+) -> Result<(), HomeFault>
+    requires first { IfSome first.now (λ f. f.at ≤ H.reach home.old spot) }
+    requires at { All (λ t. t.at ≤ H.reach home.old spot) touched.now }
+    ensures laid { (disk : DiskState)
+        → disk.pending ≡ map write_of (entries first.now touched.now) → length image.now ≤ length (read_of disk)
+        → IsImageIn disk (H.file home.old spot)
+        → OnOk result (IsLaidTo disk image.now disk.pending (H.file home.new spot) (H.reach home.new spot)) }
+    ensures failed { (disk : DiskState)
+        → disk.pending ≡ map write_of (entries first.now touched.now) → length image.now ≤ length (read_of disk)
+        → IsImageIn disk (H.file home.old spot) → OnErr result (IsImageIn disk (H.file home.new spot)) }
+    ensures memory { IfSome first.now (λ f. f.at + 1 ≤ H.reach home.old spot) → All (λ t. t.at + length t.piece.items ≤ H.reach home.old spot) touched.now
+        → IsErrOf result HomeFault.Memory → ⊥ }
+    ensures reach { H.reach home.old spot ≤ H.reach home.new spot }
+    ensures rest { RestStays H.file H.reach H.entered H.faults spot home.old home.new }
+    ensures fault { IsErrOf result HomeFault.Failed → HasFailed H.faults H.last_failed spot home.old home.new }
+{
+    lay_first(alloc, home, spot, image, first)?;
+    lay_parts(alloc, home, spot, image, touched)
+}
+
+/// Makes the file of the home the image of a disk with these pending writes, and syncs it.
+pub(crate) fn lay_image<H: Home>(
+    alloc: Global,
+    home: &mut H,
+    spot: Spot,
+    image: &[u8],
+    first: &Option<FirstByte>,
+    touched: &[Touched],
+) -> Result<(), HomeFault>
+    requires ready { (disk : DiskState) × IsToLay disk image.now (map write_of (entries first.now touched.now)) (H.file home.old spot) (H.reach home.old spot) }
+    ensures agrees { OnOk result (Agrees (H.file home.new spot) (H.reach home.new spot) image.now) }
+    ensures clean { OnOk result (IsClean (H.file home.new spot)) }
+    ensures images { (disk : DiskState) → IsToLay disk image.now (map write_of (entries first.now touched.now)) (H.file home.old spot) (H.reach home.old spot)
+        → IsImageIn disk (H.file home.new spot) }
+    ensures memory { EndWithin (H.reach home.old spot) (map write_of (entries first.now touched.now)) → IsErrOf result HomeFault.Memory → ⊥ }
+    ensures rest { RestStays H.file H.reach H.entered H.faults spot home.old home.new }
+    ensures fault { IsErrOf result HomeFault.Failed → HasFailed H.faults H.last_failed spot home.old home.new }
+{
+    lay_all(alloc, home, spot, image, first, touched)?;
+    home.set_len(spot, image.len() as u32)?;
+    home.sync(spot)
 }

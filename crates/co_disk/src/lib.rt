@@ -8,6 +8,7 @@ mod fault;
 mod image;
 mod laws;
 mod laying;
+mod stop;
 #[cfg(test)]
 mod tests;
 mod touched;

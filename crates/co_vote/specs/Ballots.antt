@@ -1,6 +1,8 @@
 -- A ballot, as what the voting rule says.
 use Rattle.std.specs.Prelude.{ℕ, List, ◌==◌, if◌then◌else◌, Option}
-use Rattle.co_state.specs.VotingRule.{Verdict, LostOperations, StaleRead, HeldBy, VoteYes, unless_stale}
+use Rattle.co_state.specs.declared.verdict.Verdict.{Verdict}
+use Rattle.co_state.specs.declared.verdict.Verdict.TheVariants.{LostOperations, StaleRead, HeldBy, VoteYes}
+use Rattle.co_state.specs.VotingRule.{unless_stale}
 use Rattle.co_vote.specs.declared.verdict.Ballot.{Ballot}
 use Rattle.co_vote.specs.declared.verdict.Ballot.TheVariants as ballot
 

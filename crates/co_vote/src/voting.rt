@@ -1,7 +1,7 @@
 //! The voting rule.
 ghost use Rattle.std.specs.Prelude.{◌≡◌, ◌≢◌, ◌↔◌, List, ℕ, Option, None, Some, option_copied};
 ghost use Rattle.co_state.specs.Table.{lesser};
-ghost use Rattle.co_state.specs.VotingRule.{LostOperations, StaleRead, HeldBy, VoteYes};
+ghost use Rattle.co_state.specs.declared.verdict.Verdict.TheVariants.{LostOperations, StaleRead, HeldBy, VoteYes};
 ghost use Rattle.co_vote.specs.Ballots.{verdict_of, verdict_on};
 
 use crate::verdict::Ballot;

@@ -6,6 +6,10 @@ use Rattle.co_disk.specs.DiskModel.{DiskState, IsSound, read_of, after_write}
 use Rattle.co_disk.specs.DiskView.{DiskView}
 use Rattle.co_disk.proofs.Gets.{length_overlaid}
 use Rattle.co_disk.proofs.Images.{read_more}
+use Rattle.co_disk.specs.Homes.{Agrees, IsImageIn}
+use Rattle.co_disk.specs.Laying.{BeginWithin}
+use Rattle.co_disk.specs.Kept.{entries, state_of}
+use Rattle.co_disk.proofs.Leaving.{stable_reached, begins_written}
 use Rattle.co_disk.proofs.Writes.{not_written, torn_written, written_told, written_image}
 use Rattle.co_disk.proofs.disk.Disk.write_at.Goals as goal
 
@@ -44,3 +48,29 @@ returns-clause-image g c =
     let its = ap (λ (v : DiskView). v.spot) c.self.view_is in
     let changed = subst (λ (s : Spot). g.H.Home.file c.write_at.new.self s ≡ option_map (written c.args.at c.args.piece.now) (g.H.Home.file c.args.home.now s)) its c.in_ok-write_at.ensures.written in
     written_image c.args.self.now.state sound (g.H.Home.file c.args.home.now c.args.self.now.spot) c.requires.agrees.told c.args.at c.args.piece.now c.requires.at (g.H.Home.file c.write_at.new.self c.args.self.now.spot) changed
+
+pub leave-requires-clause-reach : goal.leave-requires-clause-reach
+leave-requires-clause-reach g c =
+    let s = state_of c.self.inside.bytes.items (entries c.self.inside.first c.self.inside.touched.items) in
+    let agrees = subst (λ (v : DiskView). Agrees (g.H.Home.file c.args.home.now v.spot) (g.H.Home.reach c.args.home.now v.spot) (read_of v.state)) (sym c.self.view_is) c.requires.agrees in
+    rw (ap (λ (d : DiskState). d.stable) c.in_ok-note.ensures.noted) (stable_reached s c.self.invariant.sound (g.H.Home.reach c.args.home.now c.self.inside.spot) agrees.room)
+
+pub leave-requires-clause-begins : goal.leave-requires-clause-begins
+leave-requires-clause-begins g c =
+    let s = state_of c.self.inside.bytes.items (entries c.self.inside.first c.self.inside.touched.items) in
+    let agrees = subst (λ (v : DiskView). Agrees (g.H.Home.file c.args.home.now v.spot) (g.H.Home.reach c.args.home.now v.spot) (read_of v.state)) (sym c.self.view_is) c.requires.agrees in
+    let within = subst (λ (v : DiskView). c.args.at ≤ length (read_of v.state)) (sym c.self.view_is) c.requires.at in
+    subst (λ (d : DiskState). BeginWithin (g.H.Home.reach c.args.home.now c.self.inside.spot) d.pending) (sym c.in_ok-note.ensures.noted) (begins_written s c.self.invariant.sound (g.H.Home.reach c.args.home.now c.self.inside.spot) agrees.room c.args.at c.args.piece.now within)
+
+pub leave-requires-clause-images : goal.leave-requires-clause-images
+leave-requires-clause-images g c =
+    let s = state_of c.self.inside.bytes.items (entries c.self.inside.first c.self.inside.touched.items) in
+    let agrees = subst (λ (v : DiskView). Agrees (g.H.Home.file c.args.home.now v.spot) (g.H.Home.reach c.args.home.now v.spot) (read_of v.state)) (sym c.self.view_is) c.requires.agrees in
+    let within = subst (λ (v : DiskView). c.args.at ≤ length (read_of v.state)) (sym c.self.view_is) c.requires.at in
+    subst (λ (d : DiskState). IsImageIn d (g.H.Home.file c.args.home.now c.self.inside.spot)) (sym c.in_ok-note.ensures.noted) (not_written s c.self.invariant.sound (g.H.Home.file c.args.home.now c.self.inside.spot) agrees.told c.args.at c.args.piece.now within)
+
+pub returns-in_err-leave-clause-image : goal.returns-in_err-leave-clause-image
+returns-in_err-leave-clause-image g c =
+    let noted = c.in_ok-note.ensures.noted ∙ ap (λ (v : DiskView). after_write v.state c.args.at c.args.piece.now) c.self.view_is in
+    let its = ap (λ (v : DiskView). v.spot) c.self.view_is in
+    subst (λ (s : Spot). IsImageIn (after_write c.args.self.now.state c.args.at c.args.piece.now) (g.H.Home.file c.leave.new.home s)) its (subst (λ (d : DiskState). IsImageIn d (g.H.Home.file c.leave.new.home c.self.inside.spot)) noted c.leave.ensures.image)
