@@ -208,7 +208,9 @@ mod tests {
             return false;
         }
         match sessions.may_act(t) {
-            Ok(_) => sessions.answered(t, Site { member, op }, Reply::Done).is_ok(),
+            Ok(_) => sessions
+                .answered(t, Site { member, op }, Reply::Done)
+                .is_ok(),
             Err(_) => false,
         }
     }
