@@ -1,4 +1,6 @@
 //! Why a schedule was not replayed.
+ghost use Rattle.std.specs.Prelude.{◌≡◌};
+
 use co_outside::{SinkFault, SourceFault};
 use co_schedule::LineFault;
 use std::alloc::{AllocError, AllocFailed};
