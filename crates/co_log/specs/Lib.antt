@@ -1,0 +1,3 @@
+pub mod LogFile
+pub mod BatchWrite
+pub mod Stopping

@@ -1,0 +1,23 @@
+-- A log file as its writer keeps it: records, and behind them a gate that is not open.
+use Rattle.std.specs.Prelude.{◌≡◌, ℕ, ◌+◌, List, [], ◌∷◌, ◌++◌, length}
+use Rattle.std.specs.List.{flat_map}
+use Rattle.co_frame.specs.LogText.{IsGated, gated}
+use Rattle.co_record.specs.declared.record.Record.{Record}
+use Rattle.co_record.specs.Spelling.{spelling}
+use Rattle.co_record.specs.Stored.{HoldRecords}
+
+-- records that stand one after another from a place on, each with its place
+abbrev pub placed_from : ℕ → List Record → List (ℕ × Record)
+placed_from at [] = []
+placed_from at (item ∷ items) = (at, item) ∷ placed_from (at + length (spelling item)) items
+
+-- the bytes of records, one after another
+abbrev pub spelled : List Record → List ℕ
+spelled items = flat_map spelling items
+
+-- The file has these records in front of the gate at this place, which is not open.
+pub record EndsAt (bytes : List ℕ) (gate : ℕ) (items : List (ℕ × Record)) : Type 0 where
+  pub batches : List (List ℕ)
+  pub text : IsGated bytes batches
+  pub place : gate ≡ length (gated batches)
+  pub holds : HoldRecords 0 batches items
