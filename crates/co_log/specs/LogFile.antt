@@ -1,7 +1,7 @@
 -- A log file as its writer keeps it: records, and behind them a gate that is not open.
-use Rattle.std.specs.Prelude.{◌≡◌, ℕ, ◌+◌, List, [], ◌∷◌, ◌++◌, length}
+use Rattle.std.specs.Prelude.{◌≡◌, ℕ, ◌+◌, ◌==◌, ◌⊎◌, Bool, true, false, Option, Some, None, List, [], ◌∷◌, ◌++◌, length}
 use Rattle.std.specs.List.{flat_map}
-use Rattle.co_frame.specs.LogText.{IsGated, gated}
+use Rattle.co_frame.specs.LogText.{IsGated, gated, open_gate}
 use Rattle.co_record.specs.declared.record.Record.{Record}
 use Rattle.co_record.specs.Spelling.{spelling}
 use Rattle.co_record.specs.Stored.{HoldRecords}
@@ -21,3 +21,17 @@ pub record EndsAt (bytes : List ℕ) (gate : ℕ) (items : List (ℕ × Record))
   pub text : IsGated bytes batches
   pub place : gate ≡ length (gated batches)
   pub holds : HoldRecords 0 batches items
+
+-- whether a byte is there and is that of an open gate
+abbrev pub opened : Option ℕ → Bool
+opened None = false
+opened (Some byte) = byte == open_gate
+
+-- the file after a log write that added these records, or did not
+abbrev pub EndsAfter : Bool → List ℕ → ℕ → List (ℕ × Record) → List Record → Type 0
+EndsAfter true bytes gate items more = EndsAt bytes (gate + 5 + length (spelled more)) (items ++ placed_from (gate + 5) more)
+EndsAfter false bytes gate items more = EndsAt bytes gate items
+
+-- the file has the old records, or with them the new ones
+abbrev pub OldOrBoth : List ℕ → ℕ → List (ℕ × Record) → List Record → Type 0
+OldOrBoth bytes gate items more = EndsAfter false bytes gate items more ⊎ EndsAfter true bytes gate items more

@@ -5,7 +5,7 @@ ghost use Rattle.co_record.specs.Stored.{HasRecords};
 ghost use Rattle.co_log.specs.LogFile.{EndsAt};
 
 /// A file that ends at a gate that is not open has the records in front of it.
-#[tactic(auto, using(crate::proofs::Files::has_records))]
+#[tactic(auto, using(crate::proofs::Images::old_or_both))]
 pub fn files_end_once()
     ensures { (bytes : List ℕ) (gate : ℕ) (items : List (ℕ × Record)) → EndsAt bytes gate items → HasRecords bytes items }
 {}

@@ -12,7 +12,7 @@ returns-in_err-write_through-clause-stopped g c = λ call is.
     let old = c.args.disk.now.state in
     let pending = ap (λ (d : DiskState). after_write d (c.args.gate + 1) c.args.batch.now) (c.arm_for.ensures.state ∙ all_stable old c.requires.stable) in
     stopped_first c.args.stop c.arm_for.new.disk.armed call (λ n. disk_at n old.stable c.args.gate c.args.batch.now) (after_write c.arm_for.new.disk.state (c.args.gate + 1) c.args.batch.now) c.write_through.new.disk
-      c.arm_for.ensures.armed (c.in_err-write_through.ensures.stopped call (search rules)) (λ n few. pending ∙ early old.stable c.args.gate c.args.batch.now n few)
+    c.arm_for.ensures.armed (c.in_err-write_through.ensures.stopped call (search rules)) (λ n few. pending ∙ early old.stable c.args.gate c.args.batch.now n few)
 
 pub returns-in_err-write_through-clause-memory : goal.returns-in_err-write_through-clause-memory
 returns-in_err-write_through-clause-memory g c = λ is f told.
@@ -28,4 +28,4 @@ returns-in_err-write_through-2-clause-stopped g c = λ call is.
     let pending = ap (λ (d : DiskState). after_write d (c.args.gate + 1) c.args.batch.now) (c.arm_for.ensures.state ∙ all_stable old c.requires.stable) in
     let opening = ap (λ (d : DiskState). after_write d c.args.gate (165 ∷ [])) (first.done ∙ ap (λ (d : DiskState). after_sync d) pending) in
     stopped_second c.args.stop c.arm_for.new.disk.armed c.write_through.new.disk.armed call (λ n. disk_at n old.stable c.args.gate c.args.batch.now) (after_write c.write_through.new.disk.state c.args.gate (165 ∷ [])) c.write_through-2.new.disk
-      c.arm_for.ensures.armed first.passed first.counted (c.in_err-write_through-2.ensures.stopped call (search rules)) (λ n many. opening ∙ late old.stable c.args.gate c.args.batch.now n many)
+    c.arm_for.ensures.armed first.passed first.counted (c.in_err-write_through-2.ensures.stopped call (search rules)) (λ n many. opening ∙ late old.stable c.args.gate c.args.batch.now n many)
