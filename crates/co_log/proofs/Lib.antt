@@ -1,3 +1,4 @@
 pub mod Files
 pub mod Stops
 pub mod Images
+pub mod Appends

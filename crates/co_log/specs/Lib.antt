@@ -1,3 +1,4 @@
 pub mod LogFile
 pub mod BatchWrite
 pub mod Stopping
+pub mod Appending
