@@ -93,3 +93,7 @@ pub gate_stays : (batches : List (List ℕ)) (gate x : ℕ) (items : List (ℕ �
     → EndsAt image gate items
 gate_stays batches gate x items rest image each held place closed is =
     record { batches = batches; text = record { each = each; gate = x; rest = rest; closed = closed; text = is }; place = place; holds = held }
+
+pub all_both : (P : Record → Type 0) (xs ys : List Record) → AllByRecursion P xs → AllByRecursion P ys → AllByRecursion P (xs ++ ys)
+all_both P [] ys f g = g
+all_both P (x ∷ xs) ys f g = (f.0, all_both P xs ys f.1 g)

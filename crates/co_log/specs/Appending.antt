@@ -10,15 +10,16 @@ use Rattle.co_log.specs.declared.fault.LogFault.{LogFault}
 use Rattle.co_log.specs.declared.fault.LogFault.TheVariants as faults
 use Rattle.co_log.specs.declared.stop.Stop.{Stop}
 use Rattle.co_log.specs.BatchWrite.{batch_is_stable}
-use Rattle.co_log.specs.LogFile.{spelled, EndsAfter}
+use Rattle.co_log.specs.LogFile.{spelled, next_gate, EndsAfter}
 use Rattle.std.specs.Prelude.{true}
 
 -- The whole write adds the records, and no stop was armed. A stopped one adds them exactly where the
 -- image has the gate open, which it says.
 abbrev pub IsEnding : Ending → Option Stop → DiskView → ℕ → List (ℕ × Record) → List Record → Type 0
-IsEnding Whole stop disk gate items more = (stop ≡ None) × EndsAfter true disk.state.stable gate items more
-IsEnding (Stopped call stable) stop disk gate items more =
-    (leaves : Leaves) × (stop ≡ Some (record { call = call; leaves = leaves })) × (stable ≡ batch_is_stable call leaves) × EndsAfter stable disk.state.stable gate items more
+IsEnding (Whole next) stop disk gate items more = (stop ≡ None) × (next ≡ next_gate true gate more) × EndsAfter true disk.state.stable gate items more
+IsEnding (Stopped call stable next) stop disk gate items more =
+    (leaves : Leaves) × (stop ≡ Some (record { call = call; leaves = leaves })) × (stable ≡ batch_is_stable call leaves)
+    × (next ≡ next_gate stable gate more) × EndsAfter stable disk.state.stable gate items more
 
 -- the file would be too long with a batch of these records and a gate behind its gate
 abbrev pub IsTooLong : ℕ → List Record → Type 0

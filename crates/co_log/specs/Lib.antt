@@ -2,3 +2,5 @@ pub mod LogFile
 pub mod BatchWrite
 pub mod Stopping
 pub mod Appending
+pub mod Marks
+pub mod LogView

@@ -27,10 +27,19 @@ abbrev pub opened : Option ℕ → Bool
 opened None = false
 opened (Some byte) = byte == open_gate
 
--- the file after a log write that added these records, or did not
+-- the first gate that is not open, after a log write that added these records, or did not
+abbrev pub next_gate : Bool → ℕ → List Record → ℕ
+next_gate true gate more = gate + 5 + length (spelled more)
+next_gate false gate more = gate
+
+-- the records of the file then
+abbrev pub next_items : Bool → ℕ → List (ℕ × Record) → List Record → List (ℕ × Record)
+next_items true gate items more = items ++ placed_from (gate + 5) more
+next_items false gate items more = items
+
+-- the file then
 abbrev pub EndsAfter : Bool → List ℕ → ℕ → List (ℕ × Record) → List Record → Type 0
-EndsAfter true bytes gate items more = EndsAt bytes (gate + 5 + length (spelled more)) (items ++ placed_from (gate + 5) more)
-EndsAfter false bytes gate items more = EndsAt bytes gate items
+EndsAfter stable bytes gate items more = EndsAt bytes (next_gate stable gate more) (next_items stable gate items more)
 
 -- the file has the old records, or with them the new ones
 abbrev pub OldOrBoth : List ℕ → ℕ → List (ℕ × Record) → List Record → Type 0
