@@ -4,3 +4,4 @@ pub mod Stopping
 pub mod Appending
 pub mod Marks
 pub mod LogView
+pub mod Forcing

@@ -1,5 +1,5 @@
 -- What contracts see of a log, and when it stands for a list of records.
-use Rattle.std.specs.Prelude.{ℕ, ◌≡◌, ◌≢◌, ◌<◌, ◌++◌, Bool, if◌then◌else◌, List, [], Option, Some, None, Result, Ok, Err}
+use Rattle.std.specs.Prelude.{ℕ, ◌≡◌, ◌≢◌, ◌<◌, ◌++◌, ◌==◌, length, Bool, if◌then◌else◌, List, [], Option, Some, None, Result, Ok, Err}
 use Rattle.co_base.specs.declared.leaves.Leaves.{Leaves}
 use Rattle.co_base.specs.declared.mark.Mark.{Mark}
 use Rattle.co_base.specs.declared.node.Node.{Node}
@@ -44,3 +44,9 @@ IsHeader (log.Commit txn members) = ⊥
 IsHeader (log.Abort txn) = ⊥
 IsHeader (log.End txn) = ⊥
 IsHeader (log.Checkpoint rows undos committed) = ⊥
+
+-- the lengths of both files, that of part a first
+abbrev pub lengths_of : LogView → ℕ × ℕ
+lengths_of log =
+    if log.current.spot.part == 0 then (length (read_of log.current.state), length (read_of log.spare.state))
+    else (length (read_of log.spare.state), length (read_of log.current.state))

@@ -4,8 +4,11 @@
 mod append;
 mod fault;
 mod laws;
+mod log;
+mod marks;
 mod stop;
 mod writing;
 
 pub use fault::{LogFault, NodeFault};
 pub use laws::files_end_once;
+pub use log::Log;
