@@ -2,3 +2,4 @@ pub mod Files
 pub mod Stops
 pub mod Images
 pub mod Appends
+pub mod Logs
