@@ -3,3 +3,4 @@ pub mod Stops
 pub mod Images
 pub mod Appends
 pub mod Logs
+pub mod Unmade

@@ -101,3 +101,7 @@ early bytes gate batch n few = ap (λ (b : Bool). if b then batch_pending bytes 
 
 pub late : (bytes : List ℕ) (gate : ℕ) (batch : List ℕ) (n : ℕ) → 2 < n → gate_pending bytes gate batch ≡ disk_at n bytes gate batch
 late bytes gate batch n many = ap (λ (b : Bool). if b then batch_pending bytes gate batch else gate_pending bytes gate batch) (let h : false ≡ nat_le n 2 = grind (arith, nat_tests) in h)
+
+-- nothing is stopped where nothing is armed
+pub never_stopped : (calls : ℕ) (armed : Option Armed) (call : ℕ) (before : DiskState) (after : DiskView) → armed ≡ None → IsStoppedWithin calls armed call before after → ⊥
+never_stopped calls armed call before after none s = let h : None ≡ Some s.stop = sym none ∙ s.is in absurd (cc)

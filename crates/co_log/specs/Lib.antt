@@ -5,3 +5,4 @@ pub mod Appending
 pub mod Marks
 pub mod LogView
 pub mod Forcing
+pub mod Fresh

@@ -2,6 +2,7 @@
 #![tactic(auto)]
 
 mod append;
+mod closing;
 mod fault;
 mod laws;
 mod log;

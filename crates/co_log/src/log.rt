@@ -7,12 +7,12 @@ ghost use Rattle.co_record.specs.Spelling.{IsWritable};
 ghost use Rattle.co_record.specs.Stored.{HasRecords, HasLeft};
 
 use crate::append::{Ending, append};
+use crate::closing::is_closed;
 use crate::fault::LogFault;
 use crate::marks::{marks, marks_if};
 use crate::stop::Stop;
 use co_base::{Leaves, Marks, Node};
 use co_disk::Disk;
-use co_frame::OPEN_GATE;
 use co_outside::{Home, Spot};
 use co_record::{Record, Views};
 use std::alloc::{AllocError, Global};
@@ -123,10 +123,7 @@ impl Log {
     pub fn spare_closed(&self) -> bool
         ensures { result ≡ begins_closed (read_of self.now.spare.state) }
     {
-        match self.spare.bytes().first() {
-            Some(byte) => *byte != OPEN_GATE,
-            None => false,
-        }
+        is_closed(self.spare.bytes())
     }
 
     /// Appends one batch in one log write: the waiting records in order, and then this one. Its four device
