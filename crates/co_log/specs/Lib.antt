@@ -6,3 +6,4 @@ pub mod Marks
 pub mod LogView
 pub mod Forcing
 pub mod Fresh
+pub mod Spare

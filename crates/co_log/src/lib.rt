@@ -6,7 +6,9 @@ mod closing;
 mod fault;
 mod laws;
 mod log;
+mod making;
 mod marks;
+mod spare;
 mod stop;
 mod writing;
 

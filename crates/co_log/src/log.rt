@@ -25,14 +25,14 @@ use std::marker::Model;
 /// written to become the current one.
 #[derive(Drop)]
 pub struct Log {
-    alloc: Global,
-    node: Node,
-    current: Disk,
-    spare: Disk,
-    gate: u32,
-    generation: u32,
-    waiting: Vec<Record>,
-    stop: Option<Stop>,
+    pub(crate) alloc: Global,
+    pub(crate) node: Node,
+    pub(crate) current: Disk,
+    pub(crate) spare: Disk,
+    pub(crate) gate: u32,
+    pub(crate) generation: u32,
+    pub(crate) waiting: Vec<Record>,
+    pub(crate) stop: Option<Stop>,
 }
 
 impl Model for Log {
