@@ -105,3 +105,13 @@ late bytes gate batch n many = ap (λ (b : Bool). if b then batch_pending bytes 
 -- nothing is stopped where nothing is armed
 pub never_stopped : (calls : ℕ) (armed : Option Armed) (call : ℕ) (before : DiskState) (after : DiskView) → armed ≡ None → IsStoppedWithin calls armed call before after → ⊥
 never_stopped calls armed call before after none s = let h : None ≡ Some s.stop = sym none ∙ s.is in absurd (cc)
+
+-- a stop within two device calls has one of their numbers
+pub stopped_early : (stop : Option Stop) (armed : Option Armed) (call : ℕ) (mid : DiskState) (after : DiskView) → armed ≡ armed_of stop → IsStoppedWithin 2 armed call mid after → IsWriteStopped stop call (λ n. mid) after × (call ≤ 2)
+stopped_early stop armed call mid after e w = (stopped_first stop armed call (λ n. mid) mid after e w (λ n few. refl), few stop e)
+  where
+    few : (s : Option Stop) → armed ≡ armed_of s → call ≤ 2
+    few None none = absurd (let h : None ≡ Some w.stop = sym none ∙ w.is in cc)
+    few (Some s) some =
+        let it : armed_for s.call s.leaves ≡ w.stop = some_is (armed_for s.call s.leaves) w.stop (sym some ∙ w.is) in
+        omega (arith, ap (λ (a : Armed). a.call) it, w.number, ap (λ (a : Armed). a.left) it, w.within)
