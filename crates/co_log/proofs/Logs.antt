@@ -10,7 +10,14 @@ use Rattle.co_log.specs.declared.stop.Stop.{Stop}
 use Rattle.co_log.specs.Appending.{IsEnding}
 use Rattle.co_log.specs.BatchWrite.{batch_is_stable}
 use Rattle.co_log.specs.Forcing.{IsWritten}
-use Rattle.co_log.specs.LogFile.{next_gate, next_items, EndsAt, EndsAfter}
+use Rattle.co_log.specs.LogFile.{spelled, next_gate, next_items, EndsAt, EndsAfter}
+use Rattle.co_log.specs.Spare.{IsFilled, IsUnfilled, IsFilledIf, filling, filling_mark, turned}
+use Rattle.co_log.specs.BatchWrite.{begins_closed}
+use Rattle.co_disk.specs.DiskView.{DiskView}
+use Rattle.co_frame.specs.LogText.{IsGated, gated, open_gate}
+use Rattle.std.specs.Prelude.{not, ◌==◌}
+use Rattle.std.proofs.lemmas.Bool.{cases_Bool}
+use Rattle.std.proofs.Common.{length, ◌≢◌, inl, inr}
 use Rattle.co_log.specs.LogView.{LogView, IsLive}
 use Rattle.co_log.specs.Marks.{marks_of}
 
@@ -47,3 +54,36 @@ pub stopped : (log after : LogView) (items : List (ℕ × Record)) (more front :
     → (leaves : Leaves) × (log.stop ≡ Some (let s : Stop = record { call = call; leaves = leaves } in s)) × (stable ≡ batch_is_stable call leaves) × (marks ≡ (if stable then marks_of log.node front else [])) × IsWritten stable log items front after
 stopped log after items more front stop told marks call stable same armed tells is tidy live e =
     (e.0, sym armed ∙ e.1, e.2, is ∙ ap (λ (m : List Mark). if stable then m else []) tells, subst (λ (m : List Record). IsWritten stable log items m after) same (written stable log after items more tidy live e.3 e.4))
+
+-- ---- spares that are filled
+
+-- the log after a log write on its spare, before the files are exchanged
+abbrev pub after_filling : LogView → DiskView → List Record → Option Stop → LogView
+after_filling log disk waiting stop = record { node = log.node; current = log.current; spare = disk; gate = log.gate; generation = log.generation; waiting = waiting; stop = stop }
+
+pub filled : (log : LogView) (disk : DiskView) (waiting : List Record) (stop : Option Stop) (items : List Record) (next : ℕ) → waiting ≡ [] → stop ≡ None → disk.state.pending ≡ [] → next ≡ next_gate true 0 (filling log items) → EndsAfter true disk.state.stable 0 [] (filling log items)
+    → IsFilled log (turned (after_filling log disk waiting stop) next (log.generation + 1)) items
+filled log disk waiting stop items next none disarmed still at ends = record {
+  node = refl;
+  spare = refl;
+  generation = refl;
+  waiting = none;
+  disarmed = disarmed;
+  live = record { made = omega (arith, at); still = still; ends = subst (λ (n : ℕ). EndsAt disk.state.stable n (next_items true 0 [] (filling log items))) (sym at) ends };
+}
+
+first_shut : (bytes : List ℕ) (e : EndsAt bytes 0 []) → begins_closed bytes ≡ true
+first_shut bytes e = ap begins_closed e.text.text ∙ by_batches e.batches e.place
+  where
+    shut : (x : ℕ) → x ≢ open_gate → not (x == open_gate) ≡ true
+    shut x other = elim (cases_Bool (x == open_gate)) [ inl h ↦ absurd (other (let e : x ≡ open_gate = grind arith in e)) | inr h ↦ ap not h ]
+
+    by_batches : (batches : List (List ℕ)) → 0 ≡ length (gated batches) → begins_closed (gated batches ++ e.text.gate ∷ e.text.rest) ≡ true
+    by_batches [] at = shut e.text.gate e.text.closed
+    by_batches (b ∷ bs) at = absurd (omega (arith, at))
+
+pub filled_if : (stable : Bool) (log : LogView) (disk : DiskView) (waiting : List Record) (stop : Option Stop) (items : List Record) (next : ℕ) → waiting ≡ [] → stop ≡ None → disk.state.pending ≡ [] → next ≡ next_gate stable 0 (filling log items)
+    → EndsAfter stable disk.state.stable 0 [] (filling log items) → IsFilledIf stable log (if stable then turned (after_filling log disk waiting stop) next (log.generation + 1) else after_filling log disk waiting stop) items
+filled_if true log disk waiting stop items next none disarmed still at ends = filled log disk waiting stop items next none disarmed still at ends
+filled_if false log disk waiting stop items next none disarmed still at ends =
+    record { node = refl; current = refl; gate = refl; generation = refl; waiting = none; disarmed = disarmed; still = still; closed = first_shut disk.state.stable ends }

@@ -132,3 +132,7 @@ ends_at_front bytes items e =
 
 pub none_or_these : (bytes : List ℕ) (more : List Record) → OldOrBoth bytes 0 [] more → NoneOrThese bytes (placed_from 5 more)
 none_or_these bytes more either = elim either [ inl old ↦ inl (ends_at_front bytes [] old) | inr both ↦ inr (5 + length (spelled more), both) ]
+
+-- a told file that is what a disk with a closed gate and nothing pending gives
+pub closed_told : (old : DiskState) (bytes : List ℕ) (more : List Record) → old.pending ≡ [] → begins_closed old.stable ≡ true → bytes ≡ read_of old → OldOrBoth bytes 0 [] more
+closed_told old bytes more still closed e = inl (subst (λ (b : List ℕ). EndsAt b 0 []) (sym (e ∙ read_stable old still)) (ends_at_once old.stable closed))

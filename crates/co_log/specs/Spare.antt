@@ -49,6 +49,11 @@ filling log items = Header log.node (log.generation + 1) ∷ items
 abbrev pub filling_mark : LogView → Mark
 filling_mark log = record { node = log.node; kind = kind.Checkpoint; number = log.generation + 1 }
 
+-- the log with its files exchanged
+abbrev pub turned : LogView → ℕ → ℕ → LogView
+turned log gate generation =
+    record { node = log.node; current = log.spare; spare = log.current; gate = gate; generation = generation; waiting = log.waiting; stop = log.stop }
+
 -- The log after its spare became the current file, with these records in place of all others; the file that
 -- was current is the spare.
 pub record IsFilled (log after : LogView) (items : List Record) : Type 0 where

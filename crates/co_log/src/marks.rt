@@ -1,5 +1,5 @@
 //! What a log write tells.
-ghost use Rattle.std.specs.Prelude.{◌≡◌, ◌++◌, [], IfOk, OnOk, if◌then◌else◌};
+ghost use Rattle.std.specs.Prelude.{◌≡◌, ◌++◌, ◌∷◌, [], IfOk, OnOk, if◌then◌else◌};
 ghost use Rattle.co_log.specs.Marks.{mark_of, marks_of};
 
 use co_base::{Mark, MarkKind, Marks, Node};
@@ -43,6 +43,15 @@ pub(crate) fn marks(
     let mut told = Marks::new(alloc);
     put_marks(node, front, &mut told)?;
     put_marks(node, back, &mut told)?;
+    Ok(told)
+}
+
+/// One mark alone.
+pub(crate) fn one_mark(alloc: Global, mark: Mark) -> Result<Marks, AllocError>
+    ensures { IfOk result (λ m. m ≡ mark ∷ []) }
+{
+    let mut told = Marks::new(alloc);
+    told.push(mark)?;
     Ok(told)
 }
 

