@@ -4,3 +4,4 @@ pub mod Images
 pub mod Appends
 pub mod Logs
 pub mod Unmade
+pub mod Scans

@@ -7,3 +7,4 @@ pub mod LogView
 pub mod Forcing
 pub mod Fresh
 pub mod Spare
+pub mod Scanning

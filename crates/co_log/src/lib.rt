@@ -8,6 +8,7 @@ mod laws;
 mod log;
 mod making;
 mod marks;
+mod scanning;
 mod spare;
 mod stop;
 mod writing;
