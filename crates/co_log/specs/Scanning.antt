@@ -55,6 +55,7 @@ pub record IsScanned (node : Node) (walk : GateWalk) (found : Option ℕ) : Type
   pub passed : HasPassed walk batches
   pub holds : HoldRecords 0 batches items
   pub headed : IsHeaded node 5 None items found
+  pub start : found ≡ None → batches ≡ []
 
 -- What a file of a log is: it has no batch, and its gate is at the front; or its first record is a header of
 -- the node with this generation, and all records are in the grammar.

@@ -2,6 +2,7 @@
 #![tactic(auto)]
 
 mod append;
+mod attaching;
 mod closing;
 mod fault;
 mod laws;

@@ -3,11 +3,19 @@ ghost use Rattle.std.specs.Prelude.{◌≡◌, ◌≤◌, ◌<◌, ◌+◌, ◌�
 ghost use Rattle.co_frame.specs.LogText.{most_log_bytes, IsLogText, IsBrokenAt};
 ghost use Rattle.co_record.specs.declared.record.Record.TheVariants.{Header};
 ghost use Rattle.co_record.specs.Lent.{record_of};
-ghost use Rattle.co_log.specs.Scanning.{IsFound, IsReadTo, IsUnreadable};
+ghost use Rattle.co_log.specs.Scanning.{IsFound, IsReadTo, IsUnreadable, IsLogFile, IsBadAt};
 
 use co_base::Node;
 use co_frame::{Batches, FrameFault};
 use co_record::{RecordView, read_record};
+
+/// A file as it was read: the place of its first gate that is not open, and its generation, where it has
+/// a batch.
+#[derive(Clone, Copy, Debug)]
+pub(crate) struct Found {
+    pub(crate) gate: u32,
+    pub(crate) generation: Option<u32>,
+}
 
 /// The generation that is found with one record more: the first record of a file is a header of the node.
 fn found_with(node: Node, found: Option<u32>, view: &RecordView<'_>) -> Option<u32>
@@ -63,6 +71,33 @@ fn check_text(bytes: &[u8]) -> Result<(), u32>
         match batches.next() {
             None => return Ok(()),
             Some(Ok(_)) => {}
+            Some(Err(FrameFault::Broken { at })) => return Err(at),
+        }
+    }
+    unreachable!()
+}
+
+/// Reads a whole file of a node's log. A fault is the place of its first fault: the open gate of a batch that
+/// is not whole, or else the first thing that is no record or no header of the node in front of all others.
+pub(crate) fn scan(node: Node, bytes: &[u8]) -> Result<Found, u32>
+    requires { length bytes.now ≤ most_log_bytes }
+    ensures found { IfOk result (λ f. IsLogFile node bytes.now f.gate f.generation) }
+    ensures bad { IfErr result (IsBadAt node bytes.now) }
+{
+    check_text(bytes)?;
+    let mut batches = Batches::new(bytes);
+    let mut generation = None;
+    for _turn in 0..=bytes.len() {
+        match batches.next() {
+            None => {
+                return Ok(Found {
+                    gate: batches.gate(),
+                    generation,
+                });
+            }
+            Some(Ok(batch)) => {
+                generation = read_batch(node, batch.at, batch.records, generation)?;
+            }
             Some(Err(FrameFault::Broken { at })) => return Err(at),
         }
     }
