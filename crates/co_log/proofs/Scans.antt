@@ -12,7 +12,7 @@ use Rattle.co_frame.specs.LogText.{GateWalk, HasPassed, IsLogText, IsBatch, gate
 use Rattle.co_record.specs.Stored.{HoldRecords}
 use Rattle.co_log.specs.LogFile.{EndsAt}
 use Rattle.co_log.proofs.Files.{hold_more}
-use Rattle.co_log.specs.Scanning.{IsFound, IsHeaded, IsReadTo, HasNoRecord, HasWrongHeader, IsUnreadable, IsScanned, IsLogFile}
+use Rattle.co_log.specs.Scanning.{IsFound, IsHeaded, IsReadTo, HasNoRecord, HasWrongHeader, IsUnreadable, IsScanned, IsLogFile, IsBadBatch}
 
 -- one record more, behind those that are there
 are_more : (at : ℕ) (front : List ℕ) (items : List (ℕ × Record)) (item : Record) → AreRecords at front items → IsSpelled item → AreRecords at (front ++ spelling item) (items ++ (at + length front, item) ∷ [])
@@ -115,3 +115,17 @@ scan_last node walk (Some g) s text = with_items s.items s.holds s.headed
           | inl a ↦ absurd (let none : x ∷ items ≡ [] = subst (λ (bs : List (List ℕ)). HoldRecords 0 bs (x ∷ items)) a.1 holds in cc)
           | inr a ↦ (items, record { batches = s.batches; text = a.1; place = s.passed.place; holds = subst (λ (y : ℕ × Record). HoldRecords 0 s.batches (y ∷ items)) first holds })
         ]
+
+pub bad_batch : (node : Node) (walk next : GateWalk) (found : Option ℕ) (at : ℕ) (batch : List ℕ) (place : ℕ) (s : IsScanned node walk found) → HasPassed next (s.batches ++ batch ∷ []) → next.source ≡ walk.source → at ≡ walk.at + 5 → next.at ≡ at + length batch
+    → IsUnreadable node at batch found place → IsBadBatch node walk.source place
+bad_batch node walk next found at batch place s passed source here there bad =
+    let same : next ≡ (let w : GateWalk = record { source = walk.source; at = walk.at + 5 + length batch } in w) =
+    ap (λ (b : List ℕ). let w : GateWalk = record { source = b; at = next.at } in w) source ∙ ap (λ (n : ℕ). let w : GateWalk = record { source = walk.source; at = n } in w) (there ∙ ap (λ (n : ℕ). n + length batch) here) in
+    record {
+      gate = walk.at;
+      batch = batch;
+      found = found;
+      scanned = s;
+      behind = subst (λ (w : GateWalk). HasPassed w (s.batches ++ batch ∷ [])) same passed;
+      unreadable = subst (λ (n : ℕ). IsUnreadable node n batch found place) here bad;
+    }

@@ -8,3 +8,4 @@ pub mod Forcing
 pub mod Fresh
 pub mod Spare
 pub mod Scanning
+pub mod Attaching

@@ -63,9 +63,18 @@ abbrev pub IsLogFile : Node → List ℕ → ℕ → Option ℕ → Type 0
 IsLogFile node bytes gate None = IsLogText bytes [] × (gate ≡ 0)
 IsLogFile node bytes gate (Some generation) = (items : List (ℕ × Record)) × EndsAt bytes gate ((5, Header node generation) ∷ items)
 
+-- Behind the gate at this place stands a batch with something that is no record of a log of the node, and all
+-- before it are.
+pub record IsBadBatch (node : Node) (bytes : List ℕ) (at : ℕ) : Type 0 where
+  pub gate : ℕ
+  pub batch : List ℕ
+  pub found : Option ℕ
+  pub scanned : IsScanned node (record { source = bytes; at = gate }) found
+  pub behind : HasPassed (record { source = bytes; at = gate + 5 + length batch }) (scanned.batches ++ batch ∷ [])
+  pub unreadable : IsUnreadable node (gate + 5) batch found at
+
 -- A file that is no log of the node, and the place that is told: the open gate of the first batch that is not
 -- whole; else, in a log text, the first place that no record of the grammar stands at, or a first record that
 -- is no header of the node.
 abbrev pub IsBadAt : Node → List ℕ → ℕ → Type 0
-IsBadAt node bytes at = IsBrokenAt bytes at
-    ⊎ (((batches : List (List ℕ)) × IsLogText bytes batches) × ((gate : ℕ) × (batch : List ℕ) × (found : Option ℕ) × IsScanned node (record { source = bytes; at = gate }) found × IsUnreadable node (gate + 5) batch found at))
+IsBadAt node bytes at = IsBrokenAt bytes at ⊎ (((batches : List (List ℕ)) × IsLogText bytes batches) × IsBadBatch node bytes at)

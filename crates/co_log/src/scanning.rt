@@ -96,7 +96,10 @@ pub(crate) fn scan(node: Node, bytes: &[u8]) -> Result<Found, u32>
                 });
             }
             Some(Ok(batch)) => {
-                generation = read_batch(node, batch.at, batch.records, generation)?;
+                match read_batch(node, batch.at, batch.records, generation) {
+                    Ok(found) => generation = found,
+                    Err(place) => return Err(place),
+                }
             }
             Some(Err(FrameFault::Broken { at })) => return Err(at),
         }
