@@ -5,3 +5,4 @@ pub mod Appends
 pub mod Logs
 pub mod Unmade
 pub mod Scans
+pub mod Attached

@@ -1,9 +1,10 @@
 -- Which of the two files of a node is current, and why a log is not attached.
-use Rattle.std.specs.Prelude.{ℕ, ◌≡◌, ◌≤◌, ◌<◌, ◌⊎◌, Bool, true, false, List, [], ◌∷◌, length, Option, Some, None}
+use Rattle.std.specs.Prelude.{ℕ, ◌≡◌, ◌≤◌, ◌<◌, ◌⊎◌, Bool, true, false, List, [], ◌∷◌, length, nat_lt, Option, Some, None}
 use Rattle.co_base.specs.Nodes.{node_byte}
 use Rattle.co_base.specs.declared.node.Node.{Node}
 use Rattle.co_outside.specs.declared.spot.Spot.{Spot}
 use Rattle.co_outside.specs.Home.{File}
+use Rattle.co_disk.specs.DiskModel.{read_of}
 use Rattle.co_disk.specs.DiskView.{DiskView}
 use Rattle.co_frame.specs.LogText.{IsLogText}
 use Rattle.co_log.specs.declared.fault.LogFault.{LogFault}
@@ -64,6 +65,11 @@ IsLonger most file = (f : File) → file ≡ Some f → most < length f.bytes
 -- a told file has at most so many bytes
 abbrev pub IsWithin : ℕ → Option File → Type 0
 IsWithin most file = (f : File) → file ≡ Some f → length f.bytes ≤ most
+
+-- whether a file, which is none where it is too long to be read, has more than one byte
+abbrev pub used_of : Option DiskView → Bool
+used_of None = true
+used_of (Some disk) = nat_lt 1 (length (read_of disk.state))
 
 -- the disk of the file at a spot, which has its bytes where the home tells them
 pub record IsToldAs (spot : Spot) (file : Option File) (disk : DiskView) : Type 0 where
