@@ -9,3 +9,4 @@ pub mod Fresh
 pub mod Spare
 pub mod Scanning
 pub mod Attaching
+pub mod Rereading

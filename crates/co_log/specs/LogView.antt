@@ -31,8 +31,9 @@ pub record IsLive (log : LogView) (items : List (ℕ × Record)) : Type 0 where
   pub still : log.current.state.pending ≡ []
   pub ends : EndsAt log.current.state.stable log.gate items
 
--- the home's files of a log are what reads of its disks give, where the home tells them
+-- The home's files of a log are what reads of its disks give, where the home tells them, and they are two.
 pub record IsHeld {H : Type 0} (file : H → Spot → Option File) (reach : H → Spot → ℕ) (home : H) (log : LogView) : Type 0 where
+  pub apart : log.current.spot ≢ log.spare.spot
   pub current : Agrees (file home log.current.spot) (reach home log.current.spot) (read_of log.current.state)
   pub spare : Agrees (file home log.spare.spot) (reach home log.spare.spot) (read_of log.spare.state)
 

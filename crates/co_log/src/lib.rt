@@ -9,11 +9,12 @@ mod laws;
 mod log;
 mod making;
 mod marks;
+mod rereading;
 mod scanning;
 mod spare;
 mod stop;
 mod writing;
 
 pub use fault::{LogFault, NodeFault};
-pub use laws::files_end_once;
+pub use laws::{gates_end_files, images_are_old_or_new};
 pub use log::Log;

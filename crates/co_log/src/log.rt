@@ -49,7 +49,7 @@ impl Model for Log {
 }
 
 impl Log {
-    ghost use Rattle.co_disk.specs.Homes.{Agrees, IsClean, RestStays, HasFailed};
+    ghost use Rattle.co_disk.specs.Homes.{IsClean, RestStays, HasFailed};
     ghost use Rattle.co_log.specs.Appending.{IsTooLong};
     ghost use Rattle.co_log.specs.BatchWrite.{begins_closed};
     ghost use Rattle.co_log.specs.Forcing.{IsForced, IsDone, IsOfForce};
@@ -138,7 +138,7 @@ impl Log {
         requires writable { IsWritable item }
         requires header { IsHeader item → ⊥ }
         ensures forced { (items : List (ℕ × Record)) → IsLive self.old items → IsForced self.old items (self.old.waiting ++ item ∷ []) self.new result }
-        ensures agrees { IsDone result → Agrees (H.file home.new self.old.current.spot) (H.reach home.new self.old.current.spot) (read_of self.new.current.state) }
+        ensures held { IsDone result → IsHeld H.file H.reach home.new self.new }
         ensures clean { IsDone result → IsClean (H.file home.new self.old.current.spot) }
         ensures full { IsErrOf result (LogFault.Full self.old.current.spot) → IsTooLong self.old.gate (self.old.waiting ++ item ∷ []) }
         ensures told { (items : List (ℕ × Record)) → IsLive self.old items → (f : File) → H.file home.new self.old.current.spot ≡ Some f → IsDone result ⊎ OldOrBoth f.bytes self.old.gate items (self.old.waiting ++ item ∷ []) }

@@ -14,7 +14,7 @@ use co_outside::Home;
 use co_record::Record;
 
 impl Log {
-    ghost use Rattle.co_disk.specs.Homes.{Agrees, IsClean, RestStays, HasFailed};
+    ghost use Rattle.co_disk.specs.Homes.{IsClean, RestStays, HasFailed};
     ghost use Rattle.co_log.specs.Fresh.{IsFresh, IsMade, NoneOrThese, IsOfDevice, header_alone};
     ghost use Rattle.co_log.specs.LogView.{IsHeld};
 
@@ -28,7 +28,7 @@ impl Log {
         requires node { IsValidNode self.old.node }
         ensures made { OnOk result (IsMade self.old self.new) }
         ensures mark { IfOk result (λ m. m ≡ record { node = self.old.node; kind = kind.Header; number = 1 }) }
-        ensures agrees { OnOk result (Agrees (H.file home.new self.old.current.spot) (H.reach home.new self.old.current.spot) (read_of self.new.current.state)) }
+        ensures held { OnOk result (IsHeld H.file H.reach home.new self.new) }
         ensures clean { OnOk result (IsClean (H.file home.new self.old.current.spot)) }
         ensures told { (f : File) → H.file home.new self.old.current.spot ≡ Some f → NoneOrThese f.bytes (header_alone self.old.node) }
         ensures faults { IfErr result (IsOfDevice self.old.current.spot) }

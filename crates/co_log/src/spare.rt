@@ -20,7 +20,7 @@ use co_outside::Home;
 use co_record::Record;
 
 impl Log {
-    ghost use Rattle.co_disk.specs.Homes.{Agrees, IsClean, RestStays, HasFailed};
+    ghost use Rattle.co_disk.specs.Homes.{IsClean, RestStays, HasFailed};
     ghost use Rattle.co_log.specs.BatchWrite.{begins_closed};
     ghost use Rattle.co_log.specs.Forcing.{IsDone, IsOfForce};
     ghost use Rattle.co_log.specs.Appending.{IsTooLong};
@@ -37,7 +37,7 @@ impl Log {
         requires still { self.old.spare.state.pending ≡ [] }
         requires unclosed { begins_closed self.old.spare.state.stable ≡ false }
         ensures closing { IsClosing self.old self.new result }
-        ensures agrees { IsDone result → Agrees (H.file home.new self.old.spare.spot) (H.reach home.new self.old.spare.spot) (read_of self.new.spare.state) }
+        ensures held { IsDone result → IsHeld H.file H.reach home.new self.new }
         ensures clean { IsDone result → IsClean (H.file home.new self.old.spare.spot) }
         ensures told { (f : File) → H.file home.new self.old.spare.spot ≡ Some f → IsSpareImage self.old.spare.state.stable f.bytes }
         ensures faults { IfErr result (IsOfForce self.old.spare.spot) }
@@ -83,6 +83,7 @@ impl Log {
         requires writable { AllByRecursion IsWritable items.now }
         requires headers { All (λ item. IsHeader item → ⊥) items.now }
         ensures filling { IsFilling self.old items.now self.new result }
+        ensures held { IsDone result → IsHeld H.file H.reach home.new self.new }
         ensures clean { IsDone result → IsClean (H.file home.new self.old.spare.spot) }
         ensures full { IsErrOf result (LogFault.Full self.old.spare.spot) → IsTooLong 0 (filling self.old items.now) ⊎ (self.old.generation ≡ 4294967295) }
         ensures told { IsDone result ⊎ ((f : File) → H.file home.new self.old.spare.spot ≡ Some f → OldOrBoth f.bytes 0 [] (filling self.old items.now)) }
@@ -151,6 +152,7 @@ impl Log {
         requires still { (self.old.current.state.pending ≡ []) × (self.old.spare.state.pending ≡ []) }
         ensures log { self.new ≡ record self.old { waiting = []; stop = None } }
         ensures home { _home.new ≡ _home.old }
+        ensures held { IsHeld H.file H.reach _home.new self.new }
         ensures ok { IsOk result }
     {
         self.waiting.clear();
