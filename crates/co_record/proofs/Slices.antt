@@ -1,5 +1,5 @@
 -- The keys and values of a record that stands at the front are slices of the source.
-use Rattle.std.proofs.Common.{◌≡◌, ℕ, ◌+◌, ◌-◌, ◌≤◌, List, [], ◌∷◌, ◌++◌, length, take, drop, refl, sym, ap, subst, ◌∙◌, append_assoc, arith}
+use Rattle.std.proofs.Common.{◌≡◌, ℕ, ◌+◌, ◌-◌, List, [], ◌∷◌, ◌++◌, length, take, drop, refl, sym, ap, ◌∙◌, append_assoc, arith}
 use Rattle.std.specs.Prelude.{Option, Some, None}
 use Rattle.std.specs.List.{flat_map, slice_range, AllByRecursion}
 use Rattle.std.specs.Int.{w16, w32, to_be_bytes}
@@ -102,7 +102,7 @@ record_stands : (source : List ℕ) (item : Record) → StandsIn source 0 (spell
 record_stands source (Header node generation) s = tt
 record_stands source (Prepare txn coord count reads writes) s =
     prepare_stands source (2 ∷ (txn_text txn ++ (coord ∷ to_be_bytes w16 count))) reads writes refl
-      record { front = s.front; behind = s.behind; both = s.both; place = s.place }
+    record { front = s.front; behind = s.behind; both = s.both; place = s.place }
 record_stands source (Commit txn members) s = tt
 record_stands source (Abort txn) s = tt
 record_stands source (End txn) s = tt

@@ -1,4 +1,4 @@
-use Rattle.std.proofs.Common.{◌≡◌, ℕ, List, length, Err, sym, ap, ◌∙◌, arith}
+use Rattle.std.proofs.Common.{length, Err, sym, ap, ◌∙◌, arith}
 use Rattle.co_record.specs.Lent.{placed, record_of}
 use Rattle.co_record.proofs.Records.{record_shrinks, stands, reads}
 use Rattle.co_record.proofs.Slices.{are_slices}
