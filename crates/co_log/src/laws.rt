@@ -1,5 +1,5 @@
 //! What holds of every log write.
-ghost use Rattle.std.specs.Prelude.{ℕ, List, ◌≡◌, ◌<◌, ◌≤◌, true, false, []};
+ghost use Rattle.std.specs.Prelude.{ℕ, List, ◌≡◌, ◌<◌, ◌≤◌, true, false, [], ◌⊎◌};
 ghost use Rattle.std.specs.List.{AllByRecursion};
 ghost use Rattle.co_base.specs.declared.leaves.Leaves.{Leaves};
 ghost use Rattle.co_disk.specs.DiskModel.{IsImage, IsChosen};
@@ -7,6 +7,11 @@ ghost use Rattle.co_frame.specs.LogText.{IsBatch, IsLogText};
 ghost use Rattle.co_record.specs.declared.record.Record.{Record};
 ghost use Rattle.co_record.specs.Spelling.{IsSpelled};
 ghost use Rattle.co_record.specs.Stored.{HasRecords};
+ghost use Rattle.co_base.specs.declared.node.Node.{Node};
+ghost use Rattle.co_disk.specs.DiskView.{DiskView};
+ghost use Rattle.co_log.specs.Attaching.{IsAttached};
+ghost use Rattle.co_log.specs.Fresh.{IsFresh};
+ghost use Rattle.co_log.specs.LogView.{LogView, IsLive};
 ghost use Rattle.co_log.specs.BatchWrite.{closed_batch, batch_pending, gate_pending, disk_at, disk_after, batch_is_stable};
 ghost use Rattle.co_log.specs.LogFile.{spelled, EndsAt, EndsAfter, OldOrBoth};
 
@@ -30,4 +35,10 @@ pub fn images_are_old_or_new()
         EndsAfter (batch_is_stable call leaves) image gate items more }
     ensures after { (bytes : List ℕ) (gate : ℕ) (items : List (ℕ × Record)) (more : List Record) → EndsAt bytes gate items →
         AllByRecursion IsSpelled more → IsBatch (spelled more) → EndsAfter true (disk_after bytes gate (closed_batch more)).stable gate items more }
+{}
+
+/// An attached log is fresh, or it stands for the records of its current file.
+pub fn attached_logs_stand()
+    ensures { (node : Node) (a b : DiskView) (log : LogView) → a.state.pending ≡ [] → b.state.pending ≡ [] → IsAttached node a b log →
+        IsFresh log ⊎ ((items : List (ℕ × Record)) × IsLive log items) }
 {}

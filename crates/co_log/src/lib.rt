@@ -16,5 +16,8 @@ mod stop;
 mod writing;
 
 pub use fault::{LogFault, NodeFault};
-pub use laws::{gates_end_files, images_are_old_or_new};
+pub use laws::{attached_logs_stand, gates_end_files, images_are_old_or_new};
 pub use log::Log;
+
+#[cfg(test)]
+mod tests;
