@@ -1,12 +1,11 @@
 -- How the chosen image comes out, place by place.
-use Rattle.std.proofs.Common.{◌≡◌, ◌≢◌, ℕ, zero, suc, ◌+◌, ◌-◌, ◌<◌, ◌≤◌, ◌⊎◌, Bool, true, false, List, [], ◌∷◌, ◌++◌, length, map, take, drop, get_or, refl, sym, ◌∙◌, ap, subst, inl, inr, arith, add-one, drop-cons}
+use Rattle.std.proofs.Common.{◌≡◌, ◌≢◌, ℕ, zero, suc, ◌+◌, ◌-◌, ◌<◌, ◌≤◌, ◌⊎◌, Bool, true, false, List, [], ◌∷◌, length, map, take, drop, get_or, refl, sym, ◌∙◌, ap, subst, inl, inr, arith, add-one, drop-cons}
 use Rattle.std.proofs.Math.ListN.{set}
 use Rattle.std.proofs.lemmas.Bool.{cases_Bool}
 use Rattle.std.proofs.lemmas.Bool.Decides.{nat_tests}
-use Rattle.std.specs.Prelude.{Option, Some, None, slice_get, max, nat_lt}
-use Rattle.co_base.specs.declared.leaves.Leaves.{Leaves}
-use Rattle.co_base.specs.declared.leaves.Leaves.TheVariants.{Old, New, Filled}
-use Rattle.co_disk.specs.DiskModel.{DiskState, read_of, is_touched, touched_before, or_else, left_at, IsChosen, IsSound}
+use Rattle.std.specs.Prelude.{Some, None, slice_get, max, nat_lt}
+use Rattle.co_base.specs.declared.leaves.Leaves.TheVariants.{Old, Filled}
+use Rattle.co_disk.specs.DiskModel.{DiskState, read_of, is_touched, touched_before, left_at, IsChosen, IsSound}
 use Rattle.co_disk.specs.declared.touched.Touched.{Touched}
 use Rattle.co_disk.specs.Kept.{Entry, entry_of, undone, taken_back, AreFit, IsFit}
 use Rattle.co_disk.proofs.Gets.{get_past, get_take, get_within, length_take}

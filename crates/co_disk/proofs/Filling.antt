@@ -3,9 +3,9 @@ use Rattle.std.proofs.Common.{◌≡◌, ℕ, zero, suc, ◌+◌, ◌-◌, ◌<�
 use Rattle.std.proofs.lemmas.Bool.{cases_Bool}
 use Rattle.std.proofs.lemmas.Bool.Decides.{nat_tests}
 use Rattle.std.proofs.lemmas.Option.{slice_get-get_or}
-use Rattle.std.specs.Prelude.{Option, Some, None, slice_get, nat_lt, if◌then◌else◌}
+use Rattle.std.specs.Prelude.{Some, None, slice_get, nat_lt, if◌then◌else◌}
 use Rattle.co_base.specs.declared.leaves.Leaves.TheVariants.{Filled}
-use Rattle.co_disk.specs.DiskModel.{DiskState, read_of, is_touched, touched_before, or_else, left_at, IsChosen, IsImage, IsSound}
+use Rattle.co_disk.specs.DiskModel.{DiskState, is_touched, touched_before, left_at, IsChosen, IsImage, IsSound}
 use Rattle.co_disk.proofs.Gets.{get_past, get_within, get_left, get_right}
 use Rattle.co_disk.proofs.Images.{grown_is_covered}
 use Rattle.co_disk.proofs.Fill.{rank_grows}

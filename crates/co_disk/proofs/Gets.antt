@@ -4,7 +4,7 @@ use borrow.Rule.Slice.PartMut.{put_mid}
 use Rattle.std.proofs.lemmas.Slice.{put_mid-paste}
 use Rattle.std.proofs.lemmas.Bool.{cases_Bool}
 use Rattle.std.proofs.lemmas.Bool.Decides.{nat_tests}
-use Rattle.std.specs.Prelude.{Option, Some, None, slice_get, nat_lt, max, min}
+use Rattle.std.specs.Prelude.{Some, None, slice_get, nat_lt, max}
 use Rattle.co_outside.specs.Overlay.{overlaid, IsTorn}
 
 pub get_left : (xs ys : List ℕ) (place : ℕ) → place < length xs → slice_get (xs ++ ys) place ≡ slice_get xs place

@@ -1,13 +1,13 @@
 -- Facts of images.
-use Rattle.std.proofs.Common.{◌≡◌, ℕ, zero, suc, ◌+◌, ◌-◌, ◌<◌, ◌≤◌, ◌⊎◌, Bool, true, false, List, [], ◌∷◌, ◌++◌, length, refl, sym, ◌∙◌, ap, inl, inr, arith}
+use Rattle.std.proofs.Common.{◌≡◌, ℕ, ◌+◌, ◌<◌, ◌≤◌, ◌⊎◌, Bool, true, false, List, [], ◌∷◌, ◌++◌, length, refl, sym, ◌∙◌, ap, inl, inr, arith}
 use Rattle.std.proofs.lemmas.Bool.{cases_Bool}
 use Rattle.std.proofs.lemmas.Bool.Decides.{nat_tests}
-use Rattle.std.specs.Prelude.{Option, Some, None, slice_get, max, ◌&&◌, ◌||◌, nat_lt, nat_le}
+use Rattle.std.specs.Prelude.{Option, Some, None, slice_get, ◌||◌, nat_lt, nat_le}
 use Rattle.co_base.specs.declared.leaves.Leaves.{Leaves}
 use Rattle.co_base.specs.declared.leaves.Leaves.TheVariants.{Old, New, Filled}
 use Rattle.co_outside.specs.Overlay.{overlaid, IsTorn}
 use Rattle.co_disk.specs.DiskModel.{Write, DiskState, laid_over, read_of, after_write, covers, any_covers, is_touched, touched_before, or_else, left_at, IsChosen, IsImage, AreWithin, IsSound}
-use Rattle.co_disk.proofs.Gets.{length_overlaid, get_before, get_behind, overlaid_torn, get_past, get_within, ends_before}
+use Rattle.co_disk.proofs.Gets.{length_overlaid, get_before, get_behind, get_past, ends_before}
 
 -- a write that does not cover a place leaves it
 pub uncovered : (bytes : List ℕ) (w : Write) (place : ℕ) → w.at ≤ length bytes → covers place w ≡ false → slice_get (overlaid bytes w.at w.piece) place ≡ slice_get bytes place

@@ -6,9 +6,9 @@ use Rattle.co_disk.specs.declared.touched.Touched.{Touched}
 use Rattle.co_disk.specs.Kept.{Entry, entry_of, write_of}
 use Rattle.std.proofs.lemmas.Bool.{cases_Bool}
 use Rattle.std.proofs.lemmas.Bool.Decides.{nat_tests}
-use Rattle.std.specs.Prelude.{Option, Some, None, Result, Ok, Err, OnOk, OnErr, slice_get, max, min, nat_lt, nat_le, option_map, ◌||◌}
+use Rattle.std.specs.Prelude.{Option, Some, None, Result, Ok, Err, OnOk, OnErr, slice_get, max, min, nat_lt, option_map, ◌||◌}
 use Rattle.co_outside.specs.Home.{File, written, IsTornFile}
-use Rattle.co_outside.specs.Overlay.{overlaid, IsTorn}
+use Rattle.co_outside.specs.Overlay.{overlaid}
 use Rattle.co_disk.specs.DiskModel.{Write, DiskState, read_of, covers, any_covers, is_touched, IsImage}
 use Rattle.co_disk.specs.Homes.{IsImageIn}
 use Rattle.co_disk.specs.Laying.{IsLaidTo}

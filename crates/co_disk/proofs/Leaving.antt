@@ -2,7 +2,7 @@
 use Rattle.std.proofs.Common.{◌≡◌, ◌⊎◌, inl, inr, ℕ, zero, suc, ◌+◌, ◌<◌, ◌≤◌, Bool, true, false, List, [], ◌∷◌, ◌++◌, length, map, take, refl, sym, ◌∙◌, ap, subst, arith}
 use Rattle.std.proofs.lemmas.Bool.{cases_Bool}
 use Rattle.std.proofs.lemmas.Bool.Decides.{nat_tests}
-use Rattle.std.specs.Prelude.{Option, Some, None, Result, Ok, Err, OnOk, OnErr, ◌||◌, nat_lt, slice_get, option_map, IfSome, All, max}
+use Rattle.std.specs.Prelude.{Option, Some, None, Result, Ok, Err, OnOk, OnErr, ◌||◌, nat_lt, slice_get, option_map, IfSome, All}
 use Rattle.co_outside.specs.Home.{File, shortened, unclean, cleaned}
 use Rattle.co_outside.specs.Overlay.{overlaid}
 use Rattle.co_base.specs.declared.leaves.Leaves.{Leaves}

@@ -1,17 +1,17 @@
 -- A write more is noted.
-use Rattle.std.proofs.Common.{◌≡◌, ℕ, zero, suc, ◌+◌, ◌-◌, ◌<◌, ◌≤◌, ◌⊎◌, Bool, true, false, List, [], ◌∷◌, ◌++◌, length, map, take, drop, get_or, refl, sym, ◌∙◌, ap, subst, inl, inr, arith, length-append, length-drop, drop-cons}
+use Rattle.std.proofs.Common.{◌≡◌, ℕ, ◌+◌, ◌-◌, ◌<◌, ◌≤◌, ◌⊎◌, true, false, List, [], ◌∷◌, ◌++◌, length, map, take, drop, get_or, refl, sym, ◌∙◌, ap, subst, inl, inr, arith, length-append, length-drop, drop-cons}
 use Rattle.std.proofs.Math.ListN.{set}
 use Rattle.std.proofs.lemmas.List.Edits.{sets-eq}
 use Rattle.std.proofs.lemmas.Bool.{cases_Bool}
 use Rattle.std.proofs.lemmas.Bool.Decides.{nat_tests}
 use Rattle.std.proofs.lemmas.List.{map-append, length-take}
-use Rattle.std.specs.Prelude.{Option, Some, None, is_some, slice_get, max, min, nat_lt}
+use Rattle.std.specs.Prelude.{Option, Some, None, is_some, slice_get, min, nat_lt}
 use Rattle.co_outside.specs.Overlay.{overlaid}
-use Rattle.co_disk.specs.DiskModel.{Write, DiskState, laid_over, read_of, after_write, IsSound, AreWithin}
+use Rattle.co_disk.specs.DiskModel.{Write, read_of, after_write, IsSound}
 use Rattle.co_disk.specs.declared.touched.FirstByte.{FirstByte}
 use Rattle.co_disk.specs.declared.touched.Touched.{Touched}
 use Rattle.co_disk.specs.Kept.{Entry, entry_of, first_entry, entries, write_of, taken_back, undone, state_of, AreFit, IsFit, IsKept}
-use Rattle.co_disk.proofs.Gets.{get_past, get_take, get_drop, get_left, get_right, get_within, length_take, length_overlaid, get_before, get_behind, same_everywhere}
+use Rattle.co_disk.proofs.Gets.{get_past, get_take, get_drop, get_left, get_right, length_take, length_overlaid, get_before, get_behind, same_everywhere}
 use Rattle.co_disk.proofs.Images.{laid_more, within_more}
 
 -- the write of a piece over these bytes

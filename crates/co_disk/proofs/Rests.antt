@@ -1,8 +1,8 @@
 -- Calls one after another leave the rest of the home.
-use Rattle.std.proofs.Common.{◌≡◌, ℕ, ◌+◌, ◌-◌, ◌^◌, ◌≤◌, List, refl, sym, ◌∙◌, arith}
+use Rattle.std.proofs.Common.{◌≡◌, ℕ, List, refl, ◌∙◌, arith}
 use Rattle.std.specs.Prelude.{Option, Some, None, IsSome}
 use Rattle.co_outside.specs.declared.spot.Spot.{Spot}
-use Rattle.co_outside.specs.Home.{File, OthersStay}
+use Rattle.co_outside.specs.Home.{File}
 use Rattle.co_disk.specs.Homes.{RestStays, HasFailed}
 
 -- a told file goes on to be told

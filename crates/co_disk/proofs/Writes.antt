@@ -1,12 +1,12 @@
 -- What a write and a sync leave of a file that is told.
-use Rattle.std.proofs.Common.{◌≡◌, ℕ, zero, suc, ◌+◌, ◌<◌, ◌≤◌, Bool, true, false, List, [], ◌∷◌, ◌++◌, length, take, refl, sym, ◌∙◌, ap, subst, arith, map}
+use Rattle.std.proofs.Common.{◌≡◌, ℕ, zero, suc, ◌+◌, ◌<◌, ◌≤◌, Bool, true, false, List, [], ◌∷◌, length, take, refl, sym, ◌∙◌, ap, subst, arith, map}
 use Rattle.std.proofs.lemmas.Bool.Decides.{nat_tests}
-use Rattle.std.specs.Prelude.{Option, Some, None, option_map, max, ◌||◌}
+use Rattle.std.specs.Prelude.{Option, Some, None, option_map, ◌||◌}
 use Rattle.co_outside.specs.Home.{File, written, cleaned, IsTornFile}
 use Rattle.co_outside.specs.Overlay.{overlaid}
 use Rattle.co_disk.specs.DiskModel.{Write, DiskState, read_of, after_write, is_touched, any_covers, covers, IsImage, IsSound}
-use Rattle.co_disk.specs.Homes.{Agrees, IsImageIn}
-use Rattle.co_disk.specs.Kept.{Entry, entry_of, undone}
+use Rattle.co_disk.specs.Homes.{IsImageIn}
+use Rattle.co_disk.specs.Kept.{entry_of, undone}
 use Rattle.co_disk.specs.declared.touched.Touched.{Touched}
 use Rattle.co_disk.proofs.Gets.{length_overlaid}
 use Rattle.co_disk.proofs.Images.{read_is_image, torn_image, image_before, read_more, sound_more, covered_more}

@@ -1,5 +1,5 @@
 -- What contracts see of a disk.
-use Rattle.std.specs.Prelude.{ℕ, ◌≡◌, ◌≤◌, List, length, Option}
+use Rattle.std.specs.Prelude.{Option}
 use Rattle.co_outside.specs.declared.spot.Spot.{Spot}
 use Rattle.co_disk.specs.DiskModel.{DiskState}
 use Rattle.co_disk.specs.declared.stop.Armed.{Armed}

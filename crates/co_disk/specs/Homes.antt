@@ -1,5 +1,5 @@
 -- What a disk asks and keeps of the home that it lies in.
-use Rattle.std.specs.Prelude.{ℕ, ◌≡◌, ◌≤◌, ◌≢◌, Bool, true, List, length, Option, None, Some, IsSome, Result, IsErrOf}
+use Rattle.std.specs.Prelude.{ℕ, ◌≡◌, ◌≤◌, true, List, length, Option, Some, IsSome}
 use Rattle.co_outside.specs.declared.spot.Spot.{Spot}
 use Rattle.co_outside.specs.Faults.{HasRisen}
 use Rattle.co_outside.specs.Home.{File, OthersStay}

@@ -1,7 +1,6 @@
 -- What a disk keeps: what a read gives, and each pending write with the bytes that it laid and those
 -- that stood there before.
 use Rattle.std.specs.Prelude.{ℕ, ◌+◌, ◌<◌, ◌≤◌, ◌≡◌, List, [], ◌∷◌, ◌++◌, length, take, drop, map, Option, None, Some}
-use Rattle.co_outside.specs.declared.spot.Spot.{Spot}
 use Rattle.co_disk.specs.declared.touched.FirstByte.{FirstByte}
 use Rattle.co_disk.specs.declared.touched.Touched.{Touched}
 use Rattle.co_disk.specs.DiskModel.{Write, DiskState, laid_over, AreWithin}

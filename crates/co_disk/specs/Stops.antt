@@ -1,5 +1,5 @@
 -- Armed stops.
-use Rattle.std.specs.Prelude.{ℕ, ◌-◌, ◌≡◌, nat_le, if◌then◌else◌, List, [], Option, Some, None}
+use Rattle.std.specs.Prelude.{ℕ, ◌-◌, ◌≡◌, nat_le, if◌then◌else◌, [], Option, Some, None}
 use Rattle.co_base.specs.declared.leaves.Leaves.{Leaves}
 use Rattle.co_disk.specs.declared.stop.Armed.{Armed}
 use Rattle.co_disk.specs.DiskModel.{DiskState, IsChosen}

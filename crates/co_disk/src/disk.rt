@@ -208,6 +208,7 @@ impl Disk {
         ensures disk { self.new ≡ self.old }
         ensures same { OnOk result (H.gives home.old self.old.spot 268435457 (read_of self.old.state)) }
         ensures file { H.file home.new self.old.spot ≡ H.file home.old self.old.spot }
+        ensures agrees { Agrees (H.file home.new self.old.spot) (H.reach home.new self.old.spot) (read_of self.old.state) }
         ensures faults { IfErr result (IsOfReread (H.gives home.old self.old.spot 268435457) (read_of self.old.state) (H.file home.old self.old.spot)) }
         ensures rest { RestStays H.file H.reach H.entered H.faults self.old.spot home.old home.new }
         ensures device { IsErrOf result DiskFault.Device → HasFailed H.faults H.last_failed self.old.spot home.old home.new }

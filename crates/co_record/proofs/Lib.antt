@@ -5,3 +5,4 @@ pub mod Parts
 pub mod Records
 pub mod Walks
 pub mod Short
+pub mod Slices

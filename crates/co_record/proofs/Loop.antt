@@ -1,5 +1,5 @@
 -- The same step again and again, as a loop does it.
-use Rattle.std.proofs.Common.{◌≡◌, ℕ, suc, ◌-◌, ◌+◌, ◌≤◌, ◌<◌, Result, Ok, Err, refl, sym, ap, ◌∙◌, arith}
+use Rattle.std.proofs.Common.{◌≡◌, ℕ, suc, ◌-◌, ◌+◌, ◌≤◌, ◌<◌, Result, Ok, Err, sym, ap, ◌∙◌, arith}
 use Rattle.co_record.specs.declared.miss.Miss.{Miss}
 use Rattle.std.specs.Prelude.{Option, None, List}
 use Rattle.std.specs.declared.cmp.Ordering.{Ordering}

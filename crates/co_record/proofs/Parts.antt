@@ -1,9 +1,9 @@
 -- Keys, values and elements: read as they are spelled, and spelled as they are read.
-use Rattle.std.proofs.Common.{◌≡◌, ◌≢◌, ℕ, zero, suc, ◌+◌, ◌-◌, ◌^◌, ◌<◌, ◌≤◌, Bool, true, false, cond, ltb, leb, List, [], ◌∷◌, ◌++◌, length, map, Option, Some, None, Result, Ok, Err, refl, sym, ap, subst, ◌∙◌, append_assoc, arith, inl, inr, ◌⊎◌}
-use Rattle.std.specs.Prelude.{IfSome, All, ◌||◌, not, ◌↔◌}
+use Rattle.std.proofs.Common.{◌≡◌, ◌≢◌, ℕ, zero, suc, ◌+◌, ◌-◌, ◌^◌, ◌<◌, ◌≤◌, Bool, true, false, cond, List, [], ◌∷◌, ◌++◌, length, map, Option, Some, None, Result, Ok, Err, refl, sym, ap, subst, ◌∙◌, append_assoc, arith, inl, inr, ◌⊎◌}
+use Rattle.std.specs.Prelude.{IfSome, ◌||◌, not}
 use Rattle.std.specs.List.{flat_map, AllByRecursion}
 use Rattle.std.specs.List.Sorted.{IsStrictlySortedBy}
-use Rattle.std.specs.Int.{Width, w16, w32, to_be_bytes}
+use Rattle.std.specs.Int.{w16, w32, to_be_bytes}
 use Rattle.std.specs.Ordering.{is_lt, is_gt, on, nat_cmp}
 use Rattle.std.specs.declared.cmp.Ordering.{Ordering}
 use Rattle.std.specs.declared.cmp.Ordering.TheVariants.{Less, Equal, Greater}
@@ -12,7 +12,7 @@ use Rattle.std.proofs.lemmas.Bool.{lt-ltb, le-ltb}
 use Rattle.std.proofs.lemmas.Cmp.{nat_cmp_total, nat_list_cmp_total, then_total, on_total}
 use Rattle.std.proofs.lemmas.List.{map-id}
 use Rattle.std.proofs.lemmas.List.Elements.{All-from_recursion, recursion_from_All}
-use Rattle.co_base.specs.Letters.{IsLetter, HasLength}
+use Rattle.co_base.specs.Letters.{IsLetter}
 use Rattle.co_base.specs.Nodes.{IsValidNode, node_byte}
 use Rattle.co_base.specs.Order.{key_cmp, IsAscending}
 use Rattle.co_base.specs.RowOrder.{IsInKeyOrder}
@@ -22,11 +22,11 @@ use Rattle.co_base.specs.declared.node.Node.TheVariants.{Member, Coord}
 use Rattle.co_base.specs.declared.row.Row.{Row}
 use Rattle.co_base.specs.declared.written.Written.{Written}
 use Rattle.co_record.specs.declared.miss.Miss.{Miss}
-use Rattle.co_record.specs.declared.miss.Miss.TheVariants.{Short, Outside}
-use Rattle.co_record.specs.Format.{version, most_key, most_value, most_operations, most_members, most_coordinators}
+use Rattle.co_record.specs.declared.miss.Miss.TheVariants.{Outside}
+use Rattle.co_record.specs.Format.{most_key, most_value, most_operations, most_members}
 use Rattle.co_record.specs.Spelling.{key_text, value_text, held_text, change_text, range_text, row_text, txn_text, listed, IsKey, IsValue, IsRange, IsRow, IsChange, IsTxn, IsMember, AreInKeyOrder}
-use Rattle.co_record.specs.Reading.{◌>>=◌, Reader, then_at, as_at, where_at, counted_at, byte_at, number_at, within, byte_within, number_within, letters_at, key_at, value_at, bounds_at, entry_at, span_of, row_of, written_of, range_at, row_at, held_at, change_at, member_at, txn_at, follows, items_at, row_cmp, change_cmp, ranges_at, writes_at, members_at, rows_at, undos_at, txns_at, is_node_byte, node_of, node_at}
-use Rattle.co_record.proofs.Codec.{IsBytes, IsBytes-rest, IsCodec, Takes, Takes-then, bind_ok, guard_ok, ok_is, one_byte, as_takes, as_again, codec-then, codec-as, codec-where, codec-fits, codec-counted, codec-byte, codec-byte_within, codec-number, codec-number_within, codec-letters, codec-items, wide16, wide32, within_is, is_within, Ascends}
+use Rattle.co_record.specs.Reading.{◌>>=◌, Reader, then_at, where_at, counted_at, byte_at, number_at, within, byte_within, number_within, letters_at, key_at, value_at, bounds_at, entry_at, span_of, row_of, written_of, range_at, row_at, held_at, change_at, member_at, txn_at, follows, items_at, row_cmp, change_cmp, ranges_at, writes_at, members_at, rows_at, undos_at, txns_at, is_node_byte, node_of, node_at}
+use Rattle.co_record.proofs.Codec.{IsBytes, IsBytes-rest, IsCodec, Takes, Takes-then, bind_ok, ok_is, one_byte, as_takes, as_again, codec-then, codec-as, codec-where, codec-fits, codec-counted, codec-byte, codec-byte_within, codec-number, codec-number_within, codec-letters, codec-items, wide16, wide32, within_is, is_within, Ascends}
 
 pub codec-key : IsCodec key_at key_text IsKey
 unfolding key_at

@@ -1,5 +1,5 @@
 -- The two laws of records: what is read is spelled so, and what is spelled so is read.
-use Rattle.std.proofs.Common.{◌≡◌, ℕ, zero, suc, ◌+◌, ◌-◌, ◌^◌, ◌<◌, ◌≤◌, Bool, true, false, cond, eqb, List, [], ◌∷◌, ◌++◌, length, drop, Result, Ok, Err, refl, sym, ap, subst, ◌∙◌, append_assoc, arith, inl, inr, ◌⊎◌}
+use Rattle.std.proofs.Common.{◌≡◌, ℕ, ◌-◌, ◌^◌, ◌<◌, ◌≤◌, Bool, true, false, cond, eqb, List, [], ◌∷◌, ◌++◌, length, drop, Result, Ok, refl, sym, ap, subst, ◌∙◌, arith, inl, inr, ◌⊎◌}
 use Rattle.std.specs.List.{AllByRecursion}
 use Rattle.std.specs.Int.{w16, w32, to_be_bytes}
 use Rattle.std.proofs.lemmas.Bool.{eqb-true}
@@ -18,7 +18,7 @@ use Rattle.co_record.specs.declared.record.Record.TheVariants.{Header, Prepare, 
 use Rattle.co_record.specs.Lent.{StandsAt, placed, reading}
 use Rattle.co_record.specs.Format.{version, most_operations, most_members, most_coordinators}
 use Rattle.co_record.specs.Spelling.{spelling, IsSpelled, listed, range_text, change_text, row_text, txn_text, IsRange, IsChange, IsRow, IsTxn, IsMember, AreInKeyOrder}
-use Rattle.co_record.specs.Reading.{Reader, then_at, as_at, byte_within, number_within, number_at, txn_at, ranges_at, writes_at, members_at, rows_at, undos_at, txns_at, node_at, header_at, prepare_at, commit_at, abort_at, end_at, checkpoint_at, record_at}
+use Rattle.co_record.specs.Reading.{Reader, then_at, byte_within, number_within, number_at, txn_at, ranges_at, writes_at, members_at, rows_at, undos_at, txns_at, node_at, header_at, prepare_at, commit_at, abort_at, end_at, checkpoint_at, record_at}
 use Rattle.co_record.proofs.Codec.{ok_is, IsBytes, IsBytes-rest, IsCodec, Takes, one_byte, as_takes, as_again, codec-then, codec-byte_within, codec-number, codec-number_within, wide16, wide32}
 use Rattle.co_record.proofs.Parts.{IsUpTo, codec-node, codec-ranges, codec-writes, codec-members, codec-rows, codec-undos, codec-txns, codec-txn}
 

@@ -1,5 +1,5 @@
 -- Short lists are in order.
-use Rattle.std.proofs.Common.{◌≡◌, List, [], ◌∷◌, ◌++◌, subst, sym}
+use Rattle.std.proofs.Common.{◌≡◌, List, [], ◌∷◌, subst, sym}
 use Rattle.std.specs.List.Sorted.{IsStrictlySortedBy}
 use Rattle.std.specs.declared.cmp.Ordering.{Ordering}
 use Rattle.std.specs.declared.cmp.Ordering.TheVariants.{Less}

@@ -2,4 +2,5 @@ pub mod Format
 pub mod Spelling
 pub mod Reading
 pub mod Lent
+pub mod Slices
 pub mod Stored

@@ -28,4 +28,6 @@ pub use views::Views;
 pub use walk::{ChangeWalk, MemberWalk, PairWalk, TxnWalk};
 
 #[cfg(test)]
+mod read_tests;
+#[cfg(test)]
 mod tests;

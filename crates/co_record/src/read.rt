@@ -3,6 +3,7 @@ ghost use Rattle.std.specs.Prelude.{◌≡◌, ◌≤◌, ◌++◌, List, ℕ, l
 ghost use Rattle.co_frame.specs.LogText.{most_log_bytes};
 ghost use Rattle.co_record.specs.declared.record.Record.{Record};
 ghost use Rattle.co_record.specs.Lent.{record_of, reading, Shows, StandsAt};
+ghost use Rattle.co_record.specs.Slices.{AreSlicesOf, keys_and_values};
 ghost use Rattle.co_record.specs.Spelling.{spelling, IsSpelled};
 
 use crate::fault::RecordFault;
@@ -34,6 +35,8 @@ pub fn read_record(bytes: &[u8]) -> Result<(RecordView<'_>, u32), RecordFault>
     requires { length bytes.now ≤ most_log_bytes }
     // What is read stands there, each byte of it.
     ensures found { IfOk result (λ shown. StandsAt bytes.now (record_of shown.0) shown.1) }
+    // Each key and each value of it is the slice of these bytes at its span.
+    ensures slices { IfOk result (λ shown. AreSlicesOf bytes.now (keys_and_values (record_of shown.0))) }
     // What stands there is read.
     ensures only { (item : Record) (rest : List ℕ) → IsSpelled item → bytes.now ≡ spelling item ++ rest → Shows result (Ok (item, length (spelling item))) }
     // Else it is the first fault from the left.

@@ -1,8 +1,9 @@
+//! Whole log files, written, read and written again.
 ghost use Rattle.co_base.specs.Nodes.{IsValidNode};
 
 use super::*;
 use co_base::{Bytes, Key, Node, Range, Ranges, Row, Rows, Txn, Txns, Value, Writes, Written};
-use co_frame::{OPEN_GATE, put_batch};
+use co_frame::{Batches, OPEN_GATE, put_batch};
 use std::alloc::Global;
 use std::test::*;
 
@@ -17,238 +18,6 @@ const COORDINATOR: [u8; 26] =
 /// The log of member 1 after a checkpoint: the row `a` holds an uncommitted `9` and was `5`.
 const CHECKPOINT: [u8; 41] =
     *b"\xa5\x00\x00\x00\x23\x01\x01\x01\x00\x00\x00\x02\x06\x00\x00\x00\x01\x01\x61\x00\x01\x39\x00\x00\x00\x01\x01\x61\x01\x00\x01\x35\x00\x00\x00\x01\x00\x00\x00\x01\x00";
-
-/// What reading the record at the front of some bytes gives.
-#[derive(Clone, Copy, Debug, PartialEq)]
-enum Judged {
-    Read(u32),
-    Short,
-    Kind,
-    Field(u32),
-}
-
-fn judge(bytes: &[u8]) -> Judged {
-    if bytes.len() > 4096 {
-        return Judged::Short;
-    }
-    match read_record(bytes) {
-        Ok((_, length)) => Judged::Read(length),
-        Err(RecordFault::Short) => Judged::Short,
-        Err(RecordFault::Kind) => Judged::Kind,
-        Err(RecordFault::Field { at }) => Judged::Field(at),
-    }
-}
-
-/// Bytes, and what reading them gives.
-static ANSWERS: [(&[u8], Judged); 8] = [
-    (b"", Judged::Short),
-    (b"\x04\x00\x00\x00", Judged::Short),
-    (b"\x04\x00\x00\x00\x01\xff", Judged::Read(5)),
-    (b"\xff", Judged::Kind),
-    (b"\x01\x00", Judged::Field(1)),
-    (b"\x02\x00\x00\x00\x01\x00", Judged::Field(5)),
-    (b"\x02\x00\x00\x00\x01\x01\x00\x00", Judged::Field(6)),
-    (
-        b"\x02\x00\x00\x00\x01\x01\x00\x02\x00\x02\x01\x61\x01\x61\x01\x61\x01\x61",
-        Judged::Field(14),
-    ),
-];
-
-/// Bytes, and what reading them gives.
-static RECORDS: [(&[u8], Judged); 22] = [
-    (b"\x04\x00\x00\x00\x00", Judged::Read(5)),
-    (b"\x04\x10\x7d\x16\x60", Judged::Read(5)),
-    (b"\x05\xff\xff\xff\xff", Judged::Read(5)),
-    (b"\x05\x61\x64\x01\x36", Judged::Read(5)),
-    (b"\x04\x2b\x9e\xf2\xc9", Judged::Read(5)),
-    (b"\x05\x00\x00\x00\x00", Judged::Read(5)),
-    (b"\x03\x00\x00\x00\x00\x00", Judged::Read(6)),
-    (b"\x03\x00\x00\x00\x01\x00", Judged::Read(6)),
-    (b"\x03\xff\xff\xff\xff\x00", Judged::Read(6)),
-    (b"\x03\xff\xff\x01\xff\x00", Judged::Read(6)),
-    (b"\x01\x01\x10\x00\x00\x00\x10", Judged::Read(7)),
-    (b"\x01\x01\x88\xff\xff\x61\xff", Judged::Read(7)),
-    (b"\x01\x01\x10\x00\x00\x00\x00", Judged::Read(7)),
-    (b"\x01\x01\x01\x00\x00\x00\x00", Judged::Read(7)),
-    (
-        b"\x02\x00\x00\x00\x00\x01\x00\x01\x00\x00\x00\x00",
-        Judged::Read(12),
-    ),
-    (
-        b"\x02\xff\xff\xff\xff\x08\x00\x01\x00\x00\x00\x00",
-        Judged::Read(12),
-    ),
-    (
-        b"\x02\xff\xff\xff\xff\x04\x00\x02\x00\x00\x00\x00",
-        Judged::Read(12),
-    ),
-    (
-        b"\x02\xbe\x13\x24\x66\x07\x04\x00\x00\x00\x00\x01\x01\x61\x00",
-        Judged::Read(15),
-    ),
-    (
-        b"\x06\x00\x00\x00\x00\x00\x00\x00\x00\x00\x00\x00\x01\x00\x00\x00\x07",
-        Judged::Read(17),
-    ),
-    (
-        b"\x06\x00\x00\x00\x01\x01\x7e\x00\x01\x76\x00\x00\x00\x00\x00\x00\x00\x00",
-        Judged::Read(18),
-    ),
-    (
-        b"\x06\x00\x00\x00\x01\x02\x7e\x7e\x00\x01\x76\x00\x00\x00\x00\x00\x00\x00\x00",
-        Judged::Read(19),
-    ),
-    (
-        b"\x06\x00\x00\x00\x01\x01\x39\x00\x01\x76\x00\x00\x00\x01\x01\x21\x00\x00\x00\x00\x00",
-        Judged::Read(21),
-    ),
-];
-
-/// Bytes, and what reading them gives.
-static FAULTS: [(&[u8], Judged); 27] = [
-    (b"\x01\x88\xff\xff\xff", Judged::Field(1)),
-    (b"\x01\x01\x00\x00\x7e\x00", Judged::Field(2)),
-    (b"\x03\x00\x00\x00\x01\x01\x00", Judged::Field(6)),
-    (b"\x03\xff\xff\xff\x02\x03\x08\xd5", Judged::Field(7)),
-    (b"\x03\xff\xff\x7f\xff\xff\x02\x0d\x0f", Judged::Field(5)),
-    (
-        b"\x02\xff\xff\xff\x07\x04\x00\x00\x00\x00\x00",
-        Judged::Field(6),
-    ),
-    (
-        b"\x02\x00\x00\x00\x01\x02\x00\x01\x00\x7f\x00\x00\x00",
-        Judged::Field(10),
-    ),
-    (
-        b"\x02\xff\xff\xff\xff\x08\x00\x01\x00\x01\x01\x30\x30\x00\x00",
-        Judged::Field(12),
-    ),
-    (
-        b"\x02\xff\xff\xff\x06\x00\x01\x00\x00\x00\x01\x01\x39\x01\x01\x76",
-        Judged::Field(5),
-    ),
-    (
-        b"\x02\xff\xff\xff\xff\x02\x04\x00\x00\x01\x01\x42\x02\x42\x7a\x00\x01\x00",
-        Judged::Field(17),
-    ),
-    (
-        b"\x02\x27\xca\xf3\xb4\x08\x00\x02\x00\x01\x02\x21\x42\x03\x21\x7a\x00\x00",
-        Judged::Field(16),
-    ),
-    (
-        b"\x02\x00\x00\x00\x00\x03\x00\x02\x00\x01\x03\x21\x7e\xe6\x03\x21\x7e\x21\x00\x00",
-        Judged::Field(13),
-    ),
-    (
-        b"\x02\x00\x00\x00\x00\x06\x04\x00\x00\x00\x00\x01\x02\x7e\x11\x01\x00\x03\x78\x79\x7e",
-        Judged::Field(14),
-    ),
-    (
-        b"\x06\x00\x00\x00\x01\x01\x00\x01\x76\x00\x00\x00\x00\x00\x00\x00\x01\x00\x00\x00\x23",
-        Judged::Field(6),
-    ),
-    (
-        b"\x03\x00\x00\x00\x00\x10\x01\x02\x03\x04\x05\x06\x07\x00\x09\x20\x0b\x0c\x0d\x0e\x0f\x10",
-        Judged::Field(13),
-    ),
-    (
-        b"\x02\x4f\x42\xfc\xb2\x06\x00\x01\x00\x01\x03\x61\x21\x21\x04\x7f\x61\x21\x21\x7a\x00\x00",
-        Judged::Field(15),
-    ),
-    (
-        b"\x03\x00\x00\x00\x00\x10\x01\x02\x03\x04\x05\x06\x07\x08\x09\x00\x0a\x0b\x0c\x0d\x0e\x0f\x10",
-        Judged::Field(15),
-    ),
-    (
-        b"\x06\x00\x00\x00\x01\x01\x39\x89\x01\x76\x00\x00\x00\x01\x01\x41\x00\x00\x00\x00\x01\x00\x00\x00\x26",
-        Judged::Field(7),
-    ),
-    (
-        b"\x06\x00\x00\x00\x02\x02\x21\x30\x00\x01\x01\x76\x01\x61\x00\x01\x76\x00\x00\x00\x00\x00\x00\x00\x00",
-        Judged::Field(10),
-    ),
-    (
-        b"\x06\x20\x00\x00\x00\x00\x00\x00\x01\x03\x42\x39\x61\x01\x00\x03\x78\x79\x7e\x00\x00\x00\x01\x00\x00\x00\x31",
-        Judged::Field(5),
-    ),
-    (
-        b"\x06\x00\x00\x00\x00\x00\x00\x01\x00\x00\x00\x00\x04\x00\x00\x00\x0f\x00\x00\x00\x11\x00\x00\x00\x1b\x00\x00\x00\x20",
-        Judged::Field(9),
-    ),
-    (
-        b"\x02\x00\x00\x00\x00\x03\x00\x02\x00\x02\x03\x21\x41\x21\x03\x21\x41\x21\x02\x42\x7e\x02\x42\x61\x7e\x11\x01\x01\x41\x01\x00\x01\x76",
-        Judged::Field(21),
-    ),
-    (
-        b"\x02\xea\x20\x08\x53\x05\x00\x01\x00\x04\x01\x39\x02\x39\x7a\x01\x41\x01\x02\x42\x41\x03\x42\x41\x7a\x02\x7e\x42\x03\x7e\x42\x7a\x00\x00",
-        Judged::Field(18),
-    ),
-    (
-        b"\x06\x00\x00\x00\x00\x00\x00\x00\x03\x02\x30\x7e\x00\x01\x01\x01\x00\x03\x78\x79\x7e\x01\x7e\x01\x00\x01\x76\x00\x00\x00\x01\x00\x00\x00\x0f",
-        Judged::Field(14),
-    ),
-    (
-        b"\x02\x00\x00\x00\x00\x07\x00\x01\x01\x00\x01\x02\x62\x7e\x02\x62\x7e\x00\x02\x03\x39\x7e\x62\x01\x00\x01\x76\x02\x7e\x30\x01\x00\x03\x78\x79\x7e\xa2",
-        Judged::Field(11),
-    ),
-    (
-        b"\x06\x00\x00\x00\x03\x01\x42\x00\x01\x76\x03\x61\x7e\x30\x00\x01\x76\x20\x62\x7e\x42\x00\x01\x76\x00\x00\x00\x00\x00\x00\x00\x01\x00\x00\x00\x00\x8f",
-        Judged::Field(21),
-    ),
-    (
-        b"\x06\x00\x00\x00\x01\x02\x62\x62\x00\x01\x76\x00\x00\x00\x00\x01\x02\x61\x62\x01\x01\x00\x21\x21\x21\x21\x21\x21\x21\x21\x21\x21\x21\x21\x21\x21\x21\x21\x21\x21\x21\x21",
-        Judged::Field(27),
-    ),
-];
-
-/// Bytes, and what reading them gives.
-static SHORT: [(&[u8], Judged); 11] = [
-    (b"\x01", Judged::Short),
-    (b"\x05", Judged::Short),
-    (b"\x03", Judged::Short),
-    (b"\x02", Judged::Short),
-    (b"\x04", Judged::Short),
-    (b"\x04\x00", Judged::Short),
-    (b"\x03\xff", Judged::Short),
-    (
-        b"\x06\x00\x00\x00\x00\x00\x00\x00\x00\x00\x00\x00\x04\x00\x00",
-        Judged::Short,
-    ),
-    (
-        b"\x06\x00\x00\x00\x00\x00\x00\x00\x01\x02\x61\x39\x01\x00\x01\x76\x00",
-        Judged::Short,
-    ),
-    (b"\xff\xff\xff", Judged::Kind),
-    (b"\x7b\x11\x00", Judged::Kind),
-];
-
-#[test]
-fn the_first_fault_from_the_left_is_answered(rt: HostRuntime) {
-    for (bytes, wanted) in &ANSWERS {
-        assert_eq!(rt; judge(bytes), *wanted);
-    }
-}
-
-#[test]
-fn records_of_each_kind_are_read(rt: HostRuntime) {
-    for (bytes, wanted) in &RECORDS {
-        assert_eq!(rt; judge(bytes), *wanted);
-    }
-}
-
-#[test]
-fn a_field_outside_its_set_is_found_at_its_place(rt: HostRuntime) {
-    for (bytes, wanted) in &FAULTS {
-        assert_eq!(rt; judge(bytes), *wanted);
-    }
-}
-
-#[test]
-fn bytes_that_end_early_are_short(rt: HostRuntime) {
-    for (bytes, wanted) in &SHORT {
-        assert_eq!(rt; judge(bytes), *wanted);
-    }
-}
 
 /// Opens the last gate of a file, or the first one, and appends a batch behind it.
 fn append(file: &mut Vec<u8>, batch: &[u8]) -> Result<(), Fail> {
@@ -469,4 +238,191 @@ fn the_log_of_a_checkpoint_is_read(rt: HostRuntime) {
         }
         _ => assert!(rt; false),
     }
+}
+
+/// The key and the value of a lent change.
+fn change_of(alloc: Global, key: &[u8], value: Option<&[u8]>) -> Result<Written, Fail> {
+    let key = Key::new(alloc, key)?;
+    let value = match value {
+        Some(text) => Some(Value::new(alloc, text)?),
+        None => None,
+    };
+    Ok(Written { key, value })
+}
+
+/// Writes a lent vote with one range and one change again.
+#[tactic(auto, using(crate::proofs::Short::short_lists))]
+fn prepare_again(
+    alloc: Global,
+    vote: (Txn, u8, u16),
+    mut reads: PairWalk<'_>,
+    mut writes: ChangeWalk<'_>,
+    batch: &mut Vec<u8>,
+) -> Result<(), Fail> {
+    let (txn, coord, count) = vote;
+    let (Some((lo, hi)), Some((key, value))) = (reads.next(), writes.next()) else {
+        return Err("no range or no change".into());
+    };
+    if coord < 1 || coord > 8 || count < 1 || count > 1024 {
+        return Err("no number of a coordinator, or no count".into());
+    }
+    let mut again = Ranges::new(alloc);
+    again.push(Range::new(Key::new(alloc, lo)?, Key::new(alloc, hi)?)?)?;
+    let mut changes = Writes::new(alloc);
+    changes.push(change_of(alloc, key, value)?)?;
+    let item = Record::Prepare {
+        txn,
+        coord,
+        count,
+        reads: again,
+        writes: changes,
+    };
+    put_record(&item, batch)?;
+    Ok(())
+}
+
+/// Writes a lent commit of no or two members again.
+#[tactic(auto, using(crate::proofs::Short::short_lists))]
+fn commit_again(
+    alloc: Global,
+    txn: Txn,
+    mut members: MemberWalk<'_>,
+    batch: &mut Vec<u8>,
+) -> Result<(), Fail> {
+    let mut again = Bytes::new(alloc);
+    if let (Some(1), Some(2)) = (members.next(), members.next()) {
+        again.push(1)?;
+        again.push(2)?;
+        put_record(
+            &Record::Commit {
+                txn,
+                members: again,
+            },
+            batch,
+        )?;
+        return Ok(());
+    }
+    put_record(
+        &Record::Commit {
+            txn,
+            members: again,
+        },
+        batch,
+    )?;
+    Ok(())
+}
+
+/// Writes a lent checkpoint of one row, one undo and one transaction again.
+#[tactic(auto, using(crate::proofs::Short::short_lists))]
+fn checkpoint_again(
+    alloc: Global,
+    mut rows: PairWalk<'_>,
+    mut undos: ChangeWalk<'_>,
+    mut committed: TxnWalk<'_>,
+    batch: &mut Vec<u8>,
+) -> Result<(), Fail> {
+    let (Some((name, held)), Some((key, value))) = (rows.next(), undos.next()) else {
+        return Err("no row or no undo".into());
+    };
+    let Some(txn) = committed.next() else {
+        return Err("no transaction".into());
+    };
+    let mut again = Rows::new(alloc);
+    again.push(Row {
+        key: Key::new(alloc, name)?,
+        value: Value::new(alloc, held)?,
+    })?;
+    let mut changes = Writes::new(alloc);
+    changes.push(change_of(alloc, key, value)?)?;
+    let mut numbers = Txns::new(alloc);
+    numbers.push(txn)?;
+    let item = Record::Checkpoint {
+        rows: again,
+        undos: changes,
+        committed: numbers,
+    };
+    put_record(&item, batch)?;
+    Ok(())
+}
+
+/// Writes a lent header of one of the two nodes again.
+fn header_again(node: Node, generation: u32, batch: &mut Vec<u8>) -> Result<(), Fail> {
+    let (Node::Member(1) | Node::Coord(1)) = node else {
+        return Err("another node".into());
+    };
+    put_record(&Record::Header { node, generation }, batch)?;
+    Ok(())
+}
+
+/// Writes a lent record again.
+fn record_again(alloc: Global, view: RecordView<'_>, batch: &mut Vec<u8>) -> Result<(), Fail> {
+    match view {
+        RecordView::Header { node, generation } => { header_again(node, generation, batch) }
+        RecordView::Prepare {
+            txn,
+            coord,
+            count,
+            reads,
+            writes,
+        } => prepare_again(alloc, (txn, coord, count), reads, writes, batch),
+        RecordView::Commit { txn, members } => commit_again(alloc, txn, members, batch),
+        RecordView::Abort { txn } => Ok(put_record(&Record::Abort { txn }, batch)?),
+        RecordView::End { txn } => Ok(put_record(&Record::End { txn }, batch)?),
+        RecordView::Checkpoint {
+            rows,
+            undos,
+            committed,
+        } => checkpoint_again(alloc, rows, undos, committed, batch),
+    }
+}
+
+/// Writes the records of a batch again.
+fn batch_again(alloc: Global, records: &[u8]) -> Result<Vec<u8>, Fail> {
+    let mut batch = Vec::new(alloc);
+    let mut left = records;
+    for _ in 0..4 {
+        if left.is_empty() || left.len() > 4096 {
+            break;
+        }
+        match read_record(left) {
+            Ok((view, length)) => {
+                record_again(alloc, view, &mut batch)?;
+                left = &left[length as usize..];
+            }
+            Err(_) => return Err("no record".into()),
+        }
+    }
+    Ok(batch)
+}
+
+/// Writes the records of a log file again.
+fn file_again(alloc: Global, file: &[u8]) -> Result<Vec<u8>, Fail> {
+    let mut again = Vec::new(alloc);
+    if file.len() > 4096 {
+        return Err("a file of a test is small".into());
+    }
+    let mut batches = Batches::new(file);
+    for _ in 0..4 {
+        match batches.next() {
+            Some(Ok(batch)) => {
+                append(&mut again, batch_again(alloc, batch.records)?.as_slice())?;
+            }
+            Some(Err(_)) => return Err("no log text".into()),
+            None => break,
+        }
+    }
+    Ok(again)
+}
+
+#[test]
+fn the_three_logs_are_read_and_written_again(rt: HostRuntime) -> Result<(), Fail> {
+    for file in [
+        MEMBER.as_slice(),
+        COORDINATOR.as_slice(),
+        CHECKPOINT.as_slice(),
+    ] {
+        let again = file_again(rt.alloc(), file)?;
+        assert_eq!(rt; again.as_slice(), file);
+    }
+    Ok(())
 }

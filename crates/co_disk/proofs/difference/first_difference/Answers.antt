@@ -1,5 +1,4 @@
-use Rattle.std.proofs.Common.{◌≤◌, length, arith}
-use Rattle.std.specs.Prelude.{max}
+use Rattle.std.proofs.Common.{arith}
 use Rattle.co_disk.proofs.Gets.{same_to}
 use Rattle.co_disk.proofs.difference.first_difference.Goals as goal
 

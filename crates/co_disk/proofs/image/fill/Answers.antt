@@ -1,4 +1,4 @@
-use Rattle.std.proofs.Common.{◌≡◌, ◌+◌, ◌-◌, ◌∙◌, ◌≤◌, ◌<◌, ap, length, take, get_or, arith, sym, refl, subst, ◌⊎◌, inl, inr, ℕ, List}
+use Rattle.std.proofs.Common.{◌∙◌, ◌≤◌, length, take, get_or, arith, sym, refl, subst, ◌⊎◌, inl, inr, ℕ}
 use Rattle.std.proofs.lemmas.Option.{slice_get-get_or}
 use Rattle.co_base.specs.declared.leaves.Leaves.TheVariants.{Filled}
 use Rattle.co_disk.specs.DiskModel.{IsChosen}

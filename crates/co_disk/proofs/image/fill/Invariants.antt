@@ -1,4 +1,4 @@
-use Rattle.std.proofs.Common.{◌≡◌, ◌≤◌, ◌-◌, length, take}
+use Rattle.std.proofs.Common.{◌≡◌, ◌≤◌, ◌-◌, length}
 use Rattle.co_disk.specs.DiskModel.{IsSound, read_of}
 use Rattle.co_disk.specs.Kept.{entries, disk_over}
 use Rattle.co_disk.proofs.Fill.{IsFilledTo}

@@ -1,6 +1,6 @@
-use Rattle.std.proofs.Common.{◌≡◌, ◌-◌, ◌∙◌, ◌≤◌, ◌<◌, ap, length, arith, sym}
+use Rattle.std.proofs.Common.{◌-◌, ◌<◌, ap, length, arith}
 use Rattle.co_disk.specs.Kept.{entry_of}
-use Rattle.co_disk.proofs.Fill.{fit_here, fit_front, undone_here}
+use Rattle.co_disk.proofs.Fill.{fit_here, fit_front}
 use Rattle.co_disk.proofs.image.take_back_touched.Goals as goal
 
 pub take_back-len-requires-clause-within : goal.take_back-len-requires-clause-within

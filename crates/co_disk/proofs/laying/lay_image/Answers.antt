@@ -1,7 +1,4 @@
-use Rattle.std.proofs.Common.{◌≡◌, ◌∙◌, ◌≤◌, ◌<◌, ◌+◌, List, ℕ, length, map, sym, ap, subst, arith}
-use Rattle.co_disk.specs.DiskModel.{Write, DiskState}
-use Rattle.co_disk.specs.Kept.{write_of, entries}
-use Rattle.co_disk.specs.Laying.{EndWithin, BeginWithin}
+use Rattle.std.proofs.Common.{◌≤◌, length, arith}
 use Rattle.co_disk.proofs.Lays.{at_ok}
 use Rattle.co_disk.proofs.Leaving.{begin_others, end_first, end_others, image_reached, shortened_told, shortened_image, cleaned_told, synced_image}
 use Rattle.co_disk.proofs.laying.lay_image.Goals as goal

@@ -1,4 +1,4 @@
-use Rattle.std.proofs.Common.{◌≡◌, ◌+◌, ◌-◌, ◌∙◌, ap, take, drop, length, arith, ℕ}
+use Rattle.std.proofs.Common.{◌≡◌, ◌+◌, ◌-◌, ap, take, drop, length, arith, ℕ}
 use Rattle.std.specs.Prelude.{min}
 use Rattle.co_disk.proofs.Lays.{part_skipped, part_laid, part_torn, at_ok, at_err}
 use Rattle.co_disk.proofs.laying.lay_part.Goals as goal

@@ -1,10 +1,10 @@
-use Rattle.std.proofs.Common.{◌≡◌, ◌≤◌, ◌+◌, ◌∙◌, ◌++◌, ◌∷◌, [], List, ℕ, ap, sym, refl, subst, length, map, take, arith, append_assoc}
-use Rattle.co_disk.specs.DiskModel.{Write, DiskState}
+use Rattle.std.proofs.Common.{◌≡◌, ◌≤◌, ◌∙◌, ◌++◌, ◌∷◌, [], List, ap, sym, refl, subst, length, map, take, arith, append_assoc}
+use Rattle.co_disk.specs.DiskModel.{Write}
 use Rattle.co_disk.specs.Kept.{write_of, entry_of}
 use Rattle.co_disk.specs.Laying.{IsLaidTo}
 use Rattle.co_disk.specs.declared.touched.Touched.{Touched}
 use Rattle.co_disk.proofs.Lays.{covered_one, writes_take, laid_none, at_error}
-use Rattle.co_disk.proofs.Rests.{rest_here, rest_then, failed_later}
+use Rattle.co_disk.proofs.Rests.{rest_here, rest_then}
 use Rattle.co_disk.proofs.laying.lay_parts.Goals as goal
 
 pub loop-t-init : goal.loop-t-init

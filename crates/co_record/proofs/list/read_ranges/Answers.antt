@@ -1,9 +1,8 @@
-use Rattle.std.proofs.Common.{◌≡◌, List, map, Ok, sym, ap, ◌∙◌}
-use Rattle.std.specs.Int.{w16, w32}
+use Rattle.std.proofs.Common.{List, map, Ok, sym, ap, ◌∙◌}
+use Rattle.std.specs.Int.{w16}
 use Rattle.co_base.specs.Span.{Span, span_cmp}
-use Rattle.co_base.specs.declared.row.Row.{Row}
 use Rattle.co_record.specs.Format.{most_operations}
-use Rattle.co_record.specs.Reading.{ranges_at, number_within, number_at, range_at, bounds_at, span_of, row_cmp}
+use Rattle.co_record.specs.Reading.{ranges_at, number_within, range_at, bounds_at, span_of}
 use Rattle.co_record.proofs.Elements.{elements_as, list_read}
 use Rattle.co_record.proofs.list.read_ranges.Goals as goal
 

@@ -1,9 +1,7 @@
-use Rattle.std.proofs.Common.{◌≡◌, List, map, Ok, sym, ap, ◌∙◌}
-use Rattle.std.specs.Int.{w16, w32}
-use Rattle.co_base.specs.Span.{Span, span_cmp}
+use Rattle.std.proofs.Common.{List, map, Ok, sym, ap, ◌∙◌}
+use Rattle.std.specs.Int.{w32}
 use Rattle.co_base.specs.declared.row.Row.{Row}
-use Rattle.co_record.specs.Format.{most_operations}
-use Rattle.co_record.specs.Reading.{rows_at, number_within, number_at, row_at, entry_at, row_of, row_cmp}
+use Rattle.co_record.specs.Reading.{rows_at, number_at, row_at, entry_at, row_of, row_cmp}
 use Rattle.co_record.proofs.Elements.{elements_as, list_read}
 use Rattle.co_record.proofs.list.read_rows.Goals as goal
 

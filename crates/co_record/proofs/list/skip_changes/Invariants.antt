@@ -1,8 +1,6 @@
 use Rattle.std.proofs.Common.{◌≡◌, ◌-◌, None}
 use Rattle.std.specs.Prelude.{option_map, option_copied}
-use Rattle.std.specs.Ordering.{nat_cmp}
-use Rattle.co_base.specs.Span.{span_cmp}
-use Rattle.co_record.specs.Reading.{steps, next_at, change_at, change_cmp, span_of, row_of}
+use Rattle.co_record.specs.Reading.{steps, next_at, change_at, change_cmp}
 use Rattle.co_record.proofs.list.skip_changes.Given as goal
 
 abbrev pub invariant-loop : goal.invariant-loop

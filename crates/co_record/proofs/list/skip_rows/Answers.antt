@@ -1,7 +1,5 @@
 use Rattle.std.proofs.lemmas.Result.{err_from_is_err_and}
-use Rattle.std.specs.Ordering.{nat_cmp}
-use Rattle.co_base.specs.Span.{span_cmp}
-use Rattle.co_record.specs.Reading.{next_at, row_at, row_cmp, span_of, row_of}
+use Rattle.co_record.specs.Reading.{next_at, row_at, row_cmp}
 use Rattle.co_record.proofs.Loop.{goes_on, items_fail, items_done}
 use Rattle.co_record.proofs.list.skip_rows.Goals as goal
 

@@ -1,7 +1,6 @@
 use Rattle.std.proofs.lemmas.Result.{err_from_is_err_and}
 use Rattle.std.specs.Ordering.{nat_cmp}
-use Rattle.co_base.specs.Span.{span_cmp}
-use Rattle.co_record.specs.Reading.{next_at, txn_at, span_of, row_of}
+use Rattle.co_record.specs.Reading.{next_at, txn_at}
 use Rattle.co_record.proofs.Loop.{goes_on, items_fail, items_done}
 use Rattle.co_record.proofs.list.skip_txns.Goals as goal
 

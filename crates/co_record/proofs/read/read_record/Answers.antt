@@ -1,6 +1,7 @@
-use Rattle.std.proofs.Common.{◌≡◌, ℕ, List, length, Err, sym, ap, ◌∙◌, arith}
-use Rattle.co_record.specs.Lent.{placed}
+use Rattle.std.proofs.Common.{length, Err, sym, ap, ◌∙◌, arith}
+use Rattle.co_record.specs.Lent.{placed, record_of}
 use Rattle.co_record.proofs.Records.{record_shrinks, stands, reads}
+use Rattle.co_record.proofs.Slices.{are_slices}
 use Rattle.co_record.proofs.read.read_record.Goals as goal
 
 pub overflow_sub-result : goal.overflow_sub-result
@@ -8,6 +9,11 @@ overflow_sub-result c = record_shrinks _ _ _ (λ i. omega (arith, c.type_inv.byt
 
 pub returns-in-Ok-clause-found : goal.returns-in-Ok-clause-found
 returns-in-Ok-clause-found c = stands _ _ _ (λ i. omega (arith, c.type_inv.bytes i)) c.in-Ok.ensures
+
+pub returns-in-Ok-clause-slices : goal.returns-in-Ok-clause-slices
+returns-in-Ok-clause-slices c =
+    let s = stands _ _ _ (λ i. omega (arith, c.type_inv.bytes i)) c.in-Ok.ensures in
+    are_slices c.args.bytes.now (record_of c.in-Ok.view) _ s.text
 
 pub returns-in-Ok-clause-only : goal.returns-in-Ok-clause-only
 returns-in-Ok-clause-only c = λ item rest fits e. sym (reads c.args.bytes.now item rest fits e) ∙ ap (placed (length c.args.bytes.now)) c.in-Ok.ensures

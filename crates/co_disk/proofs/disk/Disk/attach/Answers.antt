@@ -1,5 +1,4 @@
-use Rattle.std.proofs.Common.{◌≡◌, ◌∙◌, ◌<◌, ◌≤◌, sym, ap, length, List, ℕ, arith, take}
-use Rattle.std.specs.Prelude.{Option, Some}
+use Rattle.std.proofs.Common.{◌∙◌, ◌<◌, sym, ap, length, List, ℕ, arith, take}
 use Rattle.co_disk.proofs.Writes.{whole_front, nothing_undone}
 use Rattle.co_disk.proofs.disk.Disk.attach.Goals as goal
 

@@ -1,10 +1,10 @@
-use Rattle.std.proofs.Common.{◌≡◌, ◌∙◌, ◌≤◌, List, ℕ, length, map, sym, ap, subst}
+use Rattle.std.proofs.Common.{◌≤◌, List, length, sym, subst}
 use Rattle.co_disk.specs.declared.touched.Touched.{Touched}
 use Rattle.co_disk.specs.DiskModel.{IsChosen}
 use Rattle.co_disk.specs.DiskView.{DiskView}
 use Rattle.co_disk.specs.Homes.{IsImageIn}
-use Rattle.co_disk.specs.Kept.{entries, entry_of, write_of, state_of, IsKept}
-use Rattle.co_disk.specs.Laying.{IsToLay, BeginWithin}
+use Rattle.co_disk.specs.Kept.{entries, state_of}
+use Rattle.co_disk.specs.Laying.{BeginWithin}
 use Rattle.co_disk.proofs.Leaving.{to_lay, kept_after}
 use Rattle.co_disk.proofs.disk.Disk.leave.Goals as goal
 

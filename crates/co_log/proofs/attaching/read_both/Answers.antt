@@ -1,0 +1,14 @@
+use Rattle.std.proofs.Common.{◌≡◌, ◌∙◌, ℕ, List, subst, inl, inr}
+use Rattle.co_log.specs.Scanning.{IsBadAt, IsLogFile}
+use Rattle.co_log.proofs.Unmade.{read_stable}
+use Rattle.co_log.proofs.attaching.read_both.Goals as goal
+
+pub returns-in-Err-clause-bad : goal.returns-in-Err-clause-bad
+returns-in-Err-clause-bad c =
+    inl (c.spot.ensures, subst (λ (b : List ℕ). IsBadAt c.args.node b c.in-Err.at) (c.bytes.ensures.read ∙ read_stable c.args.a.state c.requires.stable.0) c.in-Err.ensures.bad)
+
+pub returns-in-Err-scan-clause-bad : goal.returns-in-Err-scan-clause-bad
+returns-in-Err-scan-clause-bad c =
+    let good = subst (λ (b : List ℕ). IsLogFile c.args.node b c.in-Ok.found.gate c.in-Ok.found.generation) (c.bytes.ensures.read ∙ read_stable c.args.a.state c.requires.stable.0) c.in-Ok.ensures.found in
+    let bad = subst (λ (b : List ℕ). IsBadAt c.args.node b c.in-Err-scan.at) (c.bytes-2.ensures.read ∙ read_stable c.args.b.state c.requires.stable.1) c.in-Err-scan.ensures.bad in
+    inr (c.spot-in-Err-scan.ensures, (c.in-Ok.found.gate, c.in-Ok.found.generation, good), inl bad)

@@ -1,0 +1,53 @@
+use Rattle.std.proofs.Common.{rules, ◌≡◌, [], ◌∷◌, ◌++◌, ◌+◌, ℕ, List, sym, ap, subst, ◌∙◌, refl, inl, inr, true}
+use Rattle.std.specs.Prelude.{Some, Ok, Err, if◌then◌else◌}
+use Rattle.co_base.specs.declared.mark.Mark.{Mark}
+use Rattle.co_disk.specs.DiskModel.{DiskState, read_of}
+use Rattle.co_outside.specs.declared.spot.Spot.{Spot}
+use Rattle.co_record.specs.declared.record.Record.{Record}
+use Rattle.co_log.specs.declared.append.Ending.{Ending}
+use Rattle.co_log.specs.declared.fault.LogFault.TheVariants as faults
+use Rattle.co_log.specs.Appending.{IsEnding}
+use Rattle.co_log.specs.BatchWrite.{begins_closed}
+use Rattle.co_log.specs.LogFile.{OldOrBoth}
+use Rattle.co_log.specs.LogView.{LogView}
+use Rattle.co_log.specs.Spare.{IsFilling, filling, filling_mark, turned}
+use Rattle.co_log.proofs.Logs.{after_filling, filled, filled_if}
+use Rattle.co_log.proofs.Unmade.{ends_at_once, closed_told}
+use Rattle.co_log.proofs.log.Log.fill_spare.Goals as goal
+
+pub returns-then-self-clause-told : goal.returns-then-self-clause-told
+returns-then-self-clause-told g c = inr (λ f told. closed_told c.args.self.now.spare.state f.bytes (filling c.args.self.now c.args.items.now) c.requires.still c.requires.closed (c.requires.held.spare.told f told))
+
+pub returns-in_err-told-clause-told : goal.returns-in_err-told-clause-told
+returns-in_err-told-clause-told g c = inr (λ f told. closed_told c.args.self.now.spare.state f.bytes (filling c.args.self.now c.args.items.now) c.requires.still c.requires.closed (c.requires.held.spare.told f told))
+
+pub append-requires-clause-ends : goal.append-requires-clause-ends
+append-requires-clause-ends g c = ([], ends_at_once c.self.inside.spare.state.stable (subst (λ (l : LogView). begins_closed l.spare.state.stable ≡ true) (sym c.self.view_is) c.requires.closed))
+
+pub returns-in_err-ending-clause-told : goal.returns-in_err-ending-clause-told
+returns-in_err-ending-clause-told g c = inr (λ f told.
+    let ends = ends_at_once c.self.inside.spare.state.stable (subst (λ (l : LogView). begins_closed l.spare.state.stable ≡ true) (sym c.self.view_is) c.requires.closed) in
+    let told' = subst (λ (s : Spot). g.H.Home.file c.append.new.home s ≡ Some f) (sym (ap (λ (l : LogView). l.spare.spot) c.self.view_is)) told in
+    subst (λ (l : LogView). OldOrBoth f.bytes 0 [] (filling l c.args.items.now)) c.self.view_is (c.in_err-ending.ensures.told [] ends f told'))
+
+pub returns-in-Whole-clause-filling : goal.returns-in-Whole-clause-filling
+returns-in-Whole-clause-filling g c =
+    let log : LogView = record { node = c.self.inside.node; current = c.self.inside.current; spare = c.self.inside.spare; gate = c.self.inside.gate; generation = c.self.inside.generation; waiting = c.self.inside.waiting.items; stop = c.self.inside.stop } in
+    let items = c.args.items.now in
+    let ends = ends_at_once c.self.inside.spare.state.stable (subst (λ (l : LogView). begins_closed l.spare.state.stable ≡ true) (sym c.self.view_is) c.requires.closed) in
+    let ended = subst (λ (e : Ending). IsEnding e c.take-stop.result c.append.new.disk 0 [] (filling log items)) c.in-Whole.is (c.in_ok-ending.ensures.ended [] ends) in
+    let mark : Mark = filling_mark log in
+    let done = filled log c.append.new.disk c.clear.new.self.items c.take-stop.new.self items c.in-Whole.next c.clear.ensures.items c.take-stop.ensures.after c.in_ok-ending.ensures.stable ended.1 ended.2 in
+    subst (λ (l : LogView). IsFilling l items c.turn.new.self (Ok mark)) c.self.view_is
+    (subst (λ (a : LogView). IsFilling log items a (Ok mark)) (sym c.turn.ensures) (sym c.take-stop.ensures.value ∙ ended.0, refl, done))
+
+pub returns-clause-filling : goal.returns-clause-filling
+returns-clause-filling g c =
+    let log : LogView = record { node = c.self.inside.node; current = c.self.inside.current; spare = c.self.inside.spare; gate = c.self.inside.gate; generation = c.self.inside.generation; waiting = c.self.inside.waiting.items; stop = c.self.inside.stop } in
+    let items = c.args.items.now in
+    let ends = ends_at_once c.self.inside.spare.state.stable (subst (λ (l : LogView). begins_closed l.spare.state.stable ≡ true) (sym c.self.view_is) c.requires.closed) in
+    let ended = subst (λ (e : Ending). IsEnding e c.take-stop.result c.append.new.disk 0 [] (filling log items)) c.in-Stopped.is (c.in_ok-ending.ensures.ended [] ends) in
+    let done = filled_if c.in-Stopped.stable log c.append.new.disk c.clear.new.self.items c.take-stop.new.self items c.in-Stopped.next c.clear.ensures.items c.take-stop.ensures.after c.in_ok-ending.ensures.stable ended.3 ended.4 in
+    subst (λ (l : LogView). IsFilling l items c.turn_if.new.self (Err (faults.Stopped c.in-Stopped.call c.in-Stopped.stable c.marks_if-marks.result))) c.self.view_is
+    (subst (λ (a : LogView). IsFilling log items a (Err (faults.Stopped c.in-Stopped.call c.in-Stopped.stable c.marks_if-marks.result))) (sym c.turn_if.ensures)
+    (ended.0, sym c.take-stop.ensures.value ∙ ended.1, ended.2, c.marks_if-marks.ensures ∙ ap (λ (m : List Mark). if c.in-Stopped.stable then m else []) c.in_ok-told.ensures, done))

@@ -1,0 +1,12 @@
+pub mod LogFile
+pub mod BatchWrite
+pub mod Stopping
+pub mod Appending
+pub mod Marks
+pub mod LogView
+pub mod Forcing
+pub mod Fresh
+pub mod Spare
+pub mod Scanning
+pub mod Attaching
+pub mod Rereading

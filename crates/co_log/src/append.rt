@@ -1,0 +1,125 @@
+//! Records as they are appended to a file: in one batch, in one log write.
+ghost use Rattle.std.specs.Prelude.{◌≡◌, ◌≤◌, ◌<◌, ◌+◌, ◌++◌, ◌∷◌, [], ℕ, List, length, OnOk, OnErr, IfOk, IfErr, IfSome, IsErrOf, Some, slice_get, if◌then◌else◌};
+ghost use Rattle.std.specs.List.{AllByRecursion};
+ghost use Rattle.co_outside.specs.Home.{File};
+ghost use Rattle.co_disk.specs.DiskModel.{read_of};
+ghost use Rattle.co_disk.specs.Homes.{Agrees, IsClean, RestStays, HasFailed};
+ghost use Rattle.co_record.specs.declared.record.Record.{Record};
+ghost use Rattle.co_record.specs.Spelling.{IsWritable, IsSpelled};
+ghost use Rattle.co_log.specs.Appending.{IsEnding, IsTooLong, IsOfAppend};
+ghost use Rattle.co_log.specs.LogFile.{spelled, opened, EndsAt, OldOrBoth};
+
+use crate::fault::LogFault;
+use crate::stop::Stop;
+use crate::writing::write_batch;
+use co_disk::{Disk, DiskFault};
+use co_frame::{MOST_LOG_BYTES, OPEN_GATE, put_batch};
+use co_outside::Home;
+use co_record::{Record, put_record};
+use std::alloc::{AllocError, Global};
+
+/// How a log write that met no fault ended.
+#[derive(Clone, Copy, Debug, PartialEq, Eq)]
+pub(crate) enum Ending {
+    /// All its device calls were done, and the next gate stands at this place.
+    Whole { next: u32 },
+    /// It was stopped at the device call with this number, the batch counts or does not, and the first
+    /// gate that is not open stands at this place.
+    Stopped { call: u8, stable: bool, next: u32 },
+}
+
+/// Appends the spellings of records.
+fn put_records(items: &[Record], into: &mut Vec<u8>) -> Result<(), AllocError>
+    requires { AllByRecursion IsWritable items.now }
+    ensures bytes { OnOk result (into.new.items ≡ into.old.items ++ spelled items.now) }
+    ensures each { OnOk result (AllByRecursion IsSpelled items.now) }
+{
+    for item in items {
+        put_record(item, into)?;
+    }
+    Ok(())
+}
+
+/// The bytes of these records and then of those.
+fn spell(alloc: Global, front: &[Record], back: &[Record]) -> Result<Vec<u8>, AllocError>
+    requires front { AllByRecursion IsWritable front.now }
+    requires back { AllByRecursion IsWritable back.now }
+    ensures bytes { IfOk result (λ v. v.items ≡ spelled (front.now ++ back.now)) }
+    ensures each { OnOk result (AllByRecursion IsSpelled (front.now ++ back.now)) }
+{
+    let mut bytes = Vec::new(alloc);
+    put_records(front, &mut bytes)?;
+    put_records(back, &mut bytes)?;
+    Ok(bytes)
+}
+
+/// Whether the gate at a place is there and open.
+fn is_opened(bytes: &[u8], gate: u32) -> bool
+    ensures { result ≡ opened (slice_get bytes.now gate) }
+{
+    match bytes.get(gate as usize) {
+        Some(byte) => *byte == OPEN_GATE,
+        None => false,
+    }
+}
+
+/// The place of the first gate that is not open.
+fn gate_after(stable: bool, gate: u32, next: u32) -> u32
+    ensures { result ≡ (if stable then next else gate) }
+{
+    if stable { next } else { gate }
+}
+
+/// Appends these records and then those in one batch behind the gate at a place, and opens it. The memory that the batch
+/// wants is taken before the first device call. `Full` comes, before any device call, where the file
+/// would have more than 268,435,456 bytes; `Device` only where the home failed.
+pub(crate) fn append<H: Home>(
+    alloc: Global,
+    disk: &mut Disk,
+    home: &mut H,
+    gate: u32,
+    front: &[Record],
+    back: &[Record],
+    stop: Option<Stop>,
+) -> Result<Ending, LogFault>
+    requires agrees { Agrees (H.file home.old disk.old.spot) (H.reach home.old disk.old.spot) (read_of disk.old.state) }
+    requires stable { disk.old.state.pending ≡ [] }
+    requires stop { IfSome stop (λ s. (1 ≤ s.call) × (s.call ≤ 4)) }
+    requires ends { (kept : List (ℕ × Record)) × EndsAt disk.old.state.stable gate kept }
+    requires some { 0 < length (front.now ++ back.now) }
+    requires front { AllByRecursion IsWritable front.now }
+    requires back { AllByRecursion IsWritable back.now }
+    ensures spot { disk.new.spot ≡ disk.old.spot }
+    ensures ended { (kept : List (ℕ × Record)) → EndsAt disk.old.state.stable gate kept → IfOk result (λ e. IsEnding e stop disk.new gate kept (front.now ++ back.now)) }
+    ensures stable { OnOk result (disk.new.state.pending ≡ []) }
+    ensures agrees { OnOk result (Agrees (H.file home.new disk.old.spot) (H.reach home.new disk.old.spot) (read_of disk.new.state)) }
+    ensures clean { OnOk result (IsClean (H.file home.new disk.old.spot)) }
+    ensures full { IsErrOf result (LogFault.Full disk.old.spot) → IsTooLong gate (front.now ++ back.now) }
+    ensures short { OnOk result (gate + 6 + length (spelled (front.now ++ back.now)) ≤ 268435456) }
+    ensures told { (kept : List (ℕ × Record)) → EndsAt disk.old.state.stable gate kept → OnErr result ((f : File) → H.file home.new disk.old.spot ≡ Some f → OldOrBoth f.bytes gate kept (front.now ++ back.now)) }
+    ensures faults { IfErr result (IsOfAppend disk.old.spot) }
+    ensures rest { RestStays H.file H.reach H.entered H.faults disk.old.spot home.old home.new }
+    ensures device { IsErrOf result (LogFault.Device disk.old.spot) → HasFailed H.faults H.last_failed disk.old.spot home.old home.new }
+{
+    let records = spell(alloc, front, back)?;
+    if gate as usize + 6 + records.len() > MOST_LOG_BYTES {
+        return Err(LogFault::Full { spot: disk.spot() });
+    }
+    let mut batch = Vec::new(alloc);
+    put_batch(&records, &mut batch)?;
+    let next = gate + 5 + records.len() as u32;
+    match write_batch(disk, home, gate, &batch, stop) {
+        Ok(()) => Ok(Ending::Whole { next }),
+        Err(DiskFault::Stopped { call }) => {
+            let stable = is_opened(disk.bytes(), gate);
+            Ok(Ending::Stopped {
+                call,
+                stable,
+                next: gate_after(stable, gate, next),
+            })
+        }
+        Err(DiskFault::Device) => Err(LogFault::Device { spot: disk.spot() }),
+        Err(DiskFault::Memory) => Err(LogFault::Memory),
+        Err(DiskFault::Differs { .. } | DiskFault::Long) => unreachable!(),
+    }
+}

@@ -1,0 +1,23 @@
+//! The forced log of a node over two files.
+#![tactic(auto)]
+
+mod append;
+mod attaching;
+mod closing;
+mod fault;
+mod laws;
+mod log;
+mod making;
+mod marks;
+mod rereading;
+mod scanning;
+mod spare;
+mod stop;
+mod writing;
+
+pub use fault::{LogFault, NodeFault};
+pub use laws::{attached_logs_stand, gates_end_files, images_are_old_or_new};
+pub use log::Log;
+
+#[cfg(test)]
+mod tests;

@@ -1,0 +1,178 @@
+//! The log of a node.
+ghost use Rattle.std.specs.Prelude.{◌≡◌, ◌≤◌, ◌<◌, ◌+◌, ◌++◌, ◌∷◌, ◌==◌, [], ℕ, List, length, OnOk, OnErr, IfOk, IfErr, IsErrOf, Some, None, true, false, ◌⊎◌};
+ghost use Rattle.co_outside.specs.Home.{File};
+ghost use Rattle.co_disk.specs.DiskModel.{read_of};
+ghost use Rattle.co_record.specs.declared.record.Record.{Record};
+ghost use Rattle.co_record.specs.Spelling.{IsWritable};
+ghost use Rattle.co_record.specs.Stored.{HasRecords, HasLeft};
+
+use crate::append::{Ending, append};
+use crate::closing::is_closed;
+use crate::fault::LogFault;
+use crate::marks::{marks, marks_if};
+use crate::stop::Stop;
+use co_base::{Leaves, Marks, Node};
+use co_disk::Disk;
+use co_outside::{Home, Spot};
+use co_record::{Record, Views};
+use std::alloc::{AllocError, Global};
+use std::marker::Model;
+
+/// The forced log of a node over two files: records that are stable, and records that wait in memory
+/// until the next log write.
+///
+/// One file is current and holds the records; the other one is a spare, into which a shorter log is
+/// written to become the current one.
+#[derive(Drop)]
+pub struct Log {
+    pub(crate) alloc: Global,
+    pub(crate) node: Node,
+    pub(crate) current: Disk,
+    pub(crate) spare: Disk,
+    pub(crate) gate: u32,
+    pub(crate) generation: u32,
+    pub(crate) waiting: Vec<Record>,
+    pub(crate) stop: Option<Stop>,
+}
+
+impl Model for Log {
+    ghost use Rattle.std.specs.Prelude.{◌≤◌, IfSome};
+    ghost use Rattle.std.specs.List.{AllByRecursion};
+    ghost use Rattle.co_record.specs.Spelling.{IsWritable};
+    ghost use Rattle.co_log.specs.LogView.{LogView};
+
+    ghost Value = { LogView };
+
+    ghost view = { λ l. record { node = l.node; current = l.current; spare = l.spare; gate = l.gate; generation = l.generation; waiting = l.waiting.items; stop = l.stop } };
+
+    ghost invariant = { λ l. AllByRecursion IsWritable l.waiting.items × IfSome l.stop (λ s. (1 ≤ s.call) × (s.call ≤ 4)) };
+}
+
+impl Log {
+    ghost use Rattle.co_disk.specs.Homes.{IsClean, RestStays, HasFailed};
+    ghost use Rattle.co_log.specs.Appending.{IsTooLong};
+    ghost use Rattle.co_log.specs.BatchWrite.{begins_closed};
+    ghost use Rattle.co_log.specs.Forcing.{IsForced, IsDone, IsOfForce};
+    ghost use Rattle.co_log.specs.LogFile.{OldOrBoth};
+    ghost use Rattle.co_log.specs.LogView.{IsLive, IsHeld, IsHeader, lengths_of};
+
+    /// The lengths of both files in bytes, that of part `a` first.
+    pub fn lengths(&self) -> (u32, u32)
+        ensures { result ≡ lengths_of self.now }
+    {
+        let current = self.current.bytes().len() as u32;
+        let spare = self.spare.bytes().len() as u32;
+        if self.current.spot().part == 0 {
+            (current, spare)
+        } else {
+            (spare, current)
+        }
+    }
+
+    /// The spot of the current file: that of part `a` for a fresh log.
+    pub fn spot(&self) -> Spot
+        ensures { result ≡ self.now.current.spot }
+    {
+        self.current.spot()
+    }
+
+    /// Whether neither file has a batch.
+    pub fn fresh(&self) -> bool
+        ensures { result ≡ (self.now.gate == 0) }
+    {
+        self.gate == 0
+    }
+
+    /// Lends the records of the current file in order, each with its place in it. Takes no memory.
+    pub fn views(&self) -> Views<'_>
+        requires { (items : List (ℕ × Record)) × HasRecords (read_of self.now.current.state) items }
+        ensures { (items : List (ℕ × Record)) → HasRecords (read_of self.now.current.state) items → HasLeft result items }
+    {
+        Views::new(self.current.bytes())
+    }
+
+    /// Keeps a record, which is none but an abort or an end record at most places, waiting for the next
+    /// log write. Want of memory leaves the log as it was.
+    pub fn later(&mut self, item: Record) -> Result<(), AllocError>
+        requires writable { IsWritable item }
+        requires header { IsHeader item → ⊥ }
+        ensures ok { OnOk result (self.new ≡ record self.old { waiting = self.old.waiting ++ item ∷ [] }) }
+        ensures err { OnErr result (self.new ≡ self.old) }
+    {
+        self.waiting.push(item)?;
+        Ok(())
+    }
+
+    /// Arms the next log write of the node: its device call with this number, counted from 1, stops and
+    /// leaves this image. A number above the count of its device calls passes unused.
+    pub fn arm(&mut self, stop: u8, leaves: Leaves)
+        requires { (1 ≤ stop) × (stop ≤ 4) }
+        ensures { self.new ≡ record self.old { stop = Some (record { call = stop; leaves = leaves }) } }
+    {
+        self.stop = Some(Stop { call: stop, leaves });
+    }
+
+    /// Takes the armed stop away.
+    pub fn disarm(&mut self)
+        ensures { self.new ≡ record self.old { stop = None } }
+    {
+        self.stop = None;
+    }
+
+    /// Whether the spare file has a first byte that is no open gate.
+    pub fn spare_closed(&self) -> bool
+        ensures { result ≡ begins_closed (read_of self.now.spare.state) }
+    {
+        is_closed(self.spare.bytes())
+    }
+
+    /// Appends one batch in one log write: the waiting records in order, and then this one. Its four device
+    /// calls are: write the batch with a closed gate behind it, sync, write the open gate before it, sync.
+    ///
+    /// `Full` comes before any device call where the file would have more than 268,435,456 bytes;
+    /// `Stopped` at the armed device call; `Device` only where the home failed; `Memory` before or in the
+    /// first device call.
+    pub fn force<H: Home>(&mut self, home: &mut H, item: Record) -> Result<Marks, LogFault>
+        requires held { IsHeld H.file H.reach home.old self.old }
+        requires live { (items : List (ℕ × Record)) × IsLive self.old items }
+        requires writable { IsWritable item }
+        requires header { IsHeader item → ⊥ }
+        ensures forced { (items : List (ℕ × Record)) → IsLive self.old items → IsForced self.old items (self.old.waiting ++ item ∷ []) self.new result }
+        ensures held { IsDone result → IsHeld H.file H.reach home.new self.new }
+        ensures clean { IsDone result → IsClean (H.file home.new self.old.current.spot) }
+        ensures full { IsErrOf result (LogFault.Full self.old.current.spot) → IsTooLong self.old.gate (self.old.waiting ++ item ∷ []) }
+        ensures told { (items : List (ℕ × Record)) → IsLive self.old items → (f : File) → H.file home.new self.old.current.spot ≡ Some f → IsDone result ⊎ OldOrBoth f.bytes self.old.gate items (self.old.waiting ++ item ∷ []) }
+        ensures faults { IfErr result (IsOfForce self.old.current.spot) }
+        ensures rest { RestStays H.file H.reach H.entered H.faults self.old.current.spot home.old home.new }
+        ensures device { IsErrOf result (LogFault.Device self.old.current.spot) → HasFailed H.faults H.last_failed self.old.current.spot home.old home.new }
+    {
+        let last = [item];
+        let told = marks(self.alloc, self.node, self.waiting.as_slice(), &last)?;
+        let stop = self.stop.take();
+        let ending = append(
+            self.alloc,
+            &mut self.current,
+            home,
+            self.gate,
+            self.waiting.as_slice(),
+            &last,
+            stop,
+        )?;
+        self.waiting.clear();
+        match ending {
+            Ending::Whole { next } => {
+                self.gate = next;
+                Ok(told)
+            }
+            Ending::Stopped { call, stable, next } => {
+                self.gate = next;
+                let marks = marks_if(self.alloc, stable, told);
+                Err(LogFault::Stopped {
+                    call,
+                    stable,
+                    marks,
+                })
+            }
+        }
+    }
+}

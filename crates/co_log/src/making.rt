@@ -1,0 +1,55 @@
+//! Logs that are made.
+ghost use Rattle.std.specs.Prelude.{◌≡◌, [], OnOk, IfOk, IfErr, IsErrOf, Some};
+ghost use Rattle.co_outside.specs.Home.{File};
+ghost use Rattle.co_disk.specs.DiskModel.{read_of};
+ghost use Rattle.co_base.specs.Nodes.{IsValidNode};
+ghost use Rattle.co_base.specs.declared.mark.MarkKind.TheVariants as kind;
+
+use crate::append::{Ending, append};
+use crate::closing::close_unmade;
+use crate::fault::LogFault;
+use crate::log::Log;
+use co_base::{Mark, MarkKind};
+use co_outside::Home;
+use co_record::Record;
+
+impl Log {
+    ghost use Rattle.co_disk.specs.Homes.{IsClean, RestStays, HasFailed};
+    ghost use Rattle.co_log.specs.Fresh.{IsFresh, IsMade, NoneOrThese, IsOfDevice, header_alone};
+    ghost use Rattle.co_log.specs.LogView.{IsHeld};
+
+    /// Makes a fresh log: closes the first gate of its current file, where that is empty or open, and
+    /// writes a header of generation 1 behind it. An armed stop stays for a later log write.
+    ///
+    /// `Device` comes only where the home failed, and `Memory` where there was none.
+    pub fn make<H: Home>(&mut self, home: &mut H) -> Result<Mark, LogFault>
+        requires held { IsHeld H.file H.reach home.old self.old }
+        requires fresh { IsFresh self.old }
+        requires node { IsValidNode self.old.node }
+        ensures made { OnOk result (IsMade self.old self.new) }
+        ensures mark { IfOk result (λ m. m ≡ record { node = self.old.node; kind = kind.Header; number = 1 }) }
+        ensures held { OnOk result (IsHeld H.file H.reach home.new self.new) }
+        ensures clean { OnOk result (IsClean (H.file home.new self.old.current.spot)) }
+        ensures told { (f : File) → H.file home.new self.old.current.spot ≡ Some f → NoneOrThese f.bytes (header_alone self.old.node) }
+        ensures faults { IfErr result (IsOfDevice self.old.current.spot) }
+        ensures rest { RestStays H.file H.reach H.entered H.faults self.old.current.spot home.old home.new }
+        ensures device { IsErrOf result (LogFault.Device self.old.current.spot) → HasFailed H.faults H.last_failed self.old.current.spot home.old home.new }
+    {
+        close_unmade(&mut self.current, home)?;
+        let header = [Record::Header {
+            node: self.node,
+            generation: 1,
+        }];
+        let ending = append(self.alloc, &mut self.current, home, 0, &header, &[], None)?;
+        match ending {
+            Ending::Whole { next } => self.gate = next,
+            Ending::Stopped { .. } => unreachable!(),
+        }
+        self.generation = 1;
+        Ok(Mark {
+            node: self.node,
+            kind: MarkKind::Header,
+            number: 1,
+        })
+    }
+}

@@ -1,0 +1,63 @@
+//! What a log write tells.
+ghost use Rattle.std.specs.Prelude.{◌≡◌, ◌++◌, ◌∷◌, [], IfOk, OnOk, if◌then◌else◌};
+ghost use Rattle.co_log.specs.Marks.{mark_of, marks_of};
+
+use co_base::{Mark, MarkKind, Marks, Node};
+use co_record::Record;
+use std::alloc::{AllocError, Global};
+
+/// What a transcript tells of a record of this node.
+pub(crate) fn mark(node: Node, item: &Record) -> Mark
+    ensures { result ≡ mark_of node item.now }
+{
+    let (kind, number) = match item {
+        Record::Header { generation, .. } => (MarkKind::Header, *generation),
+        Record::Prepare { txn, .. } => (MarkKind::Prepare, txn.0),
+        Record::Commit { txn, .. } => (MarkKind::Commit, txn.0),
+        Record::Abort { txn } => (MarkKind::Abort, txn.0),
+        Record::End { txn } => (MarkKind::End, txn.0),
+        Record::Checkpoint { .. } => (MarkKind::Checkpoint, 0),
+    };
+    Mark { node, kind, number }
+}
+
+/// Adds what a transcript tells of records.
+fn put_marks(node: Node, items: &[Record], told: &mut Marks) -> Result<(), AllocError>
+    ensures { OnOk result (told.new ≡ told.old ++ marks_of node items.now) }
+{
+    for item in items {
+        told.push(mark(node, item))?;
+    }
+    Ok(())
+}
+
+/// What a transcript tells of these records and then of those.
+pub(crate) fn marks(
+    alloc: Global,
+    node: Node,
+    front: &[Record],
+    back: &[Record],
+) -> Result<Marks, AllocError>
+    ensures { IfOk result (λ m. m ≡ marks_of node (front.now ++ back.now)) }
+{
+    let mut told = Marks::new(alloc);
+    put_marks(node, front, &mut told)?;
+    put_marks(node, back, &mut told)?;
+    Ok(told)
+}
+
+/// One mark alone.
+pub(crate) fn one_mark(alloc: Global, mark: Mark) -> Result<Marks, AllocError>
+    ensures { IfOk result (λ m. m ≡ mark ∷ []) }
+{
+    let mut told = Marks::new(alloc);
+    told.push(mark)?;
+    Ok(told)
+}
+
+/// The marks of a stopped log write: those of its records where the batch counts, and else none.
+pub(crate) fn marks_if(alloc: Global, stable: bool, told: Marks) -> Marks
+    ensures { result ≡ (if stable then told else []) }
+{
+    if stable { told } else { Marks::new(alloc) }
+}

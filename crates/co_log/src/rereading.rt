@@ -1,0 +1,62 @@
+//! Logs that are read again after a crash.
+ghost use Rattle.std.specs.Prelude.{◌≡◌, ◌⊎◌, OnOk, IfErr, IsErrOf};
+ghost use Rattle.co_outside.specs.declared.spot.Spot.{Spot};
+ghost use Rattle.co_disk.specs.DiskModel.{read_of};
+ghost use Rattle.co_disk.specs.Homes.{Agrees, RestStays, HasFailed};
+ghost use Rattle.co_log.specs.Rereading.{IsOfReread};
+
+use crate::fault::LogFault;
+use crate::log::Log;
+use co_disk::{Disk, DiskFault};
+use co_outside::Home;
+
+/// Reads the file of a disk again.
+fn reread<H: Home>(disk: &mut Disk, home: &mut H) -> Result<(), LogFault>
+    requires agrees { Agrees (H.file home.old disk.old.spot) (H.reach home.old disk.old.spot) (read_of disk.old.state) }
+    ensures disk { disk.new ≡ disk.old }
+    ensures file { H.file home.new disk.old.spot ≡ H.file home.old disk.old.spot }
+    ensures agrees { Agrees (H.file home.new disk.old.spot) (H.reach home.new disk.old.spot) (read_of disk.new.state) }
+    ensures same { OnOk result (H.gives home.old disk.old.spot 268435457 (read_of disk.old.state)) }
+    ensures rest { RestStays H.file H.reach H.entered H.faults disk.old.spot home.old home.new }
+    ensures device { IsErrOf result (LogFault.Device disk.old.spot) → HasFailed H.faults H.last_failed disk.old.spot home.old home.new }
+    ensures faults { IfErr result (IsOfReread (H.file home.old disk.old.spot) disk.old) }
+{
+    let spot = disk.spot();
+    match disk.reread(home) {
+        Ok(()) => Ok(()),
+        Err(DiskFault::Device) => Err(LogFault::Device { spot }),
+        Err(DiskFault::Differs { at, kept, read }) => Err(LogFault::Differs {
+            spot,
+            at,
+            kept,
+            read,
+        }),
+        Err(DiskFault::Memory) => Err(LogFault::Memory),
+        Err(DiskFault::Stopped { .. }) => unreachable!(),
+        Err(DiskFault::Long) => unreachable!(),
+    }
+}
+
+impl Log {
+    ghost use Rattle.co_log.specs.LogView.{IsHeld};
+
+    /// Reads both files again, that of the current one first, after a stop or a cut. Nothing of the log
+    /// changes.
+    ///
+    /// `Differs` comes exactly where a file is not what is kept of it, and never over a home that tells it;
+    /// `Device` only where the home failed; `Memory` where there was none.
+    pub fn reattach<H: Home>(&mut self, home: &mut H) -> Result<(), LogFault>
+        requires held { IsHeld H.file H.reach home.old self.old }
+        ensures log { self.new ≡ self.old }
+        ensures current { H.file home.new self.old.current.spot ≡ H.file home.old self.old.current.spot }
+        ensures spare { H.file home.new self.old.spare.spot ≡ H.file home.old self.old.spare.spot }
+        ensures held { IsHeld H.file H.reach home.new self.new }
+        ensures faults { IfErr result (λ e. IsOfReread (H.file home.old self.old.current.spot) self.old.current e ⊎ IsOfReread (H.file home.old self.old.spare.spot) self.old.spare e) }
+        ensures same { OnOk result (H.gives home.old self.old.current.spot 268435457 (read_of self.old.current.state)) }
+        ensures device { (spot : Spot) → IsErrOf result (LogFault.Device spot) → HasFailed H.faults H.last_failed spot home.old home.new }
+    {
+        reread(&mut self.current, home)?;
+        reread(&mut self.spare, home)?;
+        Ok(())
+    }
+}

@@ -1,0 +1,27 @@
+//! A log write that is to be stopped.
+ghost use Rattle.std.specs.Prelude.{◌≡◌, ◌≤◌, IfSome, option_map};
+ghost use Rattle.co_disk.specs.Stops.{armed_for};
+
+use co_base::Leaves;
+use co_disk::Disk;
+
+/// The device call of the next log write at which it stops, counted from 1, and the image that is
+/// left then.
+#[derive(Debug, Drop)]
+pub(crate) struct Stop {
+    pub(crate) call: u8,
+    pub(crate) leaves: Leaves,
+}
+
+/// Arms the stop of a log write, where there is one.
+pub(crate) fn arm_for(disk: &mut Disk, stop: Option<Stop>)
+    requires { IfSome stop (λ s. (1 ≤ s.call) × (s.call ≤ 4)) }
+    ensures spot { disk.new.spot ≡ disk.old.spot }
+    ensures state { disk.new.state ≡ disk.old.state }
+    ensures armed { disk.new.armed ≡ option_map (λ s. armed_for s.call s.leaves) stop }
+{
+    match stop {
+        Some(s) => disk.arm(s.call, s.leaves),
+        None => disk.disarm(),
+    }
+}
