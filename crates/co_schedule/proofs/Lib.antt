@@ -10,3 +10,4 @@ pub mod Complete
 pub mod Unique
 pub mod Laws
 pub mod Heads
+pub mod Filling
