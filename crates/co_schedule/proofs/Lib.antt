@@ -11,3 +11,4 @@ pub mod Unique
 pub mod Laws
 pub mod Heads
 pub mod Filling
+pub mod NextLine

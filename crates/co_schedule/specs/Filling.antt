@@ -24,7 +24,7 @@ pub record HasSameLimits (old new : Lines) : Type 0 where
 -- what the buffer holds at its front
 abbrev pub IsHeld : Lines → Held → Type 0
 IsHeld reader (Line end) = position is_newline reader.buffer.items ≡ Some end
-IsHeld reader Rest = position is_newline reader.buffer.items ≡ None
+IsHeld reader Rest = (position is_newline reader.buffer.items ≡ None) × (length reader.buffer.items ≤ reader.line)
 IsHeld reader Full = (position is_newline reader.buffer.items ≡ None) × (length reader.buffer.items ≡ reader.line + 1)
 
 -- the source failed, or there was no memory

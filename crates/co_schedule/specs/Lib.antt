@@ -8,3 +8,4 @@ pub mod Heads
 pub mod Lines
 pub mod LineText
 pub mod Filling
+pub mod Next

@@ -1,5 +1,5 @@
 //! The lines of a source, one at a time.
-ghost use Rattle.std.specs.Prelude.{◌≡◌, ◌<◌, ◌≤◌, ◌+◌, ◌++◌, [], List, ℕ, Some, None, length, position, Ok, OnOk, OnErr, IfOk, IfErr, IsErrOf, IfSome, IfNone, MatchResult, MatchBool, false, is_some, if◌then◌else◌, option_copied};
+ghost use Rattle.std.specs.Prelude.{◌≡◌, ◌<◌, ◌≤◌, ◌+◌, ◌++◌, [], List, ℕ, Some, None, length, position, Ok, OnOk, OnErr, IfOk, IfErr, IsErrOf, IfSome, IfNone, ◌≢◌, MatchResult, MatchBool, false, is_some, if◌then◌else◌, option_copied};
 ghost use Rattle.std.specs.Option.{ForSome};
 ghost use Rattle.co_schedule.specs.LineText.{is_newline, behind_line, next_line, IsNextFault};
 
@@ -44,7 +44,9 @@ fn newline_in(bytes: &[u8]) -> Option<usize>
 
 impl Lines {
     ghost use Rattle.co_outside.specs.Faults.{HasRisen};
-    ghost use Rattle.co_schedule.specs.Lines.{unread, shown_line, ahead};
+    ghost use Rattle.co_schedule.specs.Lines.{unread, shown_line, ahead, IsRead, lent_then};
+    ghost use Rattle.std.specs.Borrow.{sem};
+    ghost use Rattle.co_schedule.specs.Next.{HasMoved, EndsAs, IsIdle};
     ghost use Rattle.co_schedule.specs.Filling.{IsGrown, IsTakenFrom, IsHeld, IsOfSource, HasSameLimits};
 
     /// A reader of lines of at most `line` bytes without their newline, at most `lines` of them. Takes
@@ -153,5 +155,120 @@ impl Lines {
             }
         }
         Ok(Held::Full)
+    }
+
+    // Makes the first bytes of the buffer the line that was read last.
+    fn lend(&mut self, size: usize, used: usize)
+        requires sizes { (size ≤ used) × (used ≤ length self.old.buffer.items) }
+        requires room { self.old.lent < self.old.lines }
+        ensures same { self.new.buffer.items ≡ self.old.buffer.items }
+        ensures shown { (self.new.shown ≡ Some size) × (self.new.used ≡ used) }
+        ensures limits { (self.new.line ≡ self.old.line) × (self.new.lines ≡ self.old.lines) }
+        ensures counted { self.new.lent ≡ self.old.lent + 1 }
+    {
+        self.shown = Some(size);
+        self.used = used;
+        self.lent += 1;
+    }
+
+    // Makes what the buffer holds the line that was read last, if it holds one.
+    fn show(&mut self, held: Held) -> Result<(), LinesFault>
+        requires none { (self.old.used ≡ 0) × (self.old.shown ≡ None) }
+        requires room { self.old.lent < self.old.lines }
+        requires holds { IsHeld self.old held }
+        ensures next { (rest : List ℕ) → (held ≡ Held.Rest → rest ≡ []) → IsRead (next_line self.old.line self.old.lines self.old.lent (self.old.buffer.items ++ rest)) self.new result }
+        ensures behind { (rest : List ℕ) → (held ≡ Held.Rest → rest ≡ []) → OnOk result (unread self.new ++ rest ≡ behind_line (self.old.buffer.items ++ rest)) }
+        ensures few { OnOk result (length (unread self.new) ≤ self.new.line) }
+        ensures limits { (self.new.line ≡ self.old.line) × (self.new.lines ≡ self.old.lines) }
+        ensures counted { OnOk result (self.new.lent ≡ lent_then self.old.lent (shown_line self.new)) }
+        ensures source { IsErrOf result LinesFault.Read → ⊥ }
+        ensures err { OnErr result (unread self.new ≡ unread self.old) }
+    {
+        match held {
+            Held::Line(end) => {
+                self.lend(end, end + 1);
+                Ok(())
+            }
+            Held::Rest => {
+                let size = self.buffer.len();
+                if size == 0 {
+                    return Ok(());
+                }
+                self.lend(size, size);
+                Ok(())
+            }
+            Held::Full => Err(LinesFault::Long {
+                line: self.lent + 1,
+            }),
+        }
+    }
+
+    // Tests that nothing is left behind the last line that there may be.
+    fn end<S: Source>(&mut self, source: &mut S) -> Result<(), LinesFault>
+        requires none { (self.old.used ≡ 0) × (self.old.shown ≡ None) }
+        requires last { self.old.lent ≡ self.old.lines }
+        ensures next { (bytes : List ℕ) → ahead self.old (S.left source.old) ≡ Some bytes → IsRead (next_line self.old.line self.old.lines self.old.lent bytes) self.new result }
+        ensures behind { (bytes : List ℕ) → ahead self.old (S.left source.old) ≡ Some bytes → OnOk result (ahead self.new (S.left source.new) ≡ Some (behind_line bytes)) }
+        ensures kept { (bytes : List ℕ) → ahead self.old (S.left source.old) ≡ Some bytes → IsErrOf result LinesFault.Read → ahead self.new (S.left source.new) ≡ Some bytes }
+        ensures few { OnOk result (unread self.new ≡ []) }
+        ensures idle { unread self.old ≢ [] → source.new ≡ source.old }
+        ensures none_shown { self.new.shown ≡ None }
+        ensures same { HasSameLimits self.old self.new }
+        ensures counts { S.faults source.old ≤ S.faults source.new }
+        ensures read { IsErrOf result LinesFault.Read → HasRisen (S.faults source.old) (S.faults source.new) }
+        ensures whole { IsErrOf result LinesFault.Read → unread self.new ≡ [] }
+    {
+        if !self.buffer.is_empty() {
+            return Err(LinesFault::Many);
+        }
+        if self.take(source)? {
+            return Err(LinesFault::Many);
+        }
+        Ok(())
+    }
+
+    // Reads the next line, if there is one.
+    fn advance<S: Source>(&mut self, source: &mut S) -> Result<(), LinesFault>
+        ensures next { (text : List ℕ) → ahead self.old (S.left source.old) ≡ Some text → IsRead (next_line self.old.line self.old.lines self.old.lent text) self.new result }
+        ensures moved { HasMoved self.old (S.left source.old) (S.left source.new) result self.new }
+        ensures counted { OnOk result (self.new.lent ≡ lent_then self.old.lent (shown_line self.new)) }
+        ensures idle { IsIdle self.old source.old source.new }
+        ensures counts { S.faults source.old ≤ S.faults source.new }
+        ensures read { IsErrOf result LinesFault.Read → HasRisen (S.faults source.old) (S.faults source.new) }
+    {
+        self.let_go();
+        if self.lent == self.lines {
+            return self.end(source);
+        }
+        let held = self.fill(source)?;
+        self.show(held)
+    }
+
+    // The line that was read last.
+    fn shown(&self) -> Option<&[u8]>
+        ensures { option_copied result ≡ shown_line self.now }
+    {
+        match self.shown {
+            Some(size) => Some(&self.buffer[..size]),
+            None => None,
+        }
+    }
+
+    /// Lends the next line without its newline, or nothing at the end. The last line may end with the
+    /// source.
+    ///
+    /// The source is asked only while the buffer has no whole line. After a fault the reader is only
+    /// dropped: `Read` comes only where the source failed, `Many` exactly where a byte follows the
+    /// newline of the last line that there may be, and else `Long` exactly where the line has more
+    /// bytes than a line may have.
+    pub fn next<'a, S: Source>(&'a mut self, source: &mut S) -> Result<Option<&'a [u8]>, LinesFault>
+        ensures next { (text : List ℕ) → ahead self.old (S.left source.old) ≡ Some text → MatchResult result (λ line. next_line self.old.line self.old.lines self.old.lent text ≡ Ok (option_copied line)) (IsNextFault (next_line self.old.line self.old.lines self.old.lent text)) }
+        ensures* ends { sem 𝓛 (EndsAs self.entry (S.left source.old) (S.left source.new) result) }
+        ensures idle { IsIdle self.old source.old source.new }
+        ensures counts { S.faults source.old ≤ S.faults source.new }
+        ensures read { IsErrOf result LinesFault.Read → HasRisen (S.faults source.old) (S.faults source.new) }
+    {
+        self.advance(source)?;
+        Ok(self.shown())
     }
 }
