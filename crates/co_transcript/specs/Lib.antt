@@ -1,1 +1,4 @@
 pub mod Spelling
+pub mod Grammar
+pub mod Items
+pub mod Faults

@@ -1,8 +1,12 @@
 //! The items of a transcript, both ways.
 #![tactic(auto)]
 
+mod fault;
+mod form;
 mod writing;
 
+pub use fault::ItemFault;
+pub use form::{AnswerForm, ToldForm};
 pub use writing::put_item;
 
 #[cfg(test)]
