@@ -2,7 +2,9 @@
 #![tactic(auto)]
 
 mod fault;
+mod fields;
 mod form;
+mod reading;
 mod writing;
 
 pub use fault::ItemFault;
