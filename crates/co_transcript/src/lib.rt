@@ -9,6 +9,7 @@ mod writing;
 
 pub use fault::ItemFault;
 pub use form::{AnswerForm, ToldForm};
+pub use reading::read_item;
 pub use writing::put_item;
 
 #[cfg(test)]

@@ -299,3 +299,37 @@ fn read_words(alloc: Global, words: &mut Words<'_>) -> Result<Item, ReadFault>
     let what = told_of(alloc, words, form)?;
     Ok(Item { number, what })
 }
+
+/// Reads a line, without its newline, as an item.
+///
+/// `Text` comes exactly where the line is the text of no item; its place is that of the first word
+/// from the left that is not in the set of its place, the line's length where a word is missing,
+/// and that of the space behind the last word where something stands behind it.
+pub fn read_item(alloc: Global, line: &[u8]) -> Result<Item, ItemFault>
+    requires { length line.now ≤ 268435456 }
+    ensures found { IfOk result (λ item. IsItem item × (line.now ≡ item_text item)) }
+    ensures only { (item : Item) → IsItem item → line.now ≡ item_text item → MatchResult result (λ found. found ≡ item) (λ fault. fault ≡ ItemFault.Memory) }
+    ensures fault { IfErr result (IsTextFault line.now) }
+{
+    let mut words = Words::of(line);
+    match read_words(alloc, &mut words) {
+        Ok(item) => Ok(item),
+        Err(ReadFault::Mistake(mistake)) => Err(ItemFault::Text {
+            at: place_in(line, mistake),
+        }),
+        Err(ReadFault::Memory) => Err(ItemFault::Memory),
+    }
+}
+
+// The place of a mistake, counted from the front of the line.
+fn place_in(line: &[u8], mistake: Mistake) -> u32
+    requires { length line.now ≤ 268435456 }
+    ensures { result ≡ place_of line.now mistake }
+{
+    let at = line.len().saturating_sub(mistake.left);
+    let before = match mistake.kind {
+        LineKind::Extra => 1,
+        _ => 0,
+    };
+    at.saturating_sub(before) as u32
+}
