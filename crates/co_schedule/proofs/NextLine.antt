@@ -2,7 +2,7 @@
 use Rattle.std.proofs.Common.{◌≡◌, ℕ, ◌+◌, ◌<◌, ◌≤◌, Bool, true, false, List, [], ◌∷◌, ◌++◌, length, take, drop, Option, None, Some, Ok, Err, refl, sym, ap, ◌∙◌, arith, ltb, not, length-append}
 use Rattle.std.specs.Prelude.{position, option_map, OnOk, Result}
 use Rattle.std.specs.List.{position_or_len}
-use Rattle.std.proofs.lemmas.List.{take-append-le, drop-append-le, length-take-le}
+use Rattle.std.proofs.lemmas.List.{take-append-le, drop-append-le, length-take-le, length-drop}
 use Rattle.std.proofs.lemmas.List.Sums.{prefix_len-le-length}
 use Rattle.std.proofs.lemmas.Bool.{lt-ltb, le-ltb}
 use Rattle.co_schedule.specs.LineText.{is_newline, first_line, behind_line, next_line, short_line}
@@ -102,3 +102,7 @@ ahead_then behind told rest text e f = rw e (ap Some f)
 
 pub same_rest : (told : Option (List ℕ)) (rest : List ℕ) → told ≡ Some rest → told ≡ Some [] → rest ≡ []
 same_rest told rest e f = let g : Some rest ≡ Some [] = sym e ∙ f in cc
+
+-- no more is held than the buffer has room for
+pub unread_held : (reader : Lines) → length (unread reader) ≤ reader.line + 1
+unread_held reader = omega (arith, length-drop reader.used reader.buffer.items, reader.held_room)

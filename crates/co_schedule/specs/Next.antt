@@ -1,5 +1,5 @@
 -- What the next line leaves of a reader and of its source.
-use Rattle.std.specs.Prelude.{ℕ, ◌≡◌, ◌≢◌, ◌<◌, ◌≤◌, List, [], length, position, Option, None, Some, option_copied, Result, OnOk, IfOk, IsErrOf}
+use Rattle.std.specs.Prelude.{ℕ, ◌≡◌, ◌≢◌, ◌+◌, ◌<◌, ◌≤◌, List, [], length, position, Option, None, Some, option_copied, Result, OnOk, IfOk, IsErrOf}
 use Rattle.std.specs.Borrow.{Fml, Bor, MutBor}
 use Rattle.std.specs.Io.BufRead.{Rests}
 use Rattle.co_schedule.specs.LineText.{is_newline, behind_line}
@@ -9,11 +9,13 @@ use Rattle.co_schedule.specs.declared.fault.LinesFault.TheVariants.{Read}
 use Rattle.co_schedule.specs.declared.lines.Lines.{Lines}
 use Rattle.co_schedule.specs.contracts.lines.Lines.{the_row}
 
--- The reader moved behind the next line. At most a line of bytes was taken behind it. Where the source
--- failed, all that was taken is still ahead, and no whole line of it is held.
+-- The reader moved behind the next line. Fewer bytes are held behind a line than a line and its newline
+-- have, and at every return no more than these. Where the source failed, all that was taken is still
+-- ahead, and no whole line of it is held.
 pub record HasMoved {A : Type 0} (old : Lines) (left_old left_new : Option (List ℕ)) (result : Result A LinesFault) (new : Lines) : Type 0 where
   pub behind : (text : List ℕ) → ahead old left_old ≡ Some text → OnOk result (ahead new left_new ≡ Some (behind_line text))
   pub few : OnOk result (length (unread new) ≤ new.line)
+  pub held : length (unread new) ≤ new.line + 1
   pub kept : (text : List ℕ) → ahead old left_old ≡ Some text → IsErrOf result Read → ahead new left_new ≡ Some text
   pub whole : IsErrOf result Read → position is_newline (unread new) ≡ None
   pub limits : (new.line ≡ old.line) × (new.lines ≡ old.lines)

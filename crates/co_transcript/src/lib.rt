@@ -4,11 +4,13 @@
 mod fault;
 mod fields;
 mod form;
+mod laws;
 mod reading;
 mod writing;
 
 pub use fault::ItemFault;
 pub use form::{AnswerForm, ToldForm};
+pub use laws::one_text;
 pub use reading::read_item;
 pub use writing::put_item;
 

@@ -1,5 +1,5 @@
 use Rattle.std.proofs.Common.{◌∙◌, sym}
-use Rattle.co_schedule.proofs.Laws.{line_of_words}
+use Rattle.co_schedule.proofs.EventLaws.{line_of_words}
 use Rattle.co_transcript.proofs.ItemLaws.{words_of_item, same_item, no_item_fault}
 use Rattle.co_transcript.proofs.reading.read_item.Goals as goal
 

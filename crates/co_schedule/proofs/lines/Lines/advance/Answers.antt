@@ -3,7 +3,7 @@ use Rattle.co_schedule.specs.LineText.{next_line, behind_line}
 use Rattle.co_schedule.specs.Lines.{IsRead, unread}
 use Rattle.co_schedule.specs.declared.fault.LinesFault.{LinesFault}
 use Rattle.co_schedule.specs.declared.lines.Held.TheVariants.{Rest}
-use Rattle.co_schedule.proofs.NextLine.{filled_ahead, next_same, on_ok, ahead_then, same_rest}
+use Rattle.co_schedule.proofs.NextLine.{filled_ahead, next_same, on_ok, ahead_then, same_rest, unread_held}
 use Rattle.co_schedule.proofs.lines.Lines.advance.Goals as goal
 
 pub returns-clause-next : goal.returns-clause-next
@@ -20,6 +20,7 @@ returns-clause-moved g c = record {
     let none : c.in_ok-held.held ≡ Rest → it.0 ≡ [] = λ e. same_rest _ _ it.1 (c.in_ok-held.ensures.rest (ap Ok e) it.3 it.4) in
     on_ok c.show.result _ _ (λ moved. ahead_then (unread c.show.new.self) _ it.0 (behind_line text) it.1 (moved ∙ ap behind_line it.2)) (c.show.ensures.behind it.0 none);
   few = c.show.ensures.few;
+  held = unread_held c.show.new.self;
   kept = λ text told fault. absurd (c.show.ensures.source fault);
   whole = λ fault. absurd (c.show.ensures.source fault);
   limits = (c.show.ensures.limits.0 ∙ c.in_ok-held.ensures.same.line ∙ c.let_go.ensures.same.line, c.show.ensures.limits.1 ∙ c.in_ok-held.ensures.same.lines ∙ c.let_go.ensures.same.lines);
