@@ -75,9 +75,7 @@ pub enum LinesFault {
     Read,
     /// This line, counted from 1, has more bytes than a line may have.
     #[error("line {line} is long")]
-    Long {
-        line: u32,
-    },
+    Long { line: u32 },
     /// A byte follows the last line that there may be.
     #[error("there are too many lines")]
     Many,

@@ -16,9 +16,9 @@ returns-clause-next g c text told =
 pub returns-clause-moved : goal.returns-clause-moved
 returns-clause-moved g c = record {
   behind = λ text told.
-    let it = filled_ahead g.S.Source.left _ _ _ _ _ text c.let_go.ensures.held told c.in_ok-held.ensures.taken in
-    let none : c.in_ok-held.held ≡ Rest → it.0 ≡ [] = λ e. same_rest _ _ it.1 (c.in_ok-held.ensures.rest (ap Ok e) it.3 it.4) in
-    on_ok c.show.result _ _ (λ moved. ahead_then (unread c.show.new.self) _ it.0 (behind_line text) it.1 (moved ∙ ap behind_line it.2)) (c.show.ensures.behind it.0 none);
+      let it = filled_ahead g.S.Source.left _ _ _ _ _ text c.let_go.ensures.held told c.in_ok-held.ensures.taken in
+      let none : c.in_ok-held.held ≡ Rest → it.0 ≡ [] = λ e. same_rest _ _ it.1 (c.in_ok-held.ensures.rest (ap Ok e) it.3 it.4) in
+      on_ok c.show.result _ _ (λ moved. ahead_then (unread c.show.new.self) _ it.0 (behind_line text) it.1 (moved ∙ ap behind_line it.2)) (c.show.ensures.behind it.0 none);
   few = c.show.ensures.few;
   held = unread_held c.show.new.self;
   kept = λ text told fault. absurd (c.show.ensures.source fault);
