@@ -3,7 +3,7 @@ use Rattle.std.specs.Prelude.{ℕ, ◌≡◌, ◌≢◌, ◌+◌, ◌<◌, ◌�
 use Rattle.std.specs.Borrow.{Fml, Bor, MutBor}
 use Rattle.std.specs.Io.BufRead.{Rests}
 use Rattle.co_schedule.specs.LineText.{is_newline, behind_line}
-use Rattle.co_schedule.specs.Lines.{unread, ahead, lent_then}
+use Rattle.co_schedule.specs.Lines.{most_bytes, most_lines, lines_read, unread, ahead, lent_then}
 use Rattle.co_schedule.specs.declared.fault.LinesFault.{LinesFault}
 use Rattle.co_schedule.specs.declared.fault.LinesFault.TheVariants.{Read}
 use Rattle.co_schedule.specs.declared.lines.Lines.{Lines}
@@ -14,15 +14,15 @@ use Rattle.co_schedule.specs.contracts.lines.Lines.{the_row}
 -- ahead, and no whole line of it is held.
 pub record HasMoved {A : Type 0} (old : Lines) (left_old left_new : Option (List ℕ)) (result : Result A LinesFault) (new : Lines) : Type 0 where
   pub behind : (text : List ℕ) → ahead old left_old ≡ Some text → OnOk result (ahead new left_new ≡ Some (behind_line text))
-  pub few : OnOk result (length (unread new) ≤ new.line)
-  pub held : length (unread new) ≤ new.line + 1
+  pub few : OnOk result (length (unread new) ≤ most_bytes new)
+  pub held : length (unread new) ≤ most_bytes new + 1
   pub kept : (text : List ℕ) → ahead old left_old ≡ Some text → IsErrOf result Read → ahead new left_new ≡ Some text
   pub whole : IsErrOf result Read → position is_newline (unread new) ≡ None
-  pub limits : (new.line ≡ old.line) × (new.lines ≡ old.lines)
+  pub limits : (most_bytes new ≡ most_bytes old) × (most_lines new ≡ most_lines old)
 
 -- the same, and the line is counted
 abbrev pub HasRead : Lines → Option (List ℕ) → Option (List ℕ) → Result (Option (Bor (List ℕ))) LinesFault → Lines → Type 0
-HasRead old left_old left_new result new = HasMoved old left_old left_new result new × IfOk result (λ line. new.lent ≡ lent_then old.lent (option_copied line))
+HasRead old left_old left_new result new = HasMoved old left_old left_new result new × IfOk result (λ line. lines_read new ≡ lent_then (lines_read old) (option_copied line))
 
 -- so the reader stands once its line is no longer lent
 abbrev pub EndsAs : MutBor Lines → Option (List ℕ) → Option (List ℕ) → Result (Option (Bor (List ℕ))) LinesFault → Fml
@@ -30,5 +30,5 @@ EndsAs reader left_old left_new result = Rests the_row reader (HasRead reader.no
 
 -- where a whole line is held, or a byte behind the last line, the source is not asked
 pub record IsIdle {S : Type 0} (reader : Lines) (old new : S) : Type 0 where
-  pub line : (end : ℕ) → reader.lent < reader.lines → position is_newline (unread reader) ≡ Some end → new ≡ old
-  pub last : reader.lent ≡ reader.lines → unread reader ≢ [] → new ≡ old
+  pub line : (end : ℕ) → lines_read reader < most_lines reader → position is_newline (unread reader) ≡ Some end → new ≡ old
+  pub last : lines_read reader ≡ most_lines reader → unread reader ≢ [] → new ≡ old

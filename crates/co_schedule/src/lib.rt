@@ -1,4 +1,8 @@
-//! Schedule lines, both ways.
+//! Schedule lines, both ways, and the lines of a source.
+//!
+//! Each event and each head has one line (`one_line`). Reading a line gives what it spells, or the
+//! first fault from the left. `Lines` lends the lines of a source one at a time and never holds more
+//! than one of them.
 #![tactic(auto)]
 
 mod counts;

@@ -44,7 +44,7 @@ fn newline_in(bytes: &[u8]) -> Option<usize>
 
 impl Lines {
     ghost use Rattle.co_outside.specs.Faults.{HasRisen};
-    ghost use Rattle.co_schedule.specs.Lines.{unread, shown_line, ahead, IsRead, lent_then};
+    ghost use Rattle.co_schedule.specs.Lines.{most_bytes, most_lines, lines_read, unread, shown_line, ahead, next_of, IsRead, lent_then};
     ghost use Rattle.std.specs.Borrow.{sem};
     ghost use Rattle.co_schedule.specs.Next.{HasMoved, EndsAs, IsIdle};
     ghost use Rattle.co_schedule.specs.Filling.{IsGrown, IsTakenFrom, IsHeld, IsOfSource, HasSameLimits};
@@ -55,7 +55,7 @@ impl Lines {
         requires line { (1 ≤ line) × (line ≤ 16777216) }
         requires lines { (1 ≤ lines) × (lines ≤ 16777216) }
         ensures nothing { IfOk result (λ reader. unread reader ≡ []) }
-        ensures limits { IfOk result (λ reader. (reader.line ≡ line) × (reader.lines ≡ lines) × (reader.lent ≡ 0)) }
+        ensures limits { IfOk result (λ reader. (most_bytes reader ≡ line) × (most_lines reader ≡ lines) × (lines_read reader ≡ 0)) }
     {
         Ok(Lines {
             buffer: Vec::with_capacity(alloc, line as usize + 1)?,
@@ -262,7 +262,7 @@ impl Lines {
     /// newline of the last line that there may be, and else `Long` exactly where the line has more
     /// bytes than a line may have.
     pub fn next<'a, S: Source>(&'a mut self, source: &mut S) -> Result<Option<&'a [u8]>, LinesFault>
-        ensures next { (text : List ℕ) → ahead self.old (S.left source.old) ≡ Some text → MatchResult result (λ line. next_line self.old.line self.old.lines self.old.lent text ≡ Ok (option_copied line)) (IsNextFault (next_line self.old.line self.old.lines self.old.lent text)) }
+        ensures next { (text : List ℕ) → ahead self.old (S.left source.old) ≡ Some text → MatchResult result (λ line. next_of self.old text ≡ Ok (option_copied line)) (IsNextFault (next_of self.old text)) }
         ensures* ends { sem 𝓛 (EndsAs self.entry (S.left source.old) (S.left source.new) result) }
         ensures idle { IsIdle self.old source.old source.new }
         ensures counts { S.faults source.old ≤ S.faults source.new }

@@ -10,9 +10,7 @@ pub enum ItemFault {
     /// The line is the text of no item; the place is that of the first byte that is wrong, counted
     /// from 0.
     #[error("no item at place {at}")]
-    Text {
-        at: u32,
-    },
+    Text { at: u32 },
     /// There was no memory.
     #[error("out of memory")]
     Memory,

@@ -146,7 +146,10 @@ fn form_text(form: AnswerForm) -> &'static [u8]
 fn find_form(word: &[u8]) -> Option<AnswerForm>
     ensures { result ≡ form_named word.now }
 {
-    FORMS.iter().copied().find(|known| form_text(*known) == word)
+    FORMS
+        .iter()
+        .copied()
+        .find(|known| form_text(*known) == word)
 }
 
 /// The answers whose first word this is.
@@ -169,7 +172,10 @@ const MARKS: [MarkKind; 6] = [
 fn find_mark(word: &[u8]) -> Option<MarkKind>
     ensures { result ≡ mark_named word.now }
 {
-    MARKS.iter().copied().find(|known| mark_text(*known) == word)
+    MARKS
+        .iter()
+        .copied()
+        .find(|known| mark_text(*known) == word)
 }
 
 /// The kind of record whose word this is.
@@ -185,7 +191,10 @@ const CAUSES: [Cause; 3] = [Cause::Vote, Cause::Timer, Cause::Client];
 fn find_cause(word: &[u8]) -> Option<Cause>
     ensures { result ≡ cause_named word.now }
 {
-    CAUSES.iter().copied().find(|known| cause_text(*known) == word)
+    CAUSES
+        .iter()
+        .copied()
+        .find(|known| cause_text(*known) == word)
 }
 
 /// The cause whose word this is.

@@ -1,4 +1,7 @@
 //! The items of a transcript, both ways.
+//!
+//! Each item has one text (`one_text`). Reading a line gives the item whose text it is, or the place
+//! of the first fault from the left.
 #![tactic(auto)]
 
 mod fault;

@@ -187,11 +187,7 @@ fn down(words: &mut Words<'_>) -> Result<Answer, ReadFault>
 }
 
 // Reads an answer behind its first word.
-fn answer_of(
-    alloc: Global,
-    words: &mut Words<'_>,
-    form: AnswerForm,
-) -> Result<Answer, ReadFault>
+fn answer_of(alloc: Global, words: &mut Words<'_>, form: AnswerForm) -> Result<Answer, ReadFault>
     ensures found { IfOk result (λ answer. IsAnswer answer × (form_word form ∷ words.old ≡ answer_words answer)) }
     ensures fault { IfErr result (IsFirstFault (answer_places form) words.old) }
 {
@@ -269,12 +265,7 @@ fn read_line(alloc: Global, words: &mut Words<'_>) -> Result<ItemKind, ReadFault
     words.within(LONGEST_LINE)?;
     match words.form_or_members()? {
         None => Ok(ItemKind::Head(read_head_kinds(alloc, words)?)),
-        Some(form) => Ok(ItemKind::Event(read_event_fields(
-            alloc,
-            words,
-            NodeCounts::MOST,
-            form,
-        )?)),
+        Some(form) => Ok(ItemKind::Event(read_event_fields(alloc, words, NodeCounts::MOST, form)?)),
     }
 }
 
