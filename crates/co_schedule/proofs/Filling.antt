@@ -1,5 +1,5 @@
 -- How a reader of lines fills its buffer.
-use Rattle.std.proofs.Common.{◌≡◌, ℕ, ◌+◌, ◌-◌, ◌<◌, ◌≤◌, Bool, true, false, cond, List, [], ◌∷◌, ◌++◌, length, take, drop, Option, None, Some, refl, sym, ap, ◌∙◌, arith, ltb, eqb, append_assoc, length-append, eq-eqb, not}
+use Rattle.std.proofs.Common.{◌≡◌, ℕ, ◌+◌, ◌-◌, ◌<◌, ◌≤◌, Bool, true, false, cond, List, ◌++◌, length, take, drop, Option, None, Some, refl, sym, ap, ◌∙◌, arith, ltb, eqb, append_assoc, length-append, eq-eqb, not}
 use Rattle.std.specs.Prelude.{position}
 use Rattle.std.specs.List.{prefix_len, position_or_len}
 use Rattle.co_schedule.specs.Filling.{IsTakenFrom, IsGrown}

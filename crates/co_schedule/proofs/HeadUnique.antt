@@ -1,11 +1,11 @@
 -- No two heads have the same words.
-use Rattle.std.proofs.Common.{◌≡◌, ℕ, ◌≤◌, ◌<◌, ◌^◌, List, [], ◌∷◌, ◌++◌, get_or, drop, length, map, Option, Some, None, refl, sym, ap, subst, ◌∙◌, arith}
+use Rattle.std.proofs.Common.{◌≡◌, ℕ, ◌≤◌, List, [], ◌∷◌, ◌++◌, get_or, drop, length, map, Option, Some, None, refl, sym, ap, subst, ◌∙◌, arith}
 use Rattle.std.specs.Prelude.{decimal, codes}
 use Rattle.std.proofs.Math.Bridge.{le_prop}
 use Rattle.co_base.specs.declared.head.Head.{Head}
 use Rattle.co_base.specs.declared.head.Kind.{Kind}
 use Rattle.co_base.specs.declared.head.Kind.TheVariants.{Lock, Occ, Mv}
-use Rattle.co_schedule.specs.Words.{Word, words_of}
+use Rattle.co_schedule.specs.Words.{Word}
 use Rattle.co_schedule.specs.Spelling.{kind_word, head_words, head_text}
 use Rattle.co_schedule.specs.Grammar.{kind_named}
 use Rattle.co_schedule.proofs.Numbers.{value_of-decimal}

@@ -1,5 +1,5 @@
 -- What is next where a buffer and what is left lie ahead.
-use Rattle.std.proofs.Common.{◌≡◌, ℕ, ◌+◌, ◌<◌, ◌≤◌, Bool, true, false, List, [], ◌∷◌, ◌++◌, length, take, drop, Option, None, Some, Ok, Err, refl, sym, ap, ◌∙◌, arith, ltb, not, length-append}
+use Rattle.std.proofs.Common.{◌≡◌, ℕ, ◌+◌, ◌<◌, ◌≤◌, true, false, List, [], ◌∷◌, ◌++◌, length, take, drop, Option, None, Some, Ok, Err, refl, sym, ap, ◌∙◌, arith, ltb, not, length-append}
 use Rattle.std.specs.Prelude.{position, option_map, OnOk, Result}
 use Rattle.std.specs.List.{position_or_len}
 use Rattle.std.proofs.lemmas.List.{take-append-le, drop-append-le, length-take-le, length-drop}
@@ -7,7 +7,7 @@ use Rattle.std.proofs.lemmas.List.Sums.{prefix_len-le-length}
 use Rattle.std.proofs.lemmas.Bool.{lt-ltb, le-ltb}
 use Rattle.co_schedule.specs.LineText.{is_newline, first_line, behind_line, next_line, short_line}
 use Rattle.co_schedule.specs.declared.fault.LinesFault.TheVariants.{Long, Many}
-use Rattle.co_schedule.specs.Lines.{unread, ahead}
+use Rattle.co_schedule.specs.Lines.{unread}
 use Rattle.co_schedule.specs.Filling.{IsTakenFrom}
 use Rattle.co_schedule.specs.declared.lines.Lines.{Lines}
 use Rattle.co_schedule.proofs.Filling.{position_some, position_none, passes_behind, passes_before}

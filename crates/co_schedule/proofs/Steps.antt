@@ -1,12 +1,11 @@
 -- One place of a line.
-use Rattle.std.proofs.Common.{◌≡◌, ℕ, ◌+◌, Bool, true, false, cond, List, [], ◌∷◌, length, map, Option, None, Some, Result, Ok, Err, refl, sym, ap, ◌∙◌, ◌||◌}
+use Rattle.std.proofs.Common.{◌≡◌, Bool, true, false, cond, List, [], ◌∷◌, length, map, Option, None, Some, Ok, Err, refl, sym, ap, ◌∙◌, ◌||◌}
 use Rattle.std.specs.Prelude.{find, IfSome, is_some}
 use Rattle.std.specs.List.{list_any}
 use Rattle.std.specs.Str.{bytes_eq}
 use Rattle.std.proofs.lemmas.Slice.Eq.{bytes_eq-Decides}
 use Rattle.co_schedule.specs.Words.{Word, spaced}
 use Rattle.co_schedule.specs.Places.{Want, is_in, kind_at, kind_of, step}
-use Rattle.co_schedule.specs.declared.fault.Mistake.{Mistake}
 
 -- a word that is wanted is taken
 pub step_takes : (want : Want) (word : Word) (words : List Word) → is_in want word ≡ true → step want (word ∷ words) ≡ Ok (word, words)

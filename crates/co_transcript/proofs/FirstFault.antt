@@ -1,15 +1,14 @@
 -- How items are read.
-use Rattle.std.proofs.Common.{◌≡◌, ℕ, zero, suc, ◌+◌, ◌-◌, ◌<◌, ◌≤◌, List, [], ◌∷◌, ◌++◌, length, Option, None, Some, Result, Ok, Err, refl, sym, ap, ◌∙◌, arith, append-nil}
-use Rattle.std.specs.Prelude.{IfErr, IfOk}
+use Rattle.std.proofs.Common.{◌≡◌, ℕ, suc, ◌+◌, ◌-◌, ◌<◌, ◌≤◌, List, [], ◌++◌, length, Option, None, Some, Ok, refl, sym, ap, ◌∙◌, arith}
 use Rattle.co_base.specs.declared.row.Row.{Row}
 use Rattle.co_base.specs.RowOrder.{IsInKeyOrder}
 use Rattle.co_schedule.specs.Words.{Word}
-use Rattle.co_schedule.specs.Places.{Want, Places, nothing, place, value, step, first_fault, go_on, ◌▸◌}
+use Rattle.co_schedule.specs.Places.{Want, Places, nothing, place, step, first_fault, go_on}
 use Rattle.co_schedule.specs.Faults.{IsFirstFault}
 use Rattle.co_schedule.specs.declared.fault.ReadFault.{ReadFault}
 use Rattle.co_schedule.specs.declared.fault.ReadFault.TheVariants as read
 use Rattle.co_transcript.specs.Spelling.{row_words}
-use Rattle.co_transcript.specs.Grammar.{row_key, row_places, rows_places}
+use Rattle.co_transcript.specs.Grammar.{row_places, rows_places}
 use Rattle.co_transcript.specs.Items.{AreRows}
 use Rattle.co_transcript.specs.Rows.{last_key, IsReadingRows}
 use Rattle.co_transcript.specs.Faults.{IsStepFault}

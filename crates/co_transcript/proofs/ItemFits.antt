@@ -1,20 +1,18 @@
 -- The words of each item fit the places of items.
-use Rattle.std.proofs.Common.{◌≡◌, ℕ, zero, suc, ◌+◌, ◌*◌, ◌≤◌, ◌<◌, true, false, List, [], ◌∷◌, ◌++◌, length, map, Option, None, Some, refl, sym, ap, subst, ◌∙◌, arith, length-append}
+use Rattle.std.proofs.Common.{◌≡◌, ℕ, ◌+◌, ◌*◌, ◌≤◌, true, List, [], ◌∷◌, ◌++◌, length, map, None, Some, refl, sym, ap, subst, arith, length-append}
 use Rattle.std.specs.Prelude.{decimal, codes}
 use Rattle.std.specs.Ordering.{is_lt}
-use Rattle.std.specs.Str.Parse.{digits_value}
 use Rattle.std.specs.List.Sorted.{IsStrictlySortedBy}
 use Rattle.std.specs.List.{AllByRecursion}
 use Rattle.std.specs.declared.cmp.Ordering.TheVariants.{Less}
 use Rattle.std.proofs.lemmas.Fmt.{length-decimal-le_succ}
-use Rattle.co_base.specs.Letters.{IsText, most_key_bytes, most_value_bytes}
+use Rattle.co_base.specs.Letters.{most_key_bytes}
 use Rattle.co_base.specs.Order.{key_cmp}
 use Rattle.co_base.specs.RowOrder.{IsInKeyOrder}
 use Rattle.co_base.specs.declared.head.Head.{Head}
 use Rattle.co_base.specs.declared.head.Kind.{Kind}
 use Rattle.co_base.specs.declared.head.Kind.TheVariants.{Lock, Occ, Mv}
 use Rattle.co_base.specs.declared.row.Row.{Row}
-use Rattle.co_base.specs.declared.reply.Reply.{Reply}
 use Rattle.co_base.specs.declared.reply.Reply.TheVariants as reply
 use Rattle.co_base.specs.declared.mark.Mark.{Mark}
 use Rattle.co_base.specs.declared.mark.MarkKind.{MarkKind}
@@ -28,8 +26,8 @@ use Rattle.co_message.specs.declared.event.Event.TheVariants as event
 use Rattle.co_message.specs.declared.item.Item.{Item}
 use Rattle.co_message.specs.declared.item.ItemKind.{ItemKind}
 use Rattle.co_message.specs.declared.item.ItemKind.TheVariants as item
-use Rattle.co_schedule.specs.Words.{Word, behind, spaced}
-use Rattle.co_schedule.specs.Spelling.{kind_word, event_words, head_words, line_text, head_text}
+use Rattle.co_schedule.specs.Words.{Word, behind}
+use Rattle.co_schedule.specs.Spelling.{kind_word, event_words, line_text, head_text}
 use Rattle.co_schedule.specs.Places.{Want, key, key_above, value, one_of, is_in, is_text, Places}
 use Rattle.co_schedule.specs.View.{IsKey, IsEventFor}
 use Rattle.co_schedule.proofs.Numbers.{and_true, value_of-decimal}
@@ -38,8 +36,8 @@ use Rattle.co_schedule.proofs.Fitting.{Taken, Fits, number_taken, member_taken, 
 use Rattle.co_schedule.proofs.Complete.{txn_taken, count_taken, message_fits, event_fits}
 use Rattle.co_schedule.proofs.Heads.{head_fits}
 use Rattle.co_transcript.specs.Spelling.{mark_word, cause_word, row_words, answer_words, mark_words, kind_words, item_words}
-use Rattle.co_transcript.specs.Grammar.{row_key, rows_places, reply_places, log_places, line_places, all_marks, all_causes, item_places, told_places}
-use Rattle.co_transcript.specs.Items.{AreRows, IsReply, IsAnswer, IsMark, IsTold, IsItem}
+use Rattle.co_transcript.specs.Grammar.{rows_places, reply_places, log_places, line_places, all_marks, all_causes, item_places}
+use Rattle.co_transcript.specs.Items.{AreRows, IsAnswer, IsMark, IsTold, IsItem}
 
 -- every number of an item
 number_fits : (n : ℕ) → n ≤ 4294967295 → Taken (Rattle.co_schedule.specs.Places.number 0 4294967295) (decimal n)

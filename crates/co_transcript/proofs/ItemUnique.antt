@@ -1,12 +1,9 @@
 -- No two items have the same words.
-use Rattle.std.proofs.Common.{◌≡◌, ℕ, ◌≤◌, ◌<◌, ◌^◌, Bool, true, false, cond, List, [], ◌∷◌, ◌++◌, get_or, drop, length, map, Option, Some, None, refl, sym, ap, subst, ◌∙◌, arith, ◌==◌}
+use Rattle.std.proofs.Common.{◌≡◌, ℕ, Bool, true, false, List, [], ◌∷◌, get_or, drop, Option, Some, None, refl, sym, ap, ◌∙◌, arith}
 use Rattle.std.specs.Prelude.{decimal, codes, if◌then◌else◌}
 use Rattle.std.specs.Str.{bytes_eq}
 use Rattle.co_base.specs.declared.head.Head.{Head}
-use Rattle.co_base.specs.declared.head.Kind.{Kind}
-use Rattle.co_base.specs.declared.head.Kind.TheVariants.{Lock, Occ, Mv}
 use Rattle.co_base.specs.declared.row.Row.{Row}
-use Rattle.co_base.specs.declared.reply.Reply.{Reply}
 use Rattle.co_base.specs.declared.reply.Reply.TheVariants as reply
 use Rattle.co_base.specs.declared.mark.Mark.{Mark}
 use Rattle.co_base.specs.declared.mark.MarkKind.{MarkKind}
@@ -22,21 +19,19 @@ use Rattle.co_message.specs.declared.item.Item.{Item}
 use Rattle.co_message.specs.declared.item.ItemKind.{ItemKind}
 use Rattle.co_message.specs.declared.item.ItemKind.TheVariants as item
 use Rattle.co_schedule.specs.Words.{Word}
-use Rattle.co_schedule.specs.Spelling.{kind_word, event_words, head_words, message_words, node_word}
+use Rattle.co_schedule.specs.Spelling.{event_words, head_words, message_words}
 use Rattle.co_schedule.specs.View.{IsMessageFor}
 use Rattle.co_schedule.proofs.Numbers.{value_of-decimal}
 use Rattle.co_schedule.proofs.Unique.{amount, named, node_from, node_same, message_back, message_back-words}
 use Rattle.co_schedule.proofs.EventLaws.{same_event}
 use Rattle.co_schedule.proofs.HeadUnique.{head_same}
-use Rattle.co_transcript.specs.Spelling.{mark_word, cause_word, row_words, answer_words, mark_words, kind_words, item_words}
+use Rattle.co_transcript.specs.Spelling.{mark_word, row_words, answer_words, mark_words, kind_words, item_words}
 use Rattle.co_transcript.specs.Grammar.{form_named, mark_named, cause_named, told_named}
-use Rattle.co_schedule.specs.Grammar.{kind_named}
-use Rattle.std.proofs.Math.Bridge.{le_prop}
 use Rattle.co_transcript.specs.declared.form.ToldForm.{ToldForm}
 use Rattle.co_transcript.specs.declared.form.ToldForm.TheVariants as told
 use Rattle.co_transcript.specs.declared.form.AnswerForm.{AnswerForm}
 use Rattle.co_transcript.specs.declared.form.AnswerForm.TheVariants as form
-use Rattle.co_transcript.specs.Items.{IsReply, IsAnswer, IsMark, IsTold, IsItem}
+use Rattle.co_transcript.specs.Items.{IsAnswer, IsMark, IsTold, IsItem}
 
 at : List Word → ℕ → Word
 at words k = get_or words k []

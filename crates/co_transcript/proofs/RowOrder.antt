@@ -1,11 +1,10 @@
 -- Records in the order of their keys.
-use Rattle.std.proofs.Common.{◌≡◌, ℕ, ◌+◌, true, false, Bool, ◌&&◌, List, [], ◌∷◌, ◌++◌, length, map, Option, None, Some, refl, sym, ap, ◌∙◌, arith, append_assoc}
-use Rattle.std.specs.Ordering.{is_lt, nat_cmp}
+use Rattle.std.proofs.Common.{◌≡◌, true, List, [], ◌∷◌, ◌++◌, map, Option, None, Some, refl, ap}
+use Rattle.std.specs.Ordering.{is_lt}
 use Rattle.std.specs.List.{AllByRecursion}
 use Rattle.std.specs.List.Sorted.{IsStrictlySortedBy}
 use Rattle.std.specs.declared.cmp.Ordering.{Ordering}
 use Rattle.std.specs.declared.cmp.Ordering.TheVariants.{Less, Equal, Greater}
-use Rattle.std.specs.Cmp.{IsTotalOrder}
 use Rattle.std.proofs.lemmas.Cmp.{nat_list_cmp_total}
 use Rattle.co_base.specs.declared.row.Row.{Row}
 use Rattle.co_base.specs.Order.{key_cmp}
@@ -18,7 +17,7 @@ use Rattle.co_schedule.proofs.Numbers.{both}
 use Rattle.co_transcript.specs.Spelling.{row_words}
 use Rattle.co_transcript.specs.Grammar.{row_key}
 use Rattle.co_transcript.specs.Items.{AreRows}
-use Rattle.co_transcript.specs.Rows.{last_key, last_key_or}
+use Rattle.co_transcript.specs.Rows.{last_key_or}
 
 -- the key is above this one, if there is one
 abbrev pub IsAbove : Option Word → Word → Type 0

@@ -1,5 +1,5 @@
 -- The place of the first fault of a line.
-use Rattle.std.specs.Prelude.{ℕ, ◌-◌, ◌≡◌, List, length, Option, None, Some, option_map, Err}
+use Rattle.std.specs.Prelude.{ℕ, ◌-◌, ◌≡◌, List, length, Option, Some, option_map, Err}
 use Rattle.co_schedule.specs.Words.{Word, words_of}
 use Rattle.co_schedule.specs.Places.{Want, step, first_fault}
 use Rattle.co_schedule.specs.declared.fault.LineKind.{LineKind}

@@ -1,6 +1,6 @@
 -- The items that a transcript has lines for.
-use Rattle.std.specs.Prelude.{ℕ, ◌≤◌, List, [], ◌∷◌, length, Option, Some, None}
-use Rattle.co_base.specs.Letters.{IsText, most_key_bytes, most_value_bytes}
+use Rattle.std.specs.Prelude.{◌≤◌, List, [], ◌∷◌, length, Some, None}
+use Rattle.co_base.specs.Letters.{IsText, most_value_bytes}
 use Rattle.co_base.specs.RowOrder.{IsInKeyOrder}
 use Rattle.co_base.specs.declared.row.Row.{Row}
 use Rattle.co_base.specs.declared.reply.Reply.{Reply}

@@ -1,5 +1,5 @@
 -- The one spelling of each item, as the list of its words.
-use Rattle.std.specs.Prelude.{ℕ, List, [], ◌∷◌, ◌++◌, length, Option, Some, None, codes, decimal}
+use Rattle.std.specs.Prelude.{ℕ, List, [], ◌∷◌, ◌++◌, length, Some, None, codes, decimal}
 use Rattle.co_base.specs.declared.row.Row.{Row}
 use Rattle.co_base.specs.declared.reply.Reply.{Reply}
 use Rattle.co_base.specs.declared.reply.Reply.TheVariants as reply

@@ -1,13 +1,10 @@
 use Rattle.std.proofs.Common.{◌≡◌, List, [], ◌∷◌, ◌++◌, Some, sym, ap, subst, ◌∙◌}
-use Rattle.co_base.specs.declared.row.Row.{Row}
-use Rattle.co_base.specs.RowOrder.{IsInKeyOrder}
 use Rattle.co_base.specs.Letters.{IsText, most_key_bytes}
 use Rattle.co_schedule.specs.Words.{Word}
 use Rattle.co_schedule.proofs.Texts.{IsText-is_text}
 use Rattle.co_transcript.specs.Spelling.{row_words}
-use Rattle.co_transcript.specs.Rows.{last_key, last_key_or}
-use Rattle.co_transcript.specs.Items.{AreRows}
-use Rattle.co_transcript.proofs.RowOrder.{IsAbove, above_wanted, in_order-push, last_key-push, row_words-push, AreRows-push}
+use Rattle.co_transcript.specs.Rows.{last_key}
+use Rattle.co_transcript.proofs.RowOrder.{above_wanted, in_order-push, last_key-push, row_words-push, AreRows-push}
 use Rattle.co_transcript.proofs.reading.add_row.Goals as goal
 
 pub push-requires : goal.push-requires

@@ -1,5 +1,5 @@
-use Rattle.std.proofs.Common.{◌≡◌, ◌++◌, Ok, Some, List, ℕ, [], Result, refl, sym, ap, subst, ◌∙◌}
-use Rattle.co_schedule.specs.LineText.{next_line, behind_line}
+use Rattle.std.proofs.Common.{◌≡◌, Ok, List, ℕ, [], Result, ap, subst, ◌∙◌}
+use Rattle.co_schedule.specs.LineText.{behind_line}
 use Rattle.co_schedule.specs.Lines.{IsRead, unread}
 use Rattle.co_schedule.specs.declared.fault.LinesFault.{LinesFault}
 use Rattle.co_schedule.specs.declared.lines.Held.TheVariants.{Rest}

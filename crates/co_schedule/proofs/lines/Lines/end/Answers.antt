@@ -1,4 +1,4 @@
-use Rattle.std.proofs.Common.{◌<◌, length, drop, arith}
+use Rattle.std.proofs.Common.{◌<◌, length, arith}
 use Rattle.std.proofs.lemmas.Bool.Decides.{nat_tests}
 use Rattle.co_schedule.specs.Lines.{unread}
 use Rattle.co_schedule.proofs.NextLine.{next_many, ahead_held}

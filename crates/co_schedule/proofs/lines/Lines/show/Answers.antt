@@ -1,4 +1,4 @@
-use Rattle.std.proofs.Common.{◌≡◌, ◌++◌, Ok, Some, List, ℕ, refl, take, sym, ap, ◌∙◌}
+use Rattle.std.proofs.Common.{◌≡◌, Ok, Some, refl, take, sym, ap, ◌∙◌}
 use Rattle.co_schedule.specs.Lines.{shown_line}
 use Rattle.co_schedule.proofs.NextLine.{next_held, next_long, behind_line_held}
 use Rattle.co_schedule.proofs.lines.Lines.show.Goals as goal

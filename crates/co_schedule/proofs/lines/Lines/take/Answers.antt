@@ -1,4 +1,4 @@
-use Rattle.std.proofs.Common.{◌≡◌, List, ℕ, ◌++◌, ap, sym, ◌∙◌, Some}
+use Rattle.std.proofs.Common.{List, ℕ, ◌++◌, ap, ◌∙◌, Some}
 use Rattle.co_schedule.proofs.Filling.{piece_taken, nothing_taken}
 use Rattle.co_schedule.proofs.lines.Lines.take.Goals as goal
 

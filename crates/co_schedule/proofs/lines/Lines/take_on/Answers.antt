@@ -1,7 +1,5 @@
-use Rattle.std.proofs.Common.{◌≡◌, ◌+◌, ◌++◌, List, ℕ, Some, None, length, ap, sym, ◌∙◌, arith}
-use Rattle.std.specs.Prelude.{position, MatchBool}
+use Rattle.std.proofs.Common.{arith}
 use Rattle.co_schedule.specs.LineText.{is_newline}
-use Rattle.co_schedule.specs.Filling.{IsGrown}
 use Rattle.co_schedule.proofs.Filling.{grown_found, grown_none}
 use Rattle.co_schedule.proofs.lines.Lines.take_on.Goals as goal
 
