@@ -2,7 +2,7 @@
 use Rattle.std.proofs.Common.{◌≡◌, ℕ, ◌+◌, ◌-◌, ◌<◌, ◌≤◌, Bool, true, false, cond, List, ◌++◌, length, take, drop, Option, None, Some, refl, sym, ap, ◌∙◌, arith, ltb, eqb, append_assoc, length-append, eq-eqb, not}
 use Rattle.std.specs.Prelude.{position}
 use Rattle.std.specs.List.{prefix_len, position_or_len}
-use Rattle.co_schedule.specs.Filling.{IsTakenFrom, IsGrown}
+use Rattle.co_schedule.specs.Filling.{IsGrown}
 use Rattle.std.proofs.lemmas.List.{take-append-drop, take_rest}
 use Rattle.std.proofs.Math.Seq.{drop-append_seam}
 use Rattle.std.proofs.lemmas.List.Folds.{prefix_len-append}
@@ -17,13 +17,6 @@ piece_taken told piece held new bytes front rest e =
 -- nothing was taken
 pub nothing_taken : (told : Option (List ℕ)) (held bytes : List ℕ) → told ≡ Some (drop 0 bytes) → (rest : List ℕ) × (told ≡ Some rest) × (held ++ rest ≡ held ++ bytes)
 nothing_taken told held bytes e = (bytes, e, refl)
-
--- taken twice is taken
-pub taken_then : {S : Type 0} (left : S → Option (List ℕ)) (first second third : S) (a b c : List ℕ) → IsTakenFrom left first second a b → IsTakenFrom left second third b c → IsTakenFrom left first third a c
-taken_then left first second third a b c one two bytes told =
-    let middle = one bytes told in
-    let last = two middle.0 middle.1 in
-    (last.0, last.1, last.2 ∙ middle.2)
 
 placed : (b : Bool) (n i : ℕ) → cond b (Some n) None ≡ Some i → (b ≡ true) × (n ≡ i)
 placed true n i e = (refl, cc)

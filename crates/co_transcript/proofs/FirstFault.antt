@@ -1,9 +1,9 @@
 -- How items are read.
-use Rattle.std.proofs.Common.{◌≡◌, ℕ, suc, ◌+◌, ◌-◌, ◌<◌, ◌≤◌, List, [], ◌++◌, length, Option, None, Some, Ok, refl, sym, ap, ◌∙◌, arith}
+use Rattle.std.proofs.Common.{◌≡◌, ℕ, suc, ◌+◌, ◌-◌, ◌<◌, List, [], ◌++◌, length, Option, None, Some, Ok, refl, sym, ap, ◌∙◌, arith}
 use Rattle.co_base.specs.declared.row.Row.{Row}
 use Rattle.co_base.specs.RowOrder.{IsInKeyOrder}
 use Rattle.co_schedule.specs.Words.{Word}
-use Rattle.co_schedule.specs.Places.{Want, Places, nothing, place, step, first_fault, go_on}
+use Rattle.co_schedule.specs.Places.{Want, Places, place, step, first_fault, go_on}
 use Rattle.co_schedule.specs.Faults.{IsFirstFault}
 use Rattle.co_schedule.specs.declared.fault.ReadFault.{ReadFault}
 use Rattle.co_schedule.specs.declared.fault.ReadFault.TheVariants as read
@@ -11,17 +11,11 @@ use Rattle.co_transcript.specs.Spelling.{row_words}
 use Rattle.co_transcript.specs.Grammar.{row_places, rows_places}
 use Rattle.co_transcript.specs.Items.{AreRows}
 use Rattle.co_transcript.specs.Rows.{last_key, IsReadingRows}
-use Rattle.co_transcript.specs.Faults.{IsStepFault}
 
 -- the first fault of other words is the same one
 pub same_fault : (p q : Places) (a b : List Word) (fault : ReadFault) → first_fault p a ≡ first_fault q b → IsFirstFault q b fault → IsFirstFault p a fault
 same_fault p q a b (read.Mistake mistake) e it = e ∙ it
 same_fault p q a b read.Memory e it = tt
-
--- the fault of one place is the first fault
-pub step_fault : (want : Want) (next : Word → Places) (words : List Word) (fault : ReadFault) → IsStepFault want words fault → IsFirstFault (place want next) words fault
-step_fault want next words (read.Mistake mistake) it = ap (λ r. go_on r (λ w ws. first_fault (next w) ws)) it
-step_fault want next words read.Memory it = tt
 
 -- a word that is taken leaves the faults of those behind it
 pub step_taken : (want : Want) (next : Word → Places) (words : List Word) (word : Word) (rest : List Word) → step want words ≡ Ok (word, rest) → first_fault (place want next) words ≡ first_fault (next word) rest
@@ -47,11 +41,6 @@ rows_step count old mid new rows rows_new before name it some same last more tex
   order = order;
   faults = sym taken ∙ ap (λ p. first_fault p mid) (sym (rows_places-more count rows rows_new before some more)) ∙ it.faults;
 }
-
-pub rows_end : (count : ℕ) (old mid : List Word) (rows : List Row) (before : Option Word) → IsReadingRows count old mid rows before → count ≤ length rows → (length rows ≡ count) × (first_fault nothing mid ≡ first_fault (rows_places count None) old)
-rows_end count old mid rows before it all =
-    let none : count - length rows ≡ 0 = omega arith in
-    (omega (arith, it.few), ap (λ n. first_fault (rows_places n before) mid) (sym none) ∙ it.faults)
 
 -- the first fault of the next record is that of all
 pub rows_fault : (count : ℕ) (old mid : List Word) (rows : List Row) (before : Option Word) (fault : ReadFault) → IsReadingRows count old mid rows before → length rows < count → ((next : Option Word → Places) → IsFirstFault (row_places before next) mid fault) → IsFirstFault (rows_places count None) old fault

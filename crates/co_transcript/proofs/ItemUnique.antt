@@ -1,5 +1,5 @@
 -- No two items have the same words.
-use Rattle.std.proofs.Common.{◌≡◌, ℕ, Bool, true, false, List, [], ◌∷◌, get_or, drop, Option, Some, None, refl, sym, ap, ◌∙◌, arith}
+use Rattle.std.proofs.Common.{◌≡◌, Bool, true, false, List, [], ◌∷◌, get_or, drop, Option, Some, None, refl, sym, ap, ◌∙◌, arith}
 use Rattle.std.specs.Prelude.{decimal, codes, if◌then◌else◌}
 use Rattle.std.specs.Str.{bytes_eq}
 use Rattle.co_base.specs.declared.head.Head.{Head}
@@ -32,9 +32,6 @@ use Rattle.co_transcript.specs.declared.form.ToldForm.TheVariants as told
 use Rattle.co_transcript.specs.declared.form.AnswerForm.{AnswerForm}
 use Rattle.co_transcript.specs.declared.form.AnswerForm.TheVariants as form
 use Rattle.co_transcript.specs.Items.{IsAnswer, IsMark, IsTold, IsItem}
-
-at : List Word → ℕ → Word
-at words k = get_or words k []
 
 abbrev rows_back : List Word → List Row
 rows_back [] = []

@@ -33,9 +33,6 @@ pub above_wanted : (before : Option Word) (key : Word) → is_in (row_key before
 above_wanted None key e = tt
 above_wanted (Some before) key e = less (key_cmp before key) (both (is_text most_key_bytes key) (is_lt (key_cmp before key)) e).1
 
-keys : List Row → List Word
-keys rows = map (λ r. r.key) rows
-
 -- what is below the first key, and the last key below another, is below that one
 below_all : (low key : Word) (rows : List Row) → IsInKeyOrder rows → AllByRecursion (λ y. key_cmp low y ≡ Less) (map (λ r. r.key) rows) → IsAbove (last_key_or (Some low) rows) key → key_cmp low key ≡ Less
 unfolding IsStrictlySortedBy
