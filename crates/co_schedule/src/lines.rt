@@ -1,5 +1,5 @@
 //! The lines of a source, one at a time.
-ghost use Rattle.std.specs.Prelude.{◌≡◌, ◌<◌, ◌≤◌, ◌+◌, ◌++◌, [], List, ℕ, Some, None, length, position, Ok, OnOk, OnErr, IfOk, IfErr, IsErrOf, IfSome, IfNone, ◌≢◌, MatchResult, MatchBool, false, is_some, if◌then◌else◌, option_copied};
+ghost use Rattle.std.specs.Prelude.{◌≡◌, ◌<◌, ◌≤◌, ◌+◌, ◌++◌, [], List, ℕ, Some, None, length, position, Ok, OnOk, OnErr, IfOk, IfErr, IsErrOf, IfSome, IfNone, ◌≢◌, MatchResult, MatchBool, false, option_copied};
 ghost use Rattle.std.specs.Option.{ForSome};
 ghost use Rattle.co_schedule.specs.LineText.{is_newline, behind_line, next_line, IsNextFault};
 

@@ -1,11 +1,10 @@
 //! The fields of an item, each read from the front of what is left.
-ghost use Rattle.std.specs.Prelude.{◌≡◌, ◌∷◌, [], map, Ok, Err, Some, None, IfOk, IfErr, OnOk, option_copied, true};
+ghost use Rattle.std.specs.Prelude.{◌≡◌, ◌∷◌, map, Ok, Err, Some, None, IfOk, IfErr, option_copied, true};
 ghost use Rattle.co_base.specs.Letters.{IsText, most_key_bytes, most_value_bytes};
-ghost use Rattle.co_schedule.specs.Places.{step, one_of, nothing, value, key, first_fault, is_in, is_text};
-ghost use Rattle.co_schedule.specs.Faults.{IsFirstFault};
+ghost use Rattle.co_schedule.specs.Places.{step, one_of, value, key, is_in, is_text};
 ghost use Rattle.co_transcript.specs.Faults.{IsStepFault};
 ghost use Rattle.co_transcript.specs.Spelling.{mark_word, cause_word};
-ghost use Rattle.co_transcript.specs.Grammar.{form_word, form_named, all_forms, mark_named, all_marks, cause_named, all_causes, told_word, told_named, all_told, row_key};
+ghost use Rattle.co_transcript.specs.Grammar.{form_word, form_named, all_forms, all_marks, all_causes, told_word, told_named, all_told, row_key};
 
 use crate::form::{AnswerForm, ToldForm, cause_of, form_of, mark_of, told_of};
 use co_base::{Key, MarkKind, Value};

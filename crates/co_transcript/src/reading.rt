@@ -1,16 +1,13 @@
 //! Lines as items.
-ghost use Rattle.std.specs.Prelude.{◌≡◌, ◌≤◌, ◌+◌, ◌++◌, ◌∷◌, [], ℕ, List, length, Ok, Some, None, IfOk, IfErr, OnOk, OnErr, MatchResult, codes, decimal, option_copied, Option};
-ghost use Rattle.co_base.specs.declared.row.Row.{Row};
+ghost use Rattle.std.specs.Prelude.{◌≡◌, ◌≤◌, ◌+◌, ◌++◌, ◌∷◌, [], length, Ok, Some, None, IfOk, IfErr, OnOk, MatchResult, codes, decimal, option_copied, Option};
 ghost use Rattle.co_base.specs.RowOrder.{IsInKeyOrder};
 ghost use Rattle.co_message.specs.declared.item.Item.{Item};
 ghost use Rattle.co_schedule.specs.Words.{Word};
-ghost use Rattle.co_schedule.specs.Places.{Places, first_fault, nothing, one_of, value, key, number, member, node, ◌▸◌};
+ghost use Rattle.co_schedule.specs.Places.{Places, first_fault, nothing, one_of, key, ◌▸◌};
 ghost use Rattle.co_schedule.specs.Grammar as line;
-ghost use Rattle.co_schedule.specs.Spelling.{message_words};
 ghost use Rattle.co_schedule.specs.Faults.{IsFirstFault};
-ghost use Rattle.co_schedule.specs.View.{IsMessageFor};
 ghost use Rattle.co_transcript.specs.Spelling.{row_words, answer_words, mark_words, kind_words, item_words, item_text};
-ghost use Rattle.co_transcript.specs.Grammar.{form_word, answer_places, rows_places, row_places, lost_or_stale, reply_places, log_places, line_places, told_word, told_places, item_places};
+ghost use Rattle.co_transcript.specs.Grammar.{form_word, answer_places, rows_places, row_places, reply_places, log_places, line_places, told_word, told_places, item_places};
 ghost use Rattle.co_transcript.specs.Items.{IsAnswer, IsMark, IsTold, IsItem, AreRows};
 ghost use Rattle.co_transcript.specs.Rows.{last_key};
 ghost use Rattle.co_transcript.specs.Faults.{IsTextFault, place_of};
