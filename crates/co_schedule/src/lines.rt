@@ -178,6 +178,7 @@ impl Lines {
         requires holds { IsHeld self.old held }
         ensures next { (rest : List ℕ) → (held ≡ Held.Rest → rest ≡ []) → IsRead (next_line self.old.line self.old.lines self.old.lent (self.old.buffer.items ++ rest)) self.new result }
         ensures behind { (rest : List ℕ) → (held ≡ Held.Rest → rest ≡ []) → OnOk result (unread self.new ++ rest ≡ behind_line (self.old.buffer.items ++ rest)) }
+        ensures fits { OnOk result (IfSome (shown_line self.new) (λ line. length line ≤ self.old.line)) }
         ensures few { OnOk result (length (unread self.new) ≤ self.new.line) }
         ensures limits { (self.new.line ≡ self.old.line) × (self.new.lines ≡ self.old.lines) }
         ensures counted { OnOk result (self.new.lent ≡ lent_then self.old.lent (shown_line self.new)) }
@@ -232,6 +233,7 @@ impl Lines {
         ensures next { (text : List ℕ) → ahead self.old (S.left source.old) ≡ Some text → IsRead (next_line self.old.line self.old.lines self.old.lent text) self.new result }
         ensures moved { HasMoved self.old (S.left source.old) (S.left source.new) result self.new }
         ensures counted { OnOk result (self.new.lent ≡ lent_then self.old.lent (shown_line self.new)) }
+        ensures fits { OnOk result (IfSome (shown_line self.new) (λ line. length line ≤ self.old.line)) }
         ensures idle { IsIdle self.old source.old source.new }
         ensures counts { S.faults source.old ≤ S.faults source.new }
         ensures read { IsErrOf result LinesFault.Read → HasRisen (S.faults source.old) (S.faults source.new) }
@@ -263,6 +265,7 @@ impl Lines {
     /// bytes than a line may have.
     pub fn next<'a, S: Source>(&'a mut self, source: &mut S) -> Result<Option<&'a [u8]>, LinesFault>
         ensures next { (text : List ℕ) → ahead self.old (S.left source.old) ≡ Some text → MatchResult result (λ line. next_of self.old text ≡ Ok (option_copied line)) (IsNextFault (next_of self.old text)) }
+        ensures fits { IfOk result (λ line. IfSome (option_copied line) (λ text. length text ≤ most_bytes self.old)) }
         ensures* ends { sem 𝓛 (EndsAs self.entry (S.left source.old) (S.left source.new) result) }
         ensures idle { IsIdle self.old source.old source.new }
         ensures counts { S.faults source.old ≤ S.faults source.new }
