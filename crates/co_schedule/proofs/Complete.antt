@@ -1,12 +1,10 @@
 -- The words of each event fit the places of events.
-use Rattle.std.proofs.Common.{◌≡◌, ℕ, ◌≤◌, List, refl, arith}
-use Rattle.co_base.specs.Letters.{IsText}
+use Rattle.std.proofs.Common.{ℕ, ◌≤◌, refl, arith}
 use Rattle.co_message.specs.declared.message.Message.{Message}
 use Rattle.co_message.specs.declared.message.Message.TheVariants as message
 use Rattle.co_message.specs.declared.event.Event.{Event}
 use Rattle.co_message.specs.declared.event.Event.TheVariants as event
 use Rattle.co_schedule.specs.Spelling.{message_words, event_words}
-use Rattle.co_schedule.specs.Places.{Want}
 use Rattle.co_schedule.specs.Grammar.{txn, count, call, message_places, event_places}
 use Rattle.co_schedule.specs.View.{IsTxn, IsCount, IsWithin, IsMessageFor, IsEventFor}
 use Rattle.std.specs.Prelude.{decimal}

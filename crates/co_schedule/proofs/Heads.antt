@@ -1,12 +1,11 @@
 -- Heads.
-use Rattle.std.proofs.Common.{◌≡◌, ℕ, zero, suc, ◌+◌, ◌-◌, ◌≤◌, ◌<◌, ◌^◌, List, [], ◌∷◌, ◌++◌, length, map, Option, None, Some, Result, Ok, Err, refl, sym, ap, ◌∙◌, arith, Bool}
+use Rattle.std.proofs.Common.{◌≡◌, ℕ, zero, suc, ◌-◌, ◌≤◌, List, [], ◌∷◌, length, map, None, Some, Result, Ok, Err, refl, sym, ap, ◌∙◌, arith}
 use Rattle.std.specs.Prelude.{decimal, codes, IfErr, if◌then◌else◌}
 use Rattle.std.specs.Str.{bytes_eq}
-use Rattle.std.specs.Str.Parse.{digits_value}
 use Rattle.co_base.specs.declared.head.Head.{Head}
 use Rattle.co_base.specs.declared.head.Kind.{Kind}
 use Rattle.co_base.specs.declared.head.Kind.TheVariants.{Lock, Occ, Mv}
-use Rattle.co_schedule.specs.Words.{Word, words_of, spaced}
+use Rattle.co_schedule.specs.Words.{Word, words_of}
 use Rattle.co_schedule.specs.Spelling.{kind_word, head_words, head_text}
 use Rattle.co_schedule.specs.Places.{one_of, step, first_fault, go_on, ◌▸◌}
 use Rattle.co_schedule.specs.Grammar.{all_kinds, kinds_places, head_places, coords_places}
@@ -15,8 +14,7 @@ use Rattle.co_schedule.specs.Faults.{IsFirstFault}
 use Rattle.co_schedule.specs.declared.fault.ReadFault.{ReadFault}
 use Rattle.co_schedule.specs.declared.fault.ReadFault.TheVariants as read
 use Rattle.co_schedule.specs.declared.fault.Mistake.{Mistake}
-use Rattle.co_schedule.proofs.Numbers.{value_of-decimal}
-use Rattle.co_schedule.proofs.Fitting.{Fits, Taken, number_taken, fits_first_fault, words_of-fit}
+use Rattle.co_schedule.proofs.Fitting.{Fits, number_taken, fits_first_fault, words_of-fit}
 
 kind_goes_on : (more : ℕ) (kind : Kind) (rest : List Word) → first_fault (if bytes_eq (codes "coords") (kind_word kind) then coords_places else kinds_places more) rest ≡ first_fault (kinds_places more) rest
 kind_goes_on more Lock rest = refl

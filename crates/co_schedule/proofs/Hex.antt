@@ -1,11 +1,11 @@
 -- Lower-case digits are what is written of their bytes.
-use Rattle.std.proofs.Common.{◌≡◌, ℕ, zero, suc, ◌+◌, ◌-◌, ◌*◌, ◌/◌, ◌%◌, ◌<◌, ◌≤◌, Bool, true, false, cond, List, [], ◌∷◌, length, Some, Result, Ok, Err, refl, sym, ap, ◌∙◌, arith, ◌⊎◌, inl, inr, ◌||◌, ◌&&◌, slice_index, ◌==◌, subst, eq-eqb}
+use Rattle.std.proofs.Common.{◌≡◌, ℕ, zero, suc, ◌+◌, ◌-◌, ◌*◌, ◌/◌, ◌%◌, ◌<◌, ◌≤◌, Bool, true, false, List, [], ◌∷◌, length, Some, Result, Ok, refl, sym, ap, ◌∙◌, arith, ◌⊎◌, inl, inr, ◌||◌, ◌&&◌, slice_index, ◌==◌, subst, eq-eqb}
 use Rattle.std.specs.Prelude.{nat_lt, nat_le, if◌then◌else◌}
 use Rattle.std.specs.List.{list_all}
 use Rattle.std.specs.Result.{result_unwrap_or}
 use Rattle.std.proofs.lemmas.Bool.{leb-true, eqb-true}
 use Rattle.std.proofs.lemmas.Bool.Decides.{nat_tests}
-use Rattle.hex.specs.Hex.{lower_digits, hex_digit_value, decode_pairs, decode_of, encode_with, encode_lower, value_at, pair_value, ◌>>=◌}
+use Rattle.hex.specs.Hex.{lower_digits, hex_digit_value, decode_pairs, decode_of, encode_with, encode_lower, pair_value}
 use Rattle.hex.specs.Hex.{IsBytes}
 use Rattle.hex.specs.declared.error.FromHexError.{FromHexError}
 use Rattle.hex.proofs.HexLemmas.{decode_of-even, decode_of-ok, length-encode_with}

@@ -8,5 +8,8 @@ pub mod Views
 pub mod Fitting
 pub mod Complete
 pub mod Unique
-pub mod Laws
+pub mod EventLaws
 pub mod Heads
+pub mod Filling
+pub mod NextLine
+pub mod HeadUnique

@@ -1,27 +1,16 @@
 -- One place of a line.
-use Rattle.std.proofs.Common.{◌≡◌, ℕ, ◌+◌, Bool, true, false, cond, List, [], ◌∷◌, length, map, Option, None, Some, Result, Ok, Err, refl, sym, ap, ◌∙◌, ◌||◌}
+use Rattle.std.proofs.Common.{◌≡◌, Bool, true, false, cond, List, [], ◌∷◌, map, Option, None, Some, Ok, refl, sym, ap, ◌∙◌, ◌||◌}
 use Rattle.std.specs.Prelude.{find, IfSome, is_some}
 use Rattle.std.specs.List.{list_any}
 use Rattle.std.specs.Str.{bytes_eq}
 use Rattle.std.proofs.lemmas.Slice.Eq.{bytes_eq-Decides}
-use Rattle.co_schedule.specs.Words.{Word, spaced}
-use Rattle.co_schedule.specs.Places.{Want, is_in, kind_at, kind_of, step}
-use Rattle.co_schedule.specs.declared.fault.Mistake.{Mistake}
+use Rattle.co_schedule.specs.Words.{Word}
+use Rattle.co_schedule.specs.Places.{Want, is_in, step}
 
 -- a word that is wanted is taken
 pub step_takes : (want : Want) (word : Word) (words : List Word) → is_in want word ≡ true → step want (word ∷ words) ≡ Ok (word, words)
 unfolding step
 step_takes want word words e = rw e refl
-
--- another is the fault
-pub step_refuses : (want : Want) (word : Word) (words : List Word) → is_in want word ≡ false → step want (word ∷ words) ≡ Err (record { kind = kind_at (kind_of want) word; left = length (spaced (word ∷ words)) })
-unfolding step
-step_refuses want word words e = rw e refl
-
--- a word is missing
-pub step_ends : (want : Want) → step want [] ≡ Err (Rattle.co_schedule.specs.Places.missing)
-unfolding step
-step_ends want = refl
 
 found_here : {F : Type 0} (word_of : F → Word) (word : Word) (x : F) (xs : List F) (f : F) (b : Bool) → bytes_eq (word_of x) word ≡ b → cond b (Some x) (find (λ y. bytes_eq (word_of y) word) xs) ≡ Some f → (find (λ y. bytes_eq (word_of y) word) xs ≡ Some f → (word ≡ word_of f) × (list_any (λ known. bytes_eq known word) (map word_of xs) ≡ true)) → (word ≡ word_of f) × ((b || list_any (λ known. bytes_eq known word) (map word_of xs)) ≡ true)
 found_here word_of word x xs f true same e others =

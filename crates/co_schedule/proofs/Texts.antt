@@ -1,10 +1,10 @@
 -- Texts of visible characters.
-use Rattle.std.proofs.Common.{◌≡◌, ℕ, ◌<◌, ◌≤◌, Bool, true, false, ◌&&◌, List, [], ◌∷◌, length, get_or, refl, sym, ap, ◌∙◌, arith, ltb, leb}
+use Rattle.std.proofs.Common.{◌≡◌, ℕ, true, ◌&&◌, [], ◌∷◌, length, refl}
 use Rattle.std.specs.Prelude.{nat_le, All}
 use Rattle.std.specs.List.{list_all}
 use Rattle.std.proofs.lemmas.List.Elements.{All-nil, All-cons, All-head, All-tail}
 use Rattle.std.proofs.lemmas.Bool.{leb-true, le-leb}
-use Rattle.co_base.specs.Letters.{IsLetter, IsText, HasLength}
+use Rattle.co_base.specs.Letters.{IsLetter, IsText}
 use Rattle.co_schedule.specs.Words.{Word}
 use Rattle.co_schedule.specs.Places.{is_text, is_visible}
 use Rattle.co_schedule.proofs.Numbers.{both, and_true}

@@ -1,11 +1,9 @@
 -- No two events have the same words.
-use Rattle.std.proofs.Common.{◌≡◌, ℕ, ◌≤◌, ◌<◌, ◌^◌, Bool, true, false, cond, List, [], ◌∷◌, get_or, drop, Option, Some, None, Result, Ok, refl, sym, ap, ◌∙◌, arith, ◌==◌}
-use Rattle.std.specs.Prelude.{decimal, codes, if◌then◌else◌}
+use Rattle.std.proofs.Common.{◌≡◌, ℕ, ◌≤◌, ◌<◌, ◌^◌, Bool, true, false, List, [], ◌∷◌, get_or, drop, Option, Some, None, refl, ap, ◌∙◌, arith, ◌==◌}
+use Rattle.std.specs.Prelude.{codes, if◌then◌else◌}
 use Rattle.std.specs.Str.{bytes_eq}
 use Rattle.std.specs.Str.Parse.{digits_value}
-use Rattle.hex.specs.Hex.{encode_lower, decode_of, IsBytes}
 use Rattle.hex.proofs.HexLemmas.{decode_of-encode_lower}
-use Rattle.co_base.specs.Span.{Span}
 use Rattle.co_base.specs.declared.node.Node.{Node}
 use Rattle.co_base.specs.declared.node.Node.TheVariants.{Member, Coord}
 use Rattle.co_base.specs.declared.leaves.Leaves.{Leaves}
@@ -21,7 +19,7 @@ use Rattle.co_schedule.specs.declared.form.Form.TheVariants as form
 use Rattle.co_schedule.specs.declared.form.MessageForm.{MessageForm}
 use Rattle.co_schedule.specs.declared.form.MessageForm.TheVariants as kind
 use Rattle.co_schedule.specs.Grammar.{form_named, message_named}
-use Rattle.co_schedule.specs.View.{IsTxn, IsCount, IsWithin, IsNode, IsLeaves, IsMessageFor, IsEventFor, decoded}
+use Rattle.co_schedule.specs.View.{IsWithin, IsNode, IsLeaves, IsMessageFor, IsEventFor, decoded}
 use Rattle.co_schedule.proofs.Numbers.{value_of-decimal}
 
 -- the number of digits, and of digits behind a letter

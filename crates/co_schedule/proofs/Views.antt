@@ -1,12 +1,10 @@
 -- A view stands for an event whose words it was lent from.
-use Rattle.std.proofs.Common.{◌≡◌, ℕ, true, List, Result, Ok, refl, sym, ap, ◌∙◌, ◌%◌, length, subst}
+use Rattle.std.proofs.Common.{◌≡◌, ℕ, List, refl, sym, ap}
 use Rattle.std.specs.Prelude.{decimal, codes, ◌∷◌, []}
-use Rattle.std.specs.Result.{result_unwrap_or}
 use Rattle.co_base.specs.Letters.{most_key_bytes, most_value_bytes}
-use Rattle.hex.specs.Hex.{decode_of, IsBytes}
 use Rattle.co_schedule.specs.Words.{Word}
 use Rattle.co_schedule.specs.Spelling.{event_words, node_word}
-use Rattle.co_schedule.specs.View.{decoded, event_of, view_words, view_word, leaves_of, IsViewFor, IsEventFor, IsSpelledLeaves, IsLeaves}
+use Rattle.co_schedule.specs.View.{event_of, view_words, view_word, leaves_of, IsViewFor, IsEventFor, IsSpelledLeaves, IsLeaves}
 use Rattle.co_schedule.specs.declared.view.LineView.{LineView}
 use Rattle.co_schedule.specs.declared.view.LineView.TheVariants as view
 use Rattle.co_schedule.specs.declared.view.LeavesView.{LeavesView}

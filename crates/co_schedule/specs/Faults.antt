@@ -1,5 +1,5 @@
 -- The fault of a line.
-use Rattle.std.specs.Prelude.{◌≡◌, ℕ, List, Option, None, Some}
+use Rattle.std.specs.Prelude.{◌≡◌, ℕ, List, Option, Some}
 use Rattle.std.specs.Option.{option_map}
 use Rattle.co_schedule.specs.Words.{words_of}
 use Rattle.co_schedule.specs.Places.{Places, first_fault}

@@ -1,5 +1,5 @@
 -- The places of each line.
-use Rattle.std.specs.Prelude.{ℕ, zero, suc, if◌then◌else◌, List, [], ◌∷◌, map, find, Option, None, Some, codes, ◌^◌, ◌-◌}
+use Rattle.std.specs.Prelude.{ℕ, zero, suc, if◌then◌else◌, List, [], ◌∷◌, map, find, Option, None, Some, codes}
 use Rattle.std.specs.Str.{bytes_eq}
 use Rattle.co_base.specs.declared.head.Kind.{Kind}
 use Rattle.co_base.specs.declared.head.Kind.TheVariants.{Lock, Occ, Mv}

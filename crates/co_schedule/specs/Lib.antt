@@ -5,3 +5,7 @@ pub mod Grammar
 pub mod View
 pub mod Faults
 pub mod Heads
+pub mod Lines
+pub mod LineText
+pub mod Filling
+pub mod Next

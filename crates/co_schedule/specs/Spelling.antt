@@ -1,7 +1,6 @@
 -- The one spelling of each event, as the list of its words.
 use Rattle.std.specs.Prelude.{ℕ, List, [], ◌∷◌, ◌++◌, map, Bool, if◌then◌else◌, codes, decimal}
 use Rattle.hex.specs.Hex.{encode_lower}
-use Rattle.co_base.specs.Span.{Span}
 use Rattle.co_base.specs.declared.node.Node.{Node}
 use Rattle.co_base.specs.declared.node.Node.TheVariants.{Member, Coord}
 use Rattle.co_base.specs.declared.head.Head.{Head}

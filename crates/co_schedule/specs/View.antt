@@ -1,11 +1,10 @@
 -- The event that a view of a line stands for, and the events that a federation has lines for.
-use Rattle.std.specs.Prelude.{ℕ, ◌≤◌, ◌≡◌, false, true, List, [], ◌∷◌, codes, decimal, Result, All, ◌<◌}
+use Rattle.std.specs.Prelude.{ℕ, ◌≤◌, ◌≡◌, false, true, List, [], ◌∷◌, codes, decimal}
 use Rattle.std.specs.Result.{result_unwrap_or}
 use Rattle.std.specs.Ordering.{is_gt}
 use Rattle.hex.specs.Hex.{decode_of, IsBytes}
 use Rattle.co_base.specs.Letters.{IsText, most_key_bytes, most_value_bytes}
 use Rattle.co_base.specs.Order.{key_cmp}
-use Rattle.co_base.specs.Span.{Span}
 use Rattle.co_base.specs.declared.node.Node.{Node}
 use Rattle.co_base.specs.declared.node.Node.TheVariants.{Member, Coord}
 use Rattle.co_base.specs.declared.leaves.Leaves.{Leaves}

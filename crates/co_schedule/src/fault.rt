@@ -67,6 +67,33 @@ impl<T: Drop> From<AllocFailed<T>> for LineFault {
     }
 }
 
+/// Why a reader of lines gave no line.
+#[derive(Debug, Drop, Error)]
+pub enum LinesFault {
+    /// The source failed.
+    #[error("the source failed")]
+    Read,
+    /// This line, counted from 1, has more bytes than a line may have.
+    #[error("line {line} is long")]
+    Long { line: u32 },
+    /// A byte follows the last line that there may be.
+    #[error("there are too many lines")]
+    Many,
+    /// There was no memory.
+    #[error("out of memory")]
+    Memory,
+}
+
+impl From<AllocError> for LinesFault {
+    ghost use Rattle.co_schedule.specs.declared.fault.LinesFault.TheVariants.{Memory};
+
+    ghost from_gives = { λ _ e. e ≡ Memory };
+
+    fn from(_e: AllocError) -> LinesFault {
+        LinesFault::Memory
+    }
+}
+
 /// What is wrong with a line, and how many bytes of the line there are from that place on.
 #[derive(Clone, Copy, Debug, PartialEq, Eq)]
 pub struct Mistake {

@@ -1,4 +1,8 @@
-//! Schedule lines, both ways.
+//! Schedule lines, both ways, and the lines of a source.
+//!
+//! Each event and each head has one line (`one_line`). Reading a line gives what it spells, or the
+//! first fault from the left. `Lines` lends the lines of a source one at a time and never holds more
+//! than one of them.
 #![tactic(auto)]
 
 mod counts;
@@ -6,6 +10,8 @@ mod fault;
 mod fields;
 mod form;
 mod head;
+mod laws;
+mod lines;
 mod reading;
 mod view;
 mod word;
@@ -13,9 +19,11 @@ mod words;
 mod writing;
 
 pub use counts::NodeCounts;
-pub use fault::{LineFault, LineKind, Mistake, ReadFault};
+pub use fault::{LineFault, LineKind, LinesFault, Mistake, ReadFault};
 pub use form::{Form, MessageForm, form_of, message_form_of};
 pub use head::{read_head, read_head_kinds};
+pub use laws::one_line;
+pub use lines::Lines;
 pub use reading::{read_event, read_event_fields, read_line, read_message};
 pub use view::{LeavesView, LineView, key_of, value_of};
 pub use words::{Piece, Words};
@@ -24,5 +32,7 @@ pub use writing::{
     append_word, put_line,
 };
 
+#[cfg(test)]
+mod reader_tests;
 #[cfg(test)]
 mod tests;

@@ -1,0 +1,5 @@
+pub mod RowOrder
+pub mod FirstFault
+pub mod ItemFits
+pub mod ItemUnique
+pub mod ItemLaws

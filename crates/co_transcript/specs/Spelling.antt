@@ -1,5 +1,5 @@
 -- The one spelling of each item, as the list of its words.
-use Rattle.std.specs.Prelude.{ℕ, List, [], ◌∷◌, ◌++◌, length, Option, Some, None, codes, decimal}
+use Rattle.std.specs.Prelude.{ℕ, List, [], ◌∷◌, ◌++◌, length, Some, None, codes, decimal}
 use Rattle.co_base.specs.declared.row.Row.{Row}
 use Rattle.co_base.specs.declared.reply.Reply.{Reply}
 use Rattle.co_base.specs.declared.reply.Reply.TheVariants as reply
@@ -104,14 +104,25 @@ answer_fields (answer.Stopped call) = decimal call ∷ []
 answer_fields (answer.Down node) = node_word node ∷ []
 answer_fields _ = []
 
+-- an answer
+abbrev pub answer_words : Answer → List Word
+answer_words answer = answer_form answer ++ answer_fields answer
+
+-- a record that became stable
+abbrev pub mark_words : Mark → List Word
+mark_words mark = node_word mark.node ∷ mark_word mark.kind ∷ decimal mark.number ∷ []
+
 -- what an item tells, behind its number
 abbrev pub kind_words : ItemKind → List Word
 kind_words (item.Head head) = codes "event" ∷ head_words head
 kind_words (item.Event event) = codes "event" ∷ event_words event
-kind_words (item.Log told) = codes "log" ∷ node_word told.node ∷ mark_word told.kind ∷ decimal told.number ∷ []
+kind_words (item.Log mark) = codes "log" ∷ mark_words mark
 kind_words (item.Sent message) = codes "send" ∷ message_words message
-kind_words (item.Answered answer) = codes "reply" ∷ answer_form answer ++ answer_fields answer
+kind_words (item.Answered answer) = codes "reply" ∷ answer_words answer
+
+abbrev pub item_words : Item → List Word
+item_words item = decimal item.number ∷ kind_words item.what
 
 -- an item without its newline
 abbrev pub item_text : Item → List ℕ
-item_text item = spaced (decimal item.number ∷ kind_words item.what)
+item_text item = spaced (item_words item)

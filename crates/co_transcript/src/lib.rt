@@ -1,8 +1,20 @@
 //! The items of a transcript, both ways.
+//!
+//! Each item has one text (`one_text`). Reading a line gives the item whose text it is, or the place
+//! of the first fault from the left.
 #![tactic(auto)]
 
+mod fault;
+mod fields;
+mod form;
+mod laws;
+mod reading;
 mod writing;
 
+pub use fault::ItemFault;
+pub use form::{AnswerForm, ToldForm};
+pub use laws::one_text;
+pub use reading::read_item;
 pub use writing::put_item;
 
 #[cfg(test)]

@@ -1,5 +1,5 @@
 //! Items as lines.
-ghost use Rattle.std.specs.Prelude.{◌≡◌, [], ◌∷◌, ◌++◌, OnOk, OnErr, decimal, length};
+ghost use Rattle.std.specs.Prelude.{◌≡◌, [], ◌∷◌, ◌++◌, OnOk, OnErr, decimal};
 ghost use Rattle.co_schedule.specs.Words.{space, behind};
 ghost use Rattle.co_schedule.specs.Spelling.{node_word};
 ghost use Rattle.co_transcript.specs.Spelling.{mark_word, cause_word, row_words, reply_form, reply_fields, answer_form, answer_fields, kind_words, item_text};

@@ -1,5 +1,5 @@
 use Rattle.std.proofs.Common.{sym, ◌∙◌}
-use Rattle.co_schedule.proofs.Laws.{line_of_words}
+use Rattle.co_schedule.proofs.EventLaws.{line_of_words}
 use Rattle.co_schedule.proofs.Heads.{words_of_head, head_no_fault}
 use Rattle.co_schedule.proofs.head.read_head.Goals as goal
 

@@ -1,4 +1,4 @@
-use Rattle.co_schedule.proofs.Laws.{event_found}
+use Rattle.co_schedule.proofs.EventLaws.{event_found}
 use Rattle.co_schedule.proofs.reading.event_in.Goals as goal
 
 pub returns-clause-found : goal.returns-clause-found

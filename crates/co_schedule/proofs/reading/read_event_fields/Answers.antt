@@ -1,4 +1,4 @@
-use Rattle.co_schedule.proofs.Laws.{HasTexts-for, event_made}
+use Rattle.co_schedule.proofs.EventLaws.{HasTexts-for, event_made}
 use Rattle.co_schedule.proofs.Views.{IsEventFor-view}
 use Rattle.co_schedule.proofs.reading.read_event_fields.Goals as goal
 

@@ -1,5 +1,5 @@
 use Rattle.std.proofs.Common.{◌∙◌, sym, arith}
-use Rattle.co_schedule.proofs.Laws.{line_of_words, words_of_line, same_event, no_fault, HasTexts-for}
+use Rattle.co_schedule.proofs.EventLaws.{line_of_words, words_of_line, same_event, no_fault, HasTexts-for}
 use Rattle.co_schedule.proofs.reading.read_for.Goals as goal
 
 pub returns-in-Ok-clause-found : goal.returns-in-Ok-clause-found

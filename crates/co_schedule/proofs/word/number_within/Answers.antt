@@ -1,5 +1,5 @@
 use Rattle.std.proofs.Common.{arith}
-use Rattle.co_schedule.proofs.Numbers.{test-within, test-outside, test-nowhere}
+use Rattle.co_schedule.proofs.Numbers.{test-within, test-outside}
 use Rattle.co_schedule.proofs.word.number_within.Goals as goal
 
 pub returns-in-Some-clause-test : goal.returns-in-Some-clause-test

@@ -1,5 +1,4 @@
-use Rattle.std.proofs.Common.{sym, ◌∙◌}
-use Rattle.co_schedule.specs.Words.{space}
+use Rattle.std.proofs.Common.{sym}
 use Rattle.co_schedule.proofs.Cutting.{cut_at, cut_nowhere}
 use Rattle.co_schedule.proofs.words.cut.Goals as goal
 

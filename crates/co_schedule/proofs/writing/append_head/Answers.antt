@@ -1,4 +1,4 @@
-use Rattle.std.proofs.Common.{rules, append_assoc, arith}
+use Rattle.std.proofs.Common.{arith}
 use Rattle.std.proofs.lemmas.Grind.{common_steps}
 use Rattle.co_schedule.proofs.Spaced.{behind-append}
 use Rattle.co_schedule.proofs.writing.append_head.Goals as goal

@@ -1,5 +1,5 @@
-use Rattle.std.proofs.Common.{◌≡◌, length, ap, sym, ◌∙◌, arith}
-use Rattle.co_schedule.specs.Words.{words_of, words_left, spaced}
+use Rattle.std.proofs.Common.{◌≡◌, ap, sym, ◌∙◌}
+use Rattle.co_schedule.specs.Words.{words_of, words_left}
 use Rattle.co_schedule.proofs.Cutting.{extra_word}
 use Rattle.co_schedule.proofs.words.Words.end.Goals as goal
 

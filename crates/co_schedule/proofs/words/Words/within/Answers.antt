@@ -1,6 +1,5 @@
-use Rattle.std.proofs.Common.{◌≡◌, length, ap, sym, ◌∙◌, refl, arith}
-use Rattle.co_schedule.specs.Words.{words_of, words_left, spaced}
-use Rattle.co_schedule.specs.Places.{too_long}
+use Rattle.std.proofs.Common.{◌≡◌, length, ap, sym, ◌∙◌, arith}
+use Rattle.co_schedule.specs.Words.{words_left, spaced}
 use Rattle.co_schedule.specs.declared.fault.LineKind.TheVariants as kind
 use Rattle.co_schedule.proofs.Cutting.{spaced-words_of}
 use Rattle.co_schedule.proofs.words.Words.within.Goals as goal

@@ -1,0 +1,34 @@
+-- What the next line leaves of a reader and of its source.
+use Rattle.std.specs.Prelude.{ℕ, ◌≡◌, ◌≢◌, ◌+◌, ◌<◌, ◌≤◌, List, [], length, position, Option, None, Some, option_copied, Result, OnOk, IfOk, IsErrOf}
+use Rattle.std.specs.Borrow.{Fml, Bor, MutBor}
+use Rattle.std.specs.Io.BufRead.{Rests}
+use Rattle.co_schedule.specs.LineText.{is_newline, behind_line}
+use Rattle.co_schedule.specs.Lines.{most_bytes, most_lines, lines_read, unread, ahead, lent_then}
+use Rattle.co_schedule.specs.declared.fault.LinesFault.{LinesFault}
+use Rattle.co_schedule.specs.declared.fault.LinesFault.TheVariants.{Read}
+use Rattle.co_schedule.specs.declared.lines.Lines.{Lines}
+use Rattle.co_schedule.specs.contracts.lines.Lines.{the_row}
+
+-- The reader moved behind the next line. Fewer bytes are held behind a line than a line and its newline
+-- have, and at every return no more than these. Where the source failed, all that was taken is still
+-- ahead, and no whole line of it is held.
+pub record HasMoved {A : Type 0} (old : Lines) (left_old left_new : Option (List ℕ)) (result : Result A LinesFault) (new : Lines) : Type 0 where
+  pub behind : (text : List ℕ) → ahead old left_old ≡ Some text → OnOk result (ahead new left_new ≡ Some (behind_line text))
+  pub few : OnOk result (length (unread new) ≤ most_bytes new)
+  pub held : length (unread new) ≤ most_bytes new + 1
+  pub kept : (text : List ℕ) → ahead old left_old ≡ Some text → IsErrOf result Read → ahead new left_new ≡ Some text
+  pub whole : IsErrOf result Read → position is_newline (unread new) ≡ None
+  pub limits : (most_bytes new ≡ most_bytes old) × (most_lines new ≡ most_lines old)
+
+-- the same, and the line is counted
+abbrev pub HasRead : Lines → Option (List ℕ) → Option (List ℕ) → Result (Option (Bor (List ℕ))) LinesFault → Lines → Type 0
+HasRead old left_old left_new result new = HasMoved old left_old left_new result new × IfOk result (λ line. lines_read new ≡ lent_then (lines_read old) (option_copied line))
+
+-- so the reader stands once its line is no longer lent
+abbrev pub EndsAs : MutBor Lines → Option (List ℕ) → Option (List ℕ) → Result (Option (Bor (List ℕ))) LinesFault → Fml
+EndsAs reader left_old left_new result = Rests the_row reader (HasRead reader.now left_old left_new result)
+
+-- where a whole line is held, or a byte behind the last line, the source is not asked
+pub record IsIdle {S : Type 0} (reader : Lines) (old new : S) : Type 0 where
+  pub line : (end : ℕ) → lines_read reader < most_lines reader → position is_newline (unread reader) ≡ Some end → new ≡ old
+  pub last : lines_read reader ≡ most_lines reader → unread reader ≢ [] → new ≡ old
