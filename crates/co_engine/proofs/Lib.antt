@@ -1,2 +1,5 @@
 mod Knowing
 mod Playing
+mod Joining
+mod Picking
+mod Keeping
