@@ -3,3 +3,5 @@ mod Playing
 mod Joining
 mod Picking
 mod Keeping
+mod Pairing
+mod Standing
