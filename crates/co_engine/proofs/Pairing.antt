@@ -131,10 +131,11 @@ all_apart b c h e = h e
 -- lists that share no pair
 pub distinct-append : (xs ys : List Pair) → AreDistinctPairs xs → AreDistinctPairs ys → ((p : Pair) → lists_pair xs p ≡ true → lists_pair ys p ≡ false) → AreDistinctPairs (xs ++ ys)
 distinct-append [] ys d e apart = e
-distinct-append (x ∷ xs) ys d e apart =
-    (lists-append xs ys x
-        ∙ (λ i. d.0 i || apart x (ap (λ b. b || lists_pair xs x) (same_pair_itself x)) i),
-    distinct-append xs ys d.1 e (λ p h. apart p (ap (λ b. same_pair x p || b) h ∙ or_true (same_pair x p))))
+distinct-append (x ∷ xs) ys d e apart = (
+  lists-append xs ys x
+      ∙ (λ i. d.0 i || apart x (ap (λ b. b || lists_pair xs x) (same_pair_itself x)) i),
+  distinct-append xs ys d.1 e (λ p h. apart p (ap (λ b. same_pair x p || b) h ∙ or_true (same_pair x p))),
+)
   where
     or_true : (b : Bool) → (b || true) ≡ true
     or_true true = refl
@@ -366,11 +367,11 @@ module _ {rest : List (ℕ × Undecided)} {t : ℕ} {old new : Sets} {before aft
   made_once =
       distinct-append ((A ++ B) ++ C) D
       (distinct-append (A ++ B) C
-          (distinct-append A B
-              (distinct-seconds Reads t _ (distinct-found_in (newly_read old new) rest g.sorted))
-              (distinct-firsts Reads t _ (distinct-found_in (newly_reads old new) rest g.sorted))
-              A_not_B)
-          (distinct-seconds Writes t _ (distinct-found_in (newly_wrote_above t old new) rest g.sorted))
-          AB_not_C)
+      (distinct-append A B
+      (distinct-seconds Reads t _ (distinct-found_in (newly_read old new) rest g.sorted))
+      (distinct-firsts Reads t _ (distinct-found_in (newly_reads old new) rest g.sorted))
+      A_not_B)
+      (distinct-seconds Writes t _ (distinct-found_in (newly_wrote_above t old new) rest g.sorted))
+      AB_not_C)
       (distinct-firsts Writes t _ (distinct-found_in (newly_wrote_below t old new) rest g.sorted))
       ABC_not_D

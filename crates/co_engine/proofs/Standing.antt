@@ -103,8 +103,8 @@ pub kept_active : (p : PlainEngine) (b : EngineState) (t : ℕ) (e : Undecided) 
 kept_active p b t e os s none k u =
     kept_along (sym (look-put p.undecided t e u) ∙ ap (λ m. look m u) (sym (put-without p.undecided t e))) (sym (look-put b.active t os u)) (cond-same (eq_by_cmp nat_cmp u t) (look b.voted u))
     (kept_cond (eq_by_cmp nat_cmp u t)
-        (λ y. kept_along refl refl (sym (ap (look b.voted) (tied u t y) ∙ none)) k)
-        (λ n. s.each u))
+    (λ y. kept_along refl refl (sym (ap (look b.voted) (tied u t y) ∙ none)) k)
+    (λ n. s.each u))
 
 -- an operation is added to its transaction
 pub stands_with : (p : PlainEngine) (b : EngineState) (t : ℕ) (op : Op) → StandsFor p b → IsTrue (may_operate b t) → StandsFor (with_own p t op) (with_operation b t op)
@@ -134,7 +134,7 @@ pairs_alike p b t op s h =
     let next = stands_with p b t op s h in
     let rest = without p.undecided t in
     let found : (u : ℕ) → (t == u) ≡ false → look p.undecided u ≡ find nat_cmp u (entries rest) =
-        λ u e. sym (look-without p.undecided t u ∙ ap (λ c. cond c None (look p.undecided u)) (apart_tie t u e)) ∙ get-entries rest u in
+    λ u e. sym (look-without p.undecided t u ∙ ap (λ c. cond c None (look p.undecided u)) (apart_tie t u e)) ∙ get-entries rest u in
     let g : Grows (entries rest) t (own p t).sets (grown_by op (own p t).sets) (sets_at b) (sets_at (with_operation b t op)) = record {
       sorted = entries_sorted rest;
       absent = sym (get-entries rest t) ∙ look-without p.undecided t t ∙ ap (λ c. cond c None (look p.undecided t)) (itself t);
@@ -164,12 +164,12 @@ cast_at p b t coord count (Some x) (Some os) s e f h k u =
     let active = only_flag x.voted x os k.operations_are in
     kept_along (sym (look-put p.undecided t (record x { voted = true }) u)) (sym (look-without b.active t u)) (sym (look-put b.voted t _ u))
     (kept_cond (eq_by_cmp nat_cmp u t)
-        (λ y. record {
-          operations_are = refl;
-          sets_are = refl;
-          votes_are = k.sets_are ∙ ap (λ v. if v then None else Some x.sets) active;
-        })
-        (λ n. s.each u))
+    (λ y. record {
+      operations_are = refl;
+      sets_are = refl;
+      votes_are = k.sets_are ∙ ap (λ v. if v then None else Some x.sets) active;
+    })
+    (λ n. s.each u))
 
 pub stands_cast : (p : PlainEngine) (b : EngineState) (t coord count : ℕ) → StandsFor p b → IsTrue (holds b.active t) → StandsFor (record p { undecided = with_vote p.undecided t }) (after_cast b t coord count)
 stands_cast p b t coord count s h = record {
@@ -205,8 +205,8 @@ install_at p b t e (Some vote) s h f k = record {
   each = λ u.
       kept_along (sym (look-without p.undecided t u)) (cond-same (eq_by_cmp nat_cmp u t) (look b.active u)) (sym (look-without b.voted t u))
       (kept_cond (eq_by_cmp nat_cmp u t)
-          (λ y. kept_along refl (sym (ap (look b.active) (tied u t y) ∙ not_active e (look b.active t) vote k)) refl (record { operations_are = refl; sets_are = refl; votes_are = refl }))
-          (λ n. s.each u));
+      (λ y. kept_along refl (sym (ap (look b.active) (tied u t y) ∙ not_active e (look b.active t) vote k)) refl (record { operations_are = refl; sets_are = refl; votes_are = refl }))
+      (λ n. s.each u));
 }
 
 pub stands_install : (p : PlainEngine) (b : EngineState) (t : ℕ) (e : Undecided) → StandsFor p b → IsTrue (holds b.voted t) → look p.undecided t ≡ Some e
@@ -231,8 +231,8 @@ voteds_at [] u = record {
 voteds_at (q ∷ ps) u =
     kept_along (sym (look-put (voted_roll ps) q.txn (voted_one q) u)) (cond-same (eq_by_cmp nat_cmp u q.txn) _) (sym (look-put (votes_of ps) q.txn (vote_in q) u))
     (kept_cond (eq_by_cmp nat_cmp u q.txn)
-        (λ y. kept_along refl (sym (get-empty nat_cmp u)) refl (record { operations_are = refl; sets_are = refl; votes_are = refl }))
-        (λ n. voteds_at ps u))
+    (λ y. kept_along refl (sym (get-empty nat_cmp u)) refl (record { operations_are = refl; sets_are = refl; votes_are = refl }))
+    (λ n. voteds_at ps u))
 
 pub stands_restored : (p : PlainEngine) (records : Records) (ps : List Prepared) → p.base ≡ records → p.installed ≡ [] → p.undecided ≡ voted_roll ps → StandsFor p (restored p.kind records (votes_of ps))
 stands_restored p records ps base installed undecided = record {

@@ -13,11 +13,7 @@ use co_state::{RecordMap, copy_writes, join};
 use std::alloc::{AllocError, Global};
 
 /// The records with every change of the undecided transactions laid over, and what leads back.
-pub fn dump_in_place(
-    alloc: Global,
-    mut records: RecordMap,
-    roll: &Roll,
-) -> Result<Dump, AllocError>
+pub fn dump_in_place(alloc: Global, mut records: RecordMap, roll: &Roll) -> Result<Dump, AllocError>
     ensures rows { IfOk result (λ dump. dump.rows ≡ all_rows (with_changes records (changes_kept (entries roll.now)))) }
     ensures undos { IfOk result (λ dump. dump.undos ≡ map (undo_of records) (changes_kept (entries roll.now))) }
 {

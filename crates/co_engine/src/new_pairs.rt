@@ -10,7 +10,13 @@ use co_pairs::{Pair, PairKind, Pairs, Sets};
 use std::alloc::{AllocError, Global};
 
 /// Adds the pairs of a transaction with those that wrote what it now reads and did not read before.
-fn add_reads(pairs: &mut Pairs, others: &Roll, t: Txn, old: &Sets, new: &Sets) -> Result<(), AllocError>
+fn add_reads(
+    pairs: &mut Pairs,
+    others: &Roll,
+    t: Txn,
+    old: &Sets,
+    new: &Sets,
+) -> Result<(), AllocError>
     ensures { OnOk result (pairs.new ≡ pairs.old ++ map (reads_pair t) (found_in (newly_read old.now new.now) (entries others.now))) }
 {
     for (u, other) in others.iter() {
@@ -26,7 +32,13 @@ fn add_reads(pairs: &mut Pairs, others: &Roll, t: Txn, old: &Sets, new: &Sets) -
 }
 
 /// Adds the pairs of a transaction with those that read what it now writes and did not write before.
-fn add_readers(pairs: &mut Pairs, others: &Roll, t: Txn, old: &Sets, new: &Sets) -> Result<(), AllocError>
+fn add_readers(
+    pairs: &mut Pairs,
+    others: &Roll,
+    t: Txn,
+    old: &Sets,
+    new: &Sets,
+) -> Result<(), AllocError>
     ensures { OnOk result (pairs.new ≡ pairs.old ++ map (read_by_pair t) (found_in (newly_reads old.now new.now) (entries others.now))) }
 {
     for (u, other) in others.iter() {
@@ -43,7 +55,13 @@ fn add_readers(pairs: &mut Pairs, others: &Roll, t: Txn, old: &Sets, new: &Sets)
 
 /// Adds the pairs of a transaction with those of greater numbers that wrote a key which it now writes and
 /// did not write before.
-fn add_writes(pairs: &mut Pairs, others: &Roll, t: Txn, old: &Sets, new: &Sets) -> Result<(), AllocError>
+fn add_writes(
+    pairs: &mut Pairs,
+    others: &Roll,
+    t: Txn,
+    old: &Sets,
+    new: &Sets,
+) -> Result<(), AllocError>
     ensures { OnOk result (pairs.new ≡ pairs.old ++ map (writes_pair t) (found_in (newly_wrote_above t old.now new.now) (entries others.now))) }
 {
     for (u, other) in others.iter() {
@@ -60,7 +78,13 @@ fn add_writes(pairs: &mut Pairs, others: &Roll, t: Txn, old: &Sets, new: &Sets) 
 
 /// Adds the pairs of a transaction with those of lesser numbers that wrote a key which it now writes and did
 /// not write before.
-fn add_writers(pairs: &mut Pairs, others: &Roll, t: Txn, old: &Sets, new: &Sets) -> Result<(), AllocError>
+fn add_writers(
+    pairs: &mut Pairs,
+    others: &Roll,
+    t: Txn,
+    old: &Sets,
+    new: &Sets,
+) -> Result<(), AllocError>
     ensures { OnOk result (pairs.new ≡ pairs.old ++ map (written_by_pair t) (found_in (newly_wrote_below t old.now new.now) (entries others.now))) }
 {
     for (u, other) in others.iter() {

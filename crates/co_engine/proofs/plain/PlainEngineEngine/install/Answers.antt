@@ -13,7 +13,7 @@ pub returns-in-Some : goal.returns-in-Some
 returns-in-Some c = λ b s h.
     on_ok c.push.result
     (λ e. subst (λ (p : PlainEngine). StandsFor p (after_install b c.args.t)) (λ i. record c.args.self.now { installed = sym e i; undecided = sym c.take.ensures.rest i })
-        (stands_install c.args.self.now b c.args.t c.in-Some.undecided s h (sym c.take.ensures.value ∙ c.in-Some.is)))
+    (stands_install c.args.self.now b c.args.t c.in-Some.undecided s h (sym c.take.ensures.value ∙ c.in-Some.is)))
     c.push.ensures.ok
 
 pub returns-in-None : goal.returns-in-None
