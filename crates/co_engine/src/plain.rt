@@ -162,10 +162,11 @@ impl PlainEngine {
         ensures { result ≡ blocker_by self.now.kind (own_holder self.now t op.now) }
     {
         match self.kind {
-            Kind::Lock => lesser(
-                active_in_way(&self.undecided, t, op),
-                voted_in_way(&self.undecided, t, op),
-            ),
+            Kind::Lock => {
+                let active = active_in_way(&self.undecided, t, op);
+                let voted = voted_in_way(&self.undecided, t, op);
+                lesser(active, voted)
+            }
             Kind::Occ => None,
             Kind::Mv => None,
         }

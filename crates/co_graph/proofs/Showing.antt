@@ -86,8 +86,8 @@ pub shown_new : (nodes : Table Node) (g : PlainGraph) (t : ℕ) → look nodes t
 shown_new nodes g t is s =
     subst (λ b. AreShown (put nodes t new_node) (if b then g else record { noted = put g.noted t false; pairs = g.pairs })) (sym (held nodes g t s ∙ ap is_some is))
     (shown_alike nodes (put nodes t new_node) g (put g.noted t false) s
-        (λ u. look-put g.noted t false u ∙ noted_by (ties u t) (look g.noted u) (look nodes u) (s.noted_are u) ∙ ap (option_map (λ n. n.voted)) (sym (look-put nodes t new_node u)))
-        (λ x y. ap (λ o. bond_in o y) (look-put nodes t new_node x) ∙ new_bond nodes t x y (ties x t) is refl))
+    (λ u. look-put g.noted t false u ∙ noted_by (ties u t) (look g.noted u) (look nodes u) (s.noted_are u) ∙ ap (option_map (λ n. n.voted)) (sym (look-put nodes t new_node u)))
+    (λ x y. ap (λ o. bond_in o y) (look-put nodes t new_node x) ∙ new_bond nodes t x y (ties x t) is refl))
 
 -- ---- a transaction votes
 voted_by : (nodes : Table Node) (g : PlainGraph) (t u : ℕ) (b : Bool) (o : Option Node) → (b ≡ true → is_some o ≡ true) → look g.noted u ≡ option_map (λ n. n.voted) o
@@ -105,7 +105,7 @@ pub shown_voted : (nodes : Table Node) (g : PlainGraph) (t : ℕ) → IsTrue (ho
 shown_voted nodes g t there s =
     shown_alike nodes (with_vote nodes t) g (put g.noted t true) s
     (λ u. look-put g.noted t true u ∙ voted_by nodes g t u (ties u t) (look nodes u) (λ e. ap (λ j. is_some (look nodes j)) (tied u t e) ∙ sym (held nodes g t s) ∙ there) (s.noted_are u)
-        ∙ ap (option_map (λ n. n.voted)) (sym (look-changed nodes t node_voted u)))
+    ∙ ap (option_map (λ n. n.voted)) (sym (look-changed nodes t node_voted u)))
     (λ x y. ap (λ o. bond_in o y) (look-changed nodes t node_voted x) ∙ voted_bond (ties x t) (look nodes x) y)
 
 -- ---- pairs
@@ -190,7 +190,7 @@ shown_by nodes g Reads a b at_a at_b s = record {
   readers_are = λ x y. flag-twice is_read_flag nodes a b tie.Reads tie.IsRead x y at_a at_b ∙ other_set _ _ _ ∙ (λ i. s.readers_are x y i || and_comm (b == x) (a == y) i) ∙ sym (lists-with_pair g.pairs (pair_at Reads a b) (pair_at Reads y x));
   rivals_are = λ x y. flag-twice rivals_flag nodes a b tie.Reads tie.IsRead x y at_a at_b ∙ none_set _ _ _ ∙ s.rivals_are x y
       ∙ (λ i. (sym (or-false (lists_pair g.pairs (pair_at Writes y x))) ∙ sym (lists-with_pair g.pairs (pair_at Reads a b) (pair_at Writes y x))) i
-          || (sym (or-false (lists_pair g.pairs (pair_at Writes x y))) ∙ sym (lists-with_pair g.pairs (pair_at Reads a b) (pair_at Writes x y))) i);
+      || (sym (or-false (lists_pair g.pairs (pair_at Writes x y))) ∙ sym (lists-with_pair g.pairs (pair_at Reads a b) (pair_at Writes x y))) i);
 }
 shown_by nodes g Writes a b at_a at_b s = record {
   noted_are = λ t. s.noted_are t ∙ sym (noted_tied nodes a b tie.Rivals tie.Rivals t);
@@ -280,16 +280,20 @@ module _ (nodes : Table Node) (t : ℕ) (es : List (ℕ × Bond)) (rest : (x : �
       votes_left : (b : Bool) (o : Option Bool) (p : Option Node) → o ≡ option_map (λ n. n.voted) p → cond b None o ≡ option_map (λ n. n.voted) (cond b None p)
       votes_left true o p is = refl
       votes_left false o p is = is
+
       both_sides : (a b c : Bool) → ((a || b) && c) ≡ ((a && c) || (b && c))
       both_sides true true true = refl
       both_sides true true false = refl
       both_sides true false true = refl
       both_sides true false false = refl
       both_sides false b c = refl
+
       turned : (n : ℕ) → (t == n) ≡ (n == t)
       turned n = grind (arith, nat_tests)
+
       named : (a b : ℕ) → ((t == a) || (t == b)) ≡ ((a == t) || (b == t))
       named a b = λ i. turned a i || turned b i
+
       other_way : (a b : ℕ) → ((t == a) || (t == b)) ≡ ((b == t) || (a == t))
       other_way a b = named a b ∙ or_comm (a == t) (b == t)
 

@@ -1,6 +1,7 @@
 use crate::Graph;
 use co_base::Txn;
 use co_pairs::{Pair, PairKind};
+use std::alloc::Global;
 use std::test::Fail;
 
 fn pair(by: PairKind, first: u32, second: u32) -> Pair {
@@ -38,5 +39,42 @@ fn walks_go_in_ascending_order(rt: HostRuntime) -> Result<(), Fail> {
     graph.remove(Txn(4));
     assert_eq!(rt; graph.before(Txn(2)).next(), Some(Txn(5)));
     assert_eq!(rt; graph.voted_after(Txn(2)).next(), None);
+    Ok(())
+}
+
+/// How many transactions the long chain has.
+const MANY: u32 = 524_288;
+
+/// Each transaction of the chain read what the next one wrote, and every even one has voted.
+fn long_chain(alloc: Global) -> Result<Graph, Fail> {
+    let mut graph = Graph::new(alloc);
+    let mut pairs = Vec::new(alloc);
+    for t in 1..MANY {
+        graph.note(Txn(t))?;
+        pairs.push(pair(PairKind::Reads, t, t + 1))?;
+    }
+    graph.note(Txn(MANY))?;
+    graph.add(pairs.as_slice())?;
+    for t in 1..MANY + 1 {
+        if t % 2 == 0 {
+            graph.voted(Txn(t));
+        }
+    }
+    Ok(graph)
+}
+
+#[test]
+fn a_long_chain_is_walked_in_time(rt: HostRuntime) -> Result<(), Fail> {
+    let mut graph = long_chain(rt.alloc())?;
+    for t in 1..MANY + 1 {
+        let reader = if t == 1 { None } else { Some(Txn(t - 1)) };
+        assert_eq!(rt; graph.before(Txn(t)).next(), reader);
+        let writer = if t % 2 == 0 { None } else { Some(Txn(t + 1)) };
+        assert_eq!(rt; graph.voted_after(Txn(t)).next(), writer);
+    }
+    for t in 1..MANY + 1 {
+        graph.remove(Txn(t));
+    }
+    assert_eq!(rt; graph.before(Txn(2)).next(), None);
     Ok(())
 }

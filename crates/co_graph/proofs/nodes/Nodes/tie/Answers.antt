@@ -20,7 +20,7 @@ returns c =
     let there = sym (ap is_some c.in-Some.ensures.value) in
     on_ok c.tie.result
     (λ e.
-        view-insert nat_cmp_total nat_cmp-IsAntisymmetric es (c.get_mut.follows.lender c.tie.new.self).entries c.args.t c.tie.new.self ((c.get_mut.follows.holds c.tie.new.self).3 there).0
-        ∙ ap (λ m. put m c.args.t c.tie.new.self) c.self.view_is ∙ ap (put c.args.self.now c.args.t) e
-        ∙ ap (changed c.args.self.now c.args.t (node_tied c.args.u c.args.tie)) (c.in-Some.ensures.value ∙ sym (view-get nat_cmp_total _ _) ∙ ap (λ m. get m c.args.t) c.self.view_is))
+    view-insert nat_cmp_total nat_cmp-IsAntisymmetric es (c.get_mut.follows.lender c.tie.new.self).entries c.args.t c.tie.new.self ((c.get_mut.follows.holds c.tie.new.self).3 there).0
+    ∙ ap (λ m. put m c.args.t c.tie.new.self) c.self.view_is ∙ ap (put c.args.self.now c.args.t) e
+    ∙ ap (changed c.args.self.now c.args.t (node_tied c.args.u c.args.tie)) (c.in-Some.ensures.value ∙ sym (view-get nat_cmp_total _ _) ∙ ap (λ m. get m c.args.t) c.self.view_is))
     c.tie.ensures
