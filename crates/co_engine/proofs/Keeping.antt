@@ -1,5 +1,5 @@
 -- What a plain engine keeps of each transaction, against the state for which it stands.
-use Rattle.std.proofs.Common.{◌≡◌, T, ℕ, Bool, true, false, cond, not, ◌&&◌, List, [], ◌∷◌, map, filter, if◌then◌else◌, is_some, Option, None, Some, IsTrue, refl, sym, ap, ◌∙◌, subst}
+use Rattle.std.proofs.Common.{◌≡◌, ℕ, Bool, true, false, cond, not, ◌&&◌, List, [], ◌∷◌, map, filter, if◌then◌else◌, Option, None, Some, refl, sym, ap, ◌∙◌}
 use Rattle.std.specs.Prelude.{◌==◌}
 use Rattle.std.specs.Option.{option_map}
 use Rattle.std.specs.FinMap.{entries, entries_sorted, get-entries}
@@ -7,7 +7,6 @@ use Rattle.std.specs.FinMap.Entries.{find}
 use Rattle.std.specs.Ordering.{nat_cmp}
 use Rattle.co_base.specs.declared.op.Op.{Op}
 use Rattle.co_base.specs.declared.op.Op.TheVariants.{Read, Write, Erase, Scan}
-use Rattle.co_base.specs.declared.written.Written.{Written}
 use Rattle.co_state.specs.declared.engine_state.Operation.{Operation}
 use Rattle.co_state.specs.declared.engine_state.Sets.{Sets}
 use Rattle.co_state.specs.declared.engine_state.Vote.{Vote}
@@ -19,7 +18,7 @@ use Rattle.co_state.specs.LockRule.{writes_block, active_blocks}
 use Rattle.co_state.specs.Search.{sets_block}
 use Rattle.co_state.specs.Table.{Table, look, first_in, least_where}
 use Rattle.co_engine.specs.declared.undecided.Undecided.{Undecided}
-use Rattle.co_engine.specs.Plain.{IsKept, operations_kept, active_sets, voted_sets}
+use Rattle.co_engine.specs.Plain.{IsKept, active_sets, voted_sets}
 use Rattle.co_engine.specs.Undecided.{or_new, changes_kept}
 use Rattle.co_engine.proofs.Picking.{picked, with_picked, pick_in, passes, first-picked, same_picked}
 

@@ -4,14 +4,13 @@ use Rattle.std.specs.Prelude.{◌==◌, nat_lt}
 use Rattle.std.specs.Ordering.{nat_cmp, eq_by_cmp}
 use Rattle.std.specs.FinMap.Entries.{find, below_all, is_sorted}
 use Rattle.std.proofs.lemmas.Bool.Decides.{nat_tests}
-use Rattle.co_base.specs.Span.{Span}
 use Rattle.co_base.specs.declared.written.Written.{Written}
 use Rattle.co_state.specs.declared.engine_state.Sets.{Sets}
 use Rattle.co_state.specs.declared.pair.Pair.{Pair}
 use Rattle.co_state.specs.declared.pair.PairKind.{PairKind}
 use Rattle.co_state.specs.declared.pair.PairKind.TheVariants.{Reads, Writes}
 use Rattle.co_state.specs.Conflicts.{same_kind, same_pair, lists_pair, AreDistinctPairs}
-use Rattle.co_state.specs.Keys.{reads_key, reads_meet, writes_meet}
+use Rattle.co_state.specs.Keys.{reads_meet, writes_meet}
 use Rattle.co_engine.specs.declared.undecided.Undecided.{Undecided}
 use Rattle.co_engine.specs.Plain.{found_in, reads_pair, read_by_pair, writes_pair, written_by_pair, newly_read, newly_reads, newly_wrote_above, newly_wrote_below, pairs_made}
 use Rattle.co_engine.proofs.Picking.{first, second, tied, find-below, passes}

@@ -1,15 +1,13 @@
 -- For which states a plain engine stands after each call.
-use Rattle.std.proofs.Common.{◌≡◌, T, ℕ, Bool, true, false, cond, not, ◌&&◌, List, [], ◌∷◌, length, reverse, if◌then◌else◌, is_some, Option, None, Some, IsTrue, refl, sym, ap, ◌∙◌, subst, true≢false, eq-eqb, arith}
+use Rattle.std.proofs.Common.{◌≡◌, ℕ, Bool, true, false, cond, not, ◌&&◌, List, [], ◌∷◌, length, if◌then◌else◌, is_some, Option, None, Some, IsTrue, refl, sym, ap, ◌∙◌, true≢false, eq-eqb, arith}
 use Rattle.std.specs.Prelude.{◌==◌, nat_lt, ◌≤◌}
 use Rattle.std.proofs.lemmas.Bool.Decides.{nat_tests}
 use Rattle.std.specs.Option.{option_map}
 use Rattle.std.specs.FinMap.{entries, entries_sorted, get-entries, get-empty}
 use Rattle.std.specs.FinMap.Entries.{find}
 use Rattle.std.specs.Ordering.{nat_cmp, eq_by_cmp}
-use Rattle.co_base.specs.declared.head.Kind.{Kind}
-use Rattle.co_base.specs.declared.head.Kind.TheVariants.{Lock, Occ, Mv}
 use Rattle.co_base.specs.declared.op.Op.{Op}
-use Rattle.co_serial.specs.Records.{Records, with_changes, all_rows}
+use Rattle.co_serial.specs.Records.{Records, with_changes}
 use Rattle.co_serial.specs.SerialRun.{reply_to}
 use Rattle.co_pairs.specs.declared.prepared.Prepared.{Prepared}
 use Rattle.co_state.specs.declared.engine_state.EngineState.{EngineState}
@@ -17,13 +15,13 @@ use Rattle.co_state.specs.declared.engine_state.Install.{Install}
 use Rattle.co_state.specs.declared.engine_state.Operation.{Operation}
 use Rattle.co_state.specs.declared.engine_state.Sets.{Sets}
 use Rattle.co_state.specs.declared.engine_state.Vote.{Vote}
-use Rattle.co_state.specs.Changes.{sets_of, no_sets}
+use Rattle.co_state.specs.Changes.{sets_of}
 use Rattle.co_state.specs.Conflicts.{AreNewPairs, has_pair}
-use Rattle.co_state.specs.Effects.{with_operation, after_cast, after_install, after_drop, install_vote, restored, dumped_rows, dumped_undos, undo_of, undecided_changes}
+use Rattle.co_state.specs.Effects.{with_operation, after_cast, after_install, after_drop, install_vote, restored, undecided_changes}
 use Rattle.co_state.specs.EngineState.{operations_in, operations_of, sets_in, sets_at, records_at, records_now, installed_records}
 use Rattle.co_state.specs.LockRule.{lock_blocker, lock_holder, blocker_by}
 use Rattle.co_state.specs.ReadRule.{stamp_after, snapshot_of, operation_reply}
-use Rattle.co_state.specs.Table.{Table, no_entries, look, put, without, holds, lesser}
+use Rattle.co_state.specs.Table.{no_entries, look, put, without, holds, lesser}
 use Rattle.co_state.proofs.Tables.{look-put, look-without, put-without}
 use Rattle.co_engine.specs.declared.plain.PlainEngine.{PlainEngine}
 use Rattle.co_engine.specs.declared.undecided.Undecided.{Undecided}

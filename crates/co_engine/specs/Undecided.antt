@@ -1,5 +1,5 @@
 -- The undecided transactions of a plain engine, as the table that it keeps of them.
-use Rattle.std.specs.Prelude.{ℕ, Bool, true, false, not, List, [], ◌∷◌, map, filter, Option, None, Some}
+use Rattle.std.specs.Prelude.{ℕ, true, false, not, List, [], ◌∷◌, map, filter, Option, None, Some}
 use Rattle.co_base.specs.declared.op.Op.{Op}
 use Rattle.co_base.specs.declared.written.Written.{Written}
 use Rattle.co_engine.specs.declared.undecided.Undecided.{Undecided}

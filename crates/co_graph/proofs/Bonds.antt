@@ -3,7 +3,7 @@ use Rattle.std.proofs.Common.{◌≡◌, ℕ, Bool, true, false, cond, ◌&&◌,
 use Rattle.std.specs.Option.{option_map}
 use Rattle.std.specs.FinMap.{get-empty}
 use Rattle.std.specs.Ordering.{nat_cmp}
-use Rattle.co_state.specs.Table.{Table, look, put, without}
+use Rattle.co_state.specs.Table.{Table, look}
 use Rattle.co_state.proofs.Tables.{look-put, look-without}
 use Rattle.co_graph.specs.declared.bond.Bond.{Bond}
 use Rattle.co_graph.specs.declared.bond.Tie.{Tie}
@@ -11,7 +11,7 @@ use Rattle.co_graph.specs.declared.bond.Tie.TheVariants.{Reads, IsRead, Rivals}
 use Rattle.co_graph.specs.declared.nodes.Node.{Node}
 use Rattle.co_graph.specs.Ties.{no_bond, bond_with, or_none, node_tied, node_untied, changed, tied_to, untied_from, untied_all}
 use Rattle.co_graph.specs.Shown.{near_in, bond_at}
-use Rattle.co_graph.proofs.Numbers.{ties, tied, cond-same, and-false, or-false}
+use Rattle.co_graph.proofs.Numbers.{ties, tied, cond-same, or-false}
 
 changed_by : (nodes : Table Node) (t : ℕ) (f : Node → Node) (o : Option Node) (u : ℕ) (b : Bool) → look nodes t ≡ o → ties u t ≡ b → look (changed nodes t f o) u ≡ cond b (option_map f (look nodes u)) (look nodes u)
 changed_by nodes t f None u true is e = let same = ap (look nodes) (tied u t e) ∙ is in same ∙ sym (ap (option_map f) same)

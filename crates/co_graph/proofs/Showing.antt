@@ -16,11 +16,11 @@ use Rattle.co_graph.specs.declared.bond.Bond.{Bond}
 use Rattle.co_graph.specs.declared.bond.Tie.{Tie}
 use Rattle.co_graph.specs.declared.bond.Tie.TheVariants as tie
 use Rattle.co_graph.specs.declared.nodes.Node.{Node}
-use Rattle.co_graph.specs.PlainGraph.{PlainGraph, nothing_noted, with_noted, with_pair, with_pairs, with_voted, with_removed, names, has_both, has_all, reads_from, wrote_same}
-use Rattle.co_graph.specs.Ties.{no_bond, or_none, node_voted, node_tied, node_untied, changed, with_vote, tied_to, tied_by, pair_tied, pairs_tied, untied_all}
+use Rattle.co_graph.specs.PlainGraph.{PlainGraph, nothing_noted, with_noted, with_pair, with_pairs, with_voted, with_removed, names, has_both, has_all}
+use Rattle.co_graph.specs.Ties.{no_bond, or_none, node_voted, node_tied, changed, with_vote, tied_to, tied_by, pair_tied, pairs_tied, untied_all}
 use Rattle.co_graph.specs.Shown.{AreShown, bond_at}
 use Rattle.co_graph.proofs.Numbers.{ties, tied, ties-eq, and-false, or-false, cond-same}
-use Rattle.co_graph.proofs.Bonds.{bond_in, bond-none, look-changed, seen-changed, IsFlag, reads_flag, is_read_flag, rivals_flag, ties_reads, ties_is_read, ties_rivals, flag-tied, is_key, flag-untied_all, seen-untied_all}
+use Rattle.co_graph.proofs.Bonds.{bond_in, bond-none, look-changed, seen-changed, IsFlag, reads_flag, is_read_flag, rivals_flag, flag-tied, is_key, flag-untied_all, seen-untied_all}
 
 or_comm : (a b : Bool) → (a || b) ≡ (b || a)
 or_comm true true = refl

@@ -7,7 +7,7 @@ use Rattle.std.specs.List.{list_any, AllByRecursion}
 use Rattle.std.specs.List.Sorted.{IsStrictlySortedBy}
 use Rattle.std.specs.FinMap.{entries, entries_sorted, get-entries}
 use Rattle.std.specs.FinMap.Entries.{find, below_all, is_sorted}
-use Rattle.std.specs.Ordering.{nat_cmp, is_lt}
+use Rattle.std.specs.Ordering.{nat_cmp}
 use Rattle.std.specs.declared.cmp.Ordering.TheVariants.{Less}
 use Rattle.co_base.specs.Order.{IsAscending}
 use Rattle.co_state.specs.Table.{Table, look}
@@ -19,7 +19,7 @@ use Rattle.co_graph.specs.PlainGraph.{PlainGraph, voted_in, has_voted, reads_fro
 use Rattle.co_graph.specs.Ties.{no_bond, or_none, vote_in, has_vote}
 use Rattle.co_graph.specs.Shown.{AreShown, near_at, bond_at}
 use Rattle.co_graph.specs.Walks.{meets, met_along, walk_before}
-use Rattle.co_graph.proofs.Numbers.{ties, tied, ties-eq, find-below, first, second, less, and-false, or-false}
+use Rattle.co_graph.proofs.Numbers.{ties, tied, ties-eq, find-below, first, second, less, and-false}
 
 vote_shown : (o : Option Node) → vote_in o ≡ voted_in (option_map (λ n. n.voted) o)
 vote_shown None = refl

@@ -1,12 +1,12 @@
 -- For which plain graphs the kept tables stand.
-use Rattle.std.specs.Prelude.{ℕ, Bool, ◌≡◌, Option, None, Some}
+use Rattle.std.specs.Prelude.{ℕ, ◌≡◌, Option, None, Some}
 use Rattle.std.specs.Option.{option_map}
 use Rattle.co_graph.specs.declared.bond.Bond.{Bond}
 use Rattle.co_graph.specs.declared.graph.Graph.{Graph}
 use Rattle.co_graph.specs.declared.nodes.Node.{Node}
 use Rattle.co_state.specs.Table.{Table, no_entries, look}
 use Rattle.co_graph.specs.PlainGraph.{PlainGraph, reads_from, wrote_same}
-use Rattle.co_graph.specs.Ties.{no_bond, or_none}
+use Rattle.co_graph.specs.Ties.{or_none}
 
 abbrev pub near_in : Option Node → Table Bond
 near_in None = no_entries

@@ -1,10 +1,9 @@
-use Rattle.std.proofs.Common.{◌≡◌, List, Option, None, Some, sym, ap, ◌∙◌, subst}
+use Rattle.std.proofs.Common.{List, Option, None, Some, sym, ap, ◌∙◌, subst}
 use Rattle.co_state.specs.declared.pair.Pair.{Pair}
 use Rattle.co_state.specs.Conflicts.{AreNewPairs}
 use Rattle.co_engine.specs.declared.answers.Seen.TheVariants.{Answer}
 use Rattle.co_engine.specs.declared.plain.PlainEngine.{PlainEngine}
 use Rattle.co_engine.specs.Plain.{StandsFor}
-use Rattle.co_engine.specs.Calls.{seen_by}
 use Rattle.co_engine.proofs.Standing.{blocker_alike, reply_alike, seen_alike, after_seen, stands_with, pairs_alike, nothing_new}
 use Rattle.co_engine.proofs.plain.PlainEngine.operate.Goals as goal
 

@@ -1,10 +1,7 @@
-use Rattle.std.proofs.Common.{◌≡◌, List, sym, ap, ◌∙◌, subst}
-use Rattle.co_state.specs.declared.engine_state.Install.{Install}
+use Rattle.std.proofs.Common.{sym, ◌∙◌, subst}
 use Rattle.co_state.specs.Effects.{after_install}
-use Rattle.co_state.specs.Table.{Table}
 use Rattle.co_state.proofs.Tables.{on_ok}
 use Rattle.co_engine.specs.declared.plain.PlainEngine.{PlainEngine}
-use Rattle.co_engine.specs.declared.undecided.Undecided.{Undecided}
 use Rattle.co_engine.specs.Plain.{StandsFor}
 use Rattle.co_engine.proofs.Standing.{stands_install, install_absent}
 use Rattle.co_engine.proofs.plain.PlainEngineEngine.install.Goals as goal

@@ -1,4 +1,4 @@
-use Rattle.std.proofs.Common.{◌≡◌, ap, ◌∙◌}
+use Rattle.std.proofs.Common.{ap, ◌∙◌}
 use Rattle.co_state.specs.Effects.{records_from}
 use Rattle.co_engine.proofs.Standing.{stands_restored}
 use Rattle.co_engine.proofs.plain.PlainEngineEngine.restore.Goals as goal
