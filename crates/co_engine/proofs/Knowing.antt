@@ -51,7 +51,7 @@ equal-tie Equal e = refl
 equal-tie Greater e = absurd (subst T (sym e) tt)
 
 -- numbers that tie are equal
-ties : (u t : ℕ) → eq_by_cmp nat_cmp u t ≡ (t == u)
+pub ties : (u t : ℕ) → eq_by_cmp nat_cmp u t ≡ (t == u)
 ties u t = both_ways _ _
     (λ e. eq-eqb t u (sym (nat_cmp-IsAntisymmetric u t (equal-tie (nat_cmp u t) e))))
     (λ e. subst (λ k. eq_by_cmp nat_cmp u k ≡ true) (sym (eqb→eq t u (subst T (sym e) tt))) ((eq_by_cmp_equiv nat_cmp_total).refl u))

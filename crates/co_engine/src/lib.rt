@@ -6,11 +6,18 @@
 
 mod answers;
 mod command;
+mod dumping;
 mod engine;
 mod known;
+mod new_pairs;
+mod plain;
 mod player;
+#[cfg(test)]
+mod tests;
+mod undecided;
 
 pub use answers::{Dump, Seen};
 pub use command::{Answers, Command, Played};
 pub use engine::Engine;
+pub use plain::PlainEngine;
 pub use player::play;

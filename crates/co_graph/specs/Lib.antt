@@ -1,1 +1,4 @@
 pub mod PlainGraph
+pub mod Ties
+pub mod Shown
+pub mod Walks

@@ -24,6 +24,10 @@ with_noted g t = if holds g.noted t then g else record { noted = put g.noted t f
 abbrev pub has_both : PlainGraph → Pair → Bool
 has_both g p = holds g.noted p.first && holds g.noted p.second
 
+abbrev pub has_all : PlainGraph → List Pair → Bool
+has_all g [] = true
+has_all g (p ∷ ps) = has_both g p && has_all g ps
+
 -- pairs join the set
 abbrev pub with_pair : List Pair → Pair → List Pair
 with_pair pairs p = if lists_pair pairs p then pairs else p ∷ pairs

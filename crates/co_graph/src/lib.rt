@@ -2,5 +2,15 @@
 //! what another one wrote.
 //!
 //! `specs/PlainGraph` says what such a graph is as plain data, and which transactions the two walks of the
-//! voting rule meet.
+//! voting rule meet. Each call does to the kept tables what it does to the plain data.
 #![tactic(auto)]
+
+mod bond;
+mod graph;
+mod near;
+mod nodes;
+#[cfg(test)]
+mod tests;
+
+pub use graph::Graph;
+pub use near::Near;

@@ -1,0 +1,4 @@
+mod Numbers
+mod Bonds
+mod Showing
+mod Walking
