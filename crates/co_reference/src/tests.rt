@@ -6,6 +6,7 @@ use std::alloc::Global;
 mod checkpoints;
 mod crashes;
 mod kinds;
+mod local;
 mod longer;
 mod refusals;
 mod voting;

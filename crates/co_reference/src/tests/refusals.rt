@@ -55,7 +55,10 @@ fn a_transaction_has_1024_operations_at_a_member(rt: HostRuntime) -> Result<(), 
     let replies = told(alloc, &transcript, b"reply")?;
     assert_eq!(rt; replies.as_slice(), wanted.as_slice());
     let sends = told(alloc, &transcript, b"send")?;
-    assert_eq!(rt; sends.as_slice(), b"prepare 1 c1 m1 1024\ndecide 1 c1 m1 abort\n".as_slice());
+    assert_eq!(rt;
+        sends.as_slice(),
+        b"prepare 1 c1 m1 1024\ndecide 1 c1 m1 abort\n".as_slice()
+    );
     Ok(())
 }
 
