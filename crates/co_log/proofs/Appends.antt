@@ -1,10 +1,9 @@
 -- What an appended batch leaves.
-use Rattle.std.proofs.Common.{◌≡◌, ◌⊎◌, ℕ, ◌+◌, ◌^◌, ◌<◌, ◌≤◌, Bool, true, false, List, [], ◌∷◌, ◌++◌, length, refl, sym, ap, subst, ◌∙◌, arith, inl, inr}
+use Rattle.std.proofs.Common.{◌≡◌, ◌⊎◌, ℕ, ◌+◌, ◌<◌, ◌≤◌, Bool, true, false, List, [], ◌∷◌, ◌++◌, length, sym, ap, subst, ◌∙◌, arith, inl, inr}
 use Rattle.std.specs.Prelude.{Option, Some, slice_get, if◌then◌else◌}
 use Rattle.std.specs.List.{AllByRecursion}
 use Rattle.co_base.specs.declared.leaves.Leaves.{Leaves}
-use Rattle.co_outside.specs.Home.{File}
-use Rattle.co_disk.specs.DiskModel.{DiskState, IsImage, IsChosen, read_of, stable_disk}
+use Rattle.co_disk.specs.DiskModel.{DiskState, IsImage, IsChosen, read_of}
 use Rattle.co_disk.specs.DiskView.{DiskView}
 use Rattle.co_frame.specs.LogText.{IsBatch, batch_text, closed_gate}
 use Rattle.co_record.specs.declared.record.Record.{Record}

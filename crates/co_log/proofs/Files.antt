@@ -1,12 +1,10 @@
 -- The records of a log file after a change at its gate or behind it.
-use Rattle.std.proofs.Common.{◌≡◌, ◌≢◌, ℕ, zero, suc, ◌+◌, ◌-◌, ◌^◌, ◌<◌, ◌≤◌, min, Bool, true, false, List, [], ◌∷◌, ◌++◌, length, take, drop, refl, sym, ap, subst, ◌∙◌, append_assoc, arith, inl, inr, add-one}
-use Rattle.std.specs.Prelude.{Option, Some, None, slice_get, nat_lt, nat_le}
-use Rattle.std.specs.List.{flat_map, AllByRecursion}
-use Rattle.std.proofs.lemmas.Bool.{cases_lt, cases_Bool}
-use Rattle.std.proofs.lemmas.List.{append-nil, take_at, drop_at, length-append, length-take, take-append-drop}
-use Rattle.co_disk.specs.DiskModel.{DiskState, IsImage, read_of, stable_disk, after_write, after_sync, is_touched, covers}
+use Rattle.std.proofs.Common.{◌≡◌, ◌≢◌, ℕ, suc, ◌+◌, ◌<◌, ◌≤◌, List, [], ◌∷◌, ◌++◌, length, take, drop, refl, sym, ap, subst, ◌∙◌, append_assoc, arith}
+use Rattle.std.specs.Prelude.{Some, slice_get}
+use Rattle.std.specs.List.{AllByRecursion}
+use Rattle.std.proofs.lemmas.List.{append-nil, take_at, length-append, length-take, take-append-drop}
 use Rattle.co_disk.proofs.Gets.{get_take, same_to, same_everywhere}
-use Rattle.co_frame.specs.LogText.{IsBatch, IsLogText, IsGated, gated, batch_text, open_gate, closed_gate}
+use Rattle.co_frame.specs.LogText.{IsBatch, IsLogText, gated, batch_text, open_gate, closed_gate}
 use Rattle.co_frame.proofs.Texts.{hides, gated_more, each_more}
 use Rattle.co_record.specs.declared.record.Record.{Record}
 use Rattle.co_record.specs.Spelling.{spelling, IsSpelled}

@@ -1,22 +1,22 @@
 -- The images of a disk at the device calls of a log write, read as log files.
-use Rattle.std.proofs.Common.{◌≡◌, ◌≢◌, ◌⊎◌, ℕ, zero, suc, ◌+◌, ◌-◌, ◌<◌, ◌≤◌, Bool, true, false, List, [], ◌∷◌, ◌++◌, length, take, drop, refl, sym, ap, subst, ◌∙◌, append_assoc, arith, inl, inr, eqb}
-use Rattle.std.specs.Prelude.{Option, Some, None, slice_get, nat_lt, nat_le, max, ◌==◌, if◌then◌else◌, ◌&&◌, ◌||◌}
-use Rattle.std.specs.List.{flat_map, AllByRecursion}
+use Rattle.std.proofs.Common.{◌≡◌, ◌≢◌, ℕ, zero, suc, ◌+◌, ◌<◌, ◌≤◌, Bool, true, false, List, [], ◌∷◌, ◌++◌, length, take, drop, refl, sym, ap, subst, ◌∙◌, append_assoc, arith, inl, inr}
+use Rattle.std.specs.Prelude.{Some, slice_get, nat_lt, nat_le, ◌==◌, if◌then◌else◌, ◌&&◌, ◌||◌}
+use Rattle.std.specs.List.{AllByRecursion}
 use Rattle.std.proofs.lemmas.Bool.{cases_Bool, cases_lt}
 use Rattle.std.proofs.lemmas.Bool.Decides.{nat_tests}
 use Rattle.std.proofs.lemmas.List.{take_at, length-append}
 use Rattle.co_base.specs.declared.leaves.Leaves.{Leaves}
 use Rattle.co_base.specs.declared.leaves.Leaves.TheVariants.{Old, New, Filled}
 use Rattle.co_outside.specs.Overlay.{overlaid}
-use Rattle.co_disk.specs.DiskModel.{DiskState, IsImage, IsChosen, IsSound, read_of, stable_disk, after_write, after_sync, is_touched, covers, touched_before, or_else, left_at}
-use Rattle.co_disk.proofs.Images.{chosen_is_image, sound_more, read_is_image}
-use Rattle.co_disk.proofs.Gets.{get_left, get_right, get_past, length_overlaid, length_take}
-use Rattle.co_frame.specs.LogText.{IsBatch, IsGated, gated, batch_text, open_gate, closed_gate}
+use Rattle.co_disk.specs.DiskModel.{IsImage, IsChosen, IsSound, read_of, stable_disk, touched_before, or_else, left_at}
+use Rattle.co_disk.proofs.Images.{chosen_is_image, sound_more}
+use Rattle.co_disk.proofs.Gets.{get_right, get_past, length_overlaid, length_take}
+use Rattle.co_frame.specs.LogText.{IsBatch, gated, batch_text, open_gate, closed_gate}
 use Rattle.co_record.specs.declared.record.Record.{Record}
 use Rattle.co_record.specs.declared.record.Record.TheVariants.{Header, Prepare, Commit, Abort, End, Checkpoint}
 use Rattle.co_record.specs.Spelling.{spelling, IsSpelled}
-use Rattle.co_log.specs.LogFile.{placed_from, spelled, EndsAt, EndsAfter, OldOrBoth, opened}
-use Rattle.co_log.specs.BatchWrite.{begins_open, opens_gate, batch_is_stable, closed_batch, batch_pending, gate_pending, disk_at, disk_after}
+use Rattle.co_log.specs.LogFile.{spelled, EndsAt, EndsAfter, OldOrBoth, opened}
+use Rattle.co_log.specs.BatchWrite.{opens_gate, batch_is_stable, closed_batch, batch_pending, gate_pending, disk_at}
 use Rattle.co_log.proofs.Files.{hidden, one_byte, gate_opens, gate_stays, gate_within}
 
 -- ---- the batch behind the gate

@@ -4,17 +4,16 @@ use Rattle.std.specs.Prelude.{Option, Some, None, if◌then◌else◌}
 use Rattle.co_base.specs.declared.leaves.Leaves.{Leaves}
 use Rattle.co_base.specs.declared.mark.Mark.{Mark}
 use Rattle.co_record.specs.declared.record.Record.{Record}
-use Rattle.co_log.specs.declared.append.Ending.{Ending}
 use Rattle.co_log.specs.declared.append.Ending.TheVariants.{Whole, Stopped}
 use Rattle.co_log.specs.declared.stop.Stop.{Stop}
 use Rattle.co_log.specs.Appending.{IsEnding}
 use Rattle.co_log.specs.BatchWrite.{batch_is_stable}
 use Rattle.co_log.specs.Forcing.{IsWritten}
-use Rattle.co_log.specs.LogFile.{spelled, next_gate, next_items, EndsAt, EndsAfter}
-use Rattle.co_log.specs.Spare.{IsFilled, IsUnfilled, IsFilledIf, filling, filling_mark, turned}
+use Rattle.co_log.specs.LogFile.{next_gate, next_items, EndsAt, EndsAfter}
+use Rattle.co_log.specs.Spare.{IsFilled, IsFilledIf, filling, turned}
 use Rattle.co_log.specs.BatchWrite.{begins_closed}
 use Rattle.co_disk.specs.DiskView.{DiskView}
-use Rattle.co_frame.specs.LogText.{IsGated, gated, open_gate}
+use Rattle.co_frame.specs.LogText.{gated, open_gate}
 use Rattle.std.specs.Prelude.{not, ◌==◌}
 use Rattle.std.proofs.lemmas.Bool.{cases_Bool}
 use Rattle.std.proofs.Common.{length, ◌≢◌, inl, inr}

@@ -1,6 +1,6 @@
 -- Batches as they are read at the start.
-use Rattle.std.proofs.Common.{◌≡◌, ◌≢◌, ◌⊎◌, ℕ, ◌+◌, ◌<◌, ◌≤◌, List, [], ◌∷◌, ◌++◌, length, drop, refl, sym, ap, subst, ◌∙◌, append_assoc, arith, inl, inr}
-use Rattle.std.specs.Prelude.{Option, Some, None, Result, Ok, Err}
+use Rattle.std.proofs.Common.{◌≡◌, ◌≢◌, ℕ, ◌+◌, ◌<◌, List, [], ◌∷◌, ◌++◌, length, drop, refl, sym, ap, subst, ◌∙◌, append_assoc, arith, inl, inr}
+use Rattle.std.specs.Prelude.{Option, Some, None}
 use Rattle.std.proofs.lemmas.List.{append-nil, length-append}
 use Rattle.co_base.specs.declared.node.Node.{Node}
 use Rattle.co_record.specs.declared.record.Record.{Record}
@@ -10,9 +10,8 @@ use Rattle.co_record.specs.Spelling.{spelling, IsSpelled}
 use Rattle.co_record.specs.Stored.{AreRecords}
 use Rattle.co_frame.specs.LogText.{GateWalk, HasPassed, IsLogText, IsBatch, gated}
 use Rattle.co_record.specs.Stored.{HoldRecords}
-use Rattle.co_log.specs.LogFile.{EndsAt}
 use Rattle.co_log.proofs.Files.{hold_more}
-use Rattle.co_log.specs.Scanning.{IsFound, IsHeaded, IsReadTo, HasNoRecord, HasWrongHeader, IsUnreadable, IsScanned, IsLogFile, IsBadBatch}
+use Rattle.co_log.specs.Scanning.{IsFound, IsHeaded, IsReadTo, IsUnreadable, IsScanned, IsLogFile, IsBadBatch}
 
 -- one record more, behind those that are there
 are_more : (at : ℕ) (front : List ℕ) (items : List (ℕ × Record)) (item : Record) → AreRecords at front items → IsSpelled item → AreRecords at (front ++ spelling item) (items ++ (at + length front, item) ∷ [])

@@ -4,7 +4,7 @@ use Rattle.std.specs.Prelude.{Option, Some, None, nat_le, if◌then◌else◌, o
 use Rattle.std.proofs.lemmas.Bool.{cases_Bool}
 use Rattle.std.proofs.lemmas.Bool.Decides.{nat_tests}
 use Rattle.co_base.specs.declared.leaves.Leaves.{Leaves}
-use Rattle.co_disk.specs.DiskModel.{DiskState, stable_disk, after_write, after_sync}
+use Rattle.co_disk.specs.DiskModel.{DiskState, stable_disk}
 use Rattle.co_disk.specs.DiskView.{DiskView}
 use Rattle.co_disk.specs.Stops.{IsStopped, IsLeft, stop_here, after_call, armed_for}
 use Rattle.co_disk.specs.declared.stop.Armed.{Armed}

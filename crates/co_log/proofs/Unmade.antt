@@ -1,13 +1,13 @@
 -- Files without a batch, and gates that are closed.
-use Rattle.std.proofs.Common.{◌≡◌, ◌≢◌, ◌⊎◌, ℕ, ◌+◌, ◌<◌, ◌≤◌, Bool, true, false, List, [], ◌∷◌, ◌++◌, length, take, drop, refl, sym, ap, subst, ◌∙◌, arith, inl, inr}
-use Rattle.std.specs.Prelude.{Option, None, Some, not, ◌==◌, ◌&&◌, ◌||◌, nat_le, nat_lt, slice_get, if◌then◌else◌}
+use Rattle.std.proofs.Common.{◌≡◌, ◌≢◌, ◌⊎◌, ℕ, ◌+◌, ◌≤◌, Bool, true, false, List, [], ◌∷◌, ◌++◌, length, refl, sym, ap, subst, ◌∙◌, arith, inl, inr}
+use Rattle.std.specs.Prelude.{Option, None, Some, not, ◌==◌, ◌&&◌, ◌||◌, nat_le, nat_lt, slice_get}
 use Rattle.std.proofs.lemmas.Bool.{cases_lt}
 use Rattle.co_base.specs.declared.leaves.Leaves.{Leaves}
 use Rattle.co_base.specs.declared.leaves.Leaves.TheVariants.{Old, New, Filled}
 use Rattle.co_outside.specs.Overlay.{overlaid}
 use Rattle.co_disk.specs.DiskModel.{DiskState, IsImage, IsChosen, left_at, read_of, stable_disk, after_write, after_sync}
 use Rattle.co_disk.proofs.Gets.{length_overlaid, get_past}
-use Rattle.co_frame.specs.LogText.{IsLogText, IsGated, gated, open_gate}
+use Rattle.co_frame.specs.LogText.{IsLogText, gated, open_gate}
 use Rattle.co_frame.proofs.Texts.{hides}
 use Rattle.co_record.specs.declared.record.Record.{Record}
 use Rattle.co_log.specs.BatchWrite.{begins_closed, closes_spare}

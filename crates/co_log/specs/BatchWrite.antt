@@ -1,6 +1,6 @@
 -- A log write: a batch is laid behind a gate that is not open, synced, the gate is opened, and that is
 -- synced. These are device calls 1 to 4.
-use Rattle.std.specs.Prelude.{◌≡◌, ℕ, ◌+◌, Bool, true, false, not, ◌&&◌, ◌==◌, nat_le, if◌then◌else◌, List, [], ◌∷◌, ◌++◌}
+use Rattle.std.specs.Prelude.{ℕ, ◌+◌, Bool, true, false, not, ◌&&◌, ◌==◌, nat_le, if◌then◌else◌, List, [], ◌∷◌, ◌++◌}
 use Rattle.co_base.specs.declared.leaves.Leaves.{Leaves}
 use Rattle.co_base.specs.declared.leaves.Leaves.TheVariants.{Old, New, Filled}
 use Rattle.co_disk.specs.DiskModel.{DiskState, stable_disk, after_write, after_sync}

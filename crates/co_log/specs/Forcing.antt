@@ -1,5 +1,5 @@
 -- How a log write ends for the log.
-use Rattle.std.specs.Prelude.{ℕ, ◌≡◌, Bool, true, if◌then◌else◌, List, [], Option, Some, None, Result, Ok, Err}
+use Rattle.std.specs.Prelude.{ℕ, ◌≡◌, Bool, true, if◌then◌else◌, List, [], Some, None, Result, Ok, Err}
 use Rattle.co_base.specs.declared.leaves.Leaves.{Leaves}
 use Rattle.co_base.specs.declared.mark.Mark.{Mark}
 use Rattle.co_outside.specs.declared.spot.Spot.{Spot}

@@ -1,17 +1,15 @@
 -- What contracts see of a log, and when it stands for a list of records.
-use Rattle.std.specs.Prelude.{ℕ, ◌≡◌, ◌≢◌, ◌<◌, ◌++◌, ◌==◌, length, Bool, if◌then◌else◌, List, [], Option, Some, None, Result, Ok, Err}
-use Rattle.co_base.specs.declared.leaves.Leaves.{Leaves}
-use Rattle.co_base.specs.declared.mark.Mark.{Mark}
+use Rattle.std.specs.Prelude.{ℕ, ◌≡◌, ◌≢◌, ◌<◌, ◌==◌, length, if◌then◌else◌, List, [], Option}
 use Rattle.co_base.specs.declared.node.Node.{Node}
 use Rattle.co_outside.specs.declared.spot.Spot.{Spot}
 use Rattle.co_outside.specs.Home.{File}
 use Rattle.co_disk.specs.DiskModel.{read_of}
 use Rattle.co_disk.specs.DiskView.{DiskView}
-use Rattle.co_disk.specs.Homes.{Agrees, IsClean}
+use Rattle.co_disk.specs.Homes.{Agrees}
 use Rattle.co_record.specs.declared.record.Record.{Record}
 use Rattle.co_record.specs.declared.record.Record.TheVariants as log
 use Rattle.co_log.specs.declared.stop.Stop.{Stop}
-use Rattle.co_log.specs.LogFile.{placed_from, EndsAt}
+use Rattle.co_log.specs.LogFile.{EndsAt}
 
 -- Its node; the disks of its current file and of the spare one; the place of the first gate of the current
 -- file that is not open, and its generation, both 0 for a fresh log; the waiting records, oldest first; and

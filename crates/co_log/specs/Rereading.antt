@@ -1,5 +1,5 @@
 -- Why a file was not read again.
-use Rattle.std.specs.Prelude.{ℕ, ◌≡◌, ◌≢◌, List, Option, None, slice_get}
+use Rattle.std.specs.Prelude.{◌≡◌, ◌≢◌, Option, None, slice_get}
 use Rattle.co_outside.specs.Home.{File}
 use Rattle.co_disk.specs.DiskModel.{read_of}
 use Rattle.co_disk.specs.DiskView.{DiskView}

@@ -1,5 +1,5 @@
 -- Files of a log as they are read at the start: whose they are, of which generation, and what is wrong.
-use Rattle.std.specs.Prelude.{ℕ, ◌+◌, ◌≡◌, ◌≢◌, ◌<◌, ◌⊎◌, List, [], ◌∷◌, ◌++◌, length, Option, Some, None}
+use Rattle.std.specs.Prelude.{ℕ, ◌+◌, ◌≡◌, ◌≢◌, ◌⊎◌, List, [], ◌∷◌, ◌++◌, length, Option, Some, None}
 use Rattle.co_base.specs.declared.node.Node.{Node}
 use Rattle.co_frame.specs.LogText.{GateWalk, HasPassed, IsLogText, IsBrokenAt}
 use Rattle.co_record.specs.declared.record.Record.{Record}

@@ -1,5 +1,5 @@
 -- Stops that come within a number of device calls.
-use Rattle.std.specs.Prelude.{ℕ, ◌+◌, ◌-◌, ◌≡◌, ◌≤◌, ◌<◌, List, Option, Some, None, option_map}
+use Rattle.std.specs.Prelude.{ℕ, ◌-◌, ◌≡◌, ◌≤◌, ◌<◌, Option, Some, None, option_map}
 use Rattle.co_disk.specs.declared.stop.Armed.{Armed}
 use Rattle.co_disk.specs.DiskModel.{DiskState}
 use Rattle.co_disk.specs.DiskView.{DiskView}

@@ -1,4 +1,4 @@
-use Rattle.std.proofs.Common.{◌≡◌, ◌∙◌, ℕ, List, subst, inl, inr}
+use Rattle.std.proofs.Common.{◌∙◌, ℕ, List, subst, inl, inr}
 use Rattle.co_log.specs.Scanning.{IsBadAt, IsLogFile}
 use Rattle.co_log.proofs.Unmade.{read_stable}
 use Rattle.co_log.proofs.attaching.read_both.Goals as goal

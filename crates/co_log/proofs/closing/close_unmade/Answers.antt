@@ -1,10 +1,10 @@
-use Rattle.std.proofs.Common.{rules, ◌≡◌, ◌≤◌, ◌∷◌, [], ℕ, List, length, sym, ap, subst, ◌∙◌, true, false}
+use Rattle.std.proofs.Common.{rules, ◌≡◌, ◌∷◌, [], sym, ap, subst, ◌∙◌, false}
 use Rattle.std.specs.Prelude.{Some}
-use Rattle.co_disk.specs.DiskModel.{DiskState, read_of, after_write, after_sync, IsImage}
+use Rattle.co_disk.specs.DiskModel.{after_write, after_sync, IsImage}
 use Rattle.co_disk.specs.DiskView.{DiskView}
 use Rattle.co_log.specs.BatchWrite.{begins_closed}
 use Rattle.co_log.proofs.Stops.{never_stopped}
-use Rattle.co_log.proofs.Unmade.{ends_at_once, short_unmade, closed_disk, short_image, read_stable}
+use Rattle.co_log.proofs.Unmade.{short_unmade, closed_disk, short_image, read_stable}
 use Rattle.co_log.proofs.closing.close_unmade.Goals as goal
 
 pub unreachable-requires : goal.unreachable-requires

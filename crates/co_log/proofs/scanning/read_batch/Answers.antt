@@ -1,4 +1,4 @@
-use Rattle.std.proofs.Common.{◌≡◌, ◌+◌, ℕ, List, sym, subst}
+use Rattle.std.proofs.Common.{◌+◌, ℕ, List, sym, subst}
 use Rattle.std.specs.Prelude.{Some}
 use Rattle.std.proofs.lemmas.List.{take_rest}
 use Rattle.co_record.specs.Lent.{record_of}

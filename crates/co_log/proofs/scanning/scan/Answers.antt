@@ -1,4 +1,4 @@
-use Rattle.std.proofs.Common.{◌≡◌, ◌∙◌, ◌+◌, ◌≤◌, ℕ, List, length, ap, subst, inr, arith}
+use Rattle.std.proofs.Common.{◌∙◌, ◌+◌, ℕ, List, length, ap, subst, inr, arith}
 use Rattle.co_log.specs.Scanning.{IsBadBatch}
 use Rattle.co_log.proofs.Scans.{scan_next, bad_batch}
 use Rattle.co_log.proofs.scanning.scan.Goals as goal

@@ -1,9 +1,8 @@
-use Rattle.std.proofs.Common.{rules, ◌≡◌, ◌≤◌, ◌<◌, ◌+◌, [], ◌∷◌, ℕ, List, length, sym, ap, subst, ◌∙◌, refl}
-use Rattle.std.specs.Prelude.{Some, IsErrOf}
-use Rattle.co_disk.specs.DiskModel.{DiskState, read_of, stable_disk, after_write, after_sync, IsImage}
-use Rattle.co_outside.specs.Home.{File}
+use Rattle.std.proofs.Common.{rules, ◌≡◌, ◌+◌, [], ◌∷◌, sym, ap, subst, ◌∙◌}
+use Rattle.std.specs.Prelude.{Some}
+use Rattle.co_disk.specs.DiskModel.{DiskState, after_write, after_sync, IsImage}
 use Rattle.co_outside.specs.declared.spot.Spot.{Spot}
-use Rattle.co_log.specs.BatchWrite.{batch_pending, gate_pending, disk_at}
+use Rattle.co_log.specs.BatchWrite.{disk_at}
 use Rattle.co_log.proofs.Stops.{stopped_first, stopped_second, all_stable, early, late}
 use Rattle.co_log.proofs.writing.write_batch.Goals as goal
 

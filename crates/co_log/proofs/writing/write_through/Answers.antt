@@ -1,12 +1,9 @@
-use Rattle.std.proofs.Common.{rules, ◌≡◌, ◌≤◌, ◌<◌, ◌+◌, [], ◌∷◌, ℕ, List, length, sym, ap, subst, ◌∙◌, refl}
-use Rattle.std.specs.Prelude.{Some, IsErrOf}
-use Rattle.co_disk.specs.DiskModel.{DiskState, read_of, after_write, after_sync, IsImage}
-use Rattle.co_disk.specs.DiskView.{DiskView}
+use Rattle.std.proofs.Common.{rules, ◌≡◌, sym, subst}
+use Rattle.std.specs.Prelude.{Some}
+use Rattle.co_disk.specs.DiskModel.{DiskState, after_write, IsImage}
 use Rattle.co_disk.specs.Stops.{IsStopped}
-use Rattle.co_outside.specs.Home.{File}
 use Rattle.co_outside.specs.declared.spot.Spot.{Spot}
 use Rattle.co_log.proofs.Stops.{at_first, at_second}
-use Rattle.co_log.specs.Stopping.{IsStoppedWithin}
 use Rattle.co_log.proofs.writing.write_through.Goals as goal
 
 pub returns-in_err-write_at-clause-stopped : goal.returns-in_err-write_at-clause-stopped

@@ -1,6 +1,5 @@
-use Rattle.std.proofs.Common.{rules, ◌≡◌, [], ◌∷◌, ℕ, List, sym, ap, subst, ◌∙◌, refl, false}
+use Rattle.std.proofs.Common.{rules, ◌≡◌, [], ◌∷◌, sym, ap, subst, ◌∙◌, refl, false}
 use Rattle.std.specs.Prelude.{Some, Err}
-use Rattle.co_base.specs.declared.leaves.Leaves.{Leaves}
 use Rattle.co_disk.specs.DiskModel.{DiskState, IsChosen, IsImage, after_write}
 use Rattle.co_outside.specs.declared.spot.Spot.{Spot}
 use Rattle.co_log.specs.declared.fault.LogFault.TheVariants as faults

@@ -1,17 +1,15 @@
-use Rattle.std.proofs.Common.{rules, ◌≡◌, [], ◌∷◌, ◌++◌, ◌+◌, ℕ, List, sym, ap, subst, ◌∙◌, refl, inl, inr, true}
+use Rattle.std.proofs.Common.{◌≡◌, [], List, sym, ap, subst, ◌∙◌, refl, inr, true}
 use Rattle.std.specs.Prelude.{Some, Ok, Err, if◌then◌else◌}
 use Rattle.co_base.specs.declared.mark.Mark.{Mark}
-use Rattle.co_disk.specs.DiskModel.{DiskState, read_of}
 use Rattle.co_outside.specs.declared.spot.Spot.{Spot}
-use Rattle.co_record.specs.declared.record.Record.{Record}
 use Rattle.co_log.specs.declared.append.Ending.{Ending}
 use Rattle.co_log.specs.declared.fault.LogFault.TheVariants as faults
 use Rattle.co_log.specs.Appending.{IsEnding}
 use Rattle.co_log.specs.BatchWrite.{begins_closed}
 use Rattle.co_log.specs.LogFile.{OldOrBoth}
 use Rattle.co_log.specs.LogView.{LogView}
-use Rattle.co_log.specs.Spare.{IsFilling, filling, filling_mark, turned}
-use Rattle.co_log.proofs.Logs.{after_filling, filled, filled_if}
+use Rattle.co_log.specs.Spare.{IsFilling, filling, filling_mark}
+use Rattle.co_log.proofs.Logs.{filled, filled_if}
 use Rattle.co_log.proofs.Unmade.{ends_at_once, closed_told}
 use Rattle.co_log.proofs.log.Log.fill_spare.Goals as goal
 

@@ -1,10 +1,7 @@
-use Rattle.std.proofs.Common.{rules, ◌≡◌, ◌+◌, [], ◌∷◌, ◌++◌, ℕ, List, sym, ap, subst, ◌∙◌, refl, true}
-use Rattle.std.specs.Prelude.{Ok, Err, Result}
-use Rattle.co_base.specs.declared.mark.Mark.{Mark}
+use Rattle.std.proofs.Common.{◌≡◌, [], ◌∷◌, ◌++◌, ℕ, List, ap, subst, ◌∙◌, refl}
+use Rattle.std.specs.Prelude.{Ok, Err}
 use Rattle.co_record.specs.declared.record.Record.{Record}
 use Rattle.co_log.specs.declared.append.Ending.{Ending}
-use Rattle.co_log.specs.declared.append.Ending.TheVariants.{Whole, Stopped}
-use Rattle.co_log.specs.declared.fault.LogFault.{LogFault}
 use Rattle.co_log.specs.declared.fault.LogFault.TheVariants as faults
 use Rattle.co_log.specs.Appending.{IsEnding}
 use Rattle.co_log.specs.Forcing.{IsForced}
