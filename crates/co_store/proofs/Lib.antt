@@ -1,4 +1,0 @@
-mod Laying
-mod Showing
-mod Reading
-mod Ranging
