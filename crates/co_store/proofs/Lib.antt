@@ -1,0 +1,4 @@
+mod Laying
+mod Showing
+mod Reading
+mod Ranging

@@ -1,0 +1,22 @@
+use Rattle.std.proofs.Common.{ap, sym, ◌∙◌, if◌then◌else◌, is_some}
+use Rattle.std.specs.FinMap.{get, insert, from_entries, slice_cmp-IsAntisymmetric, nat_cmp-IsAntisymmetric}
+use Rattle.std.proofs.lemmas.Cmp.{nat_list_cmp_total}
+use Rattle.co_base.specs.Order.{key_cmp}
+use Rattle.co_serial.proofs.MapViews.{view-get, view-insert}
+use Rattle.co_store.specs.declared.slots.Slot.{Slot}
+use Rattle.co_store.specs.Images.{slot_of}
+use Rattle.co_store.proofs.slots.Slots.replace.Goals as goal
+
+pub returns-in_default : goal.returns-in_default
+returns-in_default c =
+    ap (λ m. from_entries {R = key_cmp} m.entries) c.get_mut.follows.holds-at-none ∙ c.self.view_is
+    ∙ ap (λ o. if is_some o then insert c.args.self.now c.args.key.now (slot_of c.args.value) else c.args.self.now) (c.in_default.ensures.value ∙ sym (view-get nat_list_cmp_total _ _) ∙ ap (λ m. get m c.args.key.now) c.self.view_is)
+
+pub returns : goal.returns
+returns c =
+    let es = c.self.inside.map.entries in
+    let there = sym (ap is_some c.in-Some.ensures.value) in
+    let slot : Slot = slot_of c.args.value in
+    view-insert nat_list_cmp_total (slice_cmp-IsAntisymmetric nat_cmp-IsAntisymmetric) es (c.get_mut.follows.lender slot).entries c.args.key.now slot ((c.get_mut.follows.holds slot).3 there).0
+    ∙ ap (λ m. insert m c.args.key.now slot) c.self.view_is
+    ∙ ap (λ o. if is_some o then insert c.args.self.now c.args.key.now slot else c.args.self.now) (c.in-Some.ensures.value ∙ sym (view-get nat_list_cmp_total _ _) ∙ ap (λ m. get m c.args.key.now) c.self.view_is)

@@ -1,0 +1,6 @@
+use Rattle.std.proofs.Common.{◌≡◌}
+use Rattle.co_store.specs.StoreState.{all_noted}
+use Rattle.co_store.proofs.store.records_within.Given as goal
+
+abbrev pub invariant-loop-key : goal.invariant-loop-key
+invariant-loop-key l = all_noted l.records l.key-iterator ≡ all_noted l.initial.records l.initial.key-iterator
