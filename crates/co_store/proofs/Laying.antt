@@ -11,7 +11,7 @@ use Rattle.co_base.specs.Order.{key_cmp}
 use Rattle.co_base.specs.declared.row.Row.{Row}
 use Rattle.co_serial.specs.Records.{Records, with_change}
 use Rattle.co_store.specs.declared.slots.Slot.{Slot}
-use Rattle.co_store.specs.Images.{Images, value_in, slot_of, replaced, restored, restored_all, settled, settled_all, slots_from}
+use Rattle.co_store.specs.Images.{Images, value_in, slot_of, restored, restored_all, settled, settled_all, slots_from}
 use Rattle.co_store.specs.StoreState.{laid_back}
 
 -- ---- keys that tie

@@ -1,5 +1,5 @@
 -- The entries between two keys, both included.
-use Rattle.std.proofs.Common.{◌≡◌, ℕ, Bool, true, false, not, ◌&&◌, List, filter, refl, sym, ap, ◌∙◌}
+use Rattle.std.proofs.Common.{◌≡◌, ℕ, not, ◌&&◌, List, filter, refl, sym, ap, ◌∙◌}
 use Rattle.std.specs.Ordering.{is_lt, is_le, is_gt, ordering_reverse}
 use Rattle.std.specs.declared.cmp.Ordering.{Ordering}
 use Rattle.std.specs.declared.cmp.Ordering.TheVariants.{Less, Equal, Greater}
@@ -7,7 +7,7 @@ use Rattle.std.specs.declared.ops.Bound.TheVariants.{Included}
 use Rattle.std.specs.BTreeMap.Range.{entries_between, range_contains}
 use Rattle.std.proofs.lemmas.Cmp.{nat_list_cmp_total}
 use Rattle.co_base.specs.Order.{key_cmp}
-use Rattle.co_base.specs.Span.{Span, span_has}
+use Rattle.co_base.specs.Span.{span_has}
 use Rattle.co_store.specs.declared.slots.Slot.{Slot}
 
 from_low : (r : Ordering) → is_le r ≡ not (is_gt r)

@@ -4,19 +4,19 @@ use Rattle.std.specs.Ordering.{nat_cmp, eq_by_cmp, is_eq}
 use Rattle.std.specs.declared.cmp.Ordering.{Ordering}
 use Rattle.std.specs.declared.cmp.Ordering.TheVariants.{Less, Equal, Greater}
 use Rattle.std.specs.Cmp.{nat_cmp_total, eq_by_cmp_equiv}
-use Rattle.std.specs.FinMap.{FinMap, empty, entries, entries_sorted, get, get-entries, get-empty, insert, contains_key, nat_cmp-IsAntisymmetric}
+use Rattle.std.specs.FinMap.{empty, entries, entries_sorted, get, get-entries, get-empty, insert, contains_key, nat_cmp-IsAntisymmetric}
 use Rattle.std.specs.FinMap.Entries.{find}
 use Rattle.co_base.specs.Order.{key_cmp}
 use Rattle.co_base.specs.declared.row.Row.{Row}
-use Rattle.co_serial.specs.Records.{Records, with_change}
+use Rattle.co_serial.specs.Records.{Records}
 use Rattle.co_state.specs.Effects.{records_from}
 use Rattle.co_state.specs.Table.{Table, no_entries, look, put, without}
-use Rattle.co_state.proofs.Tables.{look-put, look-without, put-without}
+use Rattle.co_state.proofs.Tables.{look-put, look-without}
 use Rattle.co_store.specs.declared.slots.Slot.{Slot}
 use Rattle.co_store.specs.Images.{Images, value_in, slot_of, restored_all, settled_all, or_nothing, with_image, slots_from}
 use Rattle.co_store.specs.StoreState.{StoreState, state_of_rows, images_of, IsFree, with_put, with_undone, with_kept}
 use Rattle.co_store.specs.Shown.{AreShown}
-use Rattle.co_store.proofs.Laying.{ties, tied, ties-itself, value-insert, get-with_change, contains-insert, restored_values, contains-restored_all, settled_values, contains-settled_all}
+use Rattle.co_store.proofs.Laying.{ties, tied, value-insert, get-with_change, contains-insert, restored_values, contains-restored_all, settled_values, contains-settled_all}
 
 number_tie : (r : Ordering) → is_eq r ≡ true → r ≡ Equal
 number_tie Less e = absurd (subst T (sym e) tt)

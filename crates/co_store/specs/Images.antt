@@ -1,5 +1,5 @@
 -- What stands at keys, a value or none: the images that lead back, and the slots of a store.
-use Rattle.std.specs.Prelude.{ℕ, Bool, List, [], ◌∷◌, if◌then◌else◌, Option, None, Some, is_some}
+use Rattle.std.specs.Prelude.{ℕ, List, [], ◌∷◌, if◌then◌else◌, Option, None, Some, is_some}
 use Rattle.std.specs.FinMap.{FinMap, empty, entries, get, insert, remove, contains_key}
 use Rattle.co_base.specs.Order.{key_cmp}
 use Rattle.co_base.specs.declared.row.Row.{Row}

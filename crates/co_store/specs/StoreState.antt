@@ -1,7 +1,7 @@
 -- A store as plain data: the records as they are, and for each unfinished transaction what the keys that it
 -- wrote held before its first write there (undo by before-images, Bernstein, Hadzilacos and Goodman 1987).
-use Rattle.std.specs.Prelude.{ℕ, Bool, ◌≡◌, ◌≢◌, false, List, [], ◌∷◌, map, Option, None, Some}
-use Rattle.std.specs.FinMap.{FinMap, empty, entries, get, contains_key}
+use Rattle.std.specs.Prelude.{ℕ, ◌≡◌, ◌≢◌, false, List, [], ◌∷◌, Option, None, Some}
+use Rattle.std.specs.FinMap.{empty, entries, get, contains_key}
 use Rattle.co_base.specs.declared.row.Row.{Row}
 use Rattle.co_base.specs.declared.written.Written.{Written}
 use Rattle.co_serial.specs.Records.{Records, with_change}

@@ -1,4 +1,4 @@
-use Rattle.std.proofs.Common.{◌≡◌, ap, sym, ◌∙◌}
+use Rattle.std.proofs.Common.{ap, sym, ◌∙◌}
 use Rattle.co_store.proofs.Laying.{slots_under, slots_under-push, slots_under-empty}
 use Rattle.co_store.proofs.store.slots_of.Goals as goal
 
