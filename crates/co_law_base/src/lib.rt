@@ -1,0 +1,2 @@
+//! Tools and facts for the laws.
+#![tactic(auto)]
