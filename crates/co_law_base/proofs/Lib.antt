@@ -1,1 +1,4 @@
-pub mod Tables
+pub mod Lookups
+pub mod ToldRuns
+pub mod ViewRules
+pub mod ImageRules
