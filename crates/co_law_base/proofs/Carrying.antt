@@ -1,7 +1,7 @@
 -- What carries the facts: a change of one member, and a change of all but the members.
 use Rattle.std.proofs.Common.{◌≡◌, ◌≢◌, ◌⊎◌, inl, inr, ℕ, Bool, true, false, ◌||◌, ◌&&◌, ◌≤◌, ◌==◌, if◌then◌else◌, List, [], ◌∷◌, ◌++◌, map, reverse, length, Option, None, Some, refl, sym, ap, ◌∙◌, subst}
 use Rattle.std.specs.Option.{is_some}
-use Rattle.std.proofs.lemmas.Bool.{or_cases, or_parts, or_left, or_right, or_from, eqb-true, eqb-false, eq-eqb, cases_Bool, and_parts, true_from_ne_false, false_from_ne_true}
+use Rattle.std.proofs.lemmas.Bool.{or_cases, or_parts, or_left, or_right, or_from, eqb-true, eqb-false, eq-eqb, cases_Bool, and_parts, and_from, true_from_ne_false, false_from_ne_true}
 use Rattle.co_base.specs.declared.node.Node.{Node}
 use Rattle.co_base.specs.declared.node.Node.TheVariants as node
 use Rattle.co_message.specs.declared.message.Message.{Message}
@@ -22,14 +22,16 @@ use Rattle.co_plain.specs.declared.session.Told.{Told}
 use Rattle.co_plain.specs.Numbers.{has_number}
 use Rattle.co_plain.specs.MemberView.{recovered_view}
 use Rattle.co_plain.specs.CoordView.{has_commit_of}
-use Rattle.co_plain.specs.Sessions.{told_at, count_at, same_node}
+use Rattle.co_plain.specs.CoordStep.{members_of}
+use Rattle.co_plain.specs.Sessions.{told_at, count_at, parts_of, same_node}
 use Rattle.co_plain.specs.Wire.{was_sent}
 use Rattle.co_plain.specs.Federation.{Federation, with_member, with_coord}
 use Rattle.co_plain.specs.Decisions.{is_decided, told_in, asked_in, votes_for}
 use Rattle.co_plain.specs.SoundLogs.{unended_in}
 use Rattle.co_plain.specs.Invariants.{Side, Memory, Stable, view, stands, KeptAsTold, takes_part_in, txn_of}
 use Rattle.co_law_base.proofs.Lookups.{is_nothing}
-use Rattle.co_law_base.proofs.Facts.{Rest, rest_of, changed, told, told_here, begun, asked, over, seen, entry_of, settled_at, Settled, settled, Here, Before, alive, by_coord, Belongs, belongs, Begun, Voted, Takes, takes, ByTold, Named, Each, ViewFacts, OnlyAborts, ActiveFacts, MemberFacts, CoordFacts, OpenEntry, SentFacts, RecordFacts, NumberFacts, Facts}
+use Rattle.co_law_base.proofs.ViewRules.{Replayed}
+use Rattle.co_law_base.proofs.Facts.{Rest, rest_of, changed, told, told_here, begun, asked, over, seen, entry_of, settled_at, Settled, settled, Here, Before, alive, by_coord, Belongs, belongs, Begun, Voted, Takes, takes, ByTold, Named, Each, ViewFacts, OnlyAborts, ActiveFacts, MemberFacts, CoordFacts, CoordHas, OpenEntry, CollectingEntry, CommittedEntry, SentFacts, RecordFacts, NumberFacts, Facts}
 
 asked_begun : (o : Option Session) → asked_in o ≡ true → is_some o ≡ true
 asked_begun None h = h
@@ -149,3 +151,186 @@ module _ (r : Rest) (n : NumberFacts r) (f g : ℕ → MemberState) (on : (m : �
         taking = s.taking;
         opened_stand = λ t c m ms side h k. (on m).standing side t (λ d b. settled_alive r n t d b (before c t ms h)) (s.opened_stand t c m ms side h k);
       }
+
+-- What must hold for the facts to go over to other coordinators, sessions and messages.
+pub record Later (r : Rest) (coord : ℕ → CoordState) (sessions : Table Session) (sent : List Message) (member : ℕ → MemberState) : Type 0 where
+  pub told_same : (t : ℕ) → over r t ≡ true → told_in (look sessions t) ≡ told r t
+  pub counts : (t m : ℕ) → 1 ≤ count_at (told r t) m → 1 ≤ count_at (told_in (look sessions t)) m
+  pub begun_on : (t : ℕ) → begun r t ≡ true → holds sessions t ≡ true
+  pub begun_back : (t : ℕ) → seen r t ≡ true → holds sessions t ≡ true → begun r t ≡ true
+  pub asked_on : (t : ℕ) → asked r t ≡ true → asked_in (look sessions t) ≡ true
+  pub by_on : (t c : ℕ) → by_coord (look r.sessions t) c ≡ true → by_coord (look sessions t) c ≡ true
+  pub by_back : (t c : ℕ) → seen r t ≡ true → by_coord (look sessions t) c ≡ true → by_coord (look r.sessions t) c ≡ true
+  pub alive_back : (t c : ℕ) → seen r t ≡ true → alive (changed r coord sessions sent) c t ≡ true → alive r c t ≡ true
+  pub part : (t c m : ℕ) → belongs r t c → alive (changed r coord sessions sent) c t ≡ true → takes_part_in (entry_of r c t) m ≡ true →
+      (takes_part_in (look (coord c).table t) m ≡ true) ⊎ ((side : Side) → holds (view side (member m)).committed t ≡ true)
+  pub sent_on : (note : Message) → was_sent r.sent note ≡ true → was_sent sent note ≡ true
+
+votes_held : (v : MemberView) (t c : ℕ) → votes_for (look v.voted t) c ≡ true → holds v.voted t ≡ true
+votes_held v t c h = by (look v.voted t) h
+  where
+    by : (o : Option Vote) → votes_for o c ≡ true → is_some o ≡ true
+    by None h = absurd (let f : false ≡ true = h in cc)
+    by (Some vote) h = refl
+
+module _ (r : Rest) (n : NumberFacts r) (coord : ℕ → CoordState) (sessions : Table Session) (sent : List Message) (member : ℕ → MemberState) (l : Later r coord sessions sent member) where
+  over_on : (t : ℕ) → over r t ≡ true → over (changed r coord sessions sent) t ≡ true
+  over_on t h = by (or_cases (asked r t) (holds r.used t) h)
+    where
+      by : (asked r t ≡ true) ⊎ (holds r.used t ≡ true) → over (changed r coord sessions sent) t ≡ true
+      by (inl a) = or_left (asked_in (look sessions t)) (holds r.used t) (l.asked_on t a)
+      by (inr u) = or_right (asked_in (look sessions t)) (holds r.used t) u
+
+  belongs_on : (t c : ℕ) → belongs r t c → belongs (changed r coord sessions sent) t c
+  belongs_on t c (Begun h) = Begun (l.by_on t c h)
+  belongs_on t c (Voted m h) = Voted m h
+
+  belongs_back : (t c : ℕ) → seen r t ≡ true → belongs (changed r coord sessions sent) t c → belongs r t c
+  belongs_back t c s (Begun h) = Begun (l.by_back t c s h)
+  belongs_back t c s (Voted m h) = Voted m h
+
+  takes_on : (t m : ℕ) → takes r t m → takes (changed r coord sessions sent) t m
+  takes_on t m (ByTold h) = ByTold (l.counts t m h)
+  takes_on t m (Named c members h k) = Named c members h k
+
+  dead_on : (t c : ℕ) → belongs r t c → alive r c t ≡ false → alive (changed r coord sessions sent) c t ≡ false
+  dead_on t c b d = false_from_ne_true _ (λ a. let f : true ≡ false = sym (l.alive_back t c (belongs_seen r n t c b) a) ∙ d in cc)
+
+  later_view : (m : ℕ) (side : Side) → ViewFacts r m (view side (member m)) → ViewFacts (changed r coord sessions sent) m (view side (member m))
+  later_view m side v =
+      record {
+        free = v.free;
+        replay = λ t vote b f. replay t vote b f;
+        image = v.image;
+        named = λ t c h. belongs_on t c (v.named t c h);
+        over = λ t h. over_on t (v.over t h);
+        apart = v.apart;
+        done = v.done;
+        known = λ t h b. v.known t h (l.begun_back t (over_seen r t (v.over t (or_right _ _ h))) b);
+        homed = λ t c h b. v.homed t c h (belongs_back t c (over_seen r t (v.over t (or_right _ _ h))) b);
+        held = λ t c h a. held t c h (l.part t c m (v.named t c h) a (v.held t c h (l.alive_back t c (belongs_seen r n t c (v.named t c h)) a)));
+      }
+    where
+      replay : (t : ℕ) (vote : Vote) → holds sessions t ≡ true → look (view side (member m)).voted t ≡ Some vote → Replayed (view side (member m)).records vote (told_at (told_in (look sessions t)) m)
+      replay t vote b f =
+          let o = v.over t (or_left _ _ (ap is_some f)) in
+          subst (λ ts. Replayed (view side (member m)).records vote (told_at ts m)) (sym (l.told_same t o)) (v.replay t vote (l.begun_back t (over_seen r t o) b) f)
+      held : (t c : ℕ) → votes_for (look (view side (member m)).voted t) c ≡ true →
+          (takes_part_in (look (coord c).table t) m ≡ true) ⊎ ((side : Side) → holds (view side (member m)).committed t ≡ true) → takes_part_in (look (coord c).table t) m ≡ true
+      held t c h (inl p) = p
+      held t c h (inr p) = absurd (let f : true ≡ false = sym (votes_held (view side (member m)) t c h) ∙ v.apart t (p side) in cc)
+
+  later_waiting : (rs : List Record) → OnlyAborts r rs → OnlyAborts (changed r coord sessions sent) rs
+  later_waiting [] w = tt
+  later_waiting (log.Abort t ∷ rs) w = ((w.0.0, belongs_on t w.0.0 w.0.1, dead_on t w.0.0 w.0.1 w.0.2), later_waiting rs w.1)
+  later_waiting (log.Header a b ∷ rs) w = absurd w
+  later_waiting (log.Prepare a b c d e ∷ rs) w = absurd w
+  later_waiting (log.Commit a b ∷ rs) w = absurd w
+  later_waiting (log.End a ∷ rs) w = absurd w
+  later_waiting (log.Checkpoint a b c ∷ rs) w = absurd w
+
+  later_member : (m : ℕ) → ((t : ℕ) (os : List Operation) → look (member m).engine.active t ≡ Some os → told_at (told_in (look sessions t)) m ≡ told_here r m t) →
+      MemberFacts r m (member m) → MemberFacts (changed r coord sessions sent) m (member m)
+  later_member m same x =
+      record {
+        views = λ side. later_view m side (x.views side);
+        active = λ t os f. let a = x.active t os f in
+            record {
+              kept = subst (λ ts. KeptAsTold (member m).engine os ts) (sym (same t os f)) a.kept;
+              stamps = a.stamps;
+              begun = l.begun_on t a.begun;
+              apart = a.apart;
+            };
+        marked = λ t mark f. let p = x.marked t mark f in (p.0, l.sent_on _ p.1);
+        logged = x.logged;
+        waiting = later_waiting (member m).log.waiting x.waiting;
+      }
+
+  later_coord : (c : ℕ) (table : Table Entry) (stable waiting : List Record) → CoordFacts r c table stable waiting → CoordFacts (changed r coord sessions sent) c table stable waiting
+  later_coord c table stable waiting y =
+      record {
+        idle = λ t f. still t (y.idle t f);
+        collecting = λ t parts yeses f. let e = y.collecting t parts yeses f in
+            record {
+              still = still t e.still;
+              asked = l.asked_on t e.asked;
+              parts_told = e.parts_told ∙ ap parts_of (sym (l.told_same t (or_left (asked r t) (holds r.used t) e.asked)));
+              lacks = e.lacks;
+              yeses_sent = λ m h. l.sent_on _ (e.yeses_sent m h);
+            };
+        committed = λ t ms acks f. let e = y.committed t ms acks f in
+            record {
+              recorded = e.recorded;
+              logged = e.logged;
+              lacks = e.lacks;
+              acks_sent = λ m h. l.sent_on _ (e.acks_sent m h);
+            };
+        known = λ t h. known t (or_cases _ _ (y.known t h));
+        unended_over = λ t ms h. over_on t (y.unended_over t ms h);
+        ends = y.ends;
+      }
+    where
+      still : (t : ℕ) → OpenEntry r c stable t → OpenEntry (changed r coord sessions sent) c stable t
+      still t e = record { begun_there = l.by_on t c e.begun_there; undecided = e.undecided; unrecorded = e.unrecorded }
+      known : (t : ℕ) → ((by_coord (look r.sessions t) c && is_decided r.decided t) ≡ true) ⊎ (has_commit_of (r.opened_coord c) t ≡ true) →
+          ((by_coord (look sessions t) c && is_decided r.decided t) || has_commit_of (r.opened_coord c) t) ≡ true
+      known t (inl p) =
+          let q = and_parts _ _ p in
+          or_left _ _ (and_from _ _ (l.by_on t c q.0) q.1)
+      known t (inr p) = or_right _ _ p
+
+  later_records : RecordFacts r member → ((c t : ℕ) (members : List ℕ) → unended_in (coord c).log.stable t ≡ Some members → unended_in (r.coord c).log.stable t ≡ Some members) →
+      RecordFacts (changed r coord sessions sent) member
+  later_records f back =
+      record {
+        unended = λ t c m ms side h k. f.unended t c m ms side (back c t ms h) k;
+        taking = λ t c m ms h k. takes_on t m (f.taking t c m ms (back c t ms h) k);
+        opened_stand = f.opened_stand;
+      }
+
+later_sent : (r : Rest) (n : NumberFacts r) (coord : ℕ → CoordState) (sessions : Table Session) (member : ℕ → MemberState) → Later r coord sessions r.sent member → SentFacts r member →
+    SentFacts (changed r coord sessions r.sent) member
+later_sent r n coord sessions member l s =
+    record {
+      over = λ note h. over_on r n coord sessions r.sent member l (txn_of note) (s.over note h);
+      prepares_named = λ t c m k h. belongs_on r n coord sessions r.sent member l t c (s.prepares_named t c m k h);
+      prepares_count = λ t c m k h. let p = s.prepares_count t c m k h in (p.0 ∙ ap (λ ts. count_at ts m) (sym (l.told_same t (s.over _ h))), p.1);
+      prepares_held = λ t c m k h a. held t c m a (s.prepares_named t c m k h) (or_cases _ _ (s.prepares_held t c m k h (l.alive_back t c (belongs_seen r n t c (s.prepares_named t c m k h)) a)));
+      votes_named = λ t m c g h. belongs_on r n coord sessions r.sent member l t c (s.votes_named t m c g h);
+      yeses_stand = λ t m c side h a. s.yeses_stand t m c side h (l.alive_back t c (belongs_seen r n t c (s.votes_named t m c true h)) a);
+      asks_named = λ t m c h. belongs_on r n coord sessions r.sent member l t c (s.asks_named t m c h);
+      asks_held = λ t m c h a. held t c m a (s.asks_named t m c h) (or_cases _ _ (s.asks_held t m c h (l.alive_back t c (belongs_seen r n t c (s.asks_named t m c h)) a)));
+      acks_stand = s.acks_stand;
+      commits = λ t c m h. let p = s.commits t c m h in (p.0, takes_on r n coord sessions r.sent member l t m p.1);
+      aborts = λ t c m h. aborts t c m (s.aborts t c m h);
+    }
+  where
+    held : (t c m : ℕ) → alive (changed r coord sessions r.sent) c t ≡ true → belongs r t c → (takes_part_in (entry_of r c t) m ≡ true) ⊎ (holds (view Memory (member m)).committed t ≡ true) →
+        (takes_part_in (look (coord c).table t) m || holds (view Memory (member m)).committed t) ≡ true
+    held t c m a b (inr h) = or_right _ _ h
+    held t c m a b (inl h) = by (l.part t c m b a h)
+      where
+        by : (takes_part_in (look (coord c).table t) m ≡ true) ⊎ ((side : Side) → holds (view side (member m)).committed t ≡ true) →
+            (takes_part_in (look (coord c).table t) m || holds (view Memory (member m)).committed t) ≡ true
+        by (inl p) = or_left _ _ p
+        by (inr p) = or_right _ _ (p Memory)
+    aborts : (t c m : ℕ) → (belongs r t c × (alive r c t ≡ false)) ⊎ (holds (view Stable (member m)).committed t ≡ true) →
+        (belongs (changed r coord sessions r.sent) t c × (alive (changed r coord sessions r.sent) c t ≡ false)) ⊎ (holds (view Stable (member m)).committed t ≡ true)
+    aborts t c m (inl p) = inl (belongs_on r n coord sessions r.sent member l t c p.0, dead_on r n coord sessions r.sent member l t c p.0 p.1)
+    aborts t c m (inr h) = inr h
+
+-- the facts of numbers go over where sessions only grow
+pub numbers_same : (r : Rest) (coord : ℕ → CoordState) (sent : List Message) → NumberFacts r → NumberFacts (changed r coord r.sessions sent)
+numbers_same r coord sent n =
+    record {
+      new = n.new;
+      decided_begun = n.decided_begun;
+      once = n.once;
+      local = n.local;
+      kept = n.kept;
+      voted_used = n.voted_used;
+      commit_used = n.commit_used;
+      one_vote = n.one_vote;
+      vote_commit = n.vote_commit;
+      one_home = n.one_home;
+    }

@@ -132,11 +132,11 @@ takes r = Takes r.sessions r.opened_coord
 abbrev pub serial_start : Rest → AllRecords
 serial_start r = durable_records r.opened_member r.opened_coord
 
-abbrev pub serial_of : Rest → List Decided → AllRecords
-serial_of r decided = after (serial_start r) (reverse (map (λ d. sites_of d.told) decided))
+abbrev pub serial_of : AllRecords → List Decided → AllRecords
+serial_of start decided = after start (reverse (map (λ d. sites_of d.told) decided))
 
 abbrev pub serial : Rest → AllRecords
-serial r = serial_of r r.decided
+serial r = serial_of (serial_start r) r.decided
 
 abbrev pub Each : {A : Type 0} → (A → Type 0) → List A → Type 0
 Each P [] = Unit {0}
@@ -183,32 +183,35 @@ pub record MemberFacts (r : Rest) (m : ℕ) (x : MemberState) : Type 0 where
   pub waiting : OnlyAborts r x.log.waiting
 
 -- an entry that is still open
-pub record OpenEntry (r : Rest) (c : ℕ) (y : CoordState) (t : ℕ) : Type 0 where
+pub record OpenEntry (r : Rest) (c : ℕ) (stable : List Record) (t : ℕ) : Type 0 where
   pub begun_there : by_coord (look r.sessions t) c ≡ true
   pub undecided : is_decided r.decided t ≡ false
-  pub unrecorded : has_commit_of y.log.stable t ≡ false
+  pub unrecorded : has_commit_of stable t ≡ false
 
-pub record CollectingEntry (r : Rest) (c : ℕ) (y : CoordState) (t : ℕ) (parts : List Part) (yeses : List ℕ) : Type 0 where
-  pub still : OpenEntry r c y t
+pub record CollectingEntry (r : Rest) (c : ℕ) (stable : List Record) (t : ℕ) (parts : List Part) (yeses : List ℕ) : Type 0 where
+  pub still : OpenEntry r c stable t
   pub asked : asked r t ≡ true
   pub parts_told : parts ≡ parts_of (told r t)
   pub lacks : first_lacking (members_of parts) yeses ≢ None
   pub yeses_sent : (m : ℕ) → has_number yeses m ≡ true → was_sent r.sent (message.Vote t m c true) ≡ true
 
-pub record CommittedEntry (r : Rest) (c : ℕ) (y : CoordState) (t : ℕ) (members acks : List ℕ) : Type 0 where
-  pub stable : unended_in y.log.stable t ≡ Some members
-  pub told : unended_in (y.log.waiting ++ y.log.stable) t ≡ Some members
+pub record CommittedEntry (r : Rest) (c : ℕ) (stable waiting : List Record) (t : ℕ) (members acks : List ℕ) : Type 0 where
+  pub recorded : unended_in stable t ≡ Some members
+  pub logged : unended_in (waiting ++ stable) t ≡ Some members
   pub lacks : first_lacking members acks ≢ None
-  pub over : over r t ≡ true
   pub acks_sent : (m : ℕ) → has_number acks m ≡ true → was_sent r.sent (message.Ack t m c) ≡ true
 
--- What is said of a coordinator.
-pub record CoordFacts (r : Rest) (c : ℕ) (y : CoordState) : Type 0 where
-  pub idle : (t : ℕ) → look y.table t ≡ Some entry.Idle → OpenEntry r c y t
-  pub collecting : (t : ℕ) (parts : List Part) (yeses : List ℕ) → look y.table t ≡ Some (entry.Collecting parts yeses) → CollectingEntry r c y t parts yeses
-  pub committed : (t : ℕ) (members acks : List ℕ) → look y.table t ≡ Some (entry.Committed members acks) → CommittedEntry r c y t members acks
-  pub known : (t : ℕ) → has_commit_of y.log.stable t ≡ true → ((by_coord (look r.sessions t) c && is_decided r.decided t) || has_commit_of (r.opened_coord c) t) ≡ true
-  pub ends : ends_only y.log.waiting ≡ true
+-- What is said of a coordinator: its table, its stable records and the waiting ones.
+pub record CoordFacts (r : Rest) (c : ℕ) (table : Table Entry) (stable waiting : List Record) : Type 0 where
+  pub idle : (t : ℕ) → look table t ≡ Some entry.Idle → OpenEntry r c stable t
+  pub collecting : (t : ℕ) (parts : List Part) (yeses : List ℕ) → look table t ≡ Some (entry.Collecting parts yeses) → CollectingEntry r c stable t parts yeses
+  pub committed : (t : ℕ) (members acks : List ℕ) → look table t ≡ Some (entry.Committed members acks) → CommittedEntry r c stable waiting t members acks
+  pub known : (t : ℕ) → has_commit_of stable t ≡ true → ((by_coord (look r.sessions t) c && is_decided r.decided t) || has_commit_of (r.opened_coord c) t) ≡ true
+  pub unended_over : (t : ℕ) (members : List ℕ) → unended_in stable t ≡ Some members → over r t ≡ true
+  pub ends : ends_only waiting ≡ true
+
+abbrev pub CoordHas : Rest → ℕ → CoordState → Type 0
+CoordHas r c y = CoordFacts r c y.table y.log.stable y.log.waiting
 
 -- What is said of the messages and of the commits that wait for acknowledgements, over all members.
 pub record SentFacts (r : Rest) (member : ℕ → MemberState) : Type 0 where
@@ -252,15 +255,15 @@ pub record NumberFacts (r : Rest) : Type 0 where
       has_commit_of (r.opened_coord c) t ≡ true
 
 -- committed transactions read serially, at each place of the decision order
-abbrev pub ReadSerially : Rest → List Decided → Type 0
-ReadSerially r [] = Unit {0}
-ReadSerially r (d ∷ ds) = (replies_of d.told ≡ run_whole (serial_of r ds) (sites_of d.told)) × ReadSerially r ds
+abbrev pub ReadSerially : AllRecords → List Decided → Type 0
+ReadSerially start [] = Unit {0}
+ReadSerially start (d ∷ ds) = (replies_of d.told ≡ run_whole (serial_of start ds) (sites_of d.told)) × ReadSerially start ds
 
 -- Everything together.
 pub record Facts (s : Federation) : Type 0 where
   pub numbers : NumberFacts (rest_of s)
   pub members : (m : ℕ) → MemberFacts (rest_of s) m (s.member m)
-  pub coords : (c : ℕ) → CoordFacts (rest_of s) c (s.coord c)
+  pub coords : (c : ℕ) → CoordHas (rest_of s) c (s.coord c)
   pub sent : SentFacts (rest_of s) s.member
   pub records : RecordFacts (rest_of s) s.member
-  pub serially : ReadSerially (rest_of s) s.decided
+  pub serially : ReadSerially (serial_start (rest_of s)) s.decided

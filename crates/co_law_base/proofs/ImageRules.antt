@@ -150,7 +150,7 @@ abbrev pub EachEntry : {X : Type 0} → (ℕ → X → Type 0) → List (ℕ × 
 EachEntry P [] = Unit {0}
 EachEntry P (e ∷ es) = P e.0 e.1 × EachEntry P es
 
-below_found : {X : Type 0} (k : ℕ) (es : List (ℕ × X)) (u : ℕ) (x : X) → T (below_all nat_cmp k es) → find nat_cmp u es ≡ Some x → k < u
+pub below_found : {X : Type 0} (k : ℕ) (es : List (ℕ × X)) (u : ℕ) (x : X) → T (below_all nat_cmp k es) → find nat_cmp u es ≡ Some x → k < u
 below_found k [] u x b f = is_nothing f
 below_found {X} k (e ∷ es) u x b f = by (below_found k es u x) (eq_by_cmp nat_cmp u e.0) refl
   where

@@ -1,0 +1,4 @@
+pub mod Commits
+pub mod Tabled
+pub mod CoordFrame
+pub mod CoordMoves
