@@ -122,7 +122,7 @@ held_on true b c f h = refl
 held_on false b c f h = f h
 
 module _ (r : Rest) (n : NumberFacts r) (f g : ℕ → MemberState) (on : (m : ℕ) → StandsOn r (f m) (g m)) where
-  sent_on : SentFacts r f → SentFacts r g
+  pub sent_on : SentFacts r f → SentFacts r g
   sent_on s =
       record {
         over = s.over;
@@ -143,7 +143,7 @@ module _ (r : Rest) (n : NumberFacts r) (f g : ℕ → MemberState) (on : (m : �
       by t c m (inl p) = inl p
       by t c m (inr h) = inr ((on m).committed Stable t h)
 
-  records_on : ((c : ℕ) (t : ℕ) (members : List ℕ) → unended_in (r.coord c).log.stable t ≡ Some members → settled r t) → ((c t : ℕ) (members : List ℕ) → unended_in (r.opened_coord c) t ≡ Some members → settled r t) →
+  pub records_on : ((c : ℕ) (t : ℕ) (members : List ℕ) → unended_in (r.coord c).log.stable t ≡ Some members → settled r t) → ((c t : ℕ) (members : List ℕ) → unended_in (r.opened_coord c) t ≡ Some members → settled r t) →
       RecordFacts r f → RecordFacts r g
   records_on known before s =
       record {
@@ -174,29 +174,29 @@ votes_held v t c h = by (look v.voted t) h
     by (Some vote) h = refl
 
 module _ (r : Rest) (n : NumberFacts r) (coord : ℕ → CoordState) (sessions : Table Session) (sent : List Message) (member : ℕ → MemberState) (l : Later r coord sessions sent member) where
-  over_on : (t : ℕ) → over r t ≡ true → over (changed r coord sessions sent) t ≡ true
+  pub over_on : (t : ℕ) → over r t ≡ true → over (changed r coord sessions sent) t ≡ true
   over_on t h = by (or_cases (asked r t) (holds r.used t) h)
     where
       by : (asked r t ≡ true) ⊎ (holds r.used t ≡ true) → over (changed r coord sessions sent) t ≡ true
       by (inl a) = or_left (asked_in (look sessions t)) (holds r.used t) (l.asked_on t a)
       by (inr u) = or_right (asked_in (look sessions t)) (holds r.used t) u
 
-  belongs_on : (t c : ℕ) → belongs r t c → belongs (changed r coord sessions sent) t c
+  pub belongs_on : (t c : ℕ) → belongs r t c → belongs (changed r coord sessions sent) t c
   belongs_on t c (Begun h) = Begun (l.by_on t c h)
   belongs_on t c (Voted m h) = Voted m h
 
-  belongs_back : (t c : ℕ) → seen r t ≡ true → belongs (changed r coord sessions sent) t c → belongs r t c
+  pub belongs_back : (t c : ℕ) → seen r t ≡ true → belongs (changed r coord sessions sent) t c → belongs r t c
   belongs_back t c s (Begun h) = Begun (l.by_back t c s h)
   belongs_back t c s (Voted m h) = Voted m h
 
-  takes_on : (t m : ℕ) → takes r t m → takes (changed r coord sessions sent) t m
+  pub takes_on : (t m : ℕ) → takes r t m → takes (changed r coord sessions sent) t m
   takes_on t m (ByTold h) = ByTold (l.counts t m h)
   takes_on t m (Named c members h k) = Named c members h k
 
-  dead_on : (t c : ℕ) → belongs r t c → alive r c t ≡ false → alive (changed r coord sessions sent) c t ≡ false
+  pub dead_on : (t c : ℕ) → belongs r t c → alive r c t ≡ false → alive (changed r coord sessions sent) c t ≡ false
   dead_on t c b d = false_from_ne_true _ (λ a. let f : true ≡ false = sym (l.alive_back t c (belongs_seen r n t c b) a) ∙ d in cc)
 
-  later_view : (m : ℕ) (side : Side) → ViewFacts r m (view side (member m)) → ViewFacts (changed r coord sessions sent) m (view side (member m))
+  pub later_view : (m : ℕ) (side : Side) → ViewFacts r m (view side (member m)) → ViewFacts (changed r coord sessions sent) m (view side (member m))
   later_view m side v =
       record {
         free = v.free;
@@ -220,7 +220,7 @@ module _ (r : Rest) (n : NumberFacts r) (coord : ℕ → CoordState) (sessions :
       held t c h (inl p) = p
       held t c h (inr p) = absurd (let f : true ≡ false = sym (votes_held (view side (member m)) t c h) ∙ v.apart t (p side) in cc)
 
-  later_waiting : (rs : List Record) → OnlyAborts r rs → OnlyAborts (changed r coord sessions sent) rs
+  pub later_waiting : (rs : List Record) → OnlyAborts r rs → OnlyAborts (changed r coord sessions sent) rs
   later_waiting [] w = tt
   later_waiting (log.Abort t ∷ rs) w = ((w.0.0, belongs_on t w.0.0 w.0.1, dead_on t w.0.0 w.0.1 w.0.2), later_waiting rs w.1)
   later_waiting (log.Header a b ∷ rs) w = absurd w
@@ -229,7 +229,7 @@ module _ (r : Rest) (n : NumberFacts r) (coord : ℕ → CoordState) (sessions :
   later_waiting (log.End a ∷ rs) w = absurd w
   later_waiting (log.Checkpoint a b c ∷ rs) w = absurd w
 
-  later_member : (m : ℕ) → ((t : ℕ) (os : List Operation) → look (member m).engine.active t ≡ Some os → told_at (told_in (look sessions t)) m ≡ told_here r m t) →
+  pub later_member : (m : ℕ) → ((t : ℕ) (os : List Operation) → look (member m).engine.active t ≡ Some os → told_at (told_in (look sessions t)) m ≡ told_here r m t) →
       MemberFacts r m (member m) → MemberFacts (changed r coord sessions sent) m (member m)
   later_member m same x =
       record {
@@ -246,7 +246,7 @@ module _ (r : Rest) (n : NumberFacts r) (coord : ℕ → CoordState) (sessions :
         waiting = later_waiting (member m).log.waiting x.waiting;
       }
 
-  later_coord : (c : ℕ) (table : Table Entry) (stable waiting : List Record) → CoordFacts r c table stable waiting → CoordFacts (changed r coord sessions sent) c table stable waiting
+  pub later_coord : (c : ℕ) (table : Table Entry) (stable waiting : List Record) → CoordFacts r c table stable waiting → CoordFacts (changed r coord sessions sent) c table stable waiting
   later_coord c table stable waiting y =
       record {
         idle = λ t f. still t (y.idle t f);
@@ -279,7 +279,7 @@ module _ (r : Rest) (n : NumberFacts r) (coord : ℕ → CoordState) (sessions :
           or_left _ _ (and_from _ _ (l.by_on t c q.0) q.1)
       known t (inr p) = or_right _ _ p
 
-  later_records : RecordFacts r member → ((c t : ℕ) (members : List ℕ) → unended_in (coord c).log.stable t ≡ Some members → unended_in (r.coord c).log.stable t ≡ Some members) →
+  pub later_records : RecordFacts r member → ((c t : ℕ) (members : List ℕ) → unended_in (coord c).log.stable t ≡ Some members → unended_in (r.coord c).log.stable t ≡ Some members) →
       RecordFacts (changed r coord sessions sent) member
   later_records f back =
       record {
@@ -288,7 +288,7 @@ module _ (r : Rest) (n : NumberFacts r) (coord : ℕ → CoordState) (sessions :
         opened_stand = f.opened_stand;
       }
 
-later_sent : (r : Rest) (n : NumberFacts r) (coord : ℕ → CoordState) (sessions : Table Session) (member : ℕ → MemberState) → Later r coord sessions r.sent member → SentFacts r member →
+pub later_sent : (r : Rest) (n : NumberFacts r) (coord : ℕ → CoordState) (sessions : Table Session) (member : ℕ → MemberState) → Later r coord sessions r.sent member → SentFacts r member →
     SentFacts (changed r coord sessions r.sent) member
 later_sent r n coord sessions member l s =
     record {

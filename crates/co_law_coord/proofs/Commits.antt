@@ -161,7 +161,7 @@ pub from_found : (unended : Table (List ℕ)) (t : ℕ) (ms : List ℕ) → look
 from_found unended t ms f = onto_found (entries unended) no_entries t ms (entries_sorted unended) (sym (get-entries unended t) ∙ f)
 
 -- a spare that is filled with the commits of a table
-spare_cases : (P : ℕ → Entry → Type 0) (es : List (ℕ × Entry)) (rs : List Record) (t : ℕ) (ms : List ℕ) → EachEntry P es → unended_in (commits_onto rs es) t ≡ Some ms →
+pub spare_cases : (P : ℕ → Entry → Type 0) (es : List (ℕ × Entry)) (rs : List Record) (t : ℕ) (ms : List ℕ) → EachEntry P es → unended_in (commits_onto rs es) t ≡ Some ms →
     (unended_in rs t ≡ Some ms) ⊎ ((acks : List ℕ) × P t (entry.Committed ms acks))
 spare_cases P [] rs t ms h f = inl f
 spare_cases P (e ∷ es) rs t ms h f = by e.1 h.0 (spare_cases P es (commit_onto rs e.0 e.1) t ms h.1 f)
@@ -177,7 +177,7 @@ spare_cases P (e ∷ es) rs t ms h f = by e.1 h.0 (spare_cases P es (commit_onto
         now (inl q) = inr (acks, subst (λ k. P k (entry.Committed ms acks)) q.0 (subst (λ k. P e.0 (entry.Committed k acks)) q.1 p))
         now (inr q) = inl q
 
-seen_cases : (P : ℕ → Entry → Type 0) (es : List (ℕ × Entry)) (rs : List Record) (t : ℕ) → EachEntry P es → has_commit_of (commits_onto rs es) t ≡ true →
+pub seen_cases : (P : ℕ → Entry → Type 0) (es : List (ℕ × Entry)) (rs : List Record) (t : ℕ) → EachEntry P es → has_commit_of (commits_onto rs es) t ≡ true →
     (has_commit_of rs t ≡ true) ⊎ ((ms acks : List ℕ) × P t (entry.Committed ms acks))
 seen_cases P [] rs t h f = inl f
 seen_cases P (e ∷ es) rs t h f = by e.1 h.0 (seen_cases P es (commit_onto rs e.0 e.1) t h.1 f)
@@ -208,7 +208,7 @@ spare_other (e ∷ es) rs t n = by (spare_other es (commit_onto rs e.0 e.1) t) (
         rest (sym (ap (λ c. cond c (Some e.1) (find nat_cmp t es)) g) ∙ n)
         ∙ step e.1 (λ q. let f : false ≡ true = sym g ∙ ap (λ k. eq_by_cmp nat_cmp k e.0) (sym q) ∙ own_number e.0 in cc)
 
-spare_found : (es : List (ℕ × Entry)) (rs : List Record) (t : ℕ) (ms acks : List ℕ) → T (is_sorted nat_cmp es) → ms ≢ [] → find nat_cmp t es ≡ Some (entry.Committed ms acks) →
+pub spare_found : (es : List (ℕ × Entry)) (rs : List Record) (t : ℕ) (ms acks : List ℕ) → T (is_sorted nat_cmp es) → ms ≢ [] → find nat_cmp t es ≡ Some (entry.Committed ms acks) →
     unended_in (commits_onto rs es) t ≡ Some ms
 spare_found [] rs t ms acks s n f = is_nothing f
 spare_found (e ∷ es) rs t ms acks s n f = by (spare_found es (commit_onto rs e.0 e.1) t ms acks (both_T _ _ s).1 n) (eq_by_cmp nat_cmp t e.0) refl
