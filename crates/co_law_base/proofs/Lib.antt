@@ -4,3 +4,7 @@ pub mod ViewRules
 pub mod ImageRules
 pub mod Facts
 pub mod Carrying
+pub mod Commits
+pub mod TwoViews
+pub mod ViewMoves
+pub mod MemberFrame

@@ -30,7 +30,7 @@ use Rattle.co_plain.specs.Moves.{RecordYes, RecordAck, Collect, Leave, End, Cras
 use Rattle.co_law_base.proofs.Lookups.{is_nothing, look_none, put_here, put_there, put_cases, without_here, without_there, without_cases, holds_found, found_holds}
 use Rattle.co_law_base.proofs.ImageRules.{EachEntry, each_entry}
 use Rattle.co_law_base.proofs.Facts.{Rest, rest_of, told, asked, over, entry_of, settled_at, alive, by_coord, belongs, OpenEntry, CollectingEntry, CommittedEntry, CoordFacts, CoordHas, NumberFacts, Facts}
-use Rattle.co_law_coord.proofs.Commits.{lacks_none, lacks_at_first, unended_seen, unended_some, from_cases, from_found, holds_cases, spare_cases, seen_cases, spare_found}
+use Rattle.co_law_base.proofs.Commits.{lacks_none, lacks_at_first, unended_seen, unended_some, from_cases, from_found, holds_cases, spare_cases, seen_cases, spare_found}
 use Rattle.co_law_coord.proofs.Tabled.{EntryFits, each_fits, fits_all, coord_put, coord_without}
 use Rattle.co_law_coord.proofs.CoordFrame.{NewCoord, coord_change}
 

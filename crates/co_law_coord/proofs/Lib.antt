@@ -1,4 +1,3 @@
-pub mod Commits
 pub mod Tabled
 pub mod CoordFrame
 pub mod CoordMoves
