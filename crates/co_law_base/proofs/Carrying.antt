@@ -45,11 +45,11 @@ over_seen r t h = by (or_cases (asked r t) (holds r.used t) h)
     by (inl a) = or_left (begun r t) (holds r.used t) (asked_begun (look r.sessions t) a)
     by (inr u) = or_right (begun r t) (holds r.used t) u
 
-by_coord_begun : (o : Option Session) (c : ℕ) → by_coord o c ≡ true → is_some o ≡ true
+pub by_coord_begun : (o : Option Session) (c : ℕ) → by_coord o c ≡ true → is_some o ≡ true
 by_coord_begun None c h = absurd (let f : false ≡ true = h in cc)
 by_coord_begun (Some session) c h = refl
 
-votes_stand : (v : MemberView) (t c : ℕ) → votes_for (look v.voted t) c ≡ true → stands v t ≡ true
+pub votes_stand : (v : MemberView) (t c : ℕ) → votes_for (look v.voted t) c ≡ true → stands v t ≡ true
 votes_stand v t c h = or_left (holds v.voted t) (holds v.committed t) (by (look v.voted t) h)
   where
     by : (o : Option Vote) → votes_for o c ≡ true → is_some o ≡ true
@@ -166,7 +166,7 @@ pub record Later (r : Rest) (coord : ℕ → CoordState) (sessions : Table Sessi
       (takes_part_in (look (coord c).table t) m ≡ true) ⊎ ((side : Side) → holds (view side (member m)).committed t ≡ true)
   pub sent_on : (note : Message) → was_sent r.sent note ≡ true → was_sent sent note ≡ true
 
-votes_held : (v : MemberView) (t c : ℕ) → votes_for (look v.voted t) c ≡ true → holds v.voted t ≡ true
+pub votes_held : (v : MemberView) (t c : ℕ) → votes_for (look v.voted t) c ≡ true → holds v.voted t ≡ true
 votes_held v t c h = by (look v.voted t) h
   where
     by : (o : Option Vote) → votes_for o c ≡ true → is_some o ≡ true

@@ -122,7 +122,7 @@ from_cases unended t x f =
     by (inl g) = is_nothing (sym (look_none t) ∙ g)
     by (inr p) = p
 
-none_below : {X : Type 0} (k : ℕ) (es : List (ℕ × X)) → T (below_all nat_cmp k es) → find nat_cmp k es ≡ None
+pub none_below : {X : Type 0} (k : ℕ) (es : List (ℕ × X)) → T (below_all nat_cmp k es) → find nat_cmp k es ≡ None
 none_below {X} k es b = by (find nat_cmp k es) refl
   where
     by : (o : Option X) → find nat_cmp k es ≡ o → find nat_cmp k es ≡ None
@@ -140,7 +140,7 @@ onto_other (e ∷ es) table t n = by (onto_other es (put table e.0 (entry.Commit
         rest (sym (ap (λ c. cond c (Some e.1) (find nat_cmp t es)) g) ∙ n)
         ∙ put_there table e.0 (entry.Committed e.1 []) t (λ q. let f : false ≡ true = sym g ∙ ap (λ k. eq_by_cmp nat_cmp k e.0) (sym q) ∙ own_number e.0 in cc)
 
-both_T : (a b : Bool) → T (a && b) → T a × T b
+pub both_T : (a b : Bool) → T (a && b) → T a × T b
 both_T true b h = (tt, h)
 both_T false b h = absurd h
 

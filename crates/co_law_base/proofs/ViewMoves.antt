@@ -1,7 +1,7 @@
 -- The facts of a view under a vote, an abort and an install.
 use Rattle.std.proofs.Common.{◌≡◌, ◌≢◌, ◌⊎◌, inl, inr, ℕ, Bool, true, false, ◌||◌, ◌==◌, ◌≤◌, List, [], ◌∷◌, Option, None, Some, refl, sym, ap, ◌∙◌, subst}
 use Rattle.std.specs.Option.{is_some}
-use Rattle.std.proofs.lemmas.Bool.{or_cases, or_left, or_right, eqb-true, eqb-false, eq-eqb, false_from_ne_true}
+use Rattle.std.proofs.lemmas.Bool.{or_cases, or_left, or_right, or_parts, eqb-true, eqb-false, eq-eqb, false_from_ne_true}
 use Rattle.co_state.specs.declared.engine_state.Vote.{Vote}
 use Rattle.co_state.specs.Table.{Table, look, holds, put, without}
 use Rattle.co_state.specs.VotingRule.{voted_holds}
@@ -32,6 +32,10 @@ each_decided [] = tt
 each_decided (d ∷ ds) =
     (or_left (d.txn == d.txn) (is_decided ds d.txn) (eq-eqb d.txn d.txn refl),
     each_map (λ e. is_decided ds e.txn ≡ true) (λ e. is_decided (d ∷ ds) e.txn ≡ true) ds (λ e h. or_right (d.txn == e.txn) (is_decided ds e.txn) h) (each_decided ds))
+
+-- who does not stand is neither voted nor committed
+pub neither_stands : (v : MemberView) (t : ℕ) → stands v t ≡ false → (holds v.voted t ≡ false) × (holds v.committed t ≡ false)
+neither_stands v t h = or_parts (holds v.voted t) (holds v.committed t) h
 
 pub holds_without : {X : Type 0} (m : Table X) (t u : ℕ) → holds (without m t) u ≡ true → (t ≢ u) × (holds m u ≡ true)
 holds_without m t u h =
