@@ -16,7 +16,7 @@ use Rattle.co_law_base.proofs.Carrying.{Later, later_member, later_coord, later_
 use Rattle.co_law_base.proofs.ViewMoves.{each_map, holds_put, put_holds}
 
 -- a reading of a session that asking leaves
-same_reading : {A : Type 0} (P : Option Session → A) (sessions : Table Session) (t : ℕ) (old new : Session) → look sessions t ≡ Some old → P (Some new) ≡ P (Some old) →
+pub same_reading : {A : Type 0} (P : Option Session → A) (sessions : Table Session) (t : ℕ) (old new : Session) → look sessions t ≡ Some old → P (Some new) ≡ P (Some old) →
     (u : ℕ) → P (look (put sessions t new) u) ≡ P (look sessions u)
 same_reading {A} P sessions t old new here same u = by (t == u) refl
   where
