@@ -60,7 +60,7 @@ pub belongs_seen : (r : Rest) → NumberFacts r → (t c : ℕ) → belongs r t 
 belongs_seen r n t c (Begun h) = or_left (begun r t) (holds r.used t) (by_coord_begun (look r.sessions t) c h)
 belongs_seen r n t c (Voted m h) = or_right (begun r t) (holds r.used t) (n.voted_used m t (votes_stand (recovered_view (r.opened_member m)) t c h))
 
-same_coord : (o : Option Session) (c d : ℕ) → by_coord o c ≡ true → by_coord o d ≡ true → c ≡ d
+pub same_coord : (o : Option Session) (c d : ℕ) → by_coord o c ≡ true → by_coord o d ≡ true → c ≡ d
 same_coord None c d h k = absurd (let f : false ≡ true = h in cc)
 same_coord (Some session) c d h k = by session.by h k
   where
@@ -116,6 +116,9 @@ at_each P f m x p h n = by (m == n) refl
     by : (b : Bool) → (m == n) ≡ b → P n (if m == n then x else f n)
     by true e = subst (λ b. P n (if b then x else f n)) (sym e) (subst (λ k. P k x) (eqb-true m n e) p)
     by false e = subst (λ b. P n (if b then x else f n)) (sym e) (h n)
+
+pub at_here : {X : Type 0} (f : ℕ → X) (m : ℕ) (x : X) → with_at f m x m ≡ x
+at_here f m x = ap (λ b. if b then x else f m) (eq-eqb m m refl)
 
 held_on : (a b c : Bool) → (b ≡ true → c ≡ true) → (a || b) ≡ true → (a || c) ≡ true
 held_on true b c f h = refl

@@ -65,7 +65,7 @@ replaced s f t c e x is same fits =
     }) f
 
 -- a yes is recorded
-one_yes : (P : ℕ → Type 0) (yeses : List ℕ) (m k : ℕ) → P m → (has_number yeses k ≡ true → P k) → has_number (m ∷ yeses) k ≡ true → P k
+pub one_yes : (P : ℕ → Type 0) (yeses : List ℕ) (m k : ℕ) → P m → (has_number yeses k ≡ true → P k) → has_number (m ∷ yeses) k ≡ true → P k
 one_yes P yeses m k p h n = by (or_cases (m == k) (has_number yeses k) n)
   where
     by : ((m == k) ≡ true) ⊎ (has_number yeses k ≡ true) → P k
