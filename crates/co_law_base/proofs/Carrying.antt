@@ -330,6 +330,7 @@ numbers_same r coord sent n =
       decided_begun = n.decided_begun;
       once = n.once;
       local = n.local;
+      local_asked = n.local_asked;
       kept = n.kept;
       voted_used = n.voted_used;
       commit_used = n.commit_used;

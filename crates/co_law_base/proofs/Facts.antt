@@ -244,6 +244,7 @@ pub record NumberFacts (r : Rest) : Type 0 where
   pub decided_begun : (t : ℕ) → is_decided r.decided t ≡ true → begun r t ≡ true
   pub once : AreDecidedOnce r.decided
   pub local : (t m n : ℕ) (session : Session) → look r.sessions t ≡ Some session → session.by ≡ node.Member m → n ≢ m → count_at session.told n ≡ 0
+  pub local_asked : (t m : ℕ) (session : Session) → look r.sessions t ≡ Some session → session.by ≡ node.Member m → is_decided r.decided t ≡ true → session.asked ≡ true
   pub kept : Each (λ d. (d.told ≡ []) ⊎ ((told r d.txn ≡ d.told) × (asked r d.txn ≡ true))) r.decided
   pub voted_used : (m t : ℕ) → stands (recovered_view (r.opened_member m)) t ≡ true → holds r.used t ≡ true
   pub commit_used : (c t : ℕ) → has_commit_of (r.opened_coord c) t ≡ true → holds r.used t ≡ true

@@ -60,14 +60,14 @@ put_holds m t x u h = by (t == u) refl
     by true e = inl (eqb-true t u e)
     by false e = inr (ap is_some (sym (put_there m t x u (eqb-false t u e))) ∙ h)
 
-votes_without : (voted : Table Vote) (t u c : ℕ) → votes_for (look (without voted t) u) c ≡ true → (t ≢ u) × (votes_for (look voted u) c ≡ true)
+pub votes_without : (voted : Table Vote) (t u c : ℕ) → votes_for (look (without voted t) u) c ≡ true → (t ≢ u) × (votes_for (look voted u) c ≡ true)
 votes_without voted t u c h = by (t == u) refl
   where
     by : (b : Bool) → (t == u) ≡ b → (t ≢ u) × (votes_for (look voted u) c ≡ true)
     by true e = absurd (let z : false ≡ true = ap (λ o. votes_for o c) (sym (without_here voted t) ∙ ap (look (without voted t)) (eqb-true t u e)) ∙ h in cc)
     by false e = (eqb-false t u e, ap (λ o. votes_for o c) (sym (without_there voted t u (eqb-false t u e))) ∙ h)
 
-votes_put : (voted : Table Vote) (t : ℕ) (vote : Vote) (u c : ℕ) → votes_for (look (put voted t vote) u) c ≡ true → ((t ≡ u) × (vote.coord ≡ c)) ⊎ (votes_for (look voted u) c ≡ true)
+pub votes_put : (voted : Table Vote) (t : ℕ) (vote : Vote) (u c : ℕ) → votes_for (look (put voted t vote) u) c ≡ true → ((t ≡ u) × (vote.coord ≡ c)) ⊎ (votes_for (look voted u) c ≡ true)
 votes_put voted t vote u c h = by (t == u) refl
   where
     by : (b : Bool) → (t == u) ≡ b → ((t ≡ u) × (vote.coord ≡ c)) ⊎ (votes_for (look voted u) c ≡ true)

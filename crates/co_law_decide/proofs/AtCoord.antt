@@ -3,6 +3,7 @@ use Rattle.std.proofs.Common.{◌≡◌, ◌≢◌, ◌⊎◌, inl, inr, ℕ, su
 use Rattle.std.specs.Option.{is_some}
 use Rattle.std.proofs.lemmas.Bool.{or_cases, or_left, or_right, or_from, and_from, and_parts, eqb-true, eqb-false, eq-eqb, ne_eqb, false_from_ne_true}
 use Rattle.co_base.specs.declared.part.Part.{Part}
+use Rattle.co_base.specs.declared.node.Node.TheVariants as node
 use Rattle.co_message.specs.declared.message.Message.TheVariants as message
 use Rattle.co_record.specs.declared.record.Record.{Record}
 use Rattle.co_record.specs.declared.record.Record.TheVariants as log
@@ -14,7 +15,7 @@ use Rattle.co_plain.specs.declared.coord_state.Entry.TheVariants as entry
 use Rattle.co_plain.specs.Numbers.{first_lacking, has_number}
 use Rattle.co_plain.specs.CoordView.{recovered_commits, has_commit_of}
 use Rattle.co_plain.specs.CoordStep.{members_of, has_part}
-use Rattle.co_plain.specs.Sessions.{parts_of, count_at}
+use Rattle.co_plain.specs.Sessions.{same_node, parts_of, count_at}
 use Rattle.co_plain.specs.Wire.{was_sent}
 use Rattle.co_plain.specs.Federation.{Federation, with_coord}
 use Rattle.co_plain.specs.Decisions.{is_decided, told_of}
@@ -101,6 +102,7 @@ module _ (s : Federation) (f : Facts s) (t c : ℕ) (members : List ℕ) (g : Ch
         unopened = unopened;
         was_begun = by_coord_begun (look s.sessions t) c g.there.begun_there;
         was_asked = g.was_asked;
+        local_asked = λ m session h b. absurd (let z : true ≡ false = sym g.there.begun_there ∙ ap (λ o. by_coord o c) h ∙ ap (λ k. same_node k (node.Coord c)) b in cc);
         was_alive = λ d b. subst (λ e. alive (rest_of s) e t ≡ true) (one_belongs (rest_of s) f.numbers t c d (Begun g.there.begun_there) b) (or_left (holds (s.coord c).table t) _ g.tabled);
         part = λ d m b. subst (λ e. takes_part_in (entry_of (rest_of s) e t) m ≡ true → takes_part_in (look (with_at s.coord c (decide_members (s.coord c) t members) e).table t) m ≡ true)
             (one_belongs (rest_of s) f.numbers t c d (Begun g.there.begun_there) b)

@@ -4,6 +4,7 @@ use Rattle.std.specs.Option.{is_some}
 use Rattle.std.proofs.lemmas.List.{reverse-append}
 use Rattle.std.proofs.lemmas.Bool.{or_cases, or_left, or_right, or_parts, or_from, eqb-true, eqb-false, eq-eqb, ne_eqb, false_from_ne_true}
 use Rattle.std.specs.FinMap.{get}
+use Rattle.co_base.specs.declared.node.Node.TheVariants as node
 use Rattle.co_message.specs.declared.message.Message.TheVariants as message
 use Rattle.co_record.specs.declared.record.Record.{Record}
 use Rattle.co_record.specs.declared.record.Record.TheVariants as log
@@ -17,6 +18,7 @@ use Rattle.co_plain.specs.declared.coord_state.CoordState.{CoordState}
 use Rattle.co_plain.specs.declared.member_state.MemberState.{MemberState}
 use Rattle.co_plain.specs.declared.member_view.MemberView.{MemberView}
 use Rattle.co_plain.specs.declared.session.Decided.{Decided}
+use Rattle.co_plain.specs.declared.session.Session.{Session}
 use Rattle.co_plain.specs.declared.session.Told.{Told}
 use Rattle.co_plain.specs.CoordView.{has_commit_of}
 use Rattle.co_plain.specs.Sessions.{told_at, count_at}
@@ -61,6 +63,7 @@ pub record Decides (r : Rest) (coord : ℕ → CoordState) (t : ℕ) : Type 0 wh
   pub unopened : (c : ℕ) → has_commit_of (r.opened_coord c) t ≡ false
   pub was_begun : begun r t ≡ true
   pub was_asked : (told r t ≡ []) ⊎ (asked r t ≡ true)
+  pub local_asked : (m : ℕ) (session : Session) → look r.sessions t ≡ Some session → session.by ≡ node.Member m → session.asked ≡ true
   -- its coordinator has it in its table
   pub was_alive : (c : ℕ) → belongs r t c → alive r c t ≡ true
   pub part : (c m : ℕ) → belongs r t c → takes_part_in (entry_of r c t) m ≡ true → takes_part_in (look (coord c).table t) m ≡ true
@@ -212,6 +215,7 @@ module _ (r : Rest) (coord : ℕ → CoordState) (t : ℕ) (g : Decides r coord 
         decided_begun = λ u h. begun_of u (or_cases (t == u) (is_decided r.decided u) h);
         once = (g.undecided, n.once);
         local = n.local;
+        local_asked = λ u m session h b d. local_asked u m session h b (t == u) refl d;
         kept = (kept g.was_asked, n.kept);
         voted_used = n.voted_used;
         commit_used = n.commit_used;
@@ -223,6 +227,9 @@ module _ (r : Rest) (coord : ℕ → CoordState) (t : ℕ) (g : Decides r coord 
       begun_of : (u : ℕ) → ((t == u) ≡ true) ⊎ (is_decided r.decided u ≡ true) → begun r u ≡ true
       begun_of u (inl e) = ap (begun r) (sym (eqb-true t u e)) ∙ g.was_begun
       begun_of u (inr h) = n.decided_begun u h
+      local_asked : (u m : ℕ) (session : Session) → look r.sessions u ≡ Some session → session.by ≡ node.Member m → (b : Bool) → (t == u) ≡ b → is_decided (decided_rest r coord t).decided u ≡ true → session.asked ≡ true
+      local_asked u m session h b true e d = g.local_asked m session (ap (look r.sessions) (eqb-true t u e) ∙ h) b
+      local_asked u m session h b false e d = n.local_asked u m session h b (sym (ap (λ b. b || is_decided r.decided u) e) ∙ d)
       kept : (told r t ≡ []) ⊎ (asked r t ≡ true) → (told r t ≡ []) ⊎ ((told r t ≡ told r t) × (asked r t ≡ true))
       kept (inl e) = inl e
       kept (inr h) = inr (refl, h)

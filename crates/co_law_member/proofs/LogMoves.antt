@@ -170,7 +170,7 @@ as_belongs : (s : Federation) (t c : ℕ) → BelongsTo s t c → belongs (rest_
 as_belongs s t c (BegunThere session e b) = Begun (ap (λ o. by_coord o c) e ∙ ap (λ k. same_node k (node.Coord c)) b ∙ eq-eqb c c refl)
 as_belongs s t c (VotedBefore m h) = Voted m h
 
-local_apart : (s : Federation) → NumberFacts (rest_of s) → (t c m : ℕ) (session : Session) → belongs (rest_of s) t c → look s.sessions t ≡ Some session → session.by ≡ node.Member m → ⊥
+pub local_apart : (s : Federation) → NumberFacts (rest_of s) → (t c m : ℕ) (session : Session) → belongs (rest_of s) t c → look s.sessions t ≡ Some session → session.by ≡ node.Member m → ⊥
 local_apart s n t c m session (Begun h) e b =
     let z : true ≡ false = sym h ∙ ap (λ o. by_coord o c) e ∙ ap (λ k. same_node k (node.Coord c)) b in cc
 local_apart s n t c m session (Voted o h) e b =

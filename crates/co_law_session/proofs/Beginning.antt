@@ -76,6 +76,7 @@ module _ (s : Federation) (f : Facts s) (t : ℕ) (by' : Node) (new : seen (rest
         decided_begun = λ u h. holds_put s.sessions t (begun_by by') u (f.numbers.decided_begun u h);
         once = f.numbers.once;
         local = λ u m k session h. local u m k session (put_cases s.sessions t (begun_by by') u session h);
+        local_asked = λ u m session h b d. local_asked u m session b d (put_cases s.sessions t (begun_by by') u session h);
         kept = each_map (λ d. ((d.told ≡ []) ⊎ ((told (rest_of s) d.txn ≡ d.told) × (asked (rest_of s) d.txn ≡ true))) × (is_decided s.decided d.txn ≡ true))
             (λ d. (d.told ≡ []) ⊎ ((told_in (look with_new d.txn) ≡ d.told) × (asked_in (look with_new d.txn) ≡ true))) s.decided
             (λ d p. kept d (f.numbers.decided_begun d.txn p.1) p.0)
@@ -93,6 +94,9 @@ module _ (s : Federation) (f : Facts s) (t : ℕ) (by' : Node) (new : seen (rest
       local : (u m k : ℕ) (session : Session) → ((t ≡ u) × (begun_by by' ≡ session)) ⊎ ((t ≢ u) × (look s.sessions u ≡ Some session)) → session.by ≡ node.Member m → k ≢ m → count_at session.told k ≡ 0
       local u m k session (inl p) b n = ap (λ z. count_at z.told k) (sym p.1)
       local u m k session (inr p) b n = f.numbers.local u m k session p.1 b n
+      local_asked : (u m : ℕ) (session : Session) → session.by ≡ node.Member m → is_decided s.decided u ≡ true → ((t ≡ u) × (begun_by by' ≡ session)) ⊎ ((t ≢ u) × (look s.sessions u ≡ Some session)) → session.asked ≡ true
+      local_asked u m session b d (inr p) = f.numbers.local_asked u m session p.1 b d
+      local_asked u m session b d (inl p) = absurd (let z : true ≡ false = sym (f.numbers.decided_begun u d) ∙ ap (begun (rest_of s)) (sym p.0) ∙ (or_parts (begun (rest_of s) t) (holds s.used t) new).0 in cc)
       kept : (d : Decided) → begun (rest_of s) d.txn ≡ true → (d.told ≡ []) ⊎ ((told (rest_of s) d.txn ≡ d.told) × (asked (rest_of s) d.txn ≡ true)) →
           (d.told ≡ []) ⊎ ((told_in (look with_new d.txn) ≡ d.told) × (asked_in (look with_new d.txn) ≡ true))
       kept d b (inl e) = inl e

@@ -24,7 +24,7 @@ use Rattle.co_plain.specs.declared.session.Told.{Told}
 use Rattle.co_plain.specs.MemberStep.{with_engine}
 use Rattle.co_plain.specs.Sessions.{told_at, count_at, with_told}
 use Rattle.co_plain.specs.Federation.{Federation, with_session, with_member}
-use Rattle.co_plain.specs.Decisions.{told_in, asked_in}
+use Rattle.co_plain.specs.Decisions.{is_decided, told_in, asked_in}
 use Rattle.co_plain.specs.Invariants.{Side, Memory, Stable, view, stands, KeptAsTold}
 use Rattle.co_plain.specs.Moves.{Operate, effect, Guard, entered_reply, may_operate_at}
 use Rattle.co_law_base.proofs.Lookups.{put_here, put_there, put_cases, holds_found, found_holds}
@@ -102,6 +102,7 @@ module _ (s : Federation) (f : Facts s) (t m : ℕ) (o : Op) (old : Session) (g 
         decided_begun = λ u h. operate_later.begun_on u (f.numbers.decided_begun u h);
         once = f.numbers.once;
         local = λ u n k session h. local u n k session (put_cases s.sessions t (with_told old (entry_for s t m o)) u session h);
+        local_asked = λ u n session h b d. local_asked u n session b d (put_cases s.sessions t (with_told old (entry_for s t m o)) u session h);
         kept = each_map (λ d. (d.told ≡ []) ⊎ ((told (rest_of s) d.txn ≡ d.told) × (asked (rest_of s) d.txn ≡ true)))
             (λ d. (d.told ≡ []) ⊎ ((told_in (look (sessions_with s t m o old) d.txn) ≡ d.told) × (asked_in (look (sessions_with s t m o old) d.txn) ≡ true))) s.decided kept f.numbers.kept;
         voted_used = f.numbers.voted_used;
@@ -122,6 +123,9 @@ module _ (s : Federation) (f : Facts s) (t m : ℕ) (o : Op) (old : Session) (g 
           let zero' : count_at old.told k ≡ 0 = f.numbers.local t n k old g.here by d in
           let other : (m == k) ≡ false = ne_eqb m k (λ e. d (sym e ∙ sym same)) in
           ap (λ z. count_at z.told k) (sym p.1) ∙ ap (λ b. if b then count_at old.told k + 1 else count_at old.told k) other ∙ zero'
+      local_asked : (u n : ℕ) (session : Session) → session.by ≡ node.Member n → is_decided s.decided u ≡ true → ((t ≡ u) × (with_told old (entry_for s t m o) ≡ session)) ⊎ ((t ≢ u) × (look s.sessions u ≡ Some session)) → session.asked ≡ true
+      local_asked u n session b d (inr p) = f.numbers.local_asked u n session p.1 b d
+      local_asked u n session b d (inl p) = ap (λ z. z.asked) (sym p.1) ∙ f.numbers.local_asked t n old g.here (ap (λ z. z.by) p.1 ∙ b) (ap (is_decided s.decided) p.0 ∙ d)
       kept : (d : Decided) → (d.told ≡ []) ⊎ ((told (rest_of s) d.txn ≡ d.told) × (asked (rest_of s) d.txn ≡ true)) →
           (d.told ≡ []) ⊎ ((told_in (look (sessions_with s t m o old) d.txn) ≡ d.told) × (asked_in (look (sessions_with s t m o old) d.txn) ≡ true))
       kept d (inl e) = inl e
