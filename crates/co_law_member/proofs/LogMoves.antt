@@ -183,8 +183,8 @@ dead_there s n t c b (AtCoordinator d k none undecided unopened) =
 dead_there s n t c b (AtMember session m e by undecided lost) = absurd (local_apart s n t c m session b e by)
 
 -- a voted transaction is presumed aborted, and its abort waits
-pub keeps_drop_voted : (s : Federation) → Facts s → (t m : ℕ) → Guard s (DropVoted t m) → Facts (effect s (DropVoted t m))
-keeps_drop_voted s f t m g =
+pub drop_dead : (s : Federation) → Facts s → (t m c : ℕ) → holds (s.member m).engine.voted t ≡ true → belongs (rest_of s) t c → alive (rest_of s) c t ≡ false → Facts (effect s (DropVoted t m))
+drop_dead s f t m c g b dead =
     member_change s f m y
     (record {
       views = views;
@@ -197,7 +197,7 @@ keeps_drop_voted s f t m g =
           };
       marked = λ u mark h. let p = without_cases (s.member m).asked t u mark h in let q = x.marked u mark p.1 in (still_holds (s.member m).engine.active t u p.0 q.0, q.1);
       logged = ap (λ v. forget_in v t) x.logged;
-      waiting = ((home.0, home.1, dead), x.waiting);
+      waiting = ((c, b, dead), x.waiting);
     })
     (record { standing = standing; committed = committed })
   where
@@ -205,15 +205,8 @@ keeps_drop_voted s f t m g =
     x = f.members m
     y : MemberState
     y = with_log (dropped (s.member m) t) (with_waiting (s.member m).log (log.Abort t))
-    home : (c : ℕ) × belongs (rest_of s) t c
-    home =
-        let p = holds_found (s.member m).engine.voted t g.0 in
-        let vote : Vote = p.0 in
-        (vote.coord, (x.views Memory).named t vote.coord (ap (λ o. votes_for o vote.coord) p.1 ∙ eq-eqb vote.coord vote.coord refl))
-    dead : alive (rest_of s) home.0 t ≡ false
-    dead = dead_there s f.numbers t home.0 home.1 g.1
     open' : ¬ (settled (rest_of s) t)
-    open' d = let z : true ≡ false = sym (settled_alive (rest_of s) f.numbers t home.0 home.1 d) ∙ dead in cc
+    open' d = let z : true ≡ false = sym (settled_alive (rest_of s) f.numbers t c b d) ∙ dead in cc
     views : (side : Side) → ViewFacts (rest_of s) m (view side y)
     views Memory = view_forget (rest_of s) f.numbers m (view Memory (s.member m)) (x.views Memory) t open'
     views Stable = x.views Stable
@@ -223,10 +216,16 @@ keeps_drop_voted s f t m g =
       where
         by : (holds (s.member m).engine.voted u ≡ true) ⊎ (holds (s.member m).committed u ≡ true) → stands (view Memory y) u ≡ true
         by (inr k) = or_right _ _ k
-        by (inl k) = or_left _ _ (still_holds (s.member m).engine.voted t u (λ e. let z : true ≡ false = sym (subst (LivesOn (rest_of s)) (sym e) l home.0 home.1) ∙ dead in cc) k)
+        by (inl k) = or_left _ _ (still_holds (s.member m).engine.voted t u (λ e. let z : true ≡ false = sym (subst (LivesOn (rest_of s)) (sym e) l c b) ∙ dead in cc) k)
     committed : (side : Side) (t : ℕ) → holds (view side (s.member m)).committed t ≡ true → holds (view side y).committed t ≡ true
     committed Memory t h = h
     committed Stable t h = h
+
+pub keeps_drop_voted : (s : Federation) → Facts s → (t m : ℕ) → Guard s (DropVoted t m) → Facts (effect s (DropVoted t m))
+keeps_drop_voted s f t m g =
+    let p = holds_found (s.member m).engine.voted t g.0 in
+    let home : belongs (rest_of s) t p.0.coord = ((f.members m).views Memory).named t p.0.coord (ap (λ o. votes_for o p.0.coord) p.1 ∙ eq-eqb p.0.coord p.0.coord refl) in
+    drop_dead s f t m p.0.coord g.0 home (dead_there s f.numbers t p.0.coord home g.1)
 
 -- A crash: memory is what the stable records tell.
 pub keeps_member_crash : (s : Federation) → Facts s → (m : ℕ) → Guard s (CrashMember m) → Facts (effect s (CrashMember m))

@@ -184,13 +184,16 @@ install_found s f t m vote here d =
     grows u false e (inl h) = or_left _ _ (still_holds b.voted t u (eqb-false t u e) h)
     grows u false e (inr h) = or_right _ _ (holds_more (s.member m).committed t u h)
 
-pub keeps_install : (s : Federation) → Facts s → (t m : ℕ) → Guard s (InstallVote t m) → Facts (effect s (InstallVote t m))
-keeps_install s f t m g =
-    let p = holds_found (s.member m).engine.voted t g.0 in
+pub install_settled : (s : Federation) → Facts s → (t m : ℕ) → holds (s.member m).engine.voted t ≡ true → settled (rest_of s) t → Facts (effect s (InstallVote t m))
+install_settled s f t m v d =
+    let p = holds_found (s.member m).engine.voted t v in
     subst (λ o. Facts (with_member s m (record {
       up = (s.member m).up;
       engine = install_vote (s.member m).engine t o;
       committed = with_number (s.member m).committed t;
       asked = (s.member m).asked;
       log = with_batch (s.member m).log (log.Commit t [] ∷ []);
-    }))) (sym p.1) (install_found s f t m p.0 p.1 (as_settled s t g.1))
+    }))) (sym p.1) (install_found s f t m p.0 p.1 d)
+
+pub keeps_install : (s : Federation) → Facts s → (t m : ℕ) → Guard s (InstallVote t m) → Facts (effect s (InstallVote t m))
+keeps_install s f t m g = install_settled s f t m g.0 (as_settled s t g.1)

@@ -1,0 +1,5 @@
+pub mod Nodes
+pub mod Marks
+pub mod MemberEvents
+pub mod CoordEvents
+pub mod Steps
