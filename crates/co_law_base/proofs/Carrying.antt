@@ -135,6 +135,7 @@ module _ (r : Rest) (n : NumberFacts r) (f g : ℕ → MemberState) (on : (m : �
         votes_named = s.votes_named;
         yeses_stand = λ t m c side h a. (on m).standing side t (one_lives r n t c (s.votes_named t m c true h) a) (s.yeses_stand t m c side h a);
         asks_named = s.asks_named;
+        asks_take = s.asks_take;
         asks_held = λ t m c h a. held_on _ _ _ ((on m).committed Memory t) (s.asks_held t m c h a);
         acks_stand = λ t m c side h. (on m).committed side t (s.acks_stand t m c side h);
         commits = s.commits;
@@ -211,6 +212,7 @@ module _ (r : Rest) (n : NumberFacts r) (coord : ℕ → CoordState) (sessions :
         done = v.done;
         known = λ t h b. v.known t h (l.begun_back t (over_seen r t (v.over t (or_right _ _ h))) b);
         homed = λ t c h b. v.homed t c h (belongs_back t c (over_seen r t (v.over t (or_right _ _ h))) b);
+        works = λ t c h a. takes_on t m (v.works t c h (l.alive_back t c (belongs_seen r n t c (v.named t c h)) a));
         held = λ t c h a. held t c h (l.part t c m (v.named t c h) a (v.held t c h (l.alive_back t c (belongs_seen r n t c (v.named t c h)) a)));
       }
     where
@@ -303,6 +305,7 @@ later_sent r n coord sessions member l s =
       yeses_stand = λ t m c side h a. s.yeses_stand t m c side h (l.alive_back t c (belongs_seen r n t c (s.votes_named t m c true h)) a);
       asks_named = λ t m c h. belongs_on r n coord sessions r.sent member l t c (s.asks_named t m c h);
       asks_held = λ t m c h a. held t c m a (s.asks_named t m c h) (or_cases _ _ (s.asks_held t m c h (l.alive_back t c (belongs_seen r n t c (s.asks_named t m c h)) a)));
+      asks_take = λ t m c h a. takes_on r n coord sessions r.sent member l t m (s.asks_take t m c h (l.alive_back t c (belongs_seen r n t c (s.asks_named t m c h)) a));
       acks_stand = s.acks_stand;
       commits = λ t c m h. let p = s.commits t c m h in (p.0, takes_on r n coord sessions r.sent member l t m p.1);
       aborts = λ t c m h. aborts t c m (s.aborts t c m h);

@@ -156,6 +156,7 @@ pub record ViewFacts (r : Rest) (m : ℕ) (v : MemberView) : Type 0 where
   pub homed : (t c : ℕ) → holds v.committed t ≡ true → belongs r t c → settled_at r c t ≡ true
   -- a vote is held by the table of its coordinator, unless that presumes it aborted
   pub held : (t c : ℕ) → votes_for (look v.voted t) c ≡ true → alive r c t ≡ true → takes_part_in (entry_of r c t) m ≡ true
+  pub works : (t c : ℕ) → votes_for (look v.voted t) c ≡ true → alive r c t ≡ true → takes r t m
 
 abbrev pub StampsIn : ℕ → List Operation → Type 0
 StampsIn n [] = Unit {0}
@@ -225,6 +226,7 @@ pub record SentFacts (r : Rest) (member : ℕ → MemberState) : Type 0 where
   pub asks_named : (t m c : ℕ) → was_sent r.sent (message.Ask t m c) ≡ true → belongs r t c
   pub asks_held : (t m c : ℕ) → was_sent r.sent (message.Ask t m c) ≡ true → alive r c t ≡ true →
       (takes_part_in (entry_of r c t) m || holds (view Memory (member m)).committed t) ≡ true
+  pub asks_take : (t m c : ℕ) → was_sent r.sent (message.Ask t m c) ≡ true → alive r c t ≡ true → takes r t m
   pub acks_stand : (t m c : ℕ) (side : Side) → was_sent r.sent (message.Ack t m c) ≡ true → holds (view side (member m)).committed t ≡ true
   pub commits : (t c m : ℕ) → was_sent r.sent (message.Decide t c m true) ≡ true → settled r t × takes r t m
   pub aborts : (t c m : ℕ) → was_sent r.sent (message.Decide t c m false) ≡ true →

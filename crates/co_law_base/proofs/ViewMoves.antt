@@ -15,7 +15,7 @@ use Rattle.co_law_base.proofs.Lookups.{put_here, put_there, put_cases, without_h
 use Rattle.co_law_base.proofs.ViewRules.{Replayed, cast_free, forget_free, install_free, cast_replay, forget_replay, install_replay}
 use Rattle.co_law_base.proofs.ImageRules.{image_cast, image_forget, image_install}
 use Rattle.co_law_base.proofs.Commits.{holds_more, holds_new, holds_cases}
-use Rattle.co_law_base.proofs.Facts.{Rest, told_here, begun, over, entry_of, settled_at, Here, Before, settled, alive, belongs, Each, ViewFacts, NumberFacts, serial}
+use Rattle.co_law_base.proofs.Facts.{Rest, told_here, begun, over, entry_of, settled_at, Here, Before, settled, alive, belongs, takes, Each, ViewFacts, NumberFacts, serial}
 use Rattle.co_law_base.proofs.Carrying.{settled_home, settled_alive}
 
 pub each_map : {A : Type 0} (P Q : A → Type 0) (xs : List A) → ((x : A) → P x → Q x) → Each P xs → Each Q xs
@@ -93,6 +93,7 @@ module _ (r : Rest) (n : NumberFacts r) (m : ℕ) (v : MemberView) (f : ViewFact
         known = f.known;
         homed = f.homed;
         held = λ u c h a. f.held u c (votes_without v.voted t u c h).1 a;
+        works = λ u c h a. f.works u c (votes_without v.voted t u c h).1 a;
       }
     where
       fewer : (u : ℕ) → (holds (without v.voted t) u ≡ true) ⊎ (holds v.committed u ≡ true) → stands v u ≡ true
@@ -105,8 +106,8 @@ module _ (r : Rest) (n : NumberFacts r) (m : ℕ) (v : MemberView) (f : ViewFact
   -- a vote
   pub view_cast : (t : ℕ) (vote : Vote) → ((u : ℕ) (other : Vote) → t ≢ u → look v.voted u ≡ Some other → voted_holds vote.sets other.sets ≡ false) →
       (begun r t ≡ true → Replayed v.records vote (told_here r m t)) → ¬ (settled r t) → belongs r t vote.coord → over r t ≡ true → holds v.committed t ≡ false →
-      (alive r vote.coord t ≡ true → takes_part_in (entry_of r vote.coord t) m ≡ true) → ViewFacts r m (cast_in v t vote)
-  view_cast t vote apart replays open' mine o new holds_it =
+      (alive r vote.coord t ≡ true → takes_part_in (entry_of r vote.coord t) m ≡ true) → takes r t m → ViewFacts r m (cast_in v t vote)
+  view_cast t vote apart replays open' mine o new holds_it part =
       record {
         free = cast_free v t vote f.free apart;
         replay = cast_replay v t vote (told_here r m) (begun r) f.replay replays;
@@ -119,6 +120,7 @@ module _ (r : Rest) (n : NumberFacts r) (m : ℕ) (v : MemberView) (f : ViewFact
         known = f.known;
         homed = f.homed;
         held = λ u c h. held u c (votes_put v.voted t vote u c h);
+        works = λ u c h. works u c (votes_put v.voted t vote u c h);
       }
     where
       named : (u c : ℕ) → ((t ≡ u) × (vote.coord ≡ c)) ⊎ (votes_for (look v.voted u) c ≡ true) → belongs r u c
@@ -137,6 +139,9 @@ module _ (r : Rest) (n : NumberFacts r) (m : ℕ) (v : MemberView) (f : ViewFact
       more : (u : ℕ) → (holds v.voted u ≡ true) ⊎ (holds v.committed u ≡ true) → stands (cast_in v t vote) u ≡ true
       more u (inl h) = or_left _ _ (holds_put v.voted t vote u h)
       more u (inr h) = or_right _ _ h
+      works : (u c : ℕ) → ((t ≡ u) × (vote.coord ≡ c)) ⊎ (votes_for (look v.voted u) c ≡ true) → alive r c u ≡ true → takes r u m
+      works u c (inl p) a = subst (λ k. takes r k m) p.0 part
+      works u c (inr h) a = f.works u c h a
       held : (u c : ℕ) → ((t ≡ u) × (vote.coord ≡ c)) ⊎ (votes_for (look v.voted u) c ≡ true) → alive r c u ≡ true → takes_part_in (entry_of r c u) m ≡ true
       held u c (inl p) =
           subst (λ k. alive r c k ≡ true → takes_part_in (entry_of r c k) m ≡ true) p.0
@@ -158,6 +163,7 @@ module _ (r : Rest) (n : NumberFacts r) (m : ℕ) (v : MemberView) (f : ViewFact
         known = λ u h b. known u b (holds_cases v.committed t u h);
         homed = λ u c h b. homed u c b (holds_cases v.committed t u h);
         held = λ u c h a. f.held u c (votes_without v.voted t u c h).1 a;
+        works = λ u c h a. f.works u c (votes_without v.voted t u c h).1 a;
       }
     where
       overs : (u : ℕ) → (holds (without v.voted t) u ≡ true) ⊎ (holds (install_in v t (Some vote)).committed u ≡ true) → over r u ≡ true

@@ -158,6 +158,7 @@ module _ (r : Rest) (coord : ℕ → CoordState) (t : ℕ) (g : Decides r coord 
         known = λ u h b. decided_more u (f.known u h b);
         homed = λ u c h b. home_more u c (f.homed u c h b);
         held = λ u c h a. part_on u c m (f.named u c h) (f.held u c h (alive_back u c (f.named u c h) a));
+        works = λ u c h a. f.works u c h (alive_back u c (f.named u c h) a);
       }
 
   pub waiting_decide : (rs : List Record) → OnlyAborts r rs → OnlyAborts (decided_rest r coord t) rs
@@ -198,6 +199,7 @@ module _ (r : Rest) (coord : ℕ → CoordState) (t : ℕ) (g : Decides r coord 
         yeses_stand = λ u m c side h a. f.yeses_stand u m c side h (alive_back u c (f.votes_named u m c true h) a);
         asks_named = f.asks_named;
         asks_held = λ u m c h a. let b = f.asks_named u m c h in held_decide u c m (member m) b (f.asks_held u m c h (alive_back u c b a));
+        asks_take = λ u m c h a. f.asks_take u m c h (alive_back u c (f.asks_named u m c h) a);
         acks_stand = f.acks_stand;
         commits = λ u c m h. let p = f.commits u c m h in (settled_more u p.0, p.1);
         aborts = λ u c m h. aborts u c m (f.aborts u c m h);

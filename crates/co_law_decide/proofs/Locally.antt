@@ -144,6 +144,7 @@ module _ (s : Federation) (f : Facts s) (t m : ℕ) (old : Session) (g : Alone s
             (λ e p h. more e.txn (or_cases _ _ (p h))) v.done);
         known = λ u h b. known u b (holds_cases (s.member m).committed t u h);
         homed = λ u c h b. homed u c b (holds_cases (s.member m).committed t u h);
+        works = λ u c h a. let p = others u c h in v.works u c p.1 (sym (same_alive (rest_of s) s.coord t decides u c p.0) ∙ a);
         held = λ u c h a. let p = others u c h in v.held u c p.1 (sym (same_alive (rest_of s) s.coord t decides u c p.0) ∙ a);
       }
     where

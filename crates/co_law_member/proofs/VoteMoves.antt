@@ -31,7 +31,7 @@ use Rattle.co_law_base.proofs.Lookups.{is_nothing, holds_found, found_holds, put
 use Rattle.co_law_base.proofs.ToldRuns.{CastReplays, cast_replays}
 use Rattle.co_law_base.proofs.ViewRules.{Replayed}
 use Rattle.co_law_base.proofs.Commits.{holds_cases, holds_more, holds_new}
-use Rattle.co_law_base.proofs.Facts.{Rest, rest_of, told_here, entry_of, over, settled, Here, Before, alive, belongs, settled_at, OpenEntry, ActiveFacts, ViewFacts, MemberFacts, NumberFacts, Facts}
+use Rattle.co_law_base.proofs.Facts.{Rest, rest_of, told_here, entry_of, over, settled, Here, Before, alive, belongs, ByTold, settled_at, OpenEntry, ActiveFacts, ViewFacts, MemberFacts, NumberFacts, Facts}
 use Rattle.co_law_base.proofs.Carrying.{LivesOn, settled_home, settled_alive, by_coord_begun}
 use Rattle.co_law_base.proofs.TwoViews.{both_sides, forced}
 use Rattle.co_law_base.proofs.ViewMoves.{neither_stands, view_cast, view_install, holds_without, still_holds, put_holds, holds_put}
@@ -112,6 +112,7 @@ keeps_cast s f t m c n g =
         (f.sent.over (message.Prepare t c m n) g.0)
         not_committed
         (λ l. held (or_cases _ _ (f.sent.prepares_held t c m n g.0 l)))
+        (ByTold (let p = f.sent.prepares_count t c m n g.0 in subst (λ k. 1 ≤ k) p.0 p.1))
     active : (u : ℕ) (os : List Operation) → (t ≢ u) × (look (s.member m).engine.active u ≡ Some os) → ActiveFacts (rest_of s) m y u os
     active u os p =
         let old = x.active u os p.1 in

@@ -188,6 +188,7 @@ module _ (s : Federation) (f : Facts s) where
         yeses_stand = λ t m c side h. yeses_stand t m c side (send_cases s.sent note _ h);
         asks_named = λ t m c h. asks_named t m c (send_cases s.sent note _ h);
         asks_held = λ t m c h. asks_held t m c (send_cases s.sent note _ h);
+        asks_take = λ t m c h. asks_take t m c (send_cases s.sent note _ h);
         acks_stand = λ t m c side h. acks_stand t m c side (send_cases s.sent note _ h);
         commits = λ t c m h. commits t c m (send_cases s.sent note _ h);
         aborts = λ t c m h. aborts t c m (send_cases s.sent note _ h);
@@ -223,6 +224,9 @@ module _ (s : Federation) (f : Facts s) where
           (takes_part_in (entry_of (rest_of s) c t) m || holds (s.member m).committed t) ≡ true
       asks_held t m c (inr h) a = f.sent.asks_held t m c h a
       asks_held t m c (inl e) a = or_left (takes_part_in (entry_of (rest_of s) c t) m) (holds (s.member m).committed t) (((f.members m).views Memory).held t c (subst (Allowed s) e g) a)
+      asks_take : (t m c : ℕ) → (note ≡ message.Ask t m c) ⊎ (was_sent s.sent (message.Ask t m c) ≡ true) → alive (rest_of s) c t ≡ true → takes (rest_of s) t m
+      asks_take t m c (inr h) a = f.sent.asks_take t m c h a
+      asks_take t m c (inl e) a = ((f.members m).views Memory).works t c (subst (Allowed s) e g) a
       acks_stand : (t m c : ℕ) (side : Side) → (note ≡ message.Ack t m c) ⊎ (was_sent s.sent (message.Ack t m c) ≡ true) → holds (view side (s.member m)).committed t ≡ true
       acks_stand t m c side (inr h) = f.sent.acks_stand t m c side h
       acks_stand t m c side (inl e) = both_committed t m side (subst (Allowed s) e g)
