@@ -54,7 +54,7 @@ use Rattle.co_law_event.proofs.Nodes.{member_stays, mark_at, cast_at, drop_activ
 use Rattle.co_law_event.proofs.Marks.{AllQuiet, aborts_quiet, quiet_marks, noted_quiet, noted_sent}
 
 -- where a transaction stands
-active_is : (a v c : Bool) → standing_by a v c ≡ IsActive → a ≡ true
+pub active_is : (a v c : Bool) → standing_by a v c ≡ IsActive → a ≡ true
 active_is true v c e = refl
 active_is false true c e = absurd (let z : IsVoted ≡ IsActive = e in cc)
 active_is false false true e = absurd (let z : IsInstalled ≡ IsActive = e in cc)
@@ -120,7 +120,7 @@ module _ (s : Federation) (m : ℕ) (f : Facts s) where
   w = (f.members m).waiting
 
   -- what is nowhere is dropped without a trace
-  absent_dropped : (t : ℕ) → holds (s.member m).engine.active t ≡ false → holds (s.member m).engine.voted t ≡ false → Facts (with_member s m (dropped (s.member m) t))
+  pub absent_dropped : (t : ℕ) → holds (s.member m).engine.active t ≡ false → holds (s.member m).engine.voted t ≡ false → Facts (with_member s m (dropped (s.member m) t))
   absent_dropped t a v =
       subst (λ z. Facts (with_member s m z)) (sym same) stays
     where
