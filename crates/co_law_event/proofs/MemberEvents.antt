@@ -60,7 +60,7 @@ active_is false true c e = absurd (let z : IsVoted ≡ IsActive = e in cc)
 active_is false false true e = absurd (let z : IsInstalled ≡ IsActive = e in cc)
 active_is false false false e = absurd (let z : IsAbsent ≡ IsActive = e in cc)
 
-voted_is : (a v c : Bool) → standing_by a v c ≡ IsVoted → v ≡ true
+pub voted_is : (a v c : Bool) → standing_by a v c ≡ IsVoted → v ≡ true
 voted_is true v c e = absurd (let z : IsActive ≡ IsVoted = e in cc)
 voted_is false true c e = refl
 voted_is false false true e = absurd (let z : IsInstalled ≡ IsVoted = e in cc)
@@ -137,7 +137,7 @@ module _ (s : Federation) (m : ℕ) (f : Facts s) where
             log = (s.member m).log;
           }
 
-  votes_own : (t : ℕ) → holds (s.member m).engine.voted t ≡ true → votes_for (look (s.member m).engine.voted t) (coord_of (s.member m) t) ≡ true
+  pub votes_own : (t : ℕ) → holds (s.member m).engine.voted t ≡ true → votes_for (look (s.member m).engine.voted t) (coord_of (s.member m) t) ≡ true
   votes_own t h =
       let p = holds_found (s.member m).engine.voted t h in
       subst (λ o. votes_for o (coord_in o) ≡ true) (sym p.1) (eq-eqb p.0.coord p.0.coord refl)
