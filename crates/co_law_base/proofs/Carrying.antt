@@ -272,11 +272,16 @@ module _ (r : Rest) (n : NumberFacts r) (coord : ℕ → CoordState) (sessions :
             };
         known = λ t h. known t (or_cases _ _ (y.known t h));
         unended_over = λ t ms h. over_on t (y.unended_over t ms h);
+        unended_known = λ t ms h. unended_known t ms (y.unended_known t ms h);
         ends = y.ends;
       }
     where
       still : (t : ℕ) → OpenEntry r c stable t → OpenEntry (changed r coord sessions sent) c stable t
       still t e = record { begun_there = l.by_on t c e.begun_there; undecided = e.undecided; unrecorded = e.unrecorded }
+      unended_known : (t : ℕ) (members : List ℕ) → ((by_coord (look r.sessions t) c && is_decided r.decided t) ≡ true) ⊎ (unended_in (r.opened_coord c) t ≡ Some members) →
+          ((by_coord (look sessions t) c && is_decided r.decided t) ≡ true) ⊎ (unended_in (r.opened_coord c) t ≡ Some members)
+      unended_known t members (inl p) = let q = and_parts _ _ p in inl (and_from _ _ (l.by_on t c q.0) q.1)
+      unended_known t members (inr h) = inr h
       known : (t : ℕ) → ((by_coord (look r.sessions t) c && is_decided r.decided t) ≡ true) ⊎ (has_commit_of (r.opened_coord c) t ≡ true) →
           ((by_coord (look sessions t) c && is_decided r.decided t) || has_commit_of (r.opened_coord c) t) ≡ true
       known t (inl p) =
@@ -340,4 +345,5 @@ numbers_same r coord sent n =
       one_vote = n.one_vote;
       vote_commit = n.vote_commit;
       one_home = n.one_home;
+      one_commit = n.one_commit;
     }

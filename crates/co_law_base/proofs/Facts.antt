@@ -209,6 +209,8 @@ pub record CoordFacts (r : Rest) (c : ℕ) (table : Table Entry) (stable waiting
   pub committed : (t : ℕ) (members acks : List ℕ) → look table t ≡ Some (entry.Committed members acks) → CommittedEntry r c stable waiting t members acks
   pub known : (t : ℕ) → has_commit_of stable t ≡ true → ((by_coord (look r.sessions t) c && is_decided r.decided t) || has_commit_of (r.opened_coord c) t) ≡ true
   pub unended_over : (t : ℕ) (members : List ℕ) → unended_in stable t ≡ Some members → over r t ≡ true
+  pub unended_known : (t : ℕ) (members : List ℕ) → unended_in stable t ≡ Some members →
+      ((by_coord (look r.sessions t) c && is_decided r.decided t) ≡ true) ⊎ (unended_in (r.opened_coord c) t ≡ Some members)
   pub ends : ends_only waiting ≡ true
 
 abbrev pub CoordHas : Rest → ℕ → CoordState → Type 0
@@ -254,6 +256,7 @@ pub record NumberFacts (r : Rest) : Type 0 where
       votes_for (look (recovered_view (r.opened_member n)).voted t) d ≡ true → c ≡ d
   pub vote_commit : (t m c d : ℕ) (members : List ℕ) → votes_for (look (recovered_view (r.opened_member m)).voted t) c ≡ true →
       unended_in (r.opened_coord d) t ≡ Some members → c ≡ d
+  pub one_commit : (t c d : ℕ) (members others : List ℕ) → unended_in (r.opened_coord c) t ≡ Some members → unended_in (r.opened_coord d) t ≡ Some others → c ≡ d
   pub one_home : (t m c d : ℕ) → votes_for (look (recovered_view (r.opened_member m)).voted t) c ≡ true → has_commit_of (r.opened_coord d) t ≡ true →
       has_commit_of (r.opened_coord c) t ≡ true
 

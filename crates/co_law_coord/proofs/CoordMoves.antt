@@ -174,6 +174,7 @@ keeps_end s f t c g =
                 };
             known = y.known;
             unended_over = y.unended_over;
+            unended_known = y.unended_known;
             ends = y.ends;
           };
       alive_back = λ u h. let p = holds_found (without (s.coord c).table t) u h in or_left _ _ (found_holds (s.coord c).table u p.0 (without_cases (s.coord c).table t u p.0 p.1).1);
@@ -219,6 +220,7 @@ keeps_coord_crash s f c g =
             committed = λ t members acks h. let p = from_cases unended t _ h in again t members acks p.0 p.1 p.2;
             known = y.known;
             unended_over = y.unended_over;
+            unended_known = y.unended_known;
             ends = refl;
           };
       alive_back = λ t h. let p = holds_found (table_from (entries unended)) t h in let q = from_cases unended t p.0 p.1 in
@@ -310,6 +312,7 @@ keeps_coord_fill s f c g =
                 record { recorded = is; logged = is; lacks = old.lacks; acks_sent = old.acks_sent };
             known = λ t h. known t h;
             unended_over = λ t members h. y.unended_over t members (back t members h);
+            unended_known = λ t members h. y.unended_known t members (back t members h);
             ends = refl;
           };
       alive_back = λ t h. or_left _ _ h;

@@ -28,6 +28,7 @@ module _ (r : Rest) (c : ℕ) (stable waiting : List Record) where
         committed = λ t members acks f. h t (entry.Committed members acks) f;
         known = y.known;
         unended_over = y.unended_over;
+        unended_known = y.unended_known;
         ends = y.ends;
       }
 

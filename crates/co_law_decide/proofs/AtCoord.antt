@@ -134,6 +134,13 @@ module _ (s : Federation) (f : Facts s) (t c : ℕ) (members : List ℕ) (g : Ch
           (and_from (by_coord (look s.sessions u) d) ((t == u) || is_decided s.decided u) q.0 (or_right (t == u) (is_decided s.decided u) q.1))
       by (inr k) = or_right (by_coord (look s.sessions u) d && ((t == u) || is_decided s.decided u)) (has_commit_of (s.opened_coord d) u) k
 
+  more_known : (d u : ℕ) (ms : List ℕ) → ((by_coord (look s.sessions u) d && is_decided s.decided u) ≡ true) ⊎ (unended_in (s.opened_coord d) u ≡ Some ms) →
+      ((by_coord (look s.sessions u) d && ((t == u) || is_decided s.decided u)) ≡ true) ⊎ (unended_in (s.opened_coord d) u ≡ Some ms)
+  more_known d u ms (inr h) = inr h
+  more_known d u ms (inl p) =
+      let q = and_parts (by_coord (look s.sessions u) d) (is_decided s.decided u) p in
+      inl (and_from (by_coord (look s.sessions u) d) ((t == u) || is_decided s.decided u) q.0 (or_right (t == u) (is_decided s.decided u) q.1))
+
   -- the coordinator that decides
   coord_here : CoordFacts (decided_rest (rest_of s) (after_it s t c members) t) c (decide_members (s.coord c) t members).table (records_after s t c members) []
   coord_here =
@@ -142,6 +149,7 @@ module _ (s : Federation) (f : Facts s) (t c : ℕ) (members : List ℕ) (g : Ch
         collecting = λ u parts yeses h. collecting u parts yeses h (t == u) refl;
         committed = λ u ms acks h. committed u ms acks h (t == u) refl;
         known = λ u h. known u (holds_cases (recovered_commits ((s.coord c).log.waiting ++ (s.coord c).log.stable)).seen t u h);
+        unended_known = λ u ms h. unended_known u ms (commit_cases ((s.coord c).log.waiting ++ (s.coord c).log.stable) t members u ms h);
         unended_over = λ u ms h. overs u ms (commit_cases ((s.coord c).log.waiting ++ (s.coord c).log.stable) t members u ms h);
         ends = refl;
       }
@@ -197,6 +205,11 @@ module _ (s : Federation) (f : Facts s) (t c : ℕ) (members : List ℕ) (g : Ch
           (and_from (by_coord (look s.sessions u) c) ((t == u) || is_decided s.decided u)
           (ap (λ k. by_coord (look s.sessions k) c) (sym e) ∙ g.there.begun_there) (or_left (t == u) (is_decided s.decided u) (eq-eqb t u e)))
       known u (inr h) = known_more c u (old.known u (sym (ends_seen (s.coord c).log.waiting (s.coord c).log.stable u old.ends) ∙ h))
+      unended_known : (u : ℕ) (ms : List ℕ) → ((t ≡ u) × (members ≡ ms) × (members ≢ [])) ⊎ (unended_in ((s.coord c).log.waiting ++ (s.coord c).log.stable) u ≡ Some ms) →
+          ((by_coord (look s.sessions u) c && ((t == u) || is_decided s.decided u)) ≡ true) ⊎ (unended_in (s.opened_coord c) u ≡ Some ms)
+      unended_known u ms (inl p) =
+          inl (and_from (by_coord (look s.sessions u) c) ((t == u) || is_decided s.decided u) (ap (λ k. by_coord (look s.sessions k) c) (sym p.0) ∙ g.there.begun_there) (or_left (t == u) (is_decided s.decided u) (eq-eqb t u p.0)))
+      unended_known u ms (inr h) = more_known c u ms (old.unended_known u ms (ends_back (s.coord c).log.waiting (s.coord c).log.stable u ms old.ends h))
       overs : (u : ℕ) (ms : List ℕ) → ((t ≡ u) × (members ≡ ms) × (members ≢ [])) ⊎ (unended_in ((s.coord c).log.waiting ++ (s.coord c).log.stable) u ≡ Some ms) → over (rest_of s) u ≡ true
       overs u ms (inl p) = ap (over (rest_of s)) (sym p.0) ∙ g.over_them p.2
       overs u ms (inr h) = old.unended_over u ms (ends_back (s.coord c).log.waiting (s.coord c).log.stable u ms old.ends h)
@@ -211,6 +224,7 @@ module _ (s : Federation) (f : Facts s) (t c : ℕ) (members : List ℕ) (g : Ch
         committed = λ u ms acks h. let x = old.committed u ms acks h in record { recorded = x.recorded; logged = x.logged; lacks = x.lacks; acks_sent = x.acks_sent };
         known = λ u h. known_more d u (old.known u h);
         unended_over = old.unended_over;
+        unended_known = λ u ms h. more_known d u ms (old.unended_known u ms h);
         ends = old.ends;
       }
     where

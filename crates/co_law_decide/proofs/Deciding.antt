@@ -224,6 +224,7 @@ module _ (r : Rest) (coord : ℕ → CoordState) (t : ℕ) (g : Decides r coord 
         one_vote = n.one_vote;
         vote_commit = n.vote_commit;
         one_home = n.one_home;
+        one_commit = n.one_commit;
       }
     where
       begun_of : (u : ℕ) → ((t == u) ≡ true) ⊎ (is_decided r.decided u ≡ true) → begun r u ≡ true

@@ -244,6 +244,7 @@ module _ (s : Federation) (f : Facts s) (t m : ℕ) (old : Session) (g : Alone s
         committed = λ u ms acks h. let e = x.committed u ms acks h in record { recorded = e.recorded; logged = e.logged; lacks = e.lacks; acks_sent = e.acks_sent };
         known = λ u h. known u (or_cases (by_coord (look s.sessions u) d && is_decided s.decided u) (has_commit_of (s.opened_coord d) u) (x.known u h));
         unended_over = x.unended_over;
+        unended_known = λ u ms h. unended_known u ms (x.unended_known u ms h);
         ends = x.ends;
       }
     where
@@ -256,6 +257,12 @@ module _ (s : Federation) (f : Facts s) (t m : ℕ) (old : Session) (g : Alone s
             undecided = or_from (t == u) (is_decided s.decided u) (ne_eqb t u (λ q. foreign d (Begun (ap (λ k. by_coord (look s.sessions k) d) q ∙ e.begun_there)))) e.undecided;
             unrecorded = e.unrecorded;
           }
+      unended_known : (u : ℕ) (ms : List ℕ) → ((by_coord (look s.sessions u) d && is_decided s.decided u) ≡ true) ⊎ (unended_in (s.opened_coord d) u ≡ Some ms) →
+          ((by_coord (look s.sessions u) d && ((t == u) || is_decided s.decided u)) ≡ true) ⊎ (unended_in (s.opened_coord d) u ≡ Some ms)
+      unended_known u ms (inr h) = inr h
+      unended_known u ms (inl p) =
+          let q = and_parts (by_coord (look s.sessions u) d) (is_decided s.decided u) p in
+          inl (and_from (by_coord (look s.sessions u) d) ((t == u) || is_decided s.decided u) q.0 (or_right (t == u) (is_decided s.decided u) q.1))
       known : (u : ℕ) → ((by_coord (look s.sessions u) d && is_decided s.decided u) ≡ true) ⊎ (has_commit_of (s.opened_coord d) u ≡ true) →
           ((by_coord (look s.sessions u) d && ((t == u) || is_decided s.decided u)) || has_commit_of (s.opened_coord d) u) ≡ true
       known u (inr k) = or_right (by_coord (look s.sessions u) d && ((t == u) || is_decided s.decided u)) (has_commit_of (s.opened_coord d) u) k

@@ -75,6 +75,7 @@ asked_facts s f t old here =
           one_vote = f.numbers.one_vote;
           vote_commit = f.numbers.vote_commit;
           one_home = f.numbers.one_home;
+        one_commit = f.numbers.one_commit;
         }
       where
         new : (u : ℕ) → (t ≡ u) ⊎ (holds s.sessions u ≡ true) → holds s.used u ≡ false

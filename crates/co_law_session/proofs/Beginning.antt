@@ -86,6 +86,7 @@ module _ (s : Federation) (f : Facts s) (t : ℕ) (by' : Node) (new : seen (rest
         one_vote = f.numbers.one_vote;
         vote_commit = f.numbers.vote_commit;
         one_home = f.numbers.one_home;
+        one_commit = f.numbers.one_commit;
       }
     where
       fresh : (u : ℕ) → (t ≡ u) ⊎ (holds s.sessions u ≡ true) → holds s.used u ≡ false

@@ -110,6 +110,7 @@ module _ (s : Federation) (f : Facts s) (t m : ℕ) (o : Op) (old : Session) (g 
         one_vote = f.numbers.one_vote;
         vote_commit = f.numbers.vote_commit;
         one_home = f.numbers.one_home;
+        one_commit = f.numbers.one_commit;
       }
     where
       new : (u : ℕ) → (t ≡ u) ⊎ (holds s.sessions u ≡ true) → holds s.used u ≡ false

@@ -135,6 +135,7 @@ module _ (kinds : List Kind) (coords : ℕ) (fm fc : ℕ → Found) (g : AreOpen
         committed = λ t ms acks f. let p = from_cases unended t (entry.Committed ms acks) f in committed t ms acks p.0 p.1 p.2;
         known = λ t h. or_right _ _ (sym (ap (λ k. holds k.seen t) (made_commits (node.Coord c) (fc c).records)) ∙ h);
         unended_over = λ t ms h. or_right (asked (rest_of (opened kinds coords fm fc)) t) (holds (used_numbers (length kinds) coords fm fc) t) (g.coords_used c t (unended_seen (fc c).records t ms (sym (ap (λ k. look k.unended t) (made_commits (node.Coord c) (fc c).records)) ∙ h)));
+        unended_known = λ t ms h. inr (sym (ap (λ k. look k.unended t) (made_commits (node.Coord c) (fc c).records)) ∙ h);
         ends = refl;
       }
     where
@@ -172,6 +173,7 @@ module _ (kinds : List Kind) (coords : ℕ) (fm fc : ℕ → Found) (g : AreOpen
               commit_used = g.coords_used;
               one_vote = g.sound.one_vote;
               vote_commit = λ t m c d members h k. g.sound.vote_and_commit t m c d h (found_holds (recovered_commits (fc d).records).unended t members k);
+              one_commit = λ t c d ms ns h k. g.sound.one_commit t c d (found_holds (recovered_commits (fc c).records).unended t ms h) (found_holds (recovered_commits (fc d).records).unended t ns k);
               one_home = λ t m c d h k. let p = has_open m t c h d k in unended_seen (fc c).records t p.0 p.1;
             };
         members = member_facts;
