@@ -1,12 +1,10 @@
 -- The counts of participants, and the operations that they count.
-use Rattle.std.proofs.Common.{◌≡◌, ◌≢◌, ℕ, ◌+◌, ◌<◌, ◌==◌, Bool, true, false, if◌then◌else◌, List, [], ◌∷◌, ◌++◌, ◌⊎◌, inl, inr, take, drop, length, get_or, slice_set, zero, suc, None, refl, sym, ap, ◌∙◌, arith}
-use Rattle.std.specs.Ordering.{nat_cmp}
+use Rattle.std.proofs.Common.{◌≡◌, ◌≢◌, ℕ, ◌+◌, ◌<◌, ◌==◌, Bool, true, false, if◌then◌else◌, List, [], ◌∷◌, ◌++◌, ◌⊎◌, inl, inr, take, drop, length, get_or, slice_set, zero, suc, refl, sym, ap, ◌∙◌, arith}
 use Rattle.std.specs.Cmp.{nat_cmp_is}
 use Rattle.std.specs.FinMap.Entries.{by_order}
-use Rattle.std.specs.declared.cmp.Ordering.{Ordering}
 use Rattle.std.specs.declared.cmp.Ordering.TheVariants.{Less, Equal, Greater}
 use Rattle.std.proofs.lemmas.Bool.Decides.{nat_tests}
-use Rattle.std.proofs.lemmas.Bool.{eq-eqb, eqb-true, eqb-false, cases_order}
+use Rattle.std.proofs.lemmas.Bool.{eqb-true, eqb-false, cases_order}
 use Rattle.co_base.specs.declared.part.Part.{Part}
 use Rattle.co_plain.specs.declared.session.Told.{Told}
 use Rattle.co_plain.specs.Sessions.{count_among}

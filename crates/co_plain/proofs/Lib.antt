@@ -1,3 +1,6 @@
 pub mod Ascending
 pub mod Counts
 mod Few
+mod Placed
+mod Acting
+mod Opened

@@ -1,9 +1,8 @@
 -- Commitment ordering (Raz, VLDB 1992), as a test on the items of a transcript alone: where an operation of one
 -- committed transaction stands before a conflicting one of another, it is decided first.
-use Rattle.std.specs.Prelude.{ℕ, Bool, true, false, not, ◌&&◌, ◌||◌, ◌==◌, ◌≡◌, ◌≢◌, ◌⊎◌, List, [], ◌∷◌, ◌++◌, if◌then◌else◌, Option, None, Some}
+use Rattle.std.specs.Prelude.{ℕ, Bool, true, false, ◌&&◌, ◌||◌, ◌==◌, ◌≡◌, ◌≢◌, List, [], ◌∷◌, ◌++◌, if◌then◌else◌, Option, None, Some}
 use Rattle.co_base.specs.declared.head.Kind.{Kind}
 use Rattle.co_base.specs.declared.head.Kind.TheVariants.{Lock, Occ, Mv}
-use Rattle.co_base.specs.declared.mark.Mark.{Mark}
 use Rattle.co_base.specs.declared.mark.MarkKind.{MarkKind}
 use Rattle.co_base.specs.declared.mark.MarkKind.TheVariants as kind
 use Rattle.co_base.specs.declared.node.Node.{Node}

@@ -1,15 +1,14 @@
 -- A step of one coordinator: its state after, its answer, the messages it sends, and what became stable.
-use Rattle.std.specs.Prelude.{ℕ, Bool, true, false, not, List, [], ◌∷◌, ◌++◌, map, filter, if◌then◌else◌, Option, None, Some, ◌==◌, ◌||◌}
+use Rattle.std.specs.Prelude.{ℕ, Bool, true, false, List, [], ◌∷◌, ◌++◌, map, ◌==◌}
 use Rattle.std.specs.FinMap.{entries}
 use Rattle.std.specs.List.{list_any}
-use Rattle.co_base.specs.declared.mark.Mark.{Mark}
 use Rattle.co_base.specs.declared.node.Node.TheVariants as node
 use Rattle.co_base.specs.declared.part.Part.{Part}
 use Rattle.co_message.specs.declared.answer.Answer.{Answer}
 use Rattle.co_message.specs.declared.answer.Answer.TheVariants as answer
 use Rattle.co_message.specs.declared.message.Message.{Message}
 use Rattle.co_record.specs.declared.record.Record.{Record}
-use Rattle.co_state.specs.Table.{Table, no_entries, put, without, look}
+use Rattle.co_state.specs.Table.{Table, no_entries, put}
 use Rattle.co_plain.specs.declared.coord_state.CoordState.{CoordState}
 use Rattle.co_plain.specs.declared.coord_step.CoordStep.{CoordStep}
 use Rattle.co_plain.specs.declared.coord_state.Entry.{Entry}
@@ -20,7 +19,6 @@ use Rattle.co_plain.specs.declared.outcome.Outcome.TheVariants.{Completes, Stops
 use Rattle.co_plain.specs.LogWrite.{outcome_of, batch_is_stable, with_batch, crashed_log, marks_of}
 use Rattle.co_plain.specs.declared.coord_view.CoordView.{CoordView}
 use Rattle.co_plain.specs.CoordView.{recovered_commits}
-use Rattle.co_plain.specs.Numbers.{has_number}
 
 abbrev pub coord_says : CoordState → Answer → CoordStep
 coord_says x a = record { state = x; answer = a; sent = []; marks = [] }

@@ -2,9 +2,9 @@
 use Rattle.std.specs.Prelude.{ℕ, Bool, true, false, not, ◌&&◌, ◌==◌, nat_le, suc, List, [], ◌∷◌, if◌then◌else◌, Option, None, Some}
 use Rattle.co_record.specs.declared.record.Record.{Record}
 use Rattle.co_record.specs.declared.record.Record.TheVariants as log
-use Rattle.co_state.specs.Table.{Table, no_entries, look, put, without, holds}
+use Rattle.co_state.specs.Table.{Table, no_entries, put, without, holds}
 use Rattle.co_plain.specs.declared.coord_view.CoordView.{CoordView}
-use Rattle.co_plain.specs.MemberView.{Numbers, with_number}
+use Rattle.co_plain.specs.MemberView.{with_number}
 
 -- A view has the commits without end, each with its participants, and the numbers of all commits.
 abbrev pub no_commits : CoordView

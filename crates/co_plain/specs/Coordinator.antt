@@ -1,7 +1,7 @@
 -- What a coordinator does: one definition for each event, by the entry of the transaction in its table. Two-
 -- phase commit with presumed abort (Mohan, Lindsay and Obermarck, TODS 1986): who is not in the table and
 -- has no commit is aborted. Every one is for a coordinator that is up.
-use Rattle.std.specs.Prelude.{ℕ, Bool, true, false, not, ◌&&◌, ◌||◌, List, [], ◌∷◌, map, filter, if◌then◌else◌, Option, None, Some}
+use Rattle.std.specs.Prelude.{ℕ, Bool, true, false, not, ◌&&◌, List, [], ◌∷◌, map, filter, if◌then◌else◌, Option, None, Some}
 use Rattle.co_base.specs.declared.part.Part.{Part}
 use Rattle.co_message.specs.declared.answer.Answer.TheVariants as answer
 use Rattle.co_message.specs.declared.answer.Cause.{Cause}

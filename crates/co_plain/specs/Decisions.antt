@@ -1,12 +1,10 @@
 -- The decision order, presumed abort, and what was acknowledged and decided.
-use Rattle.std.specs.Prelude.{ℕ, Bool, true, false, not, ◌&&◌, ◌||◌, ◌==◌, ◌≡◌, ◌<◌, ◌≤◌, List, [], ◌∷◌, map, reverse, if◌then◌else◌, Option, None, Some}
-use Rattle.co_base.specs.declared.node.Node.{Node}
+use Rattle.std.specs.Prelude.{ℕ, Bool, true, false, not, ◌||◌, ◌==◌, ◌≡◌, List, [], ◌∷◌, map, reverse, Option, None, Some}
 use Rattle.co_base.specs.declared.node.Node.TheVariants as node
 use Rattle.co_base.specs.declared.reply.Reply.{Reply}
-use Rattle.co_record.specs.declared.record.Record.{Record}
 use Rattle.co_serial.specs.declared.site.Site.{Site}
 use Rattle.co_state.specs.declared.engine_state.Vote.{Vote}
-use Rattle.co_state.specs.Table.{look, holds}
+use Rattle.co_state.specs.Table.{look}
 use Rattle.co_state.specs.VotingRule.{kept_count}
 use Rattle.co_plain.specs.declared.session.Decided.{Decided}
 use Rattle.co_plain.specs.declared.session.Session.{Session}

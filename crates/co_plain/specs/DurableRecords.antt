@@ -1,6 +1,6 @@
 -- The durable records: what the logs alone give, whatever memory held. They are the records that each member's
 -- log tells, with the writes of each voted transaction laid over whose coordinator's log has its commit.
-use Rattle.std.specs.Prelude.{ℕ, Bool, List, [], ◌∷◌, if◌then◌else◌}
+use Rattle.std.specs.Prelude.{ℕ, List, [], ◌∷◌, if◌then◌else◌}
 use Rattle.std.specs.FinMap.{entries}
 use Rattle.co_record.specs.declared.record.Record.{Record}
 use Rattle.co_serial.specs.Records.{Records, with_changes}

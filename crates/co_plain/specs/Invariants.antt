@@ -1,9 +1,8 @@
 -- The invariants of every run. Facts of a member are facts of its view, and hold of what its memory has and of
 -- what its stable records tell: the two sides.
-use Rattle.std.specs.Prelude.{ℕ, Bool, true, false, not, ◌&&◌, ◌||◌, ◌==◌, ◌≡◌, ◌≢◌, ◌≤◌, ◌⊎◌, ◌+◌, List, [], ◌∷◌, ◌++◌, map, if◌then◌else◌, Option, None, Some}
-use Rattle.std.specs.FinMap.{get, entries}
+use Rattle.std.specs.Prelude.{ℕ, Bool, true, false, ◌||◌, ◌≡◌, ◌≢◌, ◌≤◌, ◌⊎◌, List, [], ◌∷◌, ◌++◌, Option, None, Some}
+use Rattle.std.specs.FinMap.{get}
 use Rattle.co_base.specs.declared.node.Node.TheVariants as node
-use Rattle.co_base.specs.declared.op.Op.{Op}
 use Rattle.co_base.specs.declared.part.Part.{Part}
 use Rattle.co_base.specs.declared.written.Written.{Written}
 use Rattle.co_message.specs.declared.message.Message.{Message}
@@ -11,16 +10,15 @@ use Rattle.co_message.specs.declared.message.Message.TheVariants as message
 use Rattle.co_record.specs.declared.record.Record.{Record}
 use Rattle.co_record.specs.declared.record.Record.TheVariants as log
 use Rattle.co_serial.specs.Records.{Records, with_changes}
-use Rattle.co_serial.specs.SerialRun.{AllRecords, reply_to}
+use Rattle.co_serial.specs.SerialRun.{reply_to}
 use Rattle.co_state.specs.declared.engine_state.EngineState.{EngineState}
 use Rattle.co_state.specs.declared.engine_state.Operation.{Operation}
 use Rattle.co_state.specs.declared.engine_state.Vote.{Vote}
 use Rattle.co_state.specs.Table.{look, holds}
-use Rattle.co_state.specs.Keys.{same_key, writes_key}
-use Rattle.co_state.specs.Changes.{with_written, with_span, change_made, span_read, changes_of, spans_of}
+use Rattle.co_state.specs.Keys.{writes_key}
+use Rattle.co_state.specs.Changes.{with_written, with_span, change_made, span_read, changes_of}
 use Rattle.co_state.specs.EngineState.{records_at}
 use Rattle.co_base.specs.Span.{Span}
-use Rattle.co_plain.specs.declared.coord_state.CoordState.{CoordState}
 use Rattle.co_plain.specs.declared.coord_state.Entry.{Entry}
 use Rattle.co_plain.specs.declared.coord_state.Entry.TheVariants as entry
 use Rattle.co_plain.specs.declared.member_state.AskedMark.{AskedMark}
@@ -31,14 +29,13 @@ use Rattle.co_plain.specs.declared.session.Told.{Told}
 use Rattle.co_plain.specs.Numbers.{first_lacking, has_number}
 use Rattle.co_plain.specs.declared.member_view.MemberView.{MemberView}
 use Rattle.co_plain.specs.MemberView.{view_of, recovered_view, sets_conflict}
-use Rattle.co_plain.specs.CoordView.{recovered_commits, has_commit_of}
+use Rattle.co_plain.specs.CoordView.{has_commit_of}
 use Rattle.co_plain.specs.CoordStep.{members_of}
 use Rattle.co_plain.specs.Sessions.{told_at, count_at, parts_of}
 use Rattle.co_plain.specs.Wire.{was_sent}
 use Rattle.co_plain.specs.Federation.{Federation}
 use Rattle.co_plain.specs.Decisions.{is_decided, is_asked, told_of, votes_for, BelongsTo, IsPresumedAborted, IsDecided}
-use Rattle.co_plain.specs.DurableRecords.{starting_records}
-use Rattle.co_plain.specs.SoundLogs.{AreSound, log_has_voted, log_has_committed, unended_in, has_unended}
+use Rattle.co_plain.specs.SoundLogs.{AreSound, log_has_committed, unended_in}
 use Rattle.co_plain.specs.Promises.{serial_records, AreDecidedOnce}
 
 -- the two sides of a member
@@ -92,17 +89,12 @@ pub record ToldIsDurable (s : Federation) : Type 0 where
   pub acks : (t m c : ℕ) (side : Side) → was_sent s.sent (message.Ack t m c) ≡ true →
       holds (view side (s.member m)).committed t ≡ true
 
--- the last change of a key, where there is one
-abbrev pub change_at : List Written → List ℕ → Option (Option (List ℕ))
-change_at [] key = None
-change_at (w ∷ ws) key = if same_key w.key key then Some w.value else change_at ws key
-
 -- 4. The installed records are the serial ones, but for what decided voted transactions wrote.
 pub record InstalledIsSerial (s s0 : Federation) (m : ℕ) (v : MemberView) : Type 0 where
   pub untouched : (key : List ℕ) → ((t : ℕ) (vote : Vote) → look v.voted t ≡ Some vote → IsDecided s t → writes_key vote.sets.writes key ≡ false) →
       get (serial_records s0 s.decided m) key ≡ get v.records key
-  pub overlaid : (t : ℕ) (vote : Vote) (key : List ℕ) (value : Option (List ℕ)) → look v.voted t ≡ Some vote → IsDecided s t →
-      change_at vote.sets.writes key ≡ Some value → get (serial_records s0 s.decided m) key ≡ value
+  pub overlaid : (t : ℕ) (vote : Vote) (key : List ℕ) (records : Records) → look v.voted t ≡ Some vote → IsDecided s t →
+      writes_key vote.sets.writes key ≡ true → get (serial_records s0 s.decided m) key ≡ get (with_changes records vote.sets.writes) key
   pub decided_stand : (d : Decided) (later earlier : List Decided) → s.decided ≡ later ++ d ∷ earlier → 1 ≤ count_at d.told m →
       stands v d.txn ≡ true
 
@@ -191,9 +183,14 @@ pub record CoordinatorMatchesMembers (s : Federation) : Type 0 where
   -- a commit without end has only members that voted or committed
   pub unended : (t c m : ℕ) (members : List ℕ) (side : Side) → unended_in (s.coord c).log.stable t ≡ Some members → has_number members m ≡ true →
       stands (view side (s.member m)) t ≡ true
-  -- a commit that ended in this run has only members whose logs have it
-  pub ended : (t c m : ℕ) → has_commit_of (s.coord c).log.stable t ≡ true → look (s.coord c).table t ≡ None →
-      TakesPart s t m → log_has_committed (s.member m).log.stable t ≡ true
+  -- a commit that ended has only members whose logs have it: those with operations at the decision, or those
+  -- that the opened file of the same coordinator names
+  pub ended : (c m : ℕ) (d : Decided) (later earlier : List Decided) → s.decided ≡ later ++ d ∷ earlier →
+      has_commit_of (s.coord c).log.stable d.txn ≡ true → look (s.coord c).table d.txn ≡ None → 1 ≤ count_at d.told m →
+      log_has_committed (s.member m).log.stable d.txn ≡ true
+  pub ended_before : (t c m : ℕ) (members : List ℕ) → has_commit_of (s.coord c).log.stable t ≡ true →
+      look (s.coord c).table t ≡ None → unended_in (s.opened_coord c) t ≡ Some members → has_number members m ≡ true →
+      log_has_committed (s.member m).log.stable t ≡ true
   -- each message and each vote names the coordinator of its transaction
   pub prepares_named : (t c m n : ℕ) → was_sent s.sent (message.Prepare t c m n) ≡ true → BelongsTo s t c
   pub votes_named : (t c m : ℕ) (granted : Bool) → was_sent s.sent (message.Vote t m c granted) ≡ true → BelongsTo s t c

@@ -1,14 +1,13 @@
 -- A step of one member: its state after, its answer, at most one message, and what became stable.
-use Rattle.std.specs.Prelude.{ℕ, Bool, true, false, List, [], ◌∷◌, ◌++◌, if◌then◌else◌, Option, None, Some}
+use Rattle.std.specs.Prelude.{ℕ, Bool, true, false, List, [], ◌++◌, Option, None, Some}
 use Rattle.co_base.specs.declared.head.Kind.{Kind}
-use Rattle.co_base.specs.declared.mark.Mark.{Mark}
 use Rattle.co_base.specs.declared.node.Node.TheVariants as node
 use Rattle.co_message.specs.declared.answer.Answer.{Answer}
 use Rattle.co_message.specs.declared.answer.Answer.TheVariants as answer
 use Rattle.co_message.specs.declared.message.Message.{Message}
 use Rattle.co_record.specs.declared.record.Record.{Record}
 use Rattle.co_state.specs.declared.engine_state.EngineState.{EngineState}
-use Rattle.co_state.specs.Table.{no_entries, look, put, without, holds}
+use Rattle.co_state.specs.Table.{no_entries, without, holds}
 use Rattle.co_state.specs.Effects.{after_drop}
 use Rattle.co_plain.specs.declared.member_state.MemberState.{MemberState}
 use Rattle.co_plain.specs.declared.log_state.LogState.{LogState}

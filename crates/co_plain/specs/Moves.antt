@@ -1,14 +1,12 @@
 -- Moves: the small changes that every event is made of. An invariant is proved for each move, and not for each
 -- cell of the tables. A guard is a product of tests and messages: what must hold before the move.
-use Rattle.std.specs.Prelude.{ℕ, Bool, true, false, not, ◌&&◌, ◌||◌, ◌==◌, ◌≡◌, ◌≢◌, ◌⊎◌, ◌≤◌, ◌+◌, List, [], ◌∷◌, ◌++◌, if◌then◌else◌, Option, None, Some}
-use Rattle.co_base.specs.declared.leaves.Leaves.{Leaves}
+use Rattle.std.specs.Prelude.{ℕ, Bool, true, false, ◌≡◌, ◌≢◌, ◌⊎◌, ◌≤◌, List, [], ◌∷◌, Option, None, Some}
 use Rattle.co_base.specs.declared.node.Node.TheVariants as node
 use Rattle.co_base.specs.declared.op.Op.{Op}
 use Rattle.co_base.specs.declared.part.Part.{Part}
 use Rattle.co_message.specs.declared.message.Message.{Message}
 use Rattle.co_message.specs.declared.message.Message.TheVariants as message
 use Rattle.co_record.specs.declared.record.Record.TheVariants as log
-use Rattle.co_state.specs.declared.engine_state.Operation.{Operation}
 use Rattle.co_state.specs.Table.{look, put, without, holds}
 use Rattle.co_state.specs.Changes.{sets_of}
 use Rattle.co_state.specs.EngineState.{operations_of}
@@ -22,7 +20,6 @@ use Rattle.co_plain.specs.declared.coord_state.Entry.{Entry}
 use Rattle.co_plain.specs.declared.coord_state.Entry.TheVariants as entry
 use Rattle.co_plain.specs.declared.log_state.Stop.{Stop}
 use Rattle.co_plain.specs.declared.member_state.MemberState.{MemberState}
-use Rattle.co_plain.specs.declared.session.Decided.{Decided}
 use Rattle.co_plain.specs.declared.session.Session.{Session}
 use Rattle.co_plain.specs.Numbers.{counted, first_lacking, has_number, next_generation}
 use Rattle.co_plain.specs.LogWrite.{with_batch, with_filled_spare, with_spare, with_stop, with_waiting, generation_of}
@@ -35,10 +32,10 @@ use Rattle.co_plain.specs.CoordLog.{coord_spare}
 use Rattle.co_plain.specs.Sessions.{count_at, parts_of, begun_by, with_told, asked_to_end}
 use Rattle.co_plain.specs.Wire.{send_one, was_sent}
 use Rattle.co_plain.specs.Federation.{Federation, with_member, with_coord, with_session}
-use Rattle.co_plain.specs.Step.{is_used, disarmed}
-use Rattle.co_plain.specs.Decisions.{told_of, is_asked, is_decided, IsPresumedAborted, IsDecided}
+use Rattle.co_plain.specs.Step.{is_used}
+use Rattle.co_plain.specs.Decisions.{told_of, is_asked, BelongsTo, IsPresumedAborted, IsDecided}
 use Rattle.co_plain.specs.SoundLogs.{log_has_committed}
-use Rattle.co_plain.specs.Invariants.{TakesPart}
+use Rattle.co_plain.specs.Invariants.{TakesPart, is_over}
 
 pub data Move : Type 0 where
   -- of a member: an answered operation, with the session's entry; a prepare is marked; a vote; what is forgotten;
@@ -223,8 +220,9 @@ may_send s (message.Prepare t c m n) =
     (parts : List Part) × (yeses : List ℕ) × (entry_at s t c ≡ Some (entry.Collecting parts yeses)) × (has_part parts m ≡ true) × (n ≡ count_at (told_of s t) m)
 may_send s (message.Vote t m c true) = (holds (s.member m).engine.voted t ≡ true) × (coord_of (s.member m) t ≡ c)
 may_send s (message.Vote t m c false) = (n : ℕ) × (was_sent s.sent (message.Prepare t c m n) ≡ true)
-may_send s (message.Decide t c m true) = IsDecided s t × TakesPart s t m
-may_send s (message.Decide t c m false) = IsPresumedAborted s t ⊎ (log_has_committed (s.member m).log.stable t ≡ true)
+may_send s (message.Decide t c m true) = IsDecided s t × TakesPart s t m × (is_over s t ≡ true)
+may_send s (message.Decide t c m false) =
+    ((BelongsTo s t c × IsPresumedAborted s t) ⊎ (log_has_committed (s.member m).log.stable t ≡ true)) × (is_over s t ≡ true)
 may_send s (message.Ask t m c) = (holds (s.member m).engine.voted t ≡ true) × (coord_of (s.member m) t ≡ c)
 may_send s (message.Ack t m c) = (holds (s.member m).committed t ≡ true) × (was_sent s.sent (message.Decide t c m true) ≡ true)
 

@@ -1,7 +1,6 @@
 -- A federation over opened logs. Each node's log is read; a log without records gets a header.
-use Rattle.std.specs.Prelude.{ℕ, suc, zero, Bool, true, false, ◌-◌, nat_le, List, [], ◌∷◌, ◌++◌, map, length, if◌then◌else◌, Option, None, Some}
+use Rattle.std.specs.Prelude.{ℕ, suc, zero, Bool, true, false, ◌-◌, nat_le, List, [], ◌∷◌, ◌++◌, ◌&&◌, ◌≡◌, length, if◌then◌else◌, None}
 use Rattle.std.specs.FinMap.{keys}
-use Rattle.std.specs.FinSet.{union}
 use Rattle.co_base.specs.declared.head.Kind.{Kind}
 use Rattle.co_base.specs.declared.head.Kind.TheVariants.{Lock}
 use Rattle.co_base.specs.declared.mark.Mark.{Mark}
@@ -17,10 +16,10 @@ use Rattle.co_plain.specs.declared.log_state.LogState.{LogState}
 use Rattle.co_plain.specs.declared.member_state.MemberState.{MemberState}
 use Rattle.co_plain.specs.LogWrite.{marks_of}
 use Rattle.co_plain.specs.declared.member_view.MemberView.{MemberView}
-use Rattle.co_plain.specs.MemberView.{Numbers, numbers_from, recovered_view, engine_from}
+use Rattle.co_plain.specs.MemberView.{Numbers, numbers_from, with_numbers, recovered_view, engine_from}
 use Rattle.co_plain.specs.CoordView.{recovered_commits}
 use Rattle.co_plain.specs.CoordStep.{table_from}
-use Rattle.co_plain.specs.Federation.{Federation, Stepped, items_of}
+use Rattle.co_plain.specs.Federation.{Federation, items_of}
 use Rattle.std.specs.FinMap.{entries}
 
 -- a node's log as it is found: its records, newest first, and whether its spare file is closed
@@ -60,18 +59,22 @@ abbrev pub opened_coord : ℕ → Found → CoordState
 opened_coord c found =
     record { up = true; table = table_from (entries (recovered_commits found.records).unended); log = opened_log (node.Coord c) found }
 
+-- the numbers of two sets
+abbrev pub with_all : Numbers → Numbers → Numbers
+with_all some more = with_numbers some (keys more)
+
 -- the numbers that stand in a member's log: voted or committed; and in a coordinator's: seen
 abbrev pub numbers_in : MemberView → Numbers
-numbers_in v = union (numbers_from (keys v.voted)) v.committed
+numbers_in v = with_all (numbers_from (keys v.voted)) v.committed
 
 -- the union of the first so many sets, counted from 1
 abbrev pub union_to : ℕ → (ℕ → Numbers) → Numbers
 union_to zero sets = no_entries
-union_to (suc n) sets = union (union_to n sets) (sets (suc n))
+union_to (suc n) sets = with_all (union_to n sets) (sets (suc n))
 
 abbrev pub used_numbers : ℕ → ℕ → (ℕ → Found) → (ℕ → Found) → Numbers
 used_numbers members coords found_member found_coord =
-    union
+    with_all
     (union_to members (λ m. numbers_in (recovered_view (found_member m).records)))
     (union_to coords (λ c. (recovered_commits (found_coord c).records).seen))
 
@@ -90,6 +93,11 @@ opened kinds coords found_member found_coord =
       opened_coord = λ c. (found_coord c).records;
       used = used_numbers (length kinds) coords found_member found_coord;
     }
+
+-- nothing stands in logs of nodes that the federation does not have
+pub record OnlyOwnLogs (kinds : List Kind) (coords : ℕ) (found_member found_coord : ℕ → Found) : Type 0 where
+  pub members : (m : ℕ) → (nat_le 1 m && nat_le m (length kinds)) ≡ false → (found_member m).records ≡ []
+  pub coordinators : (c : ℕ) → (nat_le 1 c && nat_le c coords) ≡ false → (found_coord c).records ≡ []
 
 -- the headers that were made, members before coordinators, each by its number
 abbrev pub member_headers : ℕ → (ℕ → Found) → List Mark

@@ -1,13 +1,11 @@
 -- What is promised of every run from opened logs. The six promises speak of a list of happenings from an opened
 -- federation; since every front of a list is a list, each holds at any moment, after any crash too.
-use Rattle.std.specs.Prelude.{ℕ, Bool, true, false, ◌&&◌, ◌||◌, ◌==◌, ◌≡◌, List, [], ◌∷◌, ◌++◌, map, reverse, Option, None, Some}
-use Rattle.co_message.specs.declared.answer.Answer.{Answer}
+use Rattle.std.specs.Prelude.{ℕ, Bool, true, false, ◌&&◌, ◌||◌, ◌==◌, ◌≡◌, List, [], ◌∷◌, ◌++◌, map, reverse}
 use Rattle.co_message.specs.declared.answer.Answer.TheVariants as answer
 use Rattle.co_message.specs.declared.event.Event.{Event}
 use Rattle.co_message.specs.declared.event.Event.TheVariants as event
 use Rattle.co_message.specs.declared.item.ItemKind.{ItemKind}
 use Rattle.co_message.specs.declared.item.ItemKind.TheVariants as item
-use Rattle.co_message.specs.declared.message.Message.{Message}
 use Rattle.co_message.specs.declared.message.Message.TheVariants as message
 use Rattle.co_serial.specs.SerialRun.{AllRecords, run_whole, after}
 use Rattle.co_state.specs.EngineState.{is_undecided}
@@ -15,10 +13,10 @@ use Rattle.co_plain.specs.declared.happening.Happening.{Happening}
 use Rattle.co_plain.specs.declared.happening.Happening.TheVariants as happening
 use Rattle.co_plain.specs.declared.session.Decided.{Decided}
 use Rattle.co_state.specs.Table.{holds}
-use Rattle.co_plain.specs.Federation.{Federation, Stepped}
+use Rattle.co_plain.specs.Federation.{Federation}
 use Rattle.co_plain.specs.Step.{step}
 use Rattle.co_plain.specs.Runs.{run}
-use Rattle.co_plain.specs.Decisions.{sites_of, replies_of, is_decided, decision_order}
+use Rattle.co_plain.specs.Decisions.{sites_of, replies_of, is_decided}
 use Rattle.co_plain.specs.DurableRecords.{durable_in, starting_records}
 use Rattle.co_plain.specs.SoundLogs.{AreSound, log_has_committed}
 

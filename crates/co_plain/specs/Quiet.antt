@@ -1,12 +1,10 @@
 -- Open transactions, enabled exchanges, and quiet states: those in which nothing but a timer can help.
-use Rattle.std.specs.Prelude.{ℕ, zero, suc, Bool, true, false, not, ◌&&◌, ◌||◌, ◌==◌, ◌≡◌, ◌≤◌, ◌<◌, ◌+◌, ◌*◌, List, [], ◌∷◌, map, filter, length, if◌then◌else◌, Option, None, Some}
+use Rattle.std.specs.Prelude.{ℕ, zero, suc, Bool, true, false, not, ◌&&◌, ◌≡◌, ◌≤◌, ◌+◌, ◌*◌, List, map, filter, length, Option, None, Some}
 use Rattle.std.specs.FinMap.{entries, keys}
-use Rattle.std.specs.FinSet.{union, len}
-use Rattle.co_base.specs.declared.head.Kind.{Kind}
 use Rattle.co_base.specs.declared.node.Node.{Node}
 use Rattle.co_base.specs.declared.node.Node.TheVariants as node
 use Rattle.co_state.specs.declared.engine_state.EngineState.{EngineState}
-use Rattle.co_state.specs.Table.{look, holds, no_entries}
+use Rattle.co_state.specs.Table.{look, holds}
 use Rattle.co_state.specs.declared.verdict.Verdict.{Verdict}
 use Rattle.co_state.specs.declared.verdict.Verdict.TheVariants.{LostOperations, StaleRead, HeldBy, VoteYes}
 use Rattle.co_state.specs.VotingRule.{vote_of}
@@ -21,7 +19,7 @@ use Rattle.co_plain.specs.declared.standing.Standing.TheVariants.{IsActive, IsVo
 use Rattle.co_plain.specs.MemberStep.{standing_of}
 use Rattle.co_plain.specs.CoordStep.{has_part}
 use Rattle.co_plain.specs.Decisions.{votes_for}
-use Rattle.co_plain.specs.Opening.{union_to}
+use Rattle.co_plain.specs.Opening.{with_all, union_to}
 use Rattle.co_plain.specs.Federation.{Federation}
 
 abbrev pub IsMember : Federation → ℕ → Type 0
@@ -118,17 +116,17 @@ takes_part m (entry.Collecting parts yeses) = has_part parts m
 takes_part m (entry.Committed members acks) = has_number members m
 
 abbrev pub open_here : MemberState → Numbers
-open_here x = union (table_numbers (entries x.engine.active)) (table_numbers (entries x.engine.voted))
+open_here x = with_all (table_numbers (entries x.engine.active)) (table_numbers (entries x.engine.voted))
 
 abbrev pub open_numbers : Federation → Numbers
 open_numbers s =
-    union
+    with_all
     (union_to (length s.kinds) (λ m. open_here (s.member m)))
     (union_to s.coordinators (λ c. table_numbers (entries (s.coord c).table)))
 
 abbrev pub open_between : Federation → ℕ → Numbers
 open_between s m =
-    union
+    with_all
     (open_here (s.member m))
     (union_to s.coordinators (λ c. table_numbers (filter (λ e. takes_part m e.1) (entries (s.coord c).table))))
 
@@ -137,10 +135,10 @@ sum_to zero counts = 0
 sum_to (suc n) counts = sum_to n counts + counts (suc n)
 
 abbrev pub open_count : Federation → ℕ
-open_count s = len (open_numbers s)
+open_count s = length (keys (open_numbers s))
 
 abbrev pub open_pairs : Federation → ℕ
-open_pairs s = sum_to (length s.kinds) (λ m. len (open_between s m))
+open_pairs s = sum_to (length s.kinds) (λ m. length (keys (open_between s m)))
 
 -- the most steps that settling takes
 abbrev pub settling_bound : Federation → ℕ

@@ -6,7 +6,7 @@ use Rattle.co_message.specs.declared.item.ItemKind.{ItemKind}
 use Rattle.co_message.specs.declared.item.ItemKind.TheVariants as item
 use Rattle.co_plain.specs.declared.happening.Happening.{Happening}
 use Rattle.co_plain.specs.declared.happening.Happening.TheVariants as happening
-use Rattle.co_plain.specs.Federation.{Federation, Stepped}
+use Rattle.co_plain.specs.Federation.{Federation}
 use Rattle.co_plain.specs.Step.{step}
 
 -- the state after these happenings, the first one first

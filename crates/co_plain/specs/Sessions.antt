@@ -1,5 +1,5 @@
 -- The clients' side: what was answered, how often at which member, and who may still act.
-use Rattle.std.specs.Prelude.{ℕ, Bool, true, false, ◌+◌, ◌==◌, ◌&&◌, not, List, [], ◌∷◌, if◌then◌else◌, Option, None, Some}
+use Rattle.std.specs.Prelude.{ℕ, Bool, true, false, ◌+◌, ◌==◌, List, [], ◌∷◌, if◌then◌else◌, Option, None, Some}
 use Rattle.std.specs.Ordering.{nat_cmp}
 use Rattle.std.specs.FinMap.Entries.{by_order}
 use Rattle.co_base.specs.declared.node.Node.{Node}
@@ -7,7 +7,6 @@ use Rattle.co_base.specs.declared.node.Node.TheVariants as node
 use Rattle.co_base.specs.declared.part.Part.{Part}
 use Rattle.co_message.specs.declared.answer.Answer.{Answer}
 use Rattle.co_message.specs.declared.answer.Answer.TheVariants as answer
-use Rattle.co_state.specs.Table.{Table, look, put}
 use Rattle.co_plain.specs.declared.session.Session.{Session}
 use Rattle.co_plain.specs.declared.session.Told.{Told}
 

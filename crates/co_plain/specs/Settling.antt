@@ -7,7 +7,7 @@ use Rattle.co_state.specs.Table.{look, holds}
 use Rattle.co_plain.specs.declared.coord_state.Entry.{Entry}
 use Rattle.co_plain.specs.declared.coord_state.Entry.TheVariants as entry
 use Rattle.co_plain.specs.Federation.{Federation}
-use Rattle.co_plain.specs.Quiet.{Exchange, Prepares, Votes, Commits, Asks, IsEnabled, IsQuiet, IsMember, IsCoordinator, IsNode, IsOpen, node_up}
+use Rattle.co_plain.specs.Quiet.{Exchange, Prepares, Votes, Commits, Asks, IsEnabled, IsQuiet, IsMember, IsCoordinator, IsNode, node_up}
 
 -- members stand before coordinators, each by its number
 abbrev pub NodeBefore : Node → Node → Type 0

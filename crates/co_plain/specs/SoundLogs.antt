@@ -1,5 +1,5 @@
 -- Sound logs: those that a run over the same numbers of members and coordinators leaves. Fresh logs are sound.
-use Rattle.std.specs.Prelude.{ℕ, Bool, true, false, ◌||◌, ◌≡◌, List, Option, None, Some}
+use Rattle.std.specs.Prelude.{ℕ, Bool, true, false, ◌||◌, ◌≡◌, List, Option, Some}
 use Rattle.co_record.specs.declared.record.Record.{Record}
 use Rattle.co_state.specs.Table.{look, holds}
 use Rattle.co_plain.specs.Numbers.{has_number}

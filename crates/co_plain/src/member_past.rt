@@ -7,6 +7,7 @@ ghost use Rattle.co_state.specs.Table.{look};
 use crate::log_state::LogState;
 use crate::member_state::MemberState;
 use crate::member_view::MemberView;
+use crate::told::copy_rows;
 use co_base::{Kind, Row, Txn, Written};
 use co_record::Record;
 use co_state::{EngineState, RecordMap, Sets, Table, Vote, copy_ranges, copy_writes, records_from};
@@ -85,20 +86,6 @@ fn install_in(view: MemberView, t: Txn) -> Result<MemberView, AllocError>
             })
         }
     }
-}
-
-/// Equal records.
-fn copy_rows(alloc: Global, rows: &[Row]) -> Result<Vec<Row>, AllocError>
-    ensures { IfOk result (λ copy. copy.items ≡ rows.now) }
-{
-    let mut copy = Vec::new(alloc);
-    for row in rows {
-        copy.push(Row {
-            key: row.key.copy()?,
-            value: row.value.copy()?,
-        })?;
-    }
-    Ok(copy)
 }
 
 /// The view of a checkpoint, whose rows may be dirty.

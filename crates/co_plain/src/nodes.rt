@@ -1,73 +1,68 @@
-//! One node among many, taken out for an event and put back.
-ghost use Rattle.std.specs.Prelude.{◌≡◌, ◌≢◌, ◌<◌, ℕ, Some, slice_get, vec_len, IfOk};
-ghost use Rattle.co_plain.specs.PlainProgram.{KeepsOthers};
+//! The nodes of one sort by their numbers.
+ghost use Rattle.std.specs.Prelude.{◌≡◌, OnOk, option_copied};
+ghost use Rattle.co_state.specs.Table.{no_entries, look, put, without};
 
-use crate::coord_state::CoordState;
-use crate::log_state::LogState;
-use crate::member_state::MemberState;
-use co_base::Kind;
-use co_state::{EngineState, History, RecordMap, Table};
+use co_base::Txn;
+use co_state::Table;
 use std::alloc::{AllocError, Global};
-use std::mem;
+use std::marker::Model;
 
-/// A log without records.
-fn no_log(alloc: Global) -> LogState {
-    LogState {
-        stable: History::new(alloc),
-        waiting: History::new(alloc),
-        armed: None,
-        spare_closed: false,
+/// A table from node numbers to what is kept of each node. A contract sees the finite map.
+#[derive(Drop)]
+pub struct Nodes<X> {
+    table: Table<X>,
+}
+
+impl<X> Model for Nodes<X> {
+    ghost use Rattle.std.specs.Ordering.{nat_cmp};
+    ghost use Rattle.std.specs.FinMap as map;
+    ghost use Rattle.std.specs.Coded.{coded_ℕ};
+
+    ghost Value = { map.FinMap nat_cmp X };
+
+    ghost coded = { map.code coded_ℕ X.code };
+
+    ghost view = { λ n. n.table };
+}
+
+/// A node's number as a place of the table.
+fn place_of(number: u8) -> Txn
+    ensures { result ≡ number }
+{
+    Txn(u32::from(number))
+}
+
+impl<X> Nodes<X> {
+    /// No nodes. Takes no memory.
+    pub fn new(alloc: Global) -> Nodes<X>
+        ensures { result ≡ no_entries }
+    {
+        Nodes {
+            table: Table::new(alloc),
+        }
     }
-}
 
-/// Takes a member out; what stands in its place meanwhile is nothing.
-pub fn take_member(alloc: Global, members: &mut Vec<MemberState>, place: usize) -> MemberState
-    requires { place < vec_len members.old }
-    ensures value { slice_get members.old.items place ≡ Some result }
-    ensures others { KeepsOthers members.old.items members.new.items place }
-    ensures len { vec_len members.new ≡ vec_len members.old }
-{
-    let nothing = MemberState {
-        up: false,
-        engine: EngineState::restored(alloc, Kind::Lock, RecordMap::new(alloc), Table::new(alloc)),
-        committed: Table::new(alloc),
-        asked: Table::new(alloc),
-        log: no_log(alloc),
-    };
-    mem::replace(&mut members[place], nothing)
-}
+    /// The node of this number, where there is one.
+    pub fn get(&self, number: u8) -> Option<&X>
+        ensures { option_copied result ≡ look self.now number }
+    {
+        self.table.get(place_of(number))
+    }
 
-/// Puts a member back.
-pub fn put_member(members: &mut Vec<MemberState>, place: usize, member: MemberState)
-    requires { place < vec_len members.old }
-    ensures value { slice_get members.new.items place ≡ Some member }
-    ensures others { KeepsOthers members.old.items members.new.items place }
-    ensures len { vec_len members.new ≡ vec_len members.old }
-{
-    members[place] = member;
-}
+    /// Takes the node of this number out, where there is one.
+    pub fn take(&mut self, number: u8) -> Option<X>
+        ensures node { result ≡ look self.old number }
+        ensures rest { self.new ≡ without self.old number }
+    {
+        self.table.remove(place_of(number))
+    }
 
-/// Takes a coordinator out; what stands in its place meanwhile is nothing.
-pub fn take_coord(alloc: Global, coords: &mut Vec<CoordState>, place: usize) -> CoordState
-    requires { place < vec_len coords.old }
-    ensures value { slice_get coords.old.items place ≡ Some result }
-    ensures others { KeepsOthers coords.old.items coords.new.items place }
-    ensures len { vec_len coords.new ≡ vec_len coords.old }
-{
-    let nothing = CoordState {
-        up: false,
-        table: Table::new(alloc),
-        log: no_log(alloc),
-    };
-    mem::replace(&mut coords[place], nothing)
-}
-
-/// Puts a coordinator back.
-pub fn put_coord(coords: &mut Vec<CoordState>, place: usize, coord: CoordState)
-    requires { place < vec_len coords.old }
-    ensures value { slice_get coords.new.items place ≡ Some coord }
-    ensures others { KeepsOthers coords.old.items coords.new.items place }
-    ensures len { vec_len coords.new ≡ vec_len coords.old }
-{
-    coords[place] = coord;
+    /// Lays in a node in place of the one of its number.
+    pub fn put(&mut self, number: u8, node: X) -> Result<(), AllocError>
+    where
+        X: Drop,
+        ensures { OnOk result (self.new ≡ put self.old number node) }
+    {
+        self.table.insert(place_of(number), node)
+    }
 }

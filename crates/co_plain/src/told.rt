@@ -40,7 +40,7 @@ pub fn parts_of(alloc: Global, told: &History<Told>) -> Result<Parts, AllocError
 }
 
 /// Equal records.
-fn copy_rows(alloc: Global, rows: &[Row]) -> Result<Vec<Row>, AllocError>
+pub fn copy_rows(alloc: Global, rows: &[Row]) -> Result<Vec<Row>, AllocError>
     ensures { IfOk result (λ copy. copy.items ≡ rows.now) }
 {
     let mut copy = Vec::new(alloc);

@@ -1,4 +1,4 @@
-use Rattle.std.proofs.Common.{◌≡◌, ◌<◌, ◌∙◌, rules}
+use Rattle.std.proofs.Common.{◌∙◌, rules}
 use Rattle.co_plain.proofs.Counts.{counted_at}
 use Rattle.co_plain.proofs.count.count_one.Goals as goal
 

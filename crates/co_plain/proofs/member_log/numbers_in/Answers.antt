@@ -1,5 +1,4 @@
-use Rattle.std.proofs.Common.{◌≡◌, ◌++◌, [], map, arith, rules, subst, sym}
-use Rattle.std.proofs.lemmas.Grind.{common_steps}
+use Rattle.std.proofs.Common.{◌≡◌, map, rules, subst}
 use Rattle.std.specs.FinMap.{entries}
 use Rattle.co_base.specs.Order.{IsAscending}
 use Rattle.co_plain.proofs.Ascending.{keys_ascend}
