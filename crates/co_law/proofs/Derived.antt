@@ -33,7 +33,7 @@ reads_at start (x ∷ xs) earlier d r = reads_at start xs earlier d r.1
 
 module _ (s : Federation) (f : Facts s) where
   -- a settled transaction that is voted has a commit without end that names the member
-  voted_open : (m t c : ℕ) → votes_for (look (view Stable (s.member m)).voted t) c ≡ true → settled (rest_of s) t →
+  pub voted_open : (m t c : ℕ) → votes_for (look (view Stable (s.member m)).voted t) c ≡ true → settled (rest_of s) t →
       (members : List ℕ) × (unended_in (s.coord c).log.stable t ≡ Some members) × (has_number members m ≡ true)
   voted_open m t c h d = by (look (s.coord c).table t) refl (v.held t c h (settled_alive (rest_of s) f.numbers t c (v.named t c h) d))
     where
@@ -45,7 +45,7 @@ module _ (s : Federation) (f : Facts s) where
       by (Some (entry.Collecting parts yeses)) e k = absurd (unsettled (rest_of s) f.numbers c (s.coord c).log.stable t ((f.coords c).collecting t parts yeses e).still d)
       by (Some (entry.Committed members acks)) e k = (members, ((f.coords c).committed t members acks e).recorded, k)
 
-  known_settled : (c t : ℕ) → has_commit_of (s.coord c).log.stable t ≡ true → settled (rest_of s) t
+  pub known_settled : (c t : ℕ) → has_commit_of (s.coord c).log.stable t ≡ true → settled (rest_of s) t
   known_settled c t h = by (or_cases (by_coord (look s.sessions t) c && is_decided s.decided t) (has_commit_of (s.opened_coord c) t) ((f.coords c).known t h))
     where
       by : ((by_coord (look s.sessions t) c && is_decided s.decided t) ≡ true) ⊎ (has_commit_of (s.opened_coord c) t ≡ true) → settled (rest_of s) t
@@ -59,7 +59,7 @@ module _ (s : Federation) (f : Facts s) where
       (λ t vote e h. known_settled vote.coord t h)
       (λ t vote e d. let p = voted_open m t vote.coord (ap (λ o. votes_for o vote.coord) e ∙ eq-eqb vote.coord vote.coord refl) d in unended_seen (s.coord vote.coord).log.stable t p.0 p.1)
 
-  named' : (m t c : ℕ) → votes_for (look (view Stable (s.member m)).voted t) c ≡ true → belongs (rest_of s) t c
+  pub named' : (m t c : ℕ) → votes_for (look (view Stable (s.member m)).voted t) c ≡ true → belongs (rest_of s) t c
   named' m t c h = ((f.members m).views Stable).named t c h
 
   vote_commit : (t c d : ℕ) (members : List ℕ) → belongs (rest_of s) t c → unended_in (s.coord d).log.stable t ≡ Some members → c ≡ d

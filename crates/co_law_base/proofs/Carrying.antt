@@ -120,7 +120,7 @@ at_each P f m x p h n = by (m == n) refl
 pub at_here : {X : Type 0} (f : ℕ → X) (m : ℕ) (x : X) → with_at f m x m ≡ x
 at_here f m x = ap (λ b. if b then x else f m) (eq-eqb m m refl)
 
-held_on : (a b c : Bool) → (b ≡ true → c ≡ true) → (a || b) ≡ true → (a || c) ≡ true
+pub held_on : (a b c : Bool) → (b ≡ true → c ≡ true) → (a || b) ≡ true → (a || c) ≡ true
 held_on true b c f h = refl
 held_on false b c f h = f h
 

@@ -166,7 +166,7 @@ keeps_drop_active s f t m g =
     committed Stable t h = h
 
 -- Presumed aborted, for a transaction that belongs to a coordinator.
-as_belongs : (s : Federation) (t c : ℕ) → BelongsTo s t c → belongs (rest_of s) t c
+pub as_belongs : (s : Federation) (t c : ℕ) → BelongsTo s t c → belongs (rest_of s) t c
 as_belongs s t c (BegunThere session e b) = Begun (ap (λ o. by_coord o c) e ∙ ap (λ k. same_node k (node.Coord c)) b ∙ eq-eqb c c refl)
 as_belongs s t c (VotedBefore m h) = Voted m h
 
