@@ -1,3 +1,4 @@
 pub mod Growing
 pub mod Derived
 pub mod KeptFrom
+pub mod EveryRun

@@ -44,23 +44,12 @@ use Rattle.co_law_base.proofs.Commits.{unended_seen}
 use Rattle.co_law_member.proofs.VoteMoves.{as_settled}
 use Rattle.co_law_member.proofs.LogMoves.{dead_there}
 use Rattle.co_law_session.proofs.Beginning.{keeps_begin, keeps_begin_local}
+use Rattle.co_law_event.specs.HandedVerdicts.{IsTrueVerdict, AreTrueVerdicts}
 use Rattle.co_law_event.proofs.Nodes.{drop_active_at, member_stays, coord_stays, arm_at as member_arm_at, coord_arm_at}
 use Rattle.co_law_event.proofs.MemberEvents as members
 use Rattle.co_law_event.proofs.CoordEvents as coords
 use Rattle.co_law_event.proofs.ClientEvents as clients
 use Rattle.co_law_event.proofs.LocalEvents as locals
-
--- A verdict that is handed is true of the run.
-abbrev pub IsTrueVerdict : Federation → Happening → Type 0
-IsTrueVerdict s (happening.Line e) = Unit {0}
-IsTrueVerdict s (happening.Local t m) = Unit {0}
-IsTrueVerdict s (happening.Hand t m true) = IsDecided s t
-IsTrueVerdict s (happening.Hand t m false) = IsPresumedAborted s t
-IsTrueVerdict s happening.Disarm = Unit {0}
-
-abbrev pub AreTrueVerdicts : List Happening → Federation → Type 0
-AreTrueVerdicts [] s = Unit {0}
-AreTrueVerdicts (h ∷ hs) s = IsTrueVerdict s h × AreTrueVerdicts hs (step s h).state
 
 module _ (s : Federation) (f : Facts s) where
   begins : (t c : ℕ) (used up : Bool) → is_used s t ≡ used → Facts (begin_where s t c used up).state

@@ -27,16 +27,8 @@ use Rattle.co_law_base.proofs.Lookups.{is_nothing, look_none, holds_found, found
 use Rattle.co_law_base.proofs.Commits.{lacks_at_first, unended_seen, unended_some, from_cases, from_found}
 use Rattle.co_law_base.proofs.ImageRules.{IsImage}
 use Rattle.co_law_base.proofs.Facts.{Rest, rest_of, asked, settled, Here, Before, alive, by_coord, settled_at, belongs, Begun, Voted, takes, Named, entry_of, serial, ViewFacts, MemberFacts, CommittedEntry, CoordHas, NumberFacts, Facts}
+use Rattle.co_law_start.specs.OpenedLogs.{AreOpenable}
 use Rattle.co_law_start.proofs.Laid.{durable_image}
-
--- What opened logs must be: sound, each with votes that do not conflict and are not committed, and every number in
--- them used.
-pub record AreOpenable (kinds : List Kind) (coords : ℕ) (found_member found_coord : ℕ → Found) : Type 0 where
-  pub sound : AreSound (λ m. (found_member m).records) (λ c. (found_coord c).records)
-  pub free : (m : ℕ) → VotedAreConflictFree (recovered_view (found_member m).records)
-  pub apart : (m t : ℕ) → holds (recovered_view (found_member m).records).committed t ≡ true → holds (recovered_view (found_member m).records).voted t ≡ false
-  pub members_used : (m t : ℕ) → stands (recovered_view (found_member m).records) t ≡ true → holds (used_numbers (length kinds) coords found_member found_coord) t ≡ true
-  pub coords_used : (c t : ℕ) → has_commit_of (found_coord c).records t ≡ true → holds (used_numbers (length kinds) coords found_member found_coord) t ≡ true
 
 made_view : (owner : Node) (rs : List Record) → recovered_view (made owner rs) ≡ recovered_view rs
 made_view owner [] = refl

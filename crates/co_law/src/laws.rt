@@ -1,0 +1,51 @@
+//! What every run keeps, from logs that may be opened and with verdicts that are true where they are handed.
+ghost use Rattle.std.specs.Prelude.{ℕ, List};
+ghost use Rattle.co_base.specs.declared.head.Kind.{Kind};
+ghost use Rattle.co_plain.specs.declared.happening.Happening.{Happening};
+ghost use Rattle.co_plain.specs.Opening.{Found, opened};
+ghost use Rattle.co_plain.specs.Runs.{run};
+ghost use Rattle.co_plain.specs.Promises.{SerialReads, LogsAlone, LogsStaySound, AreDecidedOnce};
+ghost use Rattle.co_plain.specs.Invariants.{Kept};
+ghost use Rattle.co_law_event.specs.HandedVerdicts.{AreTrueVerdicts};
+ghost use Rattle.co_law_start.specs.OpenedLogs.{AreOpenable};
+
+/// Every state of a run has the ten invariants, and the two facts beside them.
+pub fn invariants()
+    ensures { (kinds : List Kind) (coords : ℕ) (found_member found_coord : ℕ → Found) (hs : List Happening) →
+        AreOpenable kinds coords found_member found_coord →
+        AreTrueVerdicts hs (opened kinds coords found_member found_coord) →
+        Kept (opened kinds coords found_member found_coord) (run hs (opened kinds coords found_member found_coord)) }
+{}
+
+/// Committed transactions read what they read when run whole, one by one, in the order of their decisions
+/// (Bernstein, Hadzilacos and Goodman 1987, serializability).
+pub fn serial_reads()
+    ensures { (kinds : List Kind) (coords : ℕ) (found_member found_coord : ℕ → Found) (hs : List Happening) →
+        AreOpenable kinds coords found_member found_coord →
+        AreTrueVerdicts hs (opened kinds coords found_member found_coord) →
+        SerialReads (opened kinds coords found_member found_coord) hs }
+{}
+
+/// At any moment, after any crash too, the stable records of the logs alone give the records of the serial run.
+pub fn logs_alone()
+    ensures { (kinds : List Kind) (coords : ℕ) (found_member found_coord : ℕ → Found) (hs : List Happening) →
+        AreOpenable kinds coords found_member found_coord →
+        AreTrueVerdicts hs (opened kinds coords found_member found_coord) →
+        LogsAlone (opened kinds coords found_member found_coord) hs }
+{}
+
+/// Each transaction is decided once.
+pub fn decided_once()
+    ensures { (kinds : List Kind) (coords : ℕ) (found_member found_coord : ℕ → Found) (hs : List Happening) →
+        AreOpenable kinds coords found_member found_coord →
+        AreTrueVerdicts hs (opened kinds coords found_member found_coord) →
+        AreDecidedOnce (run hs (opened kinds coords found_member found_coord)).decided }
+{}
+
+/// The logs of every run are sound again.
+pub fn sound_logs()
+    ensures { (kinds : List Kind) (coords : ℕ) (found_member found_coord : ℕ → Found) (hs : List Happening) →
+        AreOpenable kinds coords found_member found_coord →
+        AreTrueVerdicts hs (opened kinds coords found_member found_coord) →
+        LogsStaySound (opened kinds coords found_member found_coord) hs }
+{}
