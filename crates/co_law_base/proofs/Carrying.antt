@@ -1,11 +1,10 @@
 -- What carries the facts: a change of one member, and a change of all but the members.
-use Rattle.std.proofs.Common.{◌≡◌, ◌≢◌, ◌⊎◌, inl, inr, ℕ, Bool, true, false, ◌||◌, ◌&&◌, ◌≤◌, ◌==◌, if◌then◌else◌, List, [], ◌∷◌, ◌++◌, map, reverse, length, Option, None, Some, refl, sym, ap, ◌∙◌, subst}
+use Rattle.std.proofs.Common.{◌≡◌, ◌⊎◌, inl, inr, ℕ, Bool, true, false, ◌||◌, ◌&&◌, ◌≤◌, ◌==◌, if◌then◌else◌, List, [], ◌∷◌, Option, None, Some, refl, sym, ap, ◌∙◌, subst}
 use Rattle.std.specs.Option.{is_some}
-use Rattle.std.proofs.lemmas.Bool.{or_cases, or_parts, or_left, or_right, or_from, eqb-true, eqb-false, eq-eqb, cases_Bool, and_parts, and_from, true_from_ne_false, false_from_ne_true}
+use Rattle.std.proofs.lemmas.Bool.{or_cases, or_left, or_right, eqb-true, eq-eqb, and_parts, and_from, false_from_ne_true}
 use Rattle.co_base.specs.declared.node.Node.{Node}
 use Rattle.co_base.specs.declared.node.Node.TheVariants as node
 use Rattle.co_message.specs.declared.message.Message.{Message}
-use Rattle.co_message.specs.declared.message.Message.TheVariants as message
 use Rattle.co_record.specs.declared.record.Record.{Record}
 use Rattle.co_record.specs.declared.record.Record.TheVariants as log
 use Rattle.co_serial.specs.SerialRun.{with_at}
@@ -16,22 +15,16 @@ use Rattle.co_plain.specs.declared.coord_state.CoordState.{CoordState}
 use Rattle.co_plain.specs.declared.coord_state.Entry.{Entry}
 use Rattle.co_plain.specs.declared.member_state.MemberState.{MemberState}
 use Rattle.co_plain.specs.declared.member_view.MemberView.{MemberView}
-use Rattle.co_plain.specs.declared.session.Decided.{Decided}
 use Rattle.co_plain.specs.declared.session.Session.{Session}
-use Rattle.co_plain.specs.declared.session.Told.{Told}
-use Rattle.co_plain.specs.Numbers.{has_number}
 use Rattle.co_plain.specs.MemberView.{recovered_view}
 use Rattle.co_plain.specs.CoordView.{has_commit_of}
-use Rattle.co_plain.specs.CoordStep.{members_of}
 use Rattle.co_plain.specs.Sessions.{told_at, count_at, parts_of, same_node}
 use Rattle.co_plain.specs.Wire.{was_sent}
-use Rattle.co_plain.specs.Federation.{Federation, with_member, with_coord}
 use Rattle.co_plain.specs.Decisions.{is_decided, told_in, asked_in, votes_for}
 use Rattle.co_plain.specs.SoundLogs.{unended_in}
 use Rattle.co_plain.specs.Invariants.{Side, Memory, Stable, view, stands, KeptAsTold, takes_part_in, txn_of}
-use Rattle.co_law_base.proofs.Lookups.{is_nothing}
 use Rattle.co_law_base.proofs.ViewRules.{Replayed}
-use Rattle.co_law_base.proofs.Facts.{Rest, rest_of, changed, told, told_here, begun, asked, over, seen, entry_of, settled_at, Settled, settled, Here, Before, alive, by_coord, Belongs, belongs, Begun, Voted, Takes, takes, ByTold, Named, Each, ViewFacts, OnlyAborts, ActiveFacts, MemberFacts, CoordFacts, CoordHas, OpenEntry, CollectingEntry, CommittedEntry, SentFacts, RecordFacts, NumberFacts, Facts}
+use Rattle.co_law_base.proofs.Facts.{Rest, changed, told, told_here, begun, asked, over, seen, entry_of, settled_at, settled, Here, Before, alive, by_coord, belongs, Begun, Voted, takes, ByTold, Named, ViewFacts, OnlyAborts, MemberFacts, CoordFacts, OpenEntry, SentFacts, RecordFacts, NumberFacts}
 
 asked_begun : (o : Option Session) → asked_in o ≡ true → is_some o ≡ true
 asked_begun None h = h
@@ -220,6 +213,7 @@ module _ (r : Rest) (n : NumberFacts r) (coord : ℕ → CoordState) (sessions :
       replay t vote b f =
           let o = v.over t (or_left _ _ (ap is_some f)) in
           subst (λ ts. Replayed (view side (member m)).records vote (told_at ts m)) (sym (l.told_same t o)) (v.replay t vote (l.begun_back t (over_seen r t o) b) f)
+
       held : (t c : ℕ) → votes_for (look (view side (member m)).voted t) c ≡ true →
           (takes_part_in (look (coord c).table t) m ≡ true) ⊎ ((side : Side) → holds (view side (member m)).committed t ≡ true) → takes_part_in (look (coord c).table t) m ≡ true
       held t c h (inl p) = p
@@ -278,10 +272,12 @@ module _ (r : Rest) (n : NumberFacts r) (coord : ℕ → CoordState) (sessions :
     where
       still : (t : ℕ) → OpenEntry r c stable t → OpenEntry (changed r coord sessions sent) c stable t
       still t e = record { begun_there = l.by_on t c e.begun_there; undecided = e.undecided; unrecorded = e.unrecorded }
+
       unended_known : (t : ℕ) (members : List ℕ) → ((by_coord (look r.sessions t) c && is_decided r.decided t) ≡ true) ⊎ (unended_in (r.opened_coord c) t ≡ Some members) →
           ((by_coord (look sessions t) c && is_decided r.decided t) ≡ true) ⊎ (unended_in (r.opened_coord c) t ≡ Some members)
       unended_known t members (inl p) = let q = and_parts _ _ p in inl (and_from _ _ (l.by_on t c q.0) q.1)
       unended_known t members (inr h) = inr h
+
       known : (t : ℕ) → ((by_coord (look r.sessions t) c && is_decided r.decided t) ≡ true) ⊎ (has_commit_of (r.opened_coord c) t ≡ true) →
           ((by_coord (look sessions t) c && is_decided r.decided t) || has_commit_of (r.opened_coord c) t) ≡ true
       known t (inl p) =
@@ -325,6 +321,7 @@ later_sent r n coord sessions member l s =
             (takes_part_in (look (coord c).table t) m || holds (view Memory (member m)).committed t) ≡ true
         by (inl p) = or_left _ _ p
         by (inr p) = or_right _ _ (p Memory)
+
     aborts : (t c m : ℕ) → (belongs r t c × (alive r c t ≡ false)) ⊎ (holds (view Stable (member m)).committed t ≡ true) →
         (belongs (changed r coord sessions r.sent) t c × (alive (changed r coord sessions r.sent) c t ≡ false)) ⊎ (holds (view Stable (member m)).committed t ≡ true)
     aborts t c m (inl p) = inl (belongs_on r n coord sessions r.sent member l t c p.0, dead_on r n coord sessions r.sent member l t c p.0 p.1)

@@ -1,25 +1,24 @@
 -- What a coordinator's records tell, number by number.
-use Rattle.std.proofs.Common.{◌≡◌, ◌≢◌, ◌⊎◌, inl, inr, ℕ, Bool, true, false, not, cond, ◌||◌, ◌&&◌, ◌==◌, ◌<◌, T, List, [], ◌∷◌, ◌++◌, map, Option, None, Some, refl, sym, ap, ◌∙◌, subst, arith}
+use Rattle.std.proofs.Common.{◌≡◌, ◌≢◌, ◌⊎◌, inl, inr, ℕ, Bool, true, false, not, cond, ◌||◌, ◌&&◌, ◌==◌, ◌<◌, T, List, [], ◌∷◌, Option, None, Some, refl, sym, ap, ◌∙◌, subst, arith}
 use Rattle.std.specs.Option.{is_some}
-use Rattle.std.proofs.lemmas.Bool.Decides.{nat_tests}
-use Rattle.std.proofs.lemmas.Bool.{eqb-true, eqb-false, or_cases, or_left, or_right}
+use Rattle.std.proofs.lemmas.Bool.{eqb-true, eqb-false}
 use Rattle.std.specs.Ordering.{nat_cmp, eq_by_cmp}
 use Rattle.std.specs.FinMap.{entries, entries_sorted, get-entries}
 use Rattle.std.specs.FinMap.Entries.{find, is_sorted, below_all}
 use Rattle.co_record.specs.declared.record.Record.{Record}
 use Rattle.co_record.specs.declared.record.Record.TheVariants as log
-use Rattle.co_state.specs.Table.{Table, look, put, without, holds, no_entries}
+use Rattle.co_state.specs.Table.{Table, look, put, holds, no_entries}
 use Rattle.co_plain.specs.declared.coord_state.Entry.{Entry}
 use Rattle.co_plain.specs.declared.coord_state.Entry.TheVariants as entry
 use Rattle.co_plain.specs.Numbers.{first_lacking, has_number}
 use Rattle.co_plain.specs.MemberView.{Numbers, with_number}
-use Rattle.co_plain.specs.CoordView.{recovered_commits, coord_told_by, unended_with, has_commit_of, no_commits}
+use Rattle.co_plain.specs.CoordView.{recovered_commits, has_commit_of}
 use Rattle.co_plain.specs.CoordStep.{table_onto, table_from}
-use Rattle.co_plain.specs.CoordLog.{commit_onto, commits_onto, coord_spare}
+use Rattle.co_plain.specs.CoordLog.{commit_onto, commits_onto}
 use Rattle.co_plain.specs.SoundLogs.{unended_in}
 use Rattle.co_law_engine.proofs.YesTells.{in_some}
-use Rattle.co_law_base.proofs.Lookups.{is_nothing, look_none, put_here, put_there, put_cases, without_here, without_there, without_cases, holds_found, found_holds, own_number, same_number}
-use Rattle.co_law_base.proofs.ImageRules.{EachEntry, each_entry, entry_has, below_found}
+use Rattle.co_law_base.proofs.Lookups.{is_nothing, look_none, put_here, put_there, put_cases, without_cases, own_number, same_number}
+use Rattle.co_law_base.proofs.ImageRules.{EachEntry, each_entry, below_found}
 
 -- who lacks nothing has all
 pub lacks_none : (numbers given : List ℕ) (m : ℕ) → first_lacking numbers given ≡ None → has_number numbers m ≡ true → has_number given m ≡ true
@@ -201,6 +200,7 @@ spare_other (e ∷ es) rs t n = by (spare_other es (commit_onto rs e.0 e.1) t) (
     step entry.Idle d = refl
     step (entry.Collecting parts yeses) d = refl
     step (entry.Committed ns acks) d = commit_there rs e.0 ns t d
+
     by : (find nat_cmp t es ≡ None → unended_in (commits_onto (commit_onto rs e.0 e.1) es) t ≡ unended_in (commit_onto rs e.0 e.1) t) → (b : Bool) → eq_by_cmp nat_cmp t e.0 ≡ b →
         unended_in (commits_onto (commit_onto rs e.0 e.1) es) t ≡ unended_in rs t
     by rest true g = absurd (let f : Some e.1 ≡ None = sym (ap (λ c. cond c (Some e.1) (find nat_cmp t es)) g) ∙ n in cc)

@@ -1,7 +1,6 @@
 -- The facts that every state of a run has, in the form in which a move keeps them. Each speaks of the parts that it
 -- needs, so that a move that leaves those parts leaves the fact.
-use Rattle.std.proofs.Common.{◌≡◌, ◌≢◌, ◌⊎◌, inl, inr, ℕ, Bool, true, false, ◌||◌, ◌&&◌, ◌≤◌, ◌==◌, List, [], ◌∷◌, ◌++◌, map, reverse, length, Option, None, Some}
-use Rattle.co_base.specs.declared.node.Node.{Node}
+use Rattle.std.proofs.Common.{◌≡◌, ◌≢◌, ◌⊎◌, ℕ, Bool, true, false, ◌||◌, ◌&&◌, ◌≤◌, List, [], ◌∷◌, ◌++◌, map, reverse, length, Option, None, Some}
 use Rattle.co_base.specs.declared.node.Node.TheVariants as node
 use Rattle.co_base.specs.declared.part.Part.{Part}
 use Rattle.co_message.specs.declared.message.Message.{Message}
@@ -9,9 +8,7 @@ use Rattle.co_message.specs.declared.message.Message.TheVariants as message
 use Rattle.co_record.specs.declared.record.Record.{Record}
 use Rattle.co_record.specs.declared.record.Record.TheVariants as log
 use Rattle.co_serial.specs.SerialRun.{AllRecords, after, run_whole}
-use Rattle.co_state.specs.declared.engine_state.EngineState.{EngineState}
 use Rattle.co_state.specs.declared.engine_state.Operation.{Operation}
-use Rattle.co_state.specs.declared.engine_state.Vote.{Vote}
 use Rattle.co_state.specs.Table.{Table, look, holds}
 use Rattle.co_plain.specs.declared.coord_state.CoordState.{CoordState}
 use Rattle.co_plain.specs.declared.coord_state.Entry.{Entry}
@@ -24,7 +21,7 @@ use Rattle.co_plain.specs.declared.session.Session.{Session}
 use Rattle.co_plain.specs.declared.session.Told.{Told}
 use Rattle.co_plain.specs.Numbers.{first_lacking, has_number}
 use Rattle.co_plain.specs.MemberView.{Numbers, recovered_view}
-use Rattle.co_plain.specs.CoordView.{recovered_commits, has_commit_of}
+use Rattle.co_plain.specs.CoordView.{has_commit_of}
 use Rattle.co_plain.specs.CoordStep.{members_of}
 use Rattle.co_plain.specs.Sessions.{told_at, count_at, parts_of, same_node}
 use Rattle.co_plain.specs.Wire.{was_sent}

@@ -82,6 +82,7 @@ image_install serial settled v t vote here d i =
         sets_at None = a.sets
         sets_at (Some x) = x.sets
     others key w h u a f e false k = h u a (without_there v.voted t u (eqb-false t u k) ∙ f) e
+
     by : (key : List ℕ) → ((u : ℕ) (a : Vote) → look (install_in v t (Some vote)).voted u ≡ Some a → settled u → writes_key a.sets.writes key ≡ false) →
         (b : Bool) → writes_key vote.sets.writes key ≡ b → get serial key ≡ get (with_changes v.records vote.sets.writes) key
     by key h true w = i.written t vote key here d w v.records
@@ -101,17 +102,20 @@ image_decide serial next settled later v t changes grows keeps here others voted
   where
     old : (key : List ℕ) → ((u : ℕ) (a : Vote) → look v.voted u ≡ Some a → later u → writes_key a.sets.writes key ≡ false) → get serial key ≡ get v.records key
     old key h = i.untouched key (λ u a f d. h u a f (keeps u d))
+
     first : (key : List ℕ) → ((u : ℕ) (a : Vote) → look v.voted u ≡ Some a → later u → writes_key a.sets.writes key ≡ false) →
         (o : Option Vote) → look v.voted t ≡ o → get (with_changes serial changes) key ≡ get v.records key
     first key h None e = ap (λ ws. get (with_changes serial ws) key) (absent e) ∙ old key h
     first key h (Some vote) e =
         unchanged changes serial key (ap (λ ws. writes_key ws key) (sym (voted vote e)) ∙ h t vote e here) ∙ old key h
+
     unmet : (u : ℕ) (a : Vote) (key : List ℕ) → look v.voted u ≡ Some a → writes_key a.sets.writes key ≡ true → t ≢ u → (o : Option Vote) → look v.voted t ≡ o → writes_key changes key ≡ false
     unmet u a key f w n None e = ap (λ ws. writes_key ws key) (absent e)
     unmet u a key f w n (Some vote) e =
         ap (λ ws. writes_key ws key) (sym (voted vote e))
         ∙ unwritten vote.sets.writes a.sets.writes key
         (three_parts (reads_meet vote.sets.reads a.sets.writes) (reads_meet a.sets.reads vote.sets.writes) (writes_meet vote.sets.writes a.sets.writes) (free t u vote a n e f)).2 w
+
     second : (u : ℕ) (a : Vote) (key : List ℕ) → look v.voted u ≡ Some a → later u → writes_key a.sets.writes key ≡ true → (r : Records) → (b : Bool) → (t == u) ≡ b →
         get next key ≡ get (with_changes r a.sets.writes) key
     second u a key f d w r true k =
@@ -163,10 +167,11 @@ below_found {X} k (e ∷ es) u x b f = by (below_found k es u x) (eq_by_cmp nat_
 -- it holds of each entry of a table, where it holds of what is found
 pub each_entry : {X : Type 0} (P : ℕ → X → Type 0) (es : List (ℕ × X)) → T (is_sorted nat_cmp es) → ((u : ℕ) (x : X) → find nat_cmp u es ≡ Some x → P u x) → EachEntry P es
 each_entry P [] s h = tt
-each_entry P (e ∷ es) s h =
-    (h e.0 e.1 (ap (λ c. cond c (Some e.1) (find nat_cmp e.0 es)) (own_number e.0)),
-    each_entry P es (right_true (below_all nat_cmp e.0 es) (is_sorted nat_cmp es) s)
-    (λ u x f. h u x (ap (λ c. cond c (Some e.1) (find nat_cmp u es)) (above_other u (below_found e.0 es u x (and_T (below_all nat_cmp e.0 es) (is_sorted nat_cmp es) s) f)) ∙ f)))
+each_entry P (e ∷ es) s h = (
+  h e.0 e.1 (ap (λ c. cond c (Some e.1) (find nat_cmp e.0 es)) (own_number e.0)),
+  each_entry P es (right_true (below_all nat_cmp e.0 es) (is_sorted nat_cmp es) s)
+      (λ u x f. h u x (ap (λ c. cond c (Some e.1) (find nat_cmp u es)) (above_other u (below_found e.0 es u x (and_T (below_all nat_cmp e.0 es) (is_sorted nat_cmp es) s) f)) ∙ f)),
+)
   where
     above_other : (u : ℕ) → e.0 < u → eq_by_cmp nat_cmp u e.0 ≡ false
     above_other u l = grind (arith, nat_tests, l)
@@ -237,6 +242,7 @@ durable_serial serial settled logs v i there back =
     from_none : (q : List ℕ) → NoneWrites logs (entries v.voted) q → (t : ℕ) (a : Vote) → look v.voted t ≡ Some a → has_commit_of (logs a.coord) t ≡ true → writes_key a.sets.writes q ≡ false
     from_none q n t a f =
         entry_has (λ u x. has_commit_of (logs x.coord) u ≡ true → writes_key x.sets.writes q ≡ false) (entries v.voted) (as_each logs q (entries v.voted) n) t a (sym (get-entries v.voted t) ∙ f)
+
     all_give : (q : List ℕ) → EachGives serial logs (entries v.voted) q
     all_give q =
         as_gives serial logs q (entries v.voted)

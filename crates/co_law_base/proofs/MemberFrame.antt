@@ -1,5 +1,5 @@
 -- A change of one member is carried over to all facts.
-use Rattle.std.proofs.Common.{◌≡◌, ◌⊎◌, inl, inr, ℕ, Bool, true, false, ◌||◌, ◌&&◌, List, Option, None, Some, refl, sym, ap, ◌∙◌}
+use Rattle.std.proofs.Common.{◌≡◌, ◌⊎◌, inl, inr, ℕ, true, ◌&&◌, List, Some}
 use Rattle.std.proofs.lemmas.Bool.{or_cases, and_parts}
 use Rattle.co_serial.specs.SerialRun.{with_at}
 use Rattle.co_state.specs.Table.{look}
@@ -9,7 +9,7 @@ use Rattle.co_plain.specs.Federation.{Federation, with_member}
 use Rattle.co_plain.specs.Decisions.{is_decided}
 use Rattle.co_plain.specs.SoundLogs.{unended_in}
 use Rattle.co_law_base.proofs.Commits.{unended_seen}
-use Rattle.co_law_base.proofs.Facts.{Rest, rest_of, by_coord, Here, Before, settled, MemberFacts, CoordHas, Facts}
+use Rattle.co_law_base.proofs.Facts.{rest_of, by_coord, Here, Before, settled, MemberFacts, Facts}
 use Rattle.co_law_base.proofs.Carrying.{at_each, StandsOn, stands_same, sent_on, records_on}
 
 pub unended_settled : (s : Federation) → Facts s → (c t : ℕ) (members : List ℕ) → unended_in (s.coord c).log.stable t ≡ Some members → settled (rest_of s) t

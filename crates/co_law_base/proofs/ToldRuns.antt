@@ -1,31 +1,30 @@
 -- What a client was told, run whole on records: the replies of a member's kept operations, of a vote, and of the
 -- serial run.
-use Rattle.std.proofs.Common.{◌≡◌, ◌≢◌, ℕ, suc, ◌+◌, Bool, true, false, cond, ◌||◌, ◌==◌, if◌then◌else◌, List, [], ◌∷◌, ◌++◌, map, reverse, length, Option, None, Some, refl, sym, ap, ◌∙◌, subst, arith}
+use Rattle.std.proofs.Common.{◌≡◌, ℕ, suc, Bool, true, false, ◌==◌, if◌then◌else◌, List, [], ◌∷◌, ◌++◌, map, reverse, length, Option, None, Some, refl, sym, ap, ◌∙◌, subst}
 use Rattle.std.proofs.lemmas.List.{reverse-append}
-use Rattle.std.proofs.lemmas.Bool.{or_cases, or_left, or_right, eqb-true, eq-eqb}
+use Rattle.std.proofs.lemmas.Bool.{or_left, or_right, eqb-true, eq-eqb}
 use Rattle.std.specs.FinMap.{get}
 use Rattle.co_base.specs.Span.{Span, span_has}
 use Rattle.co_base.specs.declared.op.Op.{Op}
 use Rattle.co_base.specs.declared.op.Op.TheVariants.{Read, Write, Erase, Scan}
-use Rattle.co_base.specs.declared.reply.Reply.{Reply}
 use Rattle.co_base.specs.declared.written.Written.{Written}
 use Rattle.co_serial.specs.declared.site.Site.{Site}
-use Rattle.co_serial.specs.Records.{Records, with_change, with_changes}
-use Rattle.co_serial.specs.SerialRun.{AllRecords, with_at, reply_to, records_after, after_site, run_whole, after_whole, after}
+use Rattle.co_serial.specs.Records.{Records, with_changes}
+use Rattle.co_serial.specs.SerialRun.{AllRecords, reply_to, records_after, after_site, run_whole, after_whole, after}
 use Rattle.co_state.specs.declared.engine_state.EngineState.{EngineState}
 use Rattle.co_state.specs.declared.engine_state.Operation.{Operation}
 use Rattle.co_state.specs.Keys.{reads_key, writes_key, reads_meet}
-use Rattle.co_state.specs.Changes.{span_read, change_made, with_span, with_written, put_span, put_change, spans_of, changes_of}
-use Rattle.co_state.specs.EngineState.{records_at, records_now, installed_records}
+use Rattle.co_state.specs.Changes.{span_read, change_made, with_span, with_written, spans_of, changes_of}
+use Rattle.co_state.specs.EngineState.{installed_records}
 use Rattle.co_plain.specs.declared.session.Told.{Told}
 use Rattle.co_plain.specs.declared.session.Decided.{Decided}
-use Rattle.co_plain.specs.Sessions.{told_at, count_at}
+use Rattle.co_plain.specs.Sessions.{told_at}
 use Rattle.co_plain.specs.Federation.{Federation}
 use Rattle.co_plain.specs.Decisions.{sites_of, replies_of}
 use Rattle.co_plain.specs.DurableRecords.{starting_records}
 use Rattle.co_plain.specs.Promises.{serial_records}
 use Rattle.co_plain.specs.Invariants.{told_spans, told_changes, Replays, KeptAsTold}
-use Rattle.co_law_engine.proofs.Keys.{changes_agree, unchanged, get-change}
+use Rattle.co_law_engine.proofs.Keys.{changes_agree, unchanged}
 use Rattle.co_law_engine.proofs.SeenAlike.{AgreeOn, replies_agree}
 use Rattle.co_law_engine.proofs.SetsMade.{reads-put, get-put, ascends-put, Ascends, unread}
 use Rattle.co_law_engine.proofs.YesTells.{SeeInstalled}
@@ -49,10 +48,12 @@ cast_replays b (o ∷ os) [] k f = absurd k
 cast_replays b (o ∷ os) (t ∷ ts) k f =
     let rest = cast_replays b os ts k.2 f.1 in
     record {
-      replays =
-          (k.1
-          ∙ replies_agree o.op _ _ (agree_under (span_read o.op) _ _ (changes_of os) f.0)
-          ∙ (λ i. reply_to (with_changes (installed_records b) (rest.writes i)) (k.0 i)), rest.replays);
+      replays = (
+        k.1
+            ∙ replies_agree o.op _ _ (agree_under (span_read o.op) _ _ (changes_of os) f.0)
+            ∙ (λ i. reply_to (with_changes (installed_records b) (rest.writes i)) (k.0 i)),
+        rest.replays,
+      );
       reads = λ i. with_span (span_read (k.0 i)) (rest.reads i);
       writes = λ i. with_written (change_made (k.0 i)) (rest.writes i);
       as_many = ap suc rest.as_many;
@@ -72,9 +73,10 @@ reads_rest (Some span) spans q h = reads-put span spans q ∙ or_right (span_has
 -- replies stay right on records that agree on all that was read
 pub replays_agree : (told : List Told) (r s : Records) → ((q : List ℕ) → reads_key (told_spans told) q ≡ true → get r q ≡ get s q) → Replays r told → Replays s told
 replays_agree [] r s h p = tt
-replays_agree (o ∷ os) r s h p =
-    (p.0 ∙ replies_agree o.site.op _ _ (agree_under (span_read o.site.op) r s (told_changes os) (reads_first o.site.op (told_spans os) r s h)),
-    replays_agree os r s (λ q i. h q (reads_rest (span_read o.site.op) (told_spans os) q i)) p.1)
+replays_agree (o ∷ os) r s h p = (
+  p.0 ∙ replies_agree o.site.op _ _ (agree_under (span_read o.site.op) r s (told_changes os) (reads_first o.site.op (told_spans os) r s h)),
+  replays_agree os r s (λ q i. h q (reads_rest (span_read o.site.op) (told_spans os) q i)) p.1,
+)
 
 -- and under changes that meet none of its reads
 pub replays_under : (told : List Told) (r : Records) (ws : List Written) → reads_meet (told_spans told) ws ≡ false → Replays r told → Replays (with_changes r ws) told
@@ -165,6 +167,7 @@ told_serially all (o ∷ os) h =
   where
     own : (m : ℕ) → (m == m) ≡ true
     own m = eq-eqb m m refl
+
     fewer : (n : ℕ) → Replays (all n) (told_at (o ∷ os) n) → Replays (all n) (told_at os n)
     fewer n p = by (o.site.member == n) p
       where

@@ -1,18 +1,16 @@
 -- The two views of a member: the stable one lacks the aborts that wait, and no others.
-use Rattle.std.proofs.Common.{◌≡◌, ◌≢◌, ◌⊎◌, inl, inr, ℕ, Bool, true, false, ◌||◌, ◌==◌, List, [], ◌∷◌, ◌++◌, length, Option, None, Some, refl, sym, ap, ◌∙◌, subst}
+use Rattle.std.proofs.Common.{◌≡◌, ◌⊎◌, inl, inr, ℕ, Bool, true, false, ◌==◌, List, [], ◌∷◌, ◌++◌, refl, sym, ap, ◌∙◌, subst}
 use Rattle.std.specs.Option.{is_some}
 use Rattle.std.proofs.lemmas.Bool.{or_cases, or_left, or_right, eqb-true, eqb-false}
 use Rattle.co_record.specs.declared.record.Record.{Record}
 use Rattle.co_record.specs.declared.record.Record.TheVariants as log
-use Rattle.co_serial.specs.Records.{Records}
-use Rattle.co_state.specs.declared.engine_state.Vote.{Vote}
-use Rattle.co_state.specs.Table.{look, holds, without}
+use Rattle.co_state.specs.Table.{holds, without}
 use Rattle.co_plain.specs.declared.member_state.MemberState.{MemberState}
 use Rattle.co_plain.specs.declared.member_view.MemberView.{MemberView}
-use Rattle.co_plain.specs.MemberView.{recovered_view, forget_in}
+use Rattle.co_plain.specs.MemberView.{recovered_view}
 use Rattle.co_plain.specs.Invariants.{Side, Memory, Stable, view, stands}
 use Rattle.co_law_base.proofs.Lookups.{without_there, without_cases, holds_found, found_holds}
-use Rattle.co_law_base.proofs.Facts.{Rest, alive, belongs, OnlyAborts, MemberFacts, NumberFacts}
+use Rattle.co_law_base.proofs.Facts.{Rest, alive, OnlyAborts, MemberFacts}
 use Rattle.co_law_base.proofs.Carrying.{LivesOn, StandsOn}
 
 -- who lives on and stands without the waiting aborts stands with them
@@ -84,6 +82,7 @@ module _ (r : Rest) (m : ℕ) (x : MemberState) (f : MemberFacts r m x) where
       stood : (side : Side) (t : ℕ) → LivesOn r t → stands (view side x) t ≡ true → stands (view side y) t ≡ true
       stood Memory t l h = standing t l h
       stood Stable t l h = ap (λ v. stands v t) e ∙ standing t l (stable_to_memory t l h)
+
       done : (side : Side) (t : ℕ) → holds (view side x).committed t ≡ true → holds (view side y).committed t ≡ true
       done Memory t h = committed t h
       done Stable t h = ap (λ v. holds v.committed t) e ∙ committed t (ap (λ n. holds n t) committed_both ∙ h)

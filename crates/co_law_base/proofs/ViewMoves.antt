@@ -1,5 +1,5 @@
 -- The facts of a view under a vote, an abort and an install.
-use Rattle.std.proofs.Common.{◌≡◌, ◌≢◌, ◌⊎◌, inl, inr, ℕ, Bool, true, false, ◌||◌, ◌==◌, ◌≤◌, List, [], ◌∷◌, Option, None, Some, refl, sym, ap, ◌∙◌, subst}
+use Rattle.std.proofs.Common.{◌≡◌, ◌≢◌, ◌⊎◌, inl, inr, ℕ, Bool, true, false, ◌==◌, ◌≤◌, List, [], ◌∷◌, Some, refl, sym, ap, ◌∙◌, subst}
 use Rattle.std.specs.Option.{is_some}
 use Rattle.std.proofs.lemmas.Bool.{or_cases, or_left, or_right, or_parts, eqb-true, eqb-false, eq-eqb, false_from_ne_true}
 use Rattle.co_state.specs.declared.engine_state.Vote.{Vote}
@@ -11,12 +11,12 @@ use Rattle.co_plain.specs.MemberView.{cast_in, forget_in, install_in}
 use Rattle.co_plain.specs.Sessions.{count_at}
 use Rattle.co_plain.specs.Decisions.{is_decided, votes_for}
 use Rattle.co_plain.specs.Invariants.{stands, takes_part_in}
-use Rattle.co_law_base.proofs.Lookups.{put_here, put_there, put_cases, without_here, without_there, without_cases, holds_found, found_holds}
+use Rattle.co_law_base.proofs.Lookups.{put_here, put_there, without_here, without_there, without_cases, holds_found, found_holds}
 use Rattle.co_law_base.proofs.ViewRules.{Replayed, cast_free, forget_free, install_free, cast_replay, forget_replay, install_replay}
 use Rattle.co_law_base.proofs.ImageRules.{image_cast, image_forget, image_install}
 use Rattle.co_law_base.proofs.Commits.{holds_more, holds_new, holds_cases}
 use Rattle.co_law_base.proofs.Facts.{Rest, told_here, begun, over, entry_of, settled_at, Here, Before, settled, alive, belongs, takes, Each, ViewFacts, NumberFacts, serial}
-use Rattle.co_law_base.proofs.Carrying.{settled_home, settled_alive}
+use Rattle.co_law_base.proofs.Carrying.{settled_home}
 
 pub each_map : {A : Type 0} (P Q : A → Type 0) (xs : List A) → ((x : A) → P x → Q x) → Each P xs → Each Q xs
 each_map P Q [] h e = tt
@@ -29,9 +29,10 @@ each_both P Q (x ∷ xs) p q = ((p.0, q.0), each_both P Q xs p.1 q.1)
 -- each decided transaction is decided
 pub each_decided : (ds : List Decided) → Each (λ d. is_decided ds d.txn ≡ true) ds
 each_decided [] = tt
-each_decided (d ∷ ds) =
-    (or_left (d.txn == d.txn) (is_decided ds d.txn) (eq-eqb d.txn d.txn refl),
-    each_map (λ e. is_decided ds e.txn ≡ true) (λ e. is_decided (d ∷ ds) e.txn ≡ true) ds (λ e h. or_right (d.txn == e.txn) (is_decided ds e.txn) h) (each_decided ds))
+each_decided (d ∷ ds) = (
+  or_left (d.txn == d.txn) (is_decided ds d.txn) (eq-eqb d.txn d.txn refl),
+  each_map (λ e. is_decided ds e.txn ≡ true) (λ e. is_decided (d ∷ ds) e.txn ≡ true) ds (λ e h. or_right (d.txn == e.txn) (is_decided ds e.txn) h) (each_decided ds),
+)
 
 -- who does not stand is neither voted nor committed
 pub neither_stands : (v : MemberView) (t : ℕ) → stands v t ≡ false → (holds v.voted t ≡ false) × (holds v.committed t ≡ false)
@@ -99,6 +100,7 @@ module _ (r : Rest) (n : NumberFacts r) (m : ℕ) (v : MemberView) (f : ViewFact
       fewer : (u : ℕ) → (holds (without v.voted t) u ≡ true) ⊎ (holds v.committed u ≡ true) → stands v u ≡ true
       fewer u (inl h) = or_left _ _ (holds_without v.voted t u h).1
       fewer u (inr h) = or_right _ _ h
+
       kept : (u : ℕ) → is_decided r.decided u ≡ true → (holds v.voted u ≡ true) ⊎ (holds v.committed u ≡ true) → stands (forget_in v t) u ≡ true
       kept u d (inl h) = or_left _ _ (still_holds v.voted t u (λ e. open' (subst (settled r) (sym e) (Here d))) h)
       kept u d (inr h) = or_right _ _ h
@@ -126,6 +128,7 @@ module _ (r : Rest) (n : NumberFacts r) (m : ℕ) (v : MemberView) (f : ViewFact
       named : (u c : ℕ) → ((t ≡ u) × (vote.coord ≡ c)) ⊎ (votes_for (look v.voted u) c ≡ true) → belongs r u c
       named u c (inl p) = subst (λ k. belongs r k c) p.0 (subst (belongs r t) p.1 mine)
       named u c (inr h) = f.named u c h
+
       overs : (u : ℕ) → (holds (put v.voted t vote) u ≡ true) ⊎ (holds v.committed u ≡ true) → over r u ≡ true
       overs u (inr h) = f.over u (or_right _ _ h)
       overs u (inl h) = by (put_holds v.voted t vote u h)
@@ -133,15 +136,19 @@ module _ (r : Rest) (n : NumberFacts r) (m : ℕ) (v : MemberView) (f : ViewFact
           by : (t ≡ u) ⊎ (holds v.voted u ≡ true) → over r u ≡ true
           by (inl e) = ap (over r) (sym e) ∙ o
           by (inr k) = f.over u (or_left _ _ k)
+
       never : (u : ℕ) → holds v.committed u ≡ true → (t ≡ u) ⊎ (holds v.voted u ≡ true) → ⊥
       never u h (inl e) = let z : true ≡ false = sym h ∙ ap (holds v.committed) (sym e) ∙ new in cc
       never u h (inr k) = let z : true ≡ false = sym k ∙ f.apart u h in cc
+
       more : (u : ℕ) → (holds v.voted u ≡ true) ⊎ (holds v.committed u ≡ true) → stands (cast_in v t vote) u ≡ true
       more u (inl h) = or_left _ _ (holds_put v.voted t vote u h)
       more u (inr h) = or_right _ _ h
+
       works : (u c : ℕ) → ((t ≡ u) × (vote.coord ≡ c)) ⊎ (votes_for (look v.voted u) c ≡ true) → alive r c u ≡ true → takes r u m
       works u c (inl p) a = subst (λ k. takes r k m) p.0 part
       works u c (inr h) a = f.works u c h a
+
       held : (u c : ℕ) → ((t ≡ u) × (vote.coord ≡ c)) ⊎ (votes_for (look v.voted u) c ≡ true) → alive r c u ≡ true → takes_part_in (entry_of r c u) m ≡ true
       held u c (inl p) =
           subst (λ k. alive r c k ≡ true → takes_part_in (entry_of r c k) m ≡ true) p.0
@@ -173,9 +180,11 @@ module _ (r : Rest) (n : NumberFacts r) (m : ℕ) (v : MemberView) (f : ViewFact
           by : (t ≡ u) ⊎ (holds v.committed u ≡ true) → over r u ≡ true
           by (inl e) = ap (over r) (sym e) ∙ f.over t (or_left _ _ (found_holds v.voted t vote here))
           by (inr k) = f.over u (or_right _ _ k)
+
       never : (u : ℕ) → (t ≢ u) × (holds v.voted u ≡ true) → (t ≡ u) ⊎ (holds v.committed u ≡ true) → ⊥
       never u p (inl e) = p.0 e
       never u p (inr k) = let z : true ≡ false = sym p.1 ∙ f.apart u k in cc
+
       more : (u : ℕ) → (holds v.voted u ≡ true) ⊎ (holds v.committed u ≡ true) → stands (install_in v t (Some vote)) u ≡ true
       more u (inr h) = or_right _ _ (holds_more v.committed t u h)
       more u (inl h) = by (t == u) refl
@@ -183,6 +192,7 @@ module _ (r : Rest) (n : NumberFacts r) (m : ℕ) (v : MemberView) (f : ViewFact
           by : (b : Bool) → (t == u) ≡ b → stands (install_in v t (Some vote)) u ≡ true
           by true e = or_right _ _ (ap (holds (install_in v t (Some vote)).committed) (sym (eqb-true t u e)) ∙ holds_new v.committed t)
           by false e = or_left _ _ (still_holds v.voted t u (eqb-false t u e) h)
+
       known : (u : ℕ) → begun r u ≡ true → (t ≡ u) ⊎ (holds v.committed u ≡ true) → is_decided r.decided u ≡ true
       known u b (inr k) = f.known u k b
       known u b (inl e) = ap (is_decided r.decided) (sym e) ∙ by d
@@ -190,6 +200,7 @@ module _ (r : Rest) (n : NumberFacts r) (m : ℕ) (v : MemberView) (f : ViewFact
           by : settled r t → is_decided r.decided t ≡ true
           by (Here k) = k
           by (Before c k) = absurd (let z : true ≡ false = sym (n.commit_used c t k) ∙ ap (holds r.used) e ∙ n.new u b in cc)
+
       homed : (u c : ℕ) → belongs r u c → (t ≡ u) ⊎ (holds v.committed u ≡ true) → settled_at r c u ≡ true
       homed u c b (inr k) = f.homed u c k b
       homed u c b (inl e) = settled_home r n u c b (subst (settled r) e d)

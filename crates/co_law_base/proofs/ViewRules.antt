@@ -1,5 +1,5 @@
 -- The views of a member under votes, aborts and installs: the voted ones stay free of conflicts, and replay.
-use Rattle.std.proofs.Common.{◌≡◌, ◌≢◌, ◌⊎◌, inl, inr, ℕ, Bool, true, false, ◌||◌, List, Option, None, Some, refl, sym, ap, ◌∙◌, subst}
+use Rattle.std.proofs.Common.{◌≡◌, ◌≢◌, ◌⊎◌, inl, inr, ℕ, Bool, true, false, ◌||◌, List, Some, refl, sym, ap, ◌∙◌, subst}
 use Rattle.co_serial.specs.Records.{Records, with_changes}
 use Rattle.co_state.specs.declared.engine_state.Sets.{Sets}
 use Rattle.co_state.specs.declared.engine_state.Vote.{Vote}
@@ -26,9 +26,10 @@ three_parts false false false h = (refl, refl, refl)
 -- who is not in the way of a vote is not in conflict with it
 pub apart_ways : (own other : Sets) → voted_holds own other ≡ false → (sets_conflict own other ≡ false) × (sets_conflict other own ≡ false)
 apart_ways own other h =
-    let p = three_parts (reads_meet other.reads own.writes) (writes_meet other.writes own.writes) (reads_meet own.reads other.writes) h in
-    (three (reads_meet own.reads other.writes) (reads_meet other.reads own.writes) (writes_meet own.writes other.writes) p.2 p.0 (meet_turned other.writes own.writes p.1),
-    three (reads_meet other.reads own.writes) (reads_meet own.reads other.writes) (writes_meet other.writes own.writes) p.0 p.2 p.1)
+    let p = three_parts (reads_meet other.reads own.writes) (writes_meet other.writes own.writes) (reads_meet own.reads other.writes) h in (
+      three (reads_meet own.reads other.writes) (reads_meet other.reads own.writes) (writes_meet own.writes other.writes) p.2 p.0 (meet_turned other.writes own.writes p.1),
+      three (reads_meet other.reads own.writes) (reads_meet own.reads other.writes) (writes_meet other.writes own.writes) p.0 p.2 p.1,
+    )
 
 pub fewer_free : (v w : MemberView) → ((t : ℕ) (a : Vote) → look w.voted t ≡ Some a → look v.voted t ≡ Some a) → VotedAreConflictFree v → VotedAreConflictFree w
 fewer_free v w h free = λ t u a b n f g. free t u a b n (h t a f) (h u b g)

@@ -184,8 +184,10 @@ keeps_end s f t c g =
   where
     y : CoordHas (rest_of s) c (s.coord c)
     y = f.coords c
+
     gone : (u : ℕ) (x : Entry) → look (without (s.coord c).table t) u ≡ Some x → (t ≢ u) × (look (s.coord c).table u ≡ Some x)
     gone u x h = without_cases (s.coord c).table t u x h
+
     all_acked : (m : ℕ) → takes_part_in (entry_at s t c) m ≡ true → (side : Side) → holds (view side (s.member m)).committed t ≡ true
     all_acked m h side =
         let members = g.0 in
@@ -194,6 +196,7 @@ keeps_end s f t c g =
         f.sent.acks_stand t m c side
         (one_yes (λ k. was_sent s.sent (message.Ack t k c) ≡ true) acks g.2 m g.4 ((y.committed t members acks g.3).acks_sent m)
         (lacks_none members (g.2 ∷ acks) m g.5 mine))
+
     by : (u m : ℕ) → takes_part_in (look (s.coord c).table u) m ≡ true → (b : Bool) → (t == u) ≡ b →
         (takes_part_in (look (without (s.coord c).table t) u) m ≡ true) ⊎ ((side : Side) → holds (view side (s.member m)).committed u ≡ true)
     by u m h false k = inl (ap (λ o. takes_part_in o m) (without_there (s.coord c).table t u (eqb-false t u k)) ∙ h)
@@ -231,22 +234,29 @@ keeps_coord_crash s f c g =
   where
     y : CoordHas (rest_of s) c (s.coord c)
     y = f.coords c
+
     stable : List Record
     stable = (s.coord c).log.stable
+
     unended : Table (List ℕ)
     unended = (recovered_commits (s.coord c).log.stable).unended
+
     other : (ms : List ℕ) (x : Entry) → entry.Committed ms [] ≡ entry.Idle → ⊥
     other ms x e = cc
+
     collects : (ms : List ℕ) (parts : List Part) (yeses : List ℕ) → entry.Committed ms [] ≡ entry.Collecting parts yeses → ⊥
     collects ms parts yeses e = cc
+
     members_in : Entry → List ℕ
     members_in entry.Idle = []
     members_in (entry.Collecting parts yeses) = []
     members_in (entry.Committed ms acks) = ms
+
     acks_in : Entry → List ℕ
     acks_in entry.Idle = []
     acks_in (entry.Collecting parts yeses) = []
     acks_in (entry.Committed ms acks) = acks
+
     again : (t : ℕ) (members acks ms : List ℕ) → unended_in stable t ≡ Some ms → entry.Committed ms [] ≡ entry.Committed members acks → CommittedEntry (rest_of s) c stable [] t members acks
     again t members acks ms u e =
         let same : ms ≡ members = ap members_in e in
@@ -254,6 +264,7 @@ keeps_coord_crash s f c g =
         subst (λ k. CommittedEntry (rest_of s) c stable [] t members k) none
         (subst (λ k. CommittedEntry (rest_of s) c stable [] t k []) same
         (record { recorded = u; logged = u; lacks = lacks_at_first ms (unended_some stable t ms u); acks_sent = λ m h. absurd (let z : false ≡ true = h in cc) }))
+
     lost : (t : ℕ) → OpenEntry (rest_of s) c stable t → (holds (table_from (entries unended)) t || settled_at (rest_of s) c t) ≡ true → ⊥
     lost t e a = now (or_cases _ _ a)
       where
@@ -263,6 +274,7 @@ keeps_coord_crash s f c g =
             let p = holds_found (table_from (entries unended)) t h in
             let q = from_cases unended t p.0 p.1 in
             let z : true ≡ false = sym (unended_seen stable t q.0 q.1) ∙ e.unrecorded in cc
+
     by : (t m : ℕ) → (holds (table_from (entries unended)) t || settled_at (rest_of s) c t) ≡ true → takes_part_in (look (s.coord c).table t) m ≡ true → (o : Option Entry) → look (s.coord c).table t ≡ o →
         takes_part_in (look (table_from (entries unended)) t) m ≡ true
     by t m a h None e = absurd (let z : false ≡ true = ap (λ o. takes_part_in o m) (sym e) ∙ h in cc)
@@ -322,32 +334,42 @@ keeps_coord_fill s f c g =
   where
     y : CoordHas (rest_of s) c (s.coord c)
     y = f.coords c
+
     table : Table Entry
     table = (s.coord c).table
+
     stable : List Record
     stable = (s.coord c).log.stable
+
     generation : ℕ
     generation = next_generation (generation_of (s.coord c).log.stable)
+
     base : List Record
     base = log.Header (node.Coord c) generation ∷ []
+
     spare : List Record
     spare = coord_spare c (s.coord c) generation
+
     each : EachEntry (λ t e. look table t ≡ Some e) (entries table)
     each = each_entry (λ t e. look table t ≡ Some e) (entries table) (entries_sorted table) (λ t e h. get-entries table t ∙ h)
+
     back : (t : ℕ) (members : List ℕ) → unended_in spare t ≡ Some members → unended_in stable t ≡ Some members
     back t members h = by (spare_cases (λ t e. look table t ≡ Some e) (entries table) base t members each h)
       where
         by : (unended_in base t ≡ Some members) ⊎ ((acks : List ℕ) × (look table t ≡ Some (entry.Committed members acks))) → unended_in stable t ≡ Some members
         by (inl k) = is_nothing (sym (look_none t) ∙ k)
         by (inr p) = (y.committed t members p.0 p.1).recorded
+
     tabled : (t : ℕ) → has_commit_of spare t ≡ true → (ms acks : List ℕ) × (look table t ≡ Some (entry.Committed ms acks))
     tabled t h = by (seen_cases (λ t e. look table t ≡ Some e) (entries table) base t each h)
       where
         by : (has_commit_of base t ≡ true) ⊎ ((ms acks : List ℕ) × (look table t ≡ Some (entry.Committed ms acks))) → (ms acks : List ℕ) × (look table t ≡ Some (entry.Committed ms acks))
         by (inl k) = absurd (let z : false ≡ true = sym (ap is_some (look_none t)) ∙ k in cc)
         by (inr p) = p
+
     known : (t : ℕ) → has_commit_of spare t ≡ true → ((by_coord (look s.sessions t) c && is_decided s.decided t) || has_commit_of (s.opened_coord c) t) ≡ true
     known t h = let p = tabled t h in y.known t (unended_seen stable t p.0 (y.committed t p.0 p.1 p.2).recorded)
+
     open_still : (t : ℕ) → OpenEntry (rest_of s) c stable t → ((ms acks : List ℕ) → look table t ≡ Some (entry.Committed ms acks) → ⊥) → OpenEntry (rest_of s) c spare t
     open_still t e none =
         record {

@@ -1,12 +1,12 @@
 -- Keys, and records under changes.
-use Rattle.std.proofs.Common.{◌≡◌, ◌≢◌, ◌⊎◌, inl, inr, ℕ, Bool, true, false, not, cond, ◌&&◌, ◌||◌, if◌then◌else◌, T, List, [], ◌∷◌, Option, None, Some, refl, sym, ap, ◌∙◌, subst, arith}
-use Rattle.std.specs.Ordering.{nat_cmp, eq_by_cmp, is_eq, is_lt, is_gt}
+use Rattle.std.proofs.Common.{◌≡◌, ℕ, Bool, true, false, ◌||◌, if◌then◌else◌, List, [], ◌∷◌, Option, None, Some, refl, sym, ap, ◌∙◌}
+use Rattle.std.specs.Ordering.{is_eq}
 use Rattle.std.specs.declared.cmp.Ordering.{Ordering}
 use Rattle.std.specs.declared.cmp.Ordering.TheVariants.{Less, Equal, Greater}
-use Rattle.std.specs.Cmp.{IsTotalOrder, eq_by_cmp_equiv}
+use Rattle.std.specs.Cmp.{eq_by_cmp_equiv}
 use Rattle.std.proofs.lemmas.Cmp.{nat_list_cmp_total}
-use Rattle.std.proofs.lemmas.Bool.{or_cases, or_parts, or_left, or_right, cases_Bool}
-use Rattle.std.specs.FinMap.{get, get-insert, get-remove, same_map, slice_cmp-IsAntisymmetric, nat_cmp-IsAntisymmetric}
+use Rattle.std.proofs.lemmas.Bool.{or_parts}
+use Rattle.std.specs.FinMap.{get, get-insert, get-remove, slice_cmp-IsAntisymmetric, nat_cmp-IsAntisymmetric}
 use Rattle.co_base.specs.Order.{key_cmp}
 use Rattle.co_base.specs.declared.written.Written.{Written}
 use Rattle.co_serial.specs.Records.{Records, with_change, with_changes}
@@ -31,7 +31,6 @@ same_key_is a b h = slice_cmp-IsAntisymmetric nat_cmp-IsAntisymmetric a b (equal
 
 pub equal_keys : (a b : List ℕ) → key_cmp a b ≡ Equal → a ≡ b
 equal_keys a b h = slice_cmp-IsAntisymmetric nat_cmp-IsAntisymmetric a b h
-
 
 pub get-change : (r : Records) (key : List ℕ) (v : Option (List ℕ)) (q : List ℕ) → get (with_change r key v) q ≡ (if same_key q key then v else get r q)
 get-change r key None q = get-remove nat_list_cmp_total r key q

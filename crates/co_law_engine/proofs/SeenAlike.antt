@@ -1,7 +1,6 @@
 -- Replies agree where the records agree on what is read.
-use Rattle.std.proofs.Common.{◌≡◌, ℕ, Bool, true, false, not, ◌&&◌, cond, T, List, [], ◌∷◌, map, filter, Option, None, Some, refl, sym, ap, ◌∙◌}
+use Rattle.std.proofs.Common.{◌≡◌, ℕ, Bool, true, false, not, ◌&&◌, cond, List, map, Option, None, Some, refl, sym, ap, ◌∙◌}
 use Rattle.std.specs.Ordering.{is_gt}
-use Rattle.std.specs.declared.cmp.Ordering.TheVariants.{Equal}
 use Rattle.std.proofs.lemmas.Cmp.{nat_list_cmp_total}
 use Rattle.std.specs.FinMap.{get, entries, entries_sorted, get-entries, slice_cmp-IsAntisymmetric, nat_cmp-IsAntisymmetric}
 use Rattle.std.specs.FinMap.Entries.{where_key, find, find-where_key, is_sorted-where_key, same_entries}
@@ -9,7 +8,7 @@ use Rattle.co_base.specs.Order.{key_cmp}
 use Rattle.co_base.specs.Span.{Span, span_has, span_of_key}
 use Rattle.co_base.specs.declared.op.Op.{Op}
 use Rattle.co_base.specs.declared.op.Op.TheVariants.{Read, Write, Erase, Scan}
-use Rattle.co_base.specs.declared.reply.Reply.TheVariants.{Got, Rows, Done}
+use Rattle.co_base.specs.declared.reply.Reply.TheVariants.{Got, Rows}
 use Rattle.co_serial.specs.Records.{Records, row_of, rows_within}
 use Rattle.co_serial.specs.SerialRun.{reply_to}
 use Rattle.co_state.specs.Changes.{span_read}

@@ -1,6 +1,6 @@
 -- What a yes tells: nothing that was read was overwritten, and no voted transaction is in conflict.
-use Rattle.std.proofs.Common.{◌≡◌, ◌≢◌, ℕ, zero, suc, Bool, true, false, not, cond, ◌||◌, ◌&&◌, ◌==◌, ◌<◌, ◌≤◌, nat_lt, nat_le, min, if◌then◌else◌, List, [], ◌∷◌, ◌++◌, length, map, filter, Option, None, Some, refl, sym, ap, ◌∙◌, subst, arith}
-use Rattle.std.proofs.lemmas.Bool.{or_cases, or_parts, or_from, eqb-true, eqb-false, ne_eqb}
+use Rattle.std.proofs.Common.{◌≡◌, ◌≢◌, ℕ, Bool, true, false, not, cond, ◌||◌, ◌&&◌, ◌==◌, nat_lt, nat_le, min, if◌then◌else◌, List, [], ◌∷◌, ◌++◌, length, map, filter, Option, None, Some, refl, sym, ap, ◌∙◌, arith}
+use Rattle.std.proofs.lemmas.Bool.{or_from, eqb-true, ne_eqb}
 use Rattle.std.proofs.lemmas.Bool.Decides.{nat_tests}
 use Rattle.std.specs.Option.{unwrap_or}
 use Rattle.std.specs.Ordering.{nat_cmp, eq_by_cmp}
@@ -8,20 +8,18 @@ use Rattle.std.specs.FinMap.{get, entries, get-entries}
 use Rattle.std.specs.FinMap.Entries.{find}
 use Rattle.co_base.specs.Span.{Span, span_has}
 use Rattle.co_base.specs.declared.written.Written.{Written}
-use Rattle.co_serial.specs.Records.{Records, with_changes}
+use Rattle.co_serial.specs.Records.{Records}
 use Rattle.co_state.specs.declared.engine_state.EngineState.{EngineState}
 use Rattle.co_state.specs.declared.engine_state.Install.{Install}
 use Rattle.co_state.specs.declared.engine_state.Operation.{Operation}
-use Rattle.co_state.specs.declared.engine_state.Sets.{Sets}
 use Rattle.co_state.specs.declared.engine_state.Vote.{Vote}
-use Rattle.co_state.specs.declared.verdict.Verdict.{Verdict}
 use Rattle.co_state.specs.declared.verdict.Verdict.TheVariants.{LostOperations, StaleRead, HeldBy, VoteYes}
 use Rattle.co_state.specs.Table.{Table, look, first_in, least_where, lesser}
-use Rattle.co_state.specs.Keys.{same_key, writes_key, reads_meet, writes_meet, least_key, least_from}
+use Rattle.co_state.specs.Keys.{same_key, writes_key, least_key, least_from}
 use Rattle.co_state.specs.Changes.{span_read, sets_of}
 use Rattle.co_state.specs.EngineState.{records_now, records_at, operations_of}
 use Rattle.co_state.specs.StaleRead.{keys_since, overwritten, stale_keys, stale_key}
-use Rattle.co_state.specs.VotingRule.{vote_of, voted_holds, active_holds, holder_of, unless_held, unless_stale, kept_count}
+use Rattle.co_state.specs.VotingRule.{vote_of, voted_holds, holder_of, unless_held, unless_stale, kept_count}
 use Rattle.co_law_engine.proofs.Keys.{same_key_is, unchanged}
 use Rattle.co_law_engine.proofs.SeenAlike.{AgreeOn}
 
@@ -62,6 +60,7 @@ yes_parts b t n h = by (kept_count b t == n) refl (stale_key b t) refl (holder_o
   where
     yes_as : {key : Option (List ℕ)} → (kept_count b t == n) ≡ true → stale_key b t ≡ key → vote_of b t n ≡ unless_stale key (holder_of b t (sets_of (operations_of b t)))
     yes_as c k = ap (λ z. if z then unless_stale (stale_key b t) (holder_of b t (sets_of (operations_of b t))) else LostOperations) c ∙ ap (λ z. unless_stale z (holder_of b t (sets_of (operations_of b t)))) k
+
     by : (c : Bool) → (kept_count b t == n) ≡ c → (k : Option (List ℕ)) → stale_key b t ≡ k → (o : Option ℕ) → holder_of b t (sets_of (operations_of b t)) ≡ o → SaysYes b t n
     by true c None k None o = record { count = eqb-true (kept_count b t) n c; fresh = k; free = o }
     by false c k0 k o0 o = absurd (let q : LostOperations ≡ VoteYes = sym (ap (λ z. if z then unless_stale (stale_key b t) (holder_of b t (sets_of (operations_of b t))) else LostOperations) c) ∙ h in cc)
