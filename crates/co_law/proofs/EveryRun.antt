@@ -7,7 +7,7 @@ use Rattle.co_plain.specs.declared.session.Decided.{Decided}
 use Rattle.co_plain.specs.Opening.{Found, opened}
 use Rattle.co_plain.specs.Runs.{run}
 use Rattle.co_plain.specs.Decisions.{sites_of}
-use Rattle.co_plain.specs.Promises.{SerialReads, LogsAlone, LogsStaySound, AreDecidedOnce}
+use Rattle.co_plain.specs.Promises.{SerialReads, LogsAlone, LogsStaySound, Acknowledged}
 use Rattle.co_plain.specs.Invariants.{Kept}
 use Rattle.co_law_event.specs.HandedVerdicts.{AreTrueVerdicts}
 use Rattle.co_law_start.specs.OpenedLogs.{AreOpenable}
@@ -16,6 +16,7 @@ use Rattle.co_law_event.proofs.Steps.{run_keeps}
 use Rattle.co_law_start.proofs.Start.{start_facts}
 use Rattle.co_law.proofs.Growing.{Grows, run_grows}
 use Rattle.co_law.proofs.Derived.{reads_at, logs_give, files_sound}
+use Rattle.co_law.proofs.Acknowledging.{run_ack}
 use Rattle.co_law.proofs.KeptFrom.{kept, same_serial}
 
 module _ (kinds : List Kind) (coords : ℕ) (fm fc : ℕ → Found) (hs : List Happening) (g : AreOpenable kinds coords fm fc) (v : AreTrueVerdicts hs (opened kinds coords fm fc)) where
@@ -38,8 +39,8 @@ module _ (kinds : List Kind) (coords : ℕ) (fm fc : ℕ → Found) (hs : List H
       logs_give (run hs (opened kinds coords fm fc)) facts m
       ∙ ap (λ all. all m) (same_serial (opened kinds coords fm fc) (run hs (opened kinds coords fm fc)) facts grows (run hs (opened kinds coords fm fc)).decided)
 
-  pub every_once : AreDecidedOnce (run hs (opened kinds coords fm fc)).decided
-  every_once = facts.numbers.once
-
   pub every_sound : LogsStaySound (opened kinds coords fm fc) hs
   every_sound = files_sound (run hs (opened kinds coords fm fc)) facts
+
+  pub every_acknowledged : Acknowledged (opened kinds coords fm fc) hs
+  every_acknowledged = record { decided = run_ack hs (opened kinds coords fm fc) (start_facts kinds coords fm fc g) v; once = facts.numbers.once }

@@ -1,4 +1,5 @@
 pub mod Growing
 pub mod Derived
 pub mod KeptFrom
+pub mod Acknowledging
 pub mod EveryRun

@@ -4,7 +4,7 @@ ghost use Rattle.co_base.specs.declared.head.Kind.{Kind};
 ghost use Rattle.co_plain.specs.declared.happening.Happening.{Happening};
 ghost use Rattle.co_plain.specs.Opening.{Found, opened};
 ghost use Rattle.co_plain.specs.Runs.{run};
-ghost use Rattle.co_plain.specs.Promises.{SerialReads, LogsAlone, LogsStaySound, AreDecidedOnce};
+ghost use Rattle.co_plain.specs.Promises.{SerialReads, LogsAlone, LogsStaySound, Acknowledged};
 ghost use Rattle.co_plain.specs.Invariants.{Kept};
 ghost use Rattle.co_law_event.specs.HandedVerdicts.{AreTrueVerdicts};
 ghost use Rattle.co_law_start.specs.OpenedLogs.{AreOpenable};
@@ -34,12 +34,12 @@ pub fn logs_alone()
         LogsAlone (opened kinds coords found_member found_coord) hs }
 {}
 
-/// Each transaction is decided once.
-pub fn decided_once()
+/// Every transaction for which an event answered `committed` is decided, and each is decided once.
+pub fn acknowledged()
     ensures { (kinds : List Kind) (coords : ℕ) (found_member found_coord : ℕ → Found) (hs : List Happening) →
         AreOpenable kinds coords found_member found_coord →
         AreTrueVerdicts hs (opened kinds coords found_member found_coord) →
-        AreDecidedOnce (run hs (opened kinds coords found_member found_coord)).decided }
+        Acknowledged (opened kinds coords found_member found_coord) hs }
 {}
 
 /// The logs of every run are sound again.

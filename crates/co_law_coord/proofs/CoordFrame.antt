@@ -1,15 +1,13 @@
 -- A change of one coordinator is carried over to all facts.
-use Rattle.std.proofs.Common.{◌≡◌, ◌≢◌, ◌⊎◌, inl, inr, ℕ, Bool, true, false, ◌||◌, List, Option, None, Some, refl, sym, ap, ◌∙◌, subst}
-use Rattle.std.proofs.lemmas.Bool.{or_cases, or_left, or_right, eqb-true, eqb-false}
+use Rattle.std.proofs.Common.{◌≡◌, ◌⊎◌, inl, inr, ℕ, true, ◌||◌, List, Some, refl}
+use Rattle.std.proofs.lemmas.Bool.{or_cases, or_right}
 use Rattle.co_serial.specs.SerialRun.{with_at}
-use Rattle.co_record.specs.declared.record.Record.{Record}
-use Rattle.co_state.specs.Table.{Table, look, put, without, holds}
+use Rattle.co_state.specs.Table.{look, holds}
 use Rattle.co_plain.specs.declared.coord_state.CoordState.{CoordState}
-use Rattle.co_plain.specs.declared.coord_state.Entry.{Entry}
 use Rattle.co_plain.specs.Federation.{Federation, with_coord}
 use Rattle.co_plain.specs.SoundLogs.{unended_in}
 use Rattle.co_plain.specs.Invariants.{Side, view, takes_part_in}
-use Rattle.co_law_base.proofs.Facts.{Rest, rest_of, changed, entry_of, settled_at, alive, belongs, CoordFacts, CoordHas, NumberFacts, Facts}
+use Rattle.co_law_base.proofs.Facts.{rest_of, changed, entry_of, settled_at, alive, belongs, CoordHas, Facts}
 use Rattle.co_law_base.proofs.Carrying.{at_each, Later, later_member, later_coord, later_records, later_sent, numbers_same}
 
 -- What a new state of a coordinator must have.

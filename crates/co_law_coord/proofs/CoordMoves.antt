@@ -1,38 +1,37 @@
 -- Each move of a coordinator keeps the facts.
-use Rattle.std.proofs.Common.{◌≡◌, ◌≢◌, ◌⊎◌, inl, inr, ℕ, Bool, true, false, ◌||◌, ◌&&◌, ◌==◌, List, [], ◌∷◌, ◌++◌, map, Option, None, Some, refl, sym, ap, ◌∙◌, subst}
+use Rattle.std.proofs.Common.{◌≡◌, ◌≢◌, ◌⊎◌, inl, inr, ℕ, Bool, true, false, ◌||◌, ◌&&◌, ◌==◌, List, [], ◌∷◌, ◌++◌, Option, None, Some, refl, sym, ap, ◌∙◌, subst}
 use Rattle.std.specs.Option.{is_some}
 use Rattle.std.specs.FinMap.{entries, entries_sorted, get-entries}
-use Rattle.std.proofs.lemmas.Bool.{or_cases, or_left, or_right, or_parts, and_parts, eqb-true, eqb-false, false_from_ne_true}
+use Rattle.std.proofs.lemmas.Bool.{or_cases, or_left, or_right, and_parts, eqb-true, eqb-false, false_from_ne_true}
 use Rattle.co_base.specs.declared.part.Part.{Part}
 use Rattle.co_message.specs.declared.message.Message.TheVariants as message
 use Rattle.co_record.specs.declared.record.Record.{Record}
 use Rattle.co_record.specs.declared.record.Record.TheVariants as log
 use Rattle.co_base.specs.declared.node.Node.TheVariants as node
-use Rattle.co_state.specs.Table.{Table, look, put, without, holds, no_entries}
+use Rattle.co_state.specs.Table.{Table, look, put, without, holds}
 use Rattle.co_plain.specs.declared.coord_state.CoordState.{CoordState}
 use Rattle.co_plain.specs.declared.coord_state.Entry.{Entry}
 use Rattle.co_plain.specs.declared.coord_state.Entry.TheVariants as entry
 use Rattle.co_plain.specs.declared.session.Session.{Session}
-use Rattle.co_plain.specs.declared.log_state.LogState.{LogState}
 use Rattle.co_plain.specs.declared.log_state.Stop.{Stop}
-use Rattle.co_plain.specs.Numbers.{first_lacking, has_number, next_generation}
-use Rattle.co_plain.specs.LogWrite.{with_batch, with_filled_spare, with_spare, with_stop, with_waiting, crashed_log, generation_of}
+use Rattle.co_plain.specs.Numbers.{has_number, next_generation}
+use Rattle.co_plain.specs.LogWrite.{with_filled_spare, with_spare, with_stop, with_waiting, generation_of}
 use Rattle.co_plain.specs.CoordView.{recovered_commits, has_commit_of}
-use Rattle.co_plain.specs.CoordStep.{with_table, with_coord_log, coord_down, has_part, members_of, table_from}
+use Rattle.co_plain.specs.CoordStep.{with_table, with_coord_log, coord_down, members_of, table_from}
 use Rattle.co_plain.specs.CoordLog.{coord_spare}
 use Rattle.co_plain.specs.Sessions.{parts_of}
 use Rattle.co_plain.specs.Wire.{was_sent}
 use Rattle.co_plain.specs.Federation.{Federation, with_coord}
 use Rattle.co_plain.specs.Decisions.{is_decided, told_of}
 use Rattle.co_plain.specs.SoundLogs.{unended_in}
-use Rattle.co_plain.specs.Invariants.{Side, Memory, Stable, view, takes_part_in, ends_only}
+use Rattle.co_plain.specs.Invariants.{Side, view, takes_part_in}
 use Rattle.co_plain.specs.Moves.{RecordYes, RecordAck, Collect, Leave, End, CrashCoord, RestartCoord, ArmCoord, CloseCoordSpare, FillCoordSpare, effect, Guard, entry_at, record_yes, record_ack}
-use Rattle.co_law_base.proofs.Lookups.{is_nothing, look_none, put_here, put_there, put_cases, without_here, without_there, without_cases, holds_found, found_holds}
+use Rattle.co_law_base.proofs.Lookups.{is_nothing, look_none, put_here, put_there, without_here, without_there, without_cases, holds_found, found_holds}
 use Rattle.co_law_base.proofs.ImageRules.{EachEntry, each_entry}
-use Rattle.co_law_base.proofs.Facts.{Rest, rest_of, told, asked, over, entry_of, settled_at, alive, by_coord, belongs, OpenEntry, CollectingEntry, CommittedEntry, CoordFacts, CoordHas, NumberFacts, Facts}
-use Rattle.co_law_base.proofs.Commits.{lacks_none, lacks_at_first, unended_seen, unended_some, from_cases, from_found, holds_cases, spare_cases, seen_cases, spare_found}
-use Rattle.co_law_coord.proofs.Tabled.{EntryFits, each_fits, fits_all, coord_put, coord_without}
-use Rattle.co_law_coord.proofs.CoordFrame.{NewCoord, coord_change}
+use Rattle.co_law_base.proofs.Facts.{Rest, rest_of, settled_at, by_coord, OpenEntry, CommittedEntry, CoordHas, NumberFacts, Facts}
+use Rattle.co_law_base.proofs.Commits.{lacks_none, lacks_at_first, unended_seen, unended_some, from_cases, from_found, spare_cases, seen_cases, spare_found}
+use Rattle.co_law_coord.proofs.Tabled.{EntryFits, coord_put, coord_without}
+use Rattle.co_law_coord.proofs.CoordFrame.{coord_change}
 
 -- one entry that takes the place of another
 pub part_put : (table : Table Entry) (t : ℕ) (e : Entry) (m : ℕ) → (takes_part_in (look table t) m ≡ true → takes_part_in (Some e) m ≡ true) →

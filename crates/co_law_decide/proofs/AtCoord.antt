@@ -1,5 +1,5 @@
 -- A coordinator decides: its commit record is forced.
-use Rattle.std.proofs.Common.{◌≡◌, ◌≢◌, ◌⊎◌, inl, inr, ℕ, suc, Bool, true, false, ◌||◌, ◌&&◌, ◌≤◌, ◌==◌, ◌+◌, if◌then◌else◌, List, [], ◌∷◌, ◌++◌, Option, None, Some, refl, sym, ap, ◌∙◌, subst, arith}
+use Rattle.std.proofs.Common.{◌≡◌, ◌≢◌, ◌⊎◌, inl, inr, ℕ, Bool, true, false, ◌||◌, ◌&&◌, ◌≤◌, ◌==◌, ◌+◌, if◌then◌else◌, List, [], ◌∷◌, ◌++◌, Some, refl, sym, ap, ◌∙◌, subst, arith}
 use Rattle.std.specs.Option.{is_some}
 use Rattle.std.proofs.lemmas.Bool.{or_cases, or_left, or_right, or_from, and_from, and_parts, eqb-true, eqb-false, eq-eqb, ne_eqb, false_from_ne_true}
 use Rattle.co_base.specs.declared.part.Part.{Part}
@@ -8,29 +8,29 @@ use Rattle.co_message.specs.declared.message.Message.TheVariants as message
 use Rattle.co_record.specs.declared.record.Record.{Record}
 use Rattle.co_record.specs.declared.record.Record.TheVariants as log
 use Rattle.co_serial.specs.SerialRun.{with_at}
-use Rattle.co_state.specs.Table.{Table, look, holds, put, without}
+use Rattle.co_state.specs.Table.{look, holds}
 use Rattle.co_plain.specs.declared.coord_state.CoordState.{CoordState}
 use Rattle.co_plain.specs.declared.coord_state.Entry.{Entry}
 use Rattle.co_plain.specs.declared.coord_state.Entry.TheVariants as entry
-use Rattle.co_plain.specs.Numbers.{first_lacking, has_number}
+use Rattle.co_plain.specs.Numbers.{has_number}
 use Rattle.co_plain.specs.CoordView.{recovered_commits, has_commit_of}
 use Rattle.co_plain.specs.CoordStep.{members_of, has_part}
 use Rattle.co_plain.specs.Sessions.{same_node, parts_of, count_at}
 use Rattle.co_plain.specs.Wire.{was_sent}
 use Rattle.co_plain.specs.Federation.{Federation, with_coord}
-use Rattle.co_plain.specs.Decisions.{is_decided, told_of}
+use Rattle.co_plain.specs.Decisions.{is_decided}
 use Rattle.co_plain.specs.SoundLogs.{unended_in}
 use Rattle.co_plain.specs.Invariants.{Side, Memory, view, stands, takes_part_in, ends_only}
-use Rattle.co_plain.specs.Moves.{Decide, effect, Guard, entry_at, with_decision, decide_entry, decide_members, table_decided}
+use Rattle.co_plain.specs.Moves.{Decide, effect, Guard, with_decision, decide_entry, decide_members}
 use Rattle.co_plain.specs.declared.session.Told.{Told}
 use Rattle.co_law_engine.proofs.YesTells.{in_some}
-use Rattle.co_law_base.proofs.Lookups.{put_here, put_there, without_here, without_there, without_cases, holds_found, found_holds, is_nothing}
-use Rattle.co_law_base.proofs.Commits.{lacks_none, lacks_at_first, unended_seen, commit_cases, commit_here, commit_there, holds_cases, holds_more, holds_new}
-use Rattle.co_law_base.proofs.Facts.{Rest, rest_of, told, asked, over, seen, entry_of, alive, by_coord, belongs, Begun, ByTold, takes, OpenEntry, CollectingEntry, CommittedEntry, CoordFacts, CoordHas, RecordFacts, NumberFacts, Facts}
+use Rattle.co_law_base.proofs.Lookups.{put_here, put_there, without_here, without_there, without_cases, found_holds, is_nothing}
+use Rattle.co_law_base.proofs.Commits.{lacks_none, lacks_at_first, commit_cases, commit_here, commit_there, holds_cases}
+use Rattle.co_law_base.proofs.Facts.{rest_of, told, asked, over, entry_of, alive, by_coord, Begun, ByTold, takes, OpenEntry, CollectingEntry, CommittedEntry, CoordFacts, CoordHas, RecordFacts, Facts}
 use Rattle.co_law_base.proofs.Carrying.{at_each, at_here, one_belongs, by_coord_begun, same_coord}
 use Rattle.co_law_coord.proofs.CoordMoves.{one_yes}
 use Rattle.co_law_session.proofs.Sending.{told_parts, parts_told, part_member}
-use Rattle.co_law_decide.proofs.Deciding.{Decides, decided_rest, decided_now, decided_more, member_decide, sent_decide, numbers_decide, reads_serially}
+use Rattle.co_law_decide.proofs.Deciding.{Decides, decided_rest, member_decide, sent_decide, numbers_decide, reads_serially}
 
 -- end records take commits out, and tell of none
 pub ends_back : (w stable : List Record) (t : ℕ) (members : List ℕ) → ends_only w ≡ true → unended_in (w ++ stable) t ≡ Some members → unended_in stable t ≡ Some members
@@ -156,11 +156,14 @@ module _ (s : Federation) (f : Facts s) (t c : ℕ) (members : List ℕ) (g : Ch
     where
       old : CoordHas (rest_of s) c (s.coord c)
       old = f.coords c
+
       at_t : (u : ℕ) (x : Entry) → look (decide_members (s.coord c) t members).table u ≡ Some x → (t == u) ≡ true → (entry.Committed members [] ≡ x) × (members ≢ [])
       at_t u x h e = table_here x (ap (look (decide_members (s.coord c) t members).table) (eqb-true t u e) ∙ h)
+
       idle : (u : ℕ) → look (decide_members (s.coord c) t members).table u ≡ Some entry.Idle → (b : Bool) → (t == u) ≡ b → OpenEntry (decided_rest (rest_of s) (after_it s t c members) t) c (records_after s t c members) u
       idle u h true e = absurd (let z : entry.Committed members [] ≡ entry.Idle = (at_t u entry.Idle h e).0 in cc)
       idle u h false e = let n = eqb-false t u e in other_open c (s.coord c).log.stable (records_after s t c members) u n (seen_same u n) (old.idle u (sym (table_other u n) ∙ h))
+
       collecting : (u : ℕ) (parts : List Part) (yeses : List ℕ) → look (decide_members (s.coord c) t members).table u ≡ Some (entry.Collecting parts yeses) → (b : Bool) → (t == u) ≡ b →
           CollectingEntry (decided_rest (rest_of s) (after_it s t c members) t) c (records_after s t c members) u parts yeses
       collecting u parts yeses h true e = absurd (let z : entry.Committed members [] ≡ entry.Collecting parts yeses = (at_t u (entry.Collecting parts yeses) h e).0 in cc)
@@ -174,6 +177,7 @@ module _ (s : Federation) (f : Facts s) (t c : ℕ) (members : List ℕ) (g : Ch
             lacks = x.lacks;
             yeses_sent = x.yeses_sent;
           }
+
       fresh : (ms acks : List ℕ) → entry.Committed members [] ≡ entry.Committed ms acks → members ≢ [] → CommittedEntry (decided_rest (rest_of s) (after_it s t c members) t) c (records_after s t c members) [] t ms acks
       fresh ms acks e n =
           subst (λ x. committed_by x) e
@@ -188,6 +192,7 @@ module _ (s : Federation) (f : Facts s) (t c : ℕ) (members : List ℕ) (g : Ch
           committed_by entry.Idle = ⊥
           committed_by (entry.Collecting parts yeses) = ⊥
           committed_by (entry.Committed ms acks) = CommittedEntry (decided_rest (rest_of s) (after_it s t c members) t) c (records_after s t c members) [] t ms acks
+
       committed : (u : ℕ) (ms acks : List ℕ) → look (decide_members (s.coord c) t members).table u ≡ Some (entry.Committed ms acks) → (b : Bool) → (t == u) ≡ b →
           CommittedEntry (decided_rest (rest_of s) (after_it s t c members) t) c (records_after s t c members) [] u ms acks
       committed u ms acks h true e =
@@ -198,6 +203,7 @@ module _ (s : Federation) (f : Facts s) (t c : ℕ) (members : List ℕ) (g : Ch
           let x = old.committed u ms acks (sym (table_other u n) ∙ h) in
           let is : unended_in (records_after s t c members) u ≡ Some ms = commit_there ((s.coord c).log.waiting ++ (s.coord c).log.stable) t members u n ∙ x.logged in
           record { recorded = is; logged = is; lacks = x.lacks; acks_sent = x.acks_sent }
+
       known : (u : ℕ) → (t ≡ u) ⊎ (has_commit_of ((s.coord c).log.waiting ++ (s.coord c).log.stable) u ≡ true) →
           ((by_coord (look s.sessions u) c && ((t == u) || is_decided s.decided u)) || has_commit_of (s.opened_coord c) u) ≡ true
       known u (inl e) =
@@ -205,11 +211,13 @@ module _ (s : Federation) (f : Facts s) (t c : ℕ) (members : List ℕ) (g : Ch
           (and_from (by_coord (look s.sessions u) c) ((t == u) || is_decided s.decided u)
           (ap (λ k. by_coord (look s.sessions k) c) (sym e) ∙ g.there.begun_there) (or_left (t == u) (is_decided s.decided u) (eq-eqb t u e)))
       known u (inr h) = known_more c u (old.known u (sym (ends_seen (s.coord c).log.waiting (s.coord c).log.stable u old.ends) ∙ h))
+
       unended_known : (u : ℕ) (ms : List ℕ) → ((t ≡ u) × (members ≡ ms) × (members ≢ [])) ⊎ (unended_in ((s.coord c).log.waiting ++ (s.coord c).log.stable) u ≡ Some ms) →
           ((by_coord (look s.sessions u) c && ((t == u) || is_decided s.decided u)) ≡ true) ⊎ (unended_in (s.opened_coord c) u ≡ Some ms)
       unended_known u ms (inl p) =
           inl (and_from (by_coord (look s.sessions u) c) ((t == u) || is_decided s.decided u) (ap (λ k. by_coord (look s.sessions k) c) (sym p.0) ∙ g.there.begun_there) (or_left (t == u) (is_decided s.decided u) (eq-eqb t u p.0)))
       unended_known u ms (inr h) = more_known c u ms (old.unended_known u ms (ends_back (s.coord c).log.waiting (s.coord c).log.stable u ms old.ends h))
+
       overs : (u : ℕ) (ms : List ℕ) → ((t ≡ u) × (members ≡ ms) × (members ≢ [])) ⊎ (unended_in ((s.coord c).log.waiting ++ (s.coord c).log.stable) u ≡ Some ms) → over (rest_of s) u ≡ true
       overs u ms (inl p) = ap (over (rest_of s)) (sym p.0) ∙ g.over_them p.2
       overs u ms (inr h) = old.unended_over u ms (ends_back (s.coord c).log.waiting (s.coord c).log.stable u ms old.ends h)
@@ -230,6 +238,7 @@ module _ (s : Federation) (f : Facts s) (t c : ℕ) (members : List ℕ) (g : Ch
     where
       old : CoordHas (rest_of s) d (s.coord d)
       old = f.coords d
+
       still : (u : ℕ) → OpenEntry (rest_of s) d (s.coord d).log.stable u → OpenEntry (decided_rest (rest_of s) (after_it s t c members) t) d (s.coord d).log.stable u
       still u e =
           other_open d (s.coord d).log.stable (s.coord d).log.stable u
@@ -249,6 +258,7 @@ module _ (s : Federation) (f : Facts s) (t c : ℕ) (members : List ℕ) (g : Ch
           stands (view side (s.member m)) u ≡ true
       unended u m ms side k (inl p) = subst (λ n. stands (view side (s.member m)) n ≡ true) p.0 (g.standing m side (ap (λ l. has_number l m) p.1 ∙ k))
       unended u m ms side k (inr h) = f.records.unended u c m ms side (ends_back (s.coord c).log.waiting (s.coord c).log.stable u ms (f.coords c).ends h) k
+
       taking : (u m : ℕ) (ms : List ℕ) → has_number ms m ≡ true → ((t ≡ u) × (members ≡ ms) × (members ≢ [])) ⊎ (unended_in ((s.coord c).log.waiting ++ (s.coord c).log.stable) u ≡ Some ms) → takes (rest_of s) u m
       taking u m ms k (inl p) = subst (λ n. takes (rest_of s) n m) p.0 (ByTold (g.taking m (ap (λ l. has_number l m) p.1 ∙ k)))
       taking u m ms k (inr h) = f.records.taking u c m ms (ends_back (s.coord c).log.waiting (s.coord c).log.stable u ms (f.coords c).ends h) k

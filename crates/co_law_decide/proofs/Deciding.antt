@@ -1,19 +1,17 @@
 -- One more decision, over all facts but those of the node that decides.
-use Rattle.std.proofs.Common.{◌≡◌, ◌≢◌, ◌⊎◌, inl, inr, ℕ, suc, Bool, true, false, ◌||◌, ◌&&◌, ◌≤◌, ◌==◌, List, [], ◌∷◌, ◌++◌, map, reverse, length, Option, None, Some, refl, sym, ap, ◌∙◌, subst, arith}
+use Rattle.std.proofs.Common.{◌≡◌, ◌≢◌, ◌⊎◌, inl, inr, ℕ, Bool, true, false, ◌||◌, ◌≤◌, ◌==◌, List, [], ◌∷◌, ◌++◌, map, reverse, length, Option, None, Some, refl, sym, ap, ◌∙◌, subst, arith}
 use Rattle.std.specs.Option.{is_some}
 use Rattle.std.proofs.lemmas.List.{reverse-append}
-use Rattle.std.proofs.lemmas.Bool.{or_cases, or_left, or_right, or_parts, or_from, eqb-true, eqb-false, eq-eqb, ne_eqb, false_from_ne_true}
+use Rattle.std.proofs.lemmas.Bool.{or_cases, or_left, or_right, eqb-true, eqb-false, eq-eqb, ne_eqb, false_from_ne_true}
 use Rattle.std.specs.FinMap.{get}
 use Rattle.co_base.specs.declared.node.Node.TheVariants as node
-use Rattle.co_message.specs.declared.message.Message.TheVariants as message
 use Rattle.co_record.specs.declared.record.Record.{Record}
 use Rattle.co_record.specs.declared.record.Record.TheVariants as log
 use Rattle.co_serial.specs.declared.site.Site.{Site}
 use Rattle.co_serial.specs.Records.{with_changes}
 use Rattle.co_serial.specs.SerialRun.{AllRecords, after, after_whole, run_whole}
-use Rattle.co_state.specs.declared.engine_state.Operation.{Operation}
 use Rattle.co_state.specs.declared.engine_state.Vote.{Vote}
-use Rattle.co_state.specs.Table.{Table, look, holds}
+use Rattle.co_state.specs.Table.{look, holds}
 use Rattle.co_plain.specs.declared.coord_state.CoordState.{CoordState}
 use Rattle.co_plain.specs.declared.member_state.MemberState.{MemberState}
 use Rattle.co_plain.specs.declared.member_view.MemberView.{MemberView}
@@ -21,17 +19,12 @@ use Rattle.co_plain.specs.declared.session.Decided.{Decided}
 use Rattle.co_plain.specs.declared.session.Session.{Session}
 use Rattle.co_plain.specs.declared.session.Told.{Told}
 use Rattle.co_plain.specs.CoordView.{has_commit_of}
-use Rattle.co_plain.specs.Sessions.{told_at, count_at}
-use Rattle.co_plain.specs.Wire.{was_sent}
-use Rattle.co_plain.specs.Decisions.{sites_of, replies_of, is_decided, votes_for}
-use Rattle.co_plain.specs.Invariants.{Side, Memory, Stable, view, stands, takes_part_in, told_changes, Replays, txn_of}
-use Rattle.co_law_base.proofs.Lookups.{holds_found, found_holds, is_nothing}
+use Rattle.co_plain.specs.Sessions.{count_at}
+use Rattle.co_plain.specs.Decisions.{sites_of, replies_of, is_decided}
+use Rattle.co_plain.specs.Invariants.{Side, Memory, Stable, view, stands, takes_part_in, told_changes, Replays}
 use Rattle.co_law_base.proofs.ToldRuns.{leaves_changes, told_serially}
-use Rattle.co_law_base.proofs.ViewRules.{Replayed}
 use Rattle.co_law_base.proofs.ImageRules.{IsImage, image_decide, replays_serially}
-use Rattle.co_law_base.proofs.Facts.{Rest, told, told_here, begun, asked, over, entry_of, settled_at, Settled, settled, Here, Before, alive, by_coord, belongs, takes, serial_start, serial_of, serial, Each, ViewFacts, OnlyAborts, ActiveFacts, MemberFacts, SentFacts, RecordFacts, NumberFacts, ReadSerially}
-use Rattle.co_law_base.proofs.Carrying.{votes_held, votes_stand, belongs_seen}
-use Rattle.co_law_base.proofs.ViewMoves.{each_map}
+use Rattle.co_law_base.proofs.Facts.{Rest, told, told_here, begun, asked, entry_of, settled_at, settled, Here, Before, alive, belongs, serial_start, serial_of, serial, ViewFacts, OnlyAborts, MemberFacts, SentFacts, NumberFacts}
 use Rattle.co_law_member.proofs.KeptTold.{count_told}
 
 -- all but the members, after the decision of t
@@ -230,9 +223,11 @@ module _ (r : Rest) (coord : ℕ → CoordState) (t : ℕ) (g : Decides r coord 
       begun_of : (u : ℕ) → ((t == u) ≡ true) ⊎ (is_decided r.decided u ≡ true) → begun r u ≡ true
       begun_of u (inl e) = ap (begun r) (sym (eqb-true t u e)) ∙ g.was_begun
       begun_of u (inr h) = n.decided_begun u h
+
       local_asked : (u m : ℕ) (session : Session) → look r.sessions u ≡ Some session → session.by ≡ node.Member m → (b : Bool) → (t == u) ≡ b → is_decided (decided_rest r coord t).decided u ≡ true → session.asked ≡ true
       local_asked u m session h b true e d = g.local_asked m session (ap (look r.sessions) (eqb-true t u e) ∙ h) b
       local_asked u m session h b false e d = n.local_asked u m session h b (sym (ap (λ b. b || is_decided r.decided u) e) ∙ d)
+
       kept : (told r t ≡ []) ⊎ (asked r t ≡ true) → (told r t ≡ []) ⊎ ((told r t ≡ told r t) × (asked r t ≡ true))
       kept (inl e) = inl e
       kept (inr h) = inr (refl, h)

@@ -1,51 +1,47 @@
 -- A member decides a transaction of its own: it is cast, decided and installed at once.
-use Rattle.std.proofs.Common.{◌≡◌, ◌≢◌, ◌⊎◌, inl, inr, ℕ, zero, suc, Bool, true, false, ◌||◌, ◌&&◌, ◌≤◌, ◌==◌, if◌then◌else◌, List, [], ◌∷◌, ◌++◌, length, Option, None, Some, refl, sym, ap, ◌∙◌, subst, arith}
+use Rattle.std.proofs.Common.{◌≡◌, ◌≢◌, ◌⊎◌, inl, inr, ℕ, suc, Bool, true, false, ◌||◌, ◌&&◌, ◌≤◌, ◌==◌, if◌then◌else◌, List, [], ◌∷◌, length, Option, None, Some, refl, sym, ap, ◌∙◌, subst, arith}
 use Rattle.std.specs.Option.{is_some}
-use Rattle.std.proofs.lemmas.Bool.{or_cases, or_left, or_right, or_from, or_parts, and_parts, and_from, eqb-true, eqb-false, eq-eqb, ne_eqb, false_from_ne_true}
+use Rattle.std.proofs.lemmas.Bool.{or_cases, or_left, or_right, or_from, and_parts, and_from, eqb-true, eqb-false, eq-eqb, ne_eqb, false_from_ne_true}
 use Rattle.co_base.specs.declared.node.Node.TheVariants as node
-use Rattle.co_record.specs.declared.record.Record.{Record}
 use Rattle.co_record.specs.declared.record.Record.TheVariants as log
 use Rattle.co_serial.specs.SerialRun.{with_at, run_whole}
-use Rattle.co_state.specs.declared.engine_state.EngineState.{EngineState}
 use Rattle.co_state.specs.declared.engine_state.Operation.{Operation}
 use Rattle.co_state.specs.declared.engine_state.Vote.{Vote}
-use Rattle.co_state.specs.Table.{Table, look, holds, put, without}
+use Rattle.co_state.specs.Table.{look, holds, put, without}
 use Rattle.co_state.specs.Changes.{sets_of}
 use Rattle.co_state.specs.EngineState.{operations_of}
 use Rattle.co_state.specs.Effects.{cast_as, install_vote}
-use Rattle.co_plain.specs.declared.coord_state.Entry.{Entry}
 use Rattle.co_plain.specs.declared.member_state.MemberState.{MemberState}
-use Rattle.co_plain.specs.declared.member_view.MemberView.{MemberView}
 use Rattle.co_plain.specs.declared.session.Session.{Session}
 use Rattle.co_plain.specs.declared.session.Told.{Told}
-use Rattle.co_plain.specs.Numbers.{counted, has_number}
+use Rattle.co_plain.specs.Numbers.{counted}
 use Rattle.co_plain.specs.LogWrite.{with_batch}
 use Rattle.co_plain.specs.MemberView.{cast_in, install_in, with_number}
 use Rattle.co_plain.specs.CoordView.{has_commit_of}
 use Rattle.co_plain.specs.Member.{prepare_record}
 use Rattle.co_plain.specs.LocalCommit.{local_coord}
-use Rattle.co_plain.specs.Sessions.{told_at, count_at, asked_to_end, same_node}
+use Rattle.co_plain.specs.Sessions.{count_at, asked_to_end}
 use Rattle.co_plain.specs.Federation.{Federation, with_member, with_session}
 use Rattle.co_plain.specs.Decisions.{is_decided, replies_of, sites_of, told_of, told_in, asked_in, votes_for}
 use Rattle.co_plain.specs.SoundLogs.{unended_in}
-use Rattle.co_plain.specs.Invariants.{Side, Memory, Stable, view, stands, takes_part_in, told_changes, Replays, VotedAreConflictFree}
-use Rattle.co_plain.specs.Moves.{CommitLocally, AskEnd, effect, Guard, with_decision, marked_over, session_by_member, local_state}
+use Rattle.co_plain.specs.Invariants.{Memory, Stable, view, stands, told_changes, Replays, VotedAreConflictFree}
+use Rattle.co_plain.specs.Moves.{CommitLocally, effect, Guard, with_decision, marked_over, session_by_member, local_state}
 use Rattle.co_law_engine.proofs.YesTells.{SaysYes, yes_parts, yes_apart, yes_sees, in_some}
-use Rattle.co_law_base.proofs.Lookups.{put_here, put_there, put_cases, without_here, without_there, without_cases, holds_found, found_holds, is_nothing}
+use Rattle.co_law_base.proofs.Lookups.{put_here, put_there, without_there, without_cases, found_holds, is_nothing}
 use Rattle.co_law_base.proofs.ToldRuns.{CastReplays, cast_replays, told_serially}
-use Rattle.co_law_base.proofs.ViewRules.{Replayed, AllReplay, cast_free, cast_replay, install_free, install_replay}
+use Rattle.co_law_base.proofs.ViewRules.{AllReplay, cast_free, cast_replay, install_free, install_replay}
 use Rattle.co_law_base.proofs.ImageRules.{IsImage, image_cast, image_decide, image_install, replays_serially}
 use Rattle.co_law_base.proofs.Commits.{holds_more, holds_new, holds_cases, unended_seen}
-use Rattle.co_law_base.proofs.Facts.{Rest, rest_of, told, told_here, begun, asked, over, entry_of, settled_at, settled, Here, Before, alive, by_coord, belongs, Begun, serial, Each, OpenEntry, ActiveFacts, ViewFacts, MemberFacts, CoordFacts, CoordHas, RecordFacts, SentFacts, NumberFacts, Facts}
-use Rattle.co_law_base.proofs.Carrying.{at_each, LivesOn, StandsOn, stands_same, sent_on, records_on}
+use Rattle.co_law_base.proofs.Facts.{rest_of, told, told_here, begun, asked, over, settled_at, settled, Here, Before, by_coord, belongs, Begun, serial, OpenEntry, ActiveFacts, ViewFacts, MemberFacts, CoordHas, RecordFacts, Facts}
+use Rattle.co_law_base.proofs.Carrying.{at_each, StandsOn, stands_same, sent_on, records_on}
 use Rattle.co_law_base.proofs.TwoViews.{both_sides, forced}
-use Rattle.co_law_base.proofs.ViewMoves.{each_map, neither_stands, holds_put, put_holds, holds_without, still_holds, votes_put, votes_without}
+use Rattle.co_law_base.proofs.ViewMoves.{each_map, neither_stands, holds_put, holds_without, still_holds, votes_without}
 use Rattle.co_law_base.proofs.MemberFrame.{unended_settled}
-use Rattle.co_law_member.proofs.KeptTold.{kept_same, kept_install, stamps_more, count_told}
+use Rattle.co_law_member.proofs.KeptTold.{kept_install, stamps_more, count_told}
 use Rattle.co_law_member.proofs.LogMoves.{local_apart}
 use Rattle.co_law_member.proofs.VoteMoves.{active_found}
 use Rattle.co_law_session.proofs.Asking.{keeps_ask}
-use Rattle.co_law_decide.proofs.Deciding.{Decides, decided_rest, decided_now, decided_more, settled_more, settled_others, home_more, still_open, same_alive, serial_grows, member_decide, sent_decide, numbers_decide, waiting_decide}
+use Rattle.co_law_decide.proofs.Deciding.{Decides, decided_rest, decided_now, settled_more, settled_others, home_more, still_open, same_alive, serial_grows, member_decide, sent_decide, numbers_decide}
 
 -- what the move needs, where the client asked
 record Alone (s : Federation) (t m : ℕ) (old : Session) : Type 0 where
@@ -139,9 +135,12 @@ module _ (s : Federation) (f : Facts s) (t m : ℕ) (old : Session) (g : Alone s
         named = λ u c h. v.named u c (others u c h).1;
         over = λ u h. overs u (or_cases _ _ h);
         apart = λ u h. false_from_ne_true _ (λ k. never u (gone u k) (holds_cases (s.member m).committed t u h));
-        done = ((λ h. more_t), each_map (λ e. 1 ≤ count_at e.told m → stands (view Memory (s.member m)) e.txn ≡ true)
-            (λ e. 1 ≤ count_at e.told m → stands (install_in (cast_in (view Memory (s.member m)) t (local_vote s t m)) t (Some (local_vote s t m))) e.txn ≡ true) s.decided
-            (λ e p h. more e.txn (or_cases _ _ (p h))) v.done);
+        done = (
+          (λ h. more_t),
+          each_map (λ e. 1 ≤ count_at e.told m → stands (view Memory (s.member m)) e.txn ≡ true)
+              (λ e. 1 ≤ count_at e.told m → stands (install_in (cast_in (view Memory (s.member m)) t (local_vote s t m)) t (Some (local_vote s t m))) e.txn ≡ true) s.decided
+              (λ e p h. more e.txn (or_cases _ _ (p h))) v.done,
+        );
         known = λ u h b. known u b (holds_cases (s.member m).committed t u h);
         homed = λ u c h b. homed u c b (holds_cases (s.member m).committed t u h);
         works = λ u c h a. let p = others u c h in v.works u c p.1 (sym (same_alive (rest_of s) s.coord t decides u c p.0) ∙ a);
@@ -150,14 +149,18 @@ module _ (s : Federation) (f : Facts s) (t m : ℕ) (old : Session) (g : Alone s
     where
       v : ViewFacts (rest_of s) m (view Memory (s.member m))
       v = (f.members m).views Memory
+
       gone : (u : ℕ) → holds (without (put (s.member m).engine.voted t (local_vote s t m)) t) u ≡ true → (t ≢ u) × (holds (s.member m).engine.voted u ≡ true)
       gone u h = let p = holds_without (put (s.member m).engine.voted t (local_vote s t m)) t u h in (p.0, ap is_some (sym (put_there (s.member m).engine.voted t (local_vote s t m) u p.0)) ∙ p.1)
+
       others : (u c : ℕ) → votes_for (look (without (put (s.member m).engine.voted t (local_vote s t m)) t) u) c ≡ true → (t ≢ u) × (votes_for (look (s.member m).engine.voted u) c ≡ true)
       others u c h =
           let p = votes_without (put (s.member m).engine.voted t (local_vote s t m)) t u c h in
           (p.0, ap (λ o. votes_for o c) (sym (put_there (s.member m).engine.voted t (local_vote s t m) u p.0)) ∙ p.1)
+
       over_t : over (rest_of s) t ≡ true
       over_t = or_left (asked (rest_of s) t) (holds s.used t) (ap asked_in g.here ∙ g.asks)
+
       overs : (u : ℕ) → (holds (without (put (s.member m).engine.voted t (local_vote s t m)) t) u ≡ true) ⊎ (holds (with_number (s.member m).committed t) u ≡ true) → over (rest_of s) u ≡ true
       overs u (inl h) = v.over u (or_left (holds (s.member m).engine.voted u) (holds (s.member m).committed u) (gone u h).1)
       overs u (inr h) = by (holds_cases (s.member m).committed t u h)
@@ -165,11 +168,14 @@ module _ (s : Federation) (f : Facts s) (t m : ℕ) (old : Session) (g : Alone s
           by : (t ≡ u) ⊎ (holds (s.member m).committed u ≡ true) → over (rest_of s) u ≡ true
           by (inl e) = ap (over (rest_of s)) (sym e) ∙ over_t
           by (inr k) = v.over u (or_right (holds (s.member m).engine.voted u) (holds (s.member m).committed u) k)
+
       never : (u : ℕ) → (t ≢ u) × (holds (s.member m).engine.voted u ≡ true) → (t ≡ u) ⊎ (holds (s.member m).committed u ≡ true) → ⊥
       never u p (inl e) = p.0 e
       never u p (inr k) = let z : true ≡ false = sym p.1 ∙ v.apart u k in cc
+
       more_t : stands (install_in (cast_in (view Memory (s.member m)) t (local_vote s t m)) t (Some (local_vote s t m))) t ≡ true
       more_t = or_right (holds (without (put (s.member m).engine.voted t (local_vote s t m)) t) t) (holds (with_number (s.member m).committed t) t) (holds_new (s.member m).committed t)
+
       more : (u : ℕ) → (holds (s.member m).engine.voted u ≡ true) ⊎ (holds (s.member m).committed u ≡ true) →
           stands (install_in (cast_in (view Memory (s.member m)) t (local_vote s t m)) t (Some (local_vote s t m))) u ≡ true
       more u (inr h) = or_right _ _ (holds_more (s.member m).committed t u h)
@@ -178,9 +184,11 @@ module _ (s : Federation) (f : Facts s) (t m : ℕ) (old : Session) (g : Alone s
           by : (b : Bool) → (t == u) ≡ b → stands (install_in (cast_in (view Memory (s.member m)) t (local_vote s t m)) t (Some (local_vote s t m))) u ≡ true
           by true e = subst (λ k. stands (install_in (cast_in (view Memory (s.member m)) t (local_vote s t m)) t (Some (local_vote s t m))) k ≡ true) (eqb-true t u e) more_t
           by false e = or_left _ _ (still_holds (put (s.member m).engine.voted t (local_vote s t m)) t u (eqb-false t u e) (holds_put (s.member m).engine.voted t (local_vote s t m) u h))
+
       known : (u : ℕ) → begun (rest_of s) u ≡ true → (t ≡ u) ⊎ (holds (s.member m).committed u ≡ true) → is_decided (decided_rest (rest_of s) s.coord t).decided u ≡ true
       known u b (inl e) = or_left (t == u) (is_decided s.decided u) (eq-eqb t u e)
       known u b (inr k) = or_right (t == u) (is_decided s.decided u) (v.known u k b)
+
       homed : (u c : ℕ) → belongs (rest_of s) u c → (t ≡ u) ⊎ (holds (s.member m).committed u ≡ true) → settled_at (decided_rest (rest_of s) s.coord t) c u ≡ true
       homed u c b (inr k) = home_more (rest_of s) s.coord t decides u c (v.homed u c k b)
       homed u c b (inl e) = absurd (foreign c (subst (λ k. belongs (rest_of s) k c) (sym e) b))
@@ -250,6 +258,7 @@ module _ (s : Federation) (f : Facts s) (t m : ℕ) (old : Session) (g : Alone s
     where
       x : CoordHas (rest_of s) d (s.coord d)
       x = f.coords d
+
       still : (u : ℕ) → OpenEntry (rest_of s) d (s.coord d).log.stable u → OpenEntry (decided_rest (rest_of s) s.coord t) d (s.coord d).log.stable u
       still u e =
           record {
@@ -257,12 +266,14 @@ module _ (s : Federation) (f : Facts s) (t m : ℕ) (old : Session) (g : Alone s
             undecided = or_from (t == u) (is_decided s.decided u) (ne_eqb t u (λ q. foreign d (Begun (ap (λ k. by_coord (look s.sessions k) d) q ∙ e.begun_there)))) e.undecided;
             unrecorded = e.unrecorded;
           }
+
       unended_known : (u : ℕ) (ms : List ℕ) → ((by_coord (look s.sessions u) d && is_decided s.decided u) ≡ true) ⊎ (unended_in (s.opened_coord d) u ≡ Some ms) →
           ((by_coord (look s.sessions u) d && ((t == u) || is_decided s.decided u)) ≡ true) ⊎ (unended_in (s.opened_coord d) u ≡ Some ms)
       unended_known u ms (inr h) = inr h
       unended_known u ms (inl p) =
           let q = and_parts (by_coord (look s.sessions u) d) (is_decided s.decided u) p in
           inl (and_from (by_coord (look s.sessions u) d) ((t == u) || is_decided s.decided u) q.0 (or_right (t == u) (is_decided s.decided u) q.1))
+
       known : (u : ℕ) → ((by_coord (look s.sessions u) d && is_decided s.decided u) ≡ true) ⊎ (has_commit_of (s.opened_coord d) u ≡ true) →
           ((by_coord (look s.sessions u) d && ((t == u) || is_decided s.decided u)) || has_commit_of (s.opened_coord d) u) ≡ true
       known u (inr k) = or_right (by_coord (look s.sessions u) d && ((t == u) || is_decided s.decided u)) (has_commit_of (s.opened_coord d) u) k

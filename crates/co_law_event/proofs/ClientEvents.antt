@@ -66,7 +66,7 @@ module _ (s : Federation) (f : Facts s) (t c : ℕ) (session : Session) (e : loo
   by_here : by_coord (look s.sessions t) c ≡ true
   by_here = ap (λ o. by_coord o c) e ∙ ap (λ k. same_node k (node.Coord c)) mine ∙ eq-eqb c c refl
 
-  by_there : by_coord (look (put s.sessions t (asked_to_end session)) t) c ≡ true
+  pub by_there : by_coord (look (put s.sessions t (asked_to_end session)) t) c ≡ true
   by_there = ap (λ o. by_coord o c) found ∙ ap (λ k. same_node k (node.Coord c)) mine ∙ eq-eqb c c refl
 
   -- decided at once, where nothing was done

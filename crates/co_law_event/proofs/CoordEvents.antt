@@ -47,7 +47,7 @@ use Rattle.co_law_event.proofs.Marks.{AllQuiet, AllAllowed, ends_quiet, commit_m
 use Rattle.co_law_event.proofs.CoordNotes.{EachPart, all_commits, all_aborts, all_prepares, each_filter, lacking_among, prepares_allowed}
 
 -- a commit record at the deciding coordinator decides
-decides_there : (o : Option Session) (c t : ℕ) (ds : List Decided) → by_coord o c ≡ true → decided_where o (node.Coord c) t ds ≡ record { txn = t; told = told_in o } ∷ ds
+pub decides_there : (o : Option Session) (c t : ℕ) (ds : List Decided) → by_coord o c ≡ true → decided_where o (node.Coord c) t ds ≡ record { txn = t; told = told_in o } ∷ ds
 decides_there None c t ds h = absurd (let z : false ≡ true = h in cc)
 decides_there (Some session) c t ds h = ap (λ b. if b then record { txn = t; told = session.told } ∷ ds else ds) h
 

@@ -102,7 +102,7 @@ module _ (s : Federation) (f : Facts s) (t m : ℕ) (session : Session) (e : loo
       subst (λ o. decided_where o (node.Member m) t ds ≡ record { txn = t; told = told_in o } ∷ ds) (sym found)
       (ap (λ b. if b then record { txn = t; told = session.told } ∷ ds else ds) (ap (λ k. same_node k (node.Member m)) mine ∙ eq-eqb m m refl))
 
-  marks_decide : decide_all (put s.sessions t (asked_to_end session)) s.decided (marks_of (node.Member m) (batch ++ (s.member m).log.waiting)) ≡ record { txn = t; told = told_of (with_session s t (asked_to_end session)) t } ∷ s.decided
+  pub marks_decide : decide_all (put s.sessions t (asked_to_end session)) s.decided (marks_of (node.Member m) (batch ++ (s.member m).log.waiting)) ≡ record { txn = t; told = told_of (with_session s t (asked_to_end session)) t } ∷ s.decided
   marks_decide =
       commit_marks (put s.sessions t (asked_to_end session)) (node.Member m) s.decided t []
       (prepare_record t local_coord (counted (count_at session.told m)) (sets_of (operations_of (s.member m).engine t)) ∷ (s.member m).log.waiting)

@@ -1,10 +1,9 @@
 -- A filled spare tells what memory has.
-use Rattle.std.proofs.Common.{◌≡◌, ◌≢◌, ◌⊎◌, inl, inr, ℕ, Bool, true, false, cond, ◌||◌, ◌&&◌, ◌<◌, if◌then◌else◌, T, List, [], ◌∷◌, map, Option, None, Some, refl, sym, ap, ◌∙◌, subst, arith}
-use Rattle.std.proofs.lemmas.Bool.{or_cases, or_parts}
+use Rattle.std.proofs.Common.{◌≡◌, ℕ, Bool, true, false, cond, ◌||◌, if◌then◌else◌, T, List, [], ◌∷◌, map, Option, None, Some, refl, sym, ap, ◌∙◌}
 use Rattle.std.proofs.lemmas.Cmp.{nat_list_cmp_total}
 use Rattle.std.specs.Ordering.{nat_cmp, eq_by_cmp}
-use Rattle.std.specs.FinMap.{FinMap, empty, get, entries, entries_sorted, get-entries, keys, from_entries, get-from_entries, same_map, slice_cmp-IsAntisymmetric, nat_cmp-IsAntisymmetric}
-use Rattle.std.specs.FinMap.Entries.{find, is_sorted, below_all}
+use Rattle.std.specs.FinMap.{get, entries, entries_sorted, get-entries, keys, from_entries, get-from_entries, same_map, slice_cmp-IsAntisymmetric, nat_cmp-IsAntisymmetric}
+use Rattle.std.specs.FinMap.Entries.{find, is_sorted}
 use Rattle.co_base.specs.declared.head.Kind.{Kind}
 use Rattle.co_base.specs.declared.head.Kind.TheVariants.{Lock, Occ, Mv}
 use Rattle.co_base.specs.declared.node.Node.TheVariants as node
@@ -13,23 +12,21 @@ use Rattle.co_record.specs.declared.record.Record.{Record}
 use Rattle.co_record.specs.declared.record.Record.TheVariants as log
 use Rattle.co_serial.specs.Records.{Records, with_change, with_changes, row_of, all_rows}
 use Rattle.co_state.specs.declared.engine_state.EngineState.{EngineState}
-use Rattle.co_state.specs.declared.engine_state.Operation.{Operation}
 use Rattle.co_state.specs.declared.engine_state.Vote.{Vote}
 use Rattle.co_state.proofs.Tables.{same_table}
-use Rattle.co_state.specs.Table.{Table, look, holds, put, no_entries}
+use Rattle.co_state.specs.Table.{Table, look, put, no_entries}
 use Rattle.co_state.specs.Keys.{same_key, writes_key}
 use Rattle.co_state.specs.EngineState.{installed_records}
 use Rattle.co_state.specs.Effects.{records_from, undecided_changes, undo_of, dumped_rows, dumped_undos}
 use Rattle.co_plain.specs.declared.member_state.MemberState.{MemberState}
-use Rattle.co_plain.specs.declared.member_view.MemberView.{MemberView}
 use Rattle.co_plain.specs.Numbers.{next_generation}
 use Rattle.co_plain.specs.LogWrite.{with_filled_spare, generation_of}
-use Rattle.co_plain.specs.MemberView.{Numbers, with_number, with_numbers, numbers_from, recovered_view, cast_in}
+use Rattle.co_plain.specs.MemberView.{Numbers, with_number, with_numbers, recovered_view}
 use Rattle.co_plain.specs.MemberStep.{with_log}
 use Rattle.co_plain.specs.Member.{prepare_record}
 use Rattle.co_plain.specs.MemberLog.{prepares_onto, member_spare}
-use Rattle.co_plain.specs.Federation.{Federation, with_member}
-use Rattle.co_plain.specs.Invariants.{Side, Memory, Stable, view, stands}
+use Rattle.co_plain.specs.Federation.{Federation}
+use Rattle.co_plain.specs.Invariants.{Memory, Stable, view}
 use Rattle.co_plain.specs.Moves.{FillMemberSpare, effect, Guard}
 use Rattle.co_law_engine.proofs.Keys.{same_key_is, same_key_sym, get-change, unchanged}
 use Rattle.co_law_engine.proofs.YesTells.{in_some}
@@ -136,9 +133,12 @@ keeps_member_fill s f m g =
   where
     x : MemberFacts (rest_of s) m (s.member m)
     x = f.members m
+
     generation : ℕ
     generation = next_generation (generation_of (s.member m).log.stable)
+
     y : MemberState
     y = with_log (s.member m) (with_filled_spare (s.member m).log (member_spare m (s.member m) generation))
+
     same : view Stable y ≡ view Memory y
     same = spare_tells m (s.member m) generation

@@ -1,5 +1,5 @@
 -- What an active transaction keeps, as its engine changes.
-use Rattle.std.proofs.Common.{◌≡◌, ◌≢◌, ℕ, suc, Bool, true, false, ◌≤◌, ◌<◌, nat_lt, if◌then◌else◌, List, [], ◌∷◌, length, Option, None, Some, refl, sym, ap, ◌∙◌, subst, arith}
+use Rattle.std.proofs.Common.{◌≡◌, ℕ, false, ◌≤◌, nat_lt, if◌then◌else◌, List, [], ◌∷◌, length, refl, sym, ap, ◌∙◌, arith}
 use Rattle.std.proofs.lemmas.Bool.Decides.{nat_tests}
 use Rattle.co_serial.specs.Records.{Records, with_changes}
 use Rattle.co_serial.specs.SerialRun.{reply_to}
@@ -32,11 +32,12 @@ pub kept_install : (b : EngineState) (i : Install) (os : List Operation) (told :
 kept_install b i [] [] c p q s k = tt
 kept_install b i [] (t ∷ ts) c p q s k = k
 kept_install b i (o ∷ os) [] c p q s k = k
-kept_install b i (o ∷ os) (t ∷ ts) c p q s k =
-    (k.0,
-    k.1 ∙ ap (λ r. reply_to (with_changes r (changes_of os)) o.op)
-    (earlier b.base i b.installed o.stamp s.0 ∙ (λ j. records_at (sym p j) (sym q j) o.stamp)),
-    kept_install b i os ts c p q s.1 k.2)
+kept_install b i (o ∷ os) (t ∷ ts) c p q s k = (
+  k.0,
+  k.1 ∙ ap (λ r. reply_to (with_changes r (changes_of os)) o.op)
+      (earlier b.base i b.installed o.stamp s.0 ∙ (λ j. records_at (sym p j) (sym q j) o.stamp)),
+  kept_install b i os ts c p q s.1 k.2,
+)
 
 pub stamps_more : (n m : ℕ) (os : List Operation) → n ≤ m → StampsIn n os → StampsIn m os
 stamps_more n m [] l s = tt

@@ -1,35 +1,30 @@
 -- The moves of a member's log, and those of its memory alone.
-use Rattle.std.proofs.Common.{◌≡◌, ◌≢◌, ◌⊎◌, inl, inr, ℕ, Bool, true, false, ◌||◌, ◌==◌, List, [], ◌∷◌, ◌++◌, length, Option, None, Some, refl, sym, ap, ◌∙◌, subst}
+use Rattle.std.proofs.Common.{◌≡◌, ◌≢◌, ◌⊎◌, inl, inr, ℕ, Bool, true, false, ◌==◌, Option, None, Some, refl, sym, ap, ◌∙◌, subst}
 use Rattle.std.specs.Option.{is_some}
-use Rattle.std.proofs.lemmas.Bool.{or_cases, or_left, or_right, or_parts, or_from, eqb-true, eqb-false, eq-eqb, false_from_ne_true}
+use Rattle.std.proofs.lemmas.Bool.{or_cases, or_left, or_right, or_from, eqb-true, eqb-false, eq-eqb, false_from_ne_true}
 use Rattle.co_base.specs.declared.node.Node.TheVariants as node
 use Rattle.co_message.specs.declared.message.Message.TheVariants as message
-use Rattle.co_record.specs.declared.record.Record.{Record}
 use Rattle.co_record.specs.declared.record.Record.TheVariants as log
-use Rattle.co_state.specs.declared.engine_state.Operation.{Operation}
-use Rattle.co_state.specs.declared.engine_state.Vote.{Vote}
-use Rattle.co_state.specs.Table.{Table, look, holds, put, without, no_entries}
+use Rattle.co_state.specs.Table.{Table, look, holds, without}
 use Rattle.co_state.proofs.Tables.{same_table}
-use Rattle.co_state.specs.Effects.{after_drop}
 use Rattle.co_plain.specs.declared.log_state.Stop.{Stop}
 use Rattle.co_plain.specs.declared.member_state.AskedMark.{AskedMark}
 use Rattle.co_plain.specs.declared.member_state.MemberState.{MemberState}
-use Rattle.co_plain.specs.declared.member_view.MemberView.{MemberView}
 use Rattle.co_plain.specs.declared.session.Session.{Session}
-use Rattle.co_plain.specs.LogWrite.{with_spare, with_stop, with_waiting}
+use Rattle.co_plain.specs.LogWrite.{with_waiting}
 use Rattle.co_plain.specs.MemberView.{recovered_view, forget_in}
 use Rattle.co_plain.specs.MemberStep.{with_log, dropped, member_down}
 use Rattle.co_plain.specs.Member.{with_mark}
 use Rattle.co_plain.specs.Sessions.{same_node}
 use Rattle.co_plain.specs.Wire.{was_sent}
 use Rattle.co_plain.specs.Federation.{Federation, with_member}
-use Rattle.co_plain.specs.Decisions.{is_decided, votes_for, BelongsTo, BegunThere, VotedBefore, IsPresumedAborted, AtCoordinator, AtMember}
-use Rattle.co_plain.specs.Invariants.{Side, Memory, Stable, view, stands, KeptAsTold}
-use Rattle.co_plain.specs.Moves.{MarkAsked, DropActive, DropVoted, CrashMember, RestartMember, ArmMember, CloseMemberSpare, effect, Guard, restarted}
-use Rattle.co_law_base.proofs.Lookups.{is_nothing, look_none, put_cases, without_here, without_there, without_cases, holds_found, found_holds}
-use Rattle.co_law_base.proofs.Facts.{Rest, rest_of, Settled, settled, alive, by_coord, belongs, Begun, Voted, ActiveFacts, OnlyAborts, ViewFacts, MemberFacts, NumberFacts, Facts}
-use Rattle.co_law_base.proofs.Carrying.{votes_stand, LivesOn, StandsOn, stands_same, one_belongs, settled_alive}
-use Rattle.co_law_base.proofs.TwoViews.{stable_to_memory, memory_to_stable, committed_both}
+use Rattle.co_plain.specs.Decisions.{votes_for, BelongsTo, BegunThere, VotedBefore, IsPresumedAborted, AtCoordinator, AtMember}
+use Rattle.co_plain.specs.Invariants.{Side, Memory, Stable, view, stands}
+use Rattle.co_plain.specs.Moves.{MarkAsked, DropActive, DropVoted, CrashMember, RestartMember, ArmMember, CloseMemberSpare, effect, Guard}
+use Rattle.co_law_base.proofs.Lookups.{is_nothing, look_none, put_cases, without_here, without_there, without_cases, holds_found}
+use Rattle.co_law_base.proofs.Facts.{rest_of, settled, alive, by_coord, belongs, Begun, Voted, ViewFacts, MemberFacts, NumberFacts, Facts}
+use Rattle.co_law_base.proofs.Carrying.{votes_stand, LivesOn, one_belongs, settled_alive}
+use Rattle.co_law_base.proofs.TwoViews.{memory_to_stable, committed_both}
 use Rattle.co_law_base.proofs.ViewMoves.{neither_stands, view_forget, holds_without, still_holds}
 use Rattle.co_law_member.proofs.KeptTold.{kept_same}
 use Rattle.co_law_base.proofs.MemberFrame.{member_change}
@@ -56,20 +51,24 @@ alike s f m up armed closed =
   where
     x : MemberFacts (rest_of s) m (s.member m)
     x = f.members m
+
     y : MemberState
     y = record {
-          up = up;
-          engine = (s.member m).engine;
-          committed = (s.member m).committed;
-          asked = (s.member m).asked;
-          log = record { stable = (s.member m).log.stable; waiting = (s.member m).log.waiting; armed = armed; spare_closed = closed };
-        }
+      up = up;
+      engine = (s.member m).engine;
+      committed = (s.member m).committed;
+      asked = (s.member m).asked;
+      log = record { stable = (s.member m).log.stable; waiting = (s.member m).log.waiting; armed = armed; spare_closed = closed };
+    }
+
     views : (side : Side) → ViewFacts (rest_of s) m (view side y)
     views Memory = x.views Memory
     views Stable = x.views Stable
+
     standing : (side : Side) (t : ℕ) → LivesOn (rest_of s) t → stands (view side (s.member m)) t ≡ true → stands (view side y) t ≡ true
     standing Memory t l h = h
     standing Stable t l h = h
+
     committed : (side : Side) (t : ℕ) → holds (view side (s.member m)).committed t ≡ true → holds (view side y).committed t ≡ true
     committed Memory t h = h
     committed Stable t h = h
@@ -98,17 +97,22 @@ keeps_mark s f t m c n g =
   where
     x : MemberFacts (rest_of s) m (s.member m)
     x = f.members m
+
     y : MemberState
     y = with_mark (s.member m) t c n
+
     views : (side : Side) → ViewFacts (rest_of s) m (view side y)
     views Memory = x.views Memory
     views Stable = x.views Stable
+
     standing : (side : Side) (t : ℕ) → LivesOn (rest_of s) t → stands (view side (s.member m)) t ≡ true → stands (view side y) t ≡ true
     standing Memory t l h = h
     standing Stable t l h = h
+
     committed : (side : Side) (t : ℕ) → holds (view side (s.member m)).committed t ≡ true → holds (view side y).committed t ≡ true
     committed Memory t h = h
     committed Stable t h = h
+
     marked : (u : ℕ) (mark : AskedMark) → ((t ≡ u) × (◌≡◌ {A = AskedMark} (record { coord = c; count = n }) mark)) ⊎ ((t ≢ u) × (look (s.member m).asked u ≡ Some mark)) →
         (holds (s.member m).engine.active u ≡ true) × (was_sent s.sent (message.Prepare u mark.coord m mark.count) ≡ true)
     marked u mark (inl p) =
@@ -149,18 +153,24 @@ keeps_drop_active s f t m g =
   where
     x : MemberFacts (rest_of s) m (s.member m)
     x = f.members m
+
     y : MemberState
     y = dropped (s.member m) t
+
     unvoted : look (s.member m).engine.voted t ≡ None
     unvoted = let p = holds_found (s.member m).engine.active t g in not_held (s.member m).engine.voted t (neither_stands (view Memory (s.member m)) t (x.active t p.0 p.1).apart).0
+
     same : view Memory y ≡ view Memory (s.member m)
     same = λ i. record { records = (view Memory (s.member m)).records; voted = without_absent (s.member m).engine.voted t unvoted i; committed = (s.member m).committed }
+
     views : (side : Side) → ViewFacts (rest_of s) m (view side y)
     views Memory = subst (ViewFacts (rest_of s) m) (sym same) (x.views Memory)
     views Stable = x.views Stable
+
     standing : (side : Side) (t : ℕ) → LivesOn (rest_of s) t → stands (view side (s.member m)) t ≡ true → stands (view side y) t ≡ true
     standing Memory u l h = ap (λ v. stands v u) same ∙ h
     standing Stable u l h = h
+
     committed : (side : Side) (t : ℕ) → holds (view side (s.member m)).committed t ≡ true → holds (view side y).committed t ≡ true
     committed Memory t h = h
     committed Stable t h = h
@@ -203,13 +213,17 @@ drop_dead s f t m c g b dead =
   where
     x : MemberFacts (rest_of s) m (s.member m)
     x = f.members m
+
     y : MemberState
     y = with_log (dropped (s.member m) t) (with_waiting (s.member m).log (log.Abort t))
+
     open' : ¬ (settled (rest_of s) t)
     open' d = let z : true ≡ false = sym (settled_alive (rest_of s) f.numbers t c b d) ∙ dead in cc
+
     views : (side : Side) → ViewFacts (rest_of s) m (view side y)
     views Memory = view_forget (rest_of s) f.numbers m (view Memory (s.member m)) (x.views Memory) t open'
     views Stable = x.views Stable
+
     standing : (side : Side) (u : ℕ) → LivesOn (rest_of s) u → stands (view side (s.member m)) u ≡ true → stands (view side y) u ≡ true
     standing Stable u l h = h
     standing Memory u l h = by (or_cases _ _ h)
@@ -217,6 +231,7 @@ drop_dead s f t m c g b dead =
         by : (holds (s.member m).engine.voted u ≡ true) ⊎ (holds (s.member m).committed u ≡ true) → stands (view Memory y) u ≡ true
         by (inr k) = or_right _ _ k
         by (inl k) = or_left _ _ (still_holds (s.member m).engine.voted t u (λ e. let z : true ≡ false = sym (subst (LivesOn (rest_of s)) (sym e) l c b) ∙ dead in cc) k)
+
     committed : (side : Side) (t : ℕ) → holds (view side (s.member m)).committed t ≡ true → holds (view side y).committed t ≡ true
     committed Memory t h = h
     committed Stable t h = h
@@ -242,14 +257,18 @@ keeps_member_crash s f m g =
   where
     x : MemberFacts (rest_of s) m (s.member m)
     x = f.members m
+
     y : MemberState
     y = member_down (s.member m) (s.member m).log
+
     views : (side : Side) → ViewFacts (rest_of s) m (view side y)
     views Memory = x.views Stable
     views Stable = x.views Stable
+
     standing : (side : Side) (u : ℕ) → LivesOn (rest_of s) u → stands (view side (s.member m)) u ≡ true → stands (view side y) u ≡ true
     standing Memory u l h = memory_to_stable (rest_of s) m (s.member m) x u h
     standing Stable u l h = h
+
     committed : (side : Side) (t : ℕ) → holds (view side (s.member m)).committed t ≡ true → holds (view side y).committed t ≡ true
     committed Memory t h = sym (ap (λ k. holds k t) (committed_both (rest_of s) m (s.member m) x)) ∙ h
     committed Stable t h = h

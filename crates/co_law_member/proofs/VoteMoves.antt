@@ -1,15 +1,14 @@
 -- A vote and an install keep the facts.
-use Rattle.std.proofs.Common.{◌≡◌, ◌≢◌, ◌⊎◌, inl, inr, ℕ, suc, Bool, true, false, ◌||◌, ◌==◌, ◌≤◌, List, [], ◌∷◌, ◌++◌, length, Option, None, Some, refl, sym, ap, ◌∙◌, subst, arith}
+use Rattle.std.proofs.Common.{◌≡◌, ◌≢◌, ◌⊎◌, inl, inr, ℕ, suc, Bool, true, false, ◌==◌, ◌≤◌, List, [], ◌∷◌, length, Option, None, Some, refl, sym, ap, ◌∙◌, subst, arith}
 use Rattle.std.specs.Option.{is_some}
-use Rattle.std.proofs.lemmas.Bool.{or_cases, or_left, or_right, or_parts, or_from, eqb-true, eqb-false, eq-eqb, false_from_ne_true}
+use Rattle.std.proofs.lemmas.Bool.{or_cases, or_left, or_right, or_from, eqb-true, eqb-false, false_from_ne_true}
 use Rattle.co_message.specs.declared.message.Message.TheVariants as message
 use Rattle.co_record.specs.declared.record.Record.{Record}
 use Rattle.co_record.specs.declared.record.Record.TheVariants as log
 use Rattle.co_state.specs.declared.engine_state.EngineState.{EngineState}
-use Rattle.co_state.specs.declared.engine_state.Install.{Install}
 use Rattle.co_state.specs.declared.engine_state.Operation.{Operation}
 use Rattle.co_state.specs.declared.engine_state.Vote.{Vote}
-use Rattle.co_state.specs.Table.{Table, look, holds, put, without}
+use Rattle.co_state.specs.Table.{look, holds}
 use Rattle.co_state.specs.Changes.{sets_of}
 use Rattle.co_state.specs.EngineState.{operations_in, operations_of}
 use Rattle.co_state.specs.Effects.{install_vote}
@@ -17,24 +16,21 @@ use Rattle.co_state.specs.VotingRule.{kept_count}
 use Rattle.co_plain.specs.declared.coord_state.Entry.{Entry}
 use Rattle.co_plain.specs.declared.coord_state.Entry.TheVariants as entry
 use Rattle.co_plain.specs.declared.member_state.MemberState.{MemberState}
-use Rattle.co_plain.specs.declared.member_view.MemberView.{MemberView}
-use Rattle.co_plain.specs.Numbers.{has_number}
 use Rattle.co_plain.specs.LogWrite.{with_batch}
-use Rattle.co_plain.specs.MemberView.{recovered_view, cast_in, install_in, with_number}
+use Rattle.co_plain.specs.MemberView.{cast_in, install_in, with_number}
 use Rattle.co_plain.specs.Wire.{was_sent}
 use Rattle.co_plain.specs.Federation.{Federation, with_member}
 use Rattle.co_plain.specs.Decisions.{IsDecided, InThisRun, InOpenedFile}
-use Rattle.co_plain.specs.Invariants.{Side, Memory, Stable, view, stands, takes_part_in, KeptAsTold}
+use Rattle.co_plain.specs.Invariants.{Memory, Stable, view, stands, takes_part_in}
 use Rattle.co_plain.specs.Moves.{Cast, Install as InstallVote, effect, Guard, cast_state}
 use Rattle.co_law_engine.proofs.YesTells.{SaysYes, yes_parts, yes_apart, yes_sees}
-use Rattle.co_law_base.proofs.Lookups.{is_nothing, holds_found, found_holds, put_there, without_cases}
+use Rattle.co_law_base.proofs.Lookups.{holds_found, found_holds, put_there, without_cases}
 use Rattle.co_law_base.proofs.ToldRuns.{CastReplays, cast_replays}
-use Rattle.co_law_base.proofs.ViewRules.{Replayed}
 use Rattle.co_law_base.proofs.Commits.{holds_cases, holds_more, holds_new}
-use Rattle.co_law_base.proofs.Facts.{Rest, rest_of, told_here, entry_of, over, settled, Here, Before, alive, belongs, ByTold, settled_at, OpenEntry, ActiveFacts, ViewFacts, MemberFacts, NumberFacts, Facts}
-use Rattle.co_law_base.proofs.Carrying.{LivesOn, settled_home, settled_alive, by_coord_begun}
+use Rattle.co_law_base.proofs.Facts.{Rest, rest_of, told_here, entry_of, settled, Here, Before, ByTold, OpenEntry, ActiveFacts, ViewFacts, MemberFacts, NumberFacts, Facts}
+use Rattle.co_law_base.proofs.Carrying.{settled_alive, by_coord_begun}
 use Rattle.co_law_base.proofs.TwoViews.{both_sides, forced}
-use Rattle.co_law_base.proofs.ViewMoves.{neither_stands, view_cast, view_install, holds_without, still_holds, put_holds, holds_put}
+use Rattle.co_law_base.proofs.ViewMoves.{neither_stands, view_cast, view_install, holds_without, still_holds, holds_put}
 use Rattle.co_law_base.proofs.MemberFrame.{member_change}
 use Rattle.co_law_member.proofs.KeptTold.{kept_same, kept_install, stamps_more}
 
@@ -62,6 +58,7 @@ asked_unsettled s f t c m n g absent d =
     held (Some (entry.Collecting parts yeses)) e h = unsettled (rest_of s) f.numbers c (s.coord c).log.stable t ((f.coords c).collecting t parts yeses e).still d
     held (Some (entry.Committed members acks)) e h =
         let z : true ≡ false = sym (f.records.unended t c m members Memory ((f.coords c).committed t members acks e).recorded h) ∙ absent in cc
+
     by : (takes_part_in (look (s.coord c).table t) m ≡ true) ⊎ (holds (s.member m).committed t ≡ true) → ⊥
     by (inl h) = held (look (s.coord c).table t) refl h
     by (inr h) = let z : true ≡ false = sym h ∙ (neither_stands (view Memory (s.member m)) t absent).1 in cc
@@ -83,25 +80,35 @@ keeps_cast s f t m c n g =
   where
     x : MemberFacts (rest_of s) m (s.member m)
     x = f.members m
+
     b : EngineState
     b = (s.member m).engine
+
     y : MemberState
     y = cast_state (s.member m) t c n
+
     vote : Vote
     vote = record { coord = c; count = n; sets = sets_of (operations_of (s.member m).engine t) }
+
     yes' : SaysYes (s.member m).engine t n
     yes' = yes_parts (s.member m).engine t n g.1
+
     a : ActiveFacts (rest_of s) m (s.member m) t (operations_of (s.member m).engine t)
     a = x.active t (operations_of b t) (active_found b t (subst (λ k. 1 ≤ k) (sym yes'.count) (f.sent.prepares_count t c m n g.0).1))
+
     replayed : CastReplays (view Memory (s.member m)).records (operations_of (s.member m).engine t) (told_here (rest_of s) m t)
     replayed = cast_replays b (operations_of b t) (told_here (rest_of s) m t) a.kept (yes_sees b t n yes')
+
     same : view Stable y ≡ view Memory y
     same = ap (λ v. cast_in v t vote) x.logged
+
     not_committed : holds (s.member m).committed t ≡ false
     not_committed = (neither_stands (view Memory (s.member m)) t a.apart).1
+
     held : (takes_part_in (entry_of (rest_of s) c t) m ≡ true) ⊎ (holds (s.member m).committed t ≡ true) → takes_part_in (entry_of (rest_of s) c t) m ≡ true
     held (inl h) = h
     held (inr h) = absurd (let z : true ≡ false = sym h ∙ not_committed in cc)
+
     memory : ViewFacts (rest_of s) m (view Memory y)
     memory =
         view_cast (rest_of s) f.numbers m (view Memory (s.member m)) (x.views Memory) t vote
@@ -113,6 +120,7 @@ keeps_cast s f t m c n g =
         not_committed
         (λ l. held (or_cases _ _ (f.sent.prepares_held t c m n g.0 l)))
         (ByTold (let p = f.sent.prepares_count t c m n g.0 in subst (λ k. 1 ≤ k) p.0 p.1))
+
     active : (u : ℕ) (os : List Operation) → (t ≢ u) × (look (s.member m).engine.active u ≡ Some os) → ActiveFacts (rest_of s) m y u os
     active u os p =
         let old = x.active u os p.1 in
@@ -122,6 +130,7 @@ keeps_cast s f t m c n g =
           begun = old.begun;
           apart = or_from _ _ (ap is_some (put_there b.voted t vote u p.0) ∙ (neither_stands (view Memory (s.member m)) u old.apart).0) (neither_stands (view Memory (s.member m)) u old.apart).1;
         }
+
     grows : (u : ℕ) → (holds (s.member m).engine.voted u ≡ true) ⊎ (holds (s.member m).committed u ≡ true) → stands (view Memory y) u ≡ true
     grows u (inl h) = or_left _ _ (holds_put b.voted t vote u h)
     grows u (inr h) = or_right _ _ h
@@ -154,18 +163,22 @@ install_found s f t m vote here d =
   where
     x : MemberFacts (rest_of s) m (s.member m)
     x = f.members m
+
     b : EngineState
     b = (s.member m).engine
+
     y : MemberState
     y = record {
-          up = (s.member m).up;
-          engine = install_vote (s.member m).engine t (Some vote);
-          committed = with_number (s.member m).committed t;
-          asked = (s.member m).asked;
-          log = with_batch (s.member m).log (log.Commit t [] ∷ []);
-        }
+      up = (s.member m).up;
+      engine = install_vote (s.member m).engine t (Some vote);
+      committed = with_number (s.member m).committed t;
+      asked = (s.member m).asked;
+      log = with_batch (s.member m).log (log.Commit t [] ∷ []);
+    }
+
     same : view Stable y ≡ view Memory y
     same = ap (λ v. install_in v t (look v.voted t)) x.logged ∙ ap (install_in (view Memory (s.member m)) t) here
+
     active : (u : ℕ) (os : List Operation) → ActiveFacts (rest_of s) m (s.member m) u os → ActiveFacts (rest_of s) m y u os
     active u os old =
         record {
@@ -180,6 +193,7 @@ install_found s f t m vote here d =
         never : (t ≡ u) ⊎ (holds (s.member m).committed u ≡ true) → ⊥
         never (inl e) = let z : true ≡ false = sym (found_holds b.voted t vote here) ∙ ap (holds b.voted) e ∙ (neither_stands (view Memory (s.member m)) u old.apart).0 in cc
         never (inr k) = let z : true ≡ false = sym k ∙ (neither_stands (view Memory (s.member m)) u old.apart).1 in cc
+
     grows : (u : ℕ) (k : Bool) → (t == u) ≡ k → (holds (s.member m).engine.voted u ≡ true) ⊎ (holds (s.member m).committed u ≡ true) → stands (view Memory y) u ≡ true
     grows u true e h = or_right _ _ (ap (holds (with_number (s.member m).committed t)) (sym (eqb-true t u e)) ∙ holds_new (s.member m).committed t)
     grows u false e (inl h) = or_left _ _ (still_holds b.voted t u (eqb-false t u e) h)

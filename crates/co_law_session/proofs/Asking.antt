@@ -1,5 +1,5 @@
 -- A client asks for the end of its transaction.
-use Rattle.std.proofs.Common.{◌≡◌, ◌≢◌, ◌⊎◌, inl, inr, ℕ, Bool, true, false, ◌≤◌, ◌==◌, List, [], Option, None, Some, refl, sym, ap, ◌∙◌, subst}
+use Rattle.std.proofs.Common.{◌≡◌, ◌≢◌, ◌⊎◌, inl, inr, ℕ, Bool, true, false, ◌≤◌, ◌==◌, [], Option, Some, refl, sym, ap, ◌∙◌, subst}
 use Rattle.std.specs.Option.{is_some}
 use Rattle.std.proofs.lemmas.Bool.{eqb-true, eqb-false}
 use Rattle.co_base.specs.declared.node.Node.TheVariants as node
@@ -11,7 +11,7 @@ use Rattle.co_plain.specs.Federation.{Federation, with_session}
 use Rattle.co_plain.specs.Decisions.{is_decided, told_in, asked_in}
 use Rattle.co_plain.specs.Moves.{AskEnd, effect, Guard, marked_over}
 use Rattle.co_law_base.proofs.Lookups.{put_here, put_there, put_cases, holds_found, found_holds}
-use Rattle.co_law_base.proofs.Facts.{Rest, rest_of, changed, told, asked, by_coord, Each, NumberFacts, Facts}
+use Rattle.co_law_base.proofs.Facts.{rest_of, changed, told, asked, by_coord, NumberFacts, Facts}
 use Rattle.co_law_base.proofs.Carrying.{Later, later_member, later_coord, later_records, later_sent}
 use Rattle.co_law_base.proofs.ViewMoves.{each_map, holds_put, put_holds}
 
@@ -75,18 +75,21 @@ asked_facts s f t old here =
           one_vote = f.numbers.one_vote;
           vote_commit = f.numbers.vote_commit;
           one_home = f.numbers.one_home;
-        one_commit = f.numbers.one_commit;
+          one_commit = f.numbers.one_commit;
         }
       where
         new : (u : ℕ) → (t ≡ u) ⊎ (holds s.sessions u ≡ true) → holds s.used u ≡ false
         new u (inl e) = ap (holds s.used) (sym e) ∙ f.numbers.new t (found_holds s.sessions t old here)
         new u (inr h) = f.numbers.new u h
+
         local : (u m k : ℕ) (session : Session) → ((t ≡ u) × (asked_to_end old ≡ session)) ⊎ ((t ≢ u) × (look s.sessions u ≡ Some session)) → session.by ≡ node.Member m → k ≢ m → count_at session.told k ≡ 0
         local u m k session (inl p) b n = ap (λ z. count_at z.told k) (sym p.1) ∙ f.numbers.local t m k old here (ap (λ z. z.by) p.1 ∙ b) n
         local u m k session (inr p) b n = f.numbers.local u m k session p.1 b n
+
         local_asked : (u m : ℕ) (session : Session) → session.by ≡ node.Member m → is_decided s.decided u ≡ true → ((t ≡ u) × (asked_to_end old ≡ session)) ⊎ ((t ≢ u) × (look s.sessions u ≡ Some session)) → session.asked ≡ true
         local_asked u m session b d (inr p) = f.numbers.local_asked u m session p.1 b d
         local_asked u m session b d (inl p) = ap (λ z. z.asked) (sym p.1)
+
         kept : (d : Decided) → (d.told ≡ []) ⊎ ((told (rest_of s) d.txn ≡ d.told) × (asked (rest_of s) d.txn ≡ true)) →
             (d.told ≡ []) ⊎ ((told_in (look (put s.sessions t (asked_to_end old)) d.txn) ≡ d.told) × (asked_in (look (put s.sessions t (asked_to_end old)) d.txn) ≡ true))
         kept d (inl e) = inl e

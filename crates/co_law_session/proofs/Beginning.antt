@@ -1,30 +1,25 @@
 -- A transaction is begun: its number is new, so nothing speaks of it.
-use Rattle.std.proofs.Common.{◌≡◌, ◌≢◌, ◌⊎◌, inl, inr, ℕ, Bool, true, false, ◌||◌, ◌&&◌, ◌≤◌, ◌==◌, List, [], ◌∷◌, Option, None, Some, refl, sym, ap, ◌∙◌, subst, arith}
+use Rattle.std.proofs.Common.{◌≡◌, ◌≢◌, ◌⊎◌, inl, inr, ℕ, true, false, ◌||◌, ◌&&◌, ◌≤◌, List, [], Option, None, Some, refl, sym, ap, ◌∙◌, subst, arith}
 use Rattle.std.specs.Option.{is_some}
-use Rattle.std.proofs.lemmas.Bool.{or_cases, or_left, or_right, or_parts, and_parts, eqb-true, eqb-false, eq-eqb, false_from_ne_true}
+use Rattle.std.proofs.lemmas.Bool.{or_cases, or_left, or_parts, and_parts, eq-eqb, false_from_ne_true}
 use Rattle.co_base.specs.declared.node.Node.{Node}
 use Rattle.co_base.specs.declared.node.Node.TheVariants as node
-use Rattle.co_record.specs.declared.record.Record.{Record}
 use Rattle.co_serial.specs.SerialRun.{with_at}
-use Rattle.co_state.specs.declared.engine_state.Operation.{Operation}
 use Rattle.co_state.specs.Table.{Table, look, holds, put}
 use Rattle.co_plain.specs.declared.coord_state.CoordState.{CoordState}
-use Rattle.co_plain.specs.declared.coord_state.Entry.{Entry}
 use Rattle.co_plain.specs.declared.coord_state.Entry.TheVariants as entry
-use Rattle.co_plain.specs.declared.member_state.MemberState.{MemberState}
 use Rattle.co_plain.specs.declared.session.Decided.{Decided}
 use Rattle.co_plain.specs.declared.session.Session.{Session}
-use Rattle.co_plain.specs.declared.session.Told.{Told}
 use Rattle.co_plain.specs.CoordView.{has_commit_of}
 use Rattle.co_plain.specs.CoordStep.{with_table}
-use Rattle.co_plain.specs.Sessions.{told_at, count_at, begun_by, same_node}
-use Rattle.co_plain.specs.Federation.{Federation, with_session, with_coord}
+use Rattle.co_plain.specs.Sessions.{told_at, count_at, begun_by}
+use Rattle.co_plain.specs.Federation.{Federation}
 use Rattle.co_plain.specs.Decisions.{is_decided, told_in, asked_in}
 use Rattle.co_plain.specs.SoundLogs.{unended_in}
-use Rattle.co_plain.specs.Invariants.{Side, view, takes_part_in}
+use Rattle.co_plain.specs.Invariants.{takes_part_in}
 use Rattle.co_plain.specs.Moves.{Begin, BeginLocal, effect, Guard}
-use Rattle.co_law_base.proofs.Lookups.{is_nothing, put_here, put_there, put_cases}
-use Rattle.co_law_base.proofs.Facts.{Rest, rest_of, changed, told, begun, asked, over, seen, entry_of, settled_at, alive, by_coord, belongs, Each, OpenEntry, CoordHas, NumberFacts, Facts}
+use Rattle.co_law_base.proofs.Lookups.{put_here, put_there, put_cases}
+use Rattle.co_law_base.proofs.Facts.{Rest, rest_of, changed, told, begun, asked, seen, entry_of, settled_at, alive, by_coord, OpenEntry, CoordHas, NumberFacts, Facts}
 use Rattle.co_law_base.proofs.Carrying.{at_each, over_seen, belongs_seen, by_coord_begun, Later, later_member, later_coord, later_records, later_sent}
 use Rattle.co_law_base.proofs.ViewMoves.{each_map, each_both, each_decided, holds_put, put_holds}
 use Rattle.co_law_coord.proofs.Tabled.{coord_put}
@@ -92,12 +87,15 @@ module _ (s : Federation) (f : Facts s) (t : ℕ) (by' : Node) (new : seen (rest
       fresh : (u : ℕ) → (t ≡ u) ⊎ (holds s.sessions u ≡ true) → holds s.used u ≡ false
       fresh u (inl e) = ap (holds s.used) (sym e) ∙ (or_parts (begun (rest_of s) t) (holds s.used t) new).1
       fresh u (inr h) = f.numbers.new u h
+
       local : (u m k : ℕ) (session : Session) → ((t ≡ u) × (begun_by by' ≡ session)) ⊎ ((t ≢ u) × (look s.sessions u ≡ Some session)) → session.by ≡ node.Member m → k ≢ m → count_at session.told k ≡ 0
       local u m k session (inl p) b n = ap (λ z. count_at z.told k) (sym p.1)
       local u m k session (inr p) b n = f.numbers.local u m k session p.1 b n
+
       local_asked : (u m : ℕ) (session : Session) → session.by ≡ node.Member m → is_decided s.decided u ≡ true → ((t ≡ u) × (begun_by by' ≡ session)) ⊎ ((t ≢ u) × (look s.sessions u ≡ Some session)) → session.asked ≡ true
       local_asked u m session b d (inr p) = f.numbers.local_asked u m session p.1 b d
       local_asked u m session b d (inl p) = absurd (let z : true ≡ false = sym (f.numbers.decided_begun u d) ∙ ap (begun (rest_of s)) (sym p.0) ∙ (or_parts (begun (rest_of s) t) (holds s.used t) new).0 in cc)
+
       kept : (d : Decided) → begun (rest_of s) d.txn ≡ true → (d.told ≡ []) ⊎ ((told (rest_of s) d.txn ≡ d.told) × (asked (rest_of s) d.txn ≡ true)) →
           (d.told ≡ []) ⊎ ((told_in (look with_new d.txn) ≡ d.told) × (asked_in (look with_new d.txn) ≡ true))
       kept d b (inl e) = inl e
@@ -142,16 +140,21 @@ keeps_begin s f t c g =
   where
     y : CoordState
     y = with_table (s.coord c) (put (s.coord c).table t entry.Idle)
+
     coord : ℕ → CoordState
     coord = with_at s.coord c y
+
     sessions : Table Session
     sessions = put s.sessions t (begun_by (node.Coord c))
+
     moved : (u : ℕ) → t ≢ u → look y.table u ≡ look (s.coord c).table u
     moved u n = put_there (s.coord c).table t entry.Idle u n
+
     l : Later (rest_of s) coord sessions s.sent s.member
     l = begin_later s f t (node.Coord c) g coord
         (λ u d n. at_each (λ d z. (holds z.table u || settled_at (rest_of s) d u) ≡ true → alive (rest_of s) d u ≡ true) s.coord c y (λ h. ap (λ o. is_some o || settled_at (rest_of s) c u) (sym (moved u n)) ∙ h) (λ d h. h) d)
         (λ u d m n. at_each (λ d z. takes_part_in (entry_of (rest_of s) d u) m ≡ true → takes_part_in (look z.table u) m ≡ true) s.coord c y (λ h. ap (λ o. takes_part_in o m) (moved u n) ∙ h) (λ d h. h) d)
+
     unrecorded : has_commit_of (s.coord c).log.stable t ≡ false
     unrecorded = false_from_ne_true (has_commit_of (s.coord c).log.stable t) (λ h. known (or_cases (by_coord (look s.sessions t) c && is_decided s.decided t) (has_commit_of (s.opened_coord c) t) ((f.coords c).known t h)))
       where
@@ -159,6 +162,7 @@ keeps_begin s f t c g =
         known (inl p) =
             let z : true ≡ false = sym (by_coord_begun (look s.sessions t) c (and_parts (by_coord (look s.sessions t) c) (is_decided s.decided t) p).0) ∙ (or_parts (begun (rest_of s) t) (holds s.used t) g).0 in cc
         known (inr k) = let z : true ≡ false = sym (f.numbers.commit_used c t k) ∙ (or_parts (begun (rest_of s) t) (holds s.used t) g).1 in cc
+
     fits : OpenEntry (changed (rest_of s) coord sessions s.sent) c (s.coord c).log.stable t
     fits =
         record {
@@ -166,6 +170,7 @@ keeps_begin s f t c g =
           undecided = false_from_ne_true (is_decided s.decided t) (λ h. let z : true ≡ false = sym (f.numbers.decided_begun t h) ∙ (or_parts (begun (rest_of s) t) (holds s.used t) g).0 in cc);
           unrecorded = unrecorded;
         }
+
     coords : (d : ℕ) → CoordHas (changed (rest_of s) coord sessions s.sent) d (coord d)
     coords = at_each (λ d z. CoordHas (changed (rest_of s) coord sessions s.sent) d z) s.coord c y
         (coord_put (changed (rest_of s) coord sessions s.sent) c (s.coord c).log.stable (s.coord c).log.waiting (s.coord c).table t entry.Idle

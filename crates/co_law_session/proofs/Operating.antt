@@ -1,22 +1,18 @@
 -- An answered operation keeps the facts: the member keeps it, and the client is told of it.
-use Rattle.std.proofs.Common.{◌≡◌, ◌≢◌, ◌⊎◌, inl, inr, ℕ, suc, Bool, true, false, ◌||◌, ◌≤◌, ◌==◌, ◌+◌, if◌then◌else◌, List, [], ◌∷◌, length, Option, None, Some, refl, sym, ap, ◌∙◌, subst, arith}
-use Rattle.std.proofs.lemmas.Bool.Decides.{nat_tests}
+use Rattle.std.proofs.Common.{◌≡◌, ◌≢◌, ◌⊎◌, inl, inr, ℕ, Bool, true, false, ◌≤◌, ◌==◌, ◌+◌, if◌then◌else◌, List, [], ◌∷◌, length, Option, None, Some, refl, sym, ap, ◌∙◌, subst, arith}
 use Rattle.std.specs.Option.{is_some}
-use Rattle.std.proofs.lemmas.Bool.{or_cases, or_left, or_right, or_parts, or_from, eqb-true, eqb-false, eq-eqb, ne_eqb, false_from_ne_true}
+use Rattle.std.proofs.lemmas.Bool.{or_parts, or_from, eqb-true, eqb-false, eq-eqb, ne_eqb, false_from_ne_true}
 use Rattle.co_base.specs.declared.head.Kind.{Kind}
 use Rattle.co_base.specs.declared.head.Kind.TheVariants.{Lock, Occ, Mv}
-use Rattle.co_base.specs.declared.node.Node.{Node}
 use Rattle.co_base.specs.declared.node.Node.TheVariants as node
 use Rattle.co_base.specs.declared.op.Op.{Op}
 use Rattle.co_serial.specs.SerialRun.{with_at}
-use Rattle.co_state.specs.declared.engine_state.EngineState.{EngineState}
 use Rattle.co_state.specs.declared.engine_state.Operation.{Operation}
 use Rattle.co_state.specs.Table.{Table, look, holds, put}
 use Rattle.co_state.specs.EngineState.{operations_in, operations_of}
 use Rattle.co_state.specs.ReadRule.{stamp_after, snapshot_of, operation_reply}
 use Rattle.co_state.specs.Effects.{with_operation}
 use Rattle.co_state.specs.VotingRule.{kept_count}
-use Rattle.co_plain.specs.declared.member_state.AskedMark.{AskedMark}
 use Rattle.co_plain.specs.declared.member_state.MemberState.{MemberState}
 use Rattle.co_plain.specs.declared.session.Decided.{Decided}
 use Rattle.co_plain.specs.declared.session.Session.{Session}
@@ -27,8 +23,8 @@ use Rattle.co_plain.specs.Federation.{Federation, with_session, with_member}
 use Rattle.co_plain.specs.Decisions.{is_decided, told_in, asked_in}
 use Rattle.co_plain.specs.Invariants.{Side, Memory, Stable, view, stands, KeptAsTold}
 use Rattle.co_plain.specs.Moves.{Operate, effect, Guard, entered_reply, may_operate_at}
-use Rattle.co_law_base.proofs.Lookups.{put_here, put_there, put_cases, holds_found, found_holds}
-use Rattle.co_law_base.proofs.Facts.{Before, Rest, rest_of, changed, told, told_here, begun, asked, over, by_coord, Each, StampsIn, ActiveFacts, ViewFacts, MemberFacts, NumberFacts, Facts}
+use Rattle.co_law_base.proofs.Lookups.{put_here, put_there, put_cases, found_holds}
+use Rattle.co_law_base.proofs.Facts.{Before, rest_of, changed, told, told_here, asked, over, by_coord, StampsIn, ActiveFacts, ViewFacts, MemberFacts, NumberFacts, Facts}
 use Rattle.co_law_base.proofs.Carrying.{at_each, LivesOn, StandsOn, stands_same, sent_on, records_on, Later, later_member, later_view, later_waiting, later_coord, later_records, later_sent}
 use Rattle.co_law_base.proofs.ViewMoves.{each_map, holds_put, put_holds}
 use Rattle.co_law_base.proofs.MemberFrame.{unended_settled}
@@ -116,6 +112,7 @@ module _ (s : Federation) (f : Facts s) (t m : ℕ) (o : Op) (old : Session) (g 
       new : (u : ℕ) → (t ≡ u) ⊎ (holds s.sessions u ≡ true) → holds s.used u ≡ false
       new u (inl e) = ap (holds s.used) (sym e) ∙ f.numbers.new t (found_holds s.sessions t old g.here)
       new u (inr h) = f.numbers.new u h
+
       local : (u n k : ℕ) (session : Session) → ((t ≡ u) × (with_told old (entry_for s t m o) ≡ session)) ⊎ ((t ≢ u) × (look s.sessions u ≡ Some session)) → session.by ≡ node.Member n → k ≢ n → count_at session.told k ≡ 0
       local u n k session (inr p) b d = f.numbers.local u n k session p.1 b d
       local u n k session (inl p) b d =
@@ -124,9 +121,11 @@ module _ (s : Federation) (f : Facts s) (t m : ℕ) (o : Op) (old : Session) (g 
           let zero' : count_at old.told k ≡ 0 = f.numbers.local t n k old g.here by d in
           let other : (m == k) ≡ false = ne_eqb m k (λ e. d (sym e ∙ sym same)) in
           ap (λ z. count_at z.told k) (sym p.1) ∙ ap (λ b. if b then count_at old.told k + 1 else count_at old.told k) other ∙ zero'
+
       local_asked : (u n : ℕ) (session : Session) → session.by ≡ node.Member n → is_decided s.decided u ≡ true → ((t ≡ u) × (with_told old (entry_for s t m o) ≡ session)) ⊎ ((t ≢ u) × (look s.sessions u ≡ Some session)) → session.asked ≡ true
       local_asked u n session b d (inr p) = f.numbers.local_asked u n session p.1 b d
       local_asked u n session b d (inl p) = ap (λ z. z.asked) (sym p.1) ∙ f.numbers.local_asked t n old g.here (ap (λ z. z.by) p.1 ∙ b) (ap (is_decided s.decided) p.0 ∙ d)
+
       kept : (d : Decided) → (d.told ≡ []) ⊎ ((told (rest_of s) d.txn ≡ d.told) × (asked (rest_of s) d.txn ≡ true)) →
           (d.told ≡ []) ⊎ ((told_in (look (sessions_with s t m o old) d.txn) ≡ d.told) × (asked_in (look (sessions_with s t m o old) d.txn) ≡ true))
       kept d (inl e) = inl e
@@ -141,6 +140,7 @@ module _ (s : Federation) (f : Facts s) (t m : ℕ) (o : Op) (old : Session) (g 
       nothing : (ts : List Told) → 0 ≡ length ts → KeptAsTold (s.member m).engine [] ts
       nothing [] e = tt
       nothing (x ∷ xs) e = absurd (omega (arith, e))
+
       by : (z : Option (List Operation)) → look (s.member m).engine.active t ≡ z → KeptAsTold (s.member m).engine (operations_of (s.member m).engine t) (told_here (rest_of s) m t) × StampsIn (length (s.member m).engine.installed) (operations_of (s.member m).engine t)
       by None e =
           subst (λ os. KeptAsTold (s.member m).engine os (told_here (rest_of s) m t) × StampsIn (length (s.member m).engine.installed) os) (sym (ap operations_in e))
@@ -168,6 +168,7 @@ module _ (s : Federation) (f : Facts s) (t m : ℕ) (o : Op) (old : Session) (g 
       views : (side : Side) → ViewFacts (changed (rest_of s) s.coord (sessions_with s t m o old) s.sent) m (view side (with_engine (s.member m) (with_operation (s.member m).engine t o)))
       views Memory = later_view (rest_of s) f.numbers s.coord (sessions_with s t m o old) s.sent s.member operate_later m Memory ((f.members m).views Memory)
       views Stable = later_view (rest_of s) f.numbers s.coord (sessions_with s t m o old) s.sent s.member operate_later m Stable ((f.members m).views Stable)
+
       now : ActiveFacts (changed (rest_of s) s.coord (sessions_with s t m o old) s.sent) m (with_engine (s.member m) (with_operation (s.member m).engine t o)) t
           (record { op = o; stamp = snapshot_of (s.member m).engine t } ∷ operations_of (s.member m).engine t)
       now =
@@ -179,6 +180,7 @@ module _ (s : Federation) (f : Facts s) (t m : ℕ) (o : Op) (old : Session) (g 
             begun = operate_later.begun_on t (found_holds s.sessions t old g.here);
             apart = not_standing Memory m;
           }
+
       active : (u : ℕ) (os : List Operation) →
           ((t ≡ u) × (record { op = o; stamp = snapshot_of (s.member m).engine t } ∷ operations_of (s.member m).engine t ≡ os)) ⊎ ((t ≢ u) × (look (s.member m).engine.active u ≡ Some os)) →
           ActiveFacts (changed (rest_of s) s.coord (sessions_with s t m o old) s.sent) m (with_engine (s.member m) (with_operation (s.member m).engine t o)) u os
@@ -214,6 +216,7 @@ module _ (s : Federation) (f : Facts s) (t m : ℕ) (o : Op) (old : Session) (g 
           stands (view side (with_engine (s.member m) (with_operation (s.member m).engine t o))) u ≡ true
       standing Memory u l h = h
       standing Stable u l h = h
+
       committed : (side : Side) (u : ℕ) → holds (view side (s.member m)).committed u ≡ true → holds (view side (with_engine (s.member m) (with_operation (s.member m).engine t o))).committed u ≡ true
       committed Memory u h = h
       committed Stable u h = h

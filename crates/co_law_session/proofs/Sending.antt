@@ -1,19 +1,16 @@
 -- A message that says what is true keeps the facts.
-use Rattle.std.proofs.Common.{◌≡◌, ◌≢◌, ◌⊎◌, inl, inr, ℕ, Bool, true, false, ◌||◌, ◌&&◌, ◌≤◌, ◌==◌, ◌+◌, if◌then◌else◌, List, [], ◌∷◌, Option, None, Some, refl, sym, ap, ◌∙◌, subst, arith}
+use Rattle.std.proofs.Common.{◌≡◌, ◌⊎◌, inl, inr, ℕ, Bool, true, false, ◌||◌, ◌&&◌, ◌≤◌, ◌==◌, ◌+◌, if◌then◌else◌, List, [], ◌∷◌, Some, refl, sym, ap, ◌∙◌, subst, arith}
 use Rattle.std.specs.Ordering.{nat_cmp}
 use Rattle.std.specs.declared.cmp.Ordering.{Ordering}
 use Rattle.std.specs.declared.cmp.Ordering.TheVariants.{Less, Equal, Greater}
 use Rattle.std.specs.FinMap.{nat_cmp-IsAntisymmetric}
 use Rattle.std.specs.FinMap.Entries.{by_order}
-use Rattle.std.specs.Option.{is_some}
-use Rattle.std.proofs.lemmas.Bool.{or_cases, or_left, or_right, and_parts, eqb-true, eq-eqb}
+use Rattle.std.proofs.lemmas.Bool.{or_cases, or_left, or_right, eqb-true}
 use Rattle.co_message.specs.declared.message.Message.{Message}
 use Rattle.co_message.specs.declared.message.Message.TheVariants as message
 use Rattle.co_message.specs.Sent.{same_flag, same_message}
 use Rattle.co_base.specs.declared.part.Part.{Part}
-use Rattle.co_state.specs.declared.engine_state.Vote.{Vote}
-use Rattle.co_state.specs.Table.{Table, look, holds}
-use Rattle.co_plain.specs.declared.member_state.MemberState.{MemberState}
+use Rattle.co_state.specs.Table.{look, holds}
 use Rattle.co_plain.specs.declared.coord_state.Entry.TheVariants as entry
 use Rattle.co_plain.specs.declared.session.Told.{Told}
 use Rattle.co_plain.specs.Numbers.{has_number}
@@ -24,7 +21,7 @@ use Rattle.co_plain.specs.Wire.{was_sent, send_one}
 use Rattle.co_plain.specs.Federation.{Federation}
 use Rattle.co_plain.specs.Invariants.{Side, Memory, Stable, view, stands, takes_part_in, txn_of}
 use Rattle.co_plain.specs.Moves.{Send, effect}
-use Rattle.co_law_base.proofs.Facts.{Rest, rest_of, changed, told, asked, over, Begun, entry_of, alive, belongs, settled, takes, SentFacts, Facts}
+use Rattle.co_law_base.proofs.Facts.{rest_of, changed, told, asked, over, Begun, entry_of, alive, belongs, settled, takes, SentFacts, Facts}
 use Rattle.co_law_base.proofs.TwoViews.{memory_to_stable, committed_both}
 use Rattle.co_law_base.proofs.Carrying.{votes_stand, Later, later_member, later_coord, later_records, numbers_same}
 
@@ -85,16 +82,20 @@ with_part_has k (p ∷ ps) m = by (with_part_has k ps m) (nat_cmp k p.member) re
   where
     one : Part
     one = record { member = k; count = 1 }
+
     more : Part
     more = record { member = p.member; count = p.count + 1 }
+
     twice : (b c : Bool) → (b || c) ≡ (b || (b || c))
     twice true c = refl
     twice false c = refl
+
     swapped : (a b c : Bool) → (a || (b || c)) ≡ (b || (a || c))
     swapped true true c = refl
     swapped true false c = refl
     swapped false true c = refl
     swapped false false c = refl
+
     by : has_part (with_part k ps) m ≡ ((k == m) || has_part ps m) → (o : Ordering) → nat_cmp k p.member ≡ o →
         has_part (by_order (nat_cmp k p.member) (one ∷ p ∷ ps) (more ∷ ps) (p ∷ with_part k ps)) m ≡ ((k == m) || ((p.member == m) || has_part ps m))
     by rest Less e = ap (λ o. has_part (by_order o (one ∷ p ∷ ps) (more ∷ ps) (p ∷ with_part k ps)) m) e
@@ -197,42 +198,53 @@ module _ (s : Federation) (f : Facts s) where
       over' : (k : Message) → (note ≡ k) ⊎ (was_sent s.sent k ≡ true) → over (rest_of s) (txn_of k) ≡ true
       over' k (inl e) = allowed_over k (subst (Allowed s) e g)
       over' k (inr h) = f.sent.over k h
+
       prepares_named : (t c m n : ℕ) → (note ≡ message.Prepare t c m n) ⊎ (was_sent s.sent (message.Prepare t c m n) ≡ true) → belongs (rest_of s) t c
       prepares_named t c m n (inr h) = f.sent.prepares_named t c m n h
       prepares_named t c m n (inl e) = let p : Allowed s (message.Prepare t c m n) = subst (Allowed s) e g in Begun ((f.coords c).collecting t p.0 p.1 p.2).still.begun_there
+
       prepares_count : (t c m n : ℕ) → (note ≡ message.Prepare t c m n) ⊎ (was_sent s.sent (message.Prepare t c m n) ≡ true) → (n ≡ count_at (told (rest_of s) t) m) × (1 ≤ n)
       prepares_count t c m n (inr h) = f.sent.prepares_count t c m n h
       prepares_count t c m n (inl e) =
           let p : Allowed s (message.Prepare t c m n) = subst (Allowed s) e g in
           (p.4, subst (λ k. 1 ≤ k) (sym p.4) (parts_told (told_of s t) m (ap (λ ps. has_part ps m) (sym ((f.coords c).collecting t p.0 p.1 p.2).parts_told) ∙ p.3)))
+
       prepares_held : (t c m n : ℕ) → (note ≡ message.Prepare t c m n) ⊎ (was_sent s.sent (message.Prepare t c m n) ≡ true) → alive (rest_of s) c t ≡ true →
           (takes_part_in (entry_of (rest_of s) c t) m || holds (s.member m).committed t) ≡ true
       prepares_held t c m n (inr h) a = f.sent.prepares_held t c m n h a
       prepares_held t c m n (inl e) a =
           let p : Allowed s (message.Prepare t c m n) = subst (Allowed s) e g in
           or_left (takes_part_in (entry_of (rest_of s) c t) m) (holds (s.member m).committed t) (ap (λ o. takes_part_in o m) p.2 ∙ part_member p.0 m ∙ p.3)
+
       votes_named : (t m c : ℕ) (granted : Bool) → (note ≡ message.Vote t m c granted) ⊎ (was_sent s.sent (message.Vote t m c granted) ≡ true) → belongs (rest_of s) t c
       votes_named t m c granted (inr h) = f.sent.votes_named t m c granted h
       votes_named t m c granted (inl e) = allowed_named t m c granted (subst (Allowed s) e g)
+
       yeses_stand : (t m c : ℕ) (side : Side) → (note ≡ message.Vote t m c true) ⊎ (was_sent s.sent (message.Vote t m c true) ≡ true) → alive (rest_of s) c t ≡ true → stands (view side (s.member m)) t ≡ true
       yeses_stand t m c side (inr h) a = f.sent.yeses_stand t m c side h a
       yeses_stand t m c side (inl e) a = both_stand t m c side (subst (Allowed s) e g)
+
       asks_named : (t m c : ℕ) → (note ≡ message.Ask t m c) ⊎ (was_sent s.sent (message.Ask t m c) ≡ true) → belongs (rest_of s) t c
       asks_named t m c (inr h) = f.sent.asks_named t m c h
       asks_named t m c (inl e) = ((f.members m).views Memory).named t c (subst (Allowed s) e g)
+
       asks_held : (t m c : ℕ) → (note ≡ message.Ask t m c) ⊎ (was_sent s.sent (message.Ask t m c) ≡ true) → alive (rest_of s) c t ≡ true →
           (takes_part_in (entry_of (rest_of s) c t) m || holds (s.member m).committed t) ≡ true
       asks_held t m c (inr h) a = f.sent.asks_held t m c h a
       asks_held t m c (inl e) a = or_left (takes_part_in (entry_of (rest_of s) c t) m) (holds (s.member m).committed t) (((f.members m).views Memory).held t c (subst (Allowed s) e g) a)
+
       asks_take : (t m c : ℕ) → (note ≡ message.Ask t m c) ⊎ (was_sent s.sent (message.Ask t m c) ≡ true) → alive (rest_of s) c t ≡ true → takes (rest_of s) t m
       asks_take t m c (inr h) a = f.sent.asks_take t m c h a
       asks_take t m c (inl e) a = ((f.members m).views Memory).works t c (subst (Allowed s) e g) a
+
       acks_stand : (t m c : ℕ) (side : Side) → (note ≡ message.Ack t m c) ⊎ (was_sent s.sent (message.Ack t m c) ≡ true) → holds (view side (s.member m)).committed t ≡ true
       acks_stand t m c side (inr h) = f.sent.acks_stand t m c side h
       acks_stand t m c side (inl e) = both_committed t m side (subst (Allowed s) e g)
+
       commits : (t c m : ℕ) → (note ≡ message.Decide t c m true) ⊎ (was_sent s.sent (message.Decide t c m true) ≡ true) → settled (rest_of s) t × takes (rest_of s) t m
       commits t c m (inr h) = f.sent.commits t c m h
       commits t c m (inl e) = let p : Allowed s (message.Decide t c m true) = subst (Allowed s) e g in (p.0, p.1)
+
       aborts : (t c m : ℕ) → (note ≡ message.Decide t c m false) ⊎ (was_sent s.sent (message.Decide t c m false) ≡ true) →
           (belongs (rest_of s) t c × (alive (rest_of s) c t ≡ false)) ⊎ (holds (view Stable (s.member m)).committed t ≡ true)
       aborts t c m (inr h) = f.sent.aborts t c m h
