@@ -1,14 +1,12 @@
 -- What a client does at a coordinator, and its operations, are lists of moves.
-use Rattle.std.proofs.Common.{◌≡◌, ◌≢◌, ◌⊎◌, inl, inr, ℕ, Bool, true, false, not, ◌||◌, ◌==◌, ◌≤◌, if◌then◌else◌, List, [], ◌∷◌, Option, None, Some, refl, sym, ap, ◌∙◌, subst}
+use Rattle.std.proofs.Common.{◌≡◌, ◌≢◌, inl, ℕ, Bool, true, false, not, ◌==◌, if◌then◌else◌, List, [], ◌∷◌, Option, None, Some, refl, sym, ap, ◌∙◌, subst}
 use Rattle.std.proofs.lemmas.Bool.{or_left, eqb-true, eqb-false, eq-eqb}
-use Rattle.co_base.specs.declared.node.Node.{Node}
 use Rattle.co_base.specs.declared.node.Node.TheVariants as node
 use Rattle.co_base.specs.declared.op.Op.{Op}
 use Rattle.co_base.specs.declared.part.Part.{Part}
 use Rattle.co_message.specs.declared.answer.Answer.TheVariants as answer
 use Rattle.co_message.specs.declared.answer.Cause.TheVariants as cause
 use Rattle.co_record.specs.declared.record.Record.TheVariants as log
-use Rattle.co_serial.specs.SerialRun.{with_at}
 use Rattle.co_state.specs.Table.{look, holds, put, without}
 use Rattle.co_state.specs.LockRule.{lock_blocker}
 use Rattle.co_state.specs.VotingRule.{kept_count}
@@ -19,20 +17,19 @@ use Rattle.co_plain.specs.declared.coord_state.Entry.TheVariants as entry
 use Rattle.co_plain.specs.declared.outcome.Outcome.{Outcome}
 use Rattle.co_plain.specs.declared.outcome.Outcome.TheVariants.{Completes, StopsAt}
 use Rattle.co_plain.specs.declared.session.Session.{Session}
-use Rattle.co_plain.specs.declared.session.Told.{Told}
 use Rattle.co_plain.specs.LogWrite.{outcome_of, batch_is_stable, with_batch}
 use Rattle.co_plain.specs.Numbers.{counted}
 use Rattle.co_plain.specs.MemberStep.{says, with_engine}
 use Rattle.co_plain.specs.Member.{most_operations, unless_blocked, member_op}
 use Rattle.co_plain.specs.CoordStep.{with_table, with_coord_log, stopped_coord, coord_forced_by}
 use Rattle.co_plain.specs.Coordinator.{prepares_to, ask_commit, commit_entry, abort_entry}
-use Rattle.co_plain.specs.Sessions.{Leave, Refuses, Grants, leave_to_visit, may_visit, unless_asked, parts_of, count_at, same_node, asked_to_end}
-use Rattle.co_plain.specs.Federation.{Federation, Stepped, with_session, with_coord, with_member, at_coord, at_member, answers}
-use Rattle.co_plain.specs.Step.{coord_answers, marked_asked, is_stopped, operated, operate_with, entered, reply_in}
+use Rattle.co_plain.specs.Sessions.{parts_of, count_at, same_node, asked_to_end}
+use Rattle.co_plain.specs.Federation.{Federation, with_session, with_coord, with_member, at_coord, at_member}
+use Rattle.co_plain.specs.Step.{marked_asked, is_stopped, operated, entered, reply_in}
 use Rattle.co_plain.specs.Decisions.{told_of, told_in, asked_in}
-use Rattle.co_plain.specs.Moves.{Collect, effect, marked_over, with_decision, decide_entry, session_by_coord, entered_reply, may_operate_at}
+use Rattle.co_plain.specs.Moves.{marked_over, with_decision, decide_entry, session_by_coord, entered_reply, may_operate_at}
 use Rattle.co_law_base.proofs.Lookups.{put_here, found_holds}
-use Rattle.co_law_base.proofs.Facts.{rest_of, told, asked, over, by_coord, Facts}
+use Rattle.co_law_base.proofs.Facts.{rest_of, over, by_coord, Facts}
 use Rattle.co_law_base.proofs.Carrying.{at_here}
 use Rattle.co_law_coord.proofs.CoordMoves.{keeps_collect, keeps_leave}
 use Rattle.co_law_session.proofs.Asking.{keeps_ask}
@@ -105,6 +102,7 @@ module _ (s : Federation) (f : Facts s) (t c : ℕ) (session : Session) (e : loo
     where
       same : parts_of (told_of (with_session s t (asked_to_end session)) t) ≡ p ∷ ps
       same = ap (λ o. parts_of (told_in o)) found ∙ q
+
       collected : Facts (with_coord (with_session s t (asked_to_end session)) c (with_table (s.coord c) (put (s.coord c).table t (entry.Collecting (p ∷ ps) []))))
       collected =
           subst (λ parts. Facts (with_coord (with_session s t (asked_to_end session)) c (with_table (s.coord c) (put (s.coord c).table t (entry.Collecting parts []))))) same

@@ -1,8 +1,7 @@
 -- Every event of a coordinator is a list of its moves, with messages that are true.
-use Rattle.std.proofs.Common.{◌≡◌, ◌≢◌, ◌⊎◌, inl, inr, ℕ, Bool, true, false, not, cond, ◌||◌, ◌&&◌, ◌==◌, ◌≤◌, if◌then◌else◌, List, [], ◌∷◌, ◌++◌, map, Option, None, Some, refl, sym, ap, ◌∙◌, subst}
+use Rattle.std.proofs.Common.{◌≡◌, ◌≢◌, ◌⊎◌, inl, inr, ℕ, Bool, true, false, not, ◌||◌, ◌&&◌, ◌==◌, if◌then◌else◌, List, [], ◌∷◌, Option, None, Some, refl, sym, ap, ◌∙◌, subst}
 use Rattle.std.specs.Option.{is_some}
-use Rattle.std.proofs.lemmas.Bool.{or_cases, or_left, or_right, or_from, and_parts, eqb-true, eqb-false, eq-eqb, false_from_ne_true}
-use Rattle.co_base.specs.declared.leaves.Leaves.{Leaves}
+use Rattle.std.proofs.lemmas.Bool.{or_cases, or_left, or_right, or_from, and_parts, eq-eqb, false_from_ne_true}
 use Rattle.co_base.specs.declared.mark.Mark.{Mark}
 use Rattle.co_base.specs.declared.node.Node.TheVariants as node
 use Rattle.co_base.specs.declared.part.Part.{Part}
@@ -12,10 +11,9 @@ use Rattle.co_message.specs.declared.answer.Cause.{Cause}
 use Rattle.co_message.specs.declared.answer.Cause.TheVariants as cause
 use Rattle.co_message.specs.declared.message.Message.{Message}
 use Rattle.co_message.specs.declared.message.Message.TheVariants as message
-use Rattle.co_record.specs.declared.record.Record.{Record}
 use Rattle.co_record.specs.declared.record.Record.TheVariants as log
 use Rattle.co_serial.specs.SerialRun.{with_at}
-use Rattle.co_state.specs.Table.{Table, look, holds, put, without}
+use Rattle.co_state.specs.Table.{look, holds, put, without}
 use Rattle.co_plain.specs.declared.coord_state.CoordState.{CoordState}
 use Rattle.co_plain.specs.declared.coord_state.Entry.{Entry}
 use Rattle.co_plain.specs.declared.coord_state.Entry.TheVariants as entry
@@ -26,25 +24,24 @@ use Rattle.co_plain.specs.declared.session.Session.{Session}
 use Rattle.co_plain.specs.Numbers.{first_lacking, has_number, numbers_lacking, next_generation}
 use Rattle.co_plain.specs.LogWrite.{marks_of, outcome_of, batch_is_stable, closes_spare, with_batch, with_filled_spare, with_spare, generation_of}
 use Rattle.co_plain.specs.CoordStep.{with_table, with_coord_log, coord_down, has_part, members_of, stopped_coord, coord_forced_by, coord_says}
-use Rattle.co_plain.specs.Coordinator.{member_or_none, waits, aborts, decided_by, yes_counted, yes_entry, no_counted, no_entry, ask_entry, ended_by, ack_counted, ack_entry, timer_entry, resend_entry, parts_lacking, decisions_to, prepares_to}
+use Rattle.co_plain.specs.Coordinator.{member_or_none, waits, aborts, decided_by, yes_entry, no_entry, ask_entry, ended_by, ack_entry, timer_entry, resend_entry, parts_lacking, decisions_to, prepares_to}
 use Rattle.co_plain.specs.CoordLog.{coord_checkpoint_mark, coord_stopped_fill, coord_fill_by, coord_close_by, coord_checkpoint_by, coord_restart_by, coord_spare}
 use Rattle.co_plain.specs.Wire.{was_sent}
-use Rattle.co_plain.specs.Sessions.{same_node, parts_of}
 use Rattle.co_plain.specs.Federation.{Federation, with_coord, at_coord, noted, decided_where, decide_all}
 use Rattle.co_plain.specs.Decisions.{told_of, told_in}
-use Rattle.co_plain.specs.Invariants.{Side, Memory, Stable, view, takes_part_in, ends_only}
-use Rattle.co_plain.specs.Moves.{RecordYes, RecordAck, Decide, Leave, End, effect, with_decision, table_decided, decide_members, decide_entry, record_yes, record_ack}
+use Rattle.co_plain.specs.Invariants.{Stable, view, takes_part_in, ends_only}
+use Rattle.co_plain.specs.Moves.{with_decision, table_decided, decide_entry, record_yes, record_ack}
 use Rattle.co_law_base.proofs.Lookups.{found_holds, without_here}
-use Rattle.co_law_base.proofs.Facts.{rest_of, over, asked, told, settled, takes, Here, ByTold, alive, settled_at, by_coord, belongs, Begun, OpenEntry, CoordHas, Facts}
-use Rattle.co_law_base.proofs.Carrying.{at_here, settled_from}
+use Rattle.co_law_base.proofs.Facts.{rest_of, over, asked, told, Here, ByTold, settled_at, by_coord, belongs, Begun, OpenEntry, Facts}
+use Rattle.co_law_base.proofs.Carrying.{at_here}
 use Rattle.co_law_base.proofs.TwoViews.{committed_both}
 use Rattle.co_law_base.proofs.MemberFrame.{unended_settled}
 use Rattle.co_law_coord.proofs.CoordMoves.{open_unsettled, keeps_record_yes, keeps_record_ack, keeps_leave, keeps_end}
 use Rattle.co_law_session.proofs.Sending.{Allowed, parts_told, part_member}
 use Rattle.co_law_decide.proofs.AtCoord.{keeps_decide}
-use Rattle.co_law_event.proofs.Nodes.{coord_stays, coord_crash_at, coord_restart_at, coord_arm_at, coord_close_at, coord_fill_at}
-use Rattle.co_law_event.proofs.Marks.{AllQuiet, AllAllowed, ends_quiet, commit_marks, noted_quiet, noted_all}
-use Rattle.co_law_event.proofs.CoordNotes.{EachPart, all_commits, all_aborts, all_prepares, each_filter, lacking_among, prepares_allowed}
+use Rattle.co_law_event.proofs.Nodes.{coord_stays, coord_crash_at, coord_restart_at, coord_close_at, coord_fill_at}
+use Rattle.co_law_event.proofs.Marks.{AllAllowed, ends_quiet, commit_marks, noted_quiet, noted_all}
+use Rattle.co_law_event.proofs.CoordNotes.{all_commits, all_aborts, all_prepares, each_filter, lacking_among, prepares_allowed}
 
 -- a commit record at the deciding coordinator decides
 pub decides_there : (o : Option Session) (c t : ℕ) (ds : List Decided) → by_coord o c ≡ true → decided_where o (node.Coord c) t ds ≡ record { txn = t; told = told_in o } ∷ ds
@@ -100,16 +97,20 @@ module _ (s : Federation) (c : ℕ) (f : Facts s) where
       deciding_event s c t f (with_table (s.coord c) (put (s.coord c).table t (entry.Committed (members_of parts) []))) (members_of parts) answer.Committed (decisions_to c t true (members_of parts)) refl
       ((f.coords c).collecting t parts yeses e).still.begun_there done
       (all_commits (with_decision (with_coord s c (with_coord_log (with_table (s.coord c) (put (s.coord c).table t (entry.Committed (members_of parts) []))) (with_batch (s.coord c).log (log.Commit t (members_of parts) ∷ [])))) t) t c (members_of parts)
-      (λ k n. (Here (or_left (t == t) _ (eq-eqb t t refl)),
-      ByTold (parts_told (told (rest_of s) t) k (ap (λ ps. has_part ps k) (sym ((f.coords c).collecting t parts yeses e).parts_told) ∙ sym (part_member parts k) ∙ n)),
-      or_left (asked (rest_of s) t) (holds s.used t) ((f.coords c).collecting t parts yeses e).asked)))
+      (λ k n. (
+        Here (or_left (t == t) _ (eq-eqb t t refl)),
+        ByTold (parts_told (told (rest_of s) t) k (ap (λ ps. has_part ps k) (sym ((f.coords c).collecting t parts yeses e).parts_told) ∙ sym (part_member parts k) ∙ n)),
+        or_left (asked (rest_of s) t) (holds s.used t) ((f.coords c).collecting t parts yeses e).asked,
+      )))
       (outcome_of (s.coord c).log.armed 4)
     where
       same : (ms : List ℕ) → ms ≢ [] → table_decided (s.coord c) t ms ≡ with_table (s.coord c) (put (s.coord c).table t (entry.Committed ms []))
       same [] n = absurd (n refl)
       same (k ∷ ms) n = refl
+
       some' : (ms : List ℕ) → has_number ms m ≡ true → ms ≢ []
       some' ms k q = let z : false ≡ true = ap (λ l. has_number l m) (sym q) ∙ k in cc
+
       done : Facts (with_decision (with_coord s c (with_coord_log (with_table (s.coord c) (put (s.coord c).table t (entry.Committed (members_of parts) []))) (with_batch (s.coord c).log (log.Commit t (members_of parts) ∷ [])))) t)
       done =
           subst (λ z. Facts (with_decision (with_coord s c (with_coord_log z (with_batch (s.coord c).log (log.Commit t (members_of parts) ∷ [])))) t)) (same (members_of parts) (some' (members_of parts) (part_member parts m ∙ h)))
@@ -163,6 +164,7 @@ module _ (s : Federation) (c : ℕ) (f : Facts s) where
       held : (takes_part_in (look (s.coord c).table t) m ≡ true) ⊎ (holds (s.member m).committed t ≡ true) → holds (view Stable (s.member m)).committed t ≡ true
       held (inl h) = absurd (let z : false ≡ true = ap (λ o. takes_part_in o m) (sym e) ∙ h in cc)
       held (inr h) = sym (ap (λ n. holds n t) (committed_both (rest_of s) m (s.member m) (f.members m))) ∙ h
+
       by : (b : Bool) → settled_at (rest_of s) c t ≡ b → (belongs (rest_of s) t c × ((holds (s.coord c).table t || settled_at (rest_of s) c t) ≡ false)) ⊎ (holds (view Stable (s.member m)).committed t ≡ true)
       by false h = inl (f.sent.asks_named t m c a, or_from _ _ (ap is_some e) h)
       by true h = inr (held (or_cases _ _ (f.sent.asks_held t m c a (or_right (holds (s.coord c).table t) (settled_at (rest_of s) c t) h))))
@@ -175,9 +177,14 @@ module _ (s : Federation) (c : ℕ) (f : Facts s) where
       ((at_c (λ z. (belongs (rest_of s) t c × ((holds z.table t || settled_at (rest_of s) c t) ≡ false)) ⊎ (holds (view Stable (s.member m)).committed t ≡ true)) (unknown_aborts t m a e), f.sent.over (message.Ask t m c) a), tt)
   ask_event t m a (Some (entry.Committed members acks)) e =
       let x = (f.coords c).committed t members acks e in
-      sends_here answer.Decided (message.Decide t c m true ∷ [])
-      ((unended_settled s f c t members x.recorded, f.sent.asks_take t m c a (or_left (holds (s.coord c).table t) (settled_at (rest_of s) c t) (found_holds (s.coord c).table t (entry.Committed members acks) e)),
-      f.sent.over (message.Ask t m c) a), tt)
+      sends_here answer.Decided (message.Decide t c m true ∷ []) (
+        (
+          unended_settled s f c t members x.recorded,
+          f.sent.asks_take t m c a (or_left (holds (s.coord c).table t) (settled_at (rest_of s) c t) (found_holds (s.coord c).table t (entry.Committed members acks) e)),
+          f.sent.over (message.Ask t m c) a,
+        ),
+        tt,
+      )
 
   ack_missing : (t m : ℕ) (members acks : List ℕ) → look (s.coord c).table t ≡ Some (entry.Committed members acks) → has_number members m ≡ true → was_sent s.sent (message.Ack t m c) ≡ true →
       (o : Option ℕ) → first_lacking members (m ∷ acks) ≡ o → Facts (at_coord s c (ended_by (s.coord c) t members (m ∷ acks) o)).state

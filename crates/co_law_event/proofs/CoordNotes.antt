@@ -1,27 +1,24 @@
 -- The messages of coordinators are true when they are sent.
-use Rattle.std.proofs.Common.{◌≡◌, ◌≢◌, ◌⊎◌, inl, inr, ℕ, zero, suc, Bool, true, false, not, cond, ◌||◌, ◌&&◌, ◌==◌, ◌≤◌, ◌<◌, ◌+◌, if◌then◌else◌, List, [], ◌∷◌, ◌++◌, map, filter, Option, None, Some, refl, sym, ap, ◌∙◌, subst, arith}
+use Rattle.std.proofs.Common.{◌≡◌, ◌≢◌, ◌⊎◌, inl, inr, ℕ, zero, suc, Bool, true, false, not, cond, ◌||◌, ◌==◌, ◌≤◌, ◌<◌, ◌+◌, if◌then◌else◌, List, [], ◌∷◌, filter, Some, refl, sym, ap, ◌∙◌, subst, arith}
 use Rattle.std.proofs.lemmas.Bool.Decides.{nat_tests}
-use Rattle.std.specs.Option.{is_some}
 use Rattle.std.specs.Ordering.{nat_cmp}
 use Rattle.std.specs.declared.cmp.Ordering.{Ordering}
 use Rattle.std.specs.declared.cmp.Ordering.TheVariants.{Less, Equal, Greater}
 use Rattle.std.specs.FinMap.Entries.{by_order}
-use Rattle.std.proofs.lemmas.Bool.{or_cases, or_left, or_right, or_from, and_parts, eqb-true, eqb-false, eq-eqb, ne_eqb, cases_Bool, false_from_ne_true}
+use Rattle.std.proofs.lemmas.Bool.{or_cases, or_left, or_right, or_from, eq-eqb, ne_eqb}
 use Rattle.co_base.specs.declared.part.Part.{Part}
-use Rattle.co_message.specs.declared.message.Message.{Message}
 use Rattle.co_message.specs.declared.message.Message.TheVariants as message
-use Rattle.co_plain.specs.declared.coord_state.Entry.{Entry}
 use Rattle.co_plain.specs.declared.coord_state.Entry.TheVariants as entry
 use Rattle.co_plain.specs.declared.session.Told.{Told}
 use Rattle.co_plain.specs.Numbers.{has_number, numbers_lacking}
-use Rattle.co_plain.specs.CoordStep.{has_part, members_of}
-use Rattle.co_plain.specs.Coordinator.{prepares_to, decisions_to, parts_lacking}
+use Rattle.co_plain.specs.CoordStep.{has_part}
+use Rattle.co_plain.specs.Coordinator.{prepares_to, decisions_to}
 use Rattle.co_plain.specs.Sessions.{count_at, with_part, parts_of}
 use Rattle.co_plain.specs.Federation.{Federation}
 use Rattle.co_plain.specs.Decisions.{told_of}
 use Rattle.co_plain.specs.Moves.{Send, effect}
 use Rattle.co_state.specs.Table.{look}
-use Rattle.co_law_session.proofs.Sending.{Allowed, parts_told, told_parts}
+use Rattle.co_law_session.proofs.Sending.{Allowed, told_parts}
 use Rattle.co_law_event.proofs.Marks.{AllAllowed}
 
 -- the members of participants ascend, each with its count
@@ -91,6 +88,7 @@ counts_more k f g (p ∷ ps) h one none a c = by (counts_more k f g ps h one) (n
     above_lacks : (qs : List Part) → Above k qs → has_part qs k ≡ false
     above_lacks [] b = refl
     above_lacks (q ∷ qs) b = or_from (q.member == k) (has_part qs k) (ne_eqb q.member k (λ e. let l : k < k = subst (λ n. k < n) e b.0 in omega (arith, l))) (above_lacks qs b.1)
+
     by : ((has_part ps k ≡ false → f k ≡ 0) → Ascend ps → Counts f ps → Counts g (with_part k ps)) → (o : Ordering) → nat_cmp k p.member ≡ o → Counts g (with_part k (p ∷ ps))
     by rest Less e =
         let l = less_is k p.member e in
@@ -126,9 +124,10 @@ parts_counted (o ∷ os) =
 -- Messages that are true now stay true while others are sent.
 pub all_commits : (s : Federation) (t c : ℕ) (ms : List ℕ) → ((m : ℕ) → has_number ms m ≡ true → Allowed s (message.Decide t c m true)) → AllAllowed s (decisions_to c t true ms)
 all_commits s t c [] h = tt
-all_commits s t c (m ∷ ms) h =
-    (h m (or_left (m == m) (has_number ms m) (eq-eqb m m refl)),
-    all_commits (effect s (Send (message.Decide t c m true))) t c ms (λ k n. h k (or_right (m == k) (has_number ms k) n)))
+all_commits s t c (m ∷ ms) h = (
+  h m (or_left (m == m) (has_number ms m) (eq-eqb m m refl)),
+  all_commits (effect s (Send (message.Decide t c m true))) t c ms (λ k n. h k (or_right (m == k) (has_number ms k) n)),
+)
 
 pub all_aborts : (s : Federation) (t c : ℕ) (ms : List ℕ) → ((m : ℕ) → Allowed s (message.Decide t c m false)) → AllAllowed s (decisions_to c t false ms)
 all_aborts s t c [] h = tt
@@ -161,9 +160,10 @@ lacking_among (n ∷ ns) given m h = by (lacking_among ns given m) (not (has_num
 -- the prepares of a collecting transaction
 each_has : (all ps : List Part) → ((m : ℕ) → has_part ps m ≡ true → has_part all m ≡ true) → (f : ℕ → ℕ) → Counts f ps → EachPart (λ p. (has_part all p.member ≡ true) × (p.count ≡ f p.member)) ps
 each_has all [] h f c = tt
-each_has all (p ∷ ps) h f c =
-    ((h p.member (or_left (p.member == p.member) (has_part ps p.member) (eq-eqb p.member p.member refl)), c.0),
-    each_has all ps (λ m k. h m (or_right (p.member == m) (has_part ps m) k)) f c.1)
+each_has all (p ∷ ps) h f c = (
+  (h p.member (or_left (p.member == p.member) (has_part ps p.member) (eq-eqb p.member p.member refl)), c.0),
+  each_has all ps (λ m k. h m (or_right (p.member == m) (has_part ps m) k)) f c.1,
+)
 
 each_map : (P Q : Part → Type 0) (ps : List Part) → ((p : Part) → P p → Q p) → EachPart P ps → EachPart Q ps
 each_map P Q [] h e = tt

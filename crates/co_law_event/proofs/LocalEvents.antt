@@ -1,9 +1,7 @@
 -- What a client does with a local transaction is a list of moves.
-use Rattle.std.proofs.Common.{◌≡◌, ◌≢◌, ◌⊎◌, inl, inr, ℕ, zero, suc, Bool, true, false, not, ◌||◌, ◌==◌, ◌≤◌, if◌then◌else◌, List, [], ◌∷◌, ◌++◌, Option, None, Some, refl, sym, ap, ◌∙◌, subst, arith}
+use Rattle.std.proofs.Common.{◌≡◌, ℕ, Bool, true, false, not, ◌==◌, ◌≤◌, if◌then◌else◌, List, [], ◌∷◌, ◌++◌, Option, None, Some, refl, sym, ap, ◌∙◌, subst, arith}
 use Rattle.std.proofs.lemmas.Bool.Decides.{nat_tests}
-use Rattle.std.specs.Option.{is_some}
-use Rattle.std.proofs.lemmas.Bool.{or_left, eqb-true, eqb-false, eq-eqb, false_from_ne_true}
-use Rattle.co_base.specs.declared.mark.Mark.{Mark}
+use Rattle.std.proofs.lemmas.Bool.{eq-eqb, false_from_ne_true}
 use Rattle.co_base.specs.declared.node.Node.TheVariants as node
 use Rattle.co_message.specs.declared.answer.Answer.TheVariants as answer
 use Rattle.co_record.specs.declared.record.Record.{Record}
@@ -26,22 +24,21 @@ use Rattle.co_plain.specs.declared.standing.Standing.{Standing}
 use Rattle.co_plain.specs.declared.standing.Standing.TheVariants.{IsActive, IsVoted, IsInstalled, IsAbsent}
 use Rattle.co_plain.specs.Numbers.{counted}
 use Rattle.co_plain.specs.LogWrite.{marks_of, outcome_of, batch_is_stable, with_batch}
-use Rattle.co_plain.specs.MemberStep.{says, with_log, standing_by, standing_of, dropped, member_down, member_down_with, stopped_member, forced_by}
+use Rattle.co_plain.specs.MemberStep.{says, standing_of, dropped, member_down, member_down_with, stopped_member, forced_by}
 use Rattle.co_plain.specs.Member.{prepare_record, voted_state, installed_state}
 use Rattle.co_plain.specs.LocalCommit.{local_coord, local_commit_by, member_local_commit, local_abort_by}
 use Rattle.co_plain.specs.Sessions.{count_at, same_node, asked_to_end}
-use Rattle.co_plain.specs.Federation.{Federation, with_session, with_member, at_member, noted, decided_where, decide_all}
-use Rattle.co_plain.specs.Step.{marked_asked, is_held, local_answers}
+use Rattle.co_plain.specs.Federation.{Federation, with_session, with_member, at_member, decided_where, decide_all}
+use Rattle.co_plain.specs.Step.{marked_asked, is_held}
 use Rattle.co_plain.specs.Decisions.{told_of, told_in, asked_in, votes_for}
-use Rattle.co_plain.specs.Invariants.{Side, Memory, view}
-use Rattle.co_plain.specs.Moves.{effect, marked_over, with_decision, local_state, session_by_member}
-use Rattle.co_law_base.proofs.Lookups.{put_here, holds_found, found_holds}
+use Rattle.co_plain.specs.Invariants.{Memory}
+use Rattle.co_plain.specs.Moves.{marked_over, with_decision, local_state, session_by_member}
+use Rattle.co_law_base.proofs.Lookups.{put_here, holds_found}
 use Rattle.co_law_base.proofs.Facts.{rest_of, Facts}
-use Rattle.co_law_base.proofs.Carrying.{votes_stand}
 use Rattle.co_law_member.proofs.LogMoves.{local_apart}
 use Rattle.co_law_decide.proofs.Locally.{keeps_local}
 use Rattle.co_law_event.proofs.Nodes.{member_stays, drop_active_at, crash_at}
-use Rattle.co_law_event.proofs.Marks.{AllQuiet, aborts_quiet, commit_marks}
+use Rattle.co_law_event.proofs.Marks.{aborts_quiet, commit_marks}
 use Rattle.co_law_event.proofs.MemberEvents.{absent_dropped, active_is}
 use Rattle.co_law_event.proofs.ClientEvents.{asked_state}
 
@@ -93,9 +90,12 @@ module _ (s : Federation) (f : Facts s) (t m : ℕ) (session : Session) (e : loo
   done n v =
       subst (λ ts. Facts (with_decision (with_member (with_session s t (asked_to_end session)) m (local_state (s.member m) t (count_at ts m))) t)) told_same
       (subst (λ o. Facts (with_decision (with_member (marked_over s t o) m (local_state (s.member m) t (count_at (told_of s t) m))) t)) e
-      (keeps_local s f t m
-      (subst (λ o. session_by_member o m) (sym e) mine, ap asked_in e ∙ unasked, subst (λ ts. 1 ≤ count_at ts m) (sym told_same) n,
-      subst (λ ts. vote_of (s.member m).engine t (count_at ts m) ≡ VoteYes) (sym told_same) v)))
+      (keeps_local s f t m (
+        subst (λ o. session_by_member o m) (sym e) mine,
+        ap asked_in e ∙ unasked,
+        subst (λ ts. 1 ≤ count_at ts m) (sym told_same) n,
+        subst (λ ts. vote_of (s.member m).engine t (count_at ts m) ≡ VoteYes) (sym told_same) v,
+      )))
 
   decides_it : (ds : List Decided) → decided_where (look (put s.sessions t (asked_to_end session)) t) (node.Member m) t ds ≡ record { txn = t; told = told_of (with_session s t (asked_to_end session)) t } ∷ ds
   decides_it ds =

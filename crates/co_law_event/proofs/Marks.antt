@@ -1,8 +1,7 @@
 -- What became stable decides exactly the transactions whose commit record became stable at their deciding node.
-use Rattle.std.proofs.Common.{◌≡◌, ◌⊎◌, inl, inr, ℕ, Bool, true, false, List, [], ◌∷◌, ◌++◌, map, reverse, if◌then◌else◌, Option, None, Some, refl, sym, ap, ◌∙◌, subst}
+use Rattle.std.proofs.Common.{◌≡◌, ℕ, true, false, List, [], ◌∷◌, ◌++◌, map, reverse, Option, None, Some, refl, sym, ap, ◌∙◌, subst}
 use Rattle.std.proofs.lemmas.List.{reverse-append}
 use Rattle.co_base.specs.declared.mark.Mark.{Mark}
-use Rattle.co_base.specs.declared.mark.MarkKind.TheVariants as kind
 use Rattle.co_base.specs.declared.node.Node.{Node}
 use Rattle.co_message.specs.declared.message.Message.{Message}
 use Rattle.co_record.specs.declared.record.Record.{Record}

@@ -1,8 +1,6 @@
 -- Every event of a member is a list of its moves, with a message that is true.
-use Rattle.std.proofs.Common.{◌≡◌, ◌≢◌, ◌⊎◌, inl, inr, ℕ, Bool, true, false, ◌||◌, ◌==◌, ◌≤◌, if◌then◌else◌, List, [], ◌∷◌, ◌++◌, Option, None, Some, refl, sym, ap, ◌∙◌, subst, arith}
-use Rattle.std.specs.Option.{is_some}
-use Rattle.std.proofs.lemmas.Bool.{or_cases, eqb-true, eq-eqb, false_from_ne_true}
-use Rattle.co_base.specs.declared.leaves.Leaves.{Leaves}
+use Rattle.std.proofs.Common.{◌≡◌, ◌⊎◌, inl, inr, ℕ, Bool, true, false, if◌then◌else◌, List, [], ◌∷◌, ◌++◌, Option, None, Some, refl, sym, ap, ◌∙◌, subst}
+use Rattle.std.proofs.lemmas.Bool.{eq-eqb, false_from_ne_true}
 use Rattle.co_base.specs.declared.node.Node.{Node}
 use Rattle.co_base.specs.declared.node.Node.TheVariants as node
 use Rattle.co_message.specs.declared.answer.Answer.{Answer}
@@ -17,14 +15,13 @@ use Rattle.co_state.specs.declared.engine_state.EngineState.{EngineState}
 use Rattle.co_state.specs.declared.engine_state.Vote.{Vote}
 use Rattle.co_state.specs.declared.verdict.Verdict.{Verdict}
 use Rattle.co_state.specs.declared.verdict.Verdict.TheVariants.{LostOperations, StaleRead, HeldBy, VoteYes}
-use Rattle.co_state.specs.Table.{look, holds, put, without}
+use Rattle.co_state.specs.Table.{look, holds}
 use Rattle.co_state.specs.Changes.{sets_of}
 use Rattle.co_state.specs.EngineState.{operations_of}
 use Rattle.co_state.specs.Effects.{install_vote}
 use Rattle.co_state.specs.VotingRule.{vote_of}
 use Rattle.co_plain.specs.declared.member_state.AskedMark.{AskedMark}
 use Rattle.co_plain.specs.declared.member_state.MemberState.{MemberState}
-use Rattle.co_plain.specs.declared.member_step.MemberStep.{MemberStep}
 use Rattle.co_plain.specs.declared.outcome.Outcome.{Outcome}
 use Rattle.co_plain.specs.declared.outcome.Outcome.TheVariants.{Completes, StopsAt}
 use Rattle.co_plain.specs.declared.session.Decided.{Decided}
@@ -32,25 +29,24 @@ use Rattle.co_plain.specs.declared.session.Session.{Session}
 use Rattle.co_plain.specs.declared.standing.Standing.{Standing}
 use Rattle.co_plain.specs.declared.standing.Standing.TheVariants.{IsActive, IsVoted, IsInstalled, IsAbsent}
 use Rattle.co_plain.specs.Numbers.{next_generation}
-use Rattle.co_plain.specs.LogWrite.{marks_of, outcome_of, batch_is_stable, closes_spare, with_batch, with_filled_spare, with_spare, with_stop, with_waiting, generation_of}
+use Rattle.co_plain.specs.LogWrite.{marks_of, outcome_of, batch_is_stable, closes_spare, with_batch, with_filled_spare, with_spare, generation_of}
 use Rattle.co_plain.specs.MemberStep.{says, standing_by, standing_of, with_log, dropped, member_down, member_down_with, stopped_member, forced_by}
-use Rattle.co_plain.specs.Member.{prepare_record, voted_state, vote_by, vote_on, coord_in, coord_of, with_mark, prepare_by, vote_where_asked, vote_again_by, installed_state, commit_by, abort_by, member_decide, timer_by, ask_by, member_deliver}
+use Rattle.co_plain.specs.Member.{prepare_record, voted_state, vote_by, coord_in, coord_of, with_mark, prepare_by, vote_where_asked, vote_again_by, installed_state, commit_by, abort_by, timer_by, ask_by}
 use Rattle.co_plain.specs.MemberLog.{checkpoint_mark, stopped_fill, fill_by, close_by, checkpoint_by, member_spare, restart_by}
 use Rattle.co_plain.specs.Sessions.{same_node}
 use Rattle.co_plain.specs.Wire.{was_sent}
-use Rattle.co_plain.specs.Federation.{Federation, Stepped, with_member, at_member, decided_where}
+use Rattle.co_plain.specs.Federation.{Federation, with_member, at_member, decided_where}
 use Rattle.co_plain.specs.Decisions.{votes_for}
-use Rattle.co_plain.specs.Invariants.{Side, Memory, Stable, view, stands}
-use Rattle.co_law_engine.proofs.YesTells.{in_some, yes_parts}
-use Rattle.co_law_base.proofs.Lookups.{holds_found, found_holds, put_here}
+use Rattle.co_plain.specs.Invariants.{Memory, Stable, view}
+use Rattle.co_law_engine.proofs.YesTells.{in_some}
+use Rattle.co_law_base.proofs.Lookups.{holds_found, put_here}
 use Rattle.co_law_base.proofs.Commits.{holds_new}
 use Rattle.co_law_base.proofs.Facts.{rest_of, settled, alive, belongs, OnlyAborts, Facts}
 use Rattle.co_law_base.proofs.Carrying.{at_here}
 use Rattle.co_law_base.proofs.TwoViews.{committed_both}
 use Rattle.co_law_member.proofs.LogMoves.{without_absent, not_held, local_apart}
-use Rattle.co_law_member.proofs.VoteMoves.{active_found}
 use Rattle.co_law_session.proofs.Sending.{Allowed}
-use Rattle.co_law_event.proofs.Nodes.{member_stays, mark_at, cast_at, drop_active_at, drop_voted_at, install_at, crash_at, restart_at, arm_at, close_at, fill_at}
+use Rattle.co_law_event.proofs.Nodes.{member_stays, mark_at, cast_at, drop_active_at, drop_voted_at, install_at, crash_at, restart_at, close_at, fill_at}
 use Rattle.co_law_event.proofs.Marks.{AllQuiet, aborts_quiet, quiet_marks, noted_quiet, noted_sent}
 
 -- where a transaction stands
@@ -128,14 +124,15 @@ module _ (s : Federation) (m : ℕ) (f : Facts s) where
       unasked = not_held (s.member m).asked t (false_from_ne_true (holds (s.member m).asked t) (λ h.
           let p = holds_found (s.member m).asked t h in
           let z : true ≡ false = sym ((f.members m).marked t p.0 p.1).0 ∙ a in cc))
+
       same : dropped (s.member m) t ≡ s.member m
       same = λ i. record {
-            up = (s.member m).up;
-            engine = record (s.member m).engine { active = without_absent (s.member m).engine.active t (not_held (s.member m).engine.active t a) i; voted = without_absent (s.member m).engine.voted t (not_held (s.member m).engine.voted t v) i };
-            committed = (s.member m).committed;
-            asked = without_absent (s.member m).asked t unasked i;
-            log = (s.member m).log;
-          }
+        up = (s.member m).up;
+        engine = record (s.member m).engine { active = without_absent (s.member m).engine.active t (not_held (s.member m).engine.active t a) i; voted = without_absent (s.member m).engine.voted t (not_held (s.member m).engine.voted t v) i };
+        committed = (s.member m).committed;
+        asked = without_absent (s.member m).asked t unasked i;
+        log = (s.member m).log;
+      }
 
   pub votes_own : (t : ℕ) → holds (s.member m).engine.voted t ≡ true → votes_for (look (s.member m).engine.voted t) (coord_of (s.member m) t) ≡ true
   votes_own t h =
@@ -192,9 +189,11 @@ module _ (s : Federation) (m : ℕ) (f : Facts s) where
     where
       home : (c : ℕ) × belongs (rest_of s) t c
       home = (coord_of (s.member m) t, ((f.members m).views Memory).named t (coord_of (s.member m) t) (votes_own t h))
+
       node_of : (session : Session) → look s.sessions t ≡ Some session → (at : Node) → session.by ≡ at → (if same_node at (node.Member m) then record { txn = t; told = session.told } ∷ ds else ds) ≡ ds
       node_of session e (node.Member k) b = absurd (local_apart s f.numbers t home.0 k session home.1 e b)
       node_of session e (node.Coord c) b = refl
+
       by : (o : Option Session) → look s.sessions t ≡ o → decided_where o (node.Member m) t ds ≡ ds
       by None e = refl
       by (Some session) e = node_of session e session.by refl

@@ -1,29 +1,25 @@
 -- Moves of one node, one after another, as changes of that node.
-use Rattle.std.proofs.Common.{◌≡◌, ◌≢◌, ◌⊎◌, inl, inr, ℕ, Bool, true, false, ◌||◌, ◌==◌, ◌≤◌, if◌then◌else◌, List, [], ◌∷◌, Option, None, Some, refl, sym, ap, ◌∙◌, subst}
-use Rattle.std.proofs.lemmas.Bool.{eqb-true, eqb-false, eq-eqb}
-use Rattle.co_base.specs.declared.part.Part.{Part}
+use Rattle.std.proofs.Common.{◌≡◌, ℕ, Bool, true, false, ◌==◌, if◌then◌else◌, Option, refl, sym, ap, ◌∙◌, subst}
+use Rattle.std.proofs.lemmas.Bool.{eqb-true}
 use Rattle.co_message.specs.declared.message.Message.TheVariants as message
 use Rattle.co_record.specs.declared.record.Record.TheVariants as log
 use Rattle.co_serial.specs.SerialRun.{with_at}
 use Rattle.co_state.specs.declared.verdict.Verdict.TheVariants.{VoteYes}
-use Rattle.co_state.specs.Table.{look, holds, put, without}
+use Rattle.co_state.specs.Table.{holds}
 use Rattle.co_state.specs.VotingRule.{vote_of}
 use Rattle.co_plain.specs.declared.coord_state.CoordState.{CoordState}
-use Rattle.co_plain.specs.declared.coord_state.Entry.{Entry}
-use Rattle.co_plain.specs.declared.coord_state.Entry.TheVariants as entry
 use Rattle.co_plain.specs.declared.log_state.Stop.{Stop}
 use Rattle.co_plain.specs.declared.member_state.MemberState.{MemberState}
-use Rattle.co_plain.specs.Numbers.{first_lacking, has_number, next_generation}
-use Rattle.co_plain.specs.LogWrite.{with_batch, with_filled_spare, with_spare, with_stop, with_waiting, generation_of}
+use Rattle.co_plain.specs.Numbers.{next_generation}
+use Rattle.co_plain.specs.LogWrite.{with_filled_spare, with_spare, with_stop, with_waiting, generation_of}
 use Rattle.co_plain.specs.MemberStep.{with_log, dropped, member_down}
-use Rattle.co_plain.specs.Member.{with_mark, installed_state}
+use Rattle.co_plain.specs.Member.{with_mark}
 use Rattle.co_plain.specs.MemberLog.{member_spare}
-use Rattle.co_plain.specs.CoordStep.{with_table, with_coord_log, coord_down, members_of, has_part}
+use Rattle.co_plain.specs.CoordStep.{with_coord_log, coord_down}
 use Rattle.co_plain.specs.CoordLog.{coord_spare}
 use Rattle.co_plain.specs.Wire.{was_sent}
 use Rattle.co_plain.specs.Federation.{Federation, with_member, with_coord}
-use Rattle.co_plain.specs.Decisions.{IsPresumedAborted}
-use Rattle.co_plain.specs.Moves.{cast_state, install_state, restarted, record_yes, record_ack, MarkAsked, effect, Guard}
+use Rattle.co_plain.specs.Moves.{cast_state, install_state, restarted}
 use Rattle.co_law_base.proofs.Facts.{rest_of, settled, alive, belongs, Facts}
 use Rattle.co_law_base.proofs.Carrying.{at_here}
 use Rattle.co_law_member.proofs.LogMoves.{keeps_mark, keeps_drop_active, drop_dead, keeps_member_crash, keeps_member_restart, keeps_member_arm, keeps_member_close}

@@ -1,6 +1,6 @@
 -- Every step keeps the facts, where a verdict that is handed is true of the run.
-use Rattle.std.proofs.Common.{◌≡◌, ◌≢◌, ◌⊎◌, inl, inr, ℕ, Bool, true, false, not, ◌||◌, ◌&&◌, ◌==◌, if◌then◌else◌, List, [], ◌∷◌, Option, None, Some, refl, sym, ap, ◌∙◌, subst}
-use Rattle.std.proofs.lemmas.Bool.{or_cases, eqb-true}
+use Rattle.std.proofs.Common.{◌≡◌, inl, ℕ, Bool, true, false, if◌then◌else◌, List, [], ◌∷◌, Option, None, Some, refl, sym, ap, ◌∙◌}
+use Rattle.std.proofs.lemmas.Bool.{eqb-true}
 use Rattle.co_base.specs.declared.leaves.Leaves.{Leaves}
 use Rattle.co_base.specs.declared.node.Node.{Node}
 use Rattle.co_base.specs.declared.node.Node.TheVariants as node
@@ -31,13 +31,13 @@ use Rattle.co_plain.specs.Coordinator.{coord_commit, coord_abort, coord_deliver,
 use Rattle.co_plain.specs.CoordLog.{coord_checkpoint, coord_crash, coord_arm}
 use Rattle.co_plain.specs.Sessions.{Refuses, Grants, parts_of, leave_to_visit, leave_to_end, unless_asked, may_visit, count_at}
 use Rattle.co_plain.specs.Wire.{was_sent}
-use Rattle.co_plain.specs.Federation.{Federation, Stepped, answers, at_member, at_coord}
-use Rattle.co_plain.specs.Step.{up_member, member_step, up_coord, coord_step, coord_answers, local_answers, is_used, begin_where, local_where, operate, operate_with, commit_at, commit_with, abort_at, abort_with, arrives, deliver, timer_at, crash_at, restart_at, arm_at, checkpoint_at, disarmed, step_line, step}
+use Rattle.co_plain.specs.Federation.{Federation, answers, at_member, at_coord}
+use Rattle.co_plain.specs.Step.{up_member, member_step, up_coord, coord_step, coord_answers, local_answers, is_used, begin_where, local_where, operate, operate_with, commit_at, commit_with, abort_at, abort_with, arrives, deliver, timer_at, crash_at, restart_at, arm_at, checkpoint_at, step_line, step}
 use Rattle.co_plain.specs.Runs.{run}
-use Rattle.co_plain.specs.Decisions.{IsDecided, IsPresumedAborted}
+use Rattle.co_plain.specs.Decisions.{IsPresumedAborted}
 use Rattle.co_plain.specs.Invariants.{Side, Memory, Stable, view, stands}
 use Rattle.co_plain.specs.Moves.{may_operate_at}
-use Rattle.co_law_base.proofs.Facts.{Before, rest_of, changed, settled, alive, belongs, MemberFacts, ViewFacts, Facts}
+use Rattle.co_law_base.proofs.Facts.{Before, rest_of, MemberFacts, ViewFacts, Facts}
 use Rattle.co_law_base.proofs.Carrying.{LivesOn, StandsOn, Later, later_member, later_coord, later_records, later_sent, numbers_same, sent_on, records_on}
 use Rattle.co_law_base.proofs.MemberFrame.{unended_settled}
 use Rattle.co_law_base.proofs.Commits.{unended_seen}
@@ -71,9 +71,11 @@ module _ (s : Federation) (f : Facts s) where
       asked : (session : Session) → look s.sessions t ≡ Some session → may_visit session.by m ≡ true → (b : Bool) → session.asked ≡ b → Facts (operate_with s t m o (if b then Refuses answer.Asked else Grants session)).state
       asked session e v true a = f
       asked session e v false a = clients.operation_event s f t m o session e (may_be session m v a) (s.member m).up
+
       visits : (session : Session) → look s.sessions t ≡ Some session → (b : Bool) → may_visit session.by m ≡ b → Facts (operate_with s t m o (if b then unless_asked session else Refuses answer.NotBegun)).state
       visits session e false v = f
       visits session e true v = asked session e v session.asked refl
+
       by : (z : Option Session) → look s.sessions t ≡ z → Facts (operate_with s t m o (leave_to_visit z m)).state
       by None e = f
       by (Some session) e = visits session e (may_visit session.by m) refl
@@ -108,6 +110,7 @@ module _ (s : Federation) (f : Facts s) where
       asked : (session : Session) → look s.sessions t ≡ Some session → (b : Bool) → session.asked ≡ b → Facts (commit_with s t (if b then Refuses answer.Asked else Grants session)).state
       asked session e true a = f
       asked session e false a = commits_at t session e a session.by refl
+
       by : (z : Option Session) → look s.sessions t ≡ z → Facts (commit_with s t (leave_to_end z)).state
       by None e = f
       by (Some session) e = asked session e session.asked refl
@@ -118,6 +121,7 @@ module _ (s : Federation) (f : Facts s) where
       asked : (session : Session) → look s.sessions t ≡ Some session → (b : Bool) → session.asked ≡ b → Facts (abort_with s t (if b then Refuses answer.Asked else Grants session)).state
       asked session e true a = f
       asked session e false a = aborts_at t session e a session.by refl
+
       by : (z : Option Session) → look s.sessions t ≡ z → Facts (abort_with s t (leave_to_end z)).state
       by None e = f
       by (Some session) e = asked session e session.asked refl
@@ -248,6 +252,7 @@ disarm_members s f =
     views : (m : ℕ) (side : Side) → ViewFacts (rest_of s) m (view side (with_log (s.member m) (with_stop (s.member m).log None)))
     views m Memory = (f.members m).views Memory
     views m Stable = (f.members m).views Stable
+
     alike : (m : ℕ) → MemberFacts (rest_of s) m (with_log (s.member m) (with_stop (s.member m).log None))
     alike m =
         let x = f.members m in
@@ -258,12 +263,15 @@ disarm_members s f =
           logged = x.logged;
           waiting = x.waiting;
         }
+
     standing : (m : ℕ) (side : Side) (t : ℕ) → LivesOn (rest_of s) t → stands (view side (s.member m)) t ≡ true → stands (view side (with_log (s.member m) (with_stop (s.member m).log None))) t ≡ true
     standing m Memory t l h = h
     standing m Stable t l h = h
+
     committed : (m : ℕ) (side : Side) (t : ℕ) → holds (view side (s.member m)).committed t ≡ true → holds (view side (with_log (s.member m) (with_stop (s.member m).log None))).committed t ≡ true
     committed m Memory t h = h
     committed m Stable t h = h
+
     on : (m : ℕ) → StandsOn (rest_of s) (s.member m) (with_log (s.member m) (with_stop (s.member m).log None))
     on m = record { standing = standing m; committed = committed m }
 

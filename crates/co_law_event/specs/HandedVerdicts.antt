@@ -1,5 +1,5 @@
 -- Verdicts that are handed over by another member (cooperative termination): a run in which each is true.
-use Rattle.std.specs.Prelude.{Bool, true, false, List, [], ◌∷◌}
+use Rattle.std.specs.Prelude.{true, false, List, [], ◌∷◌}
 use Rattle.co_plain.specs.declared.happening.Happening.{Happening}
 use Rattle.co_plain.specs.declared.happening.Happening.TheVariants as happening
 use Rattle.co_plain.specs.Decisions.{IsDecided, IsPresumedAborted}

@@ -1,12 +1,10 @@
 -- The durable records of a view are the records that it tells, but for what its decided votes wrote.
-use Rattle.std.proofs.Common.{◌≡◌, ◌≢◌, ◌⊎◌, inl, inr, ℕ, Bool, true, false, cond, ◌==◌, ◌&&◌, T, if◌then◌else◌, List, [], ◌∷◌, Option, None, Some, refl, sym, ap, ◌∙◌, subst}
-use Rattle.std.proofs.lemmas.Bool.{eqb-true, eqb-false}
+use Rattle.std.proofs.Common.{◌≡◌, ◌≢◌, ℕ, Bool, true, false, cond, T, if◌then◌else◌, List, [], ◌∷◌, Some, refl, sym, ap, ◌∙◌, subst}
 use Rattle.std.specs.Ordering.{nat_cmp, eq_by_cmp}
 use Rattle.std.specs.FinMap.{get, entries, entries_sorted, get-entries}
-use Rattle.std.specs.FinMap.Entries.{find, is_sorted, below_all}
+use Rattle.std.specs.FinMap.Entries.{find, is_sorted}
 use Rattle.co_record.specs.declared.record.Record.{Record}
 use Rattle.co_serial.specs.Records.{Records, with_changes}
-use Rattle.co_state.specs.declared.engine_state.Sets.{Sets}
 use Rattle.co_state.specs.declared.engine_state.Vote.{Vote}
 use Rattle.co_state.specs.Table.{look}
 use Rattle.co_state.specs.Keys.{writes_key, reads_meet, writes_meet}
@@ -17,7 +15,7 @@ use Rattle.co_plain.specs.Invariants.{VotedAreConflictFree}
 use Rattle.co_law_engine.proofs.Keys.{unchanged, overlaid}
 use Rattle.co_law_engine.proofs.SetsMade.{unwritten, meet_turned}
 use Rattle.co_law_engine.proofs.YesTells.{in_some}
-use Rattle.co_law_base.proofs.Lookups.{is_nothing, own_number, same_number}
+use Rattle.co_law_base.proofs.Lookups.{is_nothing, same_number}
 use Rattle.co_law_base.proofs.Commits.{none_below, both_T}
 use Rattle.co_law_base.proofs.ViewRules.{three_parts}
 use Rattle.co_law_base.proofs.ImageRules.{EachEntry, each_entry, entry_has, IsImage}
@@ -46,8 +44,10 @@ written_last logs r x (e ∷ es) q t vote s h f d w = by (λ z. written_last log
   where
     goal : Bool → Type 0
     goal b = get (with_decided logs (if b then with_changes r e.1.sets.writes else r) es) q ≡ get (with_changes x vote.sets.writes) q
+
     apart_rest : (u : ℕ) (y : Vote) → t ≡ e.0 → find nat_cmp u es ≡ Some y → t ≢ u
     apart_rest u y same g n = is_nothing (sym (none_below e.0 es (both_T _ _ s).0) ∙ ap (λ k. find nat_cmp k es) (sym same ∙ n) ∙ g)
+
     by : ((z : Records) → find nat_cmp t es ≡ Some vote → has_commit_of (logs vote.coord) t ≡ true → writes_key vote.sets.writes q ≡ true → get (with_decided logs z es) q ≡ get (with_changes x vote.sets.writes) q) →
         (a : Bool) → eq_by_cmp nat_cmp t e.0 ≡ a → (b : Bool) → has_commit_of (logs e.1.coord) e.0 ≡ b → goal (has_commit_of (logs e.1.coord) e.0)
     by rest true a b k =

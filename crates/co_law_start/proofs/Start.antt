@@ -1,32 +1,30 @@
 -- The facts of a federation over sound opened logs.
-use Rattle.std.proofs.Common.{◌≡◌, ◌≢◌, ◌⊎◌, inl, inr, ℕ, Bool, true, false, ◌||◌, ◌&&◌, List, [], ◌∷◌, ◌++◌, length, Option, None, Some, refl, sym, ap, ◌∙◌, subst}
+use Rattle.std.proofs.Common.{◌≡◌, ◌⊎◌, inl, inr, ℕ, Bool, true, false, List, [], ◌∷◌, length, Some, refl, sym, ap, ◌∙◌, subst}
 use Rattle.std.specs.Option.{is_some}
-use Rattle.std.proofs.lemmas.Bool.{or_cases, or_left, or_right, eqb-true, eq-eqb, cases_Bool}
+use Rattle.std.proofs.lemmas.Bool.{or_cases, or_right, eq-eqb}
 use Rattle.std.specs.FinMap.{entries}
 use Rattle.co_base.specs.declared.head.Kind.{Kind}
 use Rattle.co_base.specs.declared.node.Node.{Node}
 use Rattle.co_base.specs.declared.node.Node.TheVariants as node
 use Rattle.co_record.specs.declared.record.Record.{Record}
-use Rattle.co_record.specs.declared.record.Record.TheVariants as log
 use Rattle.co_state.specs.declared.engine_state.Vote.{Vote}
 use Rattle.co_state.specs.Table.{Table, look, holds, no_entries}
 use Rattle.co_plain.specs.declared.coord_state.Entry.{Entry}
 use Rattle.co_plain.specs.declared.coord_state.Entry.TheVariants as entry
 use Rattle.co_plain.specs.declared.member_view.MemberView.{MemberView}
 use Rattle.co_plain.specs.declared.session.Session.{Session}
-use Rattle.co_plain.specs.Numbers.{has_number}
 use Rattle.co_plain.specs.MemberView.{recovered_view}
 use Rattle.co_plain.specs.CoordView.{recovered_commits, has_commit_of}
 use Rattle.co_plain.specs.CoordStep.{table_from}
 use Rattle.co_plain.specs.Opening.{Found, made, used_numbers, opened}
 use Rattle.co_plain.specs.Federation.{Federation}
 use Rattle.co_plain.specs.Decisions.{votes_for}
-use Rattle.co_plain.specs.SoundLogs.{AreSound, unended_in, has_unended}
-use Rattle.co_plain.specs.Invariants.{Side, Memory, Stable, view, stands, VotedAreConflictFree, takes_part_in}
+use Rattle.co_plain.specs.SoundLogs.{unended_in, has_unended}
+use Rattle.co_plain.specs.Invariants.{Side, Memory, Stable, view, stands, takes_part_in}
 use Rattle.co_law_base.proofs.Lookups.{is_nothing, look_none, holds_found, found_holds}
 use Rattle.co_law_base.proofs.Commits.{lacks_at_first, unended_seen, unended_some, from_cases, from_found}
 use Rattle.co_law_base.proofs.ImageRules.{IsImage}
-use Rattle.co_law_base.proofs.Facts.{Rest, rest_of, asked, settled, Here, Before, alive, by_coord, settled_at, belongs, Begun, Voted, takes, Named, entry_of, serial, ViewFacts, MemberFacts, CommittedEntry, CoordHas, NumberFacts, Facts}
+use Rattle.co_law_base.proofs.Facts.{rest_of, asked, settled, Here, Before, alive, by_coord, settled_at, belongs, Begun, Voted, Named, serial, ViewFacts, MemberFacts, CommittedEntry, CoordHas, Facts}
 use Rattle.co_law_start.specs.OpenedLogs.{AreOpenable}
 use Rattle.co_law_start.proofs.Laid.{durable_image}
 
@@ -133,10 +131,12 @@ module _ (kinds : List Kind) (coords : ℕ) (fm fc : ℕ → Found) (g : AreOpen
     where
       unended : Table (List ℕ)
       unended = (recovered_commits (fc c).records).unended
+
       fits : Entry → ℕ → Type 0
       fits entry.Idle t = Unit {0}
       fits (entry.Collecting parts yeses) t = Unit {0}
       fits (entry.Committed ms acks) t = CommittedEntry (rest_of (opened kinds coords fm fc)) c (made (node.Coord c) (fc c).records) [] t ms acks
+
       committed : (t : ℕ) (ms acks ns : List ℕ) → look (recovered_commits (fc c).records).unended t ≡ Some ns → entry.Committed ns [] ≡ entry.Committed ms acks →
           CommittedEntry (rest_of (opened kinds coords fm fc)) c (made (node.Coord c) (fc c).records) [] t ms acks
       committed t ms acks ns e q =

@@ -1,5 +1,5 @@
 -- What logs must be that a run is opened over.
-use Rattle.std.specs.Prelude.{ℕ, true, false, ◌≡◌, List, [], length}
+use Rattle.std.specs.Prelude.{ℕ, true, false, ◌≡◌, List, length}
 use Rattle.co_base.specs.declared.head.Kind.{Kind}
 use Rattle.co_state.specs.Table.{holds}
 use Rattle.co_plain.specs.MemberView.{recovered_view}
