@@ -2,4 +2,5 @@ pub mod Growing
 pub mod Derived
 pub mod KeptFrom
 pub mod Acknowledging
+pub mod Readable
 pub mod EveryRun

@@ -1,8 +1,10 @@
 //! What every run keeps, from logs that may be opened and with verdicts that are true where they are handed.
-ghost use Rattle.std.specs.Prelude.{ℕ, List};
+ghost use Rattle.std.specs.Prelude.{ℕ, List, ◌≡◌, reverse, None};
 ghost use Rattle.co_base.specs.declared.head.Kind.{Kind};
 ghost use Rattle.co_plain.specs.declared.happening.Happening.{Happening};
-ghost use Rattle.co_plain.specs.Opening.{Found, opened};
+ghost use Rattle.co_plain.specs.Opening.{Found, OnlyOwnLogs, opened};
+ghost use Rattle.co_plain.specs.MemberView.{first_refused_at_member};
+ghost use Rattle.co_plain.specs.SoundLogs.{AreSound};
 ghost use Rattle.co_plain.specs.Runs.{run};
 ghost use Rattle.co_plain.specs.Promises.{SerialReads, LogsAlone, LogsStaySound, Acknowledged};
 ghost use Rattle.co_plain.specs.Invariants.{Kept};
@@ -48,4 +50,14 @@ pub fn sound_logs()
         AreOpenable kinds coords found_member found_coord →
         AreTrueVerdicts hs (opened kinds coords found_member found_coord) →
         LogsStaySound (opened kinds coords found_member found_coord) hs }
+{}
+
+/// Sound logs may be opened where nothing stands in logs of other nodes, and each member's log is as its grammar
+/// allows it.
+pub fn readable_logs()
+    ensures { (kinds : List Kind) (coords : ℕ) (found_member found_coord : ℕ → Found) →
+        AreSound (λ m. (found_member m).records) (λ c. (found_coord c).records) →
+        OnlyOwnLogs kinds coords found_member found_coord →
+        ((m : ℕ) → first_refused_at_member coords (reverse (found_member m).records) ≡ None) →
+        AreOpenable kinds coords found_member found_coord }
 {}
