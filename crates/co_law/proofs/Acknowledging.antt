@@ -1,5 +1,5 @@
 -- An event that answers `committed` decides its transaction.
-use Rattle.std.proofs.Common.{◌≡◌, ◌⊎◌, inl, inr, ℕ, Bool, true, false, not, ◌||◌, ◌&&◌, ◌==◌, if◌then◌else◌, List, [], ◌∷◌, ◌++◌, map, Option, None, Some, refl, sym, ap, ◌∙◌, subst}
+use Rattle.std.proofs.Common.{◌≡◌, ◌⊎◌, inl, inr, ℕ, Bool, true, false, not, ◌&&◌, ◌==◌, if◌then◌else◌, List, [], ◌∷◌, ◌++◌, map, Option, None, Some, refl, sym, ap, ◌∙◌, subst}
 use Rattle.std.proofs.lemmas.Bool.{or_cases, or_left, and_parts, eqb-true, eq-eqb}
 use Rattle.co_base.specs.declared.mark.Mark.{Mark}
 use Rattle.co_base.specs.declared.node.Node.{Node}
@@ -10,7 +10,6 @@ use Rattle.co_message.specs.declared.answer.Answer.TheVariants as answer
 use Rattle.co_message.specs.declared.answer.Cause.TheVariants as cause
 use Rattle.co_message.specs.declared.event.Event.{Event}
 use Rattle.co_message.specs.declared.event.Event.TheVariants as event
-use Rattle.co_message.specs.declared.item.ItemKind.{ItemKind}
 use Rattle.co_message.specs.declared.item.ItemKind.TheVariants as item
 use Rattle.co_message.specs.declared.message.Message.{Message}
 use Rattle.co_message.specs.declared.message.Message.TheVariants as message
@@ -21,13 +20,10 @@ use Rattle.co_state.specs.Table.{Table, look, put, without}
 use Rattle.co_state.specs.VotingRule.{vote_of}
 use Rattle.co_plain.specs.declared.coord_state.Entry.{Entry}
 use Rattle.co_plain.specs.declared.coord_state.Entry.TheVariants as entry
-use Rattle.co_plain.specs.declared.coord_step.CoordStep.{CoordStep}
 use Rattle.co_plain.specs.declared.happening.Happening.{Happening}
 use Rattle.co_plain.specs.declared.happening.Happening.TheVariants as happening
-use Rattle.co_plain.specs.declared.member_step.MemberStep.{MemberStep}
 use Rattle.co_plain.specs.declared.outcome.Outcome.{Outcome}
 use Rattle.co_plain.specs.declared.outcome.Outcome.TheVariants.{Completes, StopsAt}
-use Rattle.co_plain.specs.declared.session.Decided.{Decided}
 use Rattle.co_plain.specs.declared.session.Session.{Session}
 use Rattle.co_plain.specs.Numbers.{first_lacking, has_number}
 use Rattle.co_plain.specs.LogWrite.{marks_of, outcome_of, batch_is_stable}
@@ -35,21 +31,21 @@ use Rattle.co_plain.specs.MemberStep.{says, stopped_member, forced_by}
 use Rattle.co_plain.specs.LocalCommit.{local_commit_by, member_local_commit}
 use Rattle.co_plain.specs.CoordStep.{with_table, has_part, members_of, stopped_coord, coord_forced_by}
 use Rattle.co_plain.specs.Coordinator.{decisions_to, ask_commit, commit_entry, coord_commit, decided_by, yes_entry, waits, no_entry, aborts, coord_vote}
-use Rattle.co_plain.specs.Sessions.{Leave, Refuses, Grants, leave_to_end, parts_of, count_at, asked_to_end}
+use Rattle.co_plain.specs.Sessions.{Refuses, Grants, leave_to_end, parts_of, count_at, asked_to_end}
 use Rattle.co_plain.specs.Wire.{was_sent}
 use Rattle.co_plain.specs.Federation.{Federation, Stepped, items_of, answers, at_coord, at_member, decide_all}
 use Rattle.co_plain.specs.Step.{coord_answers, local_answers, marked_asked, is_stopped, is_held, commit_at, commit_with, arrives, deliver, up_coord, step}
 use Rattle.co_plain.specs.Runs.{run}
 use Rattle.co_plain.specs.Decisions.{is_decided}
 use Rattle.co_plain.specs.Promises.{says_committed, is_about, asks_for, is_acknowledged}
-use Rattle.co_law_base.proofs.Facts.{rest_of, by_coord, CollectingEntry, Facts}
+use Rattle.co_law_base.proofs.Facts.{by_coord, Facts}
 use Rattle.co_law_event.specs.HandedVerdicts.{AreTrueVerdicts}
 use Rattle.co_law_event.proofs.Marks.{ends_quiet, commit_marks}
 use Rattle.co_law_event.proofs.CoordEvents.{decides_there}
 use Rattle.co_law_event.proofs.ClientEvents.{by_there}
 use Rattle.co_law_event.proofs.LocalEvents.{next, batch, marks_decide}
 use Rattle.co_law_event.proofs.Steps.{step_keeps}
-use Rattle.co_law.proofs.Growing.{Grows, run_grows}
+use Rattle.co_law.proofs.Growing.{run_grows}
 
 -- the answer alone says it
 says_sent : (messages : List Message) (a : Answer) → says_committed (map item.Sent messages ++ item.Answered a ∷ []) ≡ says_committed (item.Answered a ∷ [])
@@ -138,6 +134,7 @@ module _ (s : Federation) (f : Facts s) where
       asked : (session : Session) → look s.sessions t ≡ Some session → (b : Bool) → session.asked ≡ b → Acknowledges t (commit_with s t (if b then Refuses answer.Asked else Grants session))
       asked session e true a h = unsaid h
       asked session e false a h = commits_at t session e a session.by refl h
+
       by : (z : Option Session) → look s.sessions t ≡ z → Acknowledges t (commit_with s t (leave_to_end z))
       by None e h = unsaid h
       by (Some session) e h = asked session e session.asked refl h

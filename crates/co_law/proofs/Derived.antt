@@ -1,11 +1,8 @@
 -- What the facts of a state say: the logs alone, and that the files are sound.
-use Rattle.std.proofs.Common.{◌≡◌, ◌≢◌, ◌⊎◌, inl, inr, ℕ, Bool, true, false, ◌||◌, ◌&&◌, List, [], ◌∷◌, ◌++◌, map, reverse, Option, None, Some, refl, sym, ap, ◌∙◌, subst}
-use Rattle.std.specs.Option.{is_some}
-use Rattle.std.proofs.lemmas.Bool.{or_cases, or_left, or_right, and_parts, eq-eqb, false_from_ne_true}
-use Rattle.co_record.specs.declared.record.Record.{Record}
+use Rattle.std.proofs.Common.{◌≡◌, ◌⊎◌, inl, inr, ℕ, true, false, ◌&&◌, List, [], ◌∷◌, ◌++◌, Option, None, Some, refl, sym, ap, ◌∙◌, subst}
+use Rattle.std.proofs.lemmas.Bool.{or_cases, and_parts, eq-eqb, false_from_ne_true}
 use Rattle.co_serial.specs.SerialRun.{AllRecords, run_whole}
-use Rattle.co_state.specs.declared.engine_state.Vote.{Vote}
-use Rattle.co_state.specs.Table.{look, holds}
+use Rattle.co_state.specs.Table.{look}
 use Rattle.co_plain.specs.declared.coord_state.Entry.{Entry}
 use Rattle.co_plain.specs.declared.coord_state.Entry.TheVariants as entry
 use Rattle.co_plain.specs.declared.session.Decided.{Decided}
@@ -14,15 +11,14 @@ use Rattle.co_plain.specs.CoordView.{recovered_commits, has_commit_of}
 use Rattle.co_plain.specs.Federation.{Federation}
 use Rattle.co_plain.specs.Decisions.{is_decided, votes_for, sites_of, replies_of}
 use Rattle.co_plain.specs.DurableRecords.{durable_in}
-use Rattle.co_plain.specs.SoundLogs.{AreSound, unended_in, has_unended, log_votes_for, log_has_committed}
-use Rattle.co_plain.specs.Promises.{serial_records}
-use Rattle.co_plain.specs.Invariants.{Side, Memory, Stable, view, stands, takes_part_in, FilesAreSound}
+use Rattle.co_plain.specs.SoundLogs.{unended_in, has_unended, log_votes_for, log_has_committed}
+use Rattle.co_plain.specs.Invariants.{Stable, view, takes_part_in, FilesAreSound}
 use Rattle.co_law_engine.proofs.YesTells.{in_some}
 use Rattle.co_law_base.proofs.Lookups.{holds_found, found_holds}
 use Rattle.co_law_base.proofs.ImageRules.{durable_serial}
 use Rattle.co_law_base.proofs.Commits.{unended_seen}
-use Rattle.co_law_base.proofs.Facts.{rest_of, entry_of, settled, Here, Before, settled_at, by_coord, belongs, Begun, Voted, serial, serial_of, serial_start, ReadSerially, OpenEntry, ViewFacts, Facts}
-use Rattle.co_law_base.proofs.Carrying.{one_belongs, settled_alive, settled_from, by_coord_begun, same_coord, votes_stand}
+use Rattle.co_law_base.proofs.Facts.{rest_of, settled, Here, Before, by_coord, belongs, Begun, Voted, serial, serial_of, ReadSerially, ViewFacts, Facts}
+use Rattle.co_law_base.proofs.Carrying.{one_belongs, settled_alive, settled_from, by_coord_begun, same_coord}
 use Rattle.co_law_base.proofs.MemberFrame.{unended_settled}
 use Rattle.co_law_member.proofs.VoteMoves.{unsettled}
 
@@ -39,6 +35,7 @@ module _ (s : Federation) (f : Facts s) where
     where
       v : ViewFacts (rest_of s) m (view Stable (s.member m))
       v = (f.members m).views Stable
+
       by : (o : Option Entry) → look (s.coord c).table t ≡ o → takes_part_in o m ≡ true → (members : List ℕ) × (unended_in (s.coord c).log.stable t ≡ Some members) × (has_number members m ≡ true)
       by None e k = absurd (let z : false ≡ true = k in cc)
       by (Some entry.Idle) e k = absurd (let z : false ≡ true = k in cc)
@@ -75,6 +72,7 @@ module _ (s : Federation) (f : Facts s) where
     where
       apart : (e g : ℕ) (ns : List ℕ) → by_coord (look s.sessions t) e ≡ true → unended_in (s.opened_coord g) t ≡ Some ns → c ≡ d
       apart e g ns b o = absurd (let z : true ≡ false = sym (f.numbers.commit_used g t (unended_seen (s.opened_coord g) t ns o)) ∙ f.numbers.new t (by_coord_begun (look s.sessions t) e b) in cc)
+
       by : ((by_coord (look s.sessions t) c && is_decided s.decided t) ≡ true) ⊎ (unended_in (s.opened_coord c) t ≡ Some members) →
           ((by_coord (look s.sessions t) d && is_decided s.decided t) ≡ true) ⊎ (unended_in (s.opened_coord d) t ≡ Some others) → c ≡ d
       by (inl p) (inl q) = same_coord (look s.sessions t) c d (and_parts _ _ p).0 (and_parts _ _ q).0

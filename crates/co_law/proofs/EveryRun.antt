@@ -1,9 +1,8 @@
 -- The laws of every run.
-use Rattle.std.proofs.Common.{◌≡◌, ℕ, List, ◌∷◌, ◌++◌, sym, ap, ◌∙◌, subst}
+use Rattle.std.proofs.Common.{ℕ, List, ap, ◌∙◌, subst}
 use Rattle.co_base.specs.declared.head.Kind.{Kind}
 use Rattle.co_serial.specs.SerialRun.{run_whole}
 use Rattle.co_plain.specs.declared.happening.Happening.{Happening}
-use Rattle.co_plain.specs.declared.session.Decided.{Decided}
 use Rattle.co_plain.specs.Opening.{Found, opened}
 use Rattle.co_plain.specs.Runs.{run}
 use Rattle.co_plain.specs.Decisions.{sites_of}

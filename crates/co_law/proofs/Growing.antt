@@ -1,5 +1,5 @@
 -- What every step leaves: the opened logs, and every decision.
-use Rattle.std.proofs.Common.{◌≡◌, ◌≢◌, ◌⊎◌, inl, inr, ℕ, Bool, true, false, not, ◌||◌, ◌==◌, if◌then◌else◌, List, [], ◌∷◌, ◌++◌, Option, None, Some, refl, sym, ap, ◌∙◌, subst}
+use Rattle.std.proofs.Common.{◌≡◌, ℕ, Bool, true, false, not, ◌==◌, if◌then◌else◌, List, [], ◌∷◌, Option, None, Some, refl, ◌∙◌}
 use Rattle.std.proofs.lemmas.Bool.{or_right}
 use Rattle.co_base.specs.declared.mark.Mark.{Mark}
 use Rattle.co_base.specs.declared.mark.MarkKind.{MarkKind}
@@ -15,13 +15,10 @@ use Rattle.co_message.specs.declared.event.Event.{Event}
 use Rattle.co_message.specs.declared.event.Event.TheVariants as event
 use Rattle.co_message.specs.declared.message.Message.{Message}
 use Rattle.co_message.specs.declared.message.Message.TheVariants as message
-use Rattle.co_record.specs.declared.record.Record.{Record}
 use Rattle.co_state.specs.Table.{Table, look}
-use Rattle.co_plain.specs.declared.coord_state.CoordState.{CoordState}
 use Rattle.co_plain.specs.declared.coord_step.CoordStep.{CoordStep}
 use Rattle.co_plain.specs.declared.happening.Happening.{Happening}
 use Rattle.co_plain.specs.declared.happening.Happening.TheVariants as happening
-use Rattle.co_plain.specs.declared.member_state.MemberState.{MemberState}
 use Rattle.co_plain.specs.declared.member_step.MemberStep.{MemberStep}
 use Rattle.co_plain.specs.declared.session.Decided.{Decided}
 use Rattle.co_plain.specs.declared.session.Session.{Session}
@@ -32,8 +29,8 @@ use Rattle.co_plain.specs.Coordinator.{coord_begin, coord_commit, coord_abort, c
 use Rattle.co_plain.specs.CoordLog.{coord_checkpoint, coord_crash, coord_restart, coord_arm}
 use Rattle.co_plain.specs.Sessions.{Leave, Refuses, Grants, leave_to_visit, leave_to_end, parts_of, count_at, same_node, begun_by}
 use Rattle.co_plain.specs.Wire.{was_sent}
-use Rattle.co_plain.specs.Federation.{Federation, Stepped, answers, at_member, at_coord, with_session, decided_where, decided_by_kind, decide_all}
-use Rattle.co_plain.specs.Step.{up_member, member_step, up_coord, coord_step, is_used, begin_where, local_where, entered, operated, operate_with, operate, marked_asked, coord_answers, local_answers, commit_at, commit_with, abort_at, abort_with, arrives, deliver, timer_at, crash_at, restart_at, arm_at, checkpoint_at, reply_in, is_stopped, is_held, step_line, step}
+use Rattle.co_plain.specs.Federation.{Federation, answers, at_member, at_coord, with_session, decided_where, decided_by_kind, decide_all}
+use Rattle.co_plain.specs.Step.{up_member, up_coord, is_used, begin_where, local_where, entered, operated, operate_with, marked_asked, coord_answers, local_answers, commit_at, commit_with, abort_at, abort_with, arrives, timer_at, crash_at, restart_at, arm_at, checkpoint_at, reply_in, is_stopped, is_held, step_line, step}
 use Rattle.co_plain.specs.Runs.{run}
 use Rattle.co_plain.specs.Decisions.{is_decided}
 

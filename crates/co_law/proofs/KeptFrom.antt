@@ -1,16 +1,13 @@
 -- The invariants, from the facts.
 use Rattle.std.proofs.Common.{◌≡◌, ◌≢◌, ◌⊎◌, inl, inr, ℕ, Bool, true, false, ◌||◌, ◌&&◌, ◌≤◌, List, [], ◌∷◌, ◌++◌, map, reverse, Option, None, Some, refl, sym, ap, ◌∙◌, subst}
 use Rattle.std.specs.Option.{is_some}
-use Rattle.std.proofs.lemmas.Bool.{or_cases, or_left, or_right, or_parts, or_from, and_parts, eqb-true, eq-eqb, cases_Bool}
+use Rattle.std.proofs.lemmas.Bool.{or_cases, or_left, or_right, or_parts, or_from, and_parts, eqb-true, eq-eqb}
 use Rattle.std.specs.FinMap.{get}
 use Rattle.co_base.specs.declared.node.Node.{Node}
 use Rattle.co_base.specs.declared.node.Node.TheVariants as node
-use Rattle.co_message.specs.declared.message.Message.TheVariants as message
 use Rattle.co_record.specs.declared.record.Record.{Record}
 use Rattle.co_record.specs.declared.record.Record.TheVariants as log
-use Rattle.co_serial.specs.Records.{Records, with_changes}
-use Rattle.co_serial.specs.SerialRun.{AllRecords, after}
-use Rattle.co_state.specs.declared.engine_state.Vote.{Vote}
+use Rattle.co_serial.specs.SerialRun.{after}
 use Rattle.co_state.specs.Table.{look, holds}
 use Rattle.co_plain.specs.declared.coord_state.Entry.{Entry}
 use Rattle.co_plain.specs.declared.coord_state.Entry.TheVariants as entry
@@ -19,24 +16,23 @@ use Rattle.co_plain.specs.declared.session.Session.{Session}
 use Rattle.co_plain.specs.Numbers.{has_number}
 use Rattle.co_plain.specs.CoordView.{has_commit_of}
 use Rattle.co_plain.specs.Sessions.{same_node, count_at}
-use Rattle.co_plain.specs.Wire.{was_sent}
 use Rattle.co_plain.specs.Federation.{Federation}
 use Rattle.co_plain.specs.Decisions.{is_decided, is_asked, votes_for, told_of, sites_of, BelongsTo, BegunThere, VotedBefore, IsPresumedAborted, AtCoordinator, AtMember, IsDecided, InThisRun, InOpenedFile}
 use Rattle.co_plain.specs.DurableRecords.{durable_records, starting_records}
 use Rattle.co_plain.specs.SoundLogs.{unended_in, log_has_committed}
 use Rattle.co_plain.specs.Promises.{serial_records}
-use Rattle.co_plain.specs.Invariants.{Side, Memory, Stable, view, stands, takes_part_in, TakesPart, HeldOperations, NamedBefore, InstalledIsSerial, OnlyAbortsWait, CoordinatorMatchesMembers, Kept, told_here, is_begun, is_over}
+use Rattle.co_plain.specs.Invariants.{Side, Stable, view, stands, takes_part_in, TakesPart, HeldOperations, NamedBefore, InstalledIsSerial, OnlyAbortsWait, CoordinatorMatchesMembers, Kept, told_here, is_begun, is_over}
 use Rattle.co_law_base.proofs.Lookups.{holds_found, found_holds}
 use Rattle.co_law_base.proofs.ViewMoves.{each_decided}
 use Rattle.co_law_base.proofs.ViewRules.{as_invariant}
-use Rattle.co_law_base.proofs.Facts.{rest_of, settled, Here, Before, settled_at, alive, by_coord, belongs, Begun, Voted, takes, ByTold, Named, serial, OnlyAborts, Each, Facts}
-use Rattle.co_law_base.proofs.Carrying.{one_belongs, settled_alive, votes_stand, by_coord_begun, held_on}
+use Rattle.co_law_base.proofs.Facts.{rest_of, settled, Here, Before, settled_at, alive, by_coord, belongs, Begun, Voted, takes, ByTold, Named, OnlyAborts, Each, Facts}
+use Rattle.co_law_base.proofs.Carrying.{one_belongs, settled_alive, by_coord_begun, held_on}
 use Rattle.co_law_base.proofs.TwoViews.{committed_both}
 use Rattle.co_law_base.proofs.Commits.{unended_seen}
 use Rattle.co_law_member.proofs.VoteMoves.{as_settled}
 use Rattle.co_law_member.proofs.LogMoves.{as_belongs}
 use Rattle.co_law.proofs.Growing.{Grows}
-use Rattle.co_law.proofs.Derived.{known_settled, files_sound}
+use Rattle.co_law.proofs.Derived.{files_sound}
 
 pub each_at : {A : Type 0} (P : A → Type 0) (ds later earlier : List A) (d : A) → Each P ds → ds ≡ later ++ d ∷ earlier → P d
 each_at {A} P ds later earlier d e q = by later (subst (Each P) q e)
@@ -51,6 +47,7 @@ begun_session s t c h = by (look s.sessions t) refl h
     named : (session : Session) → look s.sessions t ≡ Some session → (at : Node) → session.by ≡ at → same_node at (node.Coord c) ≡ true → BelongsTo s t c
     named session e (node.Member m) b k = absurd (let z : false ≡ true = k in cc)
     named session e (node.Coord d) b k = BegunThere session e (b ∙ ap node.Coord (eqb-true d c k))
+
     by : (o : Option Session) → look s.sessions t ≡ o → by_coord o c ≡ true → BelongsTo s t c
     by None e k = absurd (let z : false ≡ true = k in cc)
     by (Some session) e k = named session e session.by refl k
@@ -139,6 +136,7 @@ module _ (s0 s : Federation) (f : Facts s) (g : Grows s0 s) where
     where
       decided : is_decided s.decided d.txn ≡ true
       decided = each_at (λ e. is_decided s.decided e.txn ≡ true) s.decided later earlier d (each_decided s.decided) q
+
       home : ((by_coord (look s.sessions d.txn) c && is_decided s.decided d.txn) ≡ true) ⊎ (has_commit_of (s.opened_coord c) d.txn ≡ true) → (k : ℕ) → belongs (rest_of s) d.txn k → k ≡ c
       home (inl p) k b = one_belongs (rest_of s) f.numbers d.txn k c b (Begun (and_parts (by_coord (look s.sessions d.txn) c) (is_decided s.decided d.txn) p).0)
       home (inr o) k b = absurd (let z : true ≡ false = sym (f.numbers.commit_used c d.txn o) ∙ f.numbers.new d.txn (f.numbers.decided_begun d.txn decided) in cc)

@@ -23,7 +23,7 @@ use Rattle.co_plain.specs.Opening.{Found, with_all, numbers_in, union_to, used_n
 use Rattle.co_plain.specs.SoundLogs.{AreSound}
 use Rattle.co_plain.specs.Invariants.{stands, VotedAreConflictFree}
 use Rattle.co_law_engine.proofs.YesTells.{passes_none}
-use Rattle.co_law_base.proofs.Lookups.{is_nothing, look_none, own_number, same_number, without_here}
+use Rattle.co_law_base.proofs.Lookups.{is_nothing, look_none, same_number}
 use Rattle.co_law_base.proofs.Commits.{holds_more, holds_new, holds_cases}
 use Rattle.co_law_base.proofs.ViewRules.{three_parts, cast_free, forget_free, install_free}
 use Rattle.co_law_base.proofs.ViewMoves.{put_holds, holds_without}
@@ -98,7 +98,7 @@ record IsFree (v : MemberView) : Type 0 where
 none_conflicts : (v : MemberView) (sets : Sets) → not (conflicts_with_voted v sets) ≡ true → (u : ℕ) (other : Vote) → look v.voted u ≡ Some other → voted_holds sets other.sets ≡ false
 none_conflicts v sets h u other e =
     let p = three_parts (reads_meet other.sets.reads sets.writes) (reads_meet sets.reads other.sets.writes) (writes_meet other.sets.writes sets.writes)
-        (passes_none (λ k vote. sets_conflict vote.sets sets) v.voted u other (none_of (least_where (λ k vote. sets_conflict vote.sets sets) v.voted) h) e) in
+    (passes_none (λ k vote. sets_conflict vote.sets sets) v.voted u other (none_of (least_where (λ k vote. sets_conflict vote.sets sets) v.voted) h) e) in
     or_from _ _ (or_from _ _ p.0 p.2) p.1
   where
     none_of : (o : Option ℕ) → not (not (is_none o)) ≡ true → o ≡ None
@@ -165,12 +165,16 @@ readable kinds coords fm fc sound own allowed =
   where
     is_free : (m : ℕ) → IsFree (recovered_view (fm m).records)
     is_free m = subst IsFree (sym (told_turned (fm m).records)) (free_all coords 0 nothing_known (reverse (fm m).records) (allowed m) nothing_free)
+
     members : Numbers
     members = union_to (length kinds) (λ m. numbers_in (recovered_view (fm m).records))
+
     coordinators : Numbers
     coordinators = union_to coords (λ c. (recovered_commits (fc c).records).seen)
+
     none_stands : (t : ℕ) → stands (recovered_view []) t ≡ false
     none_stands t = or_from _ _ (ap is_some (look_none t)) (ap is_some (look_none t))
+
     members_used : (m t : ℕ) → stands (recovered_view (fm m).records) t ≡ true → holds (used_numbers (length kinds) coords fm fc) t ≡ true
     members_used m t h = by (nat_le 1 m && nat_le m (length kinds)) refl
       where
@@ -179,6 +183,7 @@ readable kinds coords fm fc sound own allowed =
             let p = in_range m (length kinds) e in
             first_has members coordinators t (union_has (length kinds) (λ k. numbers_in (recovered_view (fm k).records)) m t p.0 p.1 (view_has (recovered_view (fm m).records) t h))
         by false e = absurd (let z : true ≡ false = sym h ∙ ap (λ rs. stands (recovered_view rs) t) (own.members m e) ∙ none_stands t in cc)
+
     coords_used : (c t : ℕ) → has_commit_of (fc c).records t ≡ true → holds (used_numbers (length kinds) coords fm fc) t ≡ true
     coords_used c t h = by (nat_le 1 c && nat_le c coords) refl
       where
