@@ -1,0 +1,6 @@
+pub mod Growing
+pub mod Derived
+pub mod KeptFrom
+pub mod Acknowledging
+pub mod Readable
+pub mod EveryRun

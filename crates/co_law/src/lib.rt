@@ -1,0 +1,9 @@
+//! The laws of the federation: what every run from sound opened logs keeps, and so what is promised of it.
+//!
+//! Each law is the contract of a function without a body. They speak of the definitions alone: no engine, no byte of a
+//! file and no device call is in them. The argument is told move by move in `docs/PROOF.md`.
+#![tactic(auto)]
+
+mod laws;
+
+pub use laws::{acknowledged, invariants, logs_alone, readable_logs, serial_reads, sound_logs};

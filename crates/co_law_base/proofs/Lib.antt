@@ -1,0 +1,10 @@
+pub mod Lookups
+pub mod ToldRuns
+pub mod ViewRules
+pub mod ImageRules
+pub mod Facts
+pub mod Carrying
+pub mod Commits
+pub mod TwoViews
+pub mod ViewMoves
+pub mod MemberFrame

@@ -1,0 +1,2 @@
+//! The moves of coordinators keep the facts.
+#![tactic(auto)]

@@ -1,0 +1,2 @@
+//! A decision keeps the facts, and the decided transaction read serially.
+#![tactic(auto)]

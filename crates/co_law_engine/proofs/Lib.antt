@@ -1,0 +1,4 @@
+pub mod Keys
+pub mod SeenAlike
+pub mod SetsMade
+pub mod YesTells

@@ -1,0 +1,4 @@
+pub mod KeptTold
+pub mod LogMoves
+pub mod VoteMoves
+pub mod Filling

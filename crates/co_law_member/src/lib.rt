@@ -1,0 +1,2 @@
+//! The moves of members keep the facts.
+#![tactic(auto)]

@@ -1,0 +1,4 @@
+pub mod Beginning
+pub mod Asking
+pub mod Operating
+pub mod Sending

@@ -1,0 +1,2 @@
+//! A federation over sound opened logs has the facts.
+#![tactic(auto)]
