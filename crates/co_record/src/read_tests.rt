@@ -232,3 +232,17 @@ fn bytes_that_end_early_are_short(rt: HostRuntime) {
         assert_eq!(rt; judge(bytes), *wanted);
     }
 }
+
+#[test]
+fn records_are_lent_with_their_places(rt: HostRuntime) {
+    let bytes = b"\xa5\x00\x00\x00\x05\x04\x00\x00\x00\x01\x00";
+    let mut views = Views::new(bytes);
+    match views.next() {
+        Some((at, view)) => {
+            assert_eq!(rt; at, 5);
+            assert!(rt; matches!(view, RecordView::Abort { .. }));
+        }
+        None => assert!(rt; false),
+    }
+    assert!(rt; views.next().is_none());
+}
