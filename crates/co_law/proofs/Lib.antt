@@ -3,4 +3,5 @@ pub mod Derived
 pub mod KeptFrom
 pub mod Acknowledging
 pub mod Readable
+pub mod FreshLogs
 pub mod EveryRun

@@ -2,7 +2,7 @@
 ghost use Rattle.std.specs.Prelude.{ℕ, List, ◌≡◌, reverse, None};
 ghost use Rattle.co_base.specs.declared.head.Kind.{Kind};
 ghost use Rattle.co_plain.specs.declared.happening.Happening.{Happening};
-ghost use Rattle.co_plain.specs.Opening.{Found, OnlyOwnLogs, opened};
+ghost use Rattle.co_plain.specs.Opening.{Found, OnlyOwnLogs, fresh, opened};
 ghost use Rattle.co_plain.specs.MemberView.{first_refused_at_member};
 ghost use Rattle.co_plain.specs.SoundLogs.{AreSound};
 ghost use Rattle.co_plain.specs.Runs.{run};
@@ -60,4 +60,9 @@ pub fn readable_logs()
         OnlyOwnLogs kinds coords found_member found_coord →
         ((m : ℕ) → first_refused_at_member coords (reverse (found_member m).records) ≡ None) →
         AreOpenable kinds coords found_member found_coord }
+{}
+
+/// Fresh logs may be opened.
+pub fn fresh_logs()
+    ensures { (kinds : List Kind) (coords : ℕ) → AreOpenable kinds coords (λ m. fresh) (λ c. fresh) }
 {}
