@@ -1,12 +1,11 @@
 -- Fresh logs may be opened.
-use Rattle.std.proofs.Common.{◌≡◌, ℕ, Bool, true, false, List, [], Option, None, Some, refl, sym, ap, ◌∙◌}
+use Rattle.std.proofs.Common.{◌≡◌, ℕ, true, false, List, [], refl, sym, ap, ◌∙◌}
 use Rattle.std.specs.Option.{is_some}
 use Rattle.co_base.specs.declared.head.Kind.{Kind}
-use Rattle.co_state.specs.Table.{look, holds, no_entries}
 use Rattle.co_state.specs.declared.engine_state.Vote.{Vote}
 use Rattle.co_plain.specs.Opening.{fresh}
 use Rattle.co_plain.specs.Decisions.{votes_for}
-use Rattle.co_plain.specs.SoundLogs.{AreSound, log_votes_for, has_unended, unended_in}
+use Rattle.co_plain.specs.SoundLogs.{AreSound, log_votes_for, has_unended}
 use Rattle.co_law_base.proofs.Lookups.{is_nothing, look_none}
 use Rattle.co_law_start.specs.OpenedLogs.{AreOpenable}
 use Rattle.co_law.proofs.Readable.{readable}
