@@ -4,4 +4,5 @@ pub mod KeptFrom
 pub mod Acknowledging
 pub mod Readable
 pub mod FreshLogs
+pub mod MoveByMove
 pub mod EveryRun
