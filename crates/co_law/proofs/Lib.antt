@@ -5,4 +5,5 @@ pub mod Acknowledging
 pub mod Readable
 pub mod FreshLogs
 pub mod MoveByMove
+pub mod MoveRuns
 pub mod EveryRun

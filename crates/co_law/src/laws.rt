@@ -8,6 +8,7 @@ ghost use Rattle.co_plain.specs.SoundLogs.{AreSound};
 ghost use Rattle.co_plain.specs.Runs.{run};
 ghost use Rattle.co_plain.specs.Promises.{SerialReads, LogsAlone, LogsStaySound, Acknowledged};
 ghost use Rattle.co_plain.specs.Invariants.{Kept};
+ghost use Rattle.co_plain.specs.Moves.{Move, GuardsHold, all_effects};
 ghost use Rattle.co_law_event.specs.HandedVerdicts.{AreTrueVerdicts};
 ghost use Rattle.co_law_start.specs.OpenedLogs.{AreOpenable};
 
@@ -65,4 +66,12 @@ pub fn readable_logs()
 /// Fresh logs may be opened.
 pub fn fresh_logs()
     ensures { (kinds : List Kind) (coords : ℕ) → AreOpenable kinds coords (λ m. fresh) (λ c. fresh) }
+{}
+
+/// Every list of moves keeps the invariants, where each guard holds where its move is made.
+pub fn moves()
+    ensures { (kinds : List Kind) (coords : ℕ) (found_member found_coord : ℕ → Found) (moves : List Move) →
+        AreOpenable kinds coords found_member found_coord →
+        GuardsHold moves (opened kinds coords found_member found_coord) →
+        Kept (opened kinds coords found_member found_coord) (all_effects moves (opened kinds coords found_member found_coord)) }
 {}
