@@ -1,5 +1,5 @@
 -- Moves one after another, from an opened federation.
-use Rattle.std.proofs.Common.{◌≡◌, ℕ, Bool, true, false, ◌||◌, ◌==◌, List, [], ◌∷◌, Option, None, Some, refl}
+use Rattle.std.proofs.Common.{ℕ, ◌==◌, List, [], ◌∷◌, Option, None, Some, refl}
 use Rattle.std.proofs.lemmas.Bool.{or_right}
 use Rattle.co_base.specs.declared.head.Kind.{Kind}
 use Rattle.co_state.specs.Table.{look}

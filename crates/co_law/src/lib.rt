@@ -7,5 +7,6 @@
 mod laws;
 
 pub use laws::{
-    acknowledged, fresh_logs, invariants, logs_alone, moves, readable_logs, serial_reads, sound_logs,
+    acknowledged, fresh_logs, invariants, logs_alone, moves, readable_logs, serial_reads,
+    sound_logs,
 };
