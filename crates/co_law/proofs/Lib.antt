@@ -3,4 +3,7 @@ pub mod Derived
 pub mod KeptFrom
 pub mod Acknowledging
 pub mod Readable
+pub mod FreshLogs
+pub mod MoveByMove
+pub mod MoveRuns
 pub mod EveryRun

@@ -2,12 +2,13 @@
 ghost use Rattle.std.specs.Prelude.{ℕ, List, ◌≡◌, reverse, None};
 ghost use Rattle.co_base.specs.declared.head.Kind.{Kind};
 ghost use Rattle.co_plain.specs.declared.happening.Happening.{Happening};
-ghost use Rattle.co_plain.specs.Opening.{Found, OnlyOwnLogs, opened};
+ghost use Rattle.co_plain.specs.Opening.{Found, OnlyOwnLogs, fresh, opened};
 ghost use Rattle.co_plain.specs.MemberView.{first_refused_at_member};
 ghost use Rattle.co_plain.specs.SoundLogs.{AreSound};
 ghost use Rattle.co_plain.specs.Runs.{run};
 ghost use Rattle.co_plain.specs.Promises.{SerialReads, LogsAlone, LogsStaySound, Acknowledged};
 ghost use Rattle.co_plain.specs.Invariants.{Kept};
+ghost use Rattle.co_plain.specs.Moves.{Move, GuardsHold, all_effects};
 ghost use Rattle.co_law_event.specs.HandedVerdicts.{AreTrueVerdicts};
 ghost use Rattle.co_law_start.specs.OpenedLogs.{AreOpenable};
 
@@ -60,4 +61,17 @@ pub fn readable_logs()
         OnlyOwnLogs kinds coords found_member found_coord →
         ((m : ℕ) → first_refused_at_member coords (reverse (found_member m).records) ≡ None) →
         AreOpenable kinds coords found_member found_coord }
+{}
+
+/// Fresh logs may be opened.
+pub fn fresh_logs()
+    ensures { (kinds : List Kind) (coords : ℕ) → AreOpenable kinds coords (λ m. fresh) (λ c. fresh) }
+{}
+
+/// Every list of moves keeps the invariants, where each guard holds where its move is made.
+pub fn moves()
+    ensures { (kinds : List Kind) (coords : ℕ) (found_member found_coord : ℕ → Found) (moves : List Move) →
+        AreOpenable kinds coords found_member found_coord →
+        GuardsHold moves (opened kinds coords found_member found_coord) →
+        Kept (opened kinds coords found_member found_coord) (all_effects moves (opened kinds coords found_member found_coord)) }
 {}

@@ -6,4 +6,7 @@
 
 mod laws;
 
-pub use laws::{acknowledged, invariants, logs_alone, readable_logs, serial_reads, sound_logs};
+pub use laws::{
+    acknowledged, fresh_logs, invariants, logs_alone, moves, readable_logs, serial_reads,
+    sound_logs,
+};

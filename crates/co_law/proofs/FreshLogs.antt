@@ -1,0 +1,32 @@
+-- Fresh logs may be opened.
+use Rattle.std.proofs.Common.{◌≡◌, ℕ, true, false, List, [], refl, sym, ap, ◌∙◌}
+use Rattle.std.specs.Option.{is_some}
+use Rattle.co_base.specs.declared.head.Kind.{Kind}
+use Rattle.co_state.specs.declared.engine_state.Vote.{Vote}
+use Rattle.co_plain.specs.Opening.{fresh}
+use Rattle.co_plain.specs.Decisions.{votes_for}
+use Rattle.co_plain.specs.SoundLogs.{AreSound, log_votes_for, has_unended}
+use Rattle.co_law_base.proofs.Lookups.{is_nothing, look_none}
+use Rattle.co_law_start.specs.OpenedLogs.{AreOpenable}
+use Rattle.co_law.proofs.Readable.{readable}
+
+no_vote : {A : Type 0} (t c : ℕ) → log_votes_for [] t c ≡ true → A
+no_vote t c h = absurd (let z : false ≡ true = sym (ap (λ o. votes_for o c) (look_none {X = Vote} t)) ∙ h in cc)
+
+no_commit : {A : Type 0} (t : ℕ) → has_unended [] t ≡ true → A
+no_commit t h = absurd (let z : false ≡ true = sym (ap is_some (look_none {X = List ℕ} t)) ∙ h in cc)
+
+fresh_sound : AreSound (λ m. []) (λ c. [])
+fresh_sound =
+    record {
+      one_vote = λ t m n c d h k. no_vote t c h;
+      vote_and_commit = λ t m c d h k. no_vote t c h;
+      one_commit = λ t c d h k. no_commit t h;
+      participants = λ t c m members h k. is_nothing (sym (look_none t) ∙ h);
+      voters = λ t c m members h k. is_nothing (sym (look_none t) ∙ h);
+      nowhere_committed = λ t m c n h k. no_vote t c h;
+      nowhere_decided = λ t m c d h k. no_vote t c h;
+    }
+
+pub fresh_openable : (kinds : List Kind) (coords : ℕ) → AreOpenable kinds coords (λ m. fresh) (λ c. fresh)
+fresh_openable kinds coords = readable kinds coords (λ m. fresh) (λ c. fresh) fresh_sound (record { members = λ m h. refl; coordinators = λ c h. refl }) (λ m. refl)
