@@ -9,6 +9,7 @@ mod kinds;
 mod local;
 mod longer;
 mod refusals;
+mod stops;
 mod voting;
 mod whole;
 
