@@ -9,7 +9,8 @@ use Rattle.co_record.specs.declared.record.Record.TheVariants as log
 use Rattle.co_state.specs.Table.{Table, look}
 use Rattle.co_plain.specs.declared.session.Decided.{Decided}
 use Rattle.co_plain.specs.declared.session.Session.{Session}
-use Rattle.co_plain.specs.LogWrite.{mark_of, marks_of}
+use Rattle.co_plain.specs.LogWrite.{marks_of}
+use Rattle.co_record.specs.Marks.{mark_of}
 use Rattle.co_plain.specs.Federation.{Federation, decided_where, decide_all, noted, message_list}
 use Rattle.co_plain.specs.Invariants.{ends_only}
 use Rattle.co_plain.specs.Moves.{Send, effect}

@@ -7,11 +7,11 @@ use Rattle.co_record.specs.declared.record.Record.{Record}
 use Rattle.co_log.specs.declared.append.Ending.TheVariants.{Whole, Stopped}
 use Rattle.co_log.specs.declared.stop.Stop.{Stop}
 use Rattle.co_log.specs.Appending.{IsEnding}
-use Rattle.co_log.specs.BatchWrite.{batch_is_stable}
+use Rattle.co_record.specs.Gate.{batch_is_stable}
 use Rattle.co_log.specs.Forcing.{IsWritten}
 use Rattle.co_log.specs.LogFile.{next_gate, next_items, EndsAt, EndsAfter}
 use Rattle.co_log.specs.Spare.{IsFilled, IsFilledIf, filling, turned}
-use Rattle.co_log.specs.BatchWrite.{begins_closed}
+use Rattle.co_record.specs.Gate.{begins_closed}
 use Rattle.co_disk.specs.DiskView.{DiskView}
 use Rattle.co_frame.specs.LogText.{gated, open_gate}
 use Rattle.std.specs.Prelude.{not, ◌==◌}

@@ -7,7 +7,7 @@ use Rattle.co_record.specs.declared.record.Record.{Record}
 use Rattle.co_record.specs.declared.record.Record.TheVariants.{Header}
 use Rattle.co_log.specs.declared.fault.LogFault.{LogFault}
 use Rattle.co_log.specs.declared.fault.LogFault.TheVariants.{Device, Stopped, Bad, Differs, Full, InUse, Memory}
-use Rattle.co_log.specs.BatchWrite.{begins_closed, closes_spare, batch_is_stable}
+use Rattle.co_record.specs.Gate.{begins_closed, closes_spare, batch_is_stable}
 use Rattle.co_log.specs.LogFile.{placed_from}
 use Rattle.co_log.specs.LogView.{LogView, IsLive}
 

@@ -4,25 +4,15 @@ ghost use Rattle.co_outside.specs.Home.{File};
 ghost use Rattle.co_disk.specs.DiskModel.{read_of};
 ghost use Rattle.co_disk.specs.Homes.{Agrees, IsClean, RestStays, HasFailed};
 ghost use Rattle.co_frame.specs.LogText.{IsLogText};
-ghost use Rattle.co_log.specs.BatchWrite.{begins_closed};
 ghost use Rattle.co_log.specs.Fresh.{IsOfDevice};
 ghost use Rattle.co_log.specs.LogFile.{EndsAt};
 
 use crate::fault::LogFault;
 use crate::writing::write_through;
 use co_disk::{Disk, DiskFault};
-use co_frame::{CLOSED_GATE, OPEN_GATE};
+use co_frame::CLOSED_GATE;
 use co_outside::Home;
-
-/// Whether the bytes begin with a gate that is not open.
-pub(crate) fn is_closed(bytes: &[u8]) -> bool
-    ensures { result ≡ begins_closed bytes.now }
-{
-    match bytes.first() {
-        Some(byte) => *byte != OPEN_GATE,
-        None => false,
-    }
-}
+use co_record::begins_closed;
 
 /// Closes the first gate of a file without a batch, where it is not closed: two device calls, of which
 /// none is stopped.
@@ -39,7 +29,7 @@ pub(crate) fn close_unmade<H: Home>(disk: &mut Disk, home: &mut H) -> Result<(),
     ensures rest { RestStays H.file H.reach H.entered H.faults disk.old.spot home.old home.new }
     ensures device { IsErrOf result (LogFault.Device disk.old.spot) → HasFailed H.faults H.last_failed disk.old.spot home.old home.new }
 {
-    if is_closed(disk.bytes()) {
+    if begins_closed(disk.bytes()) {
         return Ok(());
     }
     disk.disarm();

@@ -12,7 +12,8 @@ ghost use Rattle.co_disk.specs.DiskView.{DiskView};
 ghost use Rattle.co_log.specs.Attaching.{IsAttached};
 ghost use Rattle.co_log.specs.Fresh.{IsFresh};
 ghost use Rattle.co_log.specs.LogView.{LogView, IsLive};
-ghost use Rattle.co_log.specs.BatchWrite.{closed_batch, batch_pending, gate_pending, disk_at, disk_after, batch_is_stable};
+ghost use Rattle.co_log.specs.BatchWrite.{closed_batch, batch_pending, gate_pending, disk_at, disk_after};
+ghost use Rattle.co_record.specs.Gate.{batch_is_stable};
 ghost use Rattle.co_log.specs.LogFile.{spelled, EndsAt, EndsAfter, OldOrBoth};
 
 /// A file that ends at a gate that is not open has the records in front of it; and it has no batch where

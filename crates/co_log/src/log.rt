@@ -7,14 +7,13 @@ ghost use Rattle.co_record.specs.Spelling.{IsWritable};
 ghost use Rattle.co_record.specs.Stored.{HasRecords, HasLeft};
 
 use crate::append::{Ending, append};
-use crate::closing::is_closed;
 use crate::fault::LogFault;
 use crate::marks::{marks, marks_if};
 use crate::stop::Stop;
 use co_base::{Leaves, Marks, Node};
 use co_disk::Disk;
 use co_outside::{Home, Spot};
-use co_record::{Record, Views};
+use co_record::{Record, Views, begins_closed};
 use std::alloc::{AllocError, Global};
 use std::marker::Model;
 
@@ -51,7 +50,7 @@ impl Model for Log {
 impl Log {
     ghost use Rattle.co_disk.specs.Homes.{IsClean, RestStays, HasFailed};
     ghost use Rattle.co_log.specs.Appending.{IsTooLong};
-    ghost use Rattle.co_log.specs.BatchWrite.{begins_closed};
+    ghost use Rattle.co_record.specs.Gate.{begins_closed};
     ghost use Rattle.co_log.specs.Forcing.{IsForced, IsDone, IsOfForce};
     ghost use Rattle.co_log.specs.LogFile.{OldOrBoth};
     ghost use Rattle.co_log.specs.LogView.{IsLive, IsHeld, IsHeader, lengths_of};
@@ -123,7 +122,7 @@ impl Log {
     pub fn spare_closed(&self) -> bool
         ensures { result ≡ begins_closed (read_of self.now.spare.state) }
     {
-        is_closed(self.spare.bytes())
+        begins_closed(self.spare.bytes())
     }
 
     /// Appends one batch in one log write: the waiting records in order, and then this one. Its four device

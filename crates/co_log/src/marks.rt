@@ -1,32 +1,18 @@
 //! What a log write tells.
 ghost use Rattle.std.specs.Prelude.{◌≡◌, ◌++◌, ◌∷◌, [], IfOk, OnOk, if◌then◌else◌};
-ghost use Rattle.co_log.specs.Marks.{mark_of, marks_of};
+ghost use Rattle.co_log.specs.Marks.{marks_of};
+ghost use Rattle.co_record.specs.Marks.{mark_of};
 
-use co_base::{Mark, MarkKind, Marks, Node};
-use co_record::Record;
+use co_base::{Mark, Marks, Node};
+use co_record::{Record, mark_of};
 use std::alloc::{AllocError, Global};
-
-/// What a transcript tells of a record of this node.
-pub(crate) fn mark(node: Node, item: &Record) -> Mark
-    ensures { result ≡ mark_of node item.now }
-{
-    let (kind, number) = match item {
-        Record::Header { generation, .. } => (MarkKind::Header, *generation),
-        Record::Prepare { txn, .. } => (MarkKind::Prepare, txn.0),
-        Record::Commit { txn, .. } => (MarkKind::Commit, txn.0),
-        Record::Abort { txn } => (MarkKind::Abort, txn.0),
-        Record::End { txn } => (MarkKind::End, txn.0),
-        Record::Checkpoint { .. } => (MarkKind::Checkpoint, 0),
-    };
-    Mark { node, kind, number }
-}
 
 /// Adds what a transcript tells of records.
 fn put_marks(node: Node, items: &[Record], told: &mut Marks) -> Result<(), AllocError>
     ensures { OnOk result (told.new ≡ told.old ++ marks_of node items.now) }
 {
     for item in items {
-        told.push(mark(node, item))?;
+        told.push(mark_of(node, item))?;
     }
     Ok(())
 }

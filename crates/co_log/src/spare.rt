@@ -21,7 +21,7 @@ use co_record::Record;
 
 impl Log {
     ghost use Rattle.co_disk.specs.Homes.{IsClean, RestStays, HasFailed};
-    ghost use Rattle.co_log.specs.BatchWrite.{begins_closed};
+    ghost use Rattle.co_record.specs.Gate.{begins_closed};
     ghost use Rattle.co_log.specs.Forcing.{IsDone, IsOfForce};
     ghost use Rattle.co_log.specs.Appending.{IsTooLong};
     ghost use Rattle.co_log.specs.LogFile.{OldOrBoth};

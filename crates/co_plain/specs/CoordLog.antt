@@ -2,8 +2,6 @@
 use Rattle.std.specs.Prelude.{ℕ, Bool, true, false, List, [], ◌∷◌, Some}
 use Rattle.std.specs.FinMap.{entries}
 use Rattle.co_base.specs.declared.leaves.Leaves.{Leaves}
-use Rattle.co_base.specs.declared.mark.Mark.{Mark}
-use Rattle.co_base.specs.declared.mark.MarkKind.TheVariants as kind
 use Rattle.co_base.specs.declared.node.Node.TheVariants as node
 use Rattle.co_message.specs.declared.answer.Answer.TheVariants as answer
 use Rattle.co_record.specs.declared.record.Record.{Record}
@@ -14,7 +12,8 @@ use Rattle.co_plain.specs.declared.coord_state.Entry.TheVariants as entry
 use Rattle.co_plain.specs.declared.outcome.Outcome.{Outcome}
 use Rattle.co_plain.specs.declared.outcome.Outcome.TheVariants.{Completes, StopsAt}
 use Rattle.co_plain.specs.Numbers.{next_generation}
-use Rattle.co_plain.specs.LogWrite.{outcome_of, batch_is_stable, closes_spare, with_filled_spare, with_spare, with_stop, generation_of}
+use Rattle.co_plain.specs.LogWrite.{outcome_of, with_filled_spare, with_spare, with_stop, checkpoint_marks, generation_of}
+use Rattle.co_record.specs.Gate.{batch_is_stable, closes_spare}
 use Rattle.co_plain.specs.declared.coord_step.CoordStep.{CoordStep}
 use Rattle.co_plain.specs.CoordStep.{coord_says, with_coord_log, coord_down}
 
@@ -32,16 +31,13 @@ commits_onto records (e ∷ es) = commits_onto (commit_onto records e.0 e.1) es
 abbrev pub coord_spare : ℕ → CoordState → ℕ → List Record
 coord_spare c x generation = commits_onto (log.Header (node.Coord c) generation ∷ []) (entries x.table)
 
-abbrev pub coord_checkpoint_mark : ℕ → ℕ → List Mark
-coord_checkpoint_mark c generation = record { node = node.Coord c; kind = kind.Checkpoint; number = generation } ∷ []
-
 abbrev pub coord_stopped_fill : ℕ → CoordState → ℕ → ℕ → Bool → CoordStep
 coord_stopped_fill c x generation call true =
     record {
       state = coord_down (with_filled_spare x.log (coord_spare c x generation));
       answer = answer.Stopped call;
       sent = [];
-      marks = coord_checkpoint_mark c generation;
+      marks = checkpoint_marks (node.Coord c) generation;
     }
 coord_stopped_fill c x generation call false =
     record { state = coord_down x.log; answer = answer.Stopped call; sent = []; marks = [] }
@@ -52,7 +48,7 @@ coord_fill_by c x generation Completes =
       state = with_coord_log x (with_filled_spare x.log (coord_spare c x generation));
       answer = answer.Filled generation;
       sent = [];
-      marks = coord_checkpoint_mark c generation;
+      marks = checkpoint_marks (node.Coord c) generation;
     }
 coord_fill_by c x generation (StopsAt call leaves) = coord_stopped_fill c x generation call (batch_is_stable call leaves)
 

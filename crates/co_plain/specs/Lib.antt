@@ -24,4 +24,3 @@ pub mod CommitmentOrder
 pub mod Promises
 pub mod Invariants
 pub mod Moves
-pub mod PlainProgram

@@ -2,8 +2,6 @@
 use Rattle.std.specs.Prelude.{ℕ, Bool, true, false, List, [], ◌∷◌, None, Some}
 use Rattle.std.specs.FinMap.{entries, keys}
 use Rattle.co_base.specs.declared.leaves.Leaves.{Leaves}
-use Rattle.co_base.specs.declared.mark.Mark.{Mark}
-use Rattle.co_base.specs.declared.mark.MarkKind.TheVariants as kind
 use Rattle.co_base.specs.declared.node.Node.TheVariants as node
 use Rattle.co_message.specs.declared.answer.Answer.TheVariants as answer
 use Rattle.co_record.specs.declared.record.Record.{Record}
@@ -14,7 +12,8 @@ use Rattle.co_plain.specs.declared.member_state.MemberState.{MemberState}
 use Rattle.co_plain.specs.declared.outcome.Outcome.{Outcome}
 use Rattle.co_plain.specs.declared.outcome.Outcome.TheVariants.{Completes, StopsAt}
 use Rattle.co_plain.specs.Numbers.{next_generation}
-use Rattle.co_plain.specs.LogWrite.{outcome_of, batch_is_stable, closes_spare, with_filled_spare, with_spare, with_stop, generation_of}
+use Rattle.co_plain.specs.LogWrite.{outcome_of, with_filled_spare, with_spare, with_stop, checkpoint_marks, generation_of}
+use Rattle.co_record.specs.Gate.{batch_is_stable, closes_spare}
 use Rattle.co_plain.specs.declared.member_step.MemberStep.{MemberStep}
 use Rattle.co_plain.specs.MemberStep.{says, with_log, member_down}
 use Rattle.co_plain.specs.Member.{prepare_record}
@@ -33,9 +32,6 @@ member_spare m x generation =
     ∷ log.Header (node.Member m) generation ∷ [])
     (entries x.engine.voted)
 
-abbrev pub checkpoint_mark : ℕ → ℕ → List Mark
-checkpoint_mark m generation = record { node = node.Member m; kind = kind.Checkpoint; number = generation } ∷ []
-
 -- the spare is filled
 abbrev pub stopped_fill : ℕ → MemberState → ℕ → ℕ → Bool → MemberStep
 stopped_fill m x generation call true =
@@ -43,7 +39,7 @@ stopped_fill m x generation call true =
       state = member_down x (with_filled_spare x.log (member_spare m x generation));
       answer = answer.Stopped call;
       sent = None;
-      marks = checkpoint_mark m generation;
+      marks = checkpoint_marks (node.Member m) generation;
     }
 stopped_fill m x generation call false =
     record { state = member_down x x.log; answer = answer.Stopped call; sent = None; marks = [] }
@@ -54,7 +50,7 @@ fill_by m x generation Completes =
       state = with_log x (with_filled_spare x.log (member_spare m x generation));
       answer = answer.Filled generation;
       sent = None;
-      marks = checkpoint_mark m generation;
+      marks = checkpoint_marks (node.Member m) generation;
     }
 fill_by m x generation (StopsAt call leaves) = stopped_fill m x generation call (batch_is_stable call leaves)
 

@@ -72,10 +72,7 @@ pub data Move : Type 0 where
   AskEnd : ℕ → Move
   Send : Message → Move
 
--- the session of a transaction, where it was begun
-abbrev pub session_told : Federation → ℕ → Session → Federation
-session_told s t session = with_session s t session
-
+-- the session of a transaction after an answer, where it was begun
 abbrev pub entered_reply : Federation → ℕ → ℕ → Op → Option Session → Federation
 entered_reply s t m o None = s
 entered_reply s t m o (Some session) =
@@ -224,7 +221,7 @@ may_send s (message.Decide t c m true) = IsDecided s t × TakesPart s t m × (is
 may_send s (message.Decide t c m false) =
     ((BelongsTo s t c × IsPresumedAborted s t) ⊎ (log_has_committed (s.member m).log.stable t ≡ true)) × (is_over s t ≡ true)
 may_send s (message.Ask t m c) = (holds (s.member m).engine.voted t ≡ true) × (coord_of (s.member m) t ≡ c)
-may_send s (message.Ack t m c) = (holds (s.member m).committed t ≡ true) × (was_sent s.sent (message.Decide t c m true) ≡ true)
+may_send s (message.Ack t m c) = holds (s.member m).committed t ≡ true
 
 -- what must hold before each move
 abbrev pub Guard : Federation → Move → Type 0

@@ -4,3 +4,5 @@ pub mod Reading
 pub mod Lent
 pub mod Slices
 pub mod Stored
+pub mod Gate
+pub mod Marks

@@ -2,7 +2,7 @@
 use crate::fault::ReplayFault;
 use co_base::{Head, Kinds};
 use co_message::{Event, Item, ItemKind};
-use co_plain::{PlainStep, plain_open, plain_run};
+use co_plain_run::{PlainStep, plain_open, plain_run};
 use co_schedule::{LineFault, read_head, read_line};
 use co_transcript::put_item;
 use std::alloc::Global;

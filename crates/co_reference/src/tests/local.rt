@@ -4,7 +4,7 @@ use super::told;
 use crate::fault::ReplayFault;
 use co_base::{Head, Kinds, Txn};
 use co_message::{Item, ItemKind};
-use co_plain::{PlainFederation, PlainStep, plain_hand, plain_local, plain_open, plain_step};
+use co_plain_run::{PlainFederation, PlainStep, plain_hand, plain_local, plain_open, plain_step};
 use co_schedule::{read_head, read_line};
 use co_transcript::put_item;
 use std::alloc::Global;

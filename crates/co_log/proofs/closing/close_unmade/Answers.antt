@@ -2,7 +2,7 @@ use Rattle.std.proofs.Common.{rules, ◌≡◌, ◌∷◌, [], sym, ap, subst, �
 use Rattle.std.specs.Prelude.{Some}
 use Rattle.co_disk.specs.DiskModel.{after_write, after_sync, IsImage}
 use Rattle.co_disk.specs.DiskView.{DiskView}
-use Rattle.co_log.specs.BatchWrite.{begins_closed}
+use Rattle.co_record.specs.Gate.{begins_closed}
 use Rattle.co_log.proofs.Stops.{never_stopped}
 use Rattle.co_log.proofs.Unmade.{short_unmade, closed_disk, short_image, read_stable}
 use Rattle.co_log.proofs.closing.close_unmade.Goals as goal
@@ -20,7 +20,7 @@ pub returns-in-Err-Device-clause-told : goal.returns-in-Err-Device-clause-told
 returns-in-Err-Device-clause-told g c = λ f told.
     let old = c.args.disk.now.state in
     let bytes : c.bytes.result.now ≡ old.stable = c.bytes.ensures.read ∙ read_stable old c.requires.stable in
-    let open' : begins_closed old.stable ≡ false = sym (ap begins_closed bytes) ∙ sym c.is_closed.ensures ∙ c.if-is_closed.false in
+    let open' : begins_closed old.stable ≡ false = sym (ap begins_closed bytes) ∙ sym c.begins_closed.ensures ∙ c.if-begins_closed.false in
     let told' = subst (λ (d : DiskView). g.H.Home.file c.write_through.new.home d.spot ≡ Some f) (sym c.disarm.ensures) told in
     let image = subst (λ (d : DiskView). IsImage (after_write d.state 0 (0 ∷ [])) f.bytes) c.disarm.ensures (c.in-Err-Device.ensures.image f told') in
     short_image old f.bytes c.requires.stable (short_unmade old.stable c.requires.none open') image

@@ -3,7 +3,7 @@ use Rattle.std.specs.Prelude.{Some, Err}
 use Rattle.co_disk.specs.DiskModel.{DiskState, IsChosen, IsImage, after_write}
 use Rattle.co_outside.specs.declared.spot.Spot.{Spot}
 use Rattle.co_log.specs.declared.fault.LogFault.TheVariants as faults
-use Rattle.co_log.specs.BatchWrite.{begins_closed}
+use Rattle.co_record.specs.Gate.{begins_closed}
 use Rattle.co_log.specs.LogView.{LogView}
 use Rattle.co_log.specs.Spare.{IsClosing, IsSpareImage}
 use Rattle.co_log.proofs.Unmade.{closed_by, spare_images}

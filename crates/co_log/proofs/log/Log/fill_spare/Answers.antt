@@ -5,7 +5,7 @@ use Rattle.co_outside.specs.declared.spot.Spot.{Spot}
 use Rattle.co_log.specs.declared.append.Ending.{Ending}
 use Rattle.co_log.specs.declared.fault.LogFault.TheVariants as faults
 use Rattle.co_log.specs.Appending.{IsEnding}
-use Rattle.co_log.specs.BatchWrite.{begins_closed}
+use Rattle.co_record.specs.Gate.{begins_closed}
 use Rattle.co_log.specs.LogFile.{OldOrBoth}
 use Rattle.co_log.specs.LogView.{LogView}
 use Rattle.co_log.specs.Spare.{IsFilling, filling, filling_mark}

@@ -1,0 +1,4 @@
+mod Few
+mod Placed
+mod Acting
+mod Opened
