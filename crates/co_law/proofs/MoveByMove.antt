@@ -44,7 +44,7 @@ allowed s f (message.Decide t c m false) g = (by g.0, g.1)
     by (inl p) = let b = as_belongs s t c p.0 in inl (b, dead_there s f.numbers t c b p.1)
     by (inr h) = inr h
 allowed s f (message.Ask t m c) g = votes_it s t m c g.0 g.1
-allowed s f (message.Ack t m c) g = g.0
+allowed s f (message.Ack t m c) g = g
 
 pub move_keeps : (s : Federation) → Facts s → (move : Move) → Guard s move → Facts (effect s move)
 move_keeps s f (Operate t m o) g = keeps_operate s f t m o g

@@ -22,11 +22,11 @@ use Rattle.co_plain.specs.declared.outcome.Outcome.TheVariants.{Completes, Stops
 use Rattle.co_plain.specs.declared.session.Decided.{Decided}
 use Rattle.co_plain.specs.declared.session.Session.{Session}
 use Rattle.co_plain.specs.Numbers.{first_lacking, has_number, numbers_lacking, next_generation}
-use Rattle.co_plain.specs.LogWrite.{marks_of, outcome_of, with_batch, with_filled_spare, with_spare, generation_of}
+use Rattle.co_plain.specs.LogWrite.{checkpoint_marks, marks_of, outcome_of, with_batch, with_filled_spare, with_spare, generation_of}
 use Rattle.co_record.specs.Gate.{batch_is_stable, closes_spare}
 use Rattle.co_plain.specs.CoordStep.{with_table, with_coord_log, coord_down, has_part, members_of, stopped_coord, coord_forced_by, coord_says}
 use Rattle.co_plain.specs.Coordinator.{member_or_none, waits, aborts, decided_by, yes_entry, no_entry, ask_entry, ended_by, ack_entry, timer_entry, resend_entry, parts_lacking, decisions_to, prepares_to}
-use Rattle.co_plain.specs.CoordLog.{coord_checkpoint_mark, coord_stopped_fill, coord_fill_by, coord_close_by, coord_checkpoint_by, coord_restart_by, coord_spare}
+use Rattle.co_plain.specs.CoordLog.{coord_stopped_fill, coord_fill_by, coord_close_by, coord_checkpoint_by, coord_restart_by, coord_spare}
 use Rattle.co_plain.specs.Wire.{was_sent}
 use Rattle.co_plain.specs.Federation.{Federation, with_coord, at_coord, noted, decided_where, decide_all}
 use Rattle.co_plain.specs.Decisions.{told_of, told_in}
@@ -237,12 +237,12 @@ module _ (s : Federation) (c : ℕ) (f : Facts s) where
   filled = with_coord_log (s.coord c) (with_filled_spare (s.coord c).log (coord_spare c (s.coord c) (next_generation (generation_of (s.coord c).log.stable))))
 
   fill_event : (o : Outcome) → Facts (at_coord s c (coord_fill_by c (s.coord c) (next_generation (generation_of (s.coord c).log.stable)) o)).state
-  fill_event Completes = noted_quiet (with_coord s c filled) (coord_checkpoint_mark c generation) (coord_fill_at s c (s.coord c) stays) refl
+  fill_event Completes = noted_quiet (with_coord s c filled) (checkpoint_marks (node.Coord c) generation) (coord_fill_at s c (s.coord c) stays) refl
   fill_event (StopsAt call leaves) = by (batch_is_stable call leaves)
     where
       by : (b : Bool) → Facts (at_coord s c (coord_stopped_fill c (s.coord c) (next_generation (generation_of (s.coord c).log.stable)) call b)).state
       by true =
-          noted_quiet (with_coord s c (coord_down (with_filled_spare (s.coord c).log (coord_spare c (s.coord c) generation)))) (coord_checkpoint_mark c generation)
+          noted_quiet (with_coord s c (coord_down (with_filled_spare (s.coord c).log (coord_spare c (s.coord c) generation)))) (checkpoint_marks (node.Coord c) generation)
           (coord_crash_at s c filled (coord_fill_at s c (s.coord c) stays)) refl
       by false = coord_crash_at s c (s.coord c) stays
 

@@ -29,11 +29,11 @@ use Rattle.co_plain.specs.declared.session.Session.{Session}
 use Rattle.co_plain.specs.declared.standing.Standing.{Standing}
 use Rattle.co_plain.specs.declared.standing.Standing.TheVariants.{IsActive, IsVoted, IsInstalled, IsAbsent}
 use Rattle.co_plain.specs.Numbers.{next_generation}
-use Rattle.co_plain.specs.LogWrite.{marks_of, outcome_of, with_batch, with_filled_spare, with_spare, generation_of}
+use Rattle.co_plain.specs.LogWrite.{checkpoint_marks, marks_of, outcome_of, with_batch, with_filled_spare, with_spare, generation_of}
 use Rattle.co_record.specs.Gate.{batch_is_stable, closes_spare}
 use Rattle.co_plain.specs.MemberStep.{says, standing_by, standing_of, with_log, dropped, member_down, member_down_with, stopped_member, forced_by}
 use Rattle.co_plain.specs.Member.{prepare_record, voted_state, vote_by, coord_in, coord_of, with_mark, prepare_by, vote_where_asked, vote_again_by, installed_state, commit_by, abort_by, timer_by, ask_by}
-use Rattle.co_plain.specs.MemberLog.{checkpoint_mark, stopped_fill, fill_by, close_by, checkpoint_by, member_spare, restart_by}
+use Rattle.co_plain.specs.MemberLog.{stopped_fill, fill_by, close_by, checkpoint_by, member_spare, restart_by}
 use Rattle.co_plain.specs.Sessions.{same_node}
 use Rattle.co_plain.specs.Wire.{was_sent}
 use Rattle.co_plain.specs.Federation.{Federation, with_member, at_member, decided_where}
@@ -245,11 +245,11 @@ module _ (s : Federation) (m : ℕ) (f : Facts s) where
   filled = with_log (s.member m) (with_filled_spare (s.member m).log (member_spare m (s.member m) (next_generation (generation_of (s.member m).log.stable))))
 
   fill_event : (o : Outcome) → Facts (at_member s m (fill_by m (s.member m) (next_generation (generation_of (s.member m).log.stable)) o)).state
-  fill_event Completes = noted_quiet (with_member s m filled) (checkpoint_mark m generation) (fill_at s m (s.member m) stays) refl
+  fill_event Completes = noted_quiet (with_member s m filled) (checkpoint_marks (node.Member m) generation) (fill_at s m (s.member m) stays) refl
   fill_event (StopsAt call leaves) = by (batch_is_stable call leaves)
     where
       by : (b : Bool) → Facts (at_member s m (stopped_fill m (s.member m) (next_generation (generation_of (s.member m).log.stable)) call b)).state
-      by true = noted_quiet (with_member s m (member_down (s.member m) (with_filled_spare (s.member m).log (member_spare m (s.member m) generation)))) (checkpoint_mark m generation)
+      by true = noted_quiet (with_member s m (member_down (s.member m) (with_filled_spare (s.member m).log (member_spare m (s.member m) generation)))) (checkpoint_marks (node.Member m) generation)
           (crash_at s m filled (fill_at s m (s.member m) stays)) refl
       by false = crash_at s m (s.member m) stays
 
