@@ -1,18 +1,14 @@
 -- A node that is taken out and put back is the only one that changes, so a step of one node is a step of the
 -- federation.
-use Rattle.std.proofs.Common.{◌≡◌, ℕ, ◌<◌, Bool, true, false, cond, List, Option, None, Some, if◌then◌else◌, nat_eq, ◌⊎◌, inl, inr, refl, sym, ap, ◌∙◌, arith}
-use Rattle.std.specs.Ordering.{nat_cmp, eq_by_cmp, is_eq}
-use Rattle.std.specs.Cmp.{nat_cmp_is}
-use Rattle.std.specs.declared.cmp.Ordering.TheVariants.{Less, Equal, Greater}
-use Rattle.std.proofs.lemmas.Bool.{cases_order, eq-eqb}
-use Rattle.std.proofs.lemmas.Bool.Decides.{nat_tests}
+use Rattle.std.proofs.Common.{◌≡◌, ℕ, Bool, true, false, cond, List, Option, None, Some, if◌then◌else◌, nat_eq, refl, sym, ap, ◌∙◌}
+use Rattle.std.specs.Ordering.{nat_cmp, eq_by_cmp}
 use Rattle.co_base.specs.declared.head.Kind.{Kind}
 use Rattle.co_base.specs.declared.node.Node.TheVariants as node
 use Rattle.co_message.specs.declared.answer.Answer.TheVariants as answer
 use Rattle.co_record.specs.declared.record.Record.{Record}
 use Rattle.co_serial.specs.SerialRun.{with_at}
 use Rattle.co_state.specs.Table.{Table, look, put, without}
-use Rattle.co_state.proofs.Tables.{look-put, look-without}
+use Rattle.co_state.proofs.Tables.{look-put, look-without, same_test, swap_test}
 use Rattle.co_plain.specs.declared.coord_state.CoordState.{CoordState}
 use Rattle.co_plain.specs.declared.coord_step.CoordStep.{CoordStep}
 use Rattle.co_plain.specs.declared.member_state.MemberState.{MemberState}
@@ -23,23 +19,6 @@ use Rattle.co_plain.specs.Federation.{answers, at_member, at_coord, items_of, me
 use Rattle.co_plain.specs.Opening.{opened_member, opened_coord, fresh}
 use Rattle.co_plain_run.specs.PlainProgram.{entry_or, member_at, coord_at, federation_of, stepped_of, without_member, without_coord, with_member_step, with_coord_step}
 use Rattle.co_plain.specs.Step.{up_member, up_coord, member_step, coord_step}
-
-apart_below : (q k : ℕ) → q < k → false ≡ nat_eq q k
-apart_below q k l = grind (arith, nat_tests)
-
-apart_above : (q k : ℕ) → k < q → false ≡ nat_eq q k
-apart_above q k l = grind (arith, nat_tests)
-
-same_test : (q k : ℕ) → eq_by_cmp nat_cmp q k ≡ nat_eq q k
-same_test q k = by (cases_order q k)
-  where
-    by : (q ≡ k) ⊎ ((q < k) ⊎ (k < q)) → eq_by_cmp nat_cmp q k ≡ nat_eq q k
-    by (inl e) = ap is_eq (sym (nat_cmp_is q k Equal e)) ∙ sym (eq-eqb q k e)
-    by (inr (inl l)) = ap is_eq (sym (nat_cmp_is q k Less l)) ∙ apart_below q k l
-    by (inr (inr g)) = ap is_eq (sym (nat_cmp_is q k Greater g)) ∙ apart_above q k g
-
-swap_test : (q k : ℕ) → nat_eq q k ≡ nat_eq k q
-swap_test q k = grind (arith, nat_tests)
 
 by_test : {X : Type 0} (b : Bool) (x d : X) (o : Option X) → entry_or d (cond b (Some x) (cond b None o)) ≡ (if b then x else entry_or d o)
 by_test true x d o = refl
