@@ -1,3 +1,4 @@
 pub mod Files
 pub mod Overlays
 pub mod TornFiles
+pub mod Wholes

@@ -26,3 +26,9 @@ pub record HasSameFiles (old new : HomeMemory) : Type 0 where
   pub files : new.files.items ≡ old.files.items
   pub marks : new.clean ≡ old.clean
   pub directory : memory_entered new ≡ memory_entered old
+
+-- the calls that are to fail, the count of faults and the last failed call are those from before
+pub record HasSameCounts (old new : HomeMemory) : Type 0 where
+  pub fails : new.fail.items ≡ old.fail.items
+  pub faults : new.faults ≡ old.faults
+  pub last_failed : new.last_failed ≡ old.last_failed

@@ -23,7 +23,7 @@ pub struct HomeMemory {
 impl HomeMemory {
     ghost use Rattle.co_outside.specs.declared.spot.Spot.{Spot};
     ghost use Rattle.co_outside.specs.Home.{IsCounted, empty_file};
-    ghost use Rattle.co_outside.specs.HomeMemory.{memory_file, memory_bytes, memory_entered, HasSameFiles};
+    ghost use Rattle.co_outside.specs.HomeMemory.{memory_file, memory_bytes, memory_entered, HasSameFiles, HasSameCounts};
 
     /// No files, each of them clean. `fail` names the calls that are to fail. Takes no memory.
     pub fn new(alloc: Global, fail: Vec<FailAt>) -> HomeMemory
@@ -31,6 +31,8 @@ impl HomeMemory {
         ensures empty { (s : Spot) → memory_bytes result s ≡ [] }
         ensures entered { memory_entered result ≡ None }
         ensures fails { result.fail.items ≡ fail.items }
+        ensures faults { result.faults ≡ 0 }
+        ensures last_failed { result.last_failed ≡ record { node = 1; part = 0 } }
     {
         HomeMemory {
             files: Vec::new(alloc),
@@ -49,12 +51,15 @@ impl HomeMemory {
         bytes_of(&self.files, spot)
     }
 
-    /// Puts these bytes in the place of the file at a spot, which is clean then.
+    /// Puts these bytes in the place of the file at a spot, which is clean then. It is no call of the
+    /// home: it does not fail, and nothing is counted. Want of memory leaves the file as it was.
     pub fn put(&mut self, spot: Spot, bytes: Vec<u8>) -> Result<(), AllocError>
         ensures file { OnOk result (spot.part < 2 → memory_file self.new spot ≡ Some (record { bytes = bytes.items; clean = true })) }
         ensures bytes { OnOk result (memory_bytes self.new spot ≡ bytes.items) }
+        ensures stays { OnErr result (memory_file self.new spot ≡ memory_file self.old spot) }
         ensures others { (s : Spot) → s ≢ spot → memory_file self.new s ≡ memory_file self.old s }
         ensures entered { memory_entered self.new ≡ memory_entered self.old }
+        ensures counts { HasSameCounts self.old self.new }
     {
         put_at(&mut self.files, spot, bytes)?;
         mark(&mut self.clean, spot, true);

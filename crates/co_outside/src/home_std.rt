@@ -27,8 +27,12 @@ impl HomeStd {
     ghost use Rattle.co_outside.specs.Faults.{HasRisen};
     ghost use Rattle.co_outside.specs.Home.{IsCounted};
 
-    /// No directory is entered yet.
-    pub fn new(rt: HostRuntime) -> HomeStd {
+    /// No directory is entered yet, and no call has failed. Takes no memory.
+    pub fn new(rt: HostRuntime) -> HomeStd
+        ensures entered { result.entered ≡ None }
+        ensures faults { result.faults ≡ 0 }
+        ensures last_failed { result.last_failed ≡ record { node = 1; part = 0 } }
+    {
         let path = String::new(rt.alloc());
         HomeStd {
             rt,

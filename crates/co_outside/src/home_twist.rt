@@ -1,5 +1,5 @@
 //! A home that changes one byte of what it reads.
-ghost use Rattle.std.specs.Prelude.{length, None};
+ghost use Rattle.std.specs.Prelude.{◌≡◌, length, None};
 
 use crate::home::{Home, HomeFault};
 use crate::home_memory::HomeMemory;
@@ -21,7 +21,9 @@ pub struct HomeTwist {
 impl HomeTwist {
     /// Passes every call on to `inner`. From its `read_all` with the number `from` on `spot`,
     /// counted from 1, it gives `byte` at the place `at` where the file has that place.
-    pub fn new(inner: HomeMemory, spot: Spot, at: u32, byte: u8, from: u32) -> HomeTwist {
+    pub fn new(inner: HomeMemory, spot: Spot, at: u32, byte: u8, from: u32) -> HomeTwist
+        ensures { result ≡ record { inner = inner; spot = spot; at = at; byte = byte; from = from; reads = 0 } }
+    {
         HomeTwist {
             inner,
             spot,

@@ -22,6 +22,7 @@ mod spot;
 mod stored;
 #[cfg(test)]
 mod tests;
+mod whole;
 
 pub use home::{FailAt, Home, HomeCall, HomeFault};
 pub use home_memory::HomeMemory;
@@ -35,3 +36,4 @@ pub use source::{Source, SourceFault, Taken};
 pub use source_memory::SourceMemory;
 pub use source_std::SourceStd;
 pub use spot::Spot;
+pub use whole::{put_all, read_all};

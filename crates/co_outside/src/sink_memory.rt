@@ -21,6 +21,7 @@ impl SinkMemory {
     pub fn new(alloc: Global, fail: Vec<u32>) -> SinkMemory
         ensures held { memory_held result ≡ [] }
         ensures fails { puts_to_fail result ≡ fail.items }
+        ensures faults { result.faults ≡ 0 }
     {
         SinkMemory {
             bytes: Vec::new(alloc),

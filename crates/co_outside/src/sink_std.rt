@@ -1,5 +1,5 @@
 //! A sink over std's writers.
-ghost use Rattle.std.specs.Prelude.{None};
+ghost use Rattle.std.specs.Prelude.{◌≡◌, None};
 
 use crate::sink::{Sink, SinkFault};
 use std::alloc::Global;
@@ -13,8 +13,11 @@ pub struct SinkStd<W: Write + Drop> {
 }
 
 impl<W: Write + Drop> SinkStd<W> {
-    /// A sink into the writer.
-    pub fn new(writer: W) -> SinkStd<W> {
+    /// A sink into the writer, which has not failed yet. Takes no memory.
+    pub fn new(writer: W) -> SinkStd<W>
+        ensures writes { result.writer ≡ writer }
+        ensures faults { result.faults ≡ 0 }
+    {
         SinkStd { writer, faults: 0 }
     }
 }

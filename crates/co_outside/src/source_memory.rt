@@ -24,6 +24,7 @@ impl SourceMemory {
     pub fn new(bytes: Vec<u8>, fail: Vec<u32>) -> SourceMemory
         ensures left { memory_left result ≡ bytes.items }
         ensures fails { calls_to_fail result ≡ fail.items }
+        ensures faults { result.faults ≡ 0 }
     {
         SourceMemory {
             bytes,

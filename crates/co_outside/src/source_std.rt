@@ -1,5 +1,5 @@
 //! A source over std's readers.
-ghost use Rattle.std.specs.Prelude.{None};
+ghost use Rattle.std.specs.Prelude.{◌≡◌, None};
 
 use crate::source::{Source, SourceFault, Taken};
 use co_base::Bytes;
@@ -17,8 +17,11 @@ pub struct SourceStd<R: Read + Drop> {
 }
 
 impl<R: Read + Drop> SourceStd<R> {
-    /// A source of what the reader gives.
-    pub fn new(reader: R) -> SourceStd<R> {
+    /// A source of what the reader gives, which has not failed yet. Takes no memory.
+    pub fn new(reader: R) -> SourceStd<R>
+        ensures reads { result.reader ≡ reader }
+        ensures faults { result.faults ≡ 0 }
+    {
         SourceStd { reader, faults: 0 }
     }
 }

@@ -1,7 +1,7 @@
 //! The forms in memory, and the adapters over real files in the test's own folder.
 use crate::{
     FailAt, Home, HomeCall, HomeFault, HomeMemory, HomeStd, HomeTwist, Sink, SinkFault, SinkMemory,
-    SinkStd, Source, SourceFault, SourceMemory, SourceStd, Spot, Taken,
+    SinkStd, Source, SourceFault, SourceMemory, SourceStd, Spot, Taken, put_all, read_all,
 };
 use std::fs;
 use std::fs::File;
@@ -39,6 +39,33 @@ fn a_sink_keeps_what_it_took_and_fails_at_its_second_call(rt: HostRuntime) -> Re
     assert!(rt; matches!(sink.put(alloc, b"lost"), Err(SinkFault::Failed)));
     assert_eq!(rt; sink.put(alloc, b"de")?, 2);
     assert_eq!(rt; sink.put(alloc, b"")?, 0);
+    assert_eq!(rt; sink.bytes(), b"abcde".as_slice());
+    Ok(())
+}
+
+#[test]
+fn a_whole_source_is_read_in_pieces_up_to_a_limit(rt: HostRuntime) -> Result<(), Fail> {
+    let alloc = rt.alloc();
+    let text = vec![in alloc; b'x'; 70_000]?;
+    let mut source = SourceMemory::new(text, Vec::new(alloc));
+    assert_eq!(rt; read_all(alloc, &mut source, 0)?.len(), 0);
+    assert_eq!(rt; read_all(alloc, &mut source, 69_998)?.len(), 69_998);
+    let rest = read_all(alloc, &mut source, 9)?;
+    assert_eq!(rt; rest.as_slice(), b"xx".as_slice());
+    assert_eq!(rt; read_all(alloc, &mut source, 9)?.len(), 0);
+    let mut failing = SourceMemory::new(b"abc".to_vec(alloc)?, [2].to_vec(alloc)?);
+    assert!(rt; matches!(read_all(alloc, &mut failing, 9), Err(SourceFault::Failed)));
+    Ok(())
+}
+
+#[test]
+fn a_whole_piece_is_put(rt: HostRuntime) -> Result<(), Fail> {
+    let alloc = rt.alloc();
+    let mut sink = SinkMemory::new(alloc, [3].to_vec(alloc)?);
+    put_all(alloc, &mut sink, b"abc")?;
+    put_all(alloc, &mut sink, b"")?;
+    put_all(alloc, &mut sink, b"de")?;
+    assert!(rt; matches!(put_all(alloc, &mut sink, b"lost"), Err(SinkFault::Failed)));
     assert_eq!(rt; sink.bytes(), b"abcde".as_slice());
     Ok(())
 }

@@ -1,31 +1,11 @@
 -- A list of entries read as a table.
-use Rattle.std.proofs.Common.{◌≡◌, ℕ, ◌<◌, Bool, true, false, ◌||◌, cond, is_some, true≢false, ◌++◌, List, [], ◌∷◌, ◌⊎◌, inl, inr, Option, None, Some, nat_eq, refl, sym, ap, ◌∙◌, arith}
+use Rattle.std.proofs.Common.{◌≡◌, ℕ, Bool, true, false, ◌||◌, cond, is_some, true≢false, ◌++◌, List, [], ◌∷◌, Option, None, Some, nat_eq, refl, sym, ap, ◌∙◌}
 use Rattle.std.specs.FinMap.{from_entries, get, get-from_entries, get-insert, same_map, nat_cmp-IsAntisymmetric, find}
-use Rattle.std.specs.Ordering.{nat_cmp, eq_by_cmp, is_eq}
-use Rattle.std.specs.Cmp.{nat_cmp_is}
-use Rattle.std.specs.declared.cmp.Ordering.TheVariants.{Less, Equal, Greater}
+use Rattle.std.specs.Ordering.{nat_cmp, eq_by_cmp}
 use Rattle.std.specs.Map.{lookup, keys_of}
 use Rattle.std.proofs.lemmas.Cmp.{nat_cmp_total}
-use Rattle.std.proofs.lemmas.Bool.{cases_order, eq-eqb}
-use Rattle.std.proofs.lemmas.Bool.Decides.{nat_tests}
 use Rattle.co_state.specs.Table.{Table, look, put}
-
-apart_below : (q k : ℕ) → q < k → false ≡ nat_eq q k
-apart_below q k l = grind (arith, nat_tests)
-
-apart_above : (q k : ℕ) → k < q → false ≡ nat_eq q k
-apart_above q k l = grind (arith, nat_tests)
-
-same_test : (q k : ℕ) → eq_by_cmp nat_cmp q k ≡ nat_eq q k
-same_test q k = by (cases_order q k)
-  where
-    by : (q ≡ k) ⊎ ((q < k) ⊎ (k < q)) → eq_by_cmp nat_cmp q k ≡ nat_eq q k
-    by (inl e) = ap is_eq (sym (nat_cmp_is q k Equal e)) ∙ sym (eq-eqb q k e)
-    by (inr (inl l)) = ap is_eq (sym (nat_cmp_is q k Less l)) ∙ apart_below q k l
-    by (inr (inr g)) = ap is_eq (sym (nat_cmp_is q k Greater g)) ∙ apart_above q k g
-
-swap_test : (q k : ℕ) → nat_eq q k ≡ nat_eq k q
-swap_test q k = grind (arith, nat_tests)
+use Rattle.co_state.proofs.Tables.{same_test, swap_test}
 
 module _ {X : Type 0} where
   found : (es : List (ℕ × X)) (t : ℕ) → find nat_cmp t es ≡ lookup (nat_eq t) es

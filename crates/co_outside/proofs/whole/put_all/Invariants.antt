@@ -1,0 +1,13 @@
+-- The sink holds what it held and the front of the piece that is done.
+use Rattle.std.proofs.Common.{◌≡◌, ◌-◌, ◌≤◌, ◌++◌, ℕ, List, Some, length, take}
+use Rattle.co_outside.proofs.whole.put_all.Given as goal
+
+abbrev pub invariant-writing : goal.invariant-writing
+invariant-writing g l = record {
+  within : l.done ≤ length l.piece;
+  counts : g.K.Sink.faults l.fn.sink ≤ g.K.Sink.faults l.sink;
+  front : (held : List ℕ) → g.K.Sink.told l.fn.sink ≡ Some held → g.K.Sink.told l.sink ≡ Some (held ++ take l.done l.piece);
+}
+
+abbrev pub decreases-writing : goal.decreases-writing
+decreases-writing g l = length l.piece - l.done

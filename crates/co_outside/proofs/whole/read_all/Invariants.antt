@@ -1,0 +1,14 @@
+-- What was read is a front of what the source held, and the source has the rest of it.
+use Rattle.std.proofs.Common.{◌≡◌, ◌-◌, ◌≤◌, ℕ, List, Some, length, take, drop}
+use Rattle.co_outside.proofs.whole.read_all.Given as goal
+
+abbrev pub invariant-reading : goal.invariant-reading
+invariant-reading g l = record {
+  within : length l.input.items ≤ l.most;
+  counts : g.S.Source.faults l.fn.source ≤ g.S.Source.faults l.source;
+  front : (held : List ℕ) → g.S.Source.left l.fn.source ≡ Some held → l.input.items ≡ take (length l.input.items) held;
+  rest : (held : List ℕ) → g.S.Source.left l.fn.source ≡ Some held → g.S.Source.left l.source ≡ Some (drop (length l.input.items) held);
+}
+
+abbrev pub decreases-reading : goal.decreases-reading
+decreases-reading g l = l.most - length l.input.items
