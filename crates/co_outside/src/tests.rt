@@ -147,6 +147,17 @@ fn a_twisted_home_passes_its_calls_on(rt: HostRuntime) -> Result<(), Fail> {
 }
 
 #[test]
+fn adapters_tell_what_readers_and_writers_of_memory_hold(rt: HostRuntime) -> Result<(), Fail> {
+    let alloc = rt.alloc();
+    let mut source = SourceStd::new(b"abc".as_slice());
+    let whole = read_all(alloc, &mut source, 9)?;
+    assert_eq!(rt; whole.as_slice(), b"abc".as_slice());
+    let mut sink = SinkStd::new(Vec::new(alloc));
+    put_all(alloc, &mut sink, whole.as_slice())?;
+    Ok(())
+}
+
+#[test]
 fn a_source_reads_a_real_file(rt: HostRuntime) -> Result<(), Fail> {
     let alloc = rt.alloc();
     fs::write(&rt, "source_std_file", b"abc".as_slice())?;
