@@ -9,8 +9,6 @@ mod changes;
 mod record_map;
 mod serial_map;
 mod site;
-#[cfg(test)]
-mod tests;
 
 pub use record_map::RecordMap;
 pub use serial_map::{SerialMap, run_whole};
