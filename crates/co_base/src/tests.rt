@@ -1,5 +1,5 @@
 //! Values from outside: the bounds of keys, values, ranges and node bytes.
-use crate::{BaseFault, Key, Node, Op, Range, Row, Rows, Sequence, Txn, Txns, Value, Written};
+use crate::{BaseFault, Key, Node, Op, Range, Row, Rows, Sequence, Txn, Txns, Value};
 use std::alloc::{AllocError, Global};
 use std::test::Fail;
 
@@ -84,8 +84,6 @@ fn ranges_have_both_their_ends(rt: HostRuntime) -> Result<(), Fail> {
     }
     assert!(rt; *range.lo() == lo);
     assert!(rt; *range.hi() == hi);
-    let (least, greatest) = range.bounds();
-    assert!(rt; *least == lo && *greatest == hi);
     assert!(rt; range.copy()? == range);
     let single = Range::of_key(&lo)?;
     assert!(rt; single.has(&lo));
@@ -93,44 +91,6 @@ fn ranges_have_both_their_ends(rt: HostRuntime) -> Result<(), Fail> {
     assert!(rt; single < range);
     let scan = Op::Scan(range);
     assert!(rt; scan.copy()? == scan);
-    Ok(())
-}
-
-#[test]
-fn texts_stand_in_the_order_of_their_bytes(rt: HostRuntime) -> Result<(), Fail> {
-    let capital = key_of(rt.alloc(), b"B")?;
-    let short = key_of(rt.alloc(), b"a")?;
-    let long = key_of(rt.alloc(), b"ab")?;
-    let last = key_of(rt.alloc(), b"b")?;
-    assert!(rt; capital < short && short < long && long < last);
-    let ten = Value::new(rt.alloc(), b"10").map_err(|_| AllocError)?;
-    let nine = Value::new(rt.alloc(), b"9").map_err(|_| AllocError)?;
-    assert!(rt; ten < nine);
-    Ok(())
-}
-
-#[test]
-fn copies_are_equal(rt: HostRuntime) -> Result<(), Fail> {
-    let key = key_of(rt.alloc(), b"a")?;
-    let value = Value::new(rt.alloc(), b"5").map_err(|_| AllocError)?;
-    let read = Op::Read(key.copy()?);
-    let erase = Op::Erase(key.copy()?);
-    let write = Op::Write(key.copy()?, value.copy()?);
-    assert!(rt; read.copy()? == read);
-    assert!(rt; erase.copy()? == erase);
-    assert!(rt; write.copy()? == write);
-    assert!(rt; !(read == erase));
-    let erased = Written {
-        key: key.copy()?,
-        value: None,
-    };
-    let change = Written {
-        key,
-        value: Some(value),
-    };
-    assert!(rt; change.copy()? == change);
-    assert!(rt; erased.copy()? == erased);
-    assert!(rt; !(erased == change));
     Ok(())
 }
 
@@ -176,7 +136,5 @@ fn rows_and_numbers_ascend(rt: HostRuntime) -> Result<(), Fail> {
     let value = Value::new(rt.alloc(), b"5").map_err(|_| AllocError)?;
     rows.push(Row { key, value })?;
     assert_eq!(rt; rows.len(), 1);
-    assert_eq!(rt; rows.as_slice().len(), 1);
-    assert_eq!(rt; rows.into_vec().len(), 1);
     Ok(())
 }
