@@ -1,5 +1,5 @@
 -- The directory of logs in memory.
-use Rattle.std.specs.Prelude.{ℕ, ◌≡◌, ◌≤◌, nat_lt, Bool, if◌then◌else◌, List, length, Option, Some, None, option_map, string_bytes}
+use Rattle.std.specs.Prelude.{ℕ, ◌≡◌, nat_lt, Bool, if◌then◌else◌, List, Option, Some, None, option_map, string_bytes}
 use Rattle.co_outside.specs.declared.spot.Spot.{Spot}
 use Rattle.co_outside.specs.declared.stored.Stored.{Stored}
 use Rattle.co_outside.specs.declared.home_memory.HomeMemory.{HomeMemory}

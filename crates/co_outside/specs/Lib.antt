@@ -6,6 +6,7 @@ pub mod SinkMemory
 pub mod Home
 pub mod Overlay
 pub mod Stored
+pub mod Spots
 pub mod HomeMemory
 pub mod HomeMemoryLaws
 pub mod Untold

@@ -1,11 +1,12 @@
 //! A sink over std's writers.
-ghost use Rattle.std.specs.Prelude.{◌≡◌, None};
+ghost use Rattle.std.specs.Prelude.{◌≡◌};
 
 use crate::sink::{Sink, SinkFault};
 use std::alloc::Global;
 use std::io::Write;
 
-/// A sink over a writer of std. It tells nothing of what it holds.
+/// A sink over a writer of std. It tells what the writer is known to hold, which is nothing of a
+/// file, a pipe or a terminal.
 #[derive(Drop)]
 pub struct SinkStd<W: Write + Drop> {
     writer: W,
@@ -23,7 +24,7 @@ impl<W: Write + Drop> SinkStd<W> {
 }
 
 impl<W: Write + Drop> Sink for SinkStd<W> {
-    ghost told = { λ _. None };
+    ghost told = { λ s. W.contents s.writer };
 
     ghost faults = { λ s. s.faults };
 

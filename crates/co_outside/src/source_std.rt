@@ -1,5 +1,5 @@
 //! A source over std's readers.
-ghost use Rattle.std.specs.Prelude.{◌≡◌, None};
+ghost use Rattle.std.specs.Prelude.{◌≡◌};
 
 use crate::source::{Source, SourceFault, Taken};
 use co_base::Bytes;
@@ -9,7 +9,8 @@ use std::io::Read;
 /// The most bytes that one call takes from the reader.
 const MOST_AT_ONCE: u32 = 65536;
 
-/// A source over a reader of std. It tells nothing of what is left.
+/// A source over a reader of std. It tells what the reader is known to have left, which is nothing
+/// of a file, a pipe or a terminal.
 #[derive(Drop)]
 pub struct SourceStd<R: Read + Drop> {
     reader: R,
@@ -27,7 +28,7 @@ impl<R: Read + Drop> SourceStd<R> {
 }
 
 impl<R: Read + Drop> Source for SourceStd<R> {
-    ghost left = { λ _. None };
+    ghost left = { λ s. R.remaining s.reader };
 
     ghost faults = { λ s. s.faults };
 

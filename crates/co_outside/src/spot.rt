@@ -19,8 +19,13 @@ impl Spot {
 }
 
 impl fmt::Display for Spot {
+    ghost use Rattle.std.specs.Prelude.{Some};
+    ghost use Rattle.co_outside.specs.Spots.{spot_name};
+
+    ghost output = { λ s. Some (spot_name s) };
+
     fn fmt<W: fmt::Write>(&self, f: &mut fmt::Formatter<W>) -> fmt::Result {
-        let part = if self.part == 0 { 'a' } else { 'b' };
+        let part = if self.part == 0 { "a" } else { "b" };
         if self.node < 0x80 {
             let number = self.node;
             write!(f, "m{number}.{part}")

@@ -128,6 +128,36 @@ fn a_twisted_home_changes_one_byte_from_a_read_on(rt: HostRuntime) -> Result<(),
 }
 
 #[test]
+fn a_twisted_home_passes_its_calls_on(rt: HostRuntime) -> Result<(), Fail> {
+    let alloc = rt.alloc();
+    let fail = [FailAt {
+        spot: M1_A,
+        call: HomeCall::Sync,
+        number: 2,
+    }];
+    let inner = HomeMemory::new(alloc, fail.to_vec(alloc)?);
+    let mut home = HomeTwist::new(inner, C2_B, 0, b'?', 1);
+    home.write_at(alloc, M1_A, 0, b"abcdef")?;
+    home.set_len(M1_A, 4)?;
+    home.sync(M1_A)?;
+    assert!(rt; matches!(home.sync(M1_A), Err(HomeFault::Failed)));
+    let whole = home.read_all(alloc, M1_A, 9)?;
+    assert_eq!(rt; whole.as_slice(), b"abcd".as_slice());
+    Ok(())
+}
+
+#[test]
+fn adapters_tell_what_readers_and_writers_of_memory_hold(rt: HostRuntime) -> Result<(), Fail> {
+    let alloc = rt.alloc();
+    let mut source = SourceStd::new(b"abc".as_slice());
+    let whole = read_all(alloc, &mut source, 9)?;
+    assert_eq!(rt; whole.as_slice(), b"abc".as_slice());
+    let mut sink = SinkStd::new(Vec::new(alloc));
+    put_all(alloc, &mut sink, whole.as_slice())?;
+    Ok(())
+}
+
+#[test]
 fn a_source_reads_a_real_file(rt: HostRuntime) -> Result<(), Fail> {
     let alloc = rt.alloc();
     fs::write(&rt, "source_std_file", b"abc".as_slice())?;

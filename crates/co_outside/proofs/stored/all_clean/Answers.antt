@@ -1,4 +1,4 @@
-use Rattle.std.proofs.Common.{◌≡◌, ℕ, zero, suc, Bool, true, get_or, refl}
+use Rattle.std.proofs.Common.{◌≡◌, ℕ, zero, suc, true, get_or, refl}
 use Rattle.std.specs.Prelude.{replicate}
 use Rattle.co_outside.specs.Stored.{mark_place}
 use Rattle.co_outside.proofs.stored.all_clean.Goals as goal

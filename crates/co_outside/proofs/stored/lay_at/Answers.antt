@@ -1,6 +1,4 @@
-use Rattle.std.proofs.Common.{◌≡◌, ◌∙◌, ◌+◌, ◌≤◌, sym, ap, refl, List, [], ◌++◌, take, drop, ℕ, length, OnOk, OnErr, IsOk, vec_len, arith, rules, subst}
-use Rattle.std.proofs.lemmas.Grind.{common_steps}
-use Rattle.co_outside.specs.Overlay.{overlaid}
+use Rattle.std.proofs.Common.{◌≡◌, ◌∙◌, ap, refl, length, arith}
 use Rattle.co_outside.specs.Stored.{is_of, bytes_at}
 use Rattle.std.specs.List.{position}
 use Rattle.std.proofs.lemmas.Bool.Decides.{nat_tests}

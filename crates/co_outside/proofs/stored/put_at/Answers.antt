@@ -1,4 +1,4 @@
-use Rattle.std.proofs.Common.{◌≡◌, ◌∙◌, sym, ap, refl}
+use Rattle.std.proofs.Common.{◌∙◌, ap, refl}
 use Rattle.co_outside.specs.Stored.{is_of, bytes_at}
 use Rattle.std.specs.List.{position}
 use Rattle.co_outside.proofs.Files.{found, missing, pushed, pushed_others}

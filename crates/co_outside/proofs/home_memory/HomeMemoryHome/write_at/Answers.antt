@@ -1,4 +1,4 @@
-use Rattle.std.proofs.Common.{◌≡◌, ◌∙◌, ap, length, List, Bool}
+use Rattle.std.proofs.Common.{◌∙◌, ap, length, List, Bool}
 use Rattle.co_outside.specs.declared.stored.Stored.{Stored}
 use Rattle.co_outside.specs.Stored.{bytes_at, clean_at}
 use Rattle.co_outside.proofs.TornFiles.{not_laid, at_error}
