@@ -13,6 +13,8 @@ mod installed;
 mod new_pairs;
 mod old;
 mod own;
+#[cfg(test)]
+mod random_tests;
 mod reading;
 #[cfg(test)]
 mod tests;

@@ -9,7 +9,7 @@ use std::test::Fail;
 
 /// A command of a transaction.
 #[derive(Clone, Copy)]
-enum Act {
+pub enum Act {
     Read(u32, &'static [u8]),
     Scan(u32, &'static [u8], &'static [u8]),
     Write(u32, &'static [u8], &'static [u8]),
@@ -33,7 +33,7 @@ enum Wanted {
     Refused,
 }
 
-fn command(alloc: Global, act: Act) -> Result<Command, Fail> {
+pub fn command(alloc: Global, act: Act) -> Result<Command, Fail> {
     Ok(match act {
         Act::Read(t, key) => Command::Read {
             txn: Txn(t),
