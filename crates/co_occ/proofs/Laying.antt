@@ -148,13 +148,13 @@ laid_change : (span : Span) (part records : Records) (w : Written) (ws : List Wr
     → get (with_changes part (cond b (w ∷ filter (λ v. span_has span v.key) ws) (filter (λ v. span_has span v.key) ws))) q ≡ cond (span_has span q) (get (with_changes (with_change records w.key w.value) ws) q) None
 laid_change span part records w ws q true has next same =
     next (with_change part w.key w.value) (with_change records w.key w.value) (λ p.
-        get-with_change part w.key w.value p ∙ ap (cond (ties p w.key) w.value) (same p)
-        ∙ within_change (span_has span p) (ties p w.key) w.value (get records p) (λ t. ap (span_has span) (tied p w.key t) ∙ has)
-        ∙ ap (λ v. cond (span_has span p) v None) (sym (get-with_change records w.key w.value p)))
+    get-with_change part w.key w.value p ∙ ap (cond (ties p w.key) w.value) (same p)
+    ∙ within_change (span_has span p) (ties p w.key) w.value (get records p) (λ t. ap (span_has span) (tied p w.key t) ∙ has)
+    ∙ ap (λ v. cond (span_has span p) v None) (sym (get-with_change records w.key w.value p)))
 laid_change span part records w ws q false has next same =
     next part (with_change records w.key w.value) (λ p.
-        same p ∙ without_change (span_has span p) (ties p w.key) w.value (get records p) (λ t. ap (span_has span) (tied p w.key t) ∙ has)
-        ∙ ap (λ v. cond (span_has span p) v None) (sym (get-with_change records w.key w.value p)))
+    same p ∙ without_change (span_has span p) (ties p w.key) w.value (get records p) (λ t. ap (span_has span) (tied p w.key t) ∙ has)
+    ∙ ap (λ v. cond (span_has span p) v None) (sym (get-with_change records w.key w.value p)))
 
 laid_alike : (span : Span) (ws : List Written) (q : List ℕ) (part records : Records) → ((q : List ℕ) → get part q ≡ cond (span_has span q) (get records q) None)
     → get (laid_within part ws span) q ≡ cond (span_has span q) (get (with_changes records ws) q) None

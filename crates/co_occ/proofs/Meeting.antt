@@ -141,26 +141,26 @@ pub made_reading : (es : List (ℕ × Undecided)) (t : ℕ) (old : Sets) (span :
 made_reading es t old span =
     let new = grown_by (Some span) None old in
     ap (map (reads_pair t)) (found-alike (first_read old.reads span) (newly_read old new) es (λ u e.
-        sym (only_new (writes_within e.sets.writes span) (reads_meet old.reads e.sets.writes)) ∙ ap (λ b. b && not (reads_meet old.reads e.sets.writes)) (sym (reads_meet-put span old.reads e.sets.writes))))
+    sym (only_new (writes_within e.sets.writes span) (reads_meet old.reads e.sets.writes)) ∙ ap (λ b. b && not (reads_meet old.reads e.sets.writes)) (sym (reads_meet-put span old.reads e.sets.writes))))
     ∙ append-none _ ∙ append-none _ ∙ append-none _
     ∙ (λ i. map (reads_pair t) (found_in (newly_read old new) es)
-        ++ map (read_by_pair t) (sym (found-none (newly_reads old new) es (λ u e. none_new (reads_meet e.sets.reads old.writes))) i)
-        ++ map (writes_pair t) (sym (found-none (newly_wrote_above t old new) es (λ u e. none_new_within (nat_lt t u) (writes_meet old.writes e.sets.writes))) i)
-        ++ map (written_by_pair t) (sym (found-none (newly_wrote_below t old new) es (λ u e. none_new_within (nat_lt u t) (writes_meet e.sets.writes old.writes))) i))
+    ++ map (read_by_pair t) (sym (found-none (newly_reads old new) es (λ u e. none_new (reads_meet e.sets.reads old.writes))) i)
+    ++ map (writes_pair t) (sym (found-none (newly_wrote_above t old new) es (λ u e. none_new_within (nat_lt t u) (writes_meet old.writes e.sets.writes))) i)
+    ++ map (written_by_pair t) (sym (found-none (newly_wrote_below t old new) es (λ u e. none_new_within (nat_lt u t) (writes_meet e.sets.writes old.writes))) i))
 
 -- a write of a key
 pub made_changing : (es : List (ℕ × Undecided)) (t : ℕ) (old : Sets) (change : Written) → pairs_of_write es t old.writes change.key ≡ pairs_made es t old (grown_by None (Some change) old)
 made_changing es t old change =
     let new = grown_by None (Some change) old in
     (λ i. map (read_by_pair t) (found-alike (first_reader old.writes change.key) (newly_reads old new) es (λ u e.
-            sym (only_new (reads_key e.sets.reads change.key) (reads_meet e.sets.reads old.writes)) ∙ ap (λ b. b && not (reads_meet e.sets.reads old.writes)) (sym (reads_meet-change e.sets.reads change old.writes))) i)
-        ++ map (writes_pair t) (found-alike (first_above t old.writes change.key) (newly_wrote_above t old new) es (λ u e.
-            sym (only_new_within (nat_lt t u) (writes_key e.sets.writes change.key) (writes_meet old.writes e.sets.writes))
-            ∙ ap (λ b. (nat_lt t u && b) && not (writes_meet old.writes e.sets.writes)) (sym (change-writes_meet change old.writes e.sets.writes))) i)
-        ++ map (written_by_pair t) (found-alike (first_below t old.writes change.key) (newly_wrote_below t old new) es (λ u e.
-            sym (only_new_within (nat_lt u t) (writes_key e.sets.writes change.key) (writes_meet e.sets.writes old.writes))
-            ∙ ap (λ b. (nat_lt u t && b) && not (writes_meet e.sets.writes old.writes)) (sym (writes_meet-change e.sets.writes change old.writes))) i))
+    sym (only_new (reads_key e.sets.reads change.key) (reads_meet e.sets.reads old.writes)) ∙ ap (λ b. b && not (reads_meet e.sets.reads old.writes)) (sym (reads_meet-change e.sets.reads change old.writes))) i)
+    ++ map (writes_pair t) (found-alike (first_above t old.writes change.key) (newly_wrote_above t old new) es (λ u e.
+    sym (only_new_within (nat_lt t u) (writes_key e.sets.writes change.key) (writes_meet old.writes e.sets.writes))
+    ∙ ap (λ b. (nat_lt t u && b) && not (writes_meet old.writes e.sets.writes)) (sym (change-writes_meet change old.writes e.sets.writes))) i)
+    ++ map (written_by_pair t) (found-alike (first_below t old.writes change.key) (newly_wrote_below t old new) es (λ u e.
+    sym (only_new_within (nat_lt u t) (writes_key e.sets.writes change.key) (writes_meet e.sets.writes old.writes))
+    ∙ ap (λ b. (nat_lt u t && b) && not (writes_meet e.sets.writes old.writes)) (sym (writes_meet-change e.sets.writes change old.writes))) i))
     ∙ (λ i. (map (reads_pair t) (sym (found-none (newly_read old new) es (λ u e. none_new (reads_meet old.reads e.sets.writes))) i)
-        ++ map (read_by_pair t) (found_in (newly_reads old new) es))
-        ++ map (writes_pair t) (found_in (newly_wrote_above t old new) es)
-        ++ map (written_by_pair t) (found_in (newly_wrote_below t old new) es))
+    ++ map (read_by_pair t) (found_in (newly_reads old new) es))
+    ++ map (writes_pair t) (found_in (newly_wrote_above t old new) es)
+    ++ map (written_by_pair t) (found_in (newly_wrote_below t old new) es))

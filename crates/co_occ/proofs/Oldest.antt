@@ -79,10 +79,10 @@ without_at : (active : Table (List Operation)) (t : ℕ) (o : Option (List Opera
     → oldest_of (entries active) ≡ lesser (oldest_stamp (operations_in o)) (oldest_of (entries (without active t)))
 without_at active t None e =
     ap (λ m. oldest_of (entries m)) (same_table active (without active t) (λ u.
-        cond_none (eq_by_cmp nat_cmp u t) (look active u) (λ y. ap (look active) (tied u t y) ∙ e) ∙ sym (look-without active t u)))
+    cond_none (eq_by_cmp nat_cmp u t) (look active u) (λ y. ap (look active) (tied u t y) ∙ e) ∙ sym (look-without active t u)))
 without_at active t (Some os) e =
     ap (λ m. oldest_of (entries m)) (same_table active (put active t os) (λ u.
-        cond_put (eq_by_cmp nat_cmp u t) (look active u) os (λ y. ap (look active) (tied u t y) ∙ e) ∙ sym (look-put active t os u)))
+    cond_put (eq_by_cmp nat_cmp u t) (look active u) os (λ y. ap (look active) (tied u t y) ∙ e) ∙ sym (look-put active t os u)))
     ∙ oldest-put active t os
 
 -- a transaction that is taken out

@@ -9,7 +9,6 @@ use Rattle.std.proofs.lemmas.Cmp.{nat_list_cmp_total}
 use Rattle.co_base.specs.Order.{key_cmp}
 use Rattle.co_base.specs.Span.{span_has}
 
-
 from_low : (r : Ordering) → is_le r ≡ not (is_gt r)
 from_low Less = refl
 from_low Equal = refl

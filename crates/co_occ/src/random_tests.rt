@@ -10,6 +10,7 @@ const SEEDS: [u64; 8] = [1, 2, 3, 5, 8, 13, 21, 34];
 
 /// Numbers that look random, by a linear congruential rule (Knuth, The Art of Computer Programming,
 /// volume 2, 1997, the constants of MMIX).
+#[derive(Drop)]
 struct Picks {
     state: u64,
 }

@@ -11,11 +11,11 @@ returns c = λ b s h.
     let o = c.args.self.now in
     subst (λ (next : OccEngine). StandsFor next (after_install b c.args.t))
     (sym (c.forget_old.ensures ∙ (λ i. with_needed (record o {
-        records = (c.in_ok-lay.ensures ∙ ap (with_changes o.records) c.as_slice.ensures) i;
-        installs = c.in_ok-self.ensures i;
-        recent = c.in_ok-push.ensures i;
-        undecided = c.take.ensures.rest i;
-      }))))
+      records = (c.in_ok-lay.ensures ∙ ap (with_changes o.records) c.as_slice.ensures) i;
+      installs = c.in_ok-self.ensures i;
+      recent = c.in_ok-push.ensures i;
+      undecided = c.take.ensures.rest i;
+    }))))
     (stands_install o b c.args.t c.in-Some.undecided s h (sym c.take.ensures.value ∙ c.in-Some.is))
 
 pub returns-in_default : goal.returns-in_default

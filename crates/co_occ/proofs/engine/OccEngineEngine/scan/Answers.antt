@@ -1,6 +1,5 @@
 use Rattle.std.proofs.Common.{Some, None, sym, ap, ◌∙◌}
 use Rattle.std.specs.FinMap.{entries}
-
 use Rattle.co_base.specs.declared.op.Op.TheVariants.{Scan}
 use Rattle.co_base.specs.declared.reply.Reply.TheVariants.{Rows}
 use Rattle.co_engine.specs.declared.answers.Seen.TheVariants.{Answer}
