@@ -122,7 +122,7 @@ impl OccEngine {
     {
         let own = take(alloc, &mut self.undecided, t);
         let pairs = pairs_of_write(alloc, &self.undecided, t, own.sets.writes(), &change.key)?;
-        let own = own.changing(change, self.installs)?;
+        let own = own.changing(change)?;
         self.undecided.put(t, own)?;
         Ok(pairs)
     }

@@ -1,7 +1,6 @@
 //! What an undecided transaction read and wrote, as it grows.
-ghost use Rattle.std.specs.Prelude.{◌≡◌, ◌∷◌, None, Some, IfOk, OnOk, option_copied};
+ghost use Rattle.std.specs.Prelude.{◌≡◌, None, Some, IfOk};
 ghost use Rattle.std.specs.FinMap.{entries};
-ghost use Rattle.co_state.specs.Changes.{put_span, put_change};
 ghost use Rattle.co_state.specs.Table.{look, without, lesser};
 ghost use Rattle.co_occ.specs.Kept.{no_reads, new_one, or_new, with_read, staged, grown_by, grown_with, voted_roll, oldest_in, oldest_kept};
 
@@ -138,10 +137,9 @@ impl Undecided {
     }
 
     /// The transaction after it made a change.
-    pub fn changing(self, change: Written, stamp: u64) -> Result<Undecided, AllocError>
-        ensures { IfOk result (λ grown. grown ≡ grown_with None (Some change) stamp self) }
+    pub fn changing(self, change: Written) -> Result<Undecided, AllocError>
+        ensures { IfOk result (λ grown. grown ≡ record { stage = self.stage; sets = grown_by None (Some change) self.sets }) }
     {
-        let _ = stamp;
         Ok(Undecided {
             stage: self.stage,
             sets: with_change(self.sets, change)?,
