@@ -1,0 +1,9 @@
+mod Laying
+mod Ranging
+mod Picking
+mod Oldest
+mod Unseeing
+mod Keeping
+mod Pairing
+mod Meeting
+mod Standing

@@ -1,0 +1,28 @@
+use Rattle.std.proofs.Common.{Some, None, sym, ap, ◌∙◌}
+use Rattle.std.specs.FinMap.{entries}
+use Rattle.co_base.specs.Span.{span_of_key}
+use Rattle.co_base.specs.declared.op.Op.TheVariants.{Read}
+use Rattle.co_base.specs.declared.reply.Reply.TheVariants.{Got}
+use Rattle.co_engine.specs.declared.answers.Seen.TheVariants.{Answer}
+use Rattle.co_state.specs.Table.{without}
+use Rattle.co_occ.specs.Made.{pairs_of_read}
+use Rattle.co_occ.specs.Stands.{own, with_own}
+use Rattle.co_occ.proofs.Meeting.{made_reading}
+use Rattle.co_occ.proofs.Standing.{seen_alike, stands_after, appends}
+use Rattle.co_occ.proofs.engine.OccEngineEngine.read.Goals as goal
+
+pub returns-clause-seen : goal.returns-clause-seen
+returns-clause-seen c = λ b s h.
+    ap (λ v. Answer (Got v)) (c.in_ok-value.ensures ∙ c.value.ensures) ∙ seen_alike c.args.self.now b c.args.t (Read c.args.key.now) s h
+
+pub returns-clause-state : goal.returns-clause-state
+returns-clause-state c = λ b s h.
+    stands_after c.args.self.now c.add_read.new.self b c.args.t (Read c.args.key.now) s h
+    (c.in_ok-made.ensures.state ∙ ap (λ r. with_own c.args.self.now c.args.t (Some r) None) c.in_ok-of_key.ensures)
+
+pub returns-clause-pairs : goal.returns-clause-pairs
+returns-clause-pairs c = λ b s h.
+    appends c.args.self.now b c.args.t (Read c.args.key.now) _ _ c.in_ok-made.made s h c.in_ok-append.ensures.ok
+    (c.in_ok-made.ensures.pairs
+    ∙ ap (λ r. pairs_of_read (entries (without c.args.self.now.undecided c.args.t)) c.args.t (own c.args.self.now c.args.t).sets.reads r) c.in_ok-of_key.ensures
+    ∙ made_reading (entries (without c.args.self.now.undecided c.args.t)) c.args.t (own c.args.self.now c.args.t).sets (span_of_key c.args.key.now))

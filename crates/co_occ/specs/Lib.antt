@@ -1,0 +1,6 @@
+pub mod Old
+pub mod Kept
+pub mod Made
+pub mod Unseen
+pub mod Seen
+pub mod Stands

@@ -1,0 +1,88 @@
+//! What a transaction sees: the installed records with its own changes laid over.
+ghost use Rattle.std.specs.Prelude.{◌≡◌, if◌then◌else◌, IfOk, OnOk, option_copied};
+ghost use Rattle.std.specs.FinMap as map;
+ghost use Rattle.co_serial.specs.Records.{all_rows, rows_within, with_changes};
+ghost use Rattle.co_state.specs.Keys.{same_key};
+ghost use Rattle.co_occ.specs.Seen.{laid_within};
+
+use crate::installed::Installed;
+use co_base::{Key, Range, Value, Written};
+use co_state::RecordMap;
+use std::alloc::{AllocError, Global};
+
+/// An equal value, if there is one.
+pub fn copy_value(value: Option<&Value>) -> Result<Option<Value>, AllocError>
+    ensures { IfOk result (λ copy. copy ≡ option_copied value.entry) }
+{
+    match value {
+        Some(value) => Ok(Some(value.copy()?)),
+        None => Ok(None),
+    }
+}
+
+/// The value of a change of this key, and else what was seen before.
+fn changed<'a>(seen: Option<&'a Value>, change: &'a Written, key: &Key) -> Option<&'a Value>
+    ensures { option_copied result ≡ (if same_key change.now.key key.now then change.now.value else option_copied seen.entry) }
+{
+    if change.key.cmp(key).is_eq() {
+        change.value.as_ref()
+    } else {
+        seen
+    }
+}
+
+/// The value at a key, once changes are laid over the records.
+pub fn seen_value<'a>(
+    records: &'a Installed,
+    changes: &'a [Written],
+    key: &Key,
+) -> Option<&'a Value>
+    ensures { option_copied result ≡ map.get (with_changes records.now changes.now) key.now }
+{
+    let mut seen = records.get(key);
+    for change in changes {
+        seen = changed(seen, change, key);
+    }
+    seen
+}
+
+/// Lays changes of keys of a range over the records of that range.
+fn lay_within(records: &mut RecordMap, changes: &[Written], range: &Range) -> Result<(), AllocError>
+    ensures { OnOk result (records.new ≡ laid_within records.old changes.now range.now) }
+{
+    for change in changes {
+        if range.has(&change.key) {
+            let change = change.copy()?;
+            records.change(change.key, change.value)?;
+        }
+    }
+    Ok(())
+}
+
+/// The records of a range, once changes are laid over.
+pub fn records_within(
+    alloc: Global,
+    installed: &Installed,
+    changes: &[Written],
+    range: &Range,
+) -> Result<RecordMap, AllocError>
+    ensures { IfOk result (λ records. all_rows records ≡ rows_within (with_changes installed.now changes.now) range.now) }
+{
+    let mut records = RecordMap::new(alloc);
+    for (key, value) in installed.within(range) {
+        records.set(key.copy()?, value.copy()?)?;
+    }
+    lay_within(&mut records, changes, range)?;
+    Ok(records)
+}
+
+/// All records.
+pub fn all_records(alloc: Global, installed: &Installed) -> Result<RecordMap, AllocError>
+    ensures { IfOk result (λ records. records ≡ installed.now) }
+{
+    let mut records = RecordMap::new(alloc);
+    for (key, value) in installed.iter() {
+        records.set(key.copy()?, value.copy()?)?;
+    }
+    Ok(records)
+}
