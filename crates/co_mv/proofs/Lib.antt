@@ -1,0 +1,13 @@
+mod Ranging
+mod Rows
+mod Outcomes
+mod Versioning
+mod Needing
+mod Nearest
+mod Chaining
+mod Archiving
+mod Pairing
+mod Least
+mod Visible
+mod Overwriting
+mod Standing
