@@ -231,7 +231,7 @@ keeps_absent a b base is t none es ec er k = record {
         by false y = e
 
 -- ---- an install
-has-keys : (ws : List Written) (key : List ℕ) → has_key (map (λ w. w.key) ws) key ≡ writes_key ws key
+pub has-keys : (ws : List Written) (key : List ℕ) → has_key (map (λ w. w.key) ws) key ≡ writes_key ws key
 has-keys [] key = refl
 has-keys (w ∷ ws) key = ap (λ b. same_key w.key key || b) (has-keys ws key)
 

@@ -95,11 +95,11 @@ least_in key (k ∷ ks) = in_step key k ks (is_lt (key_cmp k key)) (least_in k k
 first_there : (key : List ℕ) (ks : List (List ℕ)) → has_key (key ∷ ks) key ≡ true
 first_there key ks = ap (λ b. b || has_key ks key) (key_itself key)
 
-pub least_same : (as bs : List (List ℕ)) → ((k : List ℕ) → has_key as k ≡ has_key bs k) → least_key as ≡ least_key bs
+pub least_same : (ks js : List (List ℕ)) → ((k : List ℕ) → has_key ks k ≡ has_key js k) → least_key ks ≡ least_key js
 least_same [] [] same = refl
-least_same [] (b ∷ bs) same = absurd (true≢false (sym (same b ∙ first_there b bs)))
-least_same (a ∷ as) [] same = absurd (true≢false (sym (sym (same a) ∙ first_there a as)))
-least_same (a ∷ as) (b ∷ bs) same =
-    ap Some (one_key (least_from a as) (least_from b bs)
-    (least_is a (least_from b bs) as (same (least_from b bs) ∙ least_in b bs))
-    (least_is b (least_from a as) bs (sym (same (least_from a as)) ∙ least_in a as)))
+least_same [] (j ∷ js) same = absurd (true≢false (sym (same j ∙ first_there j js)))
+least_same (k ∷ ks) [] same = absurd (true≢false (sym (sym (same k) ∙ first_there k ks)))
+least_same (k ∷ ks) (j ∷ js) same =
+    ap Some (one_key (least_from k ks) (least_from j js)
+    (least_is k (least_from j js) ks (same (least_from j js) ∙ least_in j js))
+    (least_is j (least_from k ks) js (sym (same (least_from k ks)) ∙ least_in k ks)))

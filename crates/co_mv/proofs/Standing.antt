@@ -135,10 +135,10 @@ pub reply_alike : (e : MvEngine) (b : EngineState) (t : ℕ) (op : Op) (span : S
 reply_alike e b t op span s h is =
     let n = stamp_of e.archive.snapshots t in
     let own = (or_nothing (look e.sets t)).writes in
-    let then = records_at b.base b.installed n in
-    reply_same op span (visible_within e t span) (with_changes then own) is
-    (laid_at span own (all_noted n empty (filter (λ x. span_has span x.0) (entries e.archive.chains))) then
-    (within_at n e.archive.chains then span (λ q. seen_alike e.archive b.base b.installed n q s.keeps (stamp_needed e.archive.snapshots t (look e.archive.snapshots.stamps t) refl))))
+    let past = records_at b.base b.installed n in
+    reply_same op span (visible_within e t span) (with_changes past own) is
+    (laid_at span own (all_noted n empty (filter (λ x. span_has span x.0) (entries e.archive.chains))) past
+    (within_at n e.archive.chains past span (λ q. seen_alike e.archive b.base b.installed n q s.keeps (stamp_needed e.archive.snapshots t (look e.archive.snapshots.stamps t) refl))))
     ∙ (λ i. reply_to (with_changes (records_at b.base b.installed (stamp_alike e b t s i)) (sym (own_sets e b t s (not_voted b t h)) i).writes) op)
 
 longer_or_at : (is : List Install) (i : Install) (count : ℕ) (base : Records) → length (i ∷ is) ≤ count → records_at base (i ∷ is) count ≡ records_now base (i ∷ is)
@@ -336,7 +336,7 @@ voted_active x None vote k = refl
 voted_active x (Some os) vote k = absurd k.stamps_are
 
 install_at : (e e' : MvEngine) (b : EngineState) (t : ℕ) (own : Sets) (o : Option Vote) → StandsFor e b → is_some o ≡ true → look b.voted t ≡ o → look e.sets t ≡ Some own
-    → e'.archive.snapshots ≡ grown e.archive.snapshots → ((txn : ℕ) → Keeps e'.archive b.base (record { txn = txn; writes = own.writes } ∷ b.installed)) → e'.sets ≡ without e.sets t → StandsFor e' (install_vote b t o)
+    → e'.archive.snapshots ≡ grown e.archive.snapshots → Keeps e'.archive b.base (record { txn = t; writes = own.writes } ∷ b.installed) → e'.sets ≡ without e.sets t → StandsFor e' (install_vote b t o)
 install_at e e' b t own None s h f is es k sets = absurd (true≢false (sym h))
 install_at e e' b t own (Some vote) s h f is es k sets =
     let kt : IsKept (look e.archive.snapshots.stamps t) (look e.sets t) (look b.active t) (Some vote) = kept_along refl refl refl f (s.each t) in
@@ -345,7 +345,7 @@ install_at e e' b t own (Some vote) s h f is es k sets =
     let same : vote.sets ≡ own = (let g : Some vote.sets ≡ Some own = kn.votes_are in cc) in
     record {
       kind_is = s.kind_is;
-      keeps = subst (λ x. Keeps e'.archive b.base (record { txn = t; writes = x.writes } ∷ b.installed)) (sym same) (k t);
+      keeps = subst (λ x. Keeps e'.archive b.base (record { txn = t; writes = x.writes } ∷ b.installed)) (sym same) k;
       each = λ u.
           kept_along (cond-same (eq_by_cmp nat_cmp u t) (look e.archive.snapshots.stamps u) ∙ ap (λ x. look x.stamps u) (sym es)) (sym (ap (λ m. look m u) sets ∙ look-without e.sets t u))
           (cond-same (eq_by_cmp nat_cmp u t) (look b.active u)) (sym (look-without b.voted t u))
@@ -355,7 +355,7 @@ install_at e e' b t own (Some vote) s h f is es k sets =
     }
 
 pub stands_install : (e e' : MvEngine) (b : EngineState) (t : ℕ) (own : Sets) → StandsFor e b → IsTrue (holds b.voted t) → look e.sets t ≡ Some own
-    → e'.archive.snapshots ≡ grown e.archive.snapshots → ((txn : ℕ) → Keeps e'.archive b.base (record { txn = txn; writes = own.writes } ∷ b.installed)) → e'.sets ≡ without e.sets t → StandsFor e' (after_install b t)
+    → e'.archive.snapshots ≡ grown e.archive.snapshots → Keeps e'.archive b.base (record { txn = t; writes = own.writes } ∷ b.installed) → e'.sets ≡ without e.sets t → StandsFor e' (after_install b t)
 stands_install e e' b t own s h is es k sets = install_at e e' b t own (look b.voted t) s h refl is es k sets
 
 absent_vote : (st : Option ℕ) (os : Option (List Operation)) (vote : Option Vote) → IsKept st None os vote → is_some vote ≡ false

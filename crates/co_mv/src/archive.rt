@@ -4,6 +4,7 @@ ghost use Rattle.co_mv.specs.Kept.{Keeps, stamp_of, entered, left, grown};
 ghost use Rattle.co_serial.specs.Records.{Records};
 ghost use Rattle.co_state.specs.declared.engine_state.Install.{Install};
 ghost use Rattle.co_state.specs.Effects.{records_from};
+ghost use Rattle.co_state.specs.Table.{no_entries};
 
 use crate::chains::Chains;
 use crate::pruning::{forget_window, prune_window};
@@ -31,7 +32,8 @@ pub struct Archive {
 impl Archive {
     /// Records before all installs, without an active transaction.
     pub fn of_rows(alloc: Global, rows: Rows) -> Result<Archive, AllocError>
-        ensures { IfOk result (λ archive. Keeps archive (records_from rows) []) }
+        ensures keeps { IfOk result (λ archive. Keeps archive (records_from rows) []) }
+        ensures stamps { IfOk result (λ archive. archive.snapshots.stamps ≡ no_entries) }
     {
         Ok(Archive {
             snapshots: Snapshots {

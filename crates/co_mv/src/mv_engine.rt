@@ -33,6 +33,13 @@ pub struct MvEngine {
     nothing: Sets,
 }
 
+/// What an operation came to, with the pairs that it made.
+#[derive(Drop)]
+struct Operated {
+    seen: Seen,
+    pairs: Pairs,
+}
+
 /// What a transaction read and wrote, with one operation more.
 fn grown(sets: Sets, op: &Op) -> Result<Sets, AllocError>
     ensures { IfOk result (λ grown. grown ≡ grown_by op.now sets) }
@@ -142,6 +149,20 @@ impl MvEngine {
         Ok(pairs)
     }
 
+    /// Does an operation.
+    fn operate(&mut self, alloc: Global, t: Txn, op: &Op) -> Result<Operated, AllocError>
+        ensures seen { (b : EngineState) → StandsFor self.old b → IsTrue (may_operate b t) → IfOk result (λ operated. operated.seen ≡ seen_of b t op.now) }
+        ensures state { (b : EngineState) → StandsFor self.old b → IsTrue (may_operate b t) → OnOk result (StandsFor self.new (after_operation b t op.now)) }
+        ensures pairs { (b : EngineState) → StandsFor self.old b → IsTrue (may_operate b t) → IfOk result (λ operated. AreNewPairs b (after_operation b t op.now) operated.pairs) }
+    {
+        let reply = self.reply(alloc, t, op)?;
+        let pairs = self.add(alloc, t, op)?;
+        Ok(Operated {
+            seen: Seen::Answer(reply),
+            pairs,
+        })
+    }
+
     /// Does an operation, and adds the pairs that it made.
     fn serve(
         &mut self,
@@ -155,10 +176,9 @@ impl MvEngine {
         ensures pairs { (b : EngineState) → StandsFor self.old b → IsTrue (may_operate b t) → OnOk result (AppendsNewPairs b (after_operation b t op) pairs.old pairs.new) }
         ensures kept { OnErr result (Appends pairs.old pairs.new) }
     {
-        let reply = self.reply(alloc, t, &op)?;
-        let made = self.add(alloc, t, &op)?;
-        append(pairs, &made)?;
-        Ok(Seen::Answer(reply))
+        let operated = self.operate(alloc, t, &op)?;
+        append(pairs, &operated.pairs)?;
+        Ok(operated.seen)
     }
 }
 
