@@ -270,11 +270,7 @@ impl Engine for MvEngine {
     }
 
     fn dump(&self, alloc: Global) -> Result<Dump, AllocError> {
-        let records = all_records(
-            alloc,
-            &self.archive.chains,
-            self.archive.snapshots.installs,
-        )?;
+        let records = all_records(alloc, &self.archive.chains, self.archive.snapshots.installs)?;
         Ok(Dump {
             rows: records.rows(alloc)?,
             undos: Writes::new(alloc),

@@ -13,12 +13,7 @@ use co_state::RecordMap;
 use std::alloc::{AllocError, Global};
 
 /// Notes the record that a key has at a number of installs, if it has one.
-fn note(
-    records: &mut RecordMap,
-    key: &Key,
-    chain: &Chain,
-    installs: u64,
-) -> Result<(), AllocError>
+fn note(records: &mut RecordMap, key: &Key, chain: &Chain, installs: u64) -> Result<(), AllocError>
     ensures { OnOk result (records.new ≡ noted records.old key.now (seen_value installs chain.now)) }
 {
     match chain.value_at(installs) {
@@ -28,11 +23,7 @@ fn note(
 }
 
 /// Every record at a number of installs.
-pub fn all_records(
-    alloc: Global,
-    chains: &Chains,
-    installs: u64,
-) -> Result<RecordMap, AllocError>
+pub fn all_records(alloc: Global, chains: &Chains, installs: u64) -> Result<RecordMap, AllocError>
     ensures { IfOk result (λ records. records ≡ all_noted installs map.empty (entries chains.now)) }
 {
     let mut records = RecordMap::new(alloc);
@@ -59,11 +50,7 @@ pub fn records_within(
 }
 
 /// Makes one change, if it is in the range.
-fn change_within(
-    records: &mut RecordMap,
-    change: &Written,
-    range: &Range,
-) -> Result<(), AllocError>
+fn change_within(records: &mut RecordMap, change: &Written, range: &Range) -> Result<(), AllocError>
     ensures { OnOk result (records.new ≡ changed_within range.now records.old change.now) }
 {
     if !range.has(&change.key) {

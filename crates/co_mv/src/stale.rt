@@ -38,11 +38,7 @@ fn least_within<'a>(
 }
 
 /// The least key that was written in some of the ranges after the first so many installs.
-pub fn least_written<'a>(
-    chains: &'a Chains,
-    ranges: &[Range],
-    installs: u64,
-) -> Option<&'a Key>
+pub fn least_written<'a>(chains: &'a Chains, ranges: &[Range], installs: u64) -> Option<&'a Key>
     ensures { option_copied result ≡ least_key (written_within installs (entries chains.now) ranges.now) }
 {
     let mut least = None;

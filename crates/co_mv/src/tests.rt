@@ -1,6 +1,6 @@
 use crate::MvEngine;
-use co_engine::{Answers, Command, Engine, PlainEngine, Played, Seen, play};
 use co_base::{Key, Kind, Range, Reply, Rows, Txn, Value, Written};
+use co_engine::{Answers, Command, Engine, PlainEngine, Played, Seen, play};
 use co_pairs::{Pair, PairKind, Pairs, Prepared, Sets, are_free};
 use co_state::RecordMap;
 use std::alloc::Global;
@@ -441,7 +441,10 @@ struct Dice {
 
 impl Dice {
     fn roll(&mut self) -> u32 {
-        self.state = self.state.wrapping_mul(1_664_525).wrapping_add(1_013_904_223);
+        self.state = self
+            .state
+            .wrapping_mul(1_664_525)
+            .wrapping_add(1_013_904_223);
         self.state >> 16
     }
 }
@@ -487,8 +490,20 @@ fn it_answers_as_the_plain_engine(rt: HostRuntime) -> Result<(), Fail> {
     let alloc = rt.alloc();
     for seed in [1, 2, 3, 5, 8, 13, 21, 34, 55, 89] {
         let commands = random_commands(alloc, seed)?;
-        let answers = play::<MvEngine>(alloc, Kind::Mv, Rows::new(alloc), &[], commands.as_slice())?;
-        let plain = play::<PlainEngine>(alloc, Kind::Mv, Rows::new(alloc), &[], commands.as_slice())?;
+        let answers = play::<MvEngine>(
+            alloc,
+            Kind::Mv,
+            Rows::new(alloc),
+            &[],
+            commands.as_slice(),
+        )?;
+        let plain = play::<PlainEngine>(
+            alloc,
+            Kind::Mv,
+            Rows::new(alloc),
+            &[],
+            commands.as_slice(),
+        )?;
         assert_eq!(rt; answers, plain);
     }
     Ok(())
