@@ -24,7 +24,7 @@ use Rattle.co_mv.specs.Kept.{needed, stamp_of, or_now, entered, left, grown, IsN
 use Rattle.co_mv.specs.Recents.{Recents, keys_at, has_key, keys_in}
 use Rattle.co_mv.specs.Versions.{later, last_change, base_versions, closed_by, closed, versions_of, written_over, is_before, sees, is_kept}
 use Rattle.co_mv.proofs.Chaining.{chain-insert, chain-rewritten_all, after_change, fresh, filter-twice, each_one}
-use Rattle.co_mv.proofs.Needing.{tied, ties-itself, some_same, any-found, any-needed, kept_to, kept_fewer, Each, each_link, filter-within, filter-alike, closed-closed, each_closed, grown_alike, never_kept, closed_kept, sees_open}
+use Rattle.co_mv.proofs.Needing.{tied, ties-itself, some_same, any-needed, kept_to, kept_fewer, Each, each_link, filter-within, filter-alike, closed-closed, each_closed, grown_alike, never_kept, closed_kept, sees_open}
 use Rattle.co_mv.proofs.Versioning.{le_true, true_le, lt_true, true_lt, and_first, and_second, IsLink, Linked, linked, IsWritten, written_bound, wrote_bound, get-with_change, same_itself}
 
 -- ---- at the start
@@ -53,12 +53,14 @@ base_kept s (Some value) =
 nothing : (t n : ℕ) → look (no_entries {X = ℕ}) t ≡ Some n → ⊥
 nothing t n e = let f : None ≡ Some n = sym (get-empty nat_cmp t) ∙ e in cc
 
-pub keeps_rows : (a : Archive) (rs : List Row) → a.snapshots.installs ≡ 0 → a.snapshots.stamps ≡ no_entries → a.chains ≡ chains_from rs → Keeps a (records_from rs) []
-keeps_rows a rs i s c = record {
+pub keeps_rows : (a : Archive) (rs : List Row) → a.snapshots.installs ≡ 0 → a.snapshots.stamps ≡ no_entries → a.chains ≡ chains_from rs → a.recents ≡ no_entries → Keeps a (records_from rs) []
+keeps_rows a rs i s c r = record {
   installs_are = i;
   stamps_are = λ t n e. absurd (nothing t n (sym (ap (λ m. look m t) s) ∙ e));
   chains_are = λ key. ap (λ m. chain_of m key) c ∙ rows_chain rs key ∙ base_kept a.snapshots (get (records_from rs) key);
   recents_are = λ t m n key e l w. absurd (nothing t m (sym (ap (λ x. look x t) s) ∙ e));
+  recents_end = λ n h. ap (λ m. keys_at m n) r ∙ ap keys_in (get-empty nat_cmp n);
+  recents_bound = λ n h. ap (λ m. keys_at m n) r ∙ ap keys_in (get-empty nat_cmp n);
 }
 
 -- ---- a transaction enters
@@ -82,13 +84,16 @@ entered_to s t n (inr (u, e)) = by (entered_at s t u n (eq_by_cmp nat_cmp u t) r
     by (inl x) = subst (IsNeeded s) (sym x) (stamp_needed s t (look s.stamps t) refl)
     by (inr x) = inr (u, x)
 
-entered_from : (s : Snapshots) (t n : ℕ) → IsNeeded s n → IsNeeded (entered s t) n
-entered_from s t n (inl e) = inl e
-entered_from s t n (inr (u, e)) = inr (u, look-put s.stamps t (stamp_of s t) u ∙ by (eq_by_cmp nat_cmp u t) refl)
+entered_stays : (s : Snapshots) (t u n : ℕ) → look s.stamps u ≡ Some n → look (entered s t).stamps u ≡ Some n
+entered_stays s t u n e = look-put s.stamps t (stamp_of s t) u ∙ by (eq_by_cmp nat_cmp u t) refl
   where
     by : (b : Bool) → eq_by_cmp nat_cmp u t ≡ b → cond b (Some (stamp_of s t)) (look s.stamps u) ≡ Some n
     by true y = ap Some (ap (or_now s.installs) (ap (look s.stamps) (sym (tied u t y)) ∙ e))
     by false y = e
+
+entered_from : (s : Snapshots) (t n : ℕ) → IsNeeded s n → IsNeeded (entered s t) n
+entered_from s t n (inl e) = inl e
+entered_from s t n (inr (u, e)) = inr (u, entered_stays s t u n e)
 
 pub keeps_entered : (a b : Archive) (base : Records) (is : List Install) (t : ℕ) → b.snapshots ≡ entered a.snapshots t → b.chains ≡ a.chains → b.recents ≡ a.recents → Keeps a base is → Keeps b base is
 keeps_entered a b base is t es ec er k =
@@ -99,6 +104,8 @@ keeps_entered a b base is t es ec er k =
       chains_are = λ key. ap (λ m. chain_of m key) ec ∙ k.chains_are key ∙ same_kept s (entered s t) (entered_from s t) (entered_to s t) (versions_of base is key)
           ∙ ap (λ x. filter (is_kept (needed x)) (versions_of base is key)) (sym es);
       recents_are = λ u m n key e l w. ap (λ r. has_key (keys_at r n) key) er ∙ seen u m n key l w (entered_to s t m (inr (u, ap (λ x. look x.stamps u) (sym es) ∙ e)));
+      recents_end = λ n h. ap (λ r. keys_at r n) er ∙ k.recents_end n (λ u m e. h u m (ap (λ x. look x.stamps u) es ∙ entered_stays s t u m e));
+      recents_bound = λ n h. ap (λ r. keys_at r n) er ∙ k.recents_bound n (let i : b.snapshots.installs ≡ s.installs = ap (λ x. x.installs) es in omega (arith, h, i));
     }
   where
     below : (u n : ℕ) → IsNeeded a.snapshots n → n ≤ b.snapshots.installs
@@ -110,10 +117,10 @@ keeps_entered a b base is t es ec er k =
     seen u m n key l w (inr (v, x)) = k.recents_are v m n key x l w
 
 -- ---- a transaction leaves
-left_look : (s : Snapshots) (t u : ℕ) → look (left s t).stamps u ≡ cond (eq_by_cmp nat_cmp u t) None (look s.stamps u)
+pub left_look : (s : Snapshots) (t u : ℕ) → look (left s t).stamps u ≡ cond (eq_by_cmp nat_cmp u t) None (look s.stamps u)
 left_look s t u = look-without s.stamps t u
 
-left_at : (s : Snapshots) (t u n : ℕ) → look (left s t).stamps u ≡ Some n → look s.stamps u ≡ Some n
+pub left_at : (s : Snapshots) (t u n : ℕ) → look (left s t).stamps u ≡ Some n → look s.stamps u ≡ Some n
 left_at s t u n e = by (eq_by_cmp nat_cmp u t) (sym (left_look s t u) ∙ e)
   where
     by : (b : Bool) → cond b None (look s.stamps u) ≡ Some n → look s.stamps u ≡ Some n
@@ -173,16 +180,23 @@ left_kept is key s t m next at after none v end l = kept_to s (left s t) v (λ n
             let a : m < v.written = grind (arith, nat_tests) in
             absurd (none v.written a (all next after.is_needed) (not_zero is key m v.written a l.begun))
 
+-- nothing is kept of installs that all active transactions saw
+pub record Ends (s : Snapshots) (recents : Recents) : Type 0 where
+  pub seen : (n : ℕ) → ((t m : ℕ) → look s.stamps t ≡ Some m → n ≤ m) → keys_at recents n ≡ []
+  pub bound : (n : ℕ) → s.installs < n → keys_at recents n ≡ []
+
 keeps_left_at : (a b : Archive) (base : Records) (is : List Install) (t m next : ℕ) → look a.snapshots.stamps t ≡ Some m → b.snapshots ≡ left a.snapshots t → IsNext (left a.snapshots t) m next
     → IsPruned (is_kept (needed (left a.snapshots t))) a.recents m next a.chains b.chains
-    → ((u k n : ℕ) → look (left a.snapshots t).stamps u ≡ Some k → k < n → keys_at b.recents n ≡ keys_at a.recents n) → Keeps a base is → Keeps b base is
-keeps_left_at a b base is t m next at es after pruned recents k = record {
+    → ((u k n : ℕ) → look (left a.snapshots t).stamps u ≡ Some k → k < n → keys_at b.recents n ≡ keys_at a.recents n) → Ends (left a.snapshots t) b.recents → Keeps a base is → Keeps b base is
+keeps_left_at a b base is t m next at es after pruned recents ends k = record {
   installs_are = ap (λ x. x.installs) es ∙ k.installs_are;
   stamps_are = λ u n e. below u n (left_at a.snapshots t u n (ap (λ x. look x.stamps u) (sym es) ∙ e));
   chains_are = λ key. by key (pruned key) ∙ ap (λ x. filter (is_kept (needed x)) (versions_of base is key)) (sym es);
   recents_are = λ u x n key e l w.
       let f : look (left a.snapshots t).stamps u ≡ Some x = ap (λ x. look x.stamps u) (sym es) ∙ e in
       ap (λ ks. has_key ks key) (recents u x n f l) ∙ k.recents_are u x n key (left_at a.snapshots t u x f) l w;
+  recents_end = λ n h. ends.seen n (λ u x e. h u x (ap (λ x. look x.stamps u) es ∙ e));
+  recents_bound = λ n h. ends.bound n (let i : b.snapshots.installs ≡ a.snapshots.installs = ap (λ x. x.installs) es in omega (arith, h, i));
 }
   where
     below : (u n : ℕ) → look a.snapshots.stamps u ≡ Some n → n ≤ b.snapshots.installs
@@ -205,10 +219,17 @@ keeps_left_at a b base is t m next at es after pruned recents k = record {
 
 pub keeps_left : (a b : Archive) (base : Records) (is : List Install) (t m next : ℕ) → look a.snapshots.stamps t ≡ Some m → b.snapshots ≡ left a.snapshots t → IsNext b.snapshots m next
     → IsPruned (is_kept (needed b.snapshots)) a.recents m next a.chains b.chains
-    → ((u k n : ℕ) → look b.snapshots.stamps u ≡ Some k → k < n → keys_at b.recents n ≡ keys_at a.recents n) → Keeps a base is → Keeps b base is
-keeps_left a b base is t m next at es after pruned recents k =
+    → ((u k n : ℕ) → look b.snapshots.stamps u ≡ Some k → k < n → keys_at b.recents n ≡ keys_at a.recents n) → Ends b.snapshots b.recents → Keeps a base is → Keeps b base is
+keeps_left a b base is t m next at es after pruned recents ends k =
     keeps_left_at a b base is t m next at es (subst (λ s. IsNext s m next) es after) (subst (λ s. IsPruned (is_kept (needed s)) a.recents m next a.chains b.chains) es pruned)
-    (λ u x n e l. recents u x n (ap (λ s. look s.stamps u) es ∙ e) l) k
+    (λ u x n e l. recents u x n (ap (λ s. look s.stamps u) es ∙ e) l) (subst (λ s. Ends s b.recents) es ends) k
+
+absent_stays : (s : Snapshots) (t u n : ℕ) → look s.stamps t ≡ None → look s.stamps u ≡ Some n → look (left s t).stamps u ≡ Some n
+absent_stays s t u n none e = left_look s t u ∙ by (eq_by_cmp nat_cmp u t) refl
+  where
+    by : (b : Bool) → eq_by_cmp nat_cmp u t ≡ b → cond b None (look s.stamps u) ≡ Some n
+    by true y = absurd (let g : None ≡ Some n = sym none ∙ ap (look s.stamps) (sym (tied u t y)) ∙ e in cc)
+    by false y = e
 
 pub keeps_absent : (a b : Archive) (base : Records) (is : List Install) (t : ℕ) → look a.snapshots.stamps t ≡ None → b.snapshots ≡ left a.snapshots t → b.chains ≡ a.chains → b.recents ≡ a.recents → Keeps a base is → Keeps b base is
 keeps_absent a b base is t none es ec er k = record {
@@ -217,6 +238,8 @@ keeps_absent a b base is t none es ec er k = record {
   chains_are = λ key. ap (λ m. chain_of m key) ec ∙ k.chains_are key ∙ same_kept a.snapshots (left a.snapshots t) from (left_to a.snapshots t) (versions_of base is key)
       ∙ ap (λ x. filter (is_kept (needed x)) (versions_of base is key)) (sym es);
   recents_are = λ u m n key e l w. ap (λ r. has_key (keys_at r n) key) er ∙ k.recents_are u m n key (left_at a.snapshots t u m (ap (λ x. look x.stamps u) (sym es) ∙ e)) l w;
+  recents_end = λ n h. ap (λ r. keys_at r n) er ∙ k.recents_end n (λ u m e. h u m (ap (λ x. look x.stamps u) es ∙ absent_stays a.snapshots t u m none e));
+  recents_bound = λ n h. ap (λ r. keys_at r n) er ∙ k.recents_bound n (let i : b.snapshots.installs ≡ a.snapshots.installs = ap (λ x. x.installs) es in omega (arith, h, i));
 }
   where
     below : (u n : ℕ) → look a.snapshots.stamps u ≡ Some n → n ≤ b.snapshots.installs
@@ -224,11 +247,7 @@ keeps_absent a b base is t none es ec er k = record {
 
     from : (n : ℕ) → IsNeeded a.snapshots n → IsNeeded (left a.snapshots t) n
     from n (inl e) = inl e
-    from n (inr (u, e)) = inr (u, left_look a.snapshots t u ∙ by (eq_by_cmp nat_cmp u t) refl)
-      where
-        by : (b : Bool) → eq_by_cmp nat_cmp u t ≡ b → cond b None (look a.snapshots.stamps u) ≡ Some n
-        by true y = absurd (let g : None ≡ Some n = sym none ∙ ap (look a.snapshots.stamps) (sym (tied u t y)) ∙ e in cc)
-        by false y = e
+    from n (inr (u, e)) = inr (u, absent_stays a.snapshots t u n none e)
 
 -- ---- an install
 pub has-keys : (ws : List Written) (key : List ℕ) → has_key (map (λ w. w.key) ws) key ≡ writes_key ws key
@@ -280,6 +299,7 @@ or_cases false b e = inr e
 pub record Noted (a : Archive) (recents : Recents) (n : ℕ) (ws : List Written) : Type 0 where
   pub newest : (t m : ℕ) → look a.snapshots.stamps t ≡ Some m → keys_at recents n ≡ map (λ w. w.key) ws
   pub others : (m : ℕ) → (m == n) ≡ false → keys_at recents m ≡ keys_at a.recents m
+  pub read : (keys_at recents n ≡ keys_at a.recents n) ⊎ ((t : ℕ) × (m : ℕ) × (look a.snapshots.stamps t ≡ Some m))
 
 pub keeps_installed : (a b : Archive) (base : Records) (is : List Install) (txn : ℕ) (ws : List Written) → b.snapshots ≡ grown a.snapshots
     → b.chains ≡ rewritten_all (is_kept (needed (grown a.snapshots))) (suc a.snapshots.installs) a.chains ws → Noted a b.recents (suc a.snapshots.installs) ws
@@ -298,8 +318,25 @@ keeps_installed a b base is txn ws es ec r k = record {
       ∙ chain_over is key a.snapshots (suc a.snapshots.installs) (versions_of base is key) k.installs_are (linked base is key) (last_change ws key)
       ∙ (λ i. filter (is_kept (needed (sym es i))) (written_over (suc (k.installs_are i)) (last_change ws key) (versions_of base is key)));
   recents_are = λ t m n key e l w. by t m n key (ap (λ x. look x.stamps t) (sym es) ∙ e) l (or_cases ((n == suc (length is)) && writes_key ws key) (wrote_at is n key) w);
+  recents_end = λ n h. end n (n == suc a.snapshots.installs) refl (λ t m e. h t m (ap (λ x. look x.stamps t) es ∙ e)) r.read;
+  recents_bound = λ n h.
+      let i : b.snapshots.installs ≡ suc a.snapshots.installs = ap (λ x. x.installs) es in
+      let d : (n == suc a.snapshots.installs) ≡ false = grind (arith, nat_tests, h, i) in
+      r.others n d ∙ k.recents_bound n (omega (arith, h, i));
 }
   where
+    end : (n : ℕ) (b' : Bool) → (n == suc a.snapshots.installs) ≡ b' → ((t m : ℕ) → look a.snapshots.stamps t ≡ Some m → n ≤ m)
+        → (keys_at b.recents (suc a.snapshots.installs) ≡ keys_at a.recents (suc a.snapshots.installs)) ⊎ ((t : ℕ) × (m : ℕ) × (look a.snapshots.stamps t ≡ Some m)) → keys_at b.recents n ≡ []
+    end n false y h o = r.others n y ∙ k.recents_end n h
+    end n true y h (inl e) =
+        let x : n ≡ suc a.snapshots.installs = eqb→eq n (suc a.snapshots.installs) (subst T (sym y) tt) in
+        ap (keys_at b.recents) x ∙ e ∙ k.recents_bound (suc a.snapshots.installs) (omega arith)
+    end n true y h (inr (t, m, e)) =
+        let x : n ≡ suc a.snapshots.installs = eqb→eq n (suc a.snapshots.installs) (subst T (sym y) tt) in
+        let i : n ≤ m = h t m e in
+        let j : m ≤ a.snapshots.installs = k.stamps_are t m e in
+        absurd (omega (arith, x, i, j))
+
     number : suc (length is) ≡ suc a.snapshots.installs
     number = ap suc (sym k.installs_are)
 
@@ -312,47 +349,3 @@ keeps_installed a b base is txn ws es ec r k = record {
         let i = k.installs_are in
         let d : (n == suc a.snapshots.installs) ≡ false = grind (arith, nat_tests, i, j) in
         ap (λ ks. has_key ks key) (r.others n d) ∙ k.recents_are t m n key e l w
-
--- ---- the keys of recent installs
-apart : (n k : ℕ) (b : Bool) → k < n → eq_by_cmp nat_cmp n k ≡ b → b ≡ false
-apart n k true h e = let x : n ≡ k = tied n k e in absurd (omega (arith, x, h))
-apart n k false h e = refl
-
-pub keys-forgotten : (m : Recents) (k n : ℕ) → k < n → keys_at (without m k) n ≡ keys_at m n
-keys-forgotten m k n h = ap keys_in (look-without m k n ∙ ap (λ b. cond b None (look m n)) (apart n k (eq_by_cmp nat_cmp n k) h refl))
-
-none_before : (s : Snapshots) (m u k : ℕ) → list_any (λ x. nat_lt x m) (map (λ e. e.1) (entries s.stamps)) ≡ false → look s.stamps u ≡ Some k → m ≤ k
-none_before s m u k none e = by (nat_lt k m) refl
-  where
-    by : (b : Bool) → nat_lt k m ≡ b → m ≤ k
-    by true f = absurd (true≢false (sym (any-found (λ x. nat_lt x m) (entries s.stamps) u k (sym (get-entries s.stamps u) ∙ e) f) ∙ none))
-    by false f = grind (arith, nat_tests)
-
--- what is forgotten was seen by all
-pub forgotten : (s : Snapshots) (m next : ℕ) (old new : Recents) → IsNext s m next → list_any (λ x. nat_lt x m) (map (λ e. e.1) (entries s.stamps)) ≡ false → ((n : ℕ) → next < n → keys_at new n ≡ keys_at old n)
-    → (u k n : ℕ) → look s.stamps u ≡ Some k → k < n → keys_at new n ≡ keys_at old n
-forgotten s m next old new after none same u k n e l =
-    let a : m ≤ k = none_before s m u k none e in
-    let b : next ≤ k = after.is_least u k e a in
-    same n (omega (arith, b, l))
-
--- ---- the keys of the newest install
-same_number : (m n : ℕ) (b : Bool) → (m == n) ≡ false → eq_by_cmp nat_cmp m n ≡ b → b ≡ false
-same_number m n true e f = absurd (true≢false (sym (ap (λ k. k == n) (tied m n f) ∙ same_itself n) ∙ e))
-same_number m n false e f = refl
-
-pub noted_put : (a : Archive) (recents : Recents) (n : ℕ) (ws : List Written) (keys : List (List ℕ)) → recents ≡ put a.recents n keys → keys ≡ map (λ w. w.key) ws → Noted a recents n ws
-noted_put a recents n ws keys e f = record {
-  newest = λ t m h. ap (λ x. keys_at x n) e ∙ ap keys_in (look-put a.recents n keys n ∙ ap (λ b. cond b (Some keys) (look a.recents n)) (ties-itself n)) ∙ f;
-  others = λ m h. ap (λ x. keys_at x m) e ∙ ap keys_in (look-put a.recents n keys m ∙ ap (λ b. cond b (Some keys) (look a.recents m)) (same_number m n (eq_by_cmp nat_cmp m n) h refl));
-}
-
-no_entry : (es : List (ℕ × ℕ)) (t m : ℕ) → (length es == 0) ≡ true → find nat_cmp t es ≡ Some m → ⊥
-no_entry [] t m e f = let g : None ≡ Some m = f in cc
-no_entry (x ∷ es) t m e f = let y : length (x ∷ es) ≡ 0 = eqb→eq (length (x ∷ es)) 0 (subst T (sym e) tt) in absurd (omega (arith, y))
-
-pub noted_none : (a : Archive) (n : ℕ) (ws : List Written) → (length (entries a.snapshots.stamps) == 0) ≡ true → Noted a a.recents n ws
-noted_none a n ws e = record {
-  newest = λ t m h. absurd (no_entry (entries a.snapshots.stamps) t m e (sym (get-entries a.snapshots.stamps t) ∙ h));
-  others = λ m h. refl;
-}

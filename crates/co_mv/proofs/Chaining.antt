@@ -106,7 +106,7 @@ chain-pruned_all keep m (k ∷ ks) q = chain-pruned_all keep (pruned keep m k) k
 pub pruned_start : (keep : Version → Bool) (recents : Recents) (from : ℕ) (m : Chains) → IsPruned keep recents from from m m
 pruned_start keep recents from m = λ key. inr (refl, λ n a b. absurd (omega (arith, a, b)))
 
-last_or : (n k : ℕ) → n ≤ k + 1 → (n ≡ k + 1) ⊎ (n ≤ k)
+pub last_or : (n k : ℕ) → n ≤ k + 1 → (n ≡ k + 1) ⊎ (n ≤ k)
 last_or n k h = by (n == k + 1) refl
   where
     by : (b : Bool) → (n == k + 1) ≡ b → (n ≡ k + 1) ⊎ (n ≤ k)

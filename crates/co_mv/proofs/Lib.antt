@@ -6,7 +6,9 @@ mod Needing
 mod Nearest
 mod Chaining
 mod Archiving
+mod Forgetting
 mod Pairing
+mod Growing
 mod Least
 mod Visible
 mod Overwriting

@@ -79,7 +79,7 @@ any_step : (p : ℕ → Bool) (f : ℕ × ℕ) (es : List (ℕ × ℕ)) (b : Boo
 any_step p f es true s y e rest = (f.0, f.1, find-first f es, y)
 any_step p f es false s y e rest = let r = rest e in (r.0, r.1, find-later f es r.0 r.1 (eq_by_cmp nat_cmp r.0 f.0) s refl r.2, r.3)
 
-found-any : (p : ℕ → Bool) (es : List (ℕ × ℕ)) → T (is_sorted nat_cmp es) → list_any p (map (λ e. e.1) es) ≡ true → Found p es
+pub found-any : (p : ℕ → Bool) (es : List (ℕ × ℕ)) → T (is_sorted nat_cmp es) → list_any p (map (λ e. e.1) es) ≡ true → Found p es
 found-any p [] h e = absurd (true≢false (sym e))
 found-any p (f ∷ es) h e = any_step p f es (p f.1) (first _ _ h) refl e (found-any p es (second _ _ h))
 

@@ -48,7 +48,8 @@ use Rattle.co_mv.proofs.Archiving.{stamp_needed}
 use Rattle.co_mv.proofs.Least.{least_same}
 use Rattle.co_mv.proofs.Needing.{tied, ties-itself, kept_for_all, not_kept, sees_open}
 use Rattle.co_mv.proofs.Overwriting.{has-stale, has-within, since-versions, since-kept}
-use Rattle.co_mv.proofs.Pairing.{Grows, made_exactly, made_once, made_alike, all_made, ties}
+use Rattle.co_mv.proofs.Growing.{made_alike}
+use Rattle.co_mv.proofs.Pairing.{Grows, made_exactly, made_once, ties}
 use Rattle.co_mv.proofs.Visible.{noted_records, within_at, laid_at, reply_same}
 use Rattle.co_mv.proofs.Versioning.{IsLink, linked, seen_kept, seen_at, written_bound, lt_true, and_first, and_second}
 

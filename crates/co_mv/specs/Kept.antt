@@ -81,6 +81,9 @@ pub record Keeps (a : Archive) (base : Records) (installed : List Install) : Typ
   pub chains_are : (key : List ℕ) → chain_of a.chains key ≡ filter (is_kept (needed a.snapshots)) (versions_of base installed key)
   -- and the keys of each install that an active transaction did not see
   pub recents_are : (t m n : ℕ) (key : List ℕ) → look a.snapshots.stamps t ≡ Some m → m < n → wrote_at installed n key ≡ true → has_key (keys_at a.recents n) key ≡ true
+  -- and of no other install
+  pub recents_end : (n : ℕ) → ((t m : ℕ) → look a.snapshots.stamps t ≡ Some m → n ≤ m) → keys_at a.recents n ≡ []
+  pub recents_bound : (n : ℕ) → a.snapshots.installs < n → keys_at a.recents n ≡ []
 
 -- ---- what is kept of a transaction
 -- an active one has operations, and each of them bears its stamp

@@ -18,5 +18,7 @@ mod stale;
 #[cfg(test)]
 mod tests;
 mod version;
+#[cfg(test)]
+mod version_tests;
 
 pub use mv_engine::MvEngine;

@@ -1,5 +1,5 @@
 //! Versions and installs that are forgotten, install after install.
-ghost use Rattle.std.specs.Prelude.{◌≡◌, ◌<◌, ℕ};
+ghost use Rattle.std.specs.Prelude.{◌≡◌, ◌<◌, ◌≤◌, [], ℕ};
 ghost use Rattle.co_mv.specs.Versions.{is_kept};
 ghost use Rattle.co_mv.specs.Kept.{needed, IsPruned};
 ghost use Rattle.co_mv.specs.Recents.{keys_at};
@@ -28,7 +28,9 @@ pub fn prune_window(
 
 /// Forgets what the installs after `from` and up to `to` wrote. Takes no memory.
 pub fn forget_window(recents: &mut Recents, from: u64, to: u64)
-    ensures { (n : ℕ) → to < n → keys_at recents.new n ≡ keys_at recents.old n }
+    ensures later { (n : ℕ) → to < n → keys_at recents.new n ≡ keys_at recents.old n }
+    ensures gone { (n : ℕ) → from < n → n ≤ to → keys_at recents.new n ≡ [] }
+    ensures earlier { (n : ℕ) → n ≤ from → keys_at recents.new n ≡ keys_at recents.old n }
 {
     let mut install = from;
     while install < to {

@@ -55,7 +55,8 @@ fn command(alloc: Global, act: Act) -> Result<Command, Fail> {
     })
 }
 
-fn range(alloc: Global, lo: &[u8], hi: &[u8]) -> Result<Range, Fail> {
+/// A range of keys.
+pub fn range(alloc: Global, lo: &[u8], hi: &[u8]) -> Result<Range, Fail> {
     let lo = Key::new(alloc, lo)?;
     let hi = Key::new(alloc, hi)?;
     Ok(Range::new(lo, hi)?)
@@ -84,7 +85,8 @@ fn answered(alloc: Global, reply: Reply, pair: Option<(u32, u32)>) -> Result<Pla
     Ok(Played::Seen(Seen::Answer(reply), pairs))
 }
 
-fn row(alloc: Global, key: &[u8], value: &[u8]) -> Result<Rows, Fail> {
+/// One row.
+pub fn row(alloc: Global, key: &[u8], value: &[u8]) -> Result<Rows, Fail> {
     let mut records = RecordMap::new(alloc);
     records.set(Key::new(alloc, key)?, Value::new(alloc, value)?)?;
     Ok(records.rows(alloc)?)
@@ -202,200 +204,6 @@ fn nobody_is_blocked(rt: HostRuntime) -> Result<(), Fail> {
     check(&rt, &steps)
 }
 
-fn writes<R: AllocGlobal + Abort>(
-    rt: &R,
-    engine: &mut MvEngine,
-    t: u32,
-    key: &[u8],
-    value: Option<&[u8]>,
-) -> Result<(), Fail> {
-    let alloc = rt.alloc();
-    let key = Key::new(alloc, key)?;
-    let mut pairs = Pairs::new(alloc);
-    let seen = match value {
-        Some(value) => {
-            let value = Value::new(alloc, value)?;
-            engine.write(alloc, Txn(t), &key, Some(&value), &mut pairs)?
-        }
-        None => engine.write(alloc, Txn(t), &key, None, &mut pairs)?,
-    };
-    assert_eq!(rt; seen, Seen::Answer(Reply::Done));
-    Ok(())
-}
-
-/// A transaction writes one key and is carried to its install.
-fn installs<R: AllocGlobal + Abort>(
-    rt: &R,
-    engine: &mut MvEngine,
-    t: u32,
-    key: &[u8],
-    value: Option<&[u8]>,
-) -> Result<(), Fail> {
-    writes(rt, engine, t, key, value)?;
-    engine.cast(Txn(t));
-    Ok(engine.install(rt.alloc(), Txn(t))?)
-}
-
-fn reads<R: AllocGlobal + Abort>(
-    rt: &R,
-    engine: &mut MvEngine,
-    t: u32,
-    key: &[u8],
-    value: Option<&[u8]>,
-) -> Result<(), Fail> {
-    let alloc = rt.alloc();
-    let key = Key::new(alloc, key)?;
-    let wanted = match value {
-        Some(value) => Some(Value::new(alloc, value)?),
-        None => None,
-    };
-    let mut pairs = Pairs::new(alloc);
-    let seen = engine.read(alloc, Txn(t), &key, &mut pairs)?;
-    assert_eq!(rt; seen, Seen::Answer(Reply::Got(wanted)));
-    Ok(())
-}
-
-/// The kept versions of a key, oldest first; `-` for one without a value.
-fn keeps<R: AllocGlobal + Abort>(
-    rt: &R,
-    engine: &MvEngine,
-    key: &[u8],
-    wanted: &[&[u8]],
-) -> Result<(), Fail> {
-    let alloc = rt.alloc();
-    let key = Key::new(alloc, key)?;
-    assert_eq!(rt; engine.versions(&key), wanted.len());
-    for (place, text) in wanted.iter().enumerate() {
-        if place < engine.versions(&key) {
-            match engine.version_at(&key, place) {
-                Some(value) => assert_eq!(rt; value.text(), *text),
-                None => assert_eq!(rt; b"-".as_slice(), *text),
-            }
-        }
-    }
-    Ok(())
-}
-
-fn empty_engine(alloc: Global) -> Result<MvEngine, Fail> {
-    Ok(MvEngine::restore(alloc, Kind::Mv, Rows::new(alloc), &[])?)
-}
-
-#[test]
-fn a_version_is_kept_while_it_is_read(rt: HostRuntime) -> Result<(), Fail> {
-    let alloc = rt.alloc();
-    let mut engine = MvEngine::restore(alloc, Kind::Mv, row(alloc, b"x", b"0")?, &[])?;
-    keeps(&rt, &engine, b"x", &[b"0"])?;
-    reads(&rt, &mut engine, 1, b"x", Some(b"0"))?;
-    installs(&rt, &mut engine, 11, b"x", Some(b"1"))?;
-    keeps(&rt, &engine, b"x", &[b"0", b"1"])?;
-    installs(&rt, &mut engine, 12, b"x", Some(b"2"))?;
-    keeps(&rt, &engine, b"x", &[b"0", b"2"])?;
-    reads(&rt, &mut engine, 2, b"x", Some(b"2"))?;
-    installs(&rt, &mut engine, 13, b"x", Some(b"3"))?;
-    installs(&rt, &mut engine, 14, b"x", Some(b"4"))?;
-    keeps(&rt, &engine, b"x", &[b"0", b"2", b"4"])?;
-    reads(&rt, &mut engine, 1, b"x", Some(b"0"))?;
-    reads(&rt, &mut engine, 2, b"x", Some(b"2"))?;
-    engine.cast(Txn(1));
-    keeps(&rt, &engine, b"x", &[b"2", b"4"])?;
-    engine.drop_txn(Txn(2));
-    keeps(&rt, &engine, b"x", &[b"4"])
-}
-
-#[test]
-fn an_erased_record_is_kept_while_an_older_one_is_read(rt: HostRuntime) -> Result<(), Fail> {
-    let alloc = rt.alloc();
-    let mut engine = MvEngine::restore(alloc, Kind::Mv, row(alloc, b"x", b"0")?, &[])?;
-    reads(&rt, &mut engine, 1, b"y", None)?;
-    installs(&rt, &mut engine, 11, b"x", None)?;
-    keeps(&rt, &engine, b"x", &[b"0", b"-"])?;
-    reads(&rt, &mut engine, 2, b"x", None)?;
-    installs(&rt, &mut engine, 12, b"x", Some(b"2"))?;
-    keeps(&rt, &engine, b"x", &[b"0", b"-", b"2"])?;
-    reads(&rt, &mut engine, 1, b"x", Some(b"0"))?;
-    reads(&rt, &mut engine, 2, b"x", None)?;
-    engine.drop_txn(Txn(1));
-    keeps(&rt, &engine, b"x", &[b"2"])?;
-    reads(&rt, &mut engine, 2, b"x", None)?;
-    installs(&rt, &mut engine, 13, b"x", None)?;
-    keeps(&rt, &engine, b"x", &[b"-"])?;
-    engine.drop_txn(Txn(2));
-    keeps(&rt, &engine, b"x", &[])
-}
-
-#[test]
-fn a_key_is_forgotten_where_nothing_is_left_of_it(rt: HostRuntime) -> Result<(), Fail> {
-    let mut engine = empty_engine(rt.alloc())?;
-    installs(&rt, &mut engine, 1, b"x", Some(b"1"))?;
-    installs(&rt, &mut engine, 2, b"x", None)?;
-    keeps(&rt, &engine, b"x", &[])?;
-    reads(&rt, &mut engine, 3, b"x", None)
-}
-
-#[test]
-fn one_version_of_a_key_is_left_of_a_thousand_installs(rt: HostRuntime) -> Result<(), Fail> {
-    let mut engine = empty_engine(rt.alloc())?;
-    for t in 0..1000 {
-        if t % 2 == 0 {
-            installs(&rt, &mut engine, t, b"x", Some(b"1"))?;
-        } else {
-            installs(&rt, &mut engine, t, b"y", Some(b"2"))?;
-        }
-    }
-    keeps(&rt, &engine, b"x", &[b"1"])?;
-    keeps(&rt, &engine, b"y", &[b"2"])
-}
-
-#[test]
-fn a_thousand_installs_leave_what_one_reader_needs(rt: HostRuntime) -> Result<(), Fail> {
-    let alloc = rt.alloc();
-    let mut engine = MvEngine::restore(alloc, Kind::Mv, row(alloc, b"x", b"0")?, &[])?;
-    reads(&rt, &mut engine, 1, b"x", Some(b"0"))?;
-    for t in 2..1002 {
-        installs(&rt, &mut engine, t, b"x", Some(b"9"))?;
-    }
-    keeps(&rt, &engine, b"x", &[b"0", b"9"])?;
-    reads(&rt, &mut engine, 1, b"x", Some(b"0"))?;
-    engine.drop_txn(Txn(1));
-    keeps(&rt, &engine, b"x", &[b"9"])
-}
-
-#[test]
-fn an_install_makes_a_read_stale(rt: HostRuntime) -> Result<(), Fail> {
-    let alloc = rt.alloc();
-    let mut engine = empty_engine(alloc)?;
-    let key = Key::new(alloc, b"x")?;
-    let mut pairs = Pairs::new(alloc);
-    let _ = engine.scan(alloc, Txn(2), &range(alloc, b"a", b"z")?, &mut pairs)?;
-    writes(&rt, &mut engine, 1, b"x", None)?;
-    assert_eq!(rt; engine.sets(Txn(1)).writes().len(), 1);
-    assert_eq!(rt; engine.sets(Txn(2)).reads().len(), 1);
-    engine.cast(Txn(1));
-    assert!(rt; engine.stale(Txn(2)).is_none());
-    engine.install(alloc, Txn(1))?;
-    assert_eq!(rt; engine.stale(Txn(2)), Some(&key));
-    installs(&rt, &mut engine, 3, b"b", Some(b"1"))?;
-    let least = Key::new(alloc, b"b")?;
-    assert_eq!(rt; engine.stale(Txn(2)), Some(&least));
-    assert!(rt; engine.stale(Txn(3)).is_none());
-    Ok(())
-}
-
-#[test]
-fn writes_are_kept_apart(rt: HostRuntime) -> Result<(), Fail> {
-    let alloc = rt.alloc();
-    let mut engine = MvEngine::restore(alloc, Kind::Mv, row(alloc, b"x", b"0")?, &[])?;
-    writes(&rt, &mut engine, 1, b"y", Some(b"1"))?;
-    let dump = engine.dump(alloc)?;
-    assert_eq!(rt; dump.rows.len(), 1);
-    assert_eq!(rt; dump.undos.len(), 0);
-    engine.cast(Txn(1));
-    engine.install(alloc, Txn(1))?;
-    let dump = engine.dump(alloc)?;
-    assert_eq!(rt; dump.rows.len(), 2);
-    Ok(())
-}
-
 #[test]
 fn a_prepared_transaction_is_installed(rt: HostRuntime) -> Result<(), Fail> {
     let alloc = rt.alloc();
@@ -485,26 +293,64 @@ fn random_commands(alloc: Global, seed: u32) -> Result<Vec<Command>, Fail> {
     Ok(commands)
 }
 
+/// Makes the call that a command stands for.
+fn follow<E: Engine>(
+    alloc: Global,
+    engine: &mut E,
+    command: &Command,
+    pairs: &mut Pairs,
+) -> Result<(), Fail> {
+    match command {
+        Command::Read { txn, key } => {
+            let _ = engine.read(alloc, *txn, key, pairs)?;
+        }
+        Command::Scan { txn, range } => {
+            let _ = engine.scan(alloc, *txn, range, pairs)?;
+        }
+        Command::Write { txn, key, value } => {
+            let _ = engine.write(alloc, *txn, key, value.as_ref(), pairs)?;
+        }
+        Command::Cast(txn) => engine.cast(*txn),
+        Command::Install(txn) => engine.install(alloc, *txn)?,
+        Command::Drop(txn) => engine.drop_txn(*txn),
+    }
+    Ok(())
+}
+
+/// Makes the calls of those commands that were not refused.
+fn drive<E: Engine>(
+    alloc: Global,
+    engine: &mut E,
+    commands: &[Command],
+    answers: &Answers,
+) -> Result<Pairs, Fail> {
+    let mut pairs = Pairs::new(alloc);
+    for (place, command) in commands.iter().enumerate() {
+        if place < answers.len() && *answers.at(place) != Played::Refused {
+            follow(alloc, engine, command, &mut pairs)?;
+        }
+    }
+    Ok(pairs)
+}
+
 #[test]
 fn it_answers_as_the_plain_engine(rt: HostRuntime) -> Result<(), Fail> {
     let alloc = rt.alloc();
     for seed in [1, 2, 3, 5, 8, 13, 21, 34, 55, 89] {
         let commands = random_commands(alloc, seed)?;
-        let answers = play::<MvEngine>(
-            alloc,
-            Kind::Mv,
-            Rows::new(alloc),
-            &[],
-            commands.as_slice(),
-        )?;
-        let plain = play::<PlainEngine>(
-            alloc,
-            Kind::Mv,
-            Rows::new(alloc),
-            &[],
-            commands.as_slice(),
-        )?;
+        let commands = commands.as_slice();
+        let answers = play::<MvEngine>(alloc, Kind::Mv, Rows::new(alloc), &[], commands)?;
+        let plain = play::<PlainEngine>(alloc, Kind::Mv, Rows::new(alloc), &[], commands)?;
         assert_eq!(rt; answers, plain);
+        let mut engine = MvEngine::restore(alloc, Kind::Mv, Rows::new(alloc), &[])?;
+        let mut other = PlainEngine::restore(alloc, Kind::Mv, Rows::new(alloc), &[])?;
+        let pairs = drive(alloc, &mut engine, commands, &answers)?;
+        let plain_pairs = drive(alloc, &mut other, commands, &answers)?;
+        assert_eq!(rt; pairs, plain_pairs);
+        let dump = engine.dump(alloc)?;
+        let plain_dump = other.dump(alloc)?;
+        assert_eq!(rt; dump.rows, plain_dump.rows);
+        assert_eq!(rt; dump.undos, plain_dump.undos);
     }
     Ok(())
 }
