@@ -1,0 +1,124 @@
+-- What is kept of the keys of recent installs.
+use Rattle.std.proofs.Common.{◌≡◌, ◌⊎◌, inl, inr, T, ℕ, ◌+◌, ◌<◌, ◌≤◌, Bool, true, false, cond, List, [], ◌∷◌, map, length, Option, None, Some, refl, sym, ap, ◌∙◌, subst, true≢false, arith, eqb→eq, eq-eqb}
+use Rattle.std.specs.Prelude.{nat_lt, nat_le, ◌==◌}
+use Rattle.std.proofs.lemmas.Bool.Decides.{nat_tests}
+use Rattle.std.specs.FinMap.{entries, entries_sorted, get-entries}
+use Rattle.std.specs.FinMap.Entries.{find}
+use Rattle.std.specs.List.{list_any}
+use Rattle.std.specs.Ordering.{nat_cmp, eq_by_cmp}
+use Rattle.co_base.specs.declared.written.Written.{Written}
+use Rattle.co_serial.specs.Records.{Records}
+use Rattle.co_state.specs.declared.engine_state.Install.{Install}
+use Rattle.co_state.specs.Table.{look, put, without}
+use Rattle.co_state.proofs.Tables.{look-put, look-without}
+use Rattle.co_mv.specs.declared.archive.Archive.{Archive}
+use Rattle.co_mv.specs.declared.snapshots.Snapshots.{Snapshots}
+use Rattle.co_mv.specs.Kept.{left, IsNeeded, IsNext, Keeps}
+use Rattle.co_mv.specs.Recents.{Recents, keys_at, keys_in}
+use Rattle.co_mv.proofs.Archiving.{Ends, Noted, left_look, left_at}
+use Rattle.co_mv.proofs.Chaining.{last_or}
+use Rattle.co_mv.proofs.Needing.{tied, ties-itself, some_same, find-first, found-any, any-found}
+use Rattle.co_mv.proofs.Versioning.{true_le, true_lt, same_itself}
+
+-- ---- the keys of recent installs
+apart : (n k : ℕ) (b : Bool) → (n < k) ⊎ (k < n) → eq_by_cmp nat_cmp n k ≡ b → b ≡ false
+apart n k true (inl h) e = let x : n ≡ k = tied n k e in absurd (omega (arith, x, h))
+apart n k true (inr h) e = let x : n ≡ k = tied n k e in absurd (omega (arith, x, h))
+apart n k false h e = refl
+
+pub keys-forgotten : (m : Recents) (k n : ℕ) → (n < k) ⊎ (k < n) → keys_at (without m k) n ≡ keys_at m n
+keys-forgotten m k n h = ap keys_in (look-without m k n ∙ ap (λ b. cond b None (look m n)) (apart n k (eq_by_cmp nat_cmp n k) h refl))
+
+pub keys-gone : (m : Recents) (k n : ℕ) → n ≤ k + 1 → (n ≤ k → keys_at m n ≡ []) → keys_at (without m (k + 1)) n ≡ []
+keys-gone m k n h f = ap keys_in (look-without m (k + 1) n) ∙ by (eq_by_cmp nat_cmp n (k + 1)) refl
+  where
+    by : (b : Bool) → eq_by_cmp nat_cmp n (k + 1) ≡ b → keys_in (cond b None (look m n)) ≡ []
+    by true e = refl
+    by false e = f (below (last_or n k h))
+      where
+        below : (n ≡ k + 1) ⊎ (n ≤ k) → n ≤ k
+        below (inl x) = absurd (true≢false (sym (ties-itself n) ∙ ap (eq_by_cmp nat_cmp n) x ∙ e))
+        below (inr x) = x
+
+none_before : (s : Snapshots) (m u k : ℕ) → list_any (λ x. nat_lt x m) (map (λ e. e.1) (entries s.stamps)) ≡ false → look s.stamps u ≡ Some k → m ≤ k
+none_before s m u k none e = by (nat_lt k m) refl
+  where
+    by : (b : Bool) → nat_lt k m ≡ b → m ≤ k
+    by true f = absurd (true≢false (sym (any-found (λ x. nat_lt x m) (entries s.stamps) u k (sym (get-entries s.stamps u) ∙ e) f) ∙ none))
+    by false f = grind (arith, nat_tests)
+
+-- what is forgotten was seen by all
+pub forgotten : (s : Snapshots) (m next : ℕ) (old new : Recents) → IsNext s m next → list_any (λ x. nat_lt x m) (map (λ e. e.1) (entries s.stamps)) ≡ false → ((n : ℕ) → next < n → keys_at new n ≡ keys_at old n)
+    → (u k n : ℕ) → look s.stamps u ≡ Some k → k < n → keys_at new n ≡ keys_at old n
+forgotten s m next old new after none same u k n e l =
+    let a : m ≤ k = none_before s m u k none e in
+    let b : next ≤ k = after.is_least u k e a in
+    same n (omega (arith, b, l))
+
+-- nor is anything else of what all have seen kept, whether the window is forgotten or some transaction is still before it
+pub left_ends : (a : Archive) (base : Records) (is : List Install) (t m next : ℕ) (s : Snapshots) (new : Recents) → Keeps a base is → look a.snapshots.stamps t ≡ Some m → s ≡ left a.snapshots t → IsNext s m next
+    → ((n : ℕ) → next < n → keys_at new n ≡ keys_at a.recents n) → ((n : ℕ) → m < n → n ≤ next → keys_at new n ≡ []) → ((n : ℕ) → n ≤ m → keys_at new n ≡ keys_at a.recents n) → Ends s new
+left_ends a base is t m next s new k at es after later gone earlier = record {
+  seen = λ n h. by n h (nat_le n m) refl;
+  bound = λ n h. let i : s.installs ≡ a.snapshots.installs = ap (λ x. x.installs) es in let j = next_bound after.is_needed in later n (omega (arith, h, i, j)) ∙ k.recents_bound n (omega (arith, h, i));
+}
+  where
+    next_bound : IsNeeded s next → next ≤ a.snapshots.installs
+    next_bound (inl x) = let i : s.installs ≡ a.snapshots.installs = ap (λ x. x.installs) es in omega (arith, x, i)
+    next_bound (inr (u, e)) = k.stamps_are u next (left_at a.snapshots t u next (ap (λ x. look x.stamps u) (sym es) ∙ e))
+
+    all_before : (n : ℕ) → ((u x : ℕ) → look s.stamps u ≡ Some x → n ≤ x) → n ≤ m → (u x : ℕ) (b : Bool) → eq_by_cmp nat_cmp u t ≡ b → look a.snapshots.stamps u ≡ Some x → n ≤ x
+    all_before n h l u x true y e = let z : x ≡ m = some_same x m (sym e ∙ ap (look a.snapshots.stamps) (tied u t y) ∙ at) in omega (arith, l, z)
+    all_before n h l u x false y e = h u x (ap (λ z. look z.stamps u) es ∙ left_look a.snapshots t u ∙ ap (λ b. cond b None (look a.snapshots.stamps u)) y ∙ e)
+
+    behind : (n : ℕ) → ((u x : ℕ) → look s.stamps u ≡ Some x → n ≤ x) → next < n → IsNeeded s next → keys_at new n ≡ []
+    behind n h l (inl x) = let i : s.installs ≡ a.snapshots.installs = ap (λ x. x.installs) es in later n l ∙ k.recents_bound n (omega (arith, x, l, i))
+    behind n h l (inr (u, e)) = let z : n ≤ next = h u next e in absurd (omega (arith, l, z))
+
+    by : (n : ℕ) → ((u x : ℕ) → look s.stamps u ≡ Some x → n ≤ x) → (b : Bool) → nat_le n m ≡ b → keys_at new n ≡ []
+    by n h true f = let l : n ≤ m = true_le n m f in earlier n l ∙ k.recents_end n (λ u x e. all_before n h l u x (eq_by_cmp nat_cmp u t) refl e)
+    by n h false f = inside (nat_le n next) refl
+      where
+        inside : (b : Bool) → nat_le n next ≡ b → keys_at new n ≡ []
+        inside true g = gone n (grind (arith, nat_tests)) (true_le n next g)
+        inside false g = behind n h (grind (arith, nat_tests)) after.is_needed
+
+pub left_ends_before : (a : Archive) (base : Records) (is : List Install) (t m : ℕ) (s : Snapshots) → Keeps a base is → look a.snapshots.stamps t ≡ Some m → s ≡ left a.snapshots t
+    → list_any (λ x. nat_lt x m) (map (λ e. e.1) (entries s.stamps)) ≡ true → Ends s a.recents
+left_ends_before a base is t m s k at es some =
+    let r = found-any (λ x. nat_lt x m) (entries s.stamps) (entries_sorted s.stamps) some in
+    record {
+      seen = λ n h. k.recents_end n (λ u x e. all n (h r.0 r.1 (get-entries s.stamps r.0 ∙ r.2)) (true_lt r.1 m r.3) h u x (eq_by_cmp nat_cmp u t) refl e);
+      bound = λ n h. k.recents_bound n (let i : s.installs ≡ a.snapshots.installs = ap (λ x. x.installs) es in omega (arith, h, i));
+    }
+  where
+    all : (n : ℕ) {y : ℕ} → n ≤ y → y < m → ((u x : ℕ) → look s.stamps u ≡ Some x → n ≤ x) → (u x : ℕ) (b : Bool) → eq_by_cmp nat_cmp u t ≡ b → look a.snapshots.stamps u ≡ Some x → n ≤ x
+    all n p q h u x true y e = let z : x ≡ m = some_same x m (sym e ∙ ap (look a.snapshots.stamps) (tied u t y) ∙ at) in omega (arith, p, q, z)
+    all n p q h u x false y e = h u x (ap (λ z. look z.stamps u) es ∙ left_look a.snapshots t u ∙ ap (λ b. cond b None (look a.snapshots.stamps u)) y ∙ e)
+
+-- ---- the keys of the newest install
+same_number : (m n : ℕ) (b : Bool) → (m == n) ≡ false → eq_by_cmp nat_cmp m n ≡ b → b ≡ false
+same_number m n true e f = absurd (true≢false (sym (ap (λ k. k == n) (tied m n f) ∙ same_itself n) ∙ e))
+same_number m n false e f = refl
+
+some_entry : (es : List (ℕ × ℕ)) → (length es == 0) ≡ false → (t : ℕ) × (m : ℕ) × (find nat_cmp t es ≡ Some m)
+some_entry [] e = absurd (true≢false (sym (eq-eqb (length {A = ℕ × ℕ} []) 0 refl) ∙ e))
+some_entry (x ∷ es) e = (x.0, x.1, find-first x es)
+
+pub noted_put : (a : Archive) (recents : Recents) (n : ℕ) (ws : List Written) (keys : List (List ℕ)) → recents ≡ put a.recents n keys → keys ≡ map (λ w. w.key) ws → (length (entries a.snapshots.stamps) == 0) ≡ false → Noted a recents n ws
+noted_put a recents n ws keys e f some = record {
+  newest = λ t m h. ap (λ x. keys_at x n) e ∙ ap keys_in (look-put a.recents n keys n ∙ ap (λ b. cond b (Some keys) (look a.recents n)) (ties-itself n)) ∙ f;
+  others = λ m h. ap (λ x. keys_at x m) e ∙ ap keys_in (look-put a.recents n keys m ∙ ap (λ b. cond b (Some keys) (look a.recents m)) (same_number m n (eq_by_cmp nat_cmp m n) h refl));
+  read = inr (let r = some_entry (entries a.snapshots.stamps) some in (r.0, r.1, get-entries a.snapshots.stamps r.0 ∙ r.2));
+}
+
+no_entry : (es : List (ℕ × ℕ)) (t m : ℕ) → (length es == 0) ≡ true → find nat_cmp t es ≡ Some m → ⊥
+no_entry [] t m e f = let g : None ≡ Some m = f in cc
+no_entry (x ∷ es) t m e f = let y : length (x ∷ es) ≡ 0 = eqb→eq (length (x ∷ es)) 0 (subst T (sym e) tt) in absurd (omega (arith, y))
+
+pub noted_none : (a : Archive) (n : ℕ) (ws : List Written) → (length (entries a.snapshots.stamps) == 0) ≡ true → Noted a a.recents n ws
+noted_none a n ws e = record {
+  newest = λ t m h. absurd (no_entry (entries a.snapshots.stamps) t m e (sym (get-entries a.snapshots.stamps t) ∙ h));
+  others = λ m h. refl;
+  read = inl refl;
+}

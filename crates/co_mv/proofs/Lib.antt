@@ -1,0 +1,15 @@
+mod Ranging
+mod Rows
+mod Outcomes
+mod Versioning
+mod Needing
+mod Nearest
+mod Chaining
+mod Archiving
+mod Forgetting
+mod Pairing
+mod Growing
+mod Least
+mod Visible
+mod Overwriting
+mod Standing

@@ -1,0 +1,154 @@
+-- Records that are read from versions.
+use Rattle.std.proofs.Common.{◌≡◌, T, ℕ, Bool, true, false, cond, not, ◌&&◌, List, [], ◌∷◌, map, filter, if◌then◌else◌, Option, None, Some, refl, sym, ap, ◌∙◌, subst, true≢false}
+use Rattle.std.proofs.lemmas.Cmp.{nat_list_cmp_total}
+use Rattle.std.specs.Ordering.{is_eq, is_lt, is_gt, eq_by_cmp}
+use Rattle.std.specs.declared.cmp.Ordering.{Ordering}
+use Rattle.std.specs.declared.cmp.Ordering.TheVariants.{Less, Equal, Greater}
+use Rattle.std.specs.FinMap.{empty, entries, entries_sorted, get, get-entries, get-empty, same_map, slice_cmp-IsAntisymmetric, nat_cmp-IsAntisymmetric}
+use Rattle.std.specs.FinMap.Entries.{find, below_all, is_sorted, where_key, same_entries, find-where_key, is_sorted-where_key}
+use Rattle.co_base.specs.Order.{key_cmp}
+use Rattle.co_base.specs.Span.{Span, span_has, span_of_key}
+use Rattle.co_base.specs.declared.op.Op.{Op}
+use Rattle.co_base.specs.declared.op.Op.TheVariants.{Read, Write, Erase, Scan}
+use Rattle.co_base.specs.declared.reply.Reply.TheVariants.{Got, Rows}
+use Rattle.co_base.specs.declared.written.Written.{Written}
+use Rattle.co_serial.specs.Records.{Records, row_of, all_rows, rows_within, with_change, with_changes}
+use Rattle.co_serial.specs.SerialRun.{reply_to}
+use Rattle.co_state.specs.Changes.{span_read}
+use Rattle.co_state.specs.Keys.{same_key}
+use Rattle.co_mv.specs.declared.version.Version.{Version}
+use Rattle.co_mv.specs.Chains.{Chains, chain_in, chain_of}
+use Rattle.co_mv.specs.Reading.{noted, all_noted, changed_within, laid_within}
+use Rattle.co_mv.specs.Versions.{seen_value}
+use Rattle.co_mv.proofs.Chaining.{same_keys, key_itself}
+use Rattle.co_mv.proofs.Versioning.{get-with_change}
+
+pub first : (a b : Bool) → T (a && b) → T a
+first true b p = tt
+first false b p = p
+
+pub second : (a b : Bool) → T (a && b) → T b
+second true b p = p
+second false b p = absurd p
+
+less : (r : Ordering) → T (is_lt r) → r ≡ Less
+less Less p = refl
+less Equal p = absurd p
+less Greater p = absurd p
+
+pub key-below : {X : Type 0} (q : List ℕ) (es : List (List ℕ × X)) → T (below_all key_cmp q es) → find key_cmp q es ≡ None
+key-below q [] h = refl
+key-below q (e ∷ es) h = ap (λ r. cond (is_eq r) (Some e.1) (find key_cmp q es)) (less _ (first _ _ h)) ∙ key-below q es (second _ _ h)
+
+-- a value that is there, and else what was there before
+abbrev pub or_else : Option (List ℕ) → Option (List ℕ) → Option (List ℕ)
+or_else None other = other
+or_else (Some v) other = Some v
+
+abbrev pub value_of : ℕ → Option (List Version) → Option (List ℕ)
+value_of n o = seen_value n (chain_in o)
+
+cond-same : {A : Type 0} (b : Bool) (x : A) → cond b x x ≡ x
+cond-same true x = refl
+cond-same false x = refl
+
+noted_value : (records : Records) (k : List ℕ) (v : Option (List ℕ)) (q : List ℕ) → get (noted records k v) q ≡ cond (same_key q k) (or_else v (get records q)) (get records q)
+noted_value records k None q = sym (cond-same (same_key q k) (get records q))
+noted_value records k (Some w) q = get-with_change records k (Some w) q
+
+step : (n : ℕ) (b : Bool) (c : List Version) (o : Option (List Version)) (old : Option (List ℕ)) → (b ≡ true → o ≡ None)
+    → or_else (value_of n o) (cond b (or_else (seen_value n c) old) old) ≡ or_else (value_of n (cond b (Some c) o)) old
+step n true c o old none = ap (λ x. or_else (value_of n x) (or_else (seen_value n c) old)) (none refl)
+step n false c o old none = refl
+
+noted_all : (n : ℕ) (records : Records) (es : List (List ℕ × List Version)) (q : List ℕ) → T (is_sorted key_cmp es) → get (all_noted n records es) q ≡ or_else (value_of n (find key_cmp q es)) (get records q)
+noted_all n records [] q h = refl
+noted_all n records (e ∷ es) q h =
+    noted_all n (noted records e.0 (seen_value n e.1)) es q (second _ _ h)
+    ∙ ap (or_else (value_of n (find key_cmp q es))) (noted_value records e.0 (seen_value n e.1) q)
+    ∙ step n (same_key q e.0) e.1 (find key_cmp q es) (get records q) (λ t. ap (λ k. find key_cmp k es) (same_keys q e.0 t) ∙ key-below e.0 es (first _ _ h))
+
+or_none : (o : Option (List ℕ)) → or_else o None ≡ o
+or_none None = refl
+or_none (Some v) = refl
+
+noted_at : (n : ℕ) (es : List (List ℕ × List Version)) (q : List ℕ) → T (is_sorted key_cmp es) → get (all_noted n empty es) q ≡ value_of n (find key_cmp q es)
+noted_at n es q h = noted_all n empty es q h ∙ ap (or_else (value_of n (find key_cmp q es))) (get-empty key_cmp q) ∙ or_none (value_of n (find key_cmp q es))
+
+-- every key
+pub noted_records : (n : ℕ) (chains : Chains) (now : Records) → ((q : List ℕ) → get now q ≡ seen_value n (chain_of chains q)) → all_noted n empty (entries chains) ≡ now
+noted_records n chains now same =
+    same_map nat_list_cmp_total (slice_cmp-IsAntisymmetric nat_cmp-IsAntisymmetric) _ _
+    (λ q. noted_at n (entries chains) q (entries_sorted chains) ∙ ap (value_of n) (sym (get-entries chains q)) ∙ sym (same q))
+
+value_cond : (n : ℕ) (b : Bool) (o : Option (List Version)) → value_of n (cond b o None) ≡ cond b (value_of n o) None
+value_cond n true o = refl
+value_cond n false o = refl
+
+alike : (span : Span) (q x : List ℕ) → key_cmp q x ≡ Equal → span_has span x ≡ span_has span q
+alike span q x e = ap (span_has span) (sym (slice_cmp-IsAntisymmetric nat_cmp-IsAntisymmetric q x e))
+
+abbrev pub in_span : Span → List ℕ → Option (List ℕ) → Option (List ℕ)
+in_span span q o = cond (span_has span q) o None
+
+pub find-within : {X : Type 0} (span : Span) (q : List ℕ) (es : List (List ℕ × X)) → find key_cmp q (filter (λ e. span_has span e.0) es) ≡ cond (span_has span q) (find key_cmp q es) None
+find-within span q es = find-where_key key_cmp (span_has span) q (alike span q) es
+
+pub sorted-within : {X : Type 0} (span : Span) (es : List (List ℕ × X)) → T (is_sorted key_cmp es) → T (is_sorted key_cmp (filter (λ e. span_has span e.0) es))
+sorted-within span es h = is_sorted-where_key key_cmp (span_has span) es h
+
+-- the keys of a range
+pub within_at : (n : ℕ) (chains : Chains) (now : Records) (span : Span) → ((q : List ℕ) → get now q ≡ seen_value n (chain_of chains q))
+    → (q : List ℕ) → get (all_noted n empty (filter (λ e. span_has span e.0) (entries chains))) q ≡ in_span span q (get now q)
+within_at n chains now span same q =
+    noted_at n (filter (λ e. span_has span e.0) (entries chains)) q (sorted-within span (entries chains) (entries_sorted chains))
+    ∙ ap (value_of n) (find-within span q (entries chains))
+    ∙ value_cond n (span_has span q) (find key_cmp q (entries chains))
+    ∙ ap (λ v. cond (span_has span q) v None) (ap (value_of n) (sym (get-entries chains q)) ∙ sym (same q))
+
+-- ---- own writes laid over
+change_step : (span : Span) (r now : Records) (w : Written) (q : List ℕ) (b c d : Bool) → span_has span w.key ≡ b → same_key q w.key ≡ c → span_has span q ≡ d → get r q ≡ cond d (get now q) None
+    → get (if b then with_change r w.key w.value else r) q ≡ cond d (cond c w.value (get now q)) None
+change_step span r now w q true true true e f g same = get-with_change r w.key w.value q ∙ ap (λ x. cond x w.value (get r q)) f
+change_step span r now w q true false d e f g same = get-with_change r w.key w.value q ∙ ap (λ x. cond x w.value (get r q)) f ∙ same
+change_step span r now w q false false d e f g same = same
+change_step span r now w q true true false e f g same = absurd (true≢false (sym (ap (span_has span) (same_keys q w.key f) ∙ e) ∙ g))
+change_step span r now w q false true true e f g same = absurd (true≢false (sym g ∙ ap (span_has span) (same_keys q w.key f) ∙ e))
+change_step span r now w q false true false e f g same = same
+
+pub laid_at : (span : Span) (ws : List Written) (r now : Records) → ((q : List ℕ) → get r q ≡ in_span span q (get now q)) → (q : List ℕ) → get (laid_within span r ws) q ≡ in_span span q (get (with_changes now ws) q)
+laid_at span [] r now same q = same q
+laid_at span (w ∷ ws) r now same q =
+    laid_at span ws (changed_within span r w) (with_change now w.key w.value)
+    (λ k. change_step span r now w k (span_has span w.key) (same_key k w.key) (span_has span k) refl refl refl (same k) ∙ ap (in_span span k) (sym (get-with_change now w.key w.value k))) q
+
+-- ---- replies
+key_equal : (r : Ordering) → is_eq r ≡ true → not (is_gt r) ≡ true
+key_equal Less e = refl
+key_equal Equal e = refl
+key_equal Greater e = absurd (true≢false (sym e))
+
+has_itself : (key : List ℕ) → span_has (span_of_key key) key ≡ true
+has_itself key = (λ i. key_equal (key_cmp key key) (key_itself key) i && key_equal (key_cmp key key) (key_itself key) i)
+
+twice : {X : Type 0} (b : Bool) (o : Option X) → cond b (cond b o None) None ≡ cond b o None
+twice true o = refl
+twice false o = refl
+
+rows_same : (span : Span) (r now : Records) → ((q : List ℕ) → get r q ≡ in_span span q (get now q)) → rows_within r span ≡ rows_within now span
+rows_same span r now same =
+    ap (map row_of)
+    (same_entries key_cmp nat_list_cmp_total (slice_cmp-IsAntisymmetric nat_cmp-IsAntisymmetric) _ _
+    (sorted-within span (entries r) (entries_sorted r)) (sorted-within span (entries now) (entries_sorted now))
+    (λ q. find-within span q (entries r) ∙ ap (λ o. cond (span_has span q) o None) (sym (get-entries r q) ∙ same q)
+    ∙ twice (span_has span q) (get now q) ∙ ap (λ o. cond (span_has span q) o None) (get-entries now q) ∙ sym (find-within span q (entries now))))
+
+pub reply_same : (op : Op) (span : Span) (r now : Records) → span_read op ≡ Some span → ((q : List ℕ) → get r q ≡ in_span span q (get now q)) → reply_to r op ≡ reply_to now op
+reply_same (Read key) span r now e same =
+    let x : span_of_key key ≡ span = (let f : Some (span_of_key key) ≡ Some span = e in cc) in
+    ap Got (same key ∙ ap (λ b. cond b (get now key) None) (ap (λ s. span_has s key) (sym x) ∙ has_itself key))
+reply_same (Scan s) span r now e same =
+    let x : s ≡ span = (let f : Some s ≡ Some span = e in cc) in
+    ap Rows (ap (rows_within r) x ∙ rows_same span r now same ∙ ap (rows_within now) (sym x))
+reply_same (Write key value) span r now e same = absurd (let f : None ≡ Some span = e in cc)
+reply_same (Erase key) span r now e same = absurd (let f : None ≡ Some span = e in cc)

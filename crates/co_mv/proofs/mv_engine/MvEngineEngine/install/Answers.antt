@@ -1,0 +1,16 @@
+use Rattle.std.proofs.Common.{List, ◌∷◌, sym, ◌∙◌, subst}
+use Rattle.co_base.specs.declared.written.Written.{Written}
+use Rattle.co_mv.specs.Kept.{Keeps}
+use Rattle.co_mv.proofs.Outcomes.{on_both}
+use Rattle.co_mv.proofs.Standing.{stands_install, install_absent}
+use Rattle.co_mv.proofs.mv_engine.MvEngineEngine.install.Goals as goal
+
+pub returns-in-Some : goal.returns-in-Some
+returns-in-Some c = λ b s h.
+    on_both c.install.result
+    (λ es k. stands_install c.args.self.now _ b c.args.t c.in-Some.sets s h (sym c.remove.ensures.entry ∙ c.in-Some.is) es
+    (subst (λ (ws : List Written). Keeps c.install.new.self b.base (record { txn = c.args.t; writes = ws } ∷ b.installed)) c.writes.ensures k) c.remove.ensures.rest)
+    c.install.ensures.snapshots (c.install.ensures.keeps b.base b.installed c.args.t s.keeps)
+
+pub returns-in-None : goal.returns-in-None
+returns-in-None c = λ b s h. install_absent c.args.self.now b c.args.t s h (sym c.remove.ensures.entry ∙ c.in-None.is)

@@ -1,0 +1,125 @@
+-- What a multiversion engine keeps, and for which states it stands.
+use Rattle.std.specs.Prelude.{ℕ, suc, Bool, true, false, ◌≡◌, ◌⊎◌, ◌<◌, ◌≤◌, ◌&&◌, ◌||◌, ◌==◌, nat_le, nat_lt, List, [], ◌∷◌, map, filter, length, if◌then◌else◌, is_some, Option, None, Some}
+use Rattle.std.specs.List.{list_all}
+use Rattle.std.specs.Option.{option_map}
+use Rattle.std.specs.FinMap.{empty, entries}
+use Rattle.co_mv.specs.declared.snapshots.Snapshots.{Snapshots}
+use Rattle.co_base.specs.declared.head.Kind.TheVariants.{Mv}
+use Rattle.co_mv.specs.declared.archive.Archive.{Archive}
+use Rattle.co_mv.specs.declared.mv_engine.MvEngine.{MvEngine}
+use Rattle.co_mv.specs.declared.version.Version.{Version}
+use Rattle.co_mv.specs.Chains.{Chains, chain_of}
+use Rattle.co_mv.specs.NewPairs.{or_nothing}
+use Rattle.co_mv.specs.Reading.{all_noted, laid_within}
+use Rattle.co_mv.specs.Recents.{Recents, keys_at, has_key}
+use Rattle.co_base.specs.Span.{Span, span_has}
+use Rattle.co_pairs.specs.declared.prepared.Prepared.{Prepared}
+use Rattle.co_mv.specs.Versions.{is_kept, versions_of}
+use Rattle.co_serial.specs.Records.{Records}
+use Rattle.co_state.specs.declared.engine_state.EngineState.{EngineState}
+use Rattle.co_state.specs.declared.engine_state.Install.{Install}
+use Rattle.co_state.specs.declared.engine_state.Operation.{Operation}
+use Rattle.co_state.specs.declared.engine_state.Sets.{Sets}
+use Rattle.co_state.specs.declared.engine_state.Vote.{Vote}
+use Rattle.co_state.specs.Changes.{sets_of}
+use Rattle.co_state.specs.Keys.{writes_key}
+use Rattle.co_state.specs.Table.{Table, no_entries, look, put, without}
+
+-- the numbers of installs that transactions read at
+abbrev pub needed : Snapshots → List ℕ
+needed s = s.installs ∷ map (λ e. e.1) (entries s.stamps)
+
+abbrev pub or_now : ℕ → Option ℕ → ℕ
+or_now now None = now
+or_now now (Some stamp) = stamp
+
+abbrev pub stamp_of : Snapshots → ℕ → ℕ
+stamp_of s t = or_now s.installs (look s.stamps t)
+
+-- the least of these numbers that is at or above another one
+abbrev pub IsNeeded : Snapshots → ℕ → Type 0
+IsNeeded s n = (n ≡ s.installs) ⊎ ((t : ℕ) × (look s.stamps t ≡ Some n))
+
+pub record IsNext (s : Snapshots) (from next : ℕ) : Type 0 where
+  pub is_needed : IsNeeded s next
+  pub is_above : from ≤ next
+  pub is_least : (t n : ℕ) → look s.stamps t ≡ Some n → from ≤ n → next ≤ n
+
+abbrev pub nearer : ℕ → ℕ → ℕ → ℕ
+nearer from best n = if nat_le from n && nat_lt n best then n else best
+
+abbrev pub nearest : ℕ → ℕ → List (ℕ × ℕ) → ℕ
+nearest from best [] = best
+nearest from best (e ∷ es) = nearest from (nearer from best e.1) es
+
+-- whether the install of this number wrote the key; the newest install stands first in the list
+abbrev pub wrote_at : List Install → ℕ → List ℕ → Bool
+wrote_at [] n key = false
+wrote_at (i ∷ is) n key = ((n == suc (length is)) && writes_key i.writes key) || wrote_at is n key
+
+-- each chain was pruned, or it stays and no install of the window wrote its key
+abbrev pub IsPruned : (Version → Bool) → Recents → ℕ → ℕ → Chains → Chains → Type 0
+IsPruned keep recents from to old new =
+    (key : List ℕ) → (chain_of new key ≡ filter keep (chain_of old key))
+    ⊎ ((chain_of new key ≡ chain_of old key) × ((n : ℕ) → from < n → n ≤ to → has_key (keys_at recents n) key ≡ false))
+
+-- ---- the snapshots after calls
+abbrev pub entered : Snapshots → ℕ → Snapshots
+entered s t = record s { stamps = put s.stamps t (stamp_of s t) }
+
+abbrev pub left : Snapshots → ℕ → Snapshots
+left s t = record s { stamps = without s.stamps t }
+
+abbrev pub grown : Snapshots → Snapshots
+grown s = record s { installs = suc s.installs }
+
+-- ---- what is kept for a base and the installs over it
+pub record Keeps (a : Archive) (base : Records) (installed : List Install) : Type 0 where
+  pub installs_are : a.snapshots.installs ≡ length installed
+  pub stamps_are : (t n : ℕ) → look a.snapshots.stamps t ≡ Some n → n ≤ a.snapshots.installs
+  -- exactly the versions that are read
+  pub chains_are : (key : List ℕ) → chain_of a.chains key ≡ filter (is_kept (needed a.snapshots)) (versions_of base installed key)
+  -- and the keys of each install that an active transaction did not see
+  pub recents_are : (t m n : ℕ) (key : List ℕ) → look a.snapshots.stamps t ≡ Some m → m < n → wrote_at installed n key ≡ true → has_key (keys_at a.recents n) key ≡ true
+  -- and of no other install
+  pub recents_end : (n : ℕ) → ((t m : ℕ) → look a.snapshots.stamps t ≡ Some m → n ≤ m) → keys_at a.recents n ≡ []
+  pub recents_bound : (n : ℕ) → a.snapshots.installs < n → keys_at a.recents n ≡ []
+
+-- ---- what is kept of a transaction
+-- an active one has operations, and each of them bears its stamp
+abbrev pub AreStamped : Option ℕ → Option (List Operation) → Type 0
+AreStamped None None = Unit {0}
+AreStamped None (Some os) = ⊥
+AreStamped (Some n) None = ⊥
+AreStamped (Some n) (Some []) = ⊥
+AreStamped (Some n) (Some (o ∷ os)) = list_all (λ o. o.stamp == n) (o ∷ os) ≡ true
+
+-- one with a stamp is active, and another one voted
+abbrev pub active_sets : Option ℕ → Option Sets → Option Sets
+active_sets None sets = None
+active_sets (Some n) sets = sets
+
+abbrev pub voted_sets : Option ℕ → Option Sets → Option Sets
+voted_sets None sets = sets
+voted_sets (Some n) sets = None
+
+pub record IsKept (stamp : Option ℕ) (sets : Option Sets) (os : Option (List Operation)) (vote : Option Vote) : Type 0 where
+  pub stamps_are : AreStamped stamp os
+  pub sets_are : option_map sets_of os ≡ active_sets stamp sets
+  pub votes_are : option_map (λ v. v.sets) vote ≡ voted_sets stamp sets
+
+-- ---- for which states the engine stands
+pub record StandsFor (e : MvEngine) (b : EngineState) : Type 0 where
+  pub kind_is : Mv ≡ b.kind
+  pub keeps : Keeps e.archive b.base b.installed
+  pub each : (t : ℕ) → IsKept (look e.archive.snapshots.stamps t) (look e.sets t) (look b.active t) (look b.voted t)
+
+-- the records of a range that the next operation of a transaction sees
+abbrev pub visible_within : MvEngine → ℕ → Span → Records
+visible_within e t span =
+    laid_within span (all_noted (stamp_of e.archive.snapshots t) empty (filter (λ x. span_has span x.0) (entries e.archive.chains))) (or_nothing (look e.sets t)).writes
+
+-- what prepared transactions read and wrote
+abbrev pub prepared_sets : List Prepared → Table Sets
+prepared_sets [] = no_entries
+prepared_sets (p ∷ ps) = put (prepared_sets ps) p.txn p.sets

@@ -1,0 +1,7 @@
+pub mod Versions
+pub mod Kept
+pub mod Chains
+pub mod Recents
+pub mod NewPairs
+pub mod Overwritten
+pub mod Reading

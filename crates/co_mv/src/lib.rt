@@ -1,0 +1,24 @@
+//! An engine that keeps versions, so that each transaction reads the records as they were at its first
+//! operation.
+//!
+//! It meets the contract of all engines. What it keeps of a key are exactly the versions that some active
+//! transaction, or a new one, can still read.
+#![tactic(auto)]
+
+mod archive;
+mod chain;
+mod chains;
+mod mv_engine;
+mod new_pairs;
+mod pruning;
+mod reading;
+mod recents;
+mod snapshots;
+mod stale;
+#[cfg(test)]
+mod tests;
+mod version;
+#[cfg(test)]
+mod version_tests;
+
+pub use mv_engine::MvEngine;

@@ -1,0 +1,279 @@
+//! The engine.
+ghost use Rattle.std.specs.Prelude.{◌≡◌, ◌<◌, length, map, reverse, slice_get, Some, IsTrue, IfOk, OnOk, OnErr, option_copied};
+ghost use Rattle.co_base.specs.declared.head.Kind.TheVariants.{Mv};
+ghost use Rattle.co_engine.specs.Calls.{may_operate, seen_of, writing, Appends, AppendsNewPairs};
+ghost use Rattle.co_mv.specs.Chains.{chain_of};
+ghost use Rattle.co_mv.specs.Kept.{StandsFor, visible_within, prepared_sets};
+ghost use Rattle.co_mv.specs.NewPairs.{or_nothing, grown_by};
+ghost use Rattle.co_mv.specs.Versions.{kept_versions};
+ghost use Rattle.co_state.specs.declared.engine_state.EngineState.{EngineState};
+ghost use Rattle.co_state.specs.Effects.{after_operation, with_operation};
+ghost use Rattle.co_state.specs.Conflicts.{AreNewPairs};
+ghost use Rattle.co_state.specs.ReadRule.{operation_reply};
+ghost use Rattle.co_state.specs.Table.{look, without};
+
+use crate::archive::Archive;
+use crate::new_pairs::{append, pairs_made};
+use crate::reading::{all_records, lay_within, records_within};
+use crate::stale::least_written;
+use co_base::{Key, Kind, Op, Range, Ranges, Reply, Rows, Txn, Value, Writes};
+use co_engine::{Dump, Engine, Seen};
+use co_pairs::{Pairs, Prepared, Sets};
+use co_state::{RecordMap, Table, change_made, put_change, put_range, range_read};
+use std::alloc::{AllocError, Global};
+
+/// An engine that keeps versions. Each transaction reads the records as they were at its first operation, with
+/// its own writes laid over, and nobody is blocked.
+///
+/// A version is kept as long as an active transaction, or a new one, can read it.
+#[derive(Drop)]
+pub struct MvEngine {
+    archive: Archive,
+    sets: Table<Sets>,
+    nothing: Sets,
+}
+
+/// What an operation came to, with the pairs that it made.
+#[derive(Drop)]
+struct Operated {
+    seen: Seen,
+    pairs: Pairs,
+}
+
+/// What a transaction read and wrote, with one operation more.
+fn grown(sets: Sets, op: &Op) -> Result<Sets, AllocError>
+    ensures { IfOk result (λ grown. grown ≡ grown_by op.now sets) }
+{
+    let mut reads = sets.reads.into_vec();
+    let mut writes = sets.writes.into_vec();
+    if let Some(range) = range_read(op)? {
+        put_range(&mut reads, range)?;
+    }
+    if let Some(change) = change_made(op)? {
+        put_change(&mut writes, change)?;
+    }
+    Ok(Sets {
+        reads: Ranges::of(reads),
+        writes: Writes::of(writes),
+    })
+}
+
+/// Takes what a transaction read and wrote out of a table; nothing where it is absent.
+fn take(alloc: Global, sets: &mut Table<Sets>, t: Txn) -> Sets
+    ensures value { result ≡ or_nothing (look sets.old t) }
+    ensures rest { sets.new ≡ without sets.old t }
+{
+    match sets.remove(t) {
+        Some(own) => own,
+        None => Sets::new(alloc),
+    }
+}
+
+/// What the prepared transactions read and wrote.
+fn prepared_sets(alloc: Global, prepared: &[Prepared]) -> Result<Table<Sets>, AllocError>
+    ensures { IfOk result (λ sets. sets ≡ prepared_sets prepared.now) }
+{
+    let mut all = Table::new(alloc);
+    let mut place = prepared.len();
+    while 0 < place {
+        place -= 1;
+        let sets = prepared[place].sets.copy(alloc)?;
+        all.insert(prepared[place].txn, sets)?;
+    }
+    Ok(all)
+}
+
+/// The operation that writes a record, or takes it away where there is no value.
+fn writing(key: &Key, value: Option<&Value>) -> Result<Op, AllocError>
+    ensures { IfOk result (λ op. op ≡ writing key.now (option_copied value.entry)) }
+{
+    match value {
+        Some(value) => Ok(Op::Write(key.copy()?, value.copy()?)),
+        None => Ok(Op::Erase(key.copy()?)),
+    }
+}
+
+impl MvEngine {
+    /// How many versions of a key are kept. Takes no memory.
+    pub fn versions(&self, key: &Key) -> usize
+        ensures kept { result ≡ length (chain_of self.now.archive.chains key.now) }
+        ensures needed { (b : EngineState) → StandsFor self.now b → result ≡ length (kept_versions b key.now) }
+    {
+        self.archive.chains.len_of(key)
+    }
+
+    /// The value of the kept version of a key at a place, in the order of installation, or none where the record
+    /// was taken away. The place is below the count of versions. Takes no memory.
+    pub fn version_at(&self, key: &Key, place: usize) -> Option<&Value>
+        requires { place < length (chain_of self.now.archive.chains key.now) }
+        ensures { (b : EngineState) → StandsFor self.now b → slice_get (map (λ v. v.value) (kept_versions b key.now)) place ≡ Some (option_copied result) }
+    {
+        self.archive.chains.value_at(key, place)
+    }
+
+    /// The records of a range that the next operation of a transaction sees.
+    fn visible(&self, alloc: Global, t: Txn, range: &Range) -> Result<RecordMap, AllocError>
+        ensures { IfOk result (λ records. records ≡ visible_within self.now t range.now) }
+    {
+        let stamp = self.archive.snapshots.stamp_of(t);
+        let mut records = records_within(alloc, &self.archive.chains, range, stamp)?;
+        if let Some(own) = self.sets.get(t) {
+            lay_within(&mut records, own.writes(), range)?;
+        }
+        Ok(records)
+    }
+
+    /// What an operation answers.
+    fn reply(&self, alloc: Global, t: Txn, op: &Op) -> Result<Reply, AllocError>
+        ensures { (b : EngineState) → StandsFor self.now b → IsTrue (may_operate b t) → IfOk result (λ reply. reply ≡ operation_reply b t op.now) }
+    {
+        match range_read(op)? {
+            Some(range) => {
+                let mut records = self.visible(alloc, t, &range)?;
+                records.apply(alloc, op)
+            }
+            None => Ok(Reply::Done),
+        }
+    }
+
+    /// Adds an operation to its transaction and gives the pairs that it makes.
+    fn add(&mut self, alloc: Global, t: Txn, op: &Op) -> Result<Pairs, AllocError>
+        ensures state { (b : EngineState) → StandsFor self.old b → IsTrue (may_operate b t) → OnOk result (StandsFor self.new (with_operation b t op.now)) }
+        ensures pairs { (b : EngineState) → StandsFor self.old b → IsTrue (may_operate b t) → IfOk result (AreNewPairs b (with_operation b t op.now)) }
+    {
+        let own = take(alloc, &mut self.sets, t);
+        let pairs = pairs_made(alloc, &self.sets, t, &own, op)?;
+        let sets = grown(own, op)?;
+        self.archive.enter(t)?;
+        self.sets.insert(t, sets)?;
+        Ok(pairs)
+    }
+
+    /// Does an operation.
+    fn operate(&mut self, alloc: Global, t: Txn, op: &Op) -> Result<Operated, AllocError>
+        ensures seen { (b : EngineState) → StandsFor self.old b → IsTrue (may_operate b t) → IfOk result (λ operated. operated.seen ≡ seen_of b t op.now) }
+        ensures state { (b : EngineState) → StandsFor self.old b → IsTrue (may_operate b t) → OnOk result (StandsFor self.new (after_operation b t op.now)) }
+        ensures pairs { (b : EngineState) → StandsFor self.old b → IsTrue (may_operate b t) → IfOk result (λ operated. AreNewPairs b (after_operation b t op.now) operated.pairs) }
+    {
+        let reply = self.reply(alloc, t, op)?;
+        let pairs = self.add(alloc, t, op)?;
+        Ok(Operated {
+            seen: Seen::Answer(reply),
+            pairs,
+        })
+    }
+
+    /// Does an operation, and adds the pairs that it made.
+    fn serve(
+        &mut self,
+        alloc: Global,
+        t: Txn,
+        op: Op,
+        pairs: &mut Pairs,
+    ) -> Result<Seen, AllocError>
+        ensures seen { (b : EngineState) → StandsFor self.old b → IsTrue (may_operate b t) → IfOk result (λ seen. seen ≡ seen_of b t op) }
+        ensures state { (b : EngineState) → StandsFor self.old b → IsTrue (may_operate b t) → OnOk result (StandsFor self.new (after_operation b t op)) }
+        ensures pairs { (b : EngineState) → StandsFor self.old b → IsTrue (may_operate b t) → OnOk result (AppendsNewPairs b (after_operation b t op) pairs.old pairs.new) }
+        ensures kept { OnErr result (Appends pairs.old pairs.new) }
+    {
+        let operated = self.operate(alloc, t, &op)?;
+        append(pairs, &operated.pairs)?;
+        Ok(operated.seen)
+    }
+}
+
+impl Engine for MvEngine {
+    ghost takes = { λ kind. Mv ≡ kind };
+
+    ghost stands_for = { StandsFor };
+
+    fn restore(
+        alloc: Global,
+        kind: Kind,
+        rows: Rows,
+        voted: &[Prepared],
+    ) -> Result<Self, AllocError> {
+        let _ = kind;
+        Ok(MvEngine {
+            archive: Archive::of_rows(alloc, rows)?,
+            sets: prepared_sets(alloc, voted)?,
+            nothing: Sets::new(alloc),
+        })
+    }
+
+    fn read(
+        &mut self,
+        alloc: Global,
+        t: Txn,
+        key: &Key,
+        pairs: &mut Pairs,
+    ) -> Result<Seen, AllocError> {
+        let op = Op::Read(key.copy()?);
+        self.serve(alloc, t, op, pairs)
+    }
+
+    fn scan(
+        &mut self,
+        alloc: Global,
+        t: Txn,
+        range: &Range,
+        pairs: &mut Pairs,
+    ) -> Result<Seen, AllocError> {
+        let op = Op::Scan(range.copy()?);
+        self.serve(alloc, t, op, pairs)
+    }
+
+    fn write(
+        &mut self,
+        alloc: Global,
+        t: Txn,
+        key: &Key,
+        value: Option<&Value>,
+        pairs: &mut Pairs,
+    ) -> Result<Seen, AllocError> {
+        let op = writing(key, value)?;
+        self.serve(alloc, t, op, pairs)
+    }
+
+    fn sets(&self, t: Txn) -> &Sets {
+        match self.sets.get(t) {
+            Some(sets) => sets,
+            None => &self.nothing,
+        }
+    }
+
+    fn stale(&self, t: Txn) -> Option<&Key> {
+        match self.sets.get(t) {
+            Some(own) => least_written(
+                &self.archive.chains,
+                own.reads(),
+                self.archive.snapshots.stamp_of(t),
+            ),
+            None => None,
+        }
+    }
+
+    fn cast(&mut self, t: Txn) {
+        self.archive.leave(t);
+    }
+
+    fn install(&mut self, alloc: Global, t: Txn) -> Result<(), AllocError> {
+        match self.sets.remove(t) {
+            Some(sets) => self.archive.install(alloc, sets.writes()),
+            None => Ok(()),
+        }
+    }
+
+    fn drop_txn(&mut self, t: Txn) {
+        self.archive.leave(t);
+        let _ = self.sets.remove(t);
+    }
+
+    fn dump(&self, alloc: Global) -> Result<Dump, AllocError> {
+        let records = all_records(alloc, &self.archive.chains, self.archive.snapshots.installs)?;
+        Ok(Dump {
+            rows: records.rows(alloc)?,
+            undos: Writes::new(alloc),
+        })
+    }
+}

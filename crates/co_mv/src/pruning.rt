@@ -1,0 +1,40 @@
+//! Versions and installs that are forgotten, install after install.
+ghost use Rattle.std.specs.Prelude.{◌≡◌, ◌<◌, ◌≤◌, [], ℕ};
+ghost use Rattle.co_mv.specs.Versions.{is_kept};
+ghost use Rattle.co_mv.specs.Kept.{needed, IsPruned};
+ghost use Rattle.co_mv.specs.Recents.{keys_at};
+
+use crate::chains::Chains;
+use crate::recents::Recents;
+use crate::snapshots::Snapshots;
+
+/// Forgets the versions that are read no more, of the keys that were written by the installs after `from` and
+/// up to `to`. Takes no memory.
+pub fn prune_window(
+    chains: &mut Chains,
+    recents: &Recents,
+    from: u64,
+    to: u64,
+    snapshots: &Snapshots,
+)
+    ensures { IsPruned (is_kept (needed snapshots.now)) recents.now from to chains.old chains.new }
+{
+    let mut install = from;
+    while install < to {
+        install += 1;
+        chains.prune_all(recents.keys_at(install), snapshots);
+    }
+}
+
+/// Forgets what the installs after `from` and up to `to` wrote. Takes no memory.
+pub fn forget_window(recents: &mut Recents, from: u64, to: u64)
+    ensures later { (n : ℕ) → to < n → keys_at recents.new n ≡ keys_at recents.old n }
+    ensures gone { (n : ℕ) → from < n → n ≤ to → keys_at recents.new n ≡ [] }
+    ensures earlier { (n : ℕ) → n ≤ from → keys_at recents.new n ≡ keys_at recents.old n }
+{
+    let mut install = from;
+    while install < to {
+        install += 1;
+        recents.forget(install);
+    }
+}

@@ -1,0 +1,29 @@
+//! Versions of records.
+ghost use Rattle.std.specs.Prelude.{◌≡◌};
+ghost use Rattle.co_mv.specs.Versions.{sees};
+
+use co_base::Value;
+
+/// What a key held from one install to another one (Larson and others, VLDB 2012, on versions with the times
+/// of their begin and their end).
+#[derive(Debug, Drop)]
+pub struct Version {
+    /// The number of the install that wrote it; 0 for a record that was there before all installs.
+    pub written: u64,
+    /// The number of the install that wrote over it, if one did.
+    pub overwritten: Option<u64>,
+    /// The value; none where the record was taken away.
+    pub value: Option<Value>,
+}
+
+impl Version {
+    /// Whether it is the last write of its key among the first so many installs.
+    pub fn is_seen_at(&self, installs: u64) -> bool
+        ensures { result ≡ sees installs self.now }
+    {
+        match self.overwritten {
+            None => self.written <= installs,
+            Some(end) => self.written <= installs && installs < end,
+        }
+    }
+}
