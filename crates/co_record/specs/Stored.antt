@@ -1,5 +1,5 @@
 -- The records of a log text, each with its place, and what a walk over them has left.
-use Rattle.std.specs.Prelude.{◌≡◌, ℕ, ◌+◌, List, [], ◌∷◌, ◌++◌, length, Option, Some, None}
+use Rattle.std.specs.Prelude.{◌≡◌, ℕ, ◌+◌, ◌-◌, List, [], ◌∷◌, ◌++◌, length, Option, Some, None}
 use Rattle.co_frame.specs.LogText.{GateWalk, HasPassed, IsLogText}
 use Rattle.co_record.specs.declared.record.Record.{Record}
 use Rattle.co_record.specs.declared.view.RecordView.{RecordView}
@@ -46,3 +46,7 @@ pub record HasLeft (walk : RecordWalk) (items : List (ℕ × Record)) : Type 0 w
 abbrev pub Lends : Option (ℕ × RecordView) → RecordWalk → List (ℕ × Record) → Type 0
 Lends None new items = items ≡ []
 Lends (Some lent) new items = (more : List (ℕ × Record)) × (items ≡ (lent.0, record_of lent.1) ∷ more) × HasLeft new more
+
+-- how many bytes the walk has not read yet, at most
+abbrev pub unread : RecordWalk → ℕ
+unread walk = (length walk.gates.source - walk.gates.at) + length walk.rest

@@ -2,7 +2,9 @@
 ghost use Rattle.std.specs.Prelude.{◌≡◌, ℕ, ◌+◌, ◌<◌, ◌≤◌, List, [], length, IfSome, MatchOption};
 ghost use Rattle.co_frame.specs.LogText.{most_log_bytes};
 ghost use Rattle.co_record.specs.declared.record.Record.{Record};
-ghost use Rattle.co_record.specs.Stored.{RecordWalk, HasRecords, HasLeft, Lends};
+ghost use Rattle.co_record.specs.Lent.{record_of};
+ghost use Rattle.co_record.specs.Spelling.{IsSpelled};
+ghost use Rattle.co_record.specs.Stored.{RecordWalk, HasRecords, HasLeft, Lends, unread};
 
 use crate::read::read_record;
 use crate::view::RecordView;
@@ -37,6 +39,7 @@ fn next_bytes<'a>(batches: &mut Batches<'a>, at: usize, rest: &'a [u8]) -> Optio
     requires size { at + length rest.now ≤ most_log_bytes }
     ensures source { batches.new.source ≡ batches.old.source }
     ensures size { IfSome result (λ found. found.0 + length found.1.now ≤ most_log_bytes) }
+    ensures shorter { IfSome result (λ found. (0 < length found.1.now) × (unread (record { gates = batches.new; at = found.0; rest = found.1.now }) ≤ unread (record { gates = batches.old; at = at; rest = rest.now }))) }
     ensures left { (items : List (ℕ × Record)) → HasLeft (record { gates = batches.old; at = at; rest = rest.now }) items →
         MatchOption result (items ≡ []) (λ found. HasLeft (record { gates = batches.new; at = found.0; rest = found.1.now }) items × (0 < length found.1.now)) }
 {
@@ -64,9 +67,12 @@ impl<'a> Views<'a> {
         }
     }
 
-    /// Lends the next record and its place in the text. Takes no memory.
+    /// Lends the next record and its place in the text. Takes no memory. Each record leaves less to be read, so
+    /// a walk ends.
     pub fn next(&mut self) -> Option<(u32, RecordView<'a>)>
-        ensures { (items : List (ℕ × Record)) → HasLeft self.old items → Lends result self.new items }
+        ensures shorter { IfSome result (λ lent. unread self.new < unread self.old) }
+        ensures spelled { IfSome result (λ lent. IsSpelled (record_of lent.1)) }
+        ensures lends { (items : List (ℕ × Record)) → HasLeft self.old items → Lends result self.new items }
     {
         match next_bytes(&mut self.batches, self.at, self.rest) {
             None => None,

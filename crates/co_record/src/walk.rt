@@ -33,6 +33,13 @@ impl<'a> PairWalk<'a> {
         PairWalk { kind, left, bytes }
     }
 
+    /// Another walk over what is left. Takes no memory.
+    pub fn again(&self) -> PairWalk<'a>
+        ensures { result ≡ self.now }
+    {
+        PairWalk::new(self.kind, self.left, self.bytes)
+    }
+
     /// Lends the next pair. Takes no memory.
     #[tactic(auto, unfolding(crate::specs::Reading::elements))]
     pub fn next(&mut self) -> Option<(&'a [u8], &'a [u8])>
@@ -71,6 +78,13 @@ impl<'a> ChangeWalk<'a> {
         ensures { result ≡ elements change_at left bytes.now }
     {
         ChangeWalk { left, bytes }
+    }
+
+    /// Another walk over what is left. Takes no memory.
+    pub fn again(&self) -> ChangeWalk<'a>
+        ensures { result ≡ self.now }
+    {
+        ChangeWalk::new(self.left, self.bytes)
     }
 
     /// Lends the key and the value of the next change; no value is an erased or absent record. Takes no

@@ -1,0 +1,10 @@
+use Rattle.std.proofs.Common.{◌≡◌, ◌++◌, length}
+use Rattle.std.specs.List.{AllByRecursion}
+use Rattle.co_record.specs.Spelling.{IsChange}
+use Rattle.co_recover.proofs.owned.writes_of.Given as goal
+
+abbrev pub invariant-loop-key : goal.invariant-loop-key
+invariant-loop-key l = (l.writes ++ l.walk ≡ l.initial.walk) × AllByRecursion IsChange l.walk
+
+abbrev pub decreases-loop-key : goal.decreases-loop-key
+decreases-loop-key l = length l.walk

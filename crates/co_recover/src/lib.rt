@@ -1,0 +1,14 @@
+//! What the log of a node tells, read from its lent records.
+#![tactic(auto)]
+
+mod coord;
+mod fault;
+mod member;
+mod owned;
+mod past;
+mod vote;
+
+pub use coord::recover_coord;
+pub use fault::RecoverFault;
+pub use member::recover_member;
+pub use past::{Commits, CoordPast, Decided, MemberPast};
