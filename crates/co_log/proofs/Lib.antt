@@ -6,3 +6,4 @@ pub mod Logs
 pub mod Unmade
 pub mod Scans
 pub mod Attached
+pub mod Currents

@@ -1,5 +1,5 @@
 //! Gates that are closed.
-ghost use Rattle.std.specs.Prelude.{◌≡◌, ◌∷◌, [], ℕ, List, length, OnOk, OnErr, IfErr, IsErrOf, Some, true, false};
+ghost use Rattle.std.specs.Prelude.{◌≡◌, ◌≤◌, ◌∷◌, [], ℕ, List, length, OnOk, OnErr, IfErr, IsErrOf, Some, true, false};
 ghost use Rattle.co_outside.specs.Home.{File};
 ghost use Rattle.co_disk.specs.DiskModel.{read_of};
 ghost use Rattle.co_disk.specs.Homes.{Agrees, IsClean, RestStays, HasFailed};
@@ -24,7 +24,7 @@ pub(crate) fn close_unmade<H: Home>(disk: &mut Disk, home: &mut H) -> Result<(),
     ensures ends { OnOk result (EndsAt disk.new.state.stable 0 []) }
     ensures stable { OnOk result (disk.new.state.pending ≡ []) }
     ensures agrees { OnOk result (Agrees (H.file home.new disk.old.spot) (H.reach home.new disk.old.spot) (read_of disk.new.state)) }
-    ensures told { OnErr result ((f : File) → H.file home.new disk.old.spot ≡ Some f → IsLogText f.bytes []) }
+    ensures told { OnErr result ((f : File) → H.file home.new disk.old.spot ≡ Some f → length f.bytes ≤ 1) }
     ensures faults { IfErr result (IsOfDevice disk.old.spot) }
     ensures rest { RestStays H.file H.reach H.entered H.faults disk.old.spot home.old home.new }
     ensures device { IsErrOf result (LogFault.Device disk.old.spot) → HasFailed H.faults H.last_failed disk.old.spot home.old home.new }

@@ -3,7 +3,7 @@ ghost use Rattle.std.specs.Prelude.{◌≡◌, ◌⊎◌, OnOk, IfErr, IsErrOf};
 ghost use Rattle.co_outside.specs.declared.spot.Spot.{Spot};
 ghost use Rattle.co_disk.specs.DiskModel.{read_of};
 ghost use Rattle.co_disk.specs.Homes.{Agrees, RestStays, HasFailed};
-ghost use Rattle.co_log.specs.Rereading.{IsOfReread};
+ghost use Rattle.co_log.specs.Rereading.{IsOfReread, AreReread};
 
 use crate::fault::LogFault;
 use crate::log::Log;
@@ -52,7 +52,7 @@ impl Log {
         ensures spare { H.file home.new self.old.spare.spot ≡ H.file home.old self.old.spare.spot }
         ensures held { IsHeld H.file H.reach home.new self.new }
         ensures faults { IfErr result (λ e. IsOfReread (H.file home.old self.old.current.spot) self.old.current e ⊎ IsOfReread (H.file home.old self.old.spare.spot) self.old.spare e) }
-        ensures same { OnOk result (H.gives home.old self.old.current.spot 268435457 (read_of self.old.current.state)) }
+        ensures same { OnOk result (AreReread H.gives H.file H.reach H.entered H.faults self.old home.old home.new) }
         ensures device { (spot : Spot) → IsErrOf result (LogFault.Device spot) → HasFailed H.faults H.last_failed spot home.old home.new }
     {
         reread(&mut self.current, home)?;

@@ -23,13 +23,13 @@ impl Log {
     ghost use Rattle.co_disk.specs.Homes.{IsClean, RestStays, HasFailed};
     ghost use Rattle.co_record.specs.Gate.{begins_closed};
     ghost use Rattle.co_log.specs.Forcing.{IsDone, IsOfForce};
-    ghost use Rattle.co_log.specs.Appending.{IsTooLong};
-    ghost use Rattle.co_log.specs.LogFile.{OldOrBoth};
+    ghost use Rattle.co_log.specs.LogFile.{EndsAt, OldOrBoth};
     ghost use Rattle.co_log.specs.LogView.{IsHeld, IsLive, IsHeader};
-    ghost use Rattle.co_log.specs.Spare.{IsClosing, IsSpareImage, IsFilling, filling, turned};
+    ghost use Rattle.co_log.specs.Spare.{IsClosing, IsSpareImage, IsOverfull, IsFilling, filling, turned};
+    ghost use Rattle.co_log.specs.Current.{IsCurrentOf, IsOrdered, IsCurrentAfter};
 
     /// Closes the first gate of the spare file, in two device calls: it writes `00` there and syncs. The
-    /// current file is not touched.
+    /// current file is not touched, and whatever the answer is, it stays the current one.
     ///
     /// `Stopped` comes at the armed device call; `Device` only where the home failed.
     pub fn close_spare<H: Home>(&mut self, home: &mut H) -> Result<(), LogFault>
@@ -40,6 +40,7 @@ impl Log {
         ensures held { IsDone result → IsHeld H.file H.reach home.new self.new }
         ensures clean { IsDone result → IsClean (H.file home.new self.old.spare.spot) }
         ensures told { (f : File) → H.file home.new self.old.spare.spot ≡ Some f → IsSpareImage self.old.spare.state.stable f.bytes }
+        ensures current { (items : List (ℕ × Record)) → IsOrdered self.old items → (c s : File) → H.file home.new self.old.current.spot ≡ Some c → H.file home.new self.old.spare.spot ≡ Some s → IsCurrentOf self.old.node self.old.generation c.bytes s.bytes items }
         ensures faults { IfErr result (IsOfForce self.old.spare.spot) }
         ensures rest { RestStays H.file H.reach H.entered H.faults self.old.spare.spot home.old home.new }
         ensures device { IsErrOf result (LogFault.Device self.old.spare.spot) → HasFailed H.faults H.last_failed self.old.spare.spot home.old home.new }
@@ -72,8 +73,12 @@ impl Log {
     /// as one batch, in one log write. The file that was current is the spare then, and the waiting records
     /// are dropped.
     ///
-    /// `Full` comes, before any device call, where the file would have more than 268,435,456 bytes or the
-    /// generation is 4,294,967,295; `Stopped` at the armed device call; `Device` only where the home failed.
+    /// Whatever the answer is, the old file is current with its records, or the filled one with the new ones:
+    /// after Ok the filled one, and after a stop exactly where the image has its gate open.
+    ///
+    /// `Full` comes where the file would have more than 268,435,456 bytes or the generation is 4,294,967,295,
+    /// and changes nothing; `Stopped` at the armed device call; `Device` only where the home failed; `Memory`
+    /// before or in the first device call, and the spare has no batch then.
     pub fn fill_spare<H: Home>(&mut self, home: &mut H, items: &[Record]) -> Result<Mark, LogFault>
         requires held { IsHeld H.file H.reach home.old self.old }
         requires live { (items : List (ℕ × Record)) × IsLive self.old items }
@@ -85,8 +90,12 @@ impl Log {
         ensures filling { IsFilling self.old items.now self.new result }
         ensures held { IsDone result → IsHeld H.file H.reach home.new self.new }
         ensures clean { IsDone result → IsClean (H.file home.new self.old.spare.spot) }
-        ensures full { IsErrOf result (LogFault.Full self.old.spare.spot) → IsTooLong 0 (filling self.old items.now) ⊎ (self.old.generation ≡ 4294967295) }
+        ensures full { IsErrOf result (LogFault.Full self.old.spare.spot) → IsOverfull self.old items.now }
+        ensures overfull { IsOverfull self.old items.now → IsErrOf result (LogFault.Full self.old.spare.spot) ⊎ IsErrOf result LogFault.Memory }
+        ensures untouched { IsOverfull self.old items.now → (self.new ≡ self.old) × (home.new ≡ home.old) }
         ensures told { IsDone result ⊎ ((f : File) → H.file home.new self.old.spare.spot ≡ Some f → OldOrBoth f.bytes 0 [] (filling self.old items.now)) }
+        ensures memory { IsErrOf result LogFault.Memory → (f : File) → H.file home.new self.old.spare.spot ≡ Some f → EndsAt f.bytes 0 [] }
+        ensures current { (kept : List (ℕ × Record)) → IsOrdered self.old kept → (c s : File) → H.file home.new self.old.current.spot ≡ Some c → H.file home.new self.old.spare.spot ≡ Some s → IsCurrentAfter self.old kept items.now c.bytes s.bytes result }
         ensures faults { IfErr result (IsOfForce self.old.spare.spot) }
         ensures rest { RestStays H.file H.reach H.entered H.faults self.old.spare.spot home.old home.new }
         ensures device { IsErrOf result (LogFault.Device self.old.spare.spot) → HasFailed H.faults H.last_failed self.old.spare.spot home.old home.new }
@@ -107,8 +116,15 @@ impl Log {
             number: next_generation,
         };
         let told = one_mark(self.alloc, mark)?;
-        let stop = self.stop.take();
-        let ending = append(self.alloc, &mut self.spare, home, 0, &header, items, stop)?;
+        let ending = append(
+            self.alloc,
+            &mut self.spare,
+            home,
+            0,
+            &header,
+            items,
+            &mut self.stop,
+        )?;
         self.waiting.clear();
         match ending {
             Ending::Whole { next } => {
