@@ -7,3 +7,5 @@ pub mod Unmade
 pub mod Scans
 pub mod Attached
 pub mod Currents
+pub mod Ordered
+pub mod Short

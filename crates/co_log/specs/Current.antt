@@ -1,5 +1,6 @@
 -- Which of the two files of a node is the current one, and with which records.
 use Rattle.std.specs.Prelude.{ℕ, ◌+◌, ◌≡◌, ◌⊎◌, Bool, true, false, List, [], ◌∷◌, Result, Ok, Err}
+use Rattle.co_base.specs.Nodes.{IsValidNode}
 use Rattle.co_base.specs.declared.mark.Mark.{Mark}
 use Rattle.co_base.specs.declared.node.Node.{Node}
 use Rattle.co_record.specs.declared.record.Record.{Record}
@@ -24,10 +25,12 @@ pub record IsCurrentOf (node : Node) (generation : ℕ) (current spare : List �
   pub header : BeginsWith node generation items
   pub older : IsOlder node spare generation
 
--- The log stands for these records, and its files are so.
+-- The log stands for these records, its files are so, and nothing pends in the spare either.
 pub record IsOrdered (log : LogView) (items : List (ℕ × Record)) : Type 0 where
+  pub valid : IsValidNode log.node
   pub live : IsLive log items
   pub header : BeginsWith log.node log.generation items
+  pub still : log.spare.state.pending ≡ []
   pub older : IsOlder log.node log.spare.state.stable log.generation
 
 -- the old file is still the current one, with its records

@@ -1,5 +1,5 @@
-//! Logs that are read again after a crash.
-ghost use Rattle.std.specs.Prelude.{◌≡◌, ◌⊎◌, OnOk, IfErr, IsErrOf};
+//! Crashes between events, and logs that are read again.
+ghost use Rattle.std.specs.Prelude.{◌≡◌, ◌⊎◌, [], None, OnOk, IfErr, IsErrOf, IsOk};
 ghost use Rattle.co_outside.specs.declared.spot.Spot.{Spot};
 ghost use Rattle.co_disk.specs.DiskModel.{read_of};
 ghost use Rattle.co_disk.specs.Homes.{Agrees, RestStays, HasFailed};
@@ -57,6 +57,21 @@ impl Log {
     {
         reread(&mut self.current, home)?;
         reread(&mut self.spare, home)?;
+        Ok(())
+    }
+
+    /// A crash between events: the waiting records and the armed stop are lost. It makes no call of the
+    /// home, since nothing pends between events.
+    pub fn cut<H: Home>(&mut self, _home: &mut H) -> Result<(), LogFault>
+        requires held { IsHeld H.file H.reach _home.old self.old }
+        requires still { (self.old.current.state.pending ≡ []) × (self.old.spare.state.pending ≡ []) }
+        ensures log { self.new ≡ record self.old { waiting = []; stop = None } }
+        ensures home { _home.new ≡ _home.old }
+        ensures held { IsHeld H.file H.reach _home.new self.new }
+        ensures ok { IsOk result }
+    {
+        self.waiting.clear();
+        self.stop = None;
         Ok(())
     }
 }

@@ -1,0 +1,4 @@
+-- Short lists are in order.
+use Rattle.co_record.proofs.Short.{none_sorted, one_sorted, two_sorted}
+
+pub ruleset short_lists = (none_sorted, one_sorted, two_sorted)
