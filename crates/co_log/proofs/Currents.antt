@@ -1,6 +1,7 @@
 -- Which file is current, and with which records.
 use Rattle.std.proofs.Common.{◌≡◌, ◌⊎◌, ℕ, ◌+◌, ◌<◌, ◌≤◌, Bool, true, false, List, [], ◌∷◌, length, refl, sym, ap, subst, ◌∙◌, arith, inl, inr}
-use Rattle.std.specs.Prelude.{Option, Some, Err}
+use Rattle.std.specs.Prelude.{Option, Some, Result, Ok, Err}
+use Rattle.std.specs.Result.{IsErrAnd}
 use Rattle.co_base.specs.declared.mark.Mark.{Mark}
 use Rattle.co_base.specs.declared.node.Node.{Node}
 use Rattle.co_outside.specs.Home.{File}
@@ -102,3 +103,18 @@ pub closing_current : {H : Type 0} (file : H → Spot → Option File) (reach : 
     → (items : List (ℕ × Record)) → IsOrdered log items → (c s : File) → file new log.current.spot ≡ Some c → file new log.spare.spot ≡ Some s → IsOldCurrent log items c.bytes s.bytes
 closing_current file reach entered faults old new log spot held its rest told items o c s told_c told_s =
     old_current log items c.bytes s.bytes o (current_told file reach entered faults old new log spot c held o.live.still its rest told_c) (image_older log.node log.spare.state.stable s.bytes log.generation o.older (told s told_s))
+
+-- a result that is known to be this fault
+pub err_is : {A : Type 0} (r : Result A LogFault) (x : LogFault) → IsErrAnd r (λ e. e ≡ x) → r ≡ Err x
+err_is (Ok y) x is = absurd is
+err_is (Err e) x is = ap Err is
+
+-- which file is current after a filling that met a fault
+pub faulted_current : {H : Type 0} (file : H → Spot → Option File) (reach : H → Spot → ℕ) (entered : H → Option (List ℕ)) (faults : H → ℕ) (old new : H) (log : LogView) (more : List Record) (e : LogFault) → IsHeld file reach old log → log.spare.state.pending ≡ []
+    → begins_closed log.spare.state.stable ≡ true → RestStays file reach entered faults log.spare.spot old new → IsOfAppend log.spare.spot e → ((f : File) → file new log.spare.spot ≡ Some f → OldOrBoth f.bytes 0 [] (filling log more))
+    → (e ≡ Full log.spare.spot → new ≡ old) → (e ≡ Memory → (f : File) → file new log.spare.spot ≡ Some f → EndsAt f.bytes 0 [])
+    → (items : List (ℕ × Record)) → IsOrdered log items → (c s : File) → file new log.current.spot ≡ Some c → file new log.spare.spot ≡ Some s → IsCurrentAfter log items more c.bytes s.bytes (Err e)
+faulted_current file reach entered faults old new log more e held still closed rest of either full early items o c s told_c told_s =
+    current_fault log items more c.bytes s.bytes log.spare.spot e of o (current_told file reach entered faults old new log log.spare.spot c held o.live.still refl rest told_c) (either s told_s)
+    (λ is. closed_file log.spare.state s.bytes still closed (held.spare.told s (subst (λ (h : H). file h log.spare.spot ≡ Some s) (full is) told_s)))
+    (λ is. early is s told_s)

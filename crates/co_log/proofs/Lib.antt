@@ -9,3 +9,4 @@ pub mod Attached
 pub mod Currents
 pub mod Ordered
 pub mod Short
+pub mod Once

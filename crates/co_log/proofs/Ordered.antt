@@ -1,9 +1,11 @@
 -- Logs whose files are in order stay so.
 use Rattle.std.proofs.Common.{◌≡◌, ◌⊎◌, ℕ, ◌+◌, ◌<◌, Bool, true, false, List, [], ◌∷◌, ◌++◌, refl, sym, ap, subst, ◌∙◌, arith, inl, inr}
-use Rattle.std.specs.Prelude.{Some, Result, Ok, Err, OnOk}
+use Rattle.std.specs.Prelude.{◌==◌, Option, Some, Result, Ok, Err}
 use Rattle.co_base.specs.Nodes.{IsValidNode}
 use Rattle.co_base.specs.declared.mark.Mark.{Mark}
 use Rattle.co_base.specs.declared.node.Node.{Node}
+use Rattle.co_outside.specs.Home.{File}
+use Rattle.co_outside.specs.declared.spot.Spot.{Spot}
 use Rattle.co_disk.specs.DiskView.{DiskView}
 use Rattle.co_record.specs.declared.record.Record.{Record}
 use Rattle.co_record.specs.declared.record.Record.TheVariants.{Header}
@@ -11,12 +13,12 @@ use Rattle.co_log.specs.declared.fault.LogFault.{LogFault}
 use Rattle.co_log.specs.declared.fault.LogFault.TheVariants.{Device, Stopped, Bad, Differs, Full, InUse, Memory}
 use Rattle.co_frame.specs.LogText.{IsLogText}
 use Rattle.co_record.specs.Gate.{closes_spare}
-use Rattle.co_log.specs.Attaching.{built, IsOlder, IsAttached, IsCurrent}
-use Rattle.co_log.specs.Current.{BeginsWith, IsOrdered}
+use Rattle.co_log.specs.Attaching.{built, spot_of, IsToldAs, IsOlder, IsAttached, IsCurrent}
+use Rattle.co_log.specs.Current.{BeginsWith, IsOrdered, IsReady}
 use Rattle.co_log.specs.Forcing.{IsWritten, IsForced, IsDone}
 use Rattle.co_log.specs.Fresh.{IsFresh, IsMade, header_alone}
 use Rattle.co_log.specs.LogFile.{next_items, placed_from, EndsAt}
-use Rattle.co_log.specs.LogView.{LogView, IsLive}
+use Rattle.co_log.specs.LogView.{LogView, IsLive, IsHeld}
 use Rattle.co_log.specs.Spare.{IsClosed, IsClosing, IsFilled, IsUnfilled, IsFilledIf, IsFilling, filling}
 use Rattle.co_log.proofs.Attached.{behind_front}
 use Rattle.co_log.proofs.Currents.{log_file, none_older, image_older}
@@ -152,3 +154,54 @@ attached_ordered node a b log valid still_a still_b attached = elim attached [
   | inl fresh ↦ inl (subst (λ (l : LogView). IsFresh l × IsValidNode l.node) (sym fresh.0) (record { unmade = refl; still = still_a; spare_still = still_b; none = fresh.1; spare_none = fresh.2 }, valid))
   | inr live ↦ inr (elim live [ inl one ↦ current_ordered node a b log valid still_a still_b one | inr other ↦ current_ordered node b a log valid still_b still_a other ])
 ]
+
+-- ---- logs and their homes
+
+abbrev pub IsFound : LogView → Type 0
+IsFound log = (IsFresh log × IsValidNode log.node) ⊎ ((items : List (ℕ × Record)) × IsOrdered log items)
+
+pub found : (node : Node) (file_a file_b : Option File) (log : LogView) → IsValidNode node → ((a : DiskView) × (b : DiskView) × IsToldAs (spot_of node 0) file_a a × IsToldAs (spot_of node 1) file_b b × IsAttached node a b log) → IsFound log
+found node file_a file_b log valid told = attached_ordered node told.0 told.1 log valid told.2.still told.3.still told.4
+
+-- a log of which no file has a batch is fresh
+pub found_fresh : (log : LogView) → IsFound log → (log.gate == 0) ≡ true → IsFresh log × IsValidNode log.node
+found_fresh log is none = elim is [
+  | inl fresh ↦ fresh
+  | inr one ↦ absurd (let e : log.gate ≡ 0 = grind arith in omega (arith, one.1.live.made, e))
+]
+
+-- and any other stands for records
+pub found_ordered : (log : LogView) → IsFound log → (log.gate == 0) ≡ false → (items : List (ℕ × Record)) × IsOrdered log items
+found_ordered log is some = elim is [
+  | inl fresh ↦ absurd (let e : (log.gate == 0) ≡ true = ap (λ (n : ℕ). n == 0) fresh.0.unmade in cc)
+  | inr one ↦ one
+]
+
+pub ready_made : {H : Type 0} (file : H → Spot → Option File) (reach : H → Spot → ℕ) (home : H) (log after : LogView) → IsFresh log × IsValidNode log.node → IsMade log after → IsHeld file reach home after → IsReady file reach home after
+ready_made file reach home log after fresh made held = record { held = held; items = header_alone log.node; ordered = made_ordered log after fresh.0 fresh.1 made }
+
+pub ready_forced : {H : Type 0} (file : H → Spot → Option File) (reach : H → Spot → ℕ) (home : H) (log after : LogView) (items : List (ℕ × Record)) (more : List Record) (result : Result (List Mark) LogFault) → IsOrdered log items → IsForced log items more after result → IsDone result
+    → IsHeld file reach home after → IsReady file reach home after
+ready_forced file reach home log after items more result o f done held = let it = forced_ordered log after items more result o f done in record { held = held; items = it.0; ordered = it.1 }
+
+pub ready_closed : {H : Type 0} (file : H → Spot → Option File) (reach : H → Spot → ℕ) (home : H) (log after : LogView) (items : List (ℕ × Record)) (result : Result (Unit {0}) LogFault) → IsOrdered log items → IsClosing log after result → IsDone result → IsHeld file reach home after → IsReady file reach home after
+ready_closed file reach home log after items result o f done held = record { held = held; items = items; ordered = closing_ordered log after items result o f done }
+
+pub ready_filled : {H : Type 0} (file : H → Spot → Option File) (reach : H → Spot → ℕ) (home : H) (log after : LogView) (items : List (ℕ × Record)) (more : List Record) (result : Result Mark LogFault) → IsOrdered log items → IsFilling log more after result → IsDone result → IsHeld file reach home after
+    → IsReady file reach home after
+ready_filled file reach home log after items more result o f done held = let it = filling_ordered log after items more result o f done in record { held = held; items = it.0; ordered = it.1 }
+
+-- a log that keeps its disks, its gate and its generation
+pub ready_kept : {H : Type 0} (file : H → Spot → Option File) (reach : H → Spot → ℕ) (old home : H) (log after : LogView) → IsReady file reach old log → after.node ≡ log.node → after.current ≡ log.current → after.spare ≡ log.spare → after.gate ≡ log.gate → after.generation ≡ log.generation
+    → IsHeld file reach home after → IsReady file reach home after
+ready_kept file reach old home log after r node current spare gate generation held = record {
+  held = held;
+  items = r.items;
+  ordered = record {
+    valid = subst IsValidNode (sym node) r.ordered.valid;
+    live = live_moved log after r.items current gate r.ordered.live;
+    header = moved log after r.items node generation r.ordered.header;
+    still = subst (λ (d : DiskView). d.state.pending ≡ []) (sym spare) r.ordered.still;
+    older = older_moved log after after.spare.state.stable node generation (subst (λ (d : DiskView). IsOlder log.node d.state.stable log.generation) (sym spare) r.ordered.older);
+  };
+}

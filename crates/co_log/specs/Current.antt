@@ -1,15 +1,17 @@
 -- Which of the two files of a node is the current one, and with which records.
-use Rattle.std.specs.Prelude.{ℕ, ◌+◌, ◌≡◌, ◌⊎◌, Bool, true, false, List, [], ◌∷◌, Result, Ok, Err}
+use Rattle.std.specs.Prelude.{ℕ, ◌+◌, ◌≡◌, ◌⊎◌, Bool, true, false, List, [], ◌∷◌, Option, Result, Ok, Err}
 use Rattle.co_base.specs.Nodes.{IsValidNode}
 use Rattle.co_base.specs.declared.mark.Mark.{Mark}
 use Rattle.co_base.specs.declared.node.Node.{Node}
+use Rattle.co_outside.specs.Home.{File}
+use Rattle.co_outside.specs.declared.spot.Spot.{Spot}
 use Rattle.co_record.specs.declared.record.Record.{Record}
 use Rattle.co_record.specs.declared.record.Record.TheVariants.{Header}
 use Rattle.co_log.specs.declared.fault.LogFault.{LogFault}
 use Rattle.co_log.specs.declared.fault.LogFault.TheVariants.{Device, Stopped, Bad, Differs, Full, InUse, Memory}
 use Rattle.co_log.specs.Attaching.{IsOlder}
 use Rattle.co_log.specs.LogFile.{placed_from, EndsAt}
-use Rattle.co_log.specs.LogView.{LogView, IsLive}
+use Rattle.co_log.specs.LogView.{LogView, IsLive, IsHeld}
 use Rattle.co_log.specs.Spare.{filling}
 
 -- the first record is a header of the node with this generation
@@ -32,6 +34,12 @@ pub record IsOrdered (log : LogView) (items : List (ℕ × Record)) : Type 0 whe
   pub header : BeginsWith log.node log.generation items
   pub still : log.spare.state.pending ≡ []
   pub older : IsOlder log.node log.spare.state.stable log.generation
+
+-- The log is in order with some records, and the home's files are its files.
+pub record IsReady {H : Type 0} (file : H → Spot → Option File) (reach : H → Spot → ℕ) (home : H) (log : LogView) : Type 0 where
+  pub held : IsHeld file reach home log
+  pub items : List (ℕ × Record)
+  pub ordered : IsOrdered log items
 
 -- the old file is still the current one, with its records
 abbrev pub IsOldCurrent : LogView → List (ℕ × Record) → List ℕ → List ℕ → Type 0

@@ -120,6 +120,7 @@ pub(crate) fn append<H: Home>(
     ensures spot { disk.new.spot ≡ disk.old.spot }
     ensures ended { (kept : List (ℕ × Record)) → EndsAt disk.old.state.stable gate kept → IfOk result (λ e. IsEnding e stop.old disk.new gate kept (front.now ++ back.now)) }
     ensures disarmed { OnOk result (stop.new ≡ None) }
+    ensures stop { IfSome stop.new (λ s. (1 ≤ s.call) × (s.call ≤ 4)) }
     ensures stable { OnOk result (disk.new.state.pending ≡ []) }
     ensures agrees { OnOk result (Agrees (H.file home.new disk.old.spot) (H.reach home.new disk.old.spot) (read_of disk.new.state)) }
     ensures clean { OnOk result (IsClean (H.file home.new disk.old.spot)) }

@@ -9,11 +9,11 @@ ghost use Rattle.co_record.specs.Spelling.{IsSpelled};
 ghost use Rattle.co_record.specs.Stored.{HasRecords};
 ghost use Rattle.co_base.specs.declared.node.Node.{Node};
 ghost use Rattle.co_disk.specs.DiskView.{DiskView};
-ghost use Rattle.co_log.specs.Attaching.{IsAttached};
+ghost use Rattle.co_log.specs.Attaching.{built, IsAttached};
 ghost use Rattle.co_base.specs.Nodes.{IsValidNode};
 ghost use Rattle.co_base.specs.declared.mark.Mark.{Mark};
 ghost use Rattle.co_log.specs.declared.fault.LogFault.{LogFault};
-ghost use Rattle.co_log.specs.Current.{IsOrdered};
+ghost use Rattle.co_log.specs.Current.{IsCurrentOf, IsOrdered};
 ghost use Rattle.co_log.specs.Forcing.{IsForced, IsDone};
 ghost use Rattle.co_log.specs.Fresh.{IsFresh, IsMade, header_alone};
 ghost use Rattle.co_log.specs.Spare.{IsClosing, IsFilling};
@@ -63,4 +63,13 @@ pub fn files_stay_in_order()
         IsClosing log after result → IsDone result → IsOrdered after items }
     ensures filled { (log after : LogView) (items : List (ℕ × Record)) (more : List Record) (result : Result Mark LogFault) → IsOrdered log items →
         IsFilling log more after result → IsDone result → (later : List (ℕ × Record)) × IsOrdered after later }
+{}
+
+/// A start over two files of which one is current attaches that one as the current file, with its generation
+/// and its records.
+pub fn starts_find_the_current_file()
+    ensures part_a { (node : Node) (a b : DiskView) (log : LogView) (generation : ℕ) (items : List (ℕ × Record)) (current : IsCurrentOf node generation a.state.stable b.state.stable items) →
+        IsAttached node a b log → log ≡ built node a b current.gate generation }
+    ensures part_b { (node : Node) (a b : DiskView) (log : LogView) (generation : ℕ) (items : List (ℕ × Record)) (current : IsCurrentOf node generation b.state.stable a.state.stable items) →
+        IsAttached node a b log → log ≡ built node b a current.gate generation }
 {}

@@ -1,13 +1,12 @@
 //! Made logs over a home in memory, as tests use them.
-ghost use Rattle.std.specs.Prelude.{◌≡◌, ◌+◌, ℕ, List, length, IfOk, OnOk};
+ghost use Rattle.std.specs.Prelude.{length, IfOk, IfSome, OnOk};
 ghost use Rattle.std.specs.List.{AllByRecursion};
 ghost use Rattle.std.specs.Prelude.{All};
 ghost use Rattle.co_base.specs.Nodes.{IsValidNode};
 ghost use Rattle.co_outside.specs.HomeMemory.{memory_file, memory_bytes};
-ghost use Rattle.co_record.specs.declared.record.Record.{Record};
 ghost use Rattle.co_record.specs.Spelling.{IsWritable};
-ghost use Rattle.co_log.specs.LogView.{IsHeld, IsHeader};
-ghost use Rattle.co_log.specs.Current.{IsOrdered};
+ghost use Rattle.co_log.specs.LogView.{IsHeader};
+ghost use Rattle.co_log.specs.Current.{IsReady};
 
 use crate::{Log, LogFault};
 use co_base::{Bytes, Key, Leaves, Mark, Marks, Node, Range, Ranges, Row, Rows, Txn, Txns, Value, Writes, Written};
@@ -21,8 +20,6 @@ use std::test::Fail;
 pub(crate) struct Run {
     pub(crate) home: HomeMemory,
     pub(crate) log: Log,
-    ghost held: { IsHeld memory_file (λ h s. length (memory_bytes h s)) home log },
-    ghost ordered: { (items : List (ℕ × Record)) × IsOrdered log items },
 }
 
 /// How a log write ended that met no fault.
@@ -80,14 +77,15 @@ impl Run {
     /// Makes the log of a node over files that were never used. `InUse` comes where one was.
     pub(crate) fn made(alloc: Global, home: HomeMemory, node: Node) -> Result<Run, LogFault>
         requires { IsValidNode node }
+        ensures ready { IfOk result (λ r. IsReady memory_file (λ h s. length (memory_bytes h s)) r.home r.log) }
     {
         let mut home = home;
         let mut log = Log::attach(alloc, &mut home, node, false)?;
-        if !log.fresh() {
-            return Err(LogFault::InUse { spot: log.spot() });
+        if log.fresh() {
+            log.make(&mut home)?;
+            return Ok(Run { home, log });
         }
-        log.make(&mut home)?;
-        Ok(Run { home, log })
+        Err(LogFault::InUse { spot: log.spot() })
     }
 
     /// Attaches the log of a node anew over the files that were left, where it was made.
@@ -97,6 +95,7 @@ impl Run {
         node: Node,
     ) -> Result<Option<Run>, LogFault>
         requires { IsValidNode node }
+        ensures ready { IfOk result (λ o. IfSome o (λ r. IsReady memory_file (λ h s. length (memory_bytes h s)) r.home r.log)) }
     {
         let mut home = home;
         let log = Log::attach(alloc, &mut home, node, true)?;
@@ -107,108 +106,109 @@ impl Run {
     }
 
     /// Keeps a record waiting.
-    pub(crate) fn later(self, item: Record) -> Result<Run, LogFault>
+    pub(crate) fn later(&mut self, item: Record) -> Result<(), LogFault>
+        requires ready { IsReady memory_file (λ h s. length (memory_bytes h s)) self.old.home self.old.log }
         requires writable { IsWritable item }
         requires header { IsHeader item → ⊥ }
+        ensures ready { OnOk result (IsReady memory_file (λ h s. length (memory_bytes h s)) self.new.home self.new.log) }
     {
-        let Run { home, mut log } = self;
-        log.later(item)?;
-        Ok(Run { home, log })
+        self.log.later(item)?;
+        Ok(())
     }
 
     /// Arms the next log write, where there is such a device call.
-    pub(crate) fn arm(self, call: u8, leaves: Leaves) -> Run {
-        let Run { home, mut log } = self;
+    pub(crate) fn arm(&mut self, call: u8, leaves: Leaves)
+        requires ready { IsReady memory_file (λ h s. length (memory_bytes h s)) self.old.home self.old.log }
+        ensures ready { IsReady memory_file (λ h s. length (memory_bytes h s)) self.new.home self.new.log }
+    {
         if 1 <= call && call <= 4 {
-            log.arm(call, leaves);
+            self.log.arm(call, leaves);
         }
-        Run { home, log }
     }
 
     /// Appends a batch.
-    pub(crate) fn force(self, item: Record) -> Result<(Run, Ended), LogFault>
+    pub(crate) fn force(&mut self, item: Record) -> Result<Ended, LogFault>
+        requires ready { IsReady memory_file (λ h s. length (memory_bytes h s)) self.old.home self.old.log }
         requires writable { IsWritable item }
         requires header { IsHeader item → ⊥ }
+        ensures ready { OnOk result (IsReady memory_file (λ h s. length (memory_bytes h s)) self.new.home self.new.log) }
     {
-        let Run { mut home, mut log } = self;
-        match log.force(&mut home, item) {
-            Ok(marks) => Ok((Run { home, log }, Ended::Whole(marks))),
+        match self.log.force(&mut self.home, item) {
+            Ok(marks) => Ok(Ended::Whole(marks)),
             Err(LogFault::Stopped {
                 call,
                 stable,
                 marks,
-            }) => Ok((
-                Run { home, log },
-                Ended::Stopped {
-                    call,
-                    stable,
-                    marks,
-                },
-            )),
+            }) => Ok(Ended::Stopped {
+                call,
+                stable,
+                marks,
+            }),
             Err(fault) => Err(fault),
         }
     }
 
     /// Closes the spare, where it is not closed.
-    pub(crate) fn close(self, alloc: Global) -> Result<(Run, Ended), LogFault> {
-        let Run { mut home, mut log } = self;
-        if log.spare_closed() {
-            return Ok((Run { home, log }, Ended::Nothing));
+    pub(crate) fn close(&mut self, alloc: Global) -> Result<Ended, LogFault>
+        requires ready { IsReady memory_file (λ h s. length (memory_bytes h s)) self.old.home self.old.log }
+        ensures ready { OnOk result (IsReady memory_file (λ h s. length (memory_bytes h s)) self.new.home self.new.log) }
+    {
+        if self.log.spare_closed() {
+            return Ok(Ended::Nothing);
         }
-        match log.close_spare(&mut home) {
-            Ok(()) => Ok((Run { home, log }, Ended::Whole(Marks::new(alloc)))),
+        match self.log.close_spare(&mut self.home) {
+            Ok(()) => Ok(Ended::Whole(Marks::new(alloc))),
             Err(LogFault::Stopped {
                 call,
                 stable,
                 marks,
-            }) => Ok((
-                Run { home, log },
-                Ended::Stopped {
-                    call,
-                    stable,
-                    marks,
-                },
-            )),
+            }) => Ok(Ended::Stopped {
+                call,
+                stable,
+                marks,
+            }),
             Err(fault) => Err(fault),
         }
     }
 
     /// Fills the spare, where it is closed.
-    pub(crate) fn fill(self, alloc: Global, items: &[Record]) -> Result<(Run, Ended), LogFault>
+    pub(crate) fn fill(&mut self, alloc: Global, items: &[Record]) -> Result<Ended, LogFault>
+        requires ready { IsReady memory_file (λ h s. length (memory_bytes h s)) self.old.home self.old.log }
         requires writable { AllByRecursion IsWritable items.now }
         requires headers { All (λ item. IsHeader item → ⊥) items.now }
+        ensures ready { OnOk result (IsReady memory_file (λ h s. length (memory_bytes h s)) self.new.home self.new.log) }
     {
-        let Run { mut home, mut log } = self;
-        if !log.spare_closed() {
-            return Ok((Run { home, log }, Ended::Nothing));
-        }
-        match log.fill_spare(&mut home, items) {
-            Ok(mark) => Ok((Run { home, log }, Ended::Whole(one(alloc, mark)?))),
-            Err(LogFault::Stopped {
-                call,
-                stable,
-                marks,
-            }) => Ok((
-                Run { home, log },
-                Ended::Stopped {
+        if self.log.spare_closed() {
+            return match self.log.fill_spare(&mut self.home, items) {
+                Ok(mark) => Ok(Ended::Whole(one(alloc, mark)?)),
+                Err(LogFault::Stopped {
                     call,
                     stable,
                     marks,
-                },
-            )),
-            Err(fault) => Err(fault),
+                }) => Ok(Ended::Stopped {
+                    call,
+                    stable,
+                    marks,
+                }),
+                Err(fault) => Err(fault),
+            };
         }
+        Ok(Ended::Nothing)
     }
 
     /// Reads both files again.
-    pub(crate) fn reattach(self) -> Result<Run, LogFault> {
-        let Run { mut home, mut log } = self;
-        log.reattach(&mut home)?;
-        Ok(Run { home, log })
+    pub(crate) fn reattach(&mut self) -> Result<(), LogFault>
+        requires ready { IsReady memory_file (λ h s. length (memory_bytes h s)) self.old.home self.old.log }
+        ensures ready { OnOk result (IsReady memory_file (λ h s. length (memory_bytes h s)) self.new.home self.new.log) }
+    {
+        self.log.reattach(&mut self.home)?;
+        Ok(())
     }
 
     /// The records of the current file.
-    pub(crate) fn records(&self, alloc: Global) -> Result<Vec<Placed>, Fail> {
+    pub(crate) fn records(&self, alloc: Global) -> Result<Vec<Placed>, Fail>
+        requires ready { IsReady memory_file (λ h s. length (memory_bytes h s)) self.now.home self.now.log }
+    {
         let mut placed = Vec::new(alloc);
         let mut views = self.log.views();
         for _turn in 0..16 {

@@ -1,5 +1,7 @@
 //! Logs over a home in memory: the bytes of whole files, and what stops leave.
-ghost use Rattle.co_base.specs.Nodes.{IsValidNode};
+ghost use Rattle.std.specs.Prelude.{length, IfOk};
+ghost use Rattle.co_outside.specs.HomeMemory.{memory_file, memory_bytes};
+ghost use Rattle.co_log.specs.Current.{IsReady};
 
 use crate::test_run::{
     Ended, Placed, Run, Seen, checkpoint_a, commit_of, commit_of_two, leaves_at, one, prepare_a, prepare_x,
@@ -113,17 +115,22 @@ fn mark(node: Node, kind: MarkKind, number: u32) -> Mark {
 }
 
 /// The log of a member that voted for transaction 1.
-fn voted(alloc: Global) -> Result<Run, Fail> {
-    let run = Run::made(alloc, empty_home(alloc), M1)?;
-    let (run, _) = run.force(prepare_x(alloc, 1, b"1")?)?;
+fn voted(alloc: Global) -> Result<Run, Fail>
+    ensures ready { IfOk result (λ r. IsReady memory_file (λ h s. length (memory_bytes h s)) r.home r.log) }
+{
+    let mut run = Run::made(alloc, empty_home(alloc), M1)?;
+    run.force(prepare_x(alloc, 1, b"1")?)?;
     Ok(run)
 }
 
 /// The log is what is wanted after a stop: its files are what it keeps of them, and a start over them finds
 /// the same records.
-fn is_left(rt: &HostRuntime, run: Run, wanted: &[Placed]) -> Result<bool, Fail> {
+fn is_left(rt: &HostRuntime, run: Run, wanted: &[Placed]) -> Result<bool, Fail>
+    requires ready { IsReady memory_file (λ h s. length (memory_bytes h s)) run.home run.log }
+{
     let alloc = rt.alloc();
-    let run = run.reattach()?;
+    let mut run = run;
+    run.reattach()?;
     let kept = run.records(alloc)?;
     let Run { home, .. } = run;
     match Run::restarted(alloc, home, M1)? {
@@ -138,15 +145,15 @@ fn is_left(rt: &HostRuntime, run: Run, wanted: &[Placed]) -> Result<bool, Fail> 
 #[test]
 fn the_log_of_a_member_has_its_bytes(rt: HostRuntime) -> Result<(), Fail> {
     let alloc = rt.alloc();
-    let run = Run::made(alloc, empty_home(alloc), M1)?;
-    let (run, _) = run.force(prepare_a(alloc)?)?;
-    let (run, told) = run.force(commit_of(alloc, 1))?;
+    let mut run = Run::made(alloc, empty_home(alloc), M1)?;
+    run.force(prepare_a(alloc)?)?;
+    let told = run.force(commit_of(alloc, 1))?;
     assert!(rt; told == Ended::Whole(one(alloc, mark(M1, MarkKind::Commit, 1))?));
     assert_eq!(rt; run.home.bytes(M1_A), MEMBER.as_slice());
-    let (run, _) = run.close(alloc)?;
+    run.close(alloc)?;
     assert_eq!(rt; run.home.bytes(M1_B), b"\x00".as_slice());
     let items = [checkpoint_a(alloc)?];
-    let (run, told) = run.fill(alloc, &items)?;
+    let told = run.fill(alloc, &items)?;
     assert!(rt; told == Ended::Whole(one(alloc, mark(M1, MarkKind::Checkpoint, 2))?));
     assert_eq!(rt; run.home.bytes(M1_B), CHECKPOINT.as_slice());
     assert_eq!(rt; run.home.bytes(M1_A), MEMBER.as_slice());
@@ -157,13 +164,13 @@ fn the_log_of_a_member_has_its_bytes(rt: HostRuntime) -> Result<(), Fail> {
 #[test]
 fn the_log_of_a_coordinator_has_its_bytes(rt: HostRuntime) -> Result<(), Fail> {
     let alloc = rt.alloc();
-    let run = Run::made(alloc, empty_home(alloc), C1)?;
-    let (run, _) = run.force(commit_of_two(alloc, 1)?)?;
-    let run = run.later(Record::End { txn: Txn(1) })?;
+    let mut run = Run::made(alloc, empty_home(alloc), C1)?;
+    run.force(commit_of_two(alloc, 1)?)?;
+    run.later(Record::End { txn: Txn(1) })?;
     assert_eq!(rt; run.home.bytes(C1_A), COORDINATOR.as_slice());
-    let (run, _) = run.close(alloc)?;
+    run.close(alloc)?;
     let items = [commit_of_two(alloc, 1)?];
-    let (run, told) = run.fill(alloc, &items)?;
+    let told = run.fill(alloc, &items)?;
     assert!(rt; told == Ended::Whole(one(alloc, mark(C1, MarkKind::Checkpoint, 2))?));
     assert_eq!(rt; run.home.bytes(C1_B), COMMITTED.as_slice());
     Ok(())
@@ -172,13 +179,13 @@ fn the_log_of_a_coordinator_has_its_bytes(rt: HostRuntime) -> Result<(), Fail> {
 #[test]
 fn a_filled_spare_has_no_waiting_record(rt: HostRuntime) -> Result<(), Fail> {
     let alloc = rt.alloc();
-    let run = Run::made(alloc, empty_home(alloc), C1)?;
-    let (run, _) = run.force(commit_of_two(alloc, 1)?)?;
-    let run = run.later(Record::End { txn: Txn(1) })?;
-    let (run, _) = run.close(alloc)?;
-    let (run, _) = run.fill(alloc, &[])?;
+    let mut run = Run::made(alloc, empty_home(alloc), C1)?;
+    run.force(commit_of_two(alloc, 1)?)?;
+    run.later(Record::End { txn: Txn(1) })?;
+    run.close(alloc)?;
+    run.fill(alloc, &[])?;
     assert_eq!(rt; run.home.bytes(C1_B), EMPTY.as_slice());
-    let (run, told) = run.force(commit_of_two(alloc, 2)?)?;
+    let told = run.force(commit_of_two(alloc, 2)?)?;
     assert!(rt; told == Ended::Whole(one(alloc, mark(C1, MarkKind::Commit, 2))?));
     assert_eq!(rt; run.log.lengths(), (26, 26));
     Ok(())
@@ -187,9 +194,10 @@ fn a_filled_spare_has_no_waiting_record(rt: HostRuntime) -> Result<(), Fail> {
 #[test]
 fn a_waiting_abort_goes_out_with_the_next_record(rt: HostRuntime) -> Result<(), Fail> {
     let alloc = rt.alloc();
-    let run = voted(alloc)?.later(Record::Abort { txn: Txn(1) })?;
+    let mut run = voted(alloc)?;
+    run.later(Record::Abort { txn: Txn(1) })?;
     assert_eq!(rt; run.home.bytes(M1_A).len(), 36);
-    let (run, told) = run.force(prepare_x(alloc, 2, b"2")?)?;
+    let told = run.force(prepare_x(alloc, 2, b"2")?)?;
     let mut marks = one(alloc, mark(M1, MarkKind::Abort, 1))?;
     marks.push(mark(M1, MarkKind::Prepare, 2))?;
     assert!(rt; told == Ended::Whole(marks));
@@ -211,8 +219,9 @@ fn a_stopped_record_is_there_or_not(rt: HostRuntime) -> Result<(), Fail> {
     for (row, stables) in STABLE.iter().enumerate() {
         for (column, stable) in stables.iter().enumerate() {
             let call = row as u8 + 1;
-            let run = Run::made(alloc, empty_home(alloc), M1)?.arm(call, leaves_at(alloc, column)?);
-            let (run, told) = run.force(prepare_x(alloc, 1, b"1")?)?;
+            let mut run = Run::made(alloc, empty_home(alloc), M1)?;
+            run.arm(call, leaves_at(alloc, column)?);
+            let told = run.force(prepare_x(alloc, 1, b"1")?)?;
             let marks = if *stable {
                 one(alloc, mark(M1, MarkKind::Prepare, 1))?
             } else {
@@ -257,9 +266,10 @@ fn a_stopped_record_and_its_waiting_abort_are_there_or_not(rt: HostRuntime) -> R
     for (row, stables) in STABLE.iter().enumerate() {
         for (column, stable) in stables.iter().enumerate() {
             let call = row as u8 + 1;
-            let run = voted(alloc)?.later(Record::Abort { txn: Txn(1) })?;
-            let run = run.arm(call, leaves_at(alloc, column)?);
-            let (run, told) = run.force(prepare_x(alloc, 2, b"2")?)?;
+            let mut run = voted(alloc)?;
+            run.later(Record::Abort { txn: Txn(1) })?;
+            run.arm(call, leaves_at(alloc, column)?);
+            let told = run.force(prepare_x(alloc, 2, b"2")?)?;
             let mut marks = Marks::new(alloc);
             if *stable {
                 marks.push(mark(M1, MarkKind::Abort, 1))?;
@@ -306,10 +316,11 @@ fn a_stopped_filling_leaves_the_old_file_or_the_filled_one(rt: HostRuntime) -> R
     for (row, stables) in STABLE.iter().enumerate() {
         for (column, stable) in stables.iter().enumerate() {
             let call = row as u8 + 1;
-            let (run, _) = voted(alloc)?.close(alloc)?;
-            let run = run.arm(call, leaves_at(alloc, column)?);
+            let mut run = voted(alloc)?;
+            run.close(alloc)?;
+            run.arm(call, leaves_at(alloc, column)?);
             let items = [checkpoint_a(alloc)?];
-            let (run, told) = run.fill(alloc, &items)?;
+            let told = run.fill(alloc, &items)?;
             let marks = if *stable {
                 one(alloc, mark(M1, MarkKind::Checkpoint, 2))?
             } else {
@@ -348,7 +359,9 @@ fn a_stopped_closing_leaves_the_current_file(rt: HostRuntime) -> Result<(), Fail
     ];
     for call in 1..5 {
         for (column, closed) in CLOSED.iter().enumerate() {
-            let (run, told) = voted(alloc)?.arm(call, leaves_at(alloc, column)?).close(alloc)?;
+            let mut run = voted(alloc)?;
+            run.arm(call, leaves_at(alloc, column)?);
+            let told = run.close(alloc)?;
             if call <= 2 {
                 assert!(rt;
                     told
@@ -375,11 +388,12 @@ fn a_stopped_closing_leaves_the_current_file(rt: HostRuntime) -> Result<(), Fail
 fn all_calls(alloc: Global, fail: FailAt) -> Result<(), LogFault> {
     let mut fails = Vec::new(alloc);
     fails.push(fail)?;
-    let run = Run::made(alloc, HomeMemory::new(alloc, fails), M1)?;
-    let (run, _) = run.force(commit_of(alloc, 1))?;
-    let (run, _) = run.close(alloc)?;
-    let (run, _) = run.fill(alloc, &[])?;
-    let run = run.reattach()?.arm(2, Leaves::Old);
+    let mut run = Run::made(alloc, HomeMemory::new(alloc, fails), M1)?;
+    run.force(commit_of(alloc, 1))?;
+    run.close(alloc)?;
+    run.fill(alloc, &[])?;
+    run.reattach()?;
+    run.arm(2, Leaves::Old);
     run.force(commit_of(alloc, 2))?;
     Ok(())
 }

@@ -37,3 +37,6 @@ returns-clause-forced g c =
     (λ items live.
     let ended = subst (λ (e : Ending). IsEnding e c.self.inside.stop c.append.new.disk c.self.inside.gate items more) c.in-Stopped.is (c.in_ok-ending.ensures.ended items live.ends) in
     stopped log after items more front c.self.inside.stop c.in_ok-told.told c.marks_if-marks.result c.in-Stopped.call c.in-Stopped.stable same refl tells c.marks_if-marks.ensures tidy live ended)
+
+pub invariant_of-self : goal.invariant_of-self
+invariant_of-self g c = (c.self.invariant.0, c.append.ensures.stop)
