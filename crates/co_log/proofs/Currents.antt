@@ -36,9 +36,9 @@ pub image_older : (node : Node) (old image : List ℕ) (generation : ℕ) → Is
 image_older node old image generation older image' = elim image'.0 [
   | inl same ↦ subst (λ (b : List ℕ). IsOlder node b generation) (sym same) older
   | inr other ↦ elim other [
-      | inl shut ↦ none_older node image generation (ends_at_once image shut)
-      | inr short ↦ inl (inl (short, refl))
-    ]
+    | inl shut ↦ none_older node image generation (ends_at_once image shut)
+    | inr short ↦ inl (inl (short, refl))
+  ]
 ]
 
 -- the old file is still current where the other one is older
@@ -109,12 +109,17 @@ pub err_is : {A : Type 0} (r : Result A LogFault) (x : LogFault) → IsErrAnd r 
 err_is (Ok y) x is = absurd is
 err_is (Err e) x is = ap Err is
 
+-- and is this other one
+pub same_err : {A : Type 0} (r : Result A LogFault) (x y : LogFault) → IsErrAnd r (λ e. e ≡ x) → r ≡ Err y → x ≡ y
+same_err (Ok z) x y is h = absurd is
+same_err (Err e) x y is h = let it : e ≡ y = cc in sym is ∙ it
+
 -- which file is current after a filling that met a fault
 pub faulted_current : {H : Type 0} (file : H → Spot → Option File) (reach : H → Spot → ℕ) (entered : H → Option (List ℕ)) (faults : H → ℕ) (old new : H) (log : LogView) (more : List Record) (e : LogFault) → IsHeld file reach old log → log.spare.state.pending ≡ []
     → begins_closed log.spare.state.stable ≡ true → RestStays file reach entered faults log.spare.spot old new → IsOfAppend log.spare.spot e → ((f : File) → file new log.spare.spot ≡ Some f → OldOrBoth f.bytes 0 [] (filling log more))
     → (e ≡ Full log.spare.spot → new ≡ old) → (e ≡ Memory → (f : File) → file new log.spare.spot ≡ Some f → EndsAt f.bytes 0 [])
     → (items : List (ℕ × Record)) → IsOrdered log items → (c s : File) → file new log.current.spot ≡ Some c → file new log.spare.spot ≡ Some s → IsCurrentAfter log items more c.bytes s.bytes (Err e)
-faulted_current file reach entered faults old new log more e held still closed rest of either full early items o c s told_c told_s =
+faulted_current {H = H} file reach entered faults old new log more e held still closed rest of either full early items o c s told_c told_s =
     current_fault log items more c.bytes s.bytes log.spare.spot e of o (current_told file reach entered faults old new log log.spare.spot c held o.live.still refl rest told_c) (either s told_s)
     (λ is. closed_file log.spare.state s.bytes still closed (held.spare.told s (subst (λ (h : H). file h log.spare.spot ≡ Some s) (full is) told_s)))
     (λ is. early is s told_s)

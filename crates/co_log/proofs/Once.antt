@@ -42,8 +42,7 @@ holds_once gate (b ∷ bs) xs ys these those =
 -- a file ends at one gate, with the same records
 ends_once : (bytes : List ℕ) (gate other : ℕ) (xs ys : List (ℕ × Record)) → EndsAt bytes gate xs → EndsAt bytes other ys → (gate ≡ other) × (xs ≡ ys)
 ends_once bytes gate other xs ys this that =
-    let same = same_batches this.batches that.batches this.text.gate that.text.gate this.text.rest that.text.rest this.text.each that.text.each this.text.closed that.text.closed (sym this.text.text ∙ that.text.text) in
-    (
+    let same = same_batches this.batches that.batches this.text.gate that.text.gate this.text.rest that.text.rest this.text.each that.text.each this.text.closed that.text.closed (sym this.text.text ∙ that.text.text) in (
       this.place ∙ ap (λ (bs : List (List ℕ)). length (gated bs)) same ∙ sym that.place,
       holds_once 0 that.batches xs ys (subst (λ (bs : List (List ℕ)). HoldRecords 0 bs xs) same this.holds) that.holds,
     )
@@ -83,12 +82,12 @@ first_is node a b log g items c attached =
     elim attached [
       | inl fresh ↦ absurd (none_has a.state.stable c.gate (5, Header node g) file.0 fresh.1 file.1)
       | inr live ↦ elim live [
-          | inl one ↦
-              let same = file_once node a.state.stable c.gate one.gate g one.generation file one.file in
-              one.is ∙ ap (λ (n : ℕ). built node a b n one.generation) (sym same.0) ∙ ap (λ (n : ℕ). built node a b c.gate n) (sym same.1)
-          | inr other ↦
-              absurd (omega (arith, smaller node a.state.stable c.gate g other.generation file other.older, smaller node b.state.stable other.gate other.generation g other.file c.older))
-        ]
+        | inl one ↦
+            let same = file_once node a.state.stable c.gate one.gate g one.generation file one.file in
+            one.is ∙ ap (λ (n : ℕ). built node a b n one.generation) (sym same.0) ∙ ap (λ (n : ℕ). built node a b c.gate n) (sym same.1)
+        | inr other ↦
+            absurd (omega (arith, smaller node a.state.stable c.gate g other.generation file other.older, smaller node b.state.stable other.gate other.generation g other.file c.older))
+      ]
     ]
 
 pub second_is : (node : Node) (a b : DiskView) (log : LogView) (g : ℕ) (items : List (ℕ × Record)) (c : IsCurrentOf node g b.state.stable a.state.stable items) → IsAttached node a b log → log ≡ built node b a c.gate g
@@ -97,10 +96,10 @@ second_is node a b log g items c attached =
     elim attached [
       | inl fresh ↦ absurd (none_has b.state.stable c.gate (5, Header node g) file.0 fresh.2 file.1)
       | inr live ↦ elim live [
-          | inl other ↦
-              absurd (omega (arith, smaller node b.state.stable c.gate g other.generation file other.older, smaller node a.state.stable other.gate other.generation g other.file c.older))
-          | inr one ↦
-              let same = file_once node b.state.stable c.gate one.gate g one.generation file one.file in
-              one.is ∙ ap (λ (n : ℕ). built node b a n one.generation) (sym same.0) ∙ ap (λ (n : ℕ). built node b a c.gate n) (sym same.1)
-        ]
+        | inl other ↦
+            absurd (omega (arith, smaller node b.state.stable c.gate g other.generation file other.older, smaller node a.state.stable other.gate other.generation g other.file c.older))
+        | inr one ↦
+            let same = file_once node b.state.stable c.gate one.gate g one.generation file one.file in
+            one.is ∙ ap (λ (n : ℕ). built node b a n one.generation) (sym same.0) ∙ ap (λ (n : ℕ). built node b a c.gate n) (sym same.1)
+      ]
     ]

@@ -6,7 +6,9 @@ use Rattle.co_base.specs.declared.mark.Mark.{Mark}
 use Rattle.co_base.specs.declared.node.Node.{Node}
 use Rattle.co_outside.specs.Home.{File}
 use Rattle.co_outside.specs.declared.spot.Spot.{Spot}
+use Rattle.co_disk.specs.DiskModel.{read_of}
 use Rattle.co_disk.specs.DiskView.{DiskView}
+use Rattle.co_disk.specs.Homes.{Agrees}
 use Rattle.co_record.specs.declared.record.Record.{Record}
 use Rattle.co_record.specs.declared.record.Record.TheVariants.{Header}
 use Rattle.co_log.specs.declared.fault.LogFault.{LogFault}
@@ -85,7 +87,7 @@ filled_ordered log after items more o f =
       header = subst (λ (n : Node). BeginsWith n after.generation (placed_from 5 (filling log more))) (sym f.node) (subst (λ (g : ℕ). BeginsWith log.node g (placed_from 5 (filling log more))) (sym f.generation) begins);
       still = subst (λ (d : DiskView). d.state.pending ≡ []) (sym f.spare) o.live.still;
       older = subst (λ (n : Node). IsOlder n after.spare.state.stable after.generation) (sym f.node)
-      (subst (λ (g : ℕ). IsOlder log.node after.spare.state.stable g) (sym f.generation) (subst (λ (d : DiskView). IsOlder log.node d.state.stable (log.generation + 1)) (sym f.spare) older));
+          (subst (λ (g : ℕ). IsOlder log.node after.spare.state.stable g) (sym f.generation) (subst (λ (d : DiskView). IsOlder log.node d.state.stable (log.generation + 1)) (sym f.spare) older));
     }
 
 pub unfilled_ordered : (log after : LogView) (items : List (ℕ × Record)) → IsOrdered log items → IsUnfilled log after → IsOrdered after items
@@ -140,14 +142,16 @@ current_ordered node current spare log valid still spare_still c =
     let first : ℕ × Record = (5, Header node c.generation) in
     let here : LogView = built node current spare c.gate c.generation in
     let begins : BeginsWith node c.generation (first ∷ c.file.0) = refl in
-    subst (λ (l : LogView). (items : List (ℕ × Record)) × IsOrdered l items) (sym c.is)
-    (first ∷ c.file.0, record {
-      valid = valid;
-      live = record { made = behind_front current.state.stable c.gate first c.file.0 c.file.1; still = still; ends = c.file.1 };
-      header = begins;
-      still = spare_still;
-      older = c.older;
-    })
+    subst (λ (l : LogView). (items : List (ℕ × Record)) × IsOrdered l items) (sym c.is) (
+      first ∷ c.file.0,
+      record {
+        valid = valid;
+        live = record { made = behind_front current.state.stable c.gate first c.file.0 c.file.1; still = still; ends = c.file.1 };
+        header = begins;
+        still = spare_still;
+        older = c.older;
+      },
+    )
 
 pub attached_ordered : (node : Node) (a b : DiskView) (log : LogView) → IsValidNode node → a.state.pending ≡ [] → b.state.pending ≡ [] → IsAttached node a b log → (IsFresh log × IsValidNode log.node) ⊎ ((items : List (ℕ × Record)) × IsOrdered log items)
 attached_ordered node a b log valid still_a still_b attached = elim attached [
@@ -180,16 +184,15 @@ found_ordered log is some = elim is [
 pub ready_made : {H : Type 0} (file : H → Spot → Option File) (reach : H → Spot → ℕ) (home : H) (log after : LogView) → IsFresh log × IsValidNode log.node → IsMade log after → IsHeld file reach home after → IsReady file reach home after
 ready_made file reach home log after fresh made held = record { held = held; items = header_alone log.node; ordered = made_ordered log after fresh.0 fresh.1 made }
 
-pub ready_forced : {H : Type 0} (file : H → Spot → Option File) (reach : H → Spot → ℕ) (home : H) (log after : LogView) (items : List (ℕ × Record)) (more : List Record) (result : Result (List Mark) LogFault) → IsOrdered log items → IsForced log items more after result → IsDone result
-    → IsHeld file reach home after → IsReady file reach home after
-ready_forced file reach home log after items more result o f done held = let it = forced_ordered log after items more result o f done in record { held = held; items = it.0; ordered = it.1 }
+pub ready_written : {H : Type 0} (file : H → Spot → Option File) (reach : H → Spot → ℕ) (home : H) (log after : LogView) (items : List (ℕ × Record)) (more : List Record) (stable : Bool) → IsOrdered log items → IsWritten stable log items more after → IsHeld file reach home after → IsReady file reach home after
+ready_written file reach home log after items more stable o w held = record { held = held; items = next_items stable log.gate items more; ordered = written_ordered stable log after items more o w }
 
-pub ready_closed : {H : Type 0} (file : H → Spot → Option File) (reach : H → Spot → ℕ) (home : H) (log after : LogView) (items : List (ℕ × Record)) (result : Result (Unit {0}) LogFault) → IsOrdered log items → IsClosing log after result → IsDone result → IsHeld file reach home after → IsReady file reach home after
-ready_closed file reach home log after items result o f done held = record { held = held; items = items; ordered = closing_ordered log after items result o f done }
+pub ready_closed : {H : Type 0} (file : H → Spot → Option File) (reach : H → Spot → ℕ) (home : H) (log after : LogView) (items : List (ℕ × Record)) (closed : Bool) → IsOrdered log items → IsClosed closed log after → IsHeld file reach home after → IsReady file reach home after
+ready_closed file reach home log after items closed o is held = record { held = held; items = items; ordered = closed_ordered closed log after items o is }
 
-pub ready_filled : {H : Type 0} (file : H → Spot → Option File) (reach : H → Spot → ℕ) (home : H) (log after : LogView) (items : List (ℕ × Record)) (more : List Record) (result : Result Mark LogFault) → IsOrdered log items → IsFilling log more after result → IsDone result → IsHeld file reach home after
-    → IsReady file reach home after
-ready_filled file reach home log after items more result o f done held = let it = filling_ordered log after items more result o f done in record { held = held; items = it.0; ordered = it.1 }
+pub ready_filled : {H : Type 0} (file : H → Spot → Option File) (reach : H → Spot → ℕ) (home : H) (log after : LogView) (items : List (ℕ × Record)) (more : List Record) (stable : Bool) → IsOrdered log items → IsFilledIf stable log after more → IsHeld file reach home after → IsReady file reach home after
+ready_filled file reach home log after items more true o is held = record { held = held; items = placed_from 5 (filling log more); ordered = filled_ordered log after items more o is }
+ready_filled file reach home log after items more false o is held = record { held = held; items = items; ordered = unfilled_ordered log after items o is }
 
 -- a log that keeps its disks, its gate and its generation
 pub ready_kept : {H : Type 0} (file : H → Spot → Option File) (reach : H → Spot → ℕ) (old home : H) (log after : LogView) → IsReady file reach old log → after.node ≡ log.node → after.current ≡ log.current → after.spare ≡ log.spare → after.gate ≡ log.gate → after.generation ≡ log.generation
@@ -204,4 +207,12 @@ ready_kept file reach old home log after r node current spare gate generation he
     still = subst (λ (d : DiskView). d.state.pending ≡ []) (sym spare) r.ordered.still;
     older = older_moved log after after.spare.state.stable node generation (subst (λ (d : DiskView). IsOlder log.node d.state.stable log.generation) (sym spare) r.ordered.older);
   };
+}
+
+-- and its home
+pub ready_same : {H : Type 0} (file : H → Spot → Option File) (reach : H → Spot → ℕ) (home : H) (log after : LogView) → IsReady file reach home log → after.node ≡ log.node → after.current ≡ log.current → after.spare ≡ log.spare → after.gate ≡ log.gate → after.generation ≡ log.generation → IsReady file reach home after
+ready_same file reach home log after r node current spare gate generation = ready_kept file reach home home log after r node current spare gate generation record {
+  apart = λ e. r.held.apart (sym (ap (λ (d : DiskView). d.spot) current) ∙ e ∙ ap (λ (d : DiskView). d.spot) spare);
+  current = subst (λ (d : DiskView). Agrees (file home d.spot) (reach home d.spot) (read_of d.state)) (sym current) r.held.current;
+  spare = subst (λ (d : DiskView). Agrees (file home d.spot) (reach home d.spot) (read_of d.state)) (sym spare) r.held.spare;
 }

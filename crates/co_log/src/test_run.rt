@@ -9,7 +9,10 @@ ghost use Rattle.co_log.specs.LogView.{IsHeader};
 ghost use Rattle.co_log.specs.Current.{IsReady};
 
 use crate::{Log, LogFault};
-use co_base::{Bytes, Key, Leaves, Mark, Marks, Node, Range, Ranges, Row, Rows, Txn, Txns, Value, Writes, Written};
+use co_base::{
+    Bytes, Key, Leaves, Mark, Marks, Node, Range, Ranges, Row, Rows, Txn, Txns, Value, Writes,
+    Written,
+};
 use co_outside::{HomeMemory, Spot};
 use co_record::{Record, RecordView};
 use std::alloc::Global;
@@ -135,11 +138,13 @@ impl Run {
     {
         match self.log.force(&mut self.home, item) {
             Ok(marks) => Ok(Ended::Whole(marks)),
-            Err(LogFault::Stopped {
-                call,
-                stable,
-                marks,
-            }) => Ok(Ended::Stopped {
+            Err(
+                LogFault::Stopped {
+                    call,
+                    stable,
+                    marks,
+                },
+            ) => Ok(Ended::Stopped {
                 call,
                 stable,
                 marks,
@@ -158,11 +163,13 @@ impl Run {
         }
         match self.log.close_spare(&mut self.home) {
             Ok(()) => Ok(Ended::Whole(Marks::new(alloc))),
-            Err(LogFault::Stopped {
-                call,
-                stable,
-                marks,
-            }) => Ok(Ended::Stopped {
+            Err(
+                LogFault::Stopped {
+                    call,
+                    stable,
+                    marks,
+                },
+            ) => Ok(Ended::Stopped {
                 call,
                 stable,
                 marks,
@@ -181,11 +188,13 @@ impl Run {
         if self.log.spare_closed() {
             return match self.log.fill_spare(&mut self.home, items) {
                 Ok(mark) => Ok(Ended::Whole(one(alloc, mark)?)),
-                Err(LogFault::Stopped {
-                    call,
-                    stable,
-                    marks,
-                }) => Ok(Ended::Stopped {
+                Err(
+                    LogFault::Stopped {
+                        call,
+                        stable,
+                        marks,
+                    },
+                ) => Ok(Ended::Stopped {
                     call,
                     stable,
                     marks,

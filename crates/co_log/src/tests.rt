@@ -4,7 +4,8 @@ ghost use Rattle.co_outside.specs.HomeMemory.{memory_file, memory_bytes};
 ghost use Rattle.co_log.specs.Current.{IsReady};
 
 use crate::test_run::{
-    Ended, Placed, Run, Seen, checkpoint_a, commit_of, commit_of_two, leaves_at, one, prepare_a, prepare_x,
+    Ended, Placed, Run, Seen, checkpoint_a, commit_of, commit_of_two, leaves_at, one, prepare_a,
+    prepare_x,
 };
 use crate::{Log, LogFault};
 use co_base::{Leaves, Mark, MarkKind, Marks, Node, Txn};
@@ -14,10 +15,15 @@ use std::alloc::Global;
 use std::test::Fail;
 
 const M1_A: Spot = Spot { node: 1, part: 0 };
+
 const M1_B: Spot = Spot { node: 1, part: 1 };
+
 const C1_A: Spot = Spot { node: 129, part: 0 };
+
 const C1_B: Spot = Spot { node: 129, part: 1 };
+
 const M1: Node = Node::Member(1);
+
 const C1: Node = Node::Coord(1);
 
 /// The log of member 1 after it voted for transaction 1 and installed it.
@@ -44,13 +50,12 @@ const EMPTY: [u8; 13] = *b"\xa5\x00\x00\x00\x07\x01\x01\x81\x00\x00\x00\x02\x00"
 const WAITED: [u8; 64] =
     *b"\xa5\x00\x00\x00\x07\x01\x01\x01\x00\x00\x00\x01\xa5\x00\x00\x00\x12\x02\x00\x00\x00\x01\x01\x00\x01\x00\x00\x00\x01\x01\x78\x01\x00\x01\x31\xa5\x00\x00\x00\x17\x04\x00\x00\x00\x01\x02\x00\x00\x00\x02\x01\x00\x01\x00\x00\x00\x01\x01\x78\x01\x00\x01\x32\x00";
 
-/// Whether the batch of a stopped log write is stable: a row for each device call, and a column for each
-/// image.
-const STABLE: [[bool; 5]; 4] = [
-    [false, false, false, false, false],
-    [false, false, false, false, false],
-    [false, true, false, true, false],
-    [false, true, false, true, false],
+/// Whether the batch of a log write is stable that is stopped in a device call: a column for each image.
+static STABLE: [(u8, [bool; 5]); 4] = [
+    (1, [false, false, false, false, false]),
+    (2, [false, false, false, false, false]),
+    (3, [false, true, false, true, false]),
+    (4, [false, true, false, true, false]),
 ];
 
 /// Whether a spare without a byte is closed after its closing was stopped: a column for each image.
@@ -216,11 +221,10 @@ fn a_stopped_record_is_there_or_not(rt: HostRuntime) -> Result<(), Fail> {
         at: 17,
         what: Seen::Prepare(1),
     };
-    for (row, stables) in STABLE.iter().enumerate() {
+    for (call, stables) in &STABLE {
         for (column, stable) in stables.iter().enumerate() {
-            let call = row as u8 + 1;
             let mut run = Run::made(alloc, empty_home(alloc), M1)?;
-            run.arm(call, leaves_at(alloc, column)?);
+            run.arm(*call, leaves_at(alloc, column)?);
             let told = run.force(prepare_x(alloc, 1, b"1")?)?;
             let marks = if *stable {
                 one(alloc, mark(M1, MarkKind::Prepare, 1))?
@@ -228,15 +232,14 @@ fn a_stopped_record_is_there_or_not(rt: HostRuntime) -> Result<(), Fail> {
                 Marks::new(alloc)
             };
             assert!(rt;
-                told
-                    == Ended::Stopped {
-                        call,
-                        stable: *stable,
-                        marks
-                    }
+                told == Ended::Stopped {
+                    call: *call,
+                    stable: *stable,
+                    marks
+                }
             );
-            let wanted = if *stable { 2 } else { 1 };
-            assert!(rt; is_left(&rt, run, &[header, vote][..wanted])?);
+            let wanted: &[Placed] = if *stable { &[header, vote] } else { &[header] };
+            assert!(rt; is_left(&rt, run, wanted)?);
         }
     }
     Ok(())
@@ -263,12 +266,11 @@ fn a_stopped_record_and_its_waiting_abort_are_there_or_not(rt: HostRuntime) -> R
             what: Seen::Prepare(2),
         },
     ];
-    for (row, stables) in STABLE.iter().enumerate() {
+    for (call, stables) in &STABLE {
         for (column, stable) in stables.iter().enumerate() {
-            let call = row as u8 + 1;
             let mut run = voted(alloc)?;
             run.later(Record::Abort { txn: Txn(1) })?;
-            run.arm(call, leaves_at(alloc, column)?);
+            run.arm(*call, leaves_at(alloc, column)?);
             let told = run.force(prepare_x(alloc, 2, b"2")?)?;
             let mut marks = Marks::new(alloc);
             if *stable {
@@ -276,15 +278,14 @@ fn a_stopped_record_and_its_waiting_abort_are_there_or_not(rt: HostRuntime) -> R
                 marks.push(mark(M1, MarkKind::Prepare, 2))?;
             }
             assert!(rt;
-                told
-                    == Ended::Stopped {
-                        call,
-                        stable: *stable,
-                        marks
-                    }
+                told == Ended::Stopped {
+                    call: *call,
+                    stable: *stable,
+                    marks
+                }
             );
-            let wanted = if *stable { 4 } else { 2 };
-            assert!(rt; is_left(&rt, run, &records[..wanted])?);
+            let wanted = if *stable { &records[..] } else { &records[..2] };
+            assert!(rt; is_left(&rt, run, wanted)?);
         }
     }
     Ok(())
@@ -313,12 +314,11 @@ fn a_stopped_filling_leaves_the_old_file_or_the_filled_one(rt: HostRuntime) -> R
             what: Seen::Checkpoint,
         },
     ];
-    for (row, stables) in STABLE.iter().enumerate() {
+    for (call, stables) in &STABLE {
         for (column, stable) in stables.iter().enumerate() {
-            let call = row as u8 + 1;
             let mut run = voted(alloc)?;
             run.close(alloc)?;
-            run.arm(call, leaves_at(alloc, column)?);
+            run.arm(*call, leaves_at(alloc, column)?);
             let items = [checkpoint_a(alloc)?];
             let told = run.fill(alloc, &items)?;
             let marks = if *stable {
@@ -327,18 +327,17 @@ fn a_stopped_filling_leaves_the_old_file_or_the_filled_one(rt: HostRuntime) -> R
                 Marks::new(alloc)
             };
             assert!(rt;
-                told
-                    == Ended::Stopped {
-                        call,
-                        stable: *stable,
-                        marks
-                    }
+                told == Ended::Stopped {
+                    call: *call,
+                    stable: *stable,
+                    marks
+                }
             );
             let spot = if *stable { M1_B } else { M1_A };
             assert!(rt; run.log.spot() == spot);
             assert!(rt; run.log.spare_closed() != *stable);
-            let wanted = if *stable { &filled } else { &old };
-            assert!(rt; is_left(&rt, run, wanted.as_slice())?);
+            let wanted = if *stable { &filled[..] } else { &old[..] };
+            assert!(rt; is_left(&rt, run, wanted)?);
         }
     }
     Ok(())
@@ -364,12 +363,11 @@ fn a_stopped_closing_leaves_the_current_file(rt: HostRuntime) -> Result<(), Fail
             let told = run.close(alloc)?;
             if call <= 2 {
                 assert!(rt;
-                    told
-                        == Ended::Stopped {
-                            call,
-                            stable: false,
-                            marks: Marks::new(alloc)
-                        }
+                    told == Ended::Stopped {
+                        call,
+                        stable: false,
+                        marks: Marks::new(alloc)
+                    }
                 );
                 assert!(rt; run.log.spare_closed() == *closed);
             } else {

@@ -12,7 +12,7 @@ use Rattle.co_record.specs.Gate.{begins_closed}
 use Rattle.co_log.specs.LogFile.{OldOrBoth}
 use Rattle.co_log.specs.LogView.{LogView, IsHeld}
 use Rattle.co_log.specs.Current.{IsOrdered, IsCurrentIf, IsCurrentAfter}
-use Rattle.co_log.proofs.Currents.{untouched_current, filled_current, faulted_current, err_is}
+use Rattle.co_log.proofs.Currents.{untouched_current, filled_current, faulted_current, err_is, same_err}
 use Rattle.co_log.specs.Spare.{IsFilling, filling, filling_mark}
 use Rattle.co_log.proofs.Logs.{filled, filled_if}
 use Rattle.co_log.proofs.Unmade.{ends_at_once, closed_told}
@@ -84,7 +84,7 @@ pub returns-in_err-ending-clause-memory : goal.returns-in_err-ending-clause-memo
 returns-in_err-ending-clause-memory g c = λ is f told.
     let ends = ends_at_once c.self.inside.spare.state.stable (subst (λ (l : LogView). begins_closed l.spare.state.stable ≡ true) (sym c.self.view_is) c.requires.closed) in
     let told' = subst (λ (s : Spot). g.H.Home.file c.append.new.home s ≡ Some f) (sym (ap (λ (l : LogView). l.spare.spot) c.self.view_is)) told in
-    c.append.ensures.memory [] ends (c.in_err-ending.was ∙ sym (err_is c.from_residual-in_err-ending.result c.in_err-ending.field-0.0 c.from_residual-in_err-ending.ensures.1) ∙ is) f told'
+    c.append.ensures.memory [] ends (c.in_err-ending.was ∙ ap Err (same_err c.from_residual-in_err-ending.result c.in_err-ending.field-0.0 faults.Memory c.from_residual-in_err-ending.ensures.1 is)) f told'
 
 pub invariant_of-self : goal.invariant_of-self
 invariant_of-self g c = (c.self.invariant.0, c.append.ensures.stop)
