@@ -205,6 +205,25 @@ impl Run {
         Ok(Ended::Nothing)
     }
 
+    /// Fills the spare with one record, where it is closed.
+    pub(crate) fn fill_one(&mut self, alloc: Global, item: Record) -> Result<Ended, LogFault>
+        requires ready { IsReady memory_file (λ h s. length (memory_bytes h s)) self.old.home self.old.log }
+        requires writable { IsWritable item }
+        requires header { IsHeader item → ⊥ }
+        ensures ready { OnOk result (IsReady memory_file (λ h s. length (memory_bytes h s)) self.new.home self.new.log) }
+    {
+        let items = [item];
+        self.fill(alloc, &items)
+    }
+
+    /// Fills the spare with a header alone, where it is closed.
+    pub(crate) fn fill_none(&mut self, alloc: Global) -> Result<Ended, LogFault>
+        requires ready { IsReady memory_file (λ h s. length (memory_bytes h s)) self.old.home self.old.log }
+        ensures ready { OnOk result (IsReady memory_file (λ h s. length (memory_bytes h s)) self.new.home self.new.log) }
+    {
+        self.fill(alloc, &[])
+    }
+
     /// Reads both files again.
     pub(crate) fn reattach(&mut self) -> Result<(), LogFault>
         requires ready { IsReady memory_file (λ h s. length (memory_bytes h s)) self.old.home self.old.log }

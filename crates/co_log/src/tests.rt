@@ -157,8 +157,7 @@ fn the_log_of_a_member_has_its_bytes(rt: HostRuntime) -> Result<(), Fail> {
     assert_eq!(rt; run.home.bytes(M1_A), MEMBER.as_slice());
     run.close(alloc)?;
     assert_eq!(rt; run.home.bytes(M1_B), b"\x00".as_slice());
-    let items = [checkpoint_a(alloc)?];
-    let told = run.fill(alloc, &items)?;
+    let told = run.fill_one(alloc, checkpoint_a(alloc)?)?;
     assert!(rt; told == Ended::Whole(one(alloc, mark(M1, MarkKind::Checkpoint, 2))?));
     assert_eq!(rt; run.home.bytes(M1_B), CHECKPOINT.as_slice());
     assert_eq!(rt; run.home.bytes(M1_A), MEMBER.as_slice());
@@ -174,8 +173,7 @@ fn the_log_of_a_coordinator_has_its_bytes(rt: HostRuntime) -> Result<(), Fail> {
     run.later(Record::End { txn: Txn(1) })?;
     assert_eq!(rt; run.home.bytes(C1_A), COORDINATOR.as_slice());
     run.close(alloc)?;
-    let items = [commit_of_two(alloc, 1)?];
-    let told = run.fill(alloc, &items)?;
+    let told = run.fill_one(alloc, commit_of_two(alloc, 1)?)?;
     assert!(rt; told == Ended::Whole(one(alloc, mark(C1, MarkKind::Checkpoint, 2))?));
     assert_eq!(rt; run.home.bytes(C1_B), COMMITTED.as_slice());
     Ok(())
@@ -188,7 +186,7 @@ fn a_filled_spare_has_no_waiting_record(rt: HostRuntime) -> Result<(), Fail> {
     run.force(commit_of_two(alloc, 1)?)?;
     run.later(Record::End { txn: Txn(1) })?;
     run.close(alloc)?;
-    run.fill(alloc, &[])?;
+    run.fill_none(alloc)?;
     assert_eq!(rt; run.home.bytes(C1_B), EMPTY.as_slice());
     let told = run.force(commit_of_two(alloc, 2)?)?;
     assert!(rt; told == Ended::Whole(one(alloc, mark(C1, MarkKind::Commit, 2))?));
@@ -319,8 +317,7 @@ fn a_stopped_filling_leaves_the_old_file_or_the_filled_one(rt: HostRuntime) -> R
             let mut run = voted(alloc)?;
             run.close(alloc)?;
             run.arm(*call, leaves_at(alloc, column)?);
-            let items = [checkpoint_a(alloc)?];
-            let told = run.fill(alloc, &items)?;
+            let told = run.fill_one(alloc, checkpoint_a(alloc)?)?;
             let marks = if *stable {
                 one(alloc, mark(M1, MarkKind::Checkpoint, 2))?
             } else {
@@ -389,7 +386,7 @@ fn all_calls(alloc: Global, fail: FailAt) -> Result<(), LogFault> {
     let mut run = Run::made(alloc, HomeMemory::new(alloc, fails), M1)?;
     run.force(commit_of(alloc, 1))?;
     run.close(alloc)?;
-    run.fill(alloc, &[])?;
+    run.fill_none(alloc)?;
     run.reattach()?;
     run.arm(2, Leaves::Old);
     run.force(commit_of(alloc, 2))?;
