@@ -2,6 +2,7 @@
 use Rattle.std.proofs.Common.{◌≡◌, ◌⊎◌, ℕ, ◌+◌, ◌<◌, ◌≤◌, Bool, true, false, List, [], ◌∷◌, ◌++◌, length, sym, ap, subst, ◌∙◌, arith, inl, inr}
 use Rattle.std.specs.Prelude.{Option, Some, slice_get, if◌then◌else◌}
 use Rattle.std.specs.List.{AllByRecursion}
+use Rattle.std.proofs.lemmas.List.{length-append}
 use Rattle.co_base.specs.declared.leaves.Leaves.{Leaves}
 use Rattle.co_disk.specs.DiskModel.{DiskState, IsImage, IsChosen, read_of}
 use Rattle.co_disk.specs.DiskView.{DiskView}
@@ -20,8 +21,12 @@ use Rattle.co_log.proofs.Stops.{all_stable}
 pub batch_is : (records batch : List ℕ) (more : List Record) → records ≡ spelled more → batch ≡ batch_text records ++ closed_gate ∷ [] → batch ≡ closed_batch more
 batch_is records batch more e is = is ∙ ap (λ (r : List ℕ). batch_text r ++ closed_gate ∷ []) e
 
-pub is_batch : (gate : ℕ) (records : List ℕ) (more : List Record) → records ≡ spelled more → 0 < length more → gate + 6 + length records ≤ 268435456 → IsBatch (spelled more)
-is_batch gate records more e some short = (some_bytes more some, omega (arith, ap (λ (r : List ℕ). length r) e))
+pub is_batch : (gate : ℕ) (more : List Record) → 0 < length more → gate + 6 + length (spelled more) ≤ 268435456 → IsBatch (spelled more)
+is_batch gate more some short = (some_bytes more some, omega (arith, short))
+
+-- the place of the gate behind a batch
+pub behind_batch : (gate : ℕ) (batch : List ℕ) (more : List Record) → batch ≡ closed_batch more → gate + length batch ≡ gate + 5 + length (spelled more)
+behind_batch gate batch more is = omega (arith, ap (λ (b : List ℕ). length b) is, length-append (batch_text (spelled more)) (closed_gate ∷ []))
 
 pub whole_ends : (bytes batch : List ℕ) (gate : ℕ) (kept : List (ℕ × Record)) (more : List Record) (after : DiskState) → batch ≡ closed_batch more → after ≡ disk_after bytes gate batch → AllByRecursion IsSpelled more → IsBatch (spelled more) → EndsAt bytes gate kept
     → EndsAfter true after.stable gate kept more

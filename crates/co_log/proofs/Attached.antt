@@ -39,7 +39,7 @@ unused_text d still used = inl (at_most_one d still used, refl)
 
 -- ---- what an attached log stands for
 
-behind_front : (bytes : List ℕ) (gate : ℕ) (x : ℕ × Record) (items : List (ℕ × Record)) → EndsAt bytes gate (x ∷ items) → 0 < gate
+pub behind_front : (bytes : List ℕ) (gate : ℕ) (x : ℕ × Record) (items : List (ℕ × Record)) → EndsAt bytes gate (x ∷ items) → 0 < gate
 behind_front bytes gate x items e = by_batches e.batches e.place e.holds
   where
     by_batches : (batches : List (List ℕ)) → gate ≡ length (gated batches) → HoldRecords 0 batches (x ∷ items) → 0 < gate

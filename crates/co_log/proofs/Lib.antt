@@ -6,3 +6,7 @@ pub mod Logs
 pub mod Unmade
 pub mod Scans
 pub mod Attached
+pub mod Currents
+pub mod Ordered
+pub mod Short
+pub mod Once

@@ -11,14 +11,10 @@ use Rattle.co_record.specs.Gate.{batch_is_stable}
 use Rattle.co_log.specs.Forcing.{IsWritten}
 use Rattle.co_log.specs.LogFile.{next_gate, next_items, EndsAt, EndsAfter}
 use Rattle.co_log.specs.Spare.{IsFilled, IsFilledIf, filling, turned}
-use Rattle.co_record.specs.Gate.{begins_closed}
 use Rattle.co_disk.specs.DiskView.{DiskView}
-use Rattle.co_frame.specs.LogText.{gated, open_gate}
-use Rattle.std.specs.Prelude.{not, ◌==◌}
-use Rattle.std.proofs.lemmas.Bool.{cases_Bool}
-use Rattle.std.proofs.Common.{length, ◌≢◌, inl, inr}
 use Rattle.co_log.specs.LogView.{LogView, IsLive}
 use Rattle.co_log.specs.Marks.{marks_of}
+use Rattle.co_log.proofs.Unmade.{first_shut}
 
 -- what a log write does not touch, or clears
 pub record IsTidy (log after : LogView) : Type 0 where
@@ -70,16 +66,6 @@ filled log disk waiting stop items next none disarmed still at ends = record {
   disarmed = disarmed;
   live = record { made = omega (arith, at); still = still; ends = subst (λ (n : ℕ). EndsAt disk.state.stable n (next_items true 0 [] (filling log items))) (sym at) ends };
 }
-
-first_shut : (bytes : List ℕ) (e : EndsAt bytes 0 []) → begins_closed bytes ≡ true
-first_shut bytes e = ap begins_closed e.text.text ∙ by_batches e.batches e.place
-  where
-    shut : (x : ℕ) → x ≢ open_gate → not (x == open_gate) ≡ true
-    shut x other = elim (cases_Bool (x == open_gate)) [ inl h ↦ absurd (other (let e : x ≡ open_gate = grind arith in e)) | inr h ↦ ap not h ]
-
-    by_batches : (batches : List (List ℕ)) → 0 ≡ length (gated batches) → begins_closed (gated batches ++ e.text.gate ∷ e.text.rest) ≡ true
-    by_batches [] at = shut e.text.gate e.text.closed
-    by_batches (b ∷ bs) at = absurd (omega (arith, at))
 
 pub filled_if : (stable : Bool) (log : LogView) (disk : DiskView) (waiting : List Record) (stop : Option Stop) (items : List Record) (next : ℕ) → waiting ≡ [] → stop ≡ None → disk.state.pending ≡ [] → next ≡ next_gate stable 0 (filling log items)
     → EndsAfter stable disk.state.stable 0 [] (filling log items) → IsFilledIf stable log (if stable then turned (after_filling log disk waiting stop) next (log.generation + 1) else after_filling log disk waiting stop) items

@@ -1,5 +1,5 @@
 -- Logs without a batch, and how they are made.
-use Rattle.std.specs.Prelude.{ℕ, ◌≡◌, ◌⊎◌, List, [], ◌∷◌}
+use Rattle.std.specs.Prelude.{ℕ, ◌≡◌, ◌≤◌, ◌⊎◌, true, List, [], ◌∷◌, length}
 use Rattle.co_base.specs.declared.node.Node.{Node}
 use Rattle.co_outside.specs.declared.spot.Spot.{Spot}
 use Rattle.co_frame.specs.LogText.{IsLogText}
@@ -7,6 +7,7 @@ use Rattle.co_record.specs.declared.record.Record.{Record}
 use Rattle.co_record.specs.declared.record.Record.TheVariants.{Header}
 use Rattle.co_log.specs.declared.fault.LogFault.{LogFault}
 use Rattle.co_log.specs.declared.fault.LogFault.TheVariants as faults
+use Rattle.co_record.specs.Gate.{begins_closed}
 use Rattle.co_log.specs.LogFile.{EndsAt}
 use Rattle.co_log.specs.LogView.{LogView, IsLive}
 
@@ -31,9 +32,10 @@ pub record IsMade (log after : LogView) : Type 0 where
   pub stop : after.stop ≡ log.stop
   pub live : IsLive after (header_alone log.node)
 
--- a file without a batch, or one that ends behind these records
-abbrev pub NoneOrThese : List ℕ → List (ℕ × Record) → Type 0
-NoneOrThese bytes items = IsLogText bytes [] ⊎ ((gate : ℕ) × EndsAt bytes gate items)
+-- A file that is made: until its closed gate is stable it has at most one byte; then it begins with that gate, or
+-- ends behind these records.
+abbrev pub IsMaking : List ℕ → List (ℕ × Record) → Type 0
+IsMaking bytes items = (length bytes ≤ 1) ⊎ ((begins_closed bytes ≡ true) ⊎ ((gate : ℕ) × EndsAt bytes gate items))
 
 -- the faults of a write of one byte on the file of this spot
 abbrev pub IsOfDevice : Spot → LogFault → Type 0

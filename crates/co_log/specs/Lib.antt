@@ -9,4 +9,5 @@ pub mod Fresh
 pub mod Spare
 pub mod Scanning
 pub mod Attaching
+pub mod Current
 pub mod Rereading

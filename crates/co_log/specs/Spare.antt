@@ -1,5 +1,5 @@
 -- The spare file, and how it becomes the current one.
-use Rattle.std.specs.Prelude.{ℕ, ◌+◌, ◌≡◌, ◌≤◌, ◌⊎◌, Bool, true, false, if◌then◌else◌, List, [], ◌∷◌, length, Some, None, Result, Ok, Err}
+use Rattle.std.specs.Prelude.{ℕ, ◌+◌, ◌≡◌, ◌≤◌, ◌⊎◌, Bool, true, false, if◌then◌else◌, List, [], ◌∷◌, length, max, Some, None, Result, Ok, Err}
 use Rattle.co_base.specs.declared.leaves.Leaves.{Leaves}
 use Rattle.co_base.specs.declared.mark.Mark.{Mark}
 use Rattle.co_base.specs.declared.mark.MarkKind.TheVariants as kind
@@ -8,8 +8,14 @@ use Rattle.co_record.specs.declared.record.Record.TheVariants.{Header}
 use Rattle.co_log.specs.declared.fault.LogFault.{LogFault}
 use Rattle.co_log.specs.declared.fault.LogFault.TheVariants.{Device, Stopped, Bad, Differs, Full, InUse, Memory}
 use Rattle.co_record.specs.Gate.{begins_closed, closes_spare, batch_is_stable}
+use Rattle.co_log.specs.Appending.{IsTooLong}
 use Rattle.co_log.specs.LogFile.{placed_from}
 use Rattle.co_log.specs.LogView.{LogView, IsLive}
+
+-- The bytes that a spare has while it is closed: the old ones, or a first gate that is not open, or at most one
+-- byte; and it has more than one byte only where it had as many before.
+abbrev pub IsSpareImage : List ℕ → List ℕ → Type 0
+IsSpareImage old bytes = ((bytes ≡ old) ⊎ ((begins_closed bytes ≡ true) ⊎ (length bytes ≤ 1))) × (length bytes ≤ max 1 (length old))
 
 -- The log after its spare file was closed, or was not: all else is as it was but what a log write clears.
 pub record IsClosed (closed : Bool) (log after : LogView) : Type 0 where
@@ -20,6 +26,7 @@ pub record IsClosed (closed : Bool) (log after : LogView) : Type 0 where
   pub disarmed : after.stop ≡ None
   pub still : after.spare.state.pending ≡ []
   pub closed_is : begins_closed after.spare.state.stable ≡ closed
+  pub image : IsSpareImage log.spare.state.stable after.spare.state.stable
 
 -- Ok comes where the armed stop, if there is one, has a number above the two device calls. A stopped write
 -- has no batch, so none is stable and it tells nothing; its image says whether the spare is closed.
@@ -35,13 +42,13 @@ IsClosing log after (Err (Full spot)) = Unit {0}
 IsClosing log after (Err (InUse spot)) = Unit {0}
 IsClosing log after (Err Memory) = Unit {0}
 
--- the bytes that a spare has while it is closed: the old ones, or a first gate that is not open, or at most one byte
-abbrev pub IsSpareImage : List ℕ → List ℕ → Type 0
-IsSpareImage old bytes = (bytes ≡ old) ⊎ ((begins_closed bytes ≡ true) ⊎ (length bytes ≤ 1))
-
 -- the records that are written into a spare: a header of the next generation, and these
 abbrev pub filling : LogView → List Record → List Record
 filling log items = Header log.node (log.generation + 1) ∷ items
+
+-- the spare would be too long with these records, or there is no next generation
+abbrev pub IsOverfull : LogView → List Record → Type 0
+IsOverfull log items = IsTooLong 0 (filling log items) ⊎ (log.generation ≡ 4294967295)
 
 -- the mark of a filled spare
 abbrev pub filling_mark : LogView → Mark

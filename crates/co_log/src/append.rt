@@ -1,5 +1,5 @@
 //! Records as they are appended to a file: in one batch, in one log write.
-ghost use Rattle.std.specs.Prelude.{◌≡◌, ◌≤◌, ◌<◌, ◌+◌, ◌++◌, ◌∷◌, [], ℕ, List, length, OnOk, OnErr, IfOk, IfErr, IfSome, IsErrOf, Some, slice_get, if◌then◌else◌};
+ghost use Rattle.std.specs.Prelude.{◌≡◌, ◌⊎◌, ◌≤◌, ◌<◌, ◌+◌, ◌++◌, ◌∷◌, [], ℕ, List, length, OnOk, OnErr, IfOk, IfErr, IfSome, IsErrOf, Some, None, slice_get, if◌then◌else◌};
 ghost use Rattle.std.specs.List.{AllByRecursion};
 ghost use Rattle.co_outside.specs.Home.{File};
 ghost use Rattle.co_disk.specs.DiskModel.{read_of};
@@ -7,6 +7,7 @@ ghost use Rattle.co_disk.specs.Homes.{Agrees, IsClean, RestStays, HasFailed};
 ghost use Rattle.co_record.specs.declared.record.Record.{Record};
 ghost use Rattle.co_record.specs.Spelling.{IsWritable, IsSpelled};
 ghost use Rattle.co_log.specs.Appending.{IsEnding, IsTooLong, IsOfAppend};
+ghost use Rattle.co_log.specs.BatchWrite.{closed_batch};
 ghost use Rattle.co_log.specs.LogFile.{spelled, opened, EndsAt, OldOrBoth};
 
 use crate::fault::LogFault;
@@ -14,7 +15,7 @@ use crate::stop::Stop;
 use crate::writing::write_batch;
 use co_disk::{Disk, DiskFault};
 use co_frame::{MOST_LOG_BYTES, OPEN_GATE, put_batch};
-use co_outside::Home;
+use co_outside::{Home, Spot};
 use co_record::{Record, put_record};
 use std::alloc::{AllocError, Global};
 
@@ -70,9 +71,36 @@ fn gate_after(stable: bool, gate: u32, next: u32) -> u32
     if stable { next } else { gate }
 }
 
-/// Appends these records and then those in one batch behind the gate at a place, and opens it. The memory that the batch
-/// wants is taken before the first device call. `Full` comes, before any device call, where the file
-/// would have more than 268,435,456 bytes; `Device` only where the home failed.
+/// The bytes of a batch of these records and then of those, with a closed gate behind it. `Full` comes where the file
+/// would have more than 268,435,456 bytes with it behind the gate at this place.
+fn batch_of(
+    alloc: Global,
+    spot: Spot,
+    gate: u32,
+    front: &[Record],
+    back: &[Record],
+) -> Result<Vec<u8>, LogFault>
+    requires some { 0 < length (front.now ++ back.now) }
+    requires front { AllByRecursion IsWritable front.now }
+    requires back { AllByRecursion IsWritable back.now }
+    ensures bytes { IfOk result (λ v. v.items ≡ closed_batch (front.now ++ back.now)) }
+    ensures each { OnOk result (AllByRecursion IsSpelled (front.now ++ back.now)) }
+    ensures short { OnOk result (gate + 6 + length (spelled (front.now ++ back.now)) ≤ 268435456) }
+    ensures full { IsErrOf result (LogFault.Full spot) → IsTooLong gate (front.now ++ back.now) }
+    ensures faults { IfErr result (λ e. (e ≡ LogFault.Full spot) ⊎ (e ≡ LogFault.Memory)) }
+{
+    let records = spell(alloc, front, back)?;
+    if gate as usize + 6 + records.len() > MOST_LOG_BYTES {
+        return Err(LogFault::Full { spot });
+    }
+    let mut batch = Vec::new(alloc);
+    put_batch(&records, &mut batch)?;
+    Ok(batch)
+}
+
+/// Appends these records and then those in one batch behind the gate at a place, and opens it. The memory that the
+/// batch wants is taken before the first device call. `Full` comes, before any device call, where the file would have
+/// more than 268,435,456 bytes; `Device` only where the home failed; `Memory` before or in the first device call.
 pub(crate) fn append<H: Home>(
     alloc: Global,
     disk: &mut Disk,
@@ -80,34 +108,35 @@ pub(crate) fn append<H: Home>(
     gate: u32,
     front: &[Record],
     back: &[Record],
-    stop: Option<Stop>,
+    stop: &mut Option<Stop>,
 ) -> Result<Ending, LogFault>
     requires agrees { Agrees (H.file home.old disk.old.spot) (H.reach home.old disk.old.spot) (read_of disk.old.state) }
     requires stable { disk.old.state.pending ≡ [] }
-    requires stop { IfSome stop (λ s. (1 ≤ s.call) × (s.call ≤ 4)) }
+    requires stop { IfSome stop.old (λ s. (1 ≤ s.call) × (s.call ≤ 4)) }
     requires ends { (kept : List (ℕ × Record)) × EndsAt disk.old.state.stable gate kept }
     requires some { 0 < length (front.now ++ back.now) }
     requires front { AllByRecursion IsWritable front.now }
     requires back { AllByRecursion IsWritable back.now }
     ensures spot { disk.new.spot ≡ disk.old.spot }
-    ensures ended { (kept : List (ℕ × Record)) → EndsAt disk.old.state.stable gate kept → IfOk result (λ e. IsEnding e stop disk.new gate kept (front.now ++ back.now)) }
+    ensures ended { (kept : List (ℕ × Record)) → EndsAt disk.old.state.stable gate kept → IfOk result (λ e. IsEnding e stop.old disk.new gate kept (front.now ++ back.now)) }
+    ensures disarmed { OnOk result (stop.new ≡ None) }
+    ensures stop { IfSome stop.new (λ s. (1 ≤ s.call) × (s.call ≤ 4)) }
     ensures stable { OnOk result (disk.new.state.pending ≡ []) }
     ensures agrees { OnOk result (Agrees (H.file home.new disk.old.spot) (H.reach home.new disk.old.spot) (read_of disk.new.state)) }
     ensures clean { OnOk result (IsClean (H.file home.new disk.old.spot)) }
     ensures full { IsErrOf result (LogFault.Full disk.old.spot) → IsTooLong gate (front.now ++ back.now) }
+    ensures too_long { IsTooLong gate (front.now ++ back.now) → IsErrOf result (LogFault.Full disk.old.spot) ⊎ IsErrOf result LogFault.Memory }
+    ensures untouched { IsTooLong gate (front.now ++ back.now) → (disk.new ≡ disk.old) × (stop.new ≡ stop.old) × (home.new ≡ home.old) }
     ensures short { OnOk result (gate + 6 + length (spelled (front.now ++ back.now)) ≤ 268435456) }
     ensures told { (kept : List (ℕ × Record)) → EndsAt disk.old.state.stable gate kept → OnErr result ((f : File) → H.file home.new disk.old.spot ≡ Some f → OldOrBoth f.bytes gate kept (front.now ++ back.now)) }
+    ensures memory { (kept : List (ℕ × Record)) → EndsAt disk.old.state.stable gate kept → IsErrOf result LogFault.Memory → (f : File) → H.file home.new disk.old.spot ≡ Some f → EndsAt f.bytes gate kept }
     ensures faults { IfErr result (IsOfAppend disk.old.spot) }
     ensures rest { RestStays H.file H.reach H.entered H.faults disk.old.spot home.old home.new }
     ensures device { IsErrOf result (LogFault.Device disk.old.spot) → HasFailed H.faults H.last_failed disk.old.spot home.old home.new }
 {
-    let records = spell(alloc, front, back)?;
-    if gate as usize + 6 + records.len() > MOST_LOG_BYTES {
-        return Err(LogFault::Full { spot: disk.spot() });
-    }
-    let mut batch = Vec::new(alloc);
-    put_batch(&records, &mut batch)?;
-    let next = gate + 5 + records.len() as u32;
+    let batch = batch_of(alloc, disk.spot(), gate, front, back)?;
+    let next = gate + batch.len() as u32;
+    let stop = stop.take();
     match write_batch(disk, home, gate, &batch, stop) {
         Ok(()) => Ok(Ending::Whole { next }),
         Err(DiskFault::Stopped { call }) => {

@@ -25,6 +25,7 @@ fn open_file<H: Home>(alloc: Global, home: &mut H, spot: Spot) -> Result<Option<
     ensures told_long { IfOk result (λ o. IfNone o (IsLonger 268435456 (H.file home.old spot))) }
     ensures told { IfOk result (λ o. IfSome o (λ d. IsToldAs spot (H.file home.old spot) d)) }
     ensures short { IfOk result (λ o. IfSome o (λ d. length d.state.stable ≤ 268435456)) }
+    ensures told_short { IfOk result (λ o. IfSome o (λ d. IsWithin 268435456 (H.file home.old spot))) }
     ensures file { H.file home.new spot ≡ H.file home.old spot }
     ensures rest { RestStays H.file H.reach H.entered H.faults spot home.old home.new }
     ensures faults { IfErr result (IsOfDevice spot) }
@@ -142,6 +143,7 @@ impl Log {
         ensures attached { IfOk result (λ log. (a : DiskView) × (b : DiskView) × IsToldAs (spot_of node 0) (H.file home.old (spot_of node 0)) a
             × IsToldAs (spot_of node 1) (H.file home.old (spot_of node 1)) b × IsAttached node a b log) }
         ensures unused { resume ≡ false → OnOk result (IsWithin 1 (H.file home.old (spot_of node 0)) × IsWithin 1 (H.file home.old (spot_of node 1))) }
+        ensures short { OnOk result (IsWithin 268435456 (H.file home.old (spot_of node 0)) × IsWithin 268435456 (H.file home.old (spot_of node 1))) }
         ensures held { IfOk result (λ log. IsHeld H.file H.reach home.new log) }
         ensures faults { IfErr result (IsOfAttach node resume (H.file home.old (spot_of node 0)) (H.file home.old (spot_of node 1))) }
         ensures file_a { H.file home.new (spot_of node 0) ≡ H.file home.old (spot_of node 0) }

@@ -1,6 +1,7 @@
 //! Gates that are closed.
-ghost use Rattle.std.specs.Prelude.{◌≡◌, ◌∷◌, [], ℕ, List, length, OnOk, OnErr, IfErr, IsErrOf, Some, true, false};
+ghost use Rattle.std.specs.Prelude.{◌≡◌, ◌≤◌, ◌∷◌, [], ℕ, List, length, OnOk, OnErr, IfErr, IsErrOf, Some, true, false};
 ghost use Rattle.co_outside.specs.Home.{File};
+ghost use Rattle.co_record.specs.declared.record.Record.{Record};
 ghost use Rattle.co_disk.specs.DiskModel.{read_of};
 ghost use Rattle.co_disk.specs.Homes.{Agrees, IsClean, RestStays, HasFailed};
 ghost use Rattle.co_frame.specs.LogText.{IsLogText};
@@ -8,7 +9,10 @@ ghost use Rattle.co_log.specs.Fresh.{IsOfDevice};
 ghost use Rattle.co_log.specs.LogFile.{EndsAt};
 
 use crate::fault::LogFault;
+use crate::log::Log;
+use crate::stop::arm_for;
 use crate::writing::write_through;
+use co_base::Marks;
 use co_disk::{Disk, DiskFault};
 use co_frame::CLOSED_GATE;
 use co_outside::Home;
@@ -24,7 +28,7 @@ pub(crate) fn close_unmade<H: Home>(disk: &mut Disk, home: &mut H) -> Result<(),
     ensures ends { OnOk result (EndsAt disk.new.state.stable 0 []) }
     ensures stable { OnOk result (disk.new.state.pending ≡ []) }
     ensures agrees { OnOk result (Agrees (H.file home.new disk.old.spot) (H.reach home.new disk.old.spot) (read_of disk.new.state)) }
-    ensures told { OnErr result ((f : File) → H.file home.new disk.old.spot ≡ Some f → IsLogText f.bytes []) }
+    ensures told { OnErr result ((f : File) → H.file home.new disk.old.spot ≡ Some f → length f.bytes ≤ 1) }
     ensures faults { IfErr result (IsOfDevice disk.old.spot) }
     ensures rest { RestStays H.file H.reach H.entered H.faults disk.old.spot home.old home.new }
     ensures device { IsErrOf result (LogFault.Device disk.old.spot) → HasFailed H.faults H.last_failed disk.old.spot home.old home.new }
@@ -39,5 +43,54 @@ pub(crate) fn close_unmade<H: Home>(disk: &mut Disk, home: &mut H) -> Result<(),
         Err(DiskFault::Memory) => Err(LogFault::Memory),
         Err(DiskFault::Stopped { .. }) => unreachable!(),
         Err(DiskFault::Differs { .. } | DiskFault::Long) => unreachable!(),
+    }
+}
+
+impl Log {
+    ghost use Rattle.co_record.specs.Gate.{begins_closed};
+    ghost use Rattle.co_log.specs.Current.{IsCurrentOf, IsOrdered};
+    ghost use Rattle.co_log.specs.Forcing.{IsDone, IsOfForce};
+    ghost use Rattle.co_log.specs.LogView.{IsHeld};
+    ghost use Rattle.co_log.specs.Spare.{IsClosing, IsSpareImage};
+
+    /// Closes the first gate of the spare file, in two device calls: it writes `00` there and syncs. The
+    /// current file is not touched, and whatever the answer is, it stays the current one.
+    ///
+    /// `Stopped` comes at the armed device call; `Device` only where the home failed.
+    pub fn close_spare<H: Home>(&mut self, home: &mut H) -> Result<(), LogFault>
+        requires held { IsHeld H.file H.reach home.old self.old }
+        requires still { self.old.spare.state.pending ≡ [] }
+        requires unclosed { begins_closed self.old.spare.state.stable ≡ false }
+        ensures closing { IsClosing self.old self.new result }
+        ensures held { IsDone result → IsHeld H.file H.reach home.new self.new }
+        ensures clean { IsDone result → IsClean (H.file home.new self.old.spare.spot) }
+        ensures told { (f : File) → H.file home.new self.old.spare.spot ≡ Some f → IsSpareImage self.old.spare.state.stable f.bytes }
+        ensures current { (items : List (ℕ × Record)) → IsOrdered self.old items → (c s : File) → H.file home.new self.old.current.spot ≡ Some c → H.file home.new self.old.spare.spot ≡ Some s → IsCurrentOf self.old.node self.old.generation c.bytes s.bytes items }
+        ensures faults { IfErr result (IsOfForce self.old.spare.spot) }
+        ensures rest { RestStays H.file H.reach H.entered H.faults self.old.spare.spot home.old home.new }
+        ensures device { IsErrOf result (LogFault.Device self.old.spare.spot) → HasFailed H.faults H.last_failed self.old.spare.spot home.old home.new }
+    {
+        let stop = self.stop.take();
+        arm_for(&mut self.spare, stop);
+        match write_through(&mut self.spare, home, 0, &[CLOSED_GATE]) {
+            Ok(()) => {
+                self.spare.disarm();
+                Ok(())
+            }
+            Err(DiskFault::Stopped { call }) => {
+                self.waiting.clear();
+                let marks = Marks::new(self.alloc);
+                Err(LogFault::Stopped {
+                    call,
+                    stable: false,
+                    marks,
+                })
+            }
+            Err(DiskFault::Device) => Err(LogFault::Device {
+                spot: self.spare.spot(),
+            }),
+            Err(DiskFault::Memory) => Err(LogFault::Memory),
+            Err(DiskFault::Differs { .. } | DiskFault::Long) => unreachable!(),
+        }
     }
 }

@@ -1,5 +1,5 @@
 //! What holds of every log write.
-ghost use Rattle.std.specs.Prelude.{ℕ, List, ◌≡◌, ◌<◌, ◌≤◌, true, false, [], ◌⊎◌};
+ghost use Rattle.std.specs.Prelude.{ℕ, List, ◌≡◌, ◌<◌, ◌≤◌, true, false, [], ◌⊎◌, Result};
 ghost use Rattle.std.specs.List.{AllByRecursion};
 ghost use Rattle.co_base.specs.declared.leaves.Leaves.{Leaves};
 ghost use Rattle.co_disk.specs.DiskModel.{IsImage, IsChosen};
@@ -9,8 +9,14 @@ ghost use Rattle.co_record.specs.Spelling.{IsSpelled};
 ghost use Rattle.co_record.specs.Stored.{HasRecords};
 ghost use Rattle.co_base.specs.declared.node.Node.{Node};
 ghost use Rattle.co_disk.specs.DiskView.{DiskView};
-ghost use Rattle.co_log.specs.Attaching.{IsAttached};
-ghost use Rattle.co_log.specs.Fresh.{IsFresh};
+ghost use Rattle.co_log.specs.Attaching.{built, IsAttached};
+ghost use Rattle.co_base.specs.Nodes.{IsValidNode};
+ghost use Rattle.co_base.specs.declared.mark.Mark.{Mark};
+ghost use Rattle.co_log.specs.declared.fault.LogFault.{LogFault};
+ghost use Rattle.co_log.specs.Current.{IsCurrentOf, IsOrdered};
+ghost use Rattle.co_log.specs.Forcing.{IsForced, IsDone};
+ghost use Rattle.co_log.specs.Fresh.{IsFresh, IsMade, header_alone};
+ghost use Rattle.co_log.specs.Spare.{IsClosing, IsFilling};
 ghost use Rattle.co_log.specs.LogView.{LogView, IsLive};
 ghost use Rattle.co_log.specs.BatchWrite.{closed_batch, batch_pending, gate_pending, disk_at, disk_after};
 ghost use Rattle.co_record.specs.Gate.{batch_is_stable};
@@ -42,4 +48,28 @@ pub fn images_are_old_or_new()
 pub fn attached_logs_stand()
     ensures { (node : Node) (a b : DiskView) (log : LogView) → a.state.pending ≡ [] → b.state.pending ≡ [] → IsAttached node a b log →
         IsFresh log ⊎ ((items : List (ℕ × Record)) × IsLive log items) }
+{}
+
+/// The two files of a log stay in order: the current one begins with a header of its generation, and the
+/// spare has no batch or a smaller generation. A log that is attached or made has its files so, and after
+/// each call that did its work or was stopped they are so again.
+pub fn files_stay_in_order()
+    ensures attached { (node : Node) (a b : DiskView) (log : LogView) → IsValidNode node → a.state.pending ≡ [] → b.state.pending ≡ [] → IsAttached node a b log →
+        (IsFresh log × IsValidNode log.node) ⊎ ((items : List (ℕ × Record)) × IsOrdered log items) }
+    ensures made { (log after : LogView) → IsFresh log → IsValidNode log.node → IsMade log after → IsOrdered after (header_alone log.node) }
+    ensures forced { (log after : LogView) (items : List (ℕ × Record)) (more : List Record) (result : Result (List Mark) LogFault) → IsOrdered log items →
+        IsForced log items more after result → IsDone result → (later : List (ℕ × Record)) × IsOrdered after later }
+    ensures closed { (log after : LogView) (items : List (ℕ × Record)) (result : Result (Unit {0}) LogFault) → IsOrdered log items →
+        IsClosing log after result → IsDone result → IsOrdered after items }
+    ensures filled { (log after : LogView) (items : List (ℕ × Record)) (more : List Record) (result : Result Mark LogFault) → IsOrdered log items →
+        IsFilling log more after result → IsDone result → (later : List (ℕ × Record)) × IsOrdered after later }
+{}
+
+/// A start over two files of which one is current attaches that one as the current file, with its generation
+/// and its records.
+pub fn starts_find_the_current_file()
+    ensures part_a { (node : Node) (a b : DiskView) (log : LogView) (generation : ℕ) (items : List (ℕ × Record)) (current : IsCurrentOf node generation a.state.stable b.state.stable items) →
+        IsAttached node a b log → log ≡ built node a b current.gate generation }
+    ensures part_b { (node : Node) (a b : DiskView) (log : LogView) (generation : ℕ) (items : List (ℕ × Record)) (current : IsCurrentOf node generation b.state.stable a.state.stable items) →
+        IsAttached node a b log → log ≡ built node b a current.gate generation }
 {}

@@ -16,8 +16,13 @@ mod stop;
 mod writing;
 
 pub use fault::{LogFault, NodeFault};
-pub use laws::{attached_logs_stand, gates_end_files, images_are_old_or_new};
+pub use laws::{
+    attached_logs_stand, files_stay_in_order, gates_end_files, images_are_old_or_new,
+    starts_find_the_current_file,
+};
 pub use log::Log;
 
+#[cfg(test)]
+mod test_run;
 #[cfg(test)]
 mod tests;

@@ -52,7 +52,7 @@ impl Log {
     ghost use Rattle.co_log.specs.Appending.{IsTooLong};
     ghost use Rattle.co_record.specs.Gate.{begins_closed};
     ghost use Rattle.co_log.specs.Forcing.{IsForced, IsDone, IsOfForce};
-    ghost use Rattle.co_log.specs.LogFile.{OldOrBoth};
+    ghost use Rattle.co_log.specs.LogFile.{EndsAt, OldOrBoth};
     ghost use Rattle.co_log.specs.LogView.{IsLive, IsHeld, IsHeader, lengths_of};
 
     /// The lengths of both files in bytes, that of part `a` first.
@@ -128,9 +128,9 @@ impl Log {
     /// Appends one batch in one log write: the waiting records in order, and then this one. Its four device
     /// calls are: write the batch with a closed gate behind it, sync, write the open gate before it, sync.
     ///
-    /// `Full` comes before any device call where the file would have more than 268,435,456 bytes;
-    /// `Stopped` at the armed device call; `Device` only where the home failed; `Memory` before or in the
-    /// first device call.
+    /// `Full` comes where the file would have more than 268,435,456 bytes, and changes nothing; `Stopped` at
+    /// the armed device call; `Device` only where the home failed; `Memory` before or in the first device
+    /// call, and the file has the old records alone then.
     pub fn force<H: Home>(&mut self, home: &mut H, item: Record) -> Result<Marks, LogFault>
         requires held { IsHeld H.file H.reach home.old self.old }
         requires live { (items : List (ℕ × Record)) × IsLive self.old items }
@@ -140,14 +140,16 @@ impl Log {
         ensures held { IsDone result → IsHeld H.file H.reach home.new self.new }
         ensures clean { IsDone result → IsClean (H.file home.new self.old.current.spot) }
         ensures full { IsErrOf result (LogFault.Full self.old.current.spot) → IsTooLong self.old.gate (self.old.waiting ++ item ∷ []) }
+        ensures too_long { IsTooLong self.old.gate (self.old.waiting ++ item ∷ []) → IsErrOf result (LogFault.Full self.old.current.spot) ⊎ IsErrOf result LogFault.Memory }
+        ensures untouched { IsTooLong self.old.gate (self.old.waiting ++ item ∷ []) → (self.new ≡ self.old) × (home.new ≡ home.old) }
         ensures told { (items : List (ℕ × Record)) → IsLive self.old items → (f : File) → H.file home.new self.old.current.spot ≡ Some f → IsDone result ⊎ OldOrBoth f.bytes self.old.gate items (self.old.waiting ++ item ∷ []) }
+        ensures memory { (items : List (ℕ × Record)) → IsLive self.old items → IsErrOf result LogFault.Memory → (f : File) → H.file home.new self.old.current.spot ≡ Some f → EndsAt f.bytes self.old.gate items }
         ensures faults { IfErr result (IsOfForce self.old.current.spot) }
         ensures rest { RestStays H.file H.reach H.entered H.faults self.old.current.spot home.old home.new }
         ensures device { IsErrOf result (LogFault.Device self.old.current.spot) → HasFailed H.faults H.last_failed self.old.current.spot home.old home.new }
     {
         let last = [item];
         let told = marks(self.alloc, self.node, self.waiting.as_slice(), &last)?;
-        let stop = self.stop.take();
         let ending = append(
             self.alloc,
             &mut self.current,
@@ -155,7 +157,7 @@ impl Log {
             self.gate,
             self.waiting.as_slice(),
             &last,
-            stop,
+            &mut self.stop,
         )?;
         self.waiting.clear();
         match ending {

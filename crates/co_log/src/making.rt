@@ -15,11 +15,13 @@ use co_record::Record;
 
 impl Log {
     ghost use Rattle.co_disk.specs.Homes.{IsClean, RestStays, HasFailed};
-    ghost use Rattle.co_log.specs.Fresh.{IsFresh, IsMade, NoneOrThese, IsOfDevice, header_alone};
+    ghost use Rattle.co_log.specs.Fresh.{IsFresh, IsMade, IsMaking, IsOfDevice, header_alone};
     ghost use Rattle.co_log.specs.LogView.{IsHeld};
 
     /// Makes a fresh log: closes the first gate of its current file, where that is empty or open, and
     /// writes a header of generation 1 behind it. An armed stop stays for a later log write.
+    ///
+    /// A file has no second byte before its closed gate is stable, whatever the answer is.
     ///
     /// `Device` comes only where the home failed, and `Memory` where there was none.
     pub fn make<H: Home>(&mut self, home: &mut H) -> Result<Mark, LogFault>
@@ -30,7 +32,7 @@ impl Log {
         ensures mark { IfOk result (λ m. m ≡ record { node = self.old.node; kind = kind.Header; number = 1 }) }
         ensures held { OnOk result (IsHeld H.file H.reach home.new self.new) }
         ensures clean { OnOk result (IsClean (H.file home.new self.old.current.spot)) }
-        ensures told { (f : File) → H.file home.new self.old.current.spot ≡ Some f → NoneOrThese f.bytes (header_alone self.old.node) }
+        ensures told { (f : File) → H.file home.new self.old.current.spot ≡ Some f → IsMaking f.bytes (header_alone self.old.node) }
         ensures faults { IfErr result (IsOfDevice self.old.current.spot) }
         ensures rest { RestStays H.file H.reach H.entered H.faults self.old.current.spot home.old home.new }
         ensures device { IsErrOf result (LogFault.Device self.old.current.spot) → HasFailed H.faults H.last_failed self.old.current.spot home.old home.new }
@@ -40,7 +42,16 @@ impl Log {
             node: self.node,
             generation: 1,
         }];
-        let ending = append(self.alloc, &mut self.current, home, 0, &header, &[], None)?;
+        let mut unarmed = None;
+        let ending = append(
+            self.alloc,
+            &mut self.current,
+            home,
+            0,
+            &header,
+            &[],
+            &mut unarmed,
+        )?;
         match ending {
             Ending::Whole { next } => self.gate = next,
             Ending::Stopped { .. } => unreachable!(),

@@ -1,9 +1,9 @@
-//! Logs that are read again after a crash.
-ghost use Rattle.std.specs.Prelude.{◌≡◌, ◌⊎◌, OnOk, IfErr, IsErrOf};
+//! Crashes between events, and logs that are read again.
+ghost use Rattle.std.specs.Prelude.{◌≡◌, ◌⊎◌, [], None, OnOk, IfErr, IsErrOf, IsOk};
 ghost use Rattle.co_outside.specs.declared.spot.Spot.{Spot};
 ghost use Rattle.co_disk.specs.DiskModel.{read_of};
 ghost use Rattle.co_disk.specs.Homes.{Agrees, RestStays, HasFailed};
-ghost use Rattle.co_log.specs.Rereading.{IsOfReread};
+ghost use Rattle.co_log.specs.Rereading.{IsOfReread, AreReread};
 
 use crate::fault::LogFault;
 use crate::log::Log;
@@ -52,11 +52,26 @@ impl Log {
         ensures spare { H.file home.new self.old.spare.spot ≡ H.file home.old self.old.spare.spot }
         ensures held { IsHeld H.file H.reach home.new self.new }
         ensures faults { IfErr result (λ e. IsOfReread (H.file home.old self.old.current.spot) self.old.current e ⊎ IsOfReread (H.file home.old self.old.spare.spot) self.old.spare e) }
-        ensures same { OnOk result (H.gives home.old self.old.current.spot 268435457 (read_of self.old.current.state)) }
+        ensures same { OnOk result (AreReread H.gives H.file H.reach H.entered H.faults self.old home.old home.new) }
         ensures device { (spot : Spot) → IsErrOf result (LogFault.Device spot) → HasFailed H.faults H.last_failed spot home.old home.new }
     {
         reread(&mut self.current, home)?;
         reread(&mut self.spare, home)?;
+        Ok(())
+    }
+
+    /// A crash between events: the waiting records and the armed stop are lost. It makes no call of the
+    /// home, since nothing pends between events.
+    pub fn cut<H: Home>(&mut self, _home: &mut H) -> Result<(), LogFault>
+        requires held { IsHeld H.file H.reach _home.old self.old }
+        requires still { (self.old.current.state.pending ≡ []) × (self.old.spare.state.pending ≡ []) }
+        ensures log { self.new ≡ record self.old { waiting = []; stop = None } }
+        ensures home { _home.new ≡ _home.old }
+        ensures held { IsHeld H.file H.reach _home.new self.new }
+        ensures ok { IsOk result }
+    {
+        self.waiting.clear();
+        self.stop = None;
         Ok(())
     }
 }

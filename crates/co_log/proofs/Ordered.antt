@@ -1,0 +1,218 @@
+-- Logs whose files are in order stay so.
+use Rattle.std.proofs.Common.{◌≡◌, ◌⊎◌, ℕ, ◌+◌, ◌<◌, Bool, true, false, List, [], ◌∷◌, ◌++◌, refl, sym, ap, subst, ◌∙◌, arith, inl, inr}
+use Rattle.std.specs.Prelude.{◌==◌, Option, Some, Result, Ok, Err}
+use Rattle.co_base.specs.Nodes.{IsValidNode}
+use Rattle.co_base.specs.declared.mark.Mark.{Mark}
+use Rattle.co_base.specs.declared.node.Node.{Node}
+use Rattle.co_outside.specs.Home.{File}
+use Rattle.co_outside.specs.declared.spot.Spot.{Spot}
+use Rattle.co_disk.specs.DiskModel.{read_of}
+use Rattle.co_disk.specs.DiskView.{DiskView}
+use Rattle.co_disk.specs.Homes.{Agrees}
+use Rattle.co_record.specs.declared.record.Record.{Record}
+use Rattle.co_record.specs.declared.record.Record.TheVariants.{Header}
+use Rattle.co_log.specs.declared.fault.LogFault.{LogFault}
+use Rattle.co_log.specs.declared.fault.LogFault.TheVariants.{Device, Stopped, Bad, Differs, Full, InUse, Memory}
+use Rattle.co_frame.specs.LogText.{IsLogText}
+use Rattle.co_record.specs.Gate.{closes_spare}
+use Rattle.co_log.specs.Attaching.{built, spot_of, IsToldAs, IsOlder, IsAttached, IsCurrent}
+use Rattle.co_log.specs.Current.{BeginsWith, IsOrdered, IsReady}
+use Rattle.co_log.specs.Forcing.{IsWritten, IsForced, IsDone}
+use Rattle.co_log.specs.Fresh.{IsFresh, IsMade, header_alone}
+use Rattle.co_log.specs.LogFile.{next_items, placed_from, EndsAt}
+use Rattle.co_log.specs.LogView.{LogView, IsLive, IsHeld}
+use Rattle.co_log.specs.Spare.{IsClosed, IsClosing, IsFilled, IsUnfilled, IsFilledIf, IsFilling, filling}
+use Rattle.co_log.proofs.Attached.{behind_front}
+use Rattle.co_log.proofs.Currents.{log_file, none_older, image_older}
+use Rattle.co_log.proofs.Unmade.{ends_at_once}
+
+begins_more : (node : Node) (generation : ℕ) (items more : List (ℕ × Record)) → BeginsWith node generation items → BeginsWith node generation (items ++ more)
+begins_more node generation [] more begins = absurd begins
+begins_more node generation (x ∷ items) more begins = begins
+
+begins_next : (stable : Bool) (node : Node) (generation gate : ℕ) (items : List (ℕ × Record)) (more : List Record) → BeginsWith node generation items → BeginsWith node generation (next_items stable gate items more)
+begins_next true node generation gate items more begins = begins_more node generation items (placed_from (gate + 5) more) begins
+begins_next false node generation gate items more begins = begins
+
+-- the same of a log with the same node and generation
+moved : (log after : LogView) (items : List (ℕ × Record)) → after.node ≡ log.node → after.generation ≡ log.generation → BeginsWith log.node log.generation items → BeginsWith after.node after.generation items
+moved log after items node generation begins = subst (λ (n : Node). BeginsWith n after.generation items) (sym node) (subst (λ (g : ℕ). BeginsWith log.node g items) (sym generation) begins)
+
+older_moved : (log after : LogView) (spare : List ℕ) → after.node ≡ log.node → after.generation ≡ log.generation → IsOlder log.node spare log.generation → IsOlder after.node spare after.generation
+older_moved log after spare node generation older = subst (λ (n : Node). IsOlder n spare after.generation) (sym node) (subst (λ (g : ℕ). IsOlder log.node spare g) (sym generation) older)
+
+pub made_ordered : (log after : LogView) → IsFresh log → IsValidNode log.node → IsMade log after → IsOrdered after (header_alone log.node)
+made_ordered log after fresh valid made =
+    let begins : BeginsWith log.node 1 (header_alone log.node) = refl in
+    record {
+      valid = subst IsValidNode (sym made.node) valid;
+      live = made.live;
+      header = subst (λ (n : Node). BeginsWith n after.generation (header_alone log.node)) (sym made.node) (subst (λ (g : ℕ). BeginsWith log.node g (header_alone log.node)) (sym made.generation) begins);
+      still = subst (λ (d : DiskView). d.state.pending ≡ []) (sym made.spare) fresh.spare_still;
+      older = inl (subst (λ (d : DiskView). IsLogText d.state.stable []) (sym made.spare) fresh.spare_none);
+    }
+
+pub written_ordered : (stable : Bool) (log after : LogView) (items : List (ℕ × Record)) (more : List Record) → IsOrdered log items → IsWritten stable log items more after → IsOrdered after (next_items stable log.gate items more)
+written_ordered stable log after items more o w = record {
+  valid = subst IsValidNode (sym w.node) o.valid;
+  live = w.live;
+  header = moved log after (next_items stable log.gate items more) w.node w.generation (begins_next stable log.node log.generation log.gate items more o.header);
+  still = subst (λ (d : DiskView). d.state.pending ≡ []) (sym w.spare) o.still;
+  older = older_moved log after after.spare.state.stable w.node w.generation (subst (λ (d : DiskView). IsOlder log.node d.state.stable log.generation) (sym w.spare) o.older);
+}
+
+live_moved : (log after : LogView) (items : List (ℕ × Record)) → after.current ≡ log.current → after.gate ≡ log.gate → IsLive log items → IsLive after items
+live_moved log after items current gate live = record {
+  made = subst (λ (n : ℕ). 0 < n) (sym gate) live.made;
+  still = subst (λ (d : DiskView). d.state.pending ≡ []) (sym current) live.still;
+  ends = subst (λ (n : ℕ). EndsAt after.current.state.stable n items) (sym gate) (subst (λ (d : DiskView). EndsAt d.state.stable log.gate items) (sym current) live.ends);
+}
+
+pub closed_ordered : (closed : Bool) (log after : LogView) (items : List (ℕ × Record)) → IsOrdered log items → IsClosed closed log after → IsOrdered after items
+closed_ordered closed log after items o c = record {
+  valid = subst IsValidNode (sym c.node) o.valid;
+  live = live_moved log after items c.current c.gate o.live;
+  header = moved log after items c.node c.generation o.header;
+  still = c.still;
+  older = older_moved log after after.spare.state.stable c.node c.generation (image_older log.node log.spare.state.stable after.spare.state.stable log.generation o.older c.image);
+}
+
+pub filled_ordered : (log after : LogView) (items : List (ℕ × Record)) (more : List Record) → IsOrdered log items → IsFilled log after more → IsOrdered after (placed_from 5 (filling log more))
+filled_ordered log after items more o f =
+    let begins : BeginsWith log.node (log.generation + 1) (placed_from 5 (filling log more)) = refl in
+    let older : IsOlder log.node log.current.state.stable (log.generation + 1) = inr (log.gate, log.generation, log_file log.node log.generation log.current.state.stable log.gate items o.live.ends o.header, omega arith) in
+    record {
+      valid = subst IsValidNode (sym f.node) o.valid;
+      live = f.live;
+      header = subst (λ (n : Node). BeginsWith n after.generation (placed_from 5 (filling log more))) (sym f.node) (subst (λ (g : ℕ). BeginsWith log.node g (placed_from 5 (filling log more))) (sym f.generation) begins);
+      still = subst (λ (d : DiskView). d.state.pending ≡ []) (sym f.spare) o.live.still;
+      older = subst (λ (n : Node). IsOlder n after.spare.state.stable after.generation) (sym f.node)
+          (subst (λ (g : ℕ). IsOlder log.node after.spare.state.stable g) (sym f.generation) (subst (λ (d : DiskView). IsOlder log.node d.state.stable (log.generation + 1)) (sym f.spare) older));
+    }
+
+pub unfilled_ordered : (log after : LogView) (items : List (ℕ × Record)) → IsOrdered log items → IsUnfilled log after → IsOrdered after items
+unfilled_ordered log after items o u = record {
+  valid = subst IsValidNode (sym u.node) o.valid;
+  live = live_moved log after items u.current u.gate o.live;
+  header = moved log after items u.node u.generation o.header;
+  still = u.still;
+  older = none_older after.node after.spare.state.stable after.generation (ends_at_once after.spare.state.stable u.closed);
+}
+
+-- ---- calls
+
+pub forced_ordered : (log after : LogView) (items : List (ℕ × Record)) (more : List Record) (result : Result (List Mark) LogFault) → IsOrdered log items → IsForced log items more after result → IsDone result → (later : List (ℕ × Record)) × IsOrdered after later
+forced_ordered log after items more (Ok marks) o f done = (next_items true log.gate items more, written_ordered true log after items more o f.2)
+forced_ordered log after items more (Err (Stopped call stable marks)) o f done = (next_items stable log.gate items more, written_ordered stable log after items more o f.4)
+forced_ordered log after items more (Err (Device spot)) o f done = absurd done
+forced_ordered log after items more (Err (Bad spot at)) o f done = absurd done
+forced_ordered log after items more (Err (Differs spot at kept read)) o f done = absurd done
+forced_ordered log after items more (Err (Full spot)) o f done = absurd done
+forced_ordered log after items more (Err (InUse spot)) o f done = absurd done
+forced_ordered log after items more (Err Memory) o f done = absurd done
+
+pub closing_ordered : (log after : LogView) (items : List (ℕ × Record)) (result : Result (Unit {0}) LogFault) → IsOrdered log items → IsClosing log after result → IsDone result → IsOrdered after items
+closing_ordered log after items (Ok x) o f done = closed_ordered true log after items o f.0
+closing_ordered log after items (Err (Stopped call stable marks)) o f done = closed_ordered (closes_spare f.0) log after items o f.5
+closing_ordered log after items (Err (Device spot)) o f done = absurd done
+closing_ordered log after items (Err (Bad spot at)) o f done = absurd done
+closing_ordered log after items (Err (Differs spot at kept read)) o f done = absurd done
+closing_ordered log after items (Err (Full spot)) o f done = absurd done
+closing_ordered log after items (Err (InUse spot)) o f done = absurd done
+closing_ordered log after items (Err Memory) o f done = absurd done
+
+pub filling_ordered : (log after : LogView) (items : List (ℕ × Record)) (more : List Record) (result : Result Mark LogFault) → IsOrdered log items → IsFilling log more after result → IsDone result → (later : List (ℕ × Record)) × IsOrdered after later
+filling_ordered log after items more (Ok mark) o f done = (placed_from 5 (filling log more), filled_ordered log after items more o f.2)
+filling_ordered log after items more (Err (Stopped call stable marks)) o f done = by_image stable f.4
+  where
+    by_image : (b : Bool) → IsFilledIf b log after more → (later : List (ℕ × Record)) × IsOrdered after later
+    by_image true is = (placed_from 5 (filling log more), filled_ordered log after items more o is)
+    by_image false is = (items, unfilled_ordered log after items o is)
+filling_ordered log after items more (Err (Device spot)) o f done = absurd done
+filling_ordered log after items more (Err (Bad spot at)) o f done = absurd done
+filling_ordered log after items more (Err (Differs spot at kept read)) o f done = absurd done
+filling_ordered log after items more (Err (Full spot)) o f done = absurd done
+filling_ordered log after items more (Err (InUse spot)) o f done = absurd done
+filling_ordered log after items more (Err Memory) o f done = absurd done
+
+-- ---- logs that are attached
+
+current_ordered : (node : Node) (current spare : DiskView) (log : LogView) → IsValidNode node → current.state.pending ≡ [] → spare.state.pending ≡ [] → IsCurrent node current spare log → (items : List (ℕ × Record)) × IsOrdered log items
+current_ordered node current spare log valid still spare_still c =
+    let first : ℕ × Record = (5, Header node c.generation) in
+    let here : LogView = built node current spare c.gate c.generation in
+    let begins : BeginsWith node c.generation (first ∷ c.file.0) = refl in
+    subst (λ (l : LogView). (items : List (ℕ × Record)) × IsOrdered l items) (sym c.is) (
+      first ∷ c.file.0,
+      record {
+        valid = valid;
+        live = record { made = behind_front current.state.stable c.gate first c.file.0 c.file.1; still = still; ends = c.file.1 };
+        header = begins;
+        still = spare_still;
+        older = c.older;
+      },
+    )
+
+pub attached_ordered : (node : Node) (a b : DiskView) (log : LogView) → IsValidNode node → a.state.pending ≡ [] → b.state.pending ≡ [] → IsAttached node a b log → (IsFresh log × IsValidNode log.node) ⊎ ((items : List (ℕ × Record)) × IsOrdered log items)
+attached_ordered node a b log valid still_a still_b attached = elim attached [
+  | inl fresh ↦ inl (subst (λ (l : LogView). IsFresh l × IsValidNode l.node) (sym fresh.0) (record { unmade = refl; still = still_a; spare_still = still_b; none = fresh.1; spare_none = fresh.2 }, valid))
+  | inr live ↦ inr (elim live [ inl one ↦ current_ordered node a b log valid still_a still_b one | inr other ↦ current_ordered node b a log valid still_b still_a other ])
+]
+
+-- ---- logs and their homes
+
+abbrev pub IsFound : LogView → Type 0
+IsFound log = (IsFresh log × IsValidNode log.node) ⊎ ((items : List (ℕ × Record)) × IsOrdered log items)
+
+pub found : (node : Node) (file_a file_b : Option File) (log : LogView) → IsValidNode node → ((a : DiskView) × (b : DiskView) × IsToldAs (spot_of node 0) file_a a × IsToldAs (spot_of node 1) file_b b × IsAttached node a b log) → IsFound log
+found node file_a file_b log valid told = attached_ordered node told.0 told.1 log valid told.2.still told.3.still told.4
+
+-- a log of which no file has a batch is fresh
+pub found_fresh : (log : LogView) → IsFound log → (log.gate == 0) ≡ true → IsFresh log × IsValidNode log.node
+found_fresh log is none = elim is [
+  | inl fresh ↦ fresh
+  | inr one ↦ absurd (let e : log.gate ≡ 0 = grind arith in omega (arith, one.1.live.made, e))
+]
+
+-- and any other stands for records
+pub found_ordered : (log : LogView) → IsFound log → (log.gate == 0) ≡ false → (items : List (ℕ × Record)) × IsOrdered log items
+found_ordered log is some = elim is [
+  | inl fresh ↦ absurd (let e : (log.gate == 0) ≡ true = ap (λ (n : ℕ). n == 0) fresh.0.unmade in cc)
+  | inr one ↦ one
+]
+
+pub ready_made : {H : Type 0} (file : H → Spot → Option File) (reach : H → Spot → ℕ) (home : H) (log after : LogView) → IsFresh log × IsValidNode log.node → IsMade log after → IsHeld file reach home after → IsReady file reach home after
+ready_made file reach home log after fresh made held = record { held = held; items = header_alone log.node; ordered = made_ordered log after fresh.0 fresh.1 made }
+
+pub ready_written : {H : Type 0} (file : H → Spot → Option File) (reach : H → Spot → ℕ) (home : H) (log after : LogView) (items : List (ℕ × Record)) (more : List Record) (stable : Bool) → IsOrdered log items → IsWritten stable log items more after → IsHeld file reach home after → IsReady file reach home after
+ready_written file reach home log after items more stable o w held = record { held = held; items = next_items stable log.gate items more; ordered = written_ordered stable log after items more o w }
+
+pub ready_closed : {H : Type 0} (file : H → Spot → Option File) (reach : H → Spot → ℕ) (home : H) (log after : LogView) (items : List (ℕ × Record)) (closed : Bool) → IsOrdered log items → IsClosed closed log after → IsHeld file reach home after → IsReady file reach home after
+ready_closed file reach home log after items closed o is held = record { held = held; items = items; ordered = closed_ordered closed log after items o is }
+
+pub ready_filled : {H : Type 0} (file : H → Spot → Option File) (reach : H → Spot → ℕ) (home : H) (log after : LogView) (items : List (ℕ × Record)) (more : List Record) (stable : Bool) → IsOrdered log items → IsFilledIf stable log after more → IsHeld file reach home after → IsReady file reach home after
+ready_filled file reach home log after items more true o is held = record { held = held; items = placed_from 5 (filling log more); ordered = filled_ordered log after items more o is }
+ready_filled file reach home log after items more false o is held = record { held = held; items = items; ordered = unfilled_ordered log after items o is }
+
+-- a log that keeps its disks, its gate and its generation
+pub ready_kept : {H : Type 0} (file : H → Spot → Option File) (reach : H → Spot → ℕ) (old home : H) (log after : LogView) → IsReady file reach old log → after.node ≡ log.node → after.current ≡ log.current → after.spare ≡ log.spare → after.gate ≡ log.gate → after.generation ≡ log.generation
+    → IsHeld file reach home after → IsReady file reach home after
+ready_kept file reach old home log after r node current spare gate generation held = record {
+  held = held;
+  items = r.items;
+  ordered = record {
+    valid = subst IsValidNode (sym node) r.ordered.valid;
+    live = live_moved log after r.items current gate r.ordered.live;
+    header = moved log after r.items node generation r.ordered.header;
+    still = subst (λ (d : DiskView). d.state.pending ≡ []) (sym spare) r.ordered.still;
+    older = older_moved log after after.spare.state.stable node generation (subst (λ (d : DiskView). IsOlder log.node d.state.stable log.generation) (sym spare) r.ordered.older);
+  };
+}
+
+-- and its home
+pub ready_same : {H : Type 0} (file : H → Spot → Option File) (reach : H → Spot → ℕ) (home : H) (log after : LogView) → IsReady file reach home log → after.node ≡ log.node → after.current ≡ log.current → after.spare ≡ log.spare → after.gate ≡ log.gate → after.generation ≡ log.generation → IsReady file reach home after
+ready_same file reach home log after r node current spare gate generation = ready_kept file reach home home log after r node current spare gate generation record {
+  apart = λ e. r.held.apart (sym (ap (λ (d : DiskView). d.spot) current) ∙ e ∙ ap (λ (d : DiskView). d.spot) spare);
+  current = subst (λ (d : DiskView). Agrees (file home d.spot) (reach home d.spot) (read_of d.state)) (sym current) r.held.current;
+  spare = subst (λ (d : DiskView). Agrees (file home d.spot) (reach home d.spot) (read_of d.state)) (sym spare) r.held.spare;
+}
