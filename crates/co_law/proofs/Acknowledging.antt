@@ -46,7 +46,7 @@ use Rattle.co_law_event.proofs.CoordEvents.{decides_there}
 use Rattle.co_law_event.proofs.ClientEvents.{by_there}
 use Rattle.co_law_event.proofs.LocalEvents.{next, batch, marks_decide}
 use Rattle.co_law_event.proofs.Steps.{step_keeps}
-use Rattle.co_law.proofs.Growing.{run_grows}
+use Rattle.co_law_moves.proofs.Growing.{run_grows}
 
 -- the answer alone says it
 says_sent : (messages : List Message) (a : Answer) → says_committed (map item.Sent messages ++ item.Answered a ∷ []) ≡ says_committed (item.Answered a ∷ [])

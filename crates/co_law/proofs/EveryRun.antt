@@ -6,17 +6,18 @@ use Rattle.co_plain.specs.declared.happening.Happening.{Happening}
 use Rattle.co_plain.specs.Opening.{Found, opened}
 use Rattle.co_plain.specs.Runs.{run}
 use Rattle.co_plain.specs.Decisions.{sites_of}
-use Rattle.co_plain.specs.Promises.{SerialReads, LogsAlone, LogsStaySound, Acknowledged}
+use Rattle.co_plain.specs.Promises.{SerialReads, LogsAlone, LogsStaySound, Acknowledged, MembersAgree}
 use Rattle.co_plain.specs.Invariants.{Kept}
 use Rattle.co_law_event.specs.HandedVerdicts.{AreTrueVerdicts}
 use Rattle.co_law_start.specs.OpenedLogs.{AreOpenable}
 use Rattle.co_law_base.proofs.Facts.{rest_of, serial_start, ReadSerially, Facts}
 use Rattle.co_law_event.proofs.Steps.{run_keeps}
 use Rattle.co_law_start.proofs.Start.{start_facts}
-use Rattle.co_law.proofs.Growing.{Grows, run_grows}
-use Rattle.co_law.proofs.Derived.{reads_at, logs_give, files_sound}
+use Rattle.co_law_moves.proofs.Growing.{Grows, run_grows}
+use Rattle.co_law_moves.proofs.Derived.{reads_at, logs_give, files_sound}
+use Rattle.co_law_agree.proofs.Agreement.{members_agree, opened_works}
 use Rattle.co_law.proofs.Acknowledging.{run_ack}
-use Rattle.co_law.proofs.KeptFrom.{kept, same_serial}
+use Rattle.co_law_moves.proofs.KeptFrom.{kept, same_serial}
 
 module _ (kinds : List Kind) (coords : ℕ) (fm fc : ℕ → Found) (hs : List Happening) (g : AreOpenable kinds coords fm fc) (v : AreTrueVerdicts hs (opened kinds coords fm fc)) where
   facts : Facts (run hs (opened kinds coords fm fc))
@@ -43,3 +44,6 @@ module _ (kinds : List Kind) (coords : ℕ) (fm fc : ℕ → Found) (hs : List H
 
   pub every_acknowledged : Acknowledged (opened kinds coords fm fc) hs
   every_acknowledged = record { decided = run_ack hs (opened kinds coords fm fc) (start_facts kinds coords fm fc g) v; once = facts.numbers.once }
+
+  pub every_agreement : MembersAgree (opened kinds coords fm fc) hs
+  every_agreement = members_agree hs (opened kinds coords fm fc) (start_facts kinds coords fm fc g) (opened_works kinds coords fm fc) v

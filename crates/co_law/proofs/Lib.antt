@@ -1,9 +1,7 @@
-pub mod Growing
-pub mod Derived
-pub mod KeptFrom
 pub mod Acknowledging
 pub mod Readable
 pub mod FreshLogs
-pub mod MoveByMove
 pub mod MoveRuns
 pub mod EveryRun
+pub mod EveryEvent
+pub mod EveryQuiet

@@ -17,9 +17,9 @@ use Rattle.co_plain.specs.Moves.{Move, Operate, Decide, CommitLocally, RecordYes
 use Rattle.co_law_base.proofs.Facts.{Facts}
 use Rattle.co_law_start.specs.OpenedLogs.{AreOpenable}
 use Rattle.co_law_start.proofs.Start.{start_facts}
-use Rattle.co_law.proofs.Growing.{Grows, stays, grows_on}
-use Rattle.co_law.proofs.KeptFrom.{kept}
-use Rattle.co_law.proofs.MoveByMove.{move_keeps}
+use Rattle.co_law_moves.proofs.Growing.{Grows, stays, grows_on}
+use Rattle.co_law_moves.proofs.KeptFrom.{kept}
+use Rattle.co_law_moves.proofs.MoveByMove.{move_keeps}
 
 -- no move changes the opened logs, and none takes a decision away
 effect_grows : (s : Federation) (move : Move) → Grows s (effect s move)

@@ -6,7 +6,7 @@ ghost use Rattle.co_plain.specs.Opening.{Found, OnlyOwnLogs, fresh, opened};
 ghost use Rattle.co_plain.specs.MemberView.{first_refused_at_member};
 ghost use Rattle.co_plain.specs.SoundLogs.{AreSound};
 ghost use Rattle.co_plain.specs.Runs.{run};
-ghost use Rattle.co_plain.specs.Promises.{SerialReads, LogsAlone, LogsStaySound, Acknowledged};
+ghost use Rattle.co_plain.specs.Promises.{SerialReads, LogsAlone, LogsStaySound, Acknowledged, MembersAgree};
 ghost use Rattle.co_plain.specs.Invariants.{Kept};
 ghost use Rattle.co_plain.specs.Moves.{Move, GuardsHold, all_effects};
 ghost use Rattle.co_law_event.specs.HandedVerdicts.{AreTrueVerdicts};
@@ -43,6 +43,15 @@ pub fn acknowledged()
         AreOpenable kinds coords found_member found_coord →
         AreTrueVerdicts hs (opened kinds coords found_member found_coord) →
         Acknowledged (opened kinds coords found_member found_coord) hs }
+{}
+
+/// No two members decide a transaction differently: where one has it among its committed ones, no other had it
+/// undecided at one moment and nowhere at a later one. A crash that loses it counts.
+pub fn agreement()
+    ensures { (kinds : List Kind) (coords : ℕ) (found_member found_coord : ℕ → Found) (hs : List Happening) →
+        AreOpenable kinds coords found_member found_coord →
+        AreTrueVerdicts hs (opened kinds coords found_member found_coord) →
+        MembersAgree (opened kinds coords found_member found_coord) hs }
 {}
 
 /// The logs of every run are sound again.

@@ -4,9 +4,13 @@
 //! file and no device call is in them. The argument is told move by move in `docs/PROOF.md`.
 #![tactic(auto)]
 
+mod events;
 mod laws;
+mod quiet;
 
+pub use events::{disarming, events_are_moves};
 pub use laws::{
-    acknowledged, fresh_logs, invariants, logs_alone, moves, readable_logs, serial_reads,
+    acknowledged, agreement, fresh_logs, invariants, logs_alone, moves, readable_logs, serial_reads,
     sound_logs,
 };
+pub use quiet::only_timers;

@@ -66,7 +66,7 @@ reads_first o spans r s h = by (span_read o) h
     by None h = tt
     by (Some span) h = λ q i. h q (reads-put span spans q ∙ or_left (span_has span q) (reads_key spans q) i)
 
-reads_rest : (span : Option Span) (spans : List Span) (q : List ℕ) → reads_key spans q ≡ true → reads_key (with_span span spans) q ≡ true
+pub reads_rest : (span : Option Span) (spans : List Span) (q : List ℕ) → reads_key spans q ≡ true → reads_key (with_span span spans) q ≡ true
 reads_rest None spans q h = h
 reads_rest (Some span) spans q h = reads-put span spans q ∙ or_right (span_has span q) (reads_key spans q) h
 

@@ -73,16 +73,16 @@ yes_apart b t n u vote y apart f =
     let p = passes_none (λ v other. not (v == t) && voted_holds (sets_of (operations_of b t)) other.sets) b.voted u vote (neither _ _ y.free).1 f in
     sym (ap (λ c. not c && voted_holds (sets_of (operations_of b t)) vote.sets) (ne_eqb u t (λ e. apart (sym e)))) ∙ p
 
-no_keys : (ks : List (List ℕ)) → least_key ks ≡ None → ks ≡ []
+pub no_keys : (ks : List (List ℕ)) → least_key ks ≡ None → ks ≡ []
 no_keys [] e = refl
 no_keys (k ∷ ks) e = absurd (let q : Some (least_from k ks) ≡ None = e in cc)
 
 -- both parts of an empty list are empty
-both_empty : {A : Type 0} (xs ys : List A) → xs ++ ys ≡ [] → (xs ≡ []) × (ys ≡ [])
+pub both_empty : {A : Type 0} (xs ys : List A) → xs ++ ys ≡ [] → (xs ≡ []) × (ys ≡ [])
 both_empty [] ys e = (refl, e)
 both_empty (x ∷ xs) ys e = absurd (let q : x ∷ (xs ++ ys) ≡ [] = e in cc)
 
-filter-append' : {A : Type 0} (p : A → Bool) (xs ys : List A) → filter p (xs ++ ys) ≡ filter p xs ++ filter p ys
+pub filter-append' : {A : Type 0} (p : A → Bool) (xs ys : List A) → filter p (xs ++ ys) ≡ filter p xs ++ filter p ys
 filter-append' p [] ys = refl
 filter-append' p (x ∷ xs) ys = by (filter-append' p xs ys) (p x)
   where
@@ -91,7 +91,7 @@ filter-append' p (x ∷ xs) ys = by (filter-append' p xs ys) (p x)
     by rest false = rest
 
 -- no change of a key in the range
-out_of_range : (span : Span) (ws : List Written) (q : List ℕ) → filter (span_has span) (map (λ w. w.key) ws) ≡ [] → span_has span q ≡ true → writes_key ws q ≡ false
+pub out_of_range : (span : Span) (ws : List Written) (q : List ℕ) → filter (span_has span) (map (λ w. w.key) ws) ≡ [] → span_has span q ≡ true → writes_key ws q ≡ false
 out_of_range span [] q e h = refl
 out_of_range span (w ∷ ws) q e h = by (out_of_range span ws q) (span_has span w.key) refl (same_key w.key q) refl
   where

@@ -49,19 +49,19 @@ module _ (s : Federation) (f : Facts s) (t c : ℕ) (session : Session) (e : loo
   abbrev pub s1 : Federation
   s1 = with_session s t (asked_to_end session)
 
-  f1 : Facts (with_session s t (asked_to_end session))
+  pub f1 : Facts (with_session s t (asked_to_end session))
   f1 = asked_state s f t session e
 
-  found : look (put s.sessions t (asked_to_end session)) t ≡ Some (asked_to_end session)
+  pub found : look (put s.sessions t (asked_to_end session)) t ≡ Some (asked_to_end session)
   found = put_here s.sessions t (asked_to_end session)
 
   stays1 : Facts (with_coord (with_session s t (asked_to_end session)) c (s.coord c))
   stays1 = coord_stays (with_session s t (asked_to_end session)) c f1
 
-  over1 : over (rest_of (with_session s t (asked_to_end session))) t ≡ true
+  pub over1 : over (rest_of (with_session s t (asked_to_end session))) t ≡ true
   over1 = or_left (asked_in (look (put s.sessions t (asked_to_end session)) t)) (holds s.used t) (ap asked_in found)
 
-  by_here : by_coord (look s.sessions t) c ≡ true
+  pub by_here : by_coord (look s.sessions t) c ≡ true
   by_here = ap (λ o. by_coord o c) e ∙ ap (λ k. same_node k (node.Coord c)) mine ∙ eq-eqb c c refl
 
   pub by_there : by_coord (look (put s.sessions t (asked_to_end session)) t) c ≡ true

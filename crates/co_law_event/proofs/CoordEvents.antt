@@ -158,7 +158,7 @@ module _ (s : Federation) (c : ℕ) (f : Facts s) where
   at_c P h = subst P (sym (at_here s.coord c (s.coord c))) h
 
   -- an abort of what is not in the table is true, or goes to a member that committed
-  unknown_aborts : (t m : ℕ) → was_sent s.sent (message.Ask t m c) ≡ true → look (s.coord c).table t ≡ None →
+  pub unknown_aborts : (t m : ℕ) → was_sent s.sent (message.Ask t m c) ≡ true → look (s.coord c).table t ≡ None →
       (belongs (rest_of s) t c × ((holds (s.coord c).table t || settled_at (rest_of s) c t) ≡ false)) ⊎ (holds (view Stable (s.member m)).committed t ≡ true)
   unknown_aborts t m a e = by (settled_at (rest_of s) c t) refl
     where

@@ -44,16 +44,16 @@ use Rattle.co_law_event.proofs.MemberEvents.{absent_dropped, active_is}
 use Rattle.co_law_event.proofs.ClientEvents.{asked_state}
 
 module _ (s : Federation) (f : Facts s) (t m : ℕ) (session : Session) (e : look s.sessions t ≡ Some session) (mine : session.by ≡ node.Member m) (unasked : session.asked ≡ false) where
-  f1 : Facts (with_session s t (asked_to_end session))
+  pub f1 : Facts (with_session s t (asked_to_end session))
   f1 = asked_state s f t session e
 
-  found : look (put s.sessions t (asked_to_end session)) t ≡ Some (asked_to_end session)
+  pub found : look (put s.sessions t (asked_to_end session)) t ≡ Some (asked_to_end session)
   found = put_here s.sessions t (asked_to_end session)
 
   stays1 : Facts (with_member (with_session s t (asked_to_end session)) m (s.member m))
   stays1 = member_stays (with_session s t (asked_to_end session)) m f1
 
-  unvoted : holds (s.member m).engine.voted t ≡ false
+  pub unvoted : holds (s.member m).engine.voted t ≡ false
   unvoted = false_from_ne_true (holds (s.member m).engine.voted t) (λ h.
       let p = holds_found (s.member m).engine.voted t h in
       local_apart s f.numbers t p.0.coord m session (((f.members m).views Memory).named t p.0.coord (ap (λ o. votes_for o p.0.coord) p.1 ∙ eq-eqb p.0.coord p.0.coord refl)) e mine)
@@ -110,7 +110,7 @@ module _ (s : Federation) (f : Facts s) (t m : ℕ) (session : Session) (e : loo
       (tt, aborts_quiet (rest_of s) (put s.sessions t (asked_to_end session)) (node.Member m) (s.member m).log.waiting (f.members m).waiting)
       ∙ decides_it s.decided
 
-  install_kind : (b : EngineState) (o : Option Vote) → (install_vote b t o).kind ≡ b.kind
+  pub install_kind : (b : EngineState) (o : Option Vote) → (install_vote b t o).kind ≡ b.kind
   install_kind b None = refl
   install_kind b (Some vote) = refl
 
@@ -136,7 +136,7 @@ module _ (s : Federation) (f : Facts s) (t m : ℕ) (session : Session) (e : loo
   by_verdict n (HeldBy u) v = member_stays s m f
   by_verdict n VoteYes v = forced_local n v (outcome_of (s.member m).log.armed 4)
 
-  positive : (n : ℕ) → (n == 0) ≡ false → 1 ≤ n
+  pub positive : (n : ℕ) → (n == 0) ≡ false → 1 ≤ n
   positive n h = grind (arith, nat_tests, h)
 
   by_count : (b : Bool) → (count_at session.told m == 0) ≡ b →

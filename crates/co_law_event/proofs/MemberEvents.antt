@@ -63,13 +63,13 @@ voted_is false true c e = refl
 voted_is false false true e = absurd (let z : IsInstalled ≡ IsVoted = e in cc)
 voted_is false false false e = absurd (let z : IsAbsent ≡ IsVoted = e in cc)
 
-installed_is : (a v c : Bool) → standing_by a v c ≡ IsInstalled → c ≡ true
+pub installed_is : (a v c : Bool) → standing_by a v c ≡ IsInstalled → c ≡ true
 installed_is true v c e = absurd (let z : IsActive ≡ IsInstalled = e in cc)
 installed_is false true c e = absurd (let z : IsVoted ≡ IsInstalled = e in cc)
 installed_is false false true e = refl
 installed_is false false false e = absurd (let z : IsAbsent ≡ IsInstalled = e in cc)
 
-absent_is : (a v c : Bool) → standing_by a v c ≡ IsAbsent → (a ≡ false) × (v ≡ false)
+pub absent_is : (a v c : Bool) → standing_by a v c ≡ IsAbsent → (a ≡ false) × (v ≡ false)
 absent_is true v c e = absurd (let z : IsActive ≡ IsAbsent = e in cc)
 absent_is false true c e = absurd (let z : IsVoted ≡ IsAbsent = e in cc)
 absent_is false false true e = absurd (let z : IsInstalled ≡ IsAbsent = e in cc)
@@ -185,7 +185,7 @@ module _ (s : Federation) (m : ℕ) (f : Facts s) where
   ask_event t IsAbsent e = stays
 
   -- who is voted here is no local one, so a commit record here decides nothing
-  voted_quiet : (t : ℕ) → holds (s.member m).engine.voted t ≡ true → (ds : List Decided) → decided_where (look s.sessions t) (node.Member m) t ds ≡ ds
+  pub voted_quiet : (t : ℕ) → holds (s.member m).engine.voted t ≡ true → (ds : List Decided) → decided_where (look s.sessions t) (node.Member m) t ds ≡ ds
   voted_quiet t h ds = by (look s.sessions t) refl
     where
       home : (c : ℕ) × belongs (rest_of s) t c
@@ -199,7 +199,7 @@ module _ (s : Federation) (m : ℕ) (f : Facts s) where
       by None e = refl
       by (Some session) e = node_of session e session.by refl
 
-  install_kind : (b : EngineState) (t : ℕ) (o : Option Vote) → (install_vote b t o).kind ≡ b.kind
+  pub install_kind : (b : EngineState) (t : ℕ) (o : Option Vote) → (install_vote b t o).kind ≡ b.kind
   install_kind b t None = refl
   install_kind b t (Some vote) = refl
 

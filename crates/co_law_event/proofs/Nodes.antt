@@ -27,14 +27,14 @@ use Rattle.co_law_member.proofs.VoteMoves.{keeps_cast, install_settled}
 use Rattle.co_law_member.proofs.Filling.{keeps_member_fill}
 use Rattle.co_law_coord.proofs.CoordMoves.{keeps_coord_crash, keeps_coord_restart, keeps_coord_arm, keeps_coord_close, keeps_coord_fill}
 
-same_family : {X : Type 0} (f : ℕ → X) (m : ℕ) → with_at f m (f m) ≡ f
+pub same_family : {X : Type 0} (f : ℕ → X) (m : ℕ) → with_at f m (f m) ≡ f
 same_family f m = λ i n. by n (m == n) refl i
   where
     by : (n : ℕ) (b : Bool) → (m == n) ≡ b → (if m == n then f m else f n) ≡ f n
     by n true e = ap (λ b. if b then f m else f n) e ∙ ap f (eqb-true m n e)
     by n false e = ap (λ b. if b then f m else f n) e
 
-twice_family : {X : Type 0} (f : ℕ → X) (m : ℕ) (x y : X) → with_at (with_at f m x) m y ≡ with_at f m y
+pub twice_family : {X : Type 0} (f : ℕ → X) (m : ℕ) (x y : X) → with_at (with_at f m x) m y ≡ with_at f m y
 twice_family f m x y = λ i n. by n (m == n) i
   where
     by : (n : ℕ) (b : Bool) → (if b then y else (if b then x else f n)) ≡ (if b then y else f n)

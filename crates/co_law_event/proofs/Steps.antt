@@ -62,7 +62,7 @@ module _ (s : Federation) (f : Facts s) where
   begins_local t m false true e = keeps_begin_local s f t m e
   begins_local t m false false e = f
 
-  may_be : (session : Session) (m : ℕ) → may_visit session.by m ≡ true → session.asked ≡ false → may_operate_at (Some session) m
+  pub may_be : (session : Session) (m : ℕ) → may_visit session.by m ≡ true → session.asked ≡ false → may_operate_at (Some session) m
   may_be session m v a = (a, λ n b. eqb-true n m (sym (ap (λ k. may_visit k m) b) ∙ v))
 
   operates : (t m : ℕ) (o : Op) → Facts (operate s t m o).state

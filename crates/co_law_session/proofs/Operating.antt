@@ -32,7 +32,7 @@ use Rattle.co_law_base.proofs.Commits.{unended_seen}
 use Rattle.co_law_member.proofs.KeptTold.{kept_same, count_told}
 use Rattle.co_law_session.proofs.Asking.{same_reading}
 
-snapshot_in : (kind : Kind) (now : ℕ) (os : List Operation) → StampsIn now os → stamp_after kind now os ≤ now
+pub snapshot_in : (kind : Kind) (now : ℕ) (os : List Operation) → StampsIn now os → stamp_after kind now os ≤ now
 snapshot_in Lock now os s = omega arith
 snapshot_in Occ now os s = omega arith
 snapshot_in Mv now [] s = omega arith

@@ -31,8 +31,8 @@ use Rattle.co_law_base.proofs.TwoViews.{committed_both}
 use Rattle.co_law_base.proofs.Commits.{unended_seen}
 use Rattle.co_law_member.proofs.VoteMoves.{as_settled}
 use Rattle.co_law_member.proofs.LogMoves.{as_belongs}
-use Rattle.co_law.proofs.Growing.{Grows}
-use Rattle.co_law.proofs.Derived.{files_sound}
+use Rattle.co_law_moves.proofs.Growing.{Grows}
+use Rattle.co_law_moves.proofs.Derived.{files_sound}
 
 pub each_at : {A : Type 0} (P : A → Type 0) (ds later earlier : List A) (d : A) → Each P ds → ds ≡ later ++ d ∷ earlier → P d
 each_at {A} P ds later earlier d e q = by later (subst (Each P) q e)
@@ -52,32 +52,32 @@ begun_session s t c h = by (look s.sessions t) refl h
     by None e k = absurd (let z : false ≡ true = k in cc)
     by (Some session) e k = named session e session.by refl k
 
-belongs_is : (s : Federation) (t c : ℕ) → belongs (rest_of s) t c → BelongsTo s t c
+pub belongs_is : (s : Federation) (t c : ℕ) → belongs (rest_of s) t c → BelongsTo s t c
 belongs_is s t c (Begun h) = begun_session s t c h
 belongs_is s t c (Voted m h) = VotedBefore m h
 
-not_there : {X : Type 0} (o : Option X) → is_some o ≡ false → o ≡ None
+pub not_there : {X : Type 0} (o : Option X) → is_some o ≡ false → o ≡ None
 not_there None h = refl
 not_there (Some x) h = absurd (let z : true ≡ false = h in cc)
 
-dead_is : (s : Federation) (t c : ℕ) → belongs (rest_of s) t c → alive (rest_of s) c t ≡ false → IsPresumedAborted s t
+pub dead_is : (s : Federation) (t c : ℕ) → belongs (rest_of s) t c → alive (rest_of s) c t ≡ false → IsPresumedAborted s t
 dead_is s t c b h =
     let p = or_parts (holds (s.coord c).table t) (settled_at (rest_of s) c t) h in
     let q = or_parts (is_decided s.decided t) (has_commit_of (s.opened_coord c) t) p.1 in
     AtCoordinator c (belongs_is s t c b) (not_there (look (s.coord c).table t) p.0) q.0 q.1
 
-living : (s : Federation) (t c : ℕ) → belongs (rest_of s) t c → ¬ (IsPresumedAborted s t) → alive (rest_of s) c t ≡ true
+pub living : (s : Federation) (t c : ℕ) → belongs (rest_of s) t c → ¬ (IsPresumedAborted s t) → alive (rest_of s) c t ≡ true
 living s t c b n = by (alive (rest_of s) c t) refl
   where
     by : (k : Bool) → alive (rest_of s) c t ≡ k → alive (rest_of s) c t ≡ true
     by true e = e
     by false e = absurd (n (dead_is s t c b e))
 
-settled_is : (s : Federation) (t : ℕ) → settled (rest_of s) t → IsDecided s t
+pub settled_is : (s : Federation) (t : ℕ) → settled (rest_of s) t → IsDecided s t
 settled_is s t (Here h) = InThisRun h
 settled_is s t (Before c h) = InOpenedFile c h
 
-takes_is : (s : Federation) (t m : ℕ) → takes (rest_of s) t m → TakesPart s t m
+pub takes_is : (s : Federation) (t m : ℕ) → takes (rest_of s) t m → TakesPart s t m
 takes_is s t m (ByTold h) = HeldOperations h
 takes_is s t m (Named c members h k) = NamedBefore c members h k
 

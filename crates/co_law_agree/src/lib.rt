@@ -1,0 +1,2 @@
+//! No two members decide a transaction differently.
+#![tactic(auto)]

@@ -1,0 +1,14 @@
+pub mod Growing
+pub mod Derived
+pub mod KeptFrom
+pub mod MoveByMove
+pub mod Made
+pub mod MemberMade
+pub mod CoordMade
+pub mod ClientMade
+pub mod LocalMade
+pub mod StepsMade
+pub mod Onward
+pub mod ByMoves
+pub mod NodesTold
+pub mod StepsTold

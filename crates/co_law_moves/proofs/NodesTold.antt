@@ -1,0 +1,426 @@
+-- The items of each node's event tell exactly of its moves.
+use Rattle.std.proofs.Common.{◌≡◌, ◌⊎◌, inl, inr, ℕ, Bool, true, false, not, ◌&&◌, ◌==◌, if◌then◌else◌, List, [], ◌∷◌, ◌++◌, map, reverse, Option, None, Some, refl, sym, ap, ◌∙◌, subst}
+use Rattle.std.proofs.lemmas.List.{reverse-append}
+use Rattle.co_base.specs.declared.mark.Mark.{Mark}
+use Rattle.co_base.specs.declared.node.Node.{Node}
+use Rattle.co_base.specs.declared.node.Node.TheVariants as node
+use Rattle.co_base.specs.declared.part.Part.{Part}
+use Rattle.co_message.specs.declared.answer.Answer.{Answer}
+use Rattle.co_message.specs.declared.answer.Answer.TheVariants as answer
+use Rattle.co_message.specs.declared.answer.Cause.{Cause}
+use Rattle.co_message.specs.declared.answer.Cause.TheVariants as cause
+use Rattle.co_message.specs.declared.event.Event.{Event}
+use Rattle.co_message.specs.declared.item.ItemKind.{ItemKind}
+use Rattle.co_message.specs.declared.item.ItemKind.TheVariants as item
+use Rattle.co_message.specs.declared.message.Message.{Message}
+use Rattle.co_message.specs.declared.message.Message.TheVariants as message
+use Rattle.co_record.specs.declared.record.Record.{Record}
+use Rattle.co_record.specs.declared.record.Record.TheVariants as log
+use Rattle.co_record.specs.Marks.{mark_of}
+use Rattle.co_record.specs.Gate.{batch_is_stable, closes_spare}
+use Rattle.co_state.specs.declared.verdict.Verdict.{Verdict}
+use Rattle.co_state.specs.declared.verdict.Verdict.TheVariants.{LostOperations, StaleRead, HeldBy, VoteYes}
+use Rattle.co_state.specs.Table.{look, holds, put, without}
+use Rattle.co_state.specs.Changes.{sets_of}
+use Rattle.co_state.specs.EngineState.{operations_of}
+use Rattle.co_state.specs.VotingRule.{vote_of}
+use Rattle.co_plain.specs.declared.coord_state.CoordState.{CoordState}
+use Rattle.co_plain.specs.declared.coord_state.Entry.{Entry}
+use Rattle.co_plain.specs.declared.coord_state.Entry.TheVariants as entry
+use Rattle.co_plain.specs.declared.coord_step.CoordStep.{CoordStep}
+use Rattle.co_plain.specs.declared.member_state.AskedMark.{AskedMark}
+use Rattle.co_plain.specs.declared.member_state.MemberState.{MemberState}
+use Rattle.co_plain.specs.declared.member_step.MemberStep.{MemberStep}
+use Rattle.co_plain.specs.declared.outcome.Outcome.{Outcome}
+use Rattle.co_plain.specs.declared.outcome.Outcome.TheVariants.{Completes, StopsAt}
+use Rattle.co_plain.specs.declared.standing.Standing.{Standing}
+use Rattle.co_plain.specs.declared.standing.Standing.TheVariants.{IsActive, IsVoted, IsInstalled, IsAbsent}
+use Rattle.co_plain.specs.Numbers.{first_lacking, has_number, numbers_lacking, next_generation, counted}
+use Rattle.co_plain.specs.LogWrite.{marks_of, outcome_of, generation_of}
+use Rattle.co_plain.specs.MemberStep.{says, stopped_member, forced_by}
+use Rattle.co_plain.specs.Member.{prepare_record, voted_state, vote_by, with_mark, prepare_by, vote_where_asked, vote_again_by, installed_state, commit_by, abort_by, timer_by, ask_by}
+use Rattle.co_plain.specs.MemberLog.{stopped_fill, fill_by, close_by, checkpoint_by, restart_by}
+use Rattle.co_plain.specs.LocalCommit.{local_coord, local_commit_by, local_abort_by, member_local_commit}
+use Rattle.co_plain.specs.CoordStep.{with_table, members_of, has_part, stopped_coord, coord_forced_by, coord_says}
+use Rattle.co_plain.specs.Coordinator.{waits, aborts, ask_commit, commit_entry, abort_entry, decided_by, yes_entry, no_entry, ask_entry, ended_by, ack_entry, timer_entry, resend_entry, decisions_to, prepares_to, parts_lacking}
+use Rattle.co_plain.specs.CoordLog.{coord_stopped_fill, coord_fill_by, coord_close_by, coord_checkpoint_by, coord_restart_by}
+use Rattle.co_plain.specs.Federation.{Federation, items_of, message_list}
+use Rattle.co_plain.specs.CommitmentOrder.{Trace, Began, Operated, Committed, traced_commit, traced_answer, trace_from}
+use Rattle.co_plain.specs.Invariants.{ends_only}
+use Rattle.co_plain.specs.Moves.{Move, Cast, DropActive, Install, CommitLocally, CrashMember, RestartMember, CloseMemberSpare, FillMemberSpare, RecordYes, Decide, CrashCoord, RestartCoord, CloseCoordSpare, FillCoordSpare, AskEnd, Send}
+use Rattle.co_law_base.proofs.Facts.{Rest, OnlyAborts}
+use Rattle.co_law_moves.specs.EventMoves.{sends, written_moves, stopped_moves, drop_moves, vote_moves, prepare_moves, asked_moves, again_moves, commit_moves, abort_moves, timer_moves, question_moves, closing_moves, member_checkpoint_moves, restart_moves, local_decision_moves, local_verdict_moves, local_commit_moves, local_abort_moves, decided_at_once, ask_commit_moves, commit_entry_moves, leave_moves, abort_entry_moves, yes_counted_moves, yes_moves, no_moves, ask_moves, ack_counted_moves, ack_moves, coord_timer_moves, resend_moves, coord_checkpoint_moves}
+use Rattle.co_law_moves.specs.MoveTraces.{move_trace, moves_trace}
+
+abbrev pub marks_trace : List Mark → List Trace
+marks_trace [] = []
+marks_trace (mark ∷ marks) = traced_commit mark.kind mark.node mark.number ++ marks_trace marks
+
+abbrev pub answered : Option Event → Answer → List Trace
+answered None a = []
+answered (Some e) a = traced_answer e a
+
+pub more : {A : Type 0} (xs ys zs : List A) → (xs ++ ys) ++ zs ≡ xs ++ (ys ++ zs)
+more [] ys zs = refl
+more (x ∷ xs) ys zs = ap (λ k. x ∷ k) (more xs ys zs)
+
+log_items : (last : Option Event) (marks : List Mark) (rest : List ItemKind) → trace_from last (map item.Log marks ++ rest) ≡ marks_trace marks ++ trace_from last rest
+log_items last [] rest = refl
+log_items last (mark ∷ marks) rest =
+    ap (λ k. traced_commit mark.kind mark.node mark.number ++ k) (log_items last marks rest)
+    ∙ sym (more (traced_commit mark.kind mark.node mark.number) (marks_trace marks) (trace_from last rest))
+
+sent_items : (last : Option Event) (notes : List Message) (rest : List ItemKind) → trace_from last (map item.Sent notes ++ rest) ≡ trace_from last rest
+sent_items last [] rest = refl
+sent_items last (note ∷ notes) rest = sent_items last notes rest
+
+answer_item : (last : Option Event) (a : Answer) (rest : List ItemKind) → trace_from last (item.Answered a ∷ rest) ≡ answered last a ++ trace_from None rest
+answer_item None a rest = refl
+answer_item (Some e) a rest = refl
+
+-- the items of an event
+pub items_trace : (last : Option Event) (marks : List Mark) (notes : List Message) (a : Answer) (rest : List ItemKind) →
+    trace_from last (items_of marks notes a ++ rest) ≡ marks_trace marks ++ (answered last a ++ trace_from None rest)
+items_trace last marks notes a rest =
+    ap (trace_from last) (more (map item.Log marks) (map item.Sent notes ++ item.Answered a ∷ []) rest)
+    ∙ log_items last marks ((map item.Sent notes ++ item.Answered a ∷ []) ++ rest)
+    ∙ ap (λ k. marks_trace marks ++ k) (ap (trace_from last) (more (map item.Sent notes) (item.Answered a ∷ []) rest) ∙ sent_items last notes (item.Answered a ∷ rest) ∙ answer_item last a rest)
+
+-- marks and an answer that tell of these moves alone
+abbrev pub Tells : List Mark → Answer → List Move → Type 0
+Tells marks a moves = (marks_trace marks ≡ moves_trace moves) × ((e : Event) → traced_answer e a ≡ [])
+
+pub tells_items : (last : Option Event) (marks : List Mark) (notes : List Message) (a : Answer) (moves : List Move) → Tells marks a moves → (rest : List ItemKind) →
+    trace_from last (items_of marks notes a ++ rest) ≡ moves_trace moves ++ trace_from None rest
+tells_items last marks notes a moves t rest =
+    items_trace last marks notes a rest ∙ (λ i. t.0 i ++ (silent last i ++ trace_from None rest))
+  where
+    silent : (last : Option Event) → answered last a ≡ []
+    silent None = refl
+    silent (Some e) = t.1 e
+
+-- records that are no commits
+abbrev Silent : Record → Type 0
+Silent (log.Header a b) = Unit {0}
+Silent (log.Prepare a b c d e) = Unit {0}
+Silent (log.Commit t members) = ⊥
+Silent (log.Abort t) = Unit {0}
+Silent (log.End t) = Unit {0}
+Silent (log.Checkpoint a b c) = Unit {0}
+
+abbrev pub AllSilent : List Record → Type 0
+AllSilent [] = Unit {0}
+AllSilent (r ∷ rs) = Silent r × AllSilent rs
+
+silent_more : (xs ys : List Record) → AllSilent xs → AllSilent ys → AllSilent (xs ++ ys)
+silent_more [] ys p q = q
+silent_more (x ∷ xs) ys p q = (p.0, silent_more xs ys p.1 q)
+
+silent_turned : (rs : List Record) → AllSilent rs → AllSilent (reverse rs)
+silent_turned [] q = tt
+silent_turned (r ∷ rs) q = subst AllSilent (sym (reverse-append (r ∷ []) rs)) (silent_more (reverse rs) (r ∷ []) (silent_turned rs q.1) (q.0, tt))
+
+one_silent : (at : Node) (r : Record) → Silent r → traced_commit (mark_of at r).kind (mark_of at r).node (mark_of at r).number ≡ []
+one_silent at (log.Header a b) s = refl
+one_silent at (log.Prepare a b c d e) s = refl
+one_silent at (log.Commit t members) s = absurd s
+one_silent at (log.Abort t) s = refl
+one_silent at (log.End t) s = refl
+one_silent at (log.Checkpoint a b c) s = refl
+
+all_silent : (at : Node) (rs : List Record) (rest : List Mark) → AllSilent rs → marks_trace (map (mark_of at) rs ++ rest) ≡ marks_trace rest
+all_silent at [] rest s = refl
+all_silent at (r ∷ rs) rest s = (λ i. one_silent at r s.0 i ++ all_silent at rs rest s.1 i)
+
+pub no_rest : {A : Type 0} (xs : List A) → xs ++ [] ≡ xs
+no_rest [] = refl
+no_rest (x ∷ xs) = ap (λ ys. x ∷ ys) (no_rest xs)
+
+map_more : {A B : Type 0} (f : A → B) (xs ys : List A) → map f (xs ++ ys) ≡ map f xs ++ map f ys
+map_more f [] ys = refl
+map_more f (x ∷ xs) ys = ap (λ zs. f x ∷ zs) (map_more f xs ys)
+
+pub silent_marks : (at : Node) (rs : List Record) → AllSilent rs → marks_trace (marks_of at rs) ≡ []
+silent_marks at rs s = ap marks_trace (sym (no_rest (map (mark_of at) (reverse rs)))) ∙ all_silent at (reverse rs) [] (silent_turned rs s)
+
+pub commit_told : (at : Node) (t : ℕ) (members : List ℕ) (rs : List Record) → AllSilent rs → marks_trace (marks_of at (log.Commit t members ∷ rs)) ≡ Committed at t ∷ []
+commit_told at t members rs s =
+    ap (λ k. marks_trace (map (mark_of at) k)) (reverse-append (log.Commit t members ∷ []) rs)
+    ∙ ap marks_trace (map_more (mark_of at) (reverse rs) (log.Commit t members ∷ []))
+    ∙ all_silent at (reverse rs) (map (mark_of at) (log.Commit t members ∷ [])) (silent_turned rs s)
+
+pub aborts_silent : (r : Rest) (rs : List Record) → OnlyAborts r rs → AllSilent rs
+aborts_silent r [] w = tt
+aborts_silent r (log.Abort t ∷ rs) w = (tt, aborts_silent r rs w.1)
+aborts_silent r (log.Header a b ∷ rs) w = absurd w
+aborts_silent r (log.Prepare a b c d e ∷ rs) w = absurd w
+aborts_silent r (log.Commit a b ∷ rs) w = absurd w
+aborts_silent r (log.End a ∷ rs) w = absurd w
+aborts_silent r (log.Checkpoint a b c ∷ rs) w = absurd w
+
+pub ends_silent : (rs : List Record) → ends_only rs ≡ true → AllSilent rs
+ends_silent [] e = tt
+ends_silent (log.End t ∷ rs) e = (tt, ends_silent rs e)
+ends_silent (log.Header a b ∷ rs) e = absurd (let z : false ≡ true = e in cc)
+ends_silent (log.Prepare a b c d x ∷ rs) e = absurd (let z : false ≡ true = e in cc)
+ends_silent (log.Commit a b ∷ rs) e = absurd (let z : false ≡ true = e in cc)
+ends_silent (log.Abort a ∷ rs) e = absurd (let z : false ≡ true = e in cc)
+ends_silent (log.Checkpoint a b c ∷ rs) e = absurd (let z : false ≡ true = e in cc)
+
+-- messages tell nothing of this
+pub sends_trace : (notes : List Message) → moves_trace (sends notes) ≡ []
+sends_trace [] = refl
+sends_trace (note ∷ notes) = sends_trace notes
+
+then_sends : (move : Move) (notes : List Message) → move_trace move ++ [] ≡ moves_trace (move ∷ sends notes)
+then_sends move notes = ap (λ k. move_trace move ++ k) (sym (sends_trace notes))
+
+drops_trace : (b : Bool) (t m : ℕ) (moves : List Move) → moves_trace (drop_moves b t m ++ moves) ≡ moves_trace moves
+drops_trace true t m moves = refl
+drops_trace false t m moves = refl
+
+-- a step of a member
+abbrev pub MemberTells : MemberStep → List Move → Type 0
+MemberTells did moves = Tells did.marks did.answer moves
+
+abbrev pub CoordTells : CoordStep → List Move → Type 0
+CoordTells did moves = Tells did.marks did.answer moves
+
+forced_told : (m : ℕ) (next : MemberState) (batch : List Record) (a : Answer) (note : Option Message) (move : Move) → marks_trace (marks_of (node.Member m) (batch ++ next.log.waiting)) ≡ move_trace move ++ [] →
+    ((e : Event) → traced_answer e a ≡ []) → (o : Outcome) → MemberTells (forced_by m next batch a note o) (written_moves move (CrashMember m) (sends (message_list note)) o)
+forced_told m next batch a note move e s Completes = (e ∙ then_sends move (message_list note), s)
+forced_told m next batch a note move e s (StopsAt call leaves) = by (batch_is_stable call leaves)
+  where
+    by : (b : Bool) → MemberTells (stopped_member m next call b batch) (stopped_moves move (CrashMember m) b)
+    by true = (e, λ e. refl)
+    by false = (refl, λ e. refl)
+
+module _ (r : Rest) (m : ℕ) (x : MemberState) (w : OnlyAborts r x.log.waiting) where
+  quiet : AllSilent x.log.waiting
+  quiet = aborts_silent r x.log.waiting w
+
+  vote_told : (t c n : ℕ) (v : Verdict) → MemberTells (vote_by m x t c n v) (vote_moves x t m c n v)
+  vote_told t c n LostOperations = (sym (drops_trace (holds x.engine.active t) t m (Send (message.Vote t m c false) ∷ [])), λ e. refl)
+  vote_told t c n (StaleRead key) = (sym (drops_trace (holds x.engine.active t) t m (Send (message.Vote t m c false) ∷ [])), λ e. refl)
+  vote_told t c n (HeldBy u) = (refl, λ e. refl)
+  vote_told t c n VoteYes =
+      forced_told m (voted_state x t c n) (prepare_record t c n (sets_of (operations_of x.engine t)) ∷ []) answer.Yes (Some (message.Vote t m c true)) (Cast t m c n)
+      (silent_marks (node.Member m) (prepare_record t c n (sets_of (operations_of x.engine t)) ∷ x.log.waiting) (tt, quiet)) (λ e. refl) (outcome_of x.log.armed 4)
+
+  again_asked : (t : ℕ) (o : Option AskedMark) → MemberTells (vote_where_asked m x t o) (asked_moves x t m o)
+  again_asked t None = (refl, λ e. refl)
+  again_asked t (Some mark) = vote_told t mark.coord mark.count (vote_of x.engine t mark.count)
+
+  pub again_told : (t : ℕ) (st : Standing) → MemberTells (vote_again_by m x t st) (again_moves x t m st)
+  again_told t IsActive = again_asked t (look x.asked t)
+  again_told t IsVoted = (refl, λ e. refl)
+  again_told t IsInstalled = (refl, λ e. refl)
+  again_told t IsAbsent = (refl, λ e. refl)
+
+  pub timer_told : (t : ℕ) (st : Standing) → MemberTells (timer_by x t st) (timer_moves t m st)
+  timer_told t IsActive = (refl, λ e. refl)
+  timer_told t IsVoted = (refl, λ e. refl)
+  timer_told t IsInstalled = (refl, λ e. refl)
+  timer_told t IsAbsent = (refl, λ e. refl)
+
+  pub question_told : (t : ℕ) (st : Standing) → MemberTells (ask_by m x t st) (question_moves x t m st)
+  question_told t IsActive = (refl, λ e. refl)
+  question_told t IsVoted = (refl, λ e. refl)
+  question_told t IsInstalled = (refl, λ e. refl)
+  question_told t IsAbsent = (refl, λ e. refl)
+
+  pub commit_event_told : (t c : ℕ) (st : Standing) → MemberTells (commit_by m x t c st) (commit_moves x t m c st)
+  commit_event_told t c IsActive = (refl, λ e. refl)
+  commit_event_told t c IsVoted =
+      forced_told m (installed_state x t) (log.Commit t [] ∷ []) answer.Installed (Some (message.Ack t m c)) (Install t m) (commit_told (node.Member m) t [] x.log.waiting quiet) (λ e. refl) (outcome_of x.log.armed 4)
+  commit_event_told t c IsInstalled = (refl, λ e. refl)
+  commit_event_told t c IsAbsent = (refl, λ e. refl)
+
+  pub abort_event_told : (t : ℕ) (st : Standing) → MemberTells (abort_by x t st) (abort_moves t m st)
+  abort_event_told t IsActive = (refl, λ e. refl)
+  abort_event_told t IsVoted = (refl, λ e. refl)
+  abort_event_told t IsInstalled = (refl, λ e. refl)
+  abort_event_told t IsAbsent = (refl, λ e. refl)
+
+  pub restart_told : (up : Bool) → MemberTells (restart_by x up) (restart_moves (RestartMember m) up)
+  restart_told true = (refl, λ e. refl)
+  restart_told false = (refl, λ e. refl)
+
+  close_told : (o : Outcome) → MemberTells (close_by x o) (closing_moves (CloseMemberSpare m true) (CrashMember m) (CloseMemberSpare m) o)
+  close_told Completes = (refl, λ e. refl)
+  close_told (StopsAt call leaves) = (refl, λ e. refl)
+
+  fill_told : (o : Outcome) → MemberTells (fill_by m x (next_generation (generation_of x.log.stable)) o) (written_moves (FillMemberSpare m) (CrashMember m) [] o)
+  fill_told Completes = (refl, λ e. refl)
+  fill_told (StopsAt call leaves) = by (batch_is_stable call leaves)
+    where
+      by : (b : Bool) → MemberTells (stopped_fill m x (next_generation (generation_of x.log.stable)) call b) (stopped_moves (FillMemberSpare m) (CrashMember m) b)
+      by true = (refl, λ e. refl)
+      by false = (refl, λ e. refl)
+
+  pub checkpoint_told : (closed : Bool) → MemberTells (checkpoint_by m x closed) (member_checkpoint_moves x m closed)
+  checkpoint_told false = close_told (outcome_of x.log.armed 2)
+  checkpoint_told true = fill_told (outcome_of x.log.armed 4)
+
+  -- a local transaction
+  local_forced_told : (t n : ℕ) (next : MemberState) → next.log ≡ x.log → (o : Outcome) →
+      MemberTells (forced_by m next (log.Commit t [] ∷ prepare_record t local_coord n (sets_of (operations_of x.engine t)) ∷ []) answer.Committed None o) (local_decision_moves t m o)
+  local_forced_told t n next same Completes = (ap (λ l. marks_trace (marks_of (node.Member m) (log.Commit t [] ∷ prepare_record t local_coord n (sets_of (operations_of x.engine t)) ∷ l.waiting))) same
+      ∙ commit_told (node.Member m) t [] (prepare_record t local_coord n (sets_of (operations_of x.engine t)) ∷ x.log.waiting) (tt, quiet), λ e. refl)
+  local_forced_told t n next same (StopsAt call leaves) = by (batch_is_stable call leaves)
+    where
+      by : (b : Bool) → MemberTells (stopped_member m next call b (log.Commit t [] ∷ prepare_record t local_coord n (sets_of (operations_of x.engine t)) ∷ []))
+          (if b then CommitLocally t m ∷ CrashMember m ∷ [] else AskEnd t ∷ CrashMember m ∷ [])
+      by true = (ap (λ l. marks_trace (marks_of (node.Member m) (log.Commit t [] ∷ prepare_record t local_coord n (sets_of (operations_of x.engine t)) ∷ l.waiting))) same
+          ∙ commit_told (node.Member m) t [] (prepare_record t local_coord n (sets_of (operations_of x.engine t)) ∷ x.log.waiting) (tt, quiet), λ e. refl)
+      by false = (refl, λ e. refl)
+
+  drops_alone : (b : Bool) (t : ℕ) → [] ≡ moves_trace (AskEnd t ∷ drop_moves b t m)
+  drops_alone true t = refl
+  drops_alone false t = refl
+
+  local_verdict_told : (t n : ℕ) (v : Verdict) → MemberTells (local_commit_by m x t n v) (local_verdict_moves x t m v)
+  local_verdict_told t n LostOperations = (drops_alone (holds x.engine.active t) t, λ e. refl)
+  local_verdict_told t n (StaleRead key) = (drops_alone (holds x.engine.active t) t, λ e. refl)
+  local_verdict_told t n (HeldBy u) = (refl, λ e. refl)
+  local_verdict_told t n VoteYes = local_forced_told t (counted n) (installed_state (voted_state x t local_coord (counted n)) t) refl (outcome_of x.log.armed 4)
+
+  pub local_commit_told : (t n : ℕ) → MemberTells (member_local_commit m x t n) (local_commit_moves x t m n)
+  local_commit_told t n = by (n == 0)
+    where
+      by : (b : Bool) → MemberTells (if b then says x answer.Absent else local_commit_by m x t n (vote_of x.engine t n)) (if b then AskEnd t ∷ [] else local_verdict_moves x t m (vote_of x.engine t n))
+      by true = (refl, λ e. refl)
+      by false = local_verdict_told t n (vote_of x.engine t n)
+
+  pub local_abort_told : (t : ℕ) (st : Standing) → MemberTells (local_abort_by x t st) (local_abort_moves t m st)
+  local_abort_told t IsActive = (refl, λ e. refl)
+  local_abort_told t IsVoted = (refl, λ e. refl)
+  local_abort_told t IsInstalled = (refl, λ e. refl)
+  local_abort_told t IsAbsent = (refl, λ e. refl)
+
+pub prepare_told : (r : Rest) (m : ℕ) (x : MemberState) → OnlyAborts r x.log.waiting → (t c n : ℕ) (st : Standing) → MemberTells (prepare_by m x t c n st) (prepare_moves x t m c n st)
+prepare_told r m x w t c n IsActive = vote_told r m (with_mark x t c n) w t c n (vote_of x.engine t n)
+prepare_told r m x w t c n IsVoted = (refl, λ e. refl)
+prepare_told r m x w t c n IsInstalled = (refl, λ e. refl)
+prepare_told r m x w t c n IsAbsent = vote_told r m x w t c n (vote_of x.engine t n)
+
+-- a step of a coordinator
+module _ (c : ℕ) (y : CoordState) (w : ends_only y.log.waiting ≡ true) where
+  quiet' : AllSilent y.log.waiting
+  quiet' = ends_silent y.log.waiting w
+
+  deciding_told : (t : ℕ) (next : CoordState) (members : List ℕ) (notes : List Message) → next.log ≡ y.log → (o : Outcome) →
+      CoordTells (coord_forced_by c next (log.Commit t members ∷ []) answer.Committed notes o) (written_moves (Decide t c) (CrashCoord c) (sends notes) o)
+  deciding_told t next members notes same o = by o
+    where
+      marks : marks_trace (marks_of (node.Coord c) (log.Commit t members ∷ next.log.waiting)) ≡ Committed (node.Coord c) t ∷ []
+      marks = ap (λ l. marks_trace (marks_of (node.Coord c) (log.Commit t members ∷ l.waiting))) same ∙ commit_told (node.Coord c) t members y.log.waiting quiet'
+
+      stopped : (call : ℕ) (b : Bool) → CoordTells (stopped_coord c next call b (log.Commit t members ∷ [])) (stopped_moves (Decide t c) (CrashCoord c) b)
+      stopped call true = (marks, λ e. refl)
+      stopped call false = (refl, λ e. refl)
+
+      by : (o : Outcome) → CoordTells (coord_forced_by c next (log.Commit t members ∷ []) answer.Committed notes o) (written_moves (Decide t c) (CrashCoord c) (sends notes) o)
+      by Completes = (marks ∙ then_sends (Decide t c) notes, λ e. refl)
+      by (StopsAt call leaves) = stopped call (batch_is_stable call leaves)
+
+  at_once_told : (t : ℕ) (o : Outcome) → CoordTells (coord_forced_by c (with_table y (without y.table t)) (log.Commit t [] ∷ []) answer.Committed [] o) (decided_at_once t c o)
+  at_once_told t Completes = deciding_told t (with_table y (without y.table t)) [] [] refl Completes
+  at_once_told t (StopsAt call leaves) = deciding_told t (with_table y (without y.table t)) [] [] refl (StopsAt call leaves)
+
+  ask_told : (t : ℕ) (ps : List Part) → CoordTells (ask_commit c y t ps) (ask_commit_moves y t c ps)
+  ask_told t [] = at_once_told t (outcome_of y.log.armed 4)
+  ask_told t (p ∷ ps) = (sym (sends_trace (prepares_to c t (p ∷ ps))), λ e. refl)
+
+  pub commit_entry_told : (t : ℕ) (parts : List Part) (o : Option Entry) → CoordTells (commit_entry c y t parts o) (commit_entry_moves y t c parts o)
+  commit_entry_told t parts None = (refl, λ e. refl)
+  commit_entry_told t parts (Some entry.Idle) = ask_told t parts
+  commit_entry_told t parts (Some (entry.Collecting ps yeses)) = (refl, λ e. refl)
+  commit_entry_told t parts (Some (entry.Committed ms acks)) = (refl, λ e. refl)
+
+  leave_told : (t : ℕ) (by : Cause) (parts : List Part) → CoordTells (aborts c y t by parts) (leave_moves t c parts)
+  leave_told t by parts = (sym (sends_trace (decisions_to c t false (members_of parts))), λ e. refl)
+
+  pub abort_entry_told : (t : ℕ) (parts : List Part) (o : Option Entry) → CoordTells (abort_entry c y t parts o) (abort_entry_moves t c parts o)
+  abort_entry_told t parts None = (refl, λ e. refl)
+  abort_entry_told t parts (Some entry.Idle) = leave_told t cause.Client parts
+  abort_entry_told t parts (Some (entry.Collecting ps yeses)) = (refl, λ e. refl)
+  abort_entry_told t parts (Some (entry.Committed ms acks)) = (refl, λ e. refl)
+
+  yes_missing : (t m : ℕ) (parts : List Part) (yeses : List ℕ) (o : Option ℕ) → CoordTells (decided_by c y t parts yeses o) (yes_counted_moves y t c m parts o)
+  yes_missing t m parts yeses (Some k) = (refl, λ e. refl)
+  yes_missing t m parts yeses None = deciding_told t (with_table y (put y.table t (entry.Committed (members_of parts) []))) (members_of parts) (decisions_to c t true (members_of parts)) refl (outcome_of y.log.armed 4)
+
+  pub yes_told : (t m : ℕ) (o : Option Entry) → CoordTells (yes_entry c y t m o) (yes_moves y t c m o)
+  yes_told t m None = (refl, λ e. refl)
+  yes_told t m (Some entry.Idle) = (refl, λ e. refl)
+  yes_told t m (Some (entry.Committed members acks)) = (refl, λ e. refl)
+  yes_told t m (Some (entry.Collecting parts yeses)) = by (has_part parts m && not (has_number yeses m))
+    where
+      by : (b : Bool) → CoordTells (if b then decided_by c y t parts (m ∷ yeses) (first_lacking (members_of parts) (m ∷ yeses)) else waits y parts yeses)
+          (if b then yes_counted_moves y t c m parts (first_lacking (members_of parts) (m ∷ yeses)) else [])
+      by true = yes_missing t m parts (m ∷ yeses) (first_lacking (members_of parts) (m ∷ yeses))
+      by false = (refl, λ e. refl)
+
+  pub no_told : (t m : ℕ) (o : Option Entry) → CoordTells (no_entry c y t m o) (no_moves t c m o)
+  no_told t m None = (refl, λ e. refl)
+  no_told t m (Some entry.Idle) = (refl, λ e. refl)
+  no_told t m (Some (entry.Committed members acks)) = (refl, λ e. refl)
+  no_told t m (Some (entry.Collecting parts yeses)) = by (has_part parts m)
+    where
+      by : (b : Bool) → CoordTells (if b then aborts c y t cause.Vote parts else waits y parts yeses) (if b then leave_moves t c parts else [])
+      by true = leave_told t cause.Vote parts
+      by false = (refl, λ e. refl)
+
+  pub ask_entry_told : (t m : ℕ) (o : Option Entry) → CoordTells (ask_entry c y t m o) (ask_moves t c m o)
+  ask_entry_told t m None = (refl, λ e. refl)
+  ask_entry_told t m (Some entry.Idle) = (refl, λ e. refl)
+  ask_entry_told t m (Some (entry.Collecting parts yeses)) = (refl, λ e. refl)
+  ask_entry_told t m (Some (entry.Committed members acks)) = (refl, λ e. refl)
+
+  ack_missing : (t m : ℕ) (members acks : List ℕ) (o : Option ℕ) → CoordTells (ended_by y t members acks o) (ack_counted_moves t c m o)
+  ack_missing t m members acks (Some k) = (refl, λ e. refl)
+  ack_missing t m members acks None = (refl, λ e. refl)
+
+  pub ack_told : (t m : ℕ) (o : Option Entry) → CoordTells (ack_entry y t m o) (ack_moves t c m o)
+  ack_told t m None = (refl, λ e. refl)
+  ack_told t m (Some entry.Idle) = (refl, λ e. refl)
+  ack_told t m (Some (entry.Collecting parts yeses)) = (refl, λ e. refl)
+  ack_told t m (Some (entry.Committed members acks)) = by (has_number members m && not (has_number acks m))
+    where
+      by : (b : Bool) → CoordTells (if b then ended_by y t members (m ∷ acks) (first_lacking members (m ∷ acks)) else coord_says y answer.Decided)
+          (if b then ack_counted_moves t c m (first_lacking members (m ∷ acks)) else [])
+      by true = ack_missing t m members (m ∷ acks) (first_lacking members (m ∷ acks))
+      by false = (refl, λ e. refl)
+
+  pub coord_timer_told : (t : ℕ) (o : Option Entry) → CoordTells (timer_entry c y t o) (coord_timer_moves t c o)
+  coord_timer_told t None = (refl, λ e. refl)
+  coord_timer_told t (Some entry.Idle) = (refl, λ e. refl)
+  coord_timer_told t (Some (entry.Collecting parts yeses)) = leave_told t cause.Timer parts
+  coord_timer_told t (Some (entry.Committed members acks)) = (refl, λ e. refl)
+
+  pub resend_told : (t : ℕ) (o : Option Entry) → CoordTells (resend_entry c y t o) (resend_moves t c o)
+  resend_told t None = (refl, λ e. refl)
+  resend_told t (Some entry.Idle) = (refl, λ e. refl)
+  resend_told t (Some (entry.Collecting parts yeses)) = (sym (sends_trace (prepares_to c t (parts_lacking parts yeses))), λ e. refl)
+  resend_told t (Some (entry.Committed members acks)) = (sym (sends_trace (decisions_to c t true (numbers_lacking members acks))), λ e. refl)
+
+  pub coord_restart_told : (up : Bool) → CoordTells (coord_restart_by y up) (restart_moves (RestartCoord c) up)
+  coord_restart_told true = (refl, λ e. refl)
+  coord_restart_told false = (refl, λ e. refl)
+
+  coord_close_told : (o : Outcome) → CoordTells (coord_close_by y o) (closing_moves (CloseCoordSpare c true) (CrashCoord c) (CloseCoordSpare c) o)
+  coord_close_told Completes = (refl, λ e. refl)
+  coord_close_told (StopsAt call leaves) = (refl, λ e. refl)
+
+  coord_fill_told : (o : Outcome) → CoordTells (coord_fill_by c y (next_generation (generation_of y.log.stable)) o) (written_moves (FillCoordSpare c) (CrashCoord c) [] o)
+  coord_fill_told Completes = (refl, λ e. refl)
+  coord_fill_told (StopsAt call leaves) = by (batch_is_stable call leaves)
+    where
+      by : (b : Bool) → CoordTells (coord_stopped_fill c y (next_generation (generation_of y.log.stable)) call b) (stopped_moves (FillCoordSpare c) (CrashCoord c) b)
+      by true = (refl, λ e. refl)
+      by false = (refl, λ e. refl)
+
+  pub coord_checkpoint_told : (closed : Bool) → CoordTells (coord_checkpoint_by c y closed) (coord_checkpoint_moves y c closed)
+  coord_checkpoint_told false = coord_close_told (outcome_of y.log.armed 2)
+  coord_checkpoint_told true = coord_fill_told (outcome_of y.log.armed 4)

@@ -1,0 +1,2 @@
+pub mod EventMoves
+pub mod MoveTraces

@@ -1,0 +1,9 @@
+pub mod Acts
+pub mod Traced
+pub mod ToldOn
+pub mod Installs
+pub mod Seen
+pub mod Unread
+pub mod KindStays
+pub mod Orders
+pub mod Ordered

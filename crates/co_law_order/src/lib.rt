@@ -1,0 +1,2 @@
+//! The run is commitment ordered (Raz, VLDB 1992).
+#![tactic(auto)]

@@ -1,0 +1,3 @@
+pub mod Hopeless
+pub mod Fitting
+pub mod InQuiet
