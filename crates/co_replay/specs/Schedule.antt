@@ -1,7 +1,7 @@
 -- Whole schedules: a text as lines, and the lines behind a head as events.
 use Rattle.std.specs.Prelude.{ℕ, Bool, true, false, ◌-◌, ◌==◌, ◌≡◌, ◌≤◌, ◌↔◌, ◌<◌, List, [], ◌∷◌, length, map, take, slice_get, if◌then◌else◌, Option, None, Some}
 use Rattle.std.specs.List.{slice_split, All}
-use Rattle.denote.Ref.{Bor}
+use denote.Ref.{Bor}
 use Rattle.co_base.specs.declared.head.Head.{Head}
 use Rattle.co_message.specs.declared.event.Event.{Event}
 use Rattle.co_schedule.specs.Faults.{fault_in}

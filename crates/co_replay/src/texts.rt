@@ -29,20 +29,28 @@ pub fn put_told(number: u32, told: Vec<ItemKind>, into: &mut Vec<u8>) -> Result<
     Ok(())
 }
 
+/// The event of an item that tells one.
+fn event_in(told: Item) -> Result<Event, AllocError>
+    ensures { IfOk result (λ event. told.what ≡ item.Event event) }
+{
+    let Item { number: _, what } = told;
+    match what {
+        ItemKind::Event(event) => Ok(event),
+        _ => Err(AllocError),
+    }
+}
+
 /// Appends the text of the event of the line of this number, and gives the event back.
 pub fn put_event(number: u32, event: Event, into: &mut Vec<u8>) -> Result<Event, AllocError>
     ensures text { OnOk result (into.new.items ≡ into.old.items ++ items_text (numbered number (item.Event event ∷ []))) }
     ensures event { IfOk result (λ same. same ≡ event) }
 {
-    let item = Item {
+    let told = Item {
         number,
         what: ItemKind::Event(event),
     };
-    put_item(&item, into)?;
-    match item.what {
-        ItemKind::Event(event) => Ok(event),
-        _ => Err(AllocError),
-    }
+    put_item(&told, into)?;
+    event_in(told)
 }
 
 /// Appends the text of the first line: the head, and then what opening told.

@@ -1,12 +1,14 @@
 -- How a command ends, and what it has written then.
-use Rattle.std.specs.Prelude.{ℕ, Bool, true, false, ◌||◌, ◌+◌, ◌≡◌, ◌⊎◌, nat_lt, List, [], ◌∷◌, ◌++◌, length, take, if◌then◌else◌, Option, None, Some, codes, decimal}
+use Rattle.std.specs.Prelude.{ℕ, Bool, true, false, ◌||◌, ◌+◌, ◌≡◌, ◌⊎◌, nat_lt, List, [], ◌∷◌, ◌++◌, length, take, if◌then◌else◌, Option, None, Some, Result, Ok, Err, codes, decimal}
 use Rattle.co_base.specs.declared.head.Head.{Head}
 use Rattle.co_message.specs.declared.event.Event.{Event}
+use Rattle.co_outside.specs.declared.sink.SinkFault.{SinkFault}
+use Rattle.co_outside.specs.declared.sink.SinkFault.TheVariants as fault
 use Rattle.co_replay.specs.Schedule.{IsHeadLine, AreRead}
 use Rattle.co_replay.specs.Transcript.{items_text}
 use Rattle.co_top.specs.FirstPath.{first_items}
 use Rattle.co_top.specs.Forms.{is_built_head, built_front}
-use Rattle.co_top.specs.Input.{is_long, lines_within, within}
+use Rattle.co_top.specs.Input.{is_long, lines_within}
 use Rattle.co_top.specs.declared.status.Status.{Status}
 use Rattle.co_top.specs.declared.status.Status.TheVariants as status
 
@@ -67,9 +69,15 @@ IsPut held text status.Usage told = told ≡ Some held
 
 -- an end at the last line, or at this one, is that of the replay
 abbrev pub HasEnd : List ℕ → Status → Type 0
-HasEnd input status.Done = (text : List ℕ) × Replays (within input) text None
-HasEnd input (status.NotBuilt line) = (text : List ℕ) × Replays (within input) text (Some line)
-HasEnd input _ = Unit {0}
+HasEnd read status.Done = (text : List ℕ) × Replays read text None
+HasEnd read (status.NotBuilt line) = (text : List ℕ) × Replays read text (Some line)
+HasEnd read _ = Unit {0}
+
+-- the status of a replay whose text was put so
+abbrev pub status_after : Result (Unit {0}) SinkFault → Option ℕ → Status
+status_after (Ok put) stop = status_of stop
+status_after (Err fault.Failed) stop = status.Write
+status_after (Err fault.Memory) stop = status.Memory
 
 -- the note, or a front of it where it could not be put whole
 abbrev pub IsNoted : List ℕ → List ℕ → Option (List ℕ) → Type 0

@@ -1,7 +1,7 @@
 -- The forms that are built: heads of locking members with one coordinator, and the events of a transaction that
 -- begins, reads, writes and commits.
-use Rattle.std.specs.Prelude.{Bool, true, false, not, ◌&&◌, ◌==◌, List}
-use Rattle.std.specs.List.{list_all, before_first}
+use Rattle.std.specs.Prelude.{ℕ, Bool, true, false, not, ◌&&◌, ◌==◌, List, take, position, Option, None, Some}
+use Rattle.std.specs.List.{list_all}
 use Rattle.co_base.specs.declared.head.Head.{Head}
 use Rattle.co_base.specs.declared.head.Kind.{Kind}
 use Rattle.co_base.specs.declared.head.Kind.TheVariants.{Lock, Occ, Mv}
@@ -34,6 +34,10 @@ is_built (event.Commit txn) = true
 is_built (event.Deliver sent) = is_built_message sent
 is_built _ = false
 
+abbrev pub before_place : Option ℕ → List Event → List Event
+before_place None events = events
+before_place (Some place) events = take place events
+
 -- the events before the first one that is none of these
 abbrev pub built_front : List Event → List Event
-built_front events = before_first (λ e. not (is_built e)) events
+built_front events = before_place (position (λ e. not (is_built e)) events) events

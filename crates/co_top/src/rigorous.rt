@@ -1,7 +1,7 @@
 //! Events with locks that are held to the decision.
 ghost use Rattle.std.specs.Prelude.{ℕ, List, ◌≡◌, IfOk, option_copied};
 ghost use Rattle.co_record.specs.declared.record.Record.{Record};
-ghost use Rattle.co_plain_run.specs.PlainProgram.{federation_of, stepped_of};
+ghost use Rattle.co_plain_run.specs.PlainProgram.{federation_of, member_at, stepped_of};
 ghost use Rattle.co_top.specs.Rigorous.{voted_reader, held_by, may_operate, blocked_by, rigorous_step};
 
 use co_base::{Key, Node, Op, Txn, Value};
@@ -51,7 +51,7 @@ fn held_by(
 
 /// Whether the client may operate at the member.
 fn may_operate(session: Option<&Session>, member: u8) -> bool
-    ensures { result ≡ may_operate (option_copied session) member }
+    ensures { result ≡ may_operate (option_copied session.entry) member }
 {
     match session {
         None => false,
@@ -62,6 +62,23 @@ fn may_operate(session: Option<&Session>, member: u8) -> bool
             };
             there && !session.asked
         }
+    }
+}
+
+/// The same at the member of this number.
+fn held_at(
+    alloc: Global,
+    w: &PlainFederation,
+    member: u8,
+    t: Txn,
+    key: &Key,
+    value: &Value,
+) -> Result<Option<Txn>, AllocError>
+    ensures { IfOk result (λ holder. holder ≡ held_by (member_at w.now.kinds w.now.members member) t key.now value.now) }
+{
+    match w.members.get(member) {
+        None => Ok(None),
+        Some(x) => held_by(alloc, x, t, key, value),
     }
 }
 
@@ -80,12 +97,10 @@ fn blocked_by(
             key,
             value,
         } => {
-            if !may_operate(w.sessions.get(*txn), *member) {
-                return Ok(None);
-            }
-            match w.members.get(*member) {
-                None => Ok(None),
-                Some(x) => held_by(alloc, x, *txn, key, value),
+            if may_operate(w.sessions.get(*txn), *member) {
+                held_at(alloc, w, *member, *txn, key, value)
+            } else {
+                Ok(None)
             }
         }
         _ => Ok(None),

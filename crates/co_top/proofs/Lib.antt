@@ -1,0 +1,4 @@
+pub mod Passed
+pub mod Fresh
+pub mod OneReplay
+pub mod Ending
