@@ -1,5 +1,5 @@
 -- How a replay ends, by how its text was put.
-use Rattle.std.proofs.Common.{◌≡◌, ◌⊎◌, inl, inr, ◌×◌, ℕ, List, [], ◌++◌, Option, None, Some, Result, Ok, Err, take, refl, sym, ap, ◌∙◌, subst, append-nil}
+use Rattle.std.proofs.Common.{◌≡◌, ◌⊎◌, inl, inr, ℕ, List, [], ◌++◌, Option, None, Some, Result, Ok, Err, take, refl, sym, ap, ◌∙◌, subst, append-nil}
 use Rattle.std.specs.Prelude.{OnOk, OnErr}
 use Rattle.co_outside.specs.declared.sink.SinkFault.{SinkFault}
 use Rattle.co_outside.specs.declared.sink.SinkFault.TheVariants as fault

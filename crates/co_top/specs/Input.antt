@@ -1,5 +1,5 @@
 -- The part of an input that is done.
-use Rattle.std.specs.Prelude.{ℕ, Bool, ◌-◌, ◌+◌, nat_lt, List, length, take, if◌then◌else◌}
+use Rattle.std.specs.Prelude.{ℕ, Bool, ◌-◌, ◌+◌, nat_lt, List, length, take, true, false}
 use Rattle.co_replay.specs.Schedule.{lines_of}
 
 -- the most bytes of an input whose lines are done
@@ -13,6 +13,11 @@ within input = take (most_bytes + 1) input
 abbrev pub is_long : List ℕ → Bool
 is_long read = nat_lt most_bytes (length read)
 
+-- all but the last one, where the input is long
+abbrev pub done_of : Bool → List (List ℕ) → List (List ℕ)
+done_of true lines = take (length lines - 1) lines
+done_of false lines = lines
+
 -- the lines that may be done; the one that holds the last byte of a long input is none of them
 abbrev pub lines_within : List ℕ → List (List ℕ)
-lines_within read = if is_long read then take (length (lines_of read) - 1) (lines_of read) else lines_of read
+lines_within read = done_of (is_long read) (lines_of read)

@@ -1,7 +1,7 @@
 //! The input, and the lines of it that are done.
 ghost use Rattle.std.specs.Prelude.{◌≡◌, ◌≤◌, ◌+◌, length, IfOk};
 ghost use Rattle.co_replay.specs.Schedule.{texts_of};
-ghost use Rattle.co_top.specs.Input.{is_long, lines_within};
+ghost use Rattle.co_top.specs.Input.{done_of, is_long, lines_within};
 
 use co_replay::lines_of;
 use std::alloc::{AllocError, Global};
@@ -16,15 +16,25 @@ pub fn is_long(input: &[u8]) -> bool
     input.len() > MOST_BYTES
 }
 
+/// The lines that may be done: of a long input all but the last one.
+fn done_of<'a>(lines: Vec<&'a [u8]>, long: bool) -> Vec<&'a [u8]>
+    ensures lines { texts_of result.items ≡ done_of long (texts_of lines.entry.items) }
+    ensures few { length result.items ≤ length lines.entry.items }
+{
+    let mut lines = lines;
+    if !long {
+        return lines;
+    }
+    lines.truncate(lines.len().saturating_sub(1));
+    lines
+}
+
 /// The lines of an input that may be done. Of a long one these are the lines that end before its last
 /// byte.
 pub fn lines_within<'a>(alloc: Global, input: &'a [u8]) -> Result<Vec<&'a [u8]>, AllocError>
     ensures lines { IfOk result (λ lines. texts_of lines.items ≡ lines_within input.now) }
     ensures few { IfOk result (λ lines. length lines.items ≤ length input.now + 1) }
 {
-    let mut lines = lines_of(alloc, input)?;
-    if is_long(input) {
-        lines.truncate(lines.len().saturating_sub(1));
-    }
-    Ok(lines)
+    let lines = lines_of(alloc, input)?;
+    Ok(done_of(lines, is_long(input)))
 }

@@ -18,10 +18,10 @@ loop-event-preserved c =
           let did = rigorous_step (federation_of c.loop-event.state m n) c.in-Some.event in
           let told = numbered c.loop-event.line (item.Event c.in-Some.event ∷ without_logs did.items) in
           let rest = c.next.new.self.rest.items in
-          ap (λ text. text ++ items_text (rigorous_transcript (c.loop-event.line + 1) rest (federation_of c.in_ok-put_line.value m n))) (c.in_ok-put_line.ensures.text m n)
+          ap (λ text. text ++ items_text (rigorous_transcript (c.loop-event.line + 1) rest (federation_of c.in_ok-state.state m n))) (c.in_ok-state.ensures.text m n)
           ∙ append_assoc c.loop-event.into.items (items_text told) _
-          ∙ ap (λ k. c.loop-event.into.items ++ (items_text told ++ items_text (rigorous_transcript k rest (federation_of c.in_ok-put_line.value m n)))) a
-          ∙ ap (λ s. c.loop-event.into.items ++ (items_text told ++ items_text (rigorous_transcript (suc c.loop-event.line) rest s))) (c.in_ok-put_line.ensures.state m n)
+          ∙ ap (λ k. c.loop-event.into.items ++ (items_text told ++ items_text (rigorous_transcript k rest (federation_of c.in_ok-state.state m n)))) a
+          ∙ ap (λ s. c.loop-event.into.items ++ (items_text told ++ items_text (rigorous_transcript (suc c.loop-event.line) rest s))) (c.in_ok-state.ensures.state m n)
           ∙ ap (λ text. c.loop-event.into.items ++ text) (sym (items_text-append told (rigorous_transcript (suc c.loop-event.line) rest did.state)))
           ∙ ap (λ es. c.loop-event.into.items ++ items_text (rigorous_transcript c.loop-event.line es (federation_of c.loop-event.state m n))) (sym r)
           ∙ c.loop-event.invariant.1 m n,
