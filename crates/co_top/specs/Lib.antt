@@ -1,8 +1,6 @@
 pub mod Command
-pub mod Wire
-pub mod Session
-pub mod Member
-pub mod Coordinator
-pub mod Federation
-pub mod Serial
-pub mod Text
+pub mod Forms
+pub mod Input
+pub mod Rigorous
+pub mod FirstPath
+pub mod Ends

@@ -1,17 +1,20 @@
 //! The top call: a schedule is replayed, and its transcript is written.
+//!
+//! A schedule of the first line forms is replayed over fresh logs, with locks that are held to the
+//! decision. What is written is the text of its run, committed transactions read serially, and each
+//! one that was answered `committed` is decided once.
 #![tactic(auto)]
 
-mod coordinator;
-mod member;
-mod reader;
+mod forms;
+mod input;
 mod replay;
-mod session;
+mod rigorous;
 mod status;
-mod text;
-mod wire;
+mod top;
 mod words;
-mod world;
 
-pub use replay::run;
 pub use status::Status;
-pub use world::{Happened, World};
+pub use top::run;
+
+#[cfg(test)]
+mod tests;

@@ -1,264 +1,164 @@
-//! The top call.
-ghost use Rattle.std.specs.Prelude.{◌≡◌, ◌≤◌, ◌↔◌, IsErrOf, false};
-ghost use Rattle.co_outside.specs.Faults.{HasRisen};
-ghost use Rattle.co_top.specs.Command.{is_run, is_directory};
+//! An input as a run over fresh logs.
+ghost use Rattle.std.specs.Prelude.{ℕ, List, ◌≡◌, ◌≤◌, ◌<◌, ◌+◌, ◌^◌, ◌++◌, ◌∷◌, [], Some, length, IfOk, OnOk};
+ghost use Rattle.co_record.specs.declared.record.Record.{Record};
+ghost use Rattle.co_message.specs.declared.item.ItemKind.TheVariants as item;
+ghost use Rattle.co_plain.specs.Runs.{numbered};
+ghost use Rattle.co_plain_run.specs.PlainProgram.{federation_of};
+ghost use Rattle.co_replay.specs.Schedule.{texts_of};
+ghost use Rattle.co_replay.specs.Transcript.{items_text};
+ghost use Rattle.co_top.specs.Ends.{Replays, IsReplayed, LinesReplayed, stop_behind};
+ghost use Rattle.co_top.specs.FirstPath.{first_items, rigorous_transcript, without_logs};
+ghost use Rattle.co_top.specs.Rigorous.{rigorous_step};
 
-use crate::reader::read_line;
-use crate::status::Status;
-use crate::text::{put_head, put_item, put_number};
-use crate::world::{Happened, World};
-use co_message::{Event, Item, ItemKind};
-use co_outside::{Sink, SinkFault, Source, SourceFault, Taken};
+use crate::forms::{built_front, is_built_head};
+use crate::input::{is_long, lines_within};
+use crate::rigorous::rigorous_step;
+use co_base::{Head, Kinds};
+use co_message::{Event, ItemKind};
+use co_plain_run::{PlainFederation, PlainStep, plain_open};
+use co_replay::{ReadEvents, put_event, put_opening, put_told, read_events};
+use co_schedule::{LineFault, read_head};
 use std::alloc::{AllocError, Global};
 
-/// The most bytes of an input whose lines are done; the line that holds the next one is refused.
-const MOST_BYTES: usize = 524_288;
+/// What was told, but the records that became stable.
+fn without_logs(told: Vec<ItemKind>) -> Vec<ItemKind>
+    ensures { result.items ≡ without_logs told.items }
+{
+    let mut told = told;
+    told.retain(|what| !matches!(what, ItemKind::Log(_)));
+    told
+}
 
-/// Runs a command: its words, without the name of the program, the source of a schedule, the sink of
-/// its transcript and the sink of notes.
-pub fn run<S: Source, K: Sink, N: Sink>(
+/// Does the event of the line of this number, and appends its text.
+fn put_line(
     alloc: Global,
-    words: &[String],
-    source: &mut S,
-    out: &mut K,
-    notes: &mut N,
-) -> Status
-    ensures usage { (result ≡ Status.Usage) ↔ (is_run words.now ≡ false) }
-    ensures read { result ≡ Status.Read → HasRisen (S.faults source.old) (S.faults source.new) }
-    ensures write { result ≡ Status.Write → HasRisen (K.faults out.old) (K.faults out.new) }
-{
-    let status = if is_run(words) {
-        replay(alloc, source, out)
-    } else {
-        Status::Usage
-    };
-    tell(alloc, notes, status);
-    status
-}
-
-/// Whether the words are `run` and the name of a directory.
-fn is_run(words: &[String]) -> bool
-    ensures { result ≡ is_run words.now }
-{
-    match words {
-        [command, directory] => {
-            command.as_bytes() == b"run".as_slice() && is_directory(directory.as_bytes())
-        }
-        _ => false,
-    }
-}
-
-/// Whether the word may name a directory.
-fn is_directory(word: &[u8]) -> bool
-    ensures { result ≡ is_directory word.now }
-{
-    match word {
-        [] => false,
-        [first, ..] => *first != b'-',
-    }
-}
-
-/// Replays the schedule of the source.
-fn replay<S: Source, K: Sink>(alloc: Global, source: &mut S, out: &mut K) -> Status
-    ensures read { result ≡ Status.Read → HasRisen (S.faults source.old) (S.faults source.new) }
-    ensures write { result ≡ Status.Write → HasRisen (K.faults out.old) (K.faults out.new) }
-    ensures command { result ≡ Status.Usage → ⊥ }
-{
-    let input = match read_all(alloc, source) {
-        Ok(input) => input,
-        Err(SourceFault::Failed) => return Status::Read,
-        Err(SourceFault::Memory) => return Status::Memory,
-    };
-    match replay_text(alloc, &input, out) {
-        Ok(None) => Status::Done,
-        Ok(Some(line)) => Status::NotBuilt { line },
-        Err(SinkFault::Failed) => Status::Write,
-        Err(SinkFault::Memory) => Status::Memory,
-    }
-}
-
-/// The input, or its first bytes where it is too long: one more than may be done.
-fn read_all<S: Source>(alloc: Global, source: &mut S) -> Result<Vec<u8>, SourceFault>
-    ensures counts { S.faults source.old ≤ S.faults source.new }
-    ensures failed { IsErrOf result SourceFault.Failed → HasRisen (S.faults source.old) (S.faults source.new) }
-{
-    let mut input = Vec::new(alloc);
-    'reading: while input.len() <= MOST_BYTES {
-        let most = (MOST_BYTES - input.len()) as u32 + 1;
-        match source.take(alloc, most)? {
-            Taken::Bytes(bytes) => input.extend_from_slice(bytes.as_slice())?,
-            Taken::End => return Ok(input),
-        }
-    }
-    Ok(input)
-}
-
-/// Replays the lines of a text, and gives the first line that is not done.
-fn replay_text<K: Sink>(alloc: Global, input: &[u8], out: &mut K) -> Result<Option<u32>, SinkFault>
-    ensures counts { K.faults out.old ≤ K.faults out.new }
-    ensures failed { IsErrOf result SinkFault.Failed → HasRisen (K.faults out.old) (K.faults out.new) }
-{
-    let mut lines: Vec<&[u8]> = input.split(|b| *b == b'\n').collect(alloc)?;
-    if input.is_empty() || input[input.len() - 1] == b'\n' {
-        let _ = lines.pop();
-    }
-    let too_long = input.len() > MOST_BYTES;
-    if too_long {
-        let _ = lines.pop();
-    }
-    let refused = replay_lines(alloc, &lines, out)?;
-    if refused.is_none() && too_long {
-        return Ok(Some(line_number(lines.len())));
-    }
-    Ok(refused)
-}
-
-/// Replays lines, and gives the first one that is not done.
-fn replay_lines<K: Sink>(
-    alloc: Global,
-    lines: &[&[u8]],
-    out: &mut K,
-) -> Result<Option<u32>, SinkFault>
-    ensures counts { K.faults out.old ≤ K.faults out.new }
-    ensures failed { IsErrOf result SinkFault.Failed → HasRisen (K.faults out.old) (K.faults out.new) }
-{
-    let Some(head) = lines.first() else {
-        return Ok(Some(1));
-    };
-    let Some(members) = read_head(alloc, head)? else {
-        return Ok(Some(1));
-    };
-    put_head_items(alloc, members, out)?;
-    let world = World::new(alloc, members)?;
-    replay_events(alloc, world, members, &lines[1..], out)
-}
-
-/// Replays the lines behind the head, and gives the first one that is not done.
-fn replay_events<K: Sink>(
-    alloc: Global,
-    mut world: World,
-    members: u8,
-    lines: &[&[u8]],
-    out: &mut K,
-) -> Result<Option<u32>, SinkFault>
-    ensures counts { K.faults out.old ≤ K.faults out.new }
-    ensures failed { IsErrOf result SinkFault.Failed → HasRisen (K.faults out.old) (K.faults out.new) }
-{
-    for (index, line) in lines.iter().enumerate() {
-        let number = line_number(index).saturating_add(1);
-        match read_line(alloc, line, members)? {
-            Some(event) => play(alloc, &mut world, number, event, out)?,
-            None => return Ok(Some(number)),
-        }
-    }
-    Ok(None)
-}
-
-/// The number of the line at a place.
-fn line_number(index: usize) -> u32 {
-    u32::try_from(index).unwrap_or(u32::MAX).saturating_add(1)
-}
-
-/// Reads the head: how many locking members it has.
-fn read_head(alloc: Global, line: &[u8]) -> Result<Option<u8>, AllocError> {
-    for members in 1..17u8 {
-        let mut text = Vec::new(alloc);
-        put_head(usize::from(members), &mut text)?;
-        if text.as_slice() == line {
-            return Ok(Some(members));
-        }
-    }
-    Ok(None)
-}
-
-/// Puts the items of the head.
-fn put_head_items<K: Sink>(alloc: Global, members: u8, out: &mut K) -> Result<(), SinkFault>
-    ensures counts { K.faults out.old ≤ K.faults out.new }
-    ensures failed { IsErrOf result SinkFault.Failed → HasRisen (K.faults out.old) (K.faults out.new) }
-{
-    let text = head_items(alloc, members)?;
-    put_all(alloc, text.as_slice(), out)
-}
-
-/// Does one event, and puts its items.
-fn play<K: Sink>(
-    alloc: Global,
-    world: &mut World,
+    w: PlainFederation,
     number: u32,
     event: Event,
-    out: &mut K,
-) -> Result<(), SinkFault>
-    ensures counts { K.faults out.old ≤ K.faults out.new }
-    ensures failed { IsErrOf result SinkFault.Failed → HasRisen (K.faults out.old) (K.faults out.new) }
+    into: &mut Vec<u8>,
+) -> Result<PlainFederation, AllocError>
+    ensures state { (m c : ℕ → List Record) → IfOk result (λ after. federation_of after m c ≡ (rigorous_step (federation_of w m c) event).state) }
+    ensures text { (m c : ℕ → List Record) → OnOk result (into.new.items ≡ into.old.items ++ items_text (numbered number (item.Event event ∷ without_logs (rigorous_step (federation_of w m c) event).items))) }
 {
-    let text = items_of(alloc, world, number, event)?;
-    put_all(alloc, text.as_slice(), out)
+    let event = put_event(number, event, into)?;
+    let PlainStep { state, items } = rigorous_step(alloc, w, event)?;
+    put_told(number, without_logs(items), into)?;
+    Ok(state)
 }
 
-/// Does one event, and gives the text of its items: the event, what it sends, and its answer.
-fn items_of(
+/// Does events, the first of which is that of the line of this number, and appends their text.
+fn put_lines(
     alloc: Global,
-    world: &mut World,
+    w: PlainFederation,
     number: u32,
-    event: Event,
-) -> Result<Vec<u8>, AllocError> {
-    let Happened { sent, answer } = world.step(alloc, &event)?;
-    let mut text = Vec::new(alloc);
-    put_kind(number, ItemKind::Event(event), &mut text)?;
-    for message in sent.as_slice() {
-        put_kind(number, ItemKind::Sent(*message), &mut text)?;
-    }
-    put_kind(number, ItemKind::Answered(answer), &mut text)?;
-    Ok(text)
-}
-
-/// Appends the item of this number that tells this.
-fn put_kind(number: u32, what: ItemKind, into: &mut Vec<u8>) -> Result<(), AllocError> {
-    put_item(&Item { number, what }, into)
-}
-
-/// The text of the items of the head.
-fn head_items(alloc: Global, members: u8) -> Result<Vec<u8>, AllocError> {
-    let mut text = Vec::new(alloc);
-    text.extend_from_slice(b"1 event ")?;
-    put_head(usize::from(members), &mut text)?;
-    text.extend_from_slice(b"\n1 reply open\n")?;
-    Ok(text)
-}
-
-/// Puts a whole text.
-fn put_all<K: Sink>(alloc: Global, text: &[u8], out: &mut K) -> Result<(), SinkFault>
-    ensures counts { K.faults out.old ≤ K.faults out.new }
-    ensures failed { IsErrOf result SinkFault.Failed → HasRisen (K.faults out.old) (K.faults out.new) }
+    events: Vec<Event>,
+    into: &mut Vec<u8>,
+) -> Result<(), AllocError>
+    requires { number + length events.items < 2 ^ 32 }
+    ensures { (m c : ℕ → List Record) → OnOk result (into.new.items ≡ into.old.items ++ items_text (rigorous_transcript number events.items (federation_of w m c))) }
 {
-    let mut at = 0;
-    while at < text.len() {
-        let count = out.put(alloc, &text[at..])?;
-        at += count as usize;
+    let mut state = w;
+    let mut line = number;
+    for event in events {
+        state = put_line(alloc, state, line, event, into)?;
+        line += 1;
     }
     Ok(())
 }
 
-/// Puts the note of a status. A failed note changes nothing.
-fn tell<N: Sink>(alloc: Global, notes: &mut N, status: Status) {
-    let mut note = Vec::new(alloc);
-    if put_note(status, &mut note).is_ok() {
-        let _ = put_all(alloc, note.as_slice(), notes);
+/// The text of the run of these events over fresh logs.
+fn text_of(alloc: Global, head: Head, events: Vec<Event>) -> Result<Vec<u8>, AllocError>
+    requires { 2 + length events.items < 2 ^ 32 }
+    ensures { IfOk result (λ text. text.items ≡ items_text (first_items head events.items)) }
+{
+    let kinds = Vec::from_slice(alloc, head.kinds.as_slice())?;
+    let PlainStep { state, items } = plain_open(alloc, Kinds::of(kinds), head.coords)?;
+    let mut text = Vec::new(alloc);
+    put_opening(head, without_logs(items), &mut text)?;
+    put_lines(alloc, state, 2, events, &mut text)?;
+    Ok(text)
+}
+
+/// What the replay of an input gives.
+#[derive(Drop)]
+pub struct Replayed {
+    /// The text of the lines that were done.
+    pub text: Vec<u8>,
+    /// The number of the first line that was not, where there is one.
+    pub stop: Option<u32>,
+}
+
+/// Nothing is done where the first line is the head of no federation that is built.
+fn without_head(alloc: Global) -> Replayed
+    ensures { (result.text.items ≡ []) × (result.stop ≡ Some 1) }
+{
+    Replayed {
+        text: Vec::new(alloc),
+        stop: Some(1),
     }
 }
 
-/// Appends the note of a status.
-fn put_note(status: Status, into: &mut Vec<u8>) -> Result<(), AllocError> {
-    match status {
-        Status::Done => Ok(()),
-        Status::Usage => into.extend_from_slice(b"usage\n"),
-        Status::Read => into.extend_from_slice(b"read fault\n"),
-        Status::Write => into.extend_from_slice(b"write fault\n"),
-        Status::Memory => into.extend_from_slice(b"want of memory\n"),
-        Status::NotBuilt { line } => {
-            into.extend_from_slice(b"not built: line ")?;
-            put_number(line, into)?;
-            into.extend_from_slice(b"\n")
+/// The number of the first line that is not done, of so many lines behind the head.
+fn stop_behind(done: usize, lines: usize, long: bool) -> Option<u32>
+    requires { (done ≤ lines) × (lines ≤ 524290) }
+    ensures { result ≡ stop_behind done lines long }
+{
+    if done < lines || long {
+        Some(done as u32 + 2)
+    } else {
+        None
+    }
+}
+
+/// Replays the lines behind a head that is built.
+fn replay_lines(
+    alloc: Global,
+    head: Head,
+    lines: &[&[u8]],
+    long: bool,
+) -> Result<Replayed, AllocError>
+    requires { length lines.now ≤ 524290 }
+    ensures { IfOk result (λ did. IsReplayed head (texts_of lines.now) long did.text.items did.stop) }
+{
+    let ReadEvents { events, fault: _ } = read_events(alloc, lines, &head)?;
+    let done = built_front(events);
+    let stop = stop_behind(done.len(), lines.len(), long);
+    let text = text_of(alloc, head, done)?;
+    Ok(Replayed { text, stop })
+}
+
+/// Replays lines, the first of which is the head.
+fn replay_all(
+    alloc: Global,
+    first: &[u8],
+    lines: &[&[u8]],
+    long: bool,
+) -> Result<Replayed, AllocError>
+    requires { length lines.now ≤ 524290 }
+    ensures { IfOk result (λ did. LinesReplayed (first.now ∷ texts_of lines.now) long did.text.items did.stop) }
+{
+    match read_head(alloc, first) {
+        Ok(head) => {
+            if is_built_head(&head) {
+                replay_lines(alloc, head, lines, long)
+            } else {
+                Ok(without_head(alloc))
+            }
         }
+        Err(LineFault::Memory) => Err(AllocError),
+        Err(_) => Ok(without_head(alloc)),
+    }
+}
+
+/// Replays an input of at most 524,289 bytes over fresh logs, up to the first line that is not built,
+/// or that holds its byte 524,289.
+pub fn replay_input(alloc: Global, input: &[u8]) -> Result<Replayed, AllocError>
+    requires { length input.now ≤ 524289 }
+    ensures { IfOk result (λ did. Replays input.now did.text.items did.stop) }
+{
+    let lines = lines_within(alloc, input)?;
+    match lines.as_slice() {
+        [] => Ok(without_head(alloc)),
+        [first, behind @ ..] => replay_all(alloc, first, behind, is_long(input)),
     }
 }

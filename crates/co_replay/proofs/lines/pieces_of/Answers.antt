@@ -1,0 +1,10 @@
+use Rattle.std.proofs.Common.{rules, tests}
+use Rattle.co_schedule.specs.LineText.{is_newline}
+use Rattle.std.proofs.lemmas.Iterator.Consumers.{map_from_collect}
+use Rattle.std.proofs.lemmas.Iterator.Splits.{YieldsList-from_slice_split}
+use Rattle.co_replay.proofs.lines.pieces_of.Goals as goal
+
+pub returns : goal.returns
+returns c =
+    let h = map_from_collect c.collect.result c.collect.ensures.ran (YieldsList-from_slice_split _ is_newline c.args.text.now c.split.ensures.rest c.split.ensures.done c.split.ensures.closure (λ x r q k. search (rules, tests))) in
+    rw c.in_ok-collect.was at h

@@ -1,0 +1,6 @@
+use Rattle.std.proofs.Common.{◌≡◌, ◌++◌, drop}
+use Rattle.co_replay.specs.Transcript.{items_text}
+use Rattle.co_replay.proofs.texts.put_items.Given as goal
+
+abbrev pub invariant-loop-item : goal.invariant-loop-item
+invariant-loop-item l = l.into.items ++ items_text (drop l.item-index l.items) ≡ l.initial.into.items ++ items_text l.items

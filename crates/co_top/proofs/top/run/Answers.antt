@@ -1,0 +1,9 @@
+use Rattle.co_top.specs.Forms.{built_front}
+use Rattle.co_top.proofs.Passed.{first_path_reads, first_path_acknowledged}
+use Rattle.co_top.proofs.top.run.Goals as goal
+
+pub returns-clause-serial_reads : goal.returns-clause-serial_reads
+returns-clause-serial_reads g c = λ input head events l b r. first_path_reads head (built_front events)
+
+pub returns-clause-acknowledged : goal.returns-clause-acknowledged
+returns-clause-acknowledged g c = λ input head events l b r. first_path_acknowledged head (built_front events)
