@@ -1,0 +1,16 @@
+use Rattle.std.proofs.Common.{ap, sym, ◌∙◌, is_some}
+use Rattle.std.specs.FinMap.{get, insert, from_entries, slice_cmp-IsAntisymmetric, nat_cmp-IsAntisymmetric}
+use Rattle.std.proofs.lemmas.Cmp.{nat_list_cmp_total}
+use Rattle.co_base.specs.Order.{key_cmp}
+use Rattle.co_serial.proofs.MapViews.{view-get, view-insert}
+use Rattle.co_state.specs.Table.{without}
+use Rattle.co_occ.specs.Touching.{without_in}
+use Rattle.co_occ.proofs.touched.Touched.take_away.Goals as goal
+
+pub returns-in_default : goal.returns-in_default
+returns-in_default c =
+    ap (λ m. from_entries {R = key_cmp} m.entries) c.get_mut.follows.holds-at-none ∙ c.self.view_is
+    ∙ ap (without_in c.args.self.now c.args.key.now c.args.t) (c.in_default.ensures.value ∙ sym (view-get nat_list_cmp_total _ _) ∙ ap (λ m. get m c.args.key.now) c.self.view_is)
+
+pub returns : goal.returns
+returns c = ?
