@@ -102,8 +102,12 @@ joined_all found (e ∷ es) = joined_all (joined found (entries e.1)) es
 abbrev pub may_write : Index → Span → Table (Unit {0})
 may_write x span = joined_all no_entries (filter (λ e. span_has span e.0) (entries x.writers))
 
+abbrev pub readers_in : Option (Table (Unit {0})) → Table (Unit {0})
+readers_in None = no_entries
+readers_in (Some txns) = joined no_entries (entries txns)
+
 abbrev pub may_read : Index → List ℕ → Table (Unit {0})
-may_read x key = joined (joined no_entries (entries (or_nobody (get x.readers key)))) (entries x.scanners)
+may_read x key = joined (readers_in (get x.readers key)) (entries x.scanners)
 
 -- what a transaction read and wrote is there
 pub record Covers (x : Index) (t : ℕ) (sets : Sets) : Type 0 where

@@ -1,7 +1,8 @@
 //! Which undecided transactions may be in conflict with an operation.
 ghost use Rattle.std.specs.Prelude.{◌≡◌, OnOk, IfOk};
+ghost use Rattle.std.specs.FinMap as map;
 ghost use Rattle.std.specs.FinMap.{entries};
-ghost use Rattle.co_occ.specs.Touching.{no_index, with_read, with_write, with_reads, with_writes, with_sets, with_all, without_read, without_write, without_reads, without_writes, without_sets, joined, joined_all, may_write, may_read};
+ghost use Rattle.co_occ.specs.Touching.{no_index, with_read, with_write, with_reads, with_writes, with_sets, with_all, without_read, without_write, without_reads, without_writes, without_sets, joined, joined_all, readers_in, may_write, may_read};
 ghost use Rattle.co_state.specs.Table.{no_entries};
 
 use crate::touched::Touched;
@@ -159,14 +160,25 @@ impl Index {
         Ok(found)
     }
 
+    /// Every transaction that read a key alone.
+    fn readers_alone(&self, alloc: Global, key: &Key) -> Result<Table<()>, AllocError>
+        ensures { IfOk result (λ found. found ≡ readers_in (map.get self.now.readers key.now)) }
+    {
+        let mut found = Table::new(alloc);
+        match self.readers.get(key) {
+            Some(readers) => {
+                join(&mut found, readers)?;
+                Ok(found)
+            }
+            None => Ok(found),
+        }
+    }
+
     /// Every transaction that read a key, and others that read wider ranges.
     pub fn may_read(&self, alloc: Global, key: &Key) -> Result<Table<()>, AllocError>
         ensures { IfOk result (λ found. found ≡ may_read self.now key.now) }
     {
-        let mut found = Table::new(alloc);
-        if let Some(readers) = self.readers.get(key) {
-            join(&mut found, readers)?;
-        }
+        let mut found = self.readers_alone(alloc, key)?;
         join(&mut found, &self.scanners)?;
         Ok(found)
     }

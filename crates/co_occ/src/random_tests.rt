@@ -1,4 +1,6 @@
 //! Random lists of commands, played on this engine and on a plain one.
+ghost use Rattle.std.specs.Prelude.{◌<◌};
+
 use crate::OccEngine;
 use crate::tests::{Act, command};
 use co_base::{Kind, Rows};

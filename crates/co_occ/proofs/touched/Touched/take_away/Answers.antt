@@ -13,4 +13,11 @@ returns-in_default c =
     ∙ ap (without_in c.args.self.now c.args.key.now c.args.t) (c.in_default.ensures.value ∙ sym (view-get nat_list_cmp_total _ _) ∙ ap (λ m. get m c.args.key.now) c.self.view_is)
 
 pub returns : goal.returns
-returns c = ?
+returns c =
+    let es = c.self.inside.map.entries in
+    let there = sym (ap is_some c.in-Some.ensures.value) in
+    let txns = c.remove.new.self in
+    view-insert nat_list_cmp_total (slice_cmp-IsAntisymmetric nat_cmp-IsAntisymmetric) es (c.get_mut.follows.lender txns).entries c.args.key.now txns ((c.get_mut.follows.holds txns).3 there).0
+    ∙ ap (λ m. insert m c.args.key.now txns) c.self.view_is
+    ∙ ap (insert c.args.self.now c.args.key.now) c.remove.ensures.rest
+    ∙ ap (without_in c.args.self.now c.args.key.now c.args.t) (c.in-Some.ensures.value ∙ sym (view-get nat_list_cmp_total _ _) ∙ ap (λ m. get m c.args.key.now) c.self.view_is)
