@@ -1,5 +1,5 @@
 -- What the index of touched keys tells.
-use Rattle.std.proofs.Common.{◌≡◌, T, ℕ, Bool, true, false, cond, not, ◌&&◌, ◌||◌, List, [], ◌∷◌, length, map, filter, if◌then◌else◌, is_some, Option, None, Some, refl, sym, ap, ◌∙◌, subst, true≢false, arith}
+use Rattle.std.proofs.Common.{◌≡◌, T, ℕ, Bool, true, false, cond, not, ◌&&◌, ◌||◌, List, [], ◌∷◌, length, suc, map, filter, if◌then◌else◌, is_some, Option, None, Some, refl, sym, ap, ◌∙◌, subst, true≢false, eqb→eq, arith}
 use Rattle.std.specs.Prelude.{◌==◌}
 use Rattle.std.specs.Ordering.{nat_cmp, eq_by_cmp, is_eq, is_gt, ordering_reverse}
 use Rattle.std.specs.declared.cmp.Ordering.{Ordering}
@@ -74,7 +74,7 @@ left_still m k t u q e h = left_in m k t u q e h (get m k) refl
 
 no_length : (es : List (ℕ × Unit {0})) (u : ℕ) → (length es == 0) ≡ true → find nat_cmp u es ≡ None
 no_length [] u h = refl
-no_length (e ∷ es) u h = absurd (true≢false (sym h))
+no_length (e ∷ es) u h = let z : suc (length es) ≡ 0 = eqb→eq (suc (length es)) 0 (subst T (sym h) tt) in absurd (omega (arith, z))
 
 nobody_holds : (o : Option (Table (Unit {0}))) (u : ℕ) → is_nobody o ≡ true → holds (or_nobody o) u ≡ false
 nobody_holds None u h = absurd (true≢false (sym h))

@@ -1,5 +1,6 @@
 //! Which undecided transactions may be in conflict with an operation.
-ghost use Rattle.std.specs.Prelude.{◌≡◌, OnOk, IfOk};
+ghost use Rattle.std.specs.Prelude.{◌≡◌, filter, OnOk, IfOk};
+ghost use Rattle.co_base.specs.Span.{span_has};
 ghost use Rattle.std.specs.FinMap as map;
 ghost use Rattle.std.specs.FinMap.{entries};
 ghost use Rattle.co_occ.specs.Touching.{no_index, with_read, with_write, with_reads, with_writes, with_sets, with_all, without_read, without_write, without_reads, without_writes, without_sets, joined, joined_all, readers_in, may_write, may_read};
@@ -11,7 +12,6 @@ use co_base::{Key, Range, Txn, Written};
 use co_pairs::Sets;
 use co_state::Table;
 use std::alloc::{AllocError, Global};
-use std::collections::btree_map;
 
 /// The undecided transactions by what they touched: those that wrote each key, those that read each key
 /// alone, and those that read a wider range.
@@ -32,17 +32,15 @@ fn join(found: &mut Table<()>, txns: &Table<()>) -> Result<(), AllocError>
     Ok(())
 }
 
-/// The transactions that touched some keys.
-fn join_all(
-    found: &mut Table<()>,
-    keys: btree_map::Range<'_, Key, Table<()>>,
-) -> Result<(), AllocError>
-    ensures { OnOk result (found.new ≡ joined_all found.old keys) }
+/// The transactions that touched a key of a range.
+fn touching(alloc: Global, touched: &Touched, range: &Range) -> Result<Table<()>, AllocError>
+    ensures { IfOk result (λ found. found ≡ joined_all no_entries (filter (λ e. span_has range.now e.0) (entries touched.now))) }
 {
-    for (_, txns) in keys {
-        join(found, txns)?;
+    let mut found = Table::new(alloc);
+    for (_, txns) in touched.within(range) {
+        join(&mut found, txns)?;
     }
-    Ok(())
+    Ok(found)
 }
 
 impl Index {
@@ -155,9 +153,7 @@ impl Index {
     pub fn may_write(&self, alloc: Global, range: &Range) -> Result<Table<()>, AllocError>
         ensures { IfOk result (λ found. found ≡ may_write self.now range.now) }
     {
-        let mut found = Table::new(alloc);
-        join_all(&mut found, self.writers.within(range))?;
-        Ok(found)
+        touching(alloc, &self.writers, range)
     }
 
     /// Every transaction that read a key alone.

@@ -20,14 +20,15 @@ pub struct Touched {
 }
 
 impl Model for Touched {
-    ghost use Rattle.std.specs.Coded.{codes, coded_ℕ, coded_list};
+    ghost use base.Stored.{coded_unit};
+    ghost use Rattle.std.specs.Coded.{coded_ℕ, coded_list};
     ghost use Rattle.std.specs.FinMap.{FinMap, code, from_entries};
     ghost use Rattle.std.specs.Ordering.{nat_cmp};
     ghost use Rattle.co_base.specs.Order.{key_cmp};
 
     ghost Value = { FinMap key_cmp (FinMap nat_cmp (Unit {0})) };
 
-    ghost coded = { Prim.hlevel (codes, code {R = key_cmp} (coded_list coded_ℕ)) };
+    ghost coded = { code {R = key_cmp} (coded_list coded_ℕ) (code {R = nat_cmp} coded_ℕ coded_unit) };
 
     ghost view = { λ t. from_entries t.map.entries };
 }
