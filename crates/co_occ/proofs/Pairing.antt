@@ -236,7 +236,6 @@ module _ {rest : List (ℕ × Undecided)} {t : ℕ} {old new : Sets} {before aft
   none_below : among found.below t ≡ false
   none_below = g.below_in t ∙ ap (passed (newly_wrote_below t old new) t) g.absent
 
-
   read_passes : (u : ℕ) (o : Option Undecided) → passed (newly_read old new) u o ≡ (reads_meet new.reads (sets_seen o).writes && not (reads_meet old.reads (sets_seen o).writes))
   read_passes u None = refl
   read_passes u (Some e) = refl

@@ -349,4 +349,3 @@ pub written_parts : (o : OccEngine) (t : ℕ) (key : List ℕ) (v : Option (List
     → with_own o t None (Some (record { key = key; value = v })) ≡ with_own o t (span_read (writing key v)) (change_made (writing key v))
 written_parts o t key None = refl
 written_parts o t key (Some value) = refl
-

@@ -8,8 +8,7 @@ ghost use Rattle.co_occ.specs.Touching.{or_nobody, with_touch, without_touch, se
 use co_base::{Key, Range, Txn};
 use co_state::Table;
 use std::alloc::{AllocError, Global};
-use std::collections::BTreeMap;
-use std::collections::btree_map;
+use std::collections::{BTreeMap, btree_map};
 use std::marker::Model;
 use std::ops::Bound;
 
