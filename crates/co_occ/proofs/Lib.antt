@@ -6,4 +6,7 @@ mod Unseeing
 mod Keeping
 mod Pairing
 mod Meeting
+mod Touching
+mod Indexing
 mod Standing
+mod Finding

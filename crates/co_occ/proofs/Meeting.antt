@@ -14,9 +14,9 @@ use Rattle.co_state.specs.Changes.{put_span, put_change}
 use Rattle.co_state.specs.Keys.{same_key, reads_key, writes_key, writes_within, reads_meet, writes_meet}
 use Rattle.co_occ.specs.declared.undecided.Undecided.{Undecided}
 use Rattle.co_occ.specs.Kept.{grown_by}
-use Rattle.co_occ.specs.Made.{found_in, reads_pair, read_by_pair, writes_pair, written_by_pair, first_read, first_reader, first_above, first_below, pairs_of_read, pairs_of_write}
+use Rattle.co_occ.specs.Made.{first_read, first_reader, first_above, first_below}
 use Rattle.co_occ.proofs.Laying.{ties-swap}
-use Rattle.co_occ.proofs.Pairing.{newly_read, newly_reads, newly_wrote_above, newly_wrote_below, pairs_made}
+use Rattle.co_occ.proofs.Pairing.{newly_read, newly_reads, newly_wrote_above, newly_wrote_below}
 
 -- ---- bits
 or-twice : (a b : Bool) → (a || b) ≡ (a || (a || b))
@@ -72,7 +72,7 @@ put_reads span s ss key rest Less e next = refl
 put_reads span s ss key rest Equal e next = or-twice (span_has s key) (reads_key ss key) ∙ ap (λ x. span_has x key || reads_key (s ∷ ss) key) (sym (same_span span s e))
 put_reads span s ss key rest Greater e next = ap (λ b. span_has s key || b) next ∙ or-past (span_has s key) (span_has span key) (reads_key ss key)
 
-reads_key-put : (span : Span) (spans : List Span) (key : List ℕ) → reads_key (put_span span spans) key ≡ (span_has span key || reads_key spans key)
+pub reads_key-put : (span : Span) (spans : List Span) (key : List ℕ) → reads_key (put_span span spans) key ≡ (span_has span key || reads_key spans key)
 reads_key-put span [] key = refl
 reads_key-put span (s ∷ ss) key = put_reads span s ss key (put_span span ss) (span_cmp span s) refl (reads_key-put span ss key)
 
@@ -113,7 +113,7 @@ put_key change w ws rest key Equal e next =
     or-twice (same_key change.key key) (writes_key ws key) ∙ ap (λ k. same_key change.key key || (same_key k key || writes_key ws key)) (equal_keys change.key w.key e)
 put_key change w ws rest key Greater e next = ap (λ b. same_key w.key key || b) next ∙ or-past (same_key w.key key) (same_key change.key key) (writes_key ws key)
 
-writes_key-put : (change : Written) (ws : List Written) (key : List ℕ) → writes_key (put_change change ws) key ≡ (same_key change.key key || writes_key ws key)
+pub writes_key-put : (change : Written) (ws : List Written) (key : List ℕ) → writes_key (put_change change ws) key ≡ (same_key change.key key || writes_key ws key)
 writes_key-put change [] key = refl
 writes_key-put change (w ∷ ws) key = put_key change w ws (put_change change ws) key (key_cmp change.key w.key) refl (writes_key-put change ws key)
 
@@ -124,43 +124,34 @@ change-writes_meet change ws (v ∷ vs) =
     ∙ or-cross (same_key v.key change.key) (writes_key ws v.key) (writes_key vs change.key) (writes_meet ws vs)
 
 -- ---- tests that agree
-found-alike : (f g : ℕ → Undecided → Bool) (es : List (ℕ × Undecided)) → ((u : ℕ) (e : Undecided) → f u e ≡ g u e) → found_in f es ≡ found_in g es
-found-alike f g [] same = refl
-found-alike f g (e ∷ es) same = (λ i. if same e.0 e.1 i then e.0 ∷ found-alike f g es same i else found-alike f g es same i)
+module _ (t : ℕ) (old : Sets) (span : Span) (u : ℕ) (e : Undecided) where
+  pub read_alike : first_read old.reads span u e ≡ newly_read old (grown_by (Some span) None old) u e
+  read_alike =
+      sym (only_new (writes_within e.sets.writes span) (reads_meet old.reads e.sets.writes)) ∙ ap (λ b. b && not (reads_meet old.reads e.sets.writes)) (sym (reads_meet-put span old.reads e.sets.writes))
 
-found-none : (f : ℕ → Undecided → Bool) (es : List (ℕ × Undecided)) → ((u : ℕ) (e : Undecided) → f u e ≡ false) → found_in f es ≡ []
-found-none f [] none = refl
-found-none f (e ∷ es) none = ap (λ b. if b then e.0 ∷ found_in f es else found_in f es) (none e.0 e.1) ∙ found-none f es none
+  pub no_reader : newly_reads old (grown_by (Some span) None old) u e ≡ false
+  no_reader = none_new (reads_meet e.sets.reads old.writes)
 
-append-none : (ps : List Pair) → ps ≡ ps ++ []
-append-none [] = refl
-append-none (p ∷ ps) = ap (λ qs. p ∷ qs) (append-none ps)
+  pub none_above : newly_wrote_above t old (grown_by (Some span) None old) u e ≡ false
+  none_above = none_new_within (nat_lt t u) (writes_meet old.writes e.sets.writes)
 
--- a read of a range
-pub made_reading : (es : List (ℕ × Undecided)) (t : ℕ) (old : Sets) (span : Span) → pairs_of_read es t old.reads span ≡ pairs_made es t old (grown_by (Some span) None old)
-made_reading es t old span =
-    let new = grown_by (Some span) None old in
-    ap (map (reads_pair t)) (found-alike (first_read old.reads span) (newly_read old new) es (λ u e.
-    sym (only_new (writes_within e.sets.writes span) (reads_meet old.reads e.sets.writes)) ∙ ap (λ b. b && not (reads_meet old.reads e.sets.writes)) (sym (reads_meet-put span old.reads e.sets.writes))))
-    ∙ append-none _ ∙ append-none _ ∙ append-none _
-    ∙ (λ i. map (reads_pair t) (found_in (newly_read old new) es)
-    ++ map (read_by_pair t) (sym (found-none (newly_reads old new) es (λ u e. none_new (reads_meet e.sets.reads old.writes))) i)
-    ++ map (writes_pair t) (sym (found-none (newly_wrote_above t old new) es (λ u e. none_new_within (nat_lt t u) (writes_meet old.writes e.sets.writes))) i)
-    ++ map (written_by_pair t) (sym (found-none (newly_wrote_below t old new) es (λ u e. none_new_within (nat_lt u t) (writes_meet e.sets.writes old.writes))) i))
+  pub none_below : newly_wrote_below t old (grown_by (Some span) None old) u e ≡ false
+  none_below = none_new_within (nat_lt u t) (writes_meet e.sets.writes old.writes)
 
--- a write of a key
-pub made_changing : (es : List (ℕ × Undecided)) (t : ℕ) (old : Sets) (change : Written) → pairs_of_write es t old.writes change.key ≡ pairs_made es t old (grown_by None (Some change) old)
-made_changing es t old change =
-    let new = grown_by None (Some change) old in
-    (λ i. map (read_by_pair t) (found-alike (first_reader old.writes change.key) (newly_reads old new) es (λ u e.
-    sym (only_new (reads_key e.sets.reads change.key) (reads_meet e.sets.reads old.writes)) ∙ ap (λ b. b && not (reads_meet e.sets.reads old.writes)) (sym (reads_meet-change e.sets.reads change old.writes))) i)
-    ++ map (writes_pair t) (found-alike (first_above t old.writes change.key) (newly_wrote_above t old new) es (λ u e.
-    sym (only_new_within (nat_lt t u) (writes_key e.sets.writes change.key) (writes_meet old.writes e.sets.writes))
-    ∙ ap (λ b. (nat_lt t u && b) && not (writes_meet old.writes e.sets.writes)) (sym (change-writes_meet change old.writes e.sets.writes))) i)
-    ++ map (written_by_pair t) (found-alike (first_below t old.writes change.key) (newly_wrote_below t old new) es (λ u e.
-    sym (only_new_within (nat_lt u t) (writes_key e.sets.writes change.key) (writes_meet e.sets.writes old.writes))
-    ∙ ap (λ b. (nat_lt u t && b) && not (writes_meet e.sets.writes old.writes)) (sym (writes_meet-change e.sets.writes change old.writes))) i))
-    ∙ (λ i. (map (reads_pair t) (sym (found-none (newly_read old new) es (λ u e. none_new (reads_meet old.reads e.sets.writes))) i)
-    ++ map (read_by_pair t) (found_in (newly_reads old new) es))
-    ++ map (writes_pair t) (found_in (newly_wrote_above t old new) es)
-    ++ map (written_by_pair t) (found_in (newly_wrote_below t old new) es))
+module _ (t : ℕ) (old : Sets) (change : Written) (u : ℕ) (e : Undecided) where
+  pub nothing_read : newly_read old (grown_by None (Some change) old) u e ≡ false
+  nothing_read = none_new (reads_meet old.reads e.sets.writes)
+
+  pub reader_alike : first_reader old.writes change.key u e ≡ newly_reads old (grown_by None (Some change) old) u e
+  reader_alike =
+      sym (only_new (reads_key e.sets.reads change.key) (reads_meet e.sets.reads old.writes)) ∙ ap (λ b. b && not (reads_meet e.sets.reads old.writes)) (sym (reads_meet-change e.sets.reads change old.writes))
+
+  pub above_alike : first_above t old.writes change.key u e ≡ newly_wrote_above t old (grown_by None (Some change) old) u e
+  above_alike =
+      sym (only_new_within (nat_lt t u) (writes_key e.sets.writes change.key) (writes_meet old.writes e.sets.writes))
+      ∙ ap (λ b. (nat_lt t u && b) && not (writes_meet old.writes e.sets.writes)) (sym (change-writes_meet change old.writes e.sets.writes))
+
+  pub below_alike : first_below t old.writes change.key u e ≡ newly_wrote_below t old (grown_by None (Some change) old) u e
+  below_alike =
+      sym (only_new_within (nat_lt u t) (writes_key e.sets.writes change.key) (writes_meet e.sets.writes old.writes))
+      ∙ ap (λ b. (nat_lt u t && b) && not (writes_meet e.sets.writes old.writes)) (sym (writes_meet-change e.sets.writes change old.writes))

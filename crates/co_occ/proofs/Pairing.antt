@@ -1,5 +1,5 @@
 -- The pairs that an operation makes are exactly the new ones, each once.
-use Rattle.std.proofs.Common.{◌≡◌, T, ℕ, Bool, true, false, cond, not, ◌&&◌, ◌||◌, List, [], ◌∷◌, ◌++◌, map, if◌then◌else◌, Option, None, Some, refl, sym, ap, ◌∙◌, subst, true≢false, eqb→eq, eq-eqb, arith}
+use Rattle.std.proofs.Common.{◌≡◌, T, ℕ, Bool, true, false, cond, not, ◌&&◌, ◌||◌, List, [], ◌∷◌, ◌++◌, map, if◌then◌else◌, is_some, Option, None, Some, refl, sym, ap, ◌∙◌, subst, true≢false, eqb→eq, eq-eqb, arith}
 use Rattle.std.specs.Prelude.{◌==◌, nat_lt}
 use Rattle.std.specs.Ordering.{nat_cmp, eq_by_cmp}
 use Rattle.std.specs.FinMap.Entries.{find, below_all, is_sorted}
@@ -12,8 +12,10 @@ use Rattle.co_state.specs.declared.pair.PairKind.TheVariants.{Reads, Writes}
 use Rattle.co_state.specs.Conflicts.{same_kind, same_pair, lists_pair, AreDistinctPairs}
 use Rattle.co_state.specs.Keys.{reads_meet, writes_meet}
 use Rattle.co_occ.specs.declared.undecided.Undecided.{Undecided}
-use Rattle.co_occ.specs.Made.{found_in, reads_pair, read_by_pair, writes_pair, written_by_pair}
-use Rattle.co_occ.proofs.Picking.{first, second, tied, ties, find-below, passes}
+use Rattle.co_occ.specs.Made.{passes, found_at, reads_pair, read_by_pair, writes_pair, written_by_pair}
+use Rattle.co_occ.proofs.Picking.{first, second, tied, ties, find-below}
+use Rattle.co_state.specs.Table.{Table, look, holds}
+use Rattle.std.specs.FinMap.{entries, get-entries}
 use Rattle.co_occ.proofs.Keeping.{sets_seen}
 
 and-false : (b : Bool) → (b && false) ≡ false
@@ -44,12 +46,15 @@ newly_wrote_above t old new u e = nat_lt t u && writes_meet new.writes e.sets.wr
 abbrev pub newly_wrote_below : ℕ → Sets → Sets → ℕ → Undecided → Bool
 newly_wrote_below t old new u e = nat_lt u t && writes_meet e.sets.writes new.writes && not (writes_meet e.sets.writes old.writes)
 
-abbrev pub pairs_made : List (ℕ × Undecided) → ℕ → Sets → Sets → List Pair
-pairs_made others t old new =
-    map (reads_pair t) (found_in (newly_read old new) others)
-    ++ map (read_by_pair t) (found_in (newly_reads old new) others)
-    ++ map (writes_pair t) (found_in (newly_wrote_above t old new) others)
-    ++ map (written_by_pair t) (found_in (newly_wrote_below t old new) others)
+-- the numbers of the others with which there are new pairs
+pub record Found : Type 0 where
+  pub reads : List ℕ
+  pub readers : List ℕ
+  pub above : List ℕ
+  pub below : List ℕ
+
+abbrev pub pairs_of : ℕ → Found → List Pair
+pairs_of t found = map (reads_pair t) found.reads ++ map (read_by_pair t) found.readers ++ map (writes_pair t) found.above ++ map (written_by_pair t) found.below
 
 -- ---- numbers among others
 abbrev pub among : List ℕ → ℕ → Bool
@@ -63,32 +68,49 @@ AreDistinct (v ∷ vs) = (among vs v ≡ false) × AreDistinct vs
 abbrev pub passed : (ℕ → Undecided → Bool) → ℕ → Option Undecided → Bool
 passed test u o = passes (test u) o
 
-among-with : (test : ℕ → Undecided → Bool) (u k : ℕ) (x : Undecided) (vs : List ℕ) (o : Option Undecided) (b : Bool) → test k x ≡ b → (t : Bool) → eq_by_cmp nat_cmp u k ≡ t
-    → (eq_by_cmp nat_cmp u k ≡ true → o ≡ None) → among vs u ≡ passed test u o
-    → among (if b then k ∷ vs else vs) u ≡ passed test u (cond t (Some x) o)
-among-with test u k x vs o true e true t none is = ap (λ c. c || among vs u) (sym (ties u k) ∙ t) ∙ sym (ap (λ j. test j x) (tied u k t) ∙ e)
-among-with test u k x vs o true e false t none is = ap (λ c. c || among vs u) (sym (ties u k) ∙ t) ∙ is
-among-with test u k x vs o false e true t none is = is ∙ ap (passed test u) (none t) ∙ sym (ap (λ j. test j x) (tied u k t) ∙ e)
-among-with test u k x vs o false e false t none is = is
+-- the candidates are all that pass, and each is found once
+with_more : (test : ℕ → Undecided → Bool) (roll : Table Undecided) (u k : ℕ) (vs : List ℕ) (there : Bool) → (b : Bool) → passed test k (look roll k) ≡ b → (t : Bool) → eq_by_cmp nat_cmp u k ≡ t
+    → among vs u ≡ (there && passed test u (look roll u))
+    → among (if b then k ∷ vs else vs) u ≡ (cond t true there && passed test u (look roll u))
+with_more test roll u k vs there true e true t is = ap (λ c. c || among vs u) (sym (ties u k) ∙ t) ∙ sym (ap (λ j. passed test j (look roll j)) (tied u k t) ∙ e)
+with_more test roll u k vs there true e false t is = ap (λ c. c || among vs u) (sym (ties u k) ∙ t) ∙ is
+with_more test roll u k vs there false e true t is =
+    let none : passed test u (look roll u) ≡ false = ap (λ j. passed test j (look roll j)) (tied u k t) ∙ e in
+    is ∙ ap (λ c. there && c) none ∙ and-false there ∙ sym none
+with_more test roll u k vs there false e false t is = is
 
--- a number is found exactly where its entry passes
-pub among-found_in : (test : ℕ → Undecided → Bool) (u : ℕ) (es : List (ℕ × Undecided)) → T (is_sorted nat_cmp es) → among (found_in test es) u ≡ passed test u (find nat_cmp u es)
-among-found_in test u [] h = refl
-among-found_in test u (e ∷ es) h =
-    among-with test u e.0 e.1 (found_in test es) (find nat_cmp u es) (test e.0 e.1) refl (eq_by_cmp nat_cmp u e.0) refl
-    (λ t. find-below u es (subst (λ k. T (below_all nat_cmp k es)) (sym (tied u e.0 t)) (first _ _ h)))
-    (among-found_in test u es (second _ _ h))
+some_cond : (c : Bool) (x : Unit {0}) (o : Option (Unit {0})) → cond c true (is_some o) ≡ is_some (cond c (Some x) o)
+some_cond true x o = refl
+some_cond false x o = refl
+
+among-candidates : (test : ℕ → Undecided → Bool) (roll : Table Undecided) (u : ℕ) (es : List (ℕ × Unit {0})) → among (found_at test roll es) u ≡ (is_some (find nat_cmp u es) && passed test u (look roll u))
+among-candidates test roll u [] = refl
+among-candidates test roll u (e ∷ es) =
+    with_more test roll u e.0 (found_at test roll es) (is_some (find nat_cmp u es)) (passed test e.0 (look roll e.0)) refl (eq_by_cmp nat_cmp u e.0) refl (among-candidates test roll u es)
+    ∙ ap (λ b. b && passed test u (look roll u)) (some_cond (eq_by_cmp nat_cmp u e.0) e.1 (find nat_cmp u es))
+
+complete : (there p : Bool) → (p ≡ true → there ≡ true) → (there && p) ≡ p
+complete true p h = refl
+complete false true h = h refl
+complete false false h = refl
+
+pub among-found_at : (test : ℕ → Undecided → Bool) (roll : Table Undecided) (found : Table (Unit {0})) (u : ℕ) → (passed test u (look roll u) ≡ true → holds found u ≡ true)
+    → among (found_at test roll (entries found)) u ≡ passed test u (find nat_cmp u (entries roll))
+among-found_at test roll found u all =
+    among-candidates test roll u (entries found)
+    ∙ complete (is_some (find nat_cmp u (entries found))) (passed test u (look roll u)) (λ p. ap is_some (sym (get-entries found u)) ∙ all p)
+    ∙ ap (passed test u) (get-entries roll u)
 
 distinct-with : (k : ℕ) (vs : List ℕ) (b : Bool) → among vs k ≡ false → AreDistinct vs → AreDistinct (if b then k ∷ vs else vs)
 distinct-with k vs true apart d = (apart, d)
 distinct-with k vs false apart d = d
 
-pub distinct-found_in : (test : ℕ → Undecided → Bool) (es : List (ℕ × Undecided)) → T (is_sorted nat_cmp es) → AreDistinct (found_in test es)
-distinct-found_in test [] h = tt
-distinct-found_in test (e ∷ es) h =
-    distinct-with e.0 (found_in test es) (test e.0 e.1)
-    (among-found_in test e.0 es (second _ _ h) ∙ ap (passed test e.0) (find-below e.0 es (first _ _ h)))
-    (distinct-found_in test es (second _ _ h))
+pub distinct-found_at : (test : ℕ → Undecided → Bool) (roll : Table Undecided) (es : List (ℕ × Unit {0})) → T (is_sorted nat_cmp es) → AreDistinct (found_at test roll es)
+distinct-found_at test roll [] h = tt
+distinct-found_at test roll (e ∷ es) h =
+    distinct-with e.0 (found_at test roll es) (passed test e.0 (look roll e.0))
+    (among-candidates test roll e.0 es ∙ ap (λ o. is_some o && passed test e.0 (look roll e.0)) (find-below e.0 es (first _ _ h)))
+    (distinct-found_at test roll es (second _ _ h))
 
 -- ---- pairs of one transaction with others
 abbrev pub with_second : PairKind → ℕ → ℕ → Pair
@@ -186,17 +208,33 @@ less_itself : (n : ℕ) → nat_lt n n ≡ false
 less_itself n = grind (arith, nat_tests)
 
 -- one transaction t has other sets than before; `rest` keeps the other ones
-pub record Grows (rest : List (ℕ × Undecided)) (t : ℕ) (old new : Sets) (before after : ℕ → Sets) : Type 0 where
-  pub sorted : T (is_sorted nat_cmp rest)
+pub record Grows (rest : List (ℕ × Undecided)) (t : ℕ) (old new : Sets) (before after : ℕ → Sets) (found : Found) : Type 0 where
   pub absent : find nat_cmp t rest ≡ None
   pub was : before t ≡ old
   pub becomes : after t ≡ new
   pub others_were : (u : ℕ) → (t == u) ≡ false → before u ≡ sets_seen (find nat_cmp u rest)
   pub others_are : (u : ℕ) → (t == u) ≡ false → after u ≡ sets_seen (find nat_cmp u rest)
+  pub reads_in : (u : ℕ) → among found.reads u ≡ passed (newly_read old new) u (find nat_cmp u rest)
+  pub readers_in : (u : ℕ) → among found.readers u ≡ passed (newly_reads old new) u (find nat_cmp u rest)
+  pub above_in : (u : ℕ) → among found.above u ≡ passed (newly_wrote_above t old new) u (find nat_cmp u rest)
+  pub below_in : (u : ℕ) → among found.below u ≡ passed (newly_wrote_below t old new) u (find nat_cmp u rest)
+  pub reads_once : AreDistinct found.reads
+  pub readers_once : AreDistinct found.readers
+  pub above_once : AreDistinct found.above
+  pub below_once : AreDistinct found.below
 
-module _ {rest : List (ℕ × Undecided)} {t : ℕ} {old new : Sets} {before after : ℕ → Sets} (g : Grows rest t old new before after) where
-  none_found : (test : ℕ → Undecided → Bool) → among (found_in test rest) t ≡ false
-  none_found test = among-found_in test t rest g.sorted ∙ ap (passed test t) g.absent
+module _ {rest : List (ℕ × Undecided)} {t : ℕ} {old new : Sets} {before after : ℕ → Sets} {found : Found} (g : Grows rest t old new before after found) where
+  none_reads : among found.reads t ≡ false
+  none_reads = g.reads_in t ∙ ap (passed (newly_read old new) t) g.absent
+
+  none_readers : among found.readers t ≡ false
+  none_readers = g.readers_in t ∙ ap (passed (newly_reads old new) t) g.absent
+
+  none_above : among found.above t ≡ false
+  none_above = g.above_in t ∙ ap (passed (newly_wrote_above t old new) t) g.absent
+
+  none_below : among found.below t ≡ false
+  none_below = g.below_in t ∙ ap (passed (newly_wrote_below t old new) t) g.absent
 
   read_passes : (u : ℕ) (o : Option Undecided) → passed (newly_read old new) u o ≡ (reads_meet new.reads (sets_seen o).writes && not (reads_meet old.reads (sets_seen o).writes))
   read_passes u None = refl
@@ -220,9 +258,9 @@ module _ {rest : List (ℕ × Undecided)} {t : ℕ} {old new : Sets} {before aft
   apart u e = ap not e
 
   -- t read what u wrote
-  t_reads : (u : ℕ) → (t == u) ≡ false → among (found_in (newly_read old new) rest) u ≡ (reads_of after t u && not (reads_of before t u))
+  t_reads : (u : ℕ) → (t == u) ≡ false → among found.reads u ≡ (reads_of after t u && not (reads_of before t u))
   t_reads u e =
-      among-found_in (newly_read old new) u rest g.sorted ∙ read_passes u (find nat_cmp u rest)
+      g.reads_in u ∙ read_passes u (find nat_cmp u rest)
       ∙ (λ i. reads_meet (sym g.becomes i).reads (sym (g.others_are u e) i).writes && not (reads_meet (sym g.was i).reads (sym (g.others_were u e) i).writes))
       ∙ (λ i. (sym (ap not e) i && reads_meet (after t).reads (after u).writes) && not (sym (ap not e) i && reads_meet (before t).reads (before u).writes))
 
@@ -230,21 +268,21 @@ module _ {rest : List (ℕ × Undecided)} {t : ℕ} {old new : Sets} {before aft
   swapped u = grind (arith, nat_tests)
 
   -- u read what t wrote
-  reads_t : (u : ℕ) → (t == u) ≡ false → among (found_in (newly_reads old new) rest) u ≡ (reads_of after u t && not (reads_of before u t))
+  reads_t : (u : ℕ) → (t == u) ≡ false → among found.readers u ≡ (reads_of after u t && not (reads_of before u t))
   reads_t u e =
-      among-found_in (newly_reads old new) u rest g.sorted ∙ reads_passes u (find nat_cmp u rest)
+      g.readers_in u ∙ reads_passes u (find nat_cmp u rest)
       ∙ (λ i. reads_meet (sym (g.others_are u e) i).reads (sym g.becomes i).writes && not (reads_meet (sym (g.others_were u e) i).reads (sym g.was i).writes))
       ∙ (λ i. (sym (ap not (swapped u ∙ e)) i && reads_meet (after u).reads (after t).writes) && not (sym (ap not (swapped u ∙ e)) i && reads_meet (before u).reads (before t).writes))
 
-  t_wrote : (u : ℕ) → (t == u) ≡ false → among (found_in (newly_wrote_above t old new) rest) u ≡ (wrote_of after t u && not (wrote_of before t u))
+  t_wrote : (u : ℕ) → (t == u) ≡ false → among found.above u ≡ (wrote_of after t u && not (wrote_of before t u))
   t_wrote u e =
-      among-found_in (newly_wrote_above t old new) u rest g.sorted ∙ above_passes u (find nat_cmp u rest)
+      g.above_in u ∙ above_passes u (find nat_cmp u rest)
       ∙ (λ i. (nat_lt t u && writes_meet (sym g.becomes i).writes (sym (g.others_are u e) i).writes) && not (writes_meet (sym g.was i).writes (sym (g.others_were u e) i).writes))
       ∙ lt_once (nat_lt t u) _ _
 
-  wrote_t : (u : ℕ) → (t == u) ≡ false → among (found_in (newly_wrote_below t old new) rest) u ≡ (wrote_of after u t && not (wrote_of before u t))
+  wrote_t : (u : ℕ) → (t == u) ≡ false → among found.below u ≡ (wrote_of after u t && not (wrote_of before u t))
   wrote_t u e =
-      among-found_in (newly_wrote_below t old new) u rest g.sorted ∙ below_passes u (find nat_cmp u rest)
+      g.below_in u ∙ below_passes u (find nat_cmp u rest)
       ∙ (λ i. (nat_lt u t && writes_meet (sym (g.others_are u e) i).writes (sym g.becomes i).writes) && not (writes_meet (sym (g.others_were u e) i).writes (sym g.was i).writes))
       ∙ lt_once (nat_lt u t) _ _
 
@@ -282,61 +320,61 @@ module _ {rest : List (ℕ × Undecided)} {t : ℕ} {old new : Sets} {before aft
   not_above : (at past : ℕ → Sets) (u : ℕ) → false ≡ (wrote_of at u u && not (wrote_of past u u))
   not_above at past u = sym (ap (λ b. (b && writes_meet (at u).writes (at u).writes) && not (wrote_of past u u)) (less_itself u))
 
-  new_reads : (u v : ℕ) → (((t == u) && among (found_in (newly_read old new) rest) v) || ((t == v) && among (found_in (newly_reads old new) rest) u)) ≡ (reads_of after u v && not (reads_of before u v))
+  new_reads : (u v : ℕ) → (((t == u) && among found.reads v) || ((t == v) && among found.readers u)) ≡ (reads_of after u v && not (reads_of before u v))
   new_reads u v =
-      split (among (found_in (newly_read old new) rest)) (among (found_in (newly_reads old new) rest)) (λ x y. reads_of after x y && not (reads_of before x y))
-      (none_found (newly_read old new)) (none_found (newly_reads old new)) (not_itself after before t) t_reads reads_t old_reads u v (t == u) (t == v) refl refl
+      split (among found.reads) (among found.readers) (λ x y. reads_of after x y && not (reads_of before x y))
+      none_reads none_readers (not_itself after before t) t_reads reads_t old_reads u v (t == u) (t == v) refl refl
 
-  new_writes : (u v : ℕ) → (((t == u) && among (found_in (newly_wrote_above t old new) rest) v) || ((t == v) && among (found_in (newly_wrote_below t old new) rest) u)) ≡ (wrote_of after u v && not (wrote_of before u v))
+  new_writes : (u v : ℕ) → (((t == u) && among found.above v) || ((t == v) && among found.below u)) ≡ (wrote_of after u v && not (wrote_of before u v))
   new_writes u v =
-      split (among (found_in (newly_wrote_above t old new) rest)) (among (found_in (newly_wrote_below t old new) rest)) (λ x y. wrote_of after x y && not (wrote_of before x y))
-      (none_found (newly_wrote_above t old new)) (none_found (newly_wrote_below t old new)) (not_above after before t) t_wrote wrote_t old_writes u v (t == u) (t == v) refl refl
+      split (among found.above) (among found.below) (λ x y. wrote_of after x y && not (wrote_of before x y))
+      none_above none_below (not_above after before t) t_wrote wrote_t old_writes u v (t == u) (t == v) refl refl
 
   abbrev pub A : List Pair
-  A = map (reads_pair t) (found_in (newly_read old new) rest)
+  A = map (reads_pair t) found.reads
 
   abbrev pub B : List Pair
-  B = map (read_by_pair t) (found_in (newly_reads old new) rest)
+  B = map (read_by_pair t) found.readers
 
   abbrev pub C : List Pair
-  C = map (writes_pair t) (found_in (newly_wrote_above t old new) rest)
+  C = map (writes_pair t) found.above
 
   abbrev pub D : List Pair
-  D = map (written_by_pair t) (found_in (newly_wrote_below t old new) rest)
+  D = map (written_by_pair t) found.below
 
-  lists_A : (p : Pair) → lists_pair A p ≡ ((same_kind Reads p.by && (t == p.first)) && among (found_in (newly_read old new) rest) p.second)
-  lists_A p = lists-seconds Reads t (found_in (newly_read old new) rest) p
+  lists_A : (p : Pair) → lists_pair A p ≡ ((same_kind Reads p.by && (t == p.first)) && among found.reads p.second)
+  lists_A p = lists-seconds Reads t found.reads p
 
-  lists_B : (p : Pair) → lists_pair B p ≡ ((same_kind Reads p.by && (t == p.second)) && among (found_in (newly_reads old new) rest) p.first)
-  lists_B p = lists-firsts Reads t (found_in (newly_reads old new) rest) p
+  lists_B : (p : Pair) → lists_pair B p ≡ ((same_kind Reads p.by && (t == p.second)) && among found.readers p.first)
+  lists_B p = lists-firsts Reads t found.readers p
 
-  lists_C : (p : Pair) → lists_pair C p ≡ ((same_kind Writes p.by && (t == p.first)) && among (found_in (newly_wrote_above t old new) rest) p.second)
-  lists_C p = lists-seconds Writes t (found_in (newly_wrote_above t old new) rest) p
+  lists_C : (p : Pair) → lists_pair C p ≡ ((same_kind Writes p.by && (t == p.first)) && among found.above p.second)
+  lists_C p = lists-seconds Writes t found.above p
 
-  lists_D : (p : Pair) → lists_pair D p ≡ ((same_kind Writes p.by && (t == p.second)) && among (found_in (newly_wrote_below t old new) rest) p.first)
-  lists_D p = lists-firsts Writes t (found_in (newly_wrote_below t old new) rest) p
+  lists_D : (p : Pair) → lists_pair D p ≡ ((same_kind Writes p.by && (t == p.second)) && among found.below p.first)
+  lists_D p = lists-firsts Writes t found.below p
 
-  lists_made : (p : Pair) → lists_pair (pairs_made rest t old new) p ≡ (((lists_pair A p || lists_pair B p) || lists_pair C p) || lists_pair D p)
+  lists_made : (p : Pair) → lists_pair (pairs_of t found) p ≡ (((lists_pair A p || lists_pair B p) || lists_pair C p) || lists_pair D p)
   lists_made p =
       lists-append ((A ++ B) ++ C) D p ∙ ap (λ b. b || lists_pair D p) (lists-append (A ++ B) C p)
       ∙ ap (λ b. (b || lists_pair C p) || lists_pair D p) (lists-append A B p)
 
-  lists_each : (p : Pair) → lists_pair (pairs_made rest t old new) p ≡
-      (((((same_kind Reads p.by && (t == p.first)) && among (found_in (newly_read old new) rest) p.second)
-      || ((same_kind Reads p.by && (t == p.second)) && among (found_in (newly_reads old new) rest) p.first))
-      || ((same_kind Writes p.by && (t == p.first)) && among (found_in (newly_wrote_above t old new) rest) p.second))
-      || ((same_kind Writes p.by && (t == p.second)) && among (found_in (newly_wrote_below t old new) rest) p.first))
+  lists_each : (p : Pair) → lists_pair (pairs_of t found) p ≡
+      (((((same_kind Reads p.by && (t == p.first)) && among found.reads p.second)
+      || ((same_kind Reads p.by && (t == p.second)) && among found.readers p.first))
+      || ((same_kind Writes p.by && (t == p.first)) && among found.above p.second))
+      || ((same_kind Writes p.by && (t == p.second)) && among found.below p.first))
   lists_each p = lists_made p ∙ (λ i. ((lists_A p i || lists_B p i) || lists_C p i) || lists_D p i)
 
   abbrev pub holds_of : (ℕ → Sets) → PairKind → ℕ → ℕ → Bool
   holds_of at Reads u v = reads_of at u v
   holds_of at Writes u v = wrote_of at u v
 
-  exact_at : (kind : PairKind) (u v : ℕ) → lists_pair (pairs_made rest t old new) (record { by = kind; first = u; second = v }) ≡ (holds_of after kind u v && not (holds_of before kind u v))
+  exact_at : (kind : PairKind) (u v : ℕ) → lists_pair (pairs_of t found) (record { by = kind; first = u; second = v }) ≡ (holds_of after kind u v && not (holds_of before kind u v))
   exact_at Reads u v = lists_each (record { by = Reads; first = u; second = v }) ∙ or-false _ ∙ or-false _ ∙ new_reads u v
   exact_at Writes u v = lists_each (record { by = Writes; first = u; second = v }) ∙ new_writes u v
 
-  pub made_exactly : (p : Pair) → lists_pair (pairs_made rest t old new) p ≡ (holds_of after p.by p.first p.second && not (holds_of before p.by p.first p.second))
+  pub made_exactly : (p : Pair) → lists_pair (pairs_of t found) p ≡ (holds_of after p.by p.first p.second && not (holds_of before p.by p.first p.second))
   made_exactly p = exact_at p.by p.first p.second
 
   true_first : (k m w : Bool) → ((k && m) && w) ≡ true → m ≡ true
@@ -353,11 +391,11 @@ module _ {rest : List (ℕ × Undecided)} {t : ℕ} {old new : Sets} {before aft
 
   A_not_B : (p : Pair) → lists_pair A p ≡ true → lists_pair B p ≡ false
   A_not_B p e =
-      lists_B p ∙ one_side (same_kind Reads p.by) p.first p.second (found_in (newly_read old new) rest) (found_in (newly_reads old new) rest) (none_found (newly_reads old new)) (sym (lists_A p) ∙ e)
+      lists_B p ∙ one_side (same_kind Reads p.by) p.first p.second found.reads found.readers none_readers (sym (lists_A p) ∙ e)
 
   C_not_D : (p : Pair) → lists_pair C p ≡ true → lists_pair D p ≡ false
   C_not_D p e =
-      lists_D p ∙ one_side (same_kind Writes p.by) p.first p.second (found_in (newly_wrote_above t old new) rest) (found_in (newly_wrote_below t old new) rest) (none_found (newly_wrote_below t old new)) (sym (lists_C p) ∙ e)
+      lists_D p ∙ one_side (same_kind Writes p.by) p.first p.second found.above found.below none_below (sym (lists_C p) ∙ e)
 
   AB_at : (kind : PairKind) (u v : ℕ) → lists_pair (A ++ B) (record { by = kind; first = u; second = v }) ≡ true → kind ≡ Reads
   AB_at Reads u v e = refl
@@ -369,10 +407,10 @@ module _ {rest : List (ℕ × Undecided)} {t : ℕ} {old new : Sets} {before aft
   AB_reads p e = AB_at p.by p.first p.second e
 
   AB_not_C : (p : Pair) → lists_pair (A ++ B) p ≡ true → lists_pair C p ≡ false
-  AB_not_C p e = lists_C p ∙ ap (λ k. (same_kind Writes k && (t == p.first)) && among (found_in (newly_wrote_above t old new) rest) p.second) (AB_reads p e)
+  AB_not_C p e = lists_C p ∙ ap (λ k. (same_kind Writes k && (t == p.first)) && among found.above p.second) (AB_reads p e)
 
   AB_not_D : (p : Pair) → lists_pair (A ++ B) p ≡ true → lists_pair D p ≡ false
-  AB_not_D p e = lists_D p ∙ ap (λ k. (same_kind Writes k && (t == p.second)) && among (found_in (newly_wrote_below t old new) rest) p.first) (AB_reads p e)
+  AB_not_D p e = lists_D p ∙ ap (λ k. (same_kind Writes k && (t == p.second)) && among found.below p.first) (AB_reads p e)
 
   one_of : (a b : Bool) {x : Bool} → (a || b) ≡ true → (a ≡ true → x ≡ false) → (b ≡ true → x ≡ false) → x ≡ false
   one_of true b e f h = f refl
@@ -381,15 +419,15 @@ module _ {rest : List (ℕ × Undecided)} {t : ℕ} {old new : Sets} {before aft
   ABC_not_D : (p : Pair) → lists_pair ((A ++ B) ++ C) p ≡ true → lists_pair D p ≡ false
   ABC_not_D p e = one_of (lists_pair (A ++ B) p) (lists_pair C p) (sym (lists-append (A ++ B) C p) ∙ e) (AB_not_D p) (C_not_D p)
 
-  pub made_once : AreDistinctPairs (pairs_made rest t old new)
+  pub made_once : AreDistinctPairs (pairs_of t found)
   made_once =
       distinct-append ((A ++ B) ++ C) D
       (distinct-append (A ++ B) C
       (distinct-append A B
-      (distinct-seconds Reads t _ (distinct-found_in (newly_read old new) rest g.sorted))
-      (distinct-firsts Reads t _ (distinct-found_in (newly_reads old new) rest g.sorted))
+      (distinct-seconds Reads t _ g.reads_once)
+      (distinct-firsts Reads t _ g.readers_once)
       A_not_B)
-      (distinct-seconds Writes t _ (distinct-found_in (newly_wrote_above t old new) rest g.sorted))
+      (distinct-seconds Writes t _ g.above_once)
       AB_not_C)
-      (distinct-firsts Writes t _ (distinct-found_in (newly_wrote_below t old new) rest g.sorted))
+      (distinct-firsts Writes t _ g.below_once)
       ABC_not_D

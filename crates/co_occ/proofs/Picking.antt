@@ -88,20 +88,6 @@ find-picked pick q (e ∷ es) h =
     (λ t. find-below q es (subst (λ k. T (below_all nat_cmp k es)) (sym (tied q e.0 t)) (first _ _ h)))
     (find-picked pick q es (second _ _ h)) (pick e.1) refl
 
-abbrev pub passes : {Y : Type 0} → (Y → Bool) → Option Y → Bool
-passes test None = false
-passes test (Some y) = test y
-
-first-with : {Y : Type 0} (test : ℕ → Y → Bool) (k : ℕ) (o : Option Y) (found : Option ℕ) (ys : List (ℕ × Y)) → found ≡ first_in test ys
-    → (if passes (test k) o then Some k else found) ≡ first_in test (with_picked k o ys)
-first-with test k None found ys is = is
-first-with test k (Some y) found ys is = ap (λ r. if test k y then Some k else r) is
-
--- the first one that passes is the first picked one that passes
-pub first-picked : {X Y : Type 0} (pick : X → Option Y) (test : ℕ → Y → Bool) (es : List (ℕ × X)) → first_in (λ u x. passes (test u) (pick x)) es ≡ first_in test (picked pick es)
-first-picked pick test [] = refl
-first-picked pick test (e ∷ es) = first-with test e.0 (pick e.1) (first_in (λ u x. passes (test u) (pick x)) es) (picked pick es) (first-picked pick test es)
-
 -- two lists of entries from which the same is picked at each number
 pub same_picked : {X Y Z : Type 0} (f : X → Option Z) (g : Y → Option Z) (es : List (ℕ × X)) (fs : List (ℕ × Y)) → T (is_sorted nat_cmp es) → T (is_sorted nat_cmp fs)
     → ((q : ℕ) → pick_in f (find nat_cmp q es) ≡ pick_in g (find nat_cmp q fs)) → picked f es ≡ picked g fs

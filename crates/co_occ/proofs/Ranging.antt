@@ -22,5 +22,5 @@ reversed Greater = refl
 within : (lo hi q : List ℕ) → range_contains key_cmp (Included lo) (Included hi) q ≡ span_has (record { lo = lo; hi = hi }) q
 within lo hi q = λ i. from_low (key_cmp lo q) i && not ((reversed (key_cmp hi q) ∙ ap is_gt (sym (nat_list_cmp_total.antisymm q hi))) i)
 
-pub between_span : (lo hi : List ℕ) (es : List (List ℕ × List ℕ)) → entries_between key_cmp (Included lo) (Included hi) es ≡ filter (λ e. span_has (record { lo = lo; hi = hi }) e.0) es
-between_span lo hi es = λ i. filter (λ (e : List ℕ × List ℕ). within lo hi e.0 i) es
+pub between_span : {X : Type 0} (lo hi : List ℕ) (es : List (List ℕ × X)) → entries_between key_cmp (Included lo) (Included hi) es ≡ filter (λ e. span_has (record { lo = lo; hi = hi }) e.0) es
+between_span lo hi es = λ i. filter (λ e. within lo hi e.0 i) es

@@ -41,13 +41,11 @@ use Rattle.co_occ.specs.declared.undecided.Undecided.{Undecided}
 use Rattle.co_occ.specs.Kept.{reads_of, or_new, with_read, staged_with, grown_by, grown_with, with_vote, voted_one, voted_roll, oldest_kept}
 use Rattle.co_occ.specs.Kept as roll
 use Rattle.co_occ.specs.Old.{with_stamp, oldest_stamp, oldest_of, oldest_read, installed_writes, writes_after, old_writes}
-use Rattle.co_occ.specs.Stands.{IsKept, KeepsState, StandsFor, reads_at, while_active, once_voted, active_reads, active_sets, voted_sets, own, own_with, with_own, count_after, needed, with_needed, own_records, own_reads, list_in}
+use Rattle.co_occ.specs.Stands.{IsKept, KeepsState, StandsFor, reads_at, while_active, once_voted, active_reads, active_sets, voted_sets, own, own_with, with_own, IsIndexed, gone_from, without_own, count_after, needed, with_needed, own_records, own_reads, list_in}
 use Rattle.co_occ.specs.Unseen.{keys_overwritten}
-use Rattle.co_occ.specs.Made.{pairs_of_write}
-use Rattle.co_occ.proofs.Meeting.{made_changing}
 use Rattle.co_occ.proofs.Picking.{tied, ties}
 use Rattle.co_occ.proofs.Keeping.{sets_seen, sets_kept, stage_kept, none_mapped}
-use Rattle.co_occ.proofs.Pairing.{Grows, pairs_made, made_exactly, made_once}
+use Rattle.co_occ.proofs.Indexing.{indexed_own, indexed_vote, indexed_gone}
 use Rattle.co_occ.proofs.Oldest.{oldest-put, oldest-without, oldest_alike, lesser-assoc, after_read, after_gone, after_none, stamps-reads}
 use Rattle.co_occ.proofs.Oldest as later
 use Rattle.co_occ.proofs.Unseeing.{length-installed, installed-more, AllNotOlder, reads_not_older, lower_right, stale_alike}
@@ -146,35 +144,8 @@ keeps_with o b t op k h =
             ∙ ap (λ x. while_active (staged_with (span_read op) o.installs (own o t).stage) (grown_by (span_read op) (change_made op) x)) (own_sets o b t k none);
         votes_are = ap (λ s. once_voted s (grown_by (span_read op) (change_made op) (own o t).sets)) stage;
       });
+      indexed = indexed_own o.index o.undecided t (span_read op) (change_made op) (own_with o t (span_read op) (change_made op)) k.indexed refl;
     }
-
-apart_tie : (t u : ℕ) → (t == u) ≡ false → eq_by_cmp nat_cmp u t ≡ false
-apart_tie t u e = ties u t ∙ e
-
-itself : (t : ℕ) → eq_by_cmp nat_cmp t t ≡ true
-itself t = ties t t ∙ eq-eqb t t refl
-
--- and makes exactly the new pairs
-pub pairs_alike : (o : OccEngine) (b : EngineState) (t : ℕ) (op : Op) → KeepsState o b → IsTrue (may_operate b t)
-    → AreNewPairs b (with_operation b t op) (pairs_made (entries (without o.undecided t)) t (own o t).sets (grown_by (span_read op) (change_made op) (own o t).sets))
-pairs_alike o b t op k h =
-    let none = not_voted b t h in
-    let next = keeps_with o b t op k h in
-    let mine = own_with o t (span_read op) (change_made op) in
-    let rest = without o.undecided t in
-    let found : (u : ℕ) → (t == u) ≡ false → look o.undecided u ≡ find nat_cmp u (entries rest) =
-    λ u e. sym (look-without o.undecided t u ∙ ap (λ c. cond c None (look o.undecided u)) (apart_tie t u e)) ∙ get-entries rest u in
-    let g : Grows (entries rest) t (own o t).sets (grown_by (span_read op) (change_made op) (own o t).sets) (sets_at b) (sets_at (with_operation b t op)) = record {
-      sorted = entries_sorted rest;
-      absent = sym (get-entries rest t) ∙ look-without o.undecided t t ∙ ap (λ c. cond c None (look o.undecided t)) (itself t);
-      was = sets_alike o b t k;
-      becomes = sets_alike (with_own o t (span_read op) (change_made op)) (with_operation b t op) t next
-          ∙ ap sets_seen (ap (λ m. look m t) (put-without o.undecided t mine) ∙ look-put o.undecided t mine t ∙ ap (λ c. cond c (Some mine) (look o.undecided t)) (itself t));
-      others_were = λ u e. sets_alike o b u k ∙ ap sets_seen (found u e);
-      others_are = λ u e. sets_alike (with_own o t (span_read op) (change_made op)) (with_operation b t op) u next
-          ∙ ap sets_seen (ap (λ m. look m u) (put-without o.undecided t mine) ∙ look-put o.undecided t mine u ∙ ap (λ c. cond c (Some mine) (look o.undecided u)) (apart_tie t u e) ∙ found u e);
-    } in
-    record { exactly = made_exactly g; once = made_once g }
 
 -- ---- the kept write sets
 stamp_more : (span : Option Span) (stamp : ℕ) (old rest : Option ℕ) (wss : List (List Written)) → length wss ≡ stamp
@@ -200,7 +171,7 @@ needed_alike o b k = ap (λ old. count_after old o.installs) (oldest_alike o.und
 -- what no read needs is forgotten
 pub stands_needed : (o : OccEngine) (b : EngineState) → KeepsState o b → drop (length o.recent - count_after (oldest_read b) o.installs) o.recent ≡ old_writes b → StandsFor (with_needed o) b
 stands_needed o b k e = record {
-  keeps = record { kind_is = k.kind_is; records_are = k.records_are; count_is = k.count_is; each = k.each };
+  keeps = record { kind_is = k.kind_is; records_are = k.records_are; count_is = k.count_is; each = k.each; indexed = k.indexed };
   recent_are = ap (λ n. drop (length o.recent - n) o.recent) (needed_alike o b k) ∙ e;
 }
 
@@ -237,13 +208,14 @@ stands_cast o b t coord count s h =
       records_are = k.records_are;
       count_is = k.count_is;
       each = cast_at o b t coord count (look o.undecided t) (look b.active t) k refl h (k.each t);
+      indexed = indexed_vote o.index o.undecided t k.indexed;
     })
     (gone o b t s)
 
-pub stands_drop : (o : OccEngine) (b : EngineState) (t : ℕ) → StandsFor o b → StandsFor (with_needed (record o { undecided = without o.undecided t })) (after_drop b t)
+pub stands_drop : (o : OccEngine) (b : EngineState) (t : ℕ) → StandsFor o b → StandsFor (with_needed (without_own o t)) (after_drop b t)
 stands_drop o b t s =
     let k = s.keeps in
-    stands_needed (record o { undecided = without o.undecided t }) (after_drop b t)
+    stands_needed (without_own o t) (after_drop b t)
     (record {
       kind_is = k.kind_is;
       records_are = k.records_are;
@@ -251,6 +223,7 @@ stands_drop o b t s =
       each = λ u.
           kept_along (sym (look-without o.undecided t u)) (sym (look-without b.active t u)) (sym (look-without b.voted t u))
           (kept_cond (eq_by_cmp nat_cmp u t) (λ y. record { reads_are = refl; sets_are = refl; votes_are = refl }) (λ n. k.each u));
+      indexed = indexed_gone o.index o.undecided t k.indexed;
     })
     (gone o b t s)
 
@@ -272,6 +245,7 @@ installed_with o t ws = record o {
   installs = o.installs + 1;
   recent = o.recent ++ ws ∷ [];
   undecided = without o.undecided t;
+  index = gone_from o.index t (look o.undecided t);
 }
 
 install_at : (o : OccEngine) (b : EngineState) (t : ℕ) (e : Undecided) (v : Option Vote) → StandsFor o b → is_some v ≡ true → look b.voted t ≡ v → IsKept (Some e) (look b.active t) v
@@ -293,6 +267,7 @@ install_at o b t e (Some vote) s h f k =
           (kept_cond (eq_by_cmp nat_cmp u t)
           (λ y. kept_along refl (sym (ap (look b.active) (tied u t y) ∙ not_active e (look b.active t) vote k)) refl (record { reads_are = refl; sets_are = refl; votes_are = refl }))
           (λ n. keeps.each u));
+      indexed = indexed_gone o.index o.undecided t keeps.indexed;
     })
     (ap (λ wss. drop (length (wss ++ ws ∷ []) - count_after (oldest_read b) (o.installs + 1)) (wss ++ ws ∷ [])) s.recent_are
     ∙ later.after_install (oldest_read b) (installed_writes b.installed) ws o.installs (counted o b keeps)
@@ -323,14 +298,15 @@ voteds_at (q ∷ ps) u =
     (λ y. kept_along refl (sym (get-empty nat_cmp u)) refl (record { reads_are = refl; sets_are = refl; votes_are = refl }))
     (λ n. voteds_at ps u))
 
-pub stands_restored : (o : OccEngine) (kind : Kind) (records : Records) (ps : List Prepared) → kind ≡ Occ → o.records ≡ records → o.installs ≡ 0 → o.recent ≡ [] → o.undecided ≡ voted_roll ps
+pub stands_restored : (o : OccEngine) (kind : Kind) (records : Records) (ps : List Prepared) → kind ≡ Occ → o.records ≡ records → o.installs ≡ 0 → o.recent ≡ [] → o.undecided ≡ voted_roll ps → IsIndexed o.index o.undecided
     → StandsFor o (restored kind records (votes_of ps))
-stands_restored o kind records ps is base count recent undecided = record {
+stands_restored o kind records ps is base count recent undecided indexed = record {
   keeps = record {
     kind_is = sym is;
     records_are = base;
     count_is = count;
     each = λ u. kept_along (ap (λ m. look m u) (sym undecided)) refl refl (voteds_at ps u);
+    indexed = indexed;
   };
   recent_are = recent ∙ after_none (oldest_of (entries (no_entries {X = List Operation})));
 }
@@ -362,33 +338,14 @@ dump_alike o b s = ap all_rows s.keeps.records_are ∙ ap (λ kind. dumped_rows 
 pub undos_alike : (o : OccEngine) (b : EngineState) → StandsFor o b → [] ≡ dumped_undos b.kind b
 undos_alike o b s = ap (λ kind. dumped_undos kind b) s.keeps.kind_is
 
--- ---- the state and the pairs of a call
+-- ---- the state after a call
 pub stands_after : (o next : OccEngine) (b : EngineState) (t : ℕ) (op : Op) → StandsFor o b → IsTrue (may_operate b t) → next ≡ with_own o t (span_read op) (change_made op) → StandsFor next (after_operation b t op)
 stands_after o next b t op s h e =
     subst (λ (b' : EngineState). StandsFor next b') (after_alike o b t op s)
     (subst (λ (o' : OccEngine). StandsFor o' (with_operation b t op)) (sym e) (stands_with o b t op s h))
-
-pub appends : (o : OccEngine) (b : EngineState) (t : ℕ) (op : Op) (before after made : List Pair) → StandsFor o b → IsTrue (may_operate b t) → after ≡ before ++ made
-    → made ≡ pairs_made (entries (without o.undecided t)) t (own o t).sets (grown_by (span_read op) (change_made op) (own o t).sets)
-    → AppendsNewPairs b (after_operation b t op) before after
-appends o b t op before after made s h e is =
-    subst (λ next. AppendsNewPairs b next before after) (after_alike o b t op s) (record {
-      added = made;
-      appended = e;
-      exactly_new = subst (λ ps. AreNewPairs b (with_operation b t op) ps) (sym is) (pairs_alike o b t op s.keeps h);
-    })
 
 -- ---- a write, with a value or without
 pub written_parts : (o : OccEngine) (t : ℕ) (key : List ℕ) (v : Option (List ℕ))
     → with_own o t None (Some (record { key = key; value = v })) ≡ with_own o t (span_read (writing key v)) (change_made (writing key v))
 written_parts o t key None = refl
 written_parts o t key (Some value) = refl
-
-written_grown : (sets : Sets) (key : List ℕ) (v : Option (List ℕ))
-    → grown_by None (Some (record { key = key; value = v })) sets ≡ grown_by (span_read (writing key v)) (change_made (writing key v)) sets
-written_grown sets key None = refl
-written_grown sets key (Some value) = refl
-
-pub made_writing : (es : List (ℕ × Undecided)) (t : ℕ) (old : Sets) (key : List ℕ) (v : Option (List ℕ))
-    → pairs_of_write es t old.writes key ≡ pairs_made es t old (grown_by (span_read (writing key v)) (change_made (writing key v)) old)
-made_writing es t old key v = made_changing es t old (record { key = key; value = v }) ∙ ap (pairs_made es t old) (written_grown old key v)

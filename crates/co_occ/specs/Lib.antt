@@ -1,5 +1,6 @@
 pub mod Old
 pub mod Kept
+pub mod Touching
 pub mod Made
 pub mod Unseen
 pub mod Seen

@@ -9,11 +9,13 @@ use Rattle.co_state.specs.declared.engine_state.Sets.{Sets}
 use Rattle.co_state.specs.declared.engine_state.Vote.{Vote}
 use Rattle.co_state.specs.Changes.{sets_of}
 use Rattle.co_state.specs.EngineState.{installed_records}
-use Rattle.co_state.specs.Table.{look, put, without}
+use Rattle.co_state.specs.Table.{Table, look, put, without}
 use Rattle.co_base.specs.Span.{Span}
 use Rattle.co_base.specs.declared.written.Written.{Written}
 use Rattle.co_serial.specs.Records.{Records, with_changes}
 use Rattle.co_occ.specs.declared.engine.OccEngine.{OccEngine}
+use Rattle.co_occ.specs.declared.index.Index.{Index}
+use Rattle.co_occ.specs.Touching.{with_read, with_write, without_sets, Covers}
 use Rattle.co_occ.specs.declared.undecided.Read.{Read}
 use Rattle.co_occ.specs.declared.undecided.Reads.{Reads}
 use Rattle.co_occ.specs.declared.undecided.Stage.{Stage}
@@ -56,12 +58,17 @@ pub record IsKept (e : Option Undecided) (os : Option (List Operation)) (vote : 
   pub sets_are : option_map sets_of os ≡ active_sets e
   pub votes_are : option_map (λ v. v.sets) vote ≡ voted_sets e
 
+-- the index tells all that undecided transactions read and wrote
+abbrev pub IsIndexed : Index → Table Undecided → Type 0
+IsIndexed index roll = (t : ℕ) (e : Undecided) → look roll t ≡ Some e → Covers index t e.sets
+
 -- everything but the write sets
 pub record KeepsState (o : OccEngine) (b : EngineState) : Type 0 where
   pub kind_is : Occ ≡ b.kind
   pub records_are : o.records ≡ installed_records b
   pub count_is : o.installs ≡ length b.installed
   pub each : (t : ℕ) → IsKept (look o.undecided t) (look b.active t) (look b.voted t)
+  pub indexed : IsIndexed o.index o.undecided
 
 pub record StandsFor (o : OccEngine) (b : EngineState) : Type 0 where
   pub keeps : KeepsState o b
@@ -76,8 +83,27 @@ own o t = or_new (look o.undecided t)
 abbrev pub own_with : OccEngine → ℕ → Option Span → Option Written → Undecided
 own_with o t span change = grown_with span change o.installs (own o t)
 
+abbrev pub read_noted : Option Span → Index → ℕ → Index
+read_noted None index t = index
+read_noted (Some span) index t = with_read index span t
+
+abbrev pub change_noted : Option Written → Index → ℕ → Index
+change_noted None index t = index
+change_noted (Some change) index t = with_write index change.key t
+
 abbrev pub with_own : OccEngine → ℕ → Option Span → Option Written → OccEngine
-with_own o t span change = record o { undecided = put (without o.undecided t) t (own_with o t span change) }
+with_own o t span change = record o {
+  undecided = put (without o.undecided t) t (own_with o t span change);
+  index = change_noted change (read_noted span o.index t) t;
+}
+
+-- the transaction is gone
+abbrev pub gone_from : Index → ℕ → Option Undecided → Index
+gone_from index t None = index
+gone_from index t (Some e) = without_sets index e.sets t
+
+abbrev pub without_own : OccEngine → ℕ → OccEngine
+without_own o t = record o { undecided = without o.undecided t; index = gone_from o.index t (look o.undecided t) }
 
 -- how many of the newest installs came after the oldest read
 abbrev pub count_after : Option ℕ → ℕ → ℕ

@@ -6,16 +6,19 @@ ghost use Rattle.co_serial.specs.Records.{all_rows, rows_within};
 ghost use Rattle.co_state.specs.declared.engine_state.EngineState.{EngineState};
 ghost use Rattle.co_occ.specs.Made.{pairs_of_read, pairs_of_write};
 ghost use Rattle.co_occ.specs.Old.{old_writes};
-ghost use Rattle.co_occ.specs.Stands.{StandsFor, own, own_records, own_reads, with_own, needed, with_needed};
-ghost use Rattle.co_state.specs.Table.{without};
+ghost use Rattle.co_occ.specs.Stands.{StandsFor, own, own_records, own_reads, with_own, without_own, needed, with_needed};
+ghost use Rattle.co_state.specs.Table.{look, without};
+ghost use Rattle.co_base.specs.Span.{span_of_key};
+ghost use Rattle.co_occ.specs.Touching.{may_write, may_read};
 
 use crate::appended::append;
+use crate::index::Index;
 use crate::installed::Installed;
 use crate::new_pairs::{pairs_of_read, pairs_of_write};
 use crate::old::OldWrites;
 use crate::own::{oldest_read, take, voted_roll};
 use crate::reading::{all_records, copy_value, records_within, seen_value};
-use crate::undecided::{Read, Roll, Stage};
+use crate::undecided::{Read, Roll, Stage, Undecided};
 use crate::validation::stale_key;
 use co_base::{Key, Kind, Range, Reply, Rows, Txn, Value, Writes, Written};
 use co_engine::{Dump, Engine, Seen};
@@ -33,6 +36,7 @@ pub struct OccEngine {
     installs: u64,
     recent: OldWrites,
     undecided: Roll,
+    index: Index,
     nothing: Sets,
 }
 
@@ -106,10 +110,12 @@ impl OccEngine {
     /// Adds a read to its transaction and gives the pairs that it makes.
     fn add_read(&mut self, alloc: Global, t: Txn, range: Range) -> Result<Pairs, AllocError>
         ensures state { OnOk result (self.new ≡ with_own self.old t (Some range) None) }
-        ensures pairs { IfOk result (λ pairs. pairs ≡ pairs_of_read (entries (without self.old.undecided t)) t (own self.old t).sets.reads range) }
+        ensures pairs { IfOk result (λ pairs. pairs ≡ pairs_of_read (entries (may_write self.old.index range)) (without self.old.undecided t) t (own self.old t).sets.reads range) }
     {
         let own = take(alloc, &mut self.undecided, t);
-        let pairs = pairs_of_read(alloc, &self.undecided, t, own.sets.reads(), &range)?;
+        let reads = own.sets.reads();
+        let pairs = pairs_of_read(alloc, &self.index, &self.undecided, t, reads, &range)?;
+        self.index.add_read(alloc, &range, t)?;
         let own = own.reading(range, self.installs)?;
         self.undecided.put(t, own)?;
         Ok(pairs)
@@ -118,13 +124,30 @@ impl OccEngine {
     /// Adds a change to its transaction and gives the pairs that it makes.
     fn add_change(&mut self, alloc: Global, t: Txn, change: Written) -> Result<Pairs, AllocError>
         ensures state { OnOk result (self.new ≡ with_own self.old t None (Some change)) }
-        ensures pairs { IfOk result (λ pairs. pairs ≡ pairs_of_write (entries (without self.old.undecided t)) t (own self.old t).sets.writes change.key) }
+        ensures pairs { IfOk result (λ pairs. pairs ≡ pairs_of_write (entries (may_read self.old.index change.key)) (entries (may_write self.old.index (span_of_key change.key))) (without self.old.undecided t) t (own self.old t).sets.writes change.key) }
     {
         let own = take(alloc, &mut self.undecided, t);
-        let pairs = pairs_of_write(alloc, &self.undecided, t, own.sets.writes(), &change.key)?;
+        let writes = own.sets.writes();
+        let key = &change.key;
+        let pairs = pairs_of_write(alloc, &self.index, &self.undecided, t, writes, key)?;
+        self.index.add_write(alloc, key, t)?;
         let own = own.changing(change)?;
         self.undecided.put(t, own)?;
         Ok(pairs)
+    }
+
+    /// Takes an undecided transaction out. Takes no memory.
+    fn take_out(&mut self, t: Txn) -> Option<Undecided>
+        ensures value { result ≡ look self.old.undecided t }
+        ensures rest { self.new ≡ without_own self.old t }
+    {
+        match self.undecided.take(t) {
+            Some(undecided) => {
+                self.index.forget(&undecided.sets, t);
+                Some(undecided)
+            }
+            None => None,
+        }
     }
 
     /// How many of the newest installs came after the oldest read of an active transaction.
@@ -158,11 +181,13 @@ impl Engine for OccEngine {
         voted: &[Prepared],
     ) -> Result<Self, AllocError> {
         let _ = kind;
+        let undecided = voted_roll(alloc, voted)?;
         Ok(OccEngine {
             records: Installed::of_rows(alloc, rows.into_vec())?,
             installs: 0,
             recent: OldWrites::new(alloc),
-            undecided: voted_roll(alloc, voted)?,
+            index: Index::of_roll(alloc, &undecided)?,
+            undecided,
             nothing: Sets::new(alloc),
         })
     }
@@ -227,7 +252,7 @@ impl Engine for OccEngine {
     }
 
     fn install(&mut self, alloc: Global, t: Txn) -> Result<(), AllocError> {
-        let Some(undecided) = self.undecided.take(t) else {
+        let Some(undecided) = self.take_out(t) else {
             return Ok(());
         };
         let sets = undecided.sets;
@@ -240,7 +265,7 @@ impl Engine for OccEngine {
     }
 
     fn drop_txn(&mut self, t: Txn) {
-        let _ = self.undecided.take(t);
+        let _ = self.take_out(t);
         self.forget_old();
     }
 

@@ -9,6 +9,7 @@
 
 mod appended;
 mod engine;
+mod index;
 mod installed;
 mod new_pairs;
 mod old;
@@ -18,6 +19,7 @@ mod random_tests;
 mod reading;
 #[cfg(test)]
 mod tests;
+mod touched;
 mod undecided;
 mod validation;
 

@@ -7,5 +7,5 @@ use Rattle.co_occ.proofs.engine.OccEngineEngine.drop_txn.Goals as goal
 
 pub returns : goal.returns
 returns c = λ b s h.
-    subst (λ (o : OccEngine). StandsFor o (after_drop b c.args.t)) (sym (c.forget_old.ensures ∙ (λ i. with_needed (record c.args.self.now { undecided = c.take.ensures.rest i }))))
+    subst (λ (o : OccEngine). StandsFor o (after_drop b c.args.t)) (sym (c.forget_old.ensures ∙ ap with_needed c.take_out.ensures.rest))
     (stands_drop c.args.self.now b c.args.t s)

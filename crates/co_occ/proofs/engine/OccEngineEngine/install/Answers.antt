@@ -10,13 +10,12 @@ pub returns : goal.returns
 returns c = λ b s h.
     let o = c.args.self.now in
     subst (λ (next : OccEngine). StandsFor next (after_install b c.args.t))
-    (sym (c.forget_old.ensures ∙ (λ i. with_needed (record o {
-      records = (c.in_ok-lay.ensures ∙ ap (with_changes o.records) c.as_slice.ensures) i;
-      installs = c.in_ok-self.ensures i;
-      recent = c.in_ok-push.ensures i;
-      undecided = c.take.ensures.rest i;
+    (sym (c.forget_old.ensures ∙ (λ i. with_needed (record (c.take_out.ensures.rest i) {
+      records = (c.in_ok-lay.ensures ∙ ap (λ (p : OccEngine). with_changes p.records c.as_slice.result.now) c.take_out.ensures.rest ∙ ap (with_changes o.records) c.as_slice.ensures) i;
+      installs = (c.in_ok-self.ensures ∙ ap (λ (p : OccEngine). p.installs + 1) c.take_out.ensures.rest) i;
+      recent = (c.in_ok-push.ensures ∙ ap (λ (p : OccEngine). p.recent ++ c.in-Some.undecided.sets.writes ∷ []) c.take_out.ensures.rest) i;
     }))))
-    (stands_install o b c.args.t c.in-Some.undecided s h (sym c.take.ensures.value ∙ c.in-Some.is))
+    (stands_install o b c.args.t c.in-Some.undecided s h (sym c.take_out.ensures.value ∙ c.in-Some.is))
 
 pub returns-in_default : goal.returns-in_default
-returns-in_default c = λ b s h. install_absent c.args.self.now b c.args.t s h (sym c.take.ensures.value ∙ c.in_default.is)
+returns-in_default c = λ b s h. install_absent c.args.self.now b c.args.t s h (sym c.take_out.ensures.value ∙ c.in_default.is)

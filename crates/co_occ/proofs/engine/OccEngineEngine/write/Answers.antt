@@ -4,7 +4,10 @@ use Rattle.co_engine.specs.Calls.{writing}
 use Rattle.co_state.specs.Table.{without}
 use Rattle.co_occ.specs.Made.{pairs_of_write}
 use Rattle.co_occ.specs.Stands.{own, with_own}
-use Rattle.co_occ.proofs.Standing.{stands_after, appends, written_parts, made_writing}
+use Rattle.co_occ.proofs.Standing.{stands_after, written_parts}
+use Rattle.co_base.specs.Span.{span_of_key}
+use Rattle.co_occ.specs.Touching.{may_read, may_write}
+use Rattle.co_occ.proofs.Finding.{appends_changing, writing_reads, writing_changes}
 use Rattle.co_occ.proofs.engine.OccEngineEngine.write.Goals as goal
 
 pub returns-clause-state : goal.returns-clause-state
@@ -18,7 +21,7 @@ pub returns-clause-pairs : goal.returns-clause-pairs
 returns-clause-pairs c = λ b s h.
     let o = c.args.self.now in
     let v = option_copied c.args.value in
-    appends o b c.args.t (writing c.args.key.now v) _ _ c.in_ok-made.made s h c.in_ok-append.ensures.ok
+    let key = c.args.key.now in
+    appends_changing o b c.args.t (writing key v) (record { key = key; value = v }) _ _ c.in_ok-made.made s h (writing_reads key v) (writing_changes key v) c.in_ok-append.ensures.ok
     (c.in_ok-made.ensures.pairs
-    ∙ ap (λ k. pairs_of_write (entries (without o.undecided c.args.t)) c.args.t (own o c.args.t).sets.writes k) c.in_ok-copy.ensures
-    ∙ made_writing (entries (without o.undecided c.args.t)) c.args.t (own o c.args.t).sets c.args.key.now v)
+    ∙ ap (λ k. pairs_of_write (entries (may_read o.index k)) (entries (may_write o.index (span_of_key k))) (without o.undecided c.args.t) c.args.t (own o c.args.t).sets.writes k) c.in_ok-copy.ensures)
