@@ -92,7 +92,7 @@ below : (k v : ℕ) → nat_cmp k v ≡ Less → k ≤ v
 below k v e = grind (arith, nat_tests)
 
 -- what is found is not below the first one
-found_above : {X : Type 0} (k v : ℕ) (es : List (ℕ × X)) → T (below_all nat_cmp k es) → is_some (find nat_cmp v es) ≡ true → k ≤ v
+pub found_above : {X : Type 0} (k v : ℕ) (es : List (ℕ × X)) → T (below_all nat_cmp k es) → is_some (find nat_cmp v es) ≡ true → k ≤ v
 found_above k v [] h e = absurd (true≢false (sym e))
 found_above k v (f ∷ es) h e = by (same_number v f.0) refl e (found_above k v es (second _ _ h))
   where
