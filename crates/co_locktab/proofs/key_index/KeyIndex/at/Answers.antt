@@ -1,0 +1,8 @@
+use Rattle.std.proofs.Common.{ap, sym, ◌∙◌}
+use Rattle.std.specs.FinMap.{get}
+use Rattle.co_serial.proofs.MapViews.{view-get}
+use Rattle.co_locktab.proofs.Orders.{keys_total}
+use Rattle.co_locktab.proofs.key_index.KeyIndex.at.Goals as goal
+
+pub returns : goal.returns
+returns c = c.get.ensures.value ∙ sym (view-get keys_total _ _) ∙ ap (λ m. get m c.args.key.now) c.self.view_is

@@ -1,0 +1,15 @@
+//! The locks of one member: key locks for writing and range locks for reading.
+//!
+//! `specs/Locks` says what locks are as plain data and whom they block. Writers are kept by key, readers of
+//! one key by that key, and readers of more keys by their lower bound, all in ordered maps. So to find a
+//! blocker costs what is in the way, not what is held.
+#![tactic(auto)]
+
+mod holders;
+mod key_index;
+mod lock_table;
+mod range_index;
+#[cfg(test)]
+mod tests;
+
+pub use lock_table::LockTable;
