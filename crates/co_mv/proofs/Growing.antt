@@ -19,6 +19,7 @@ use Rattle.co_mv.specs.NewPairs as made
 use Rattle.co_mv.specs.NewPairs.{found_in, reads_pair, read_by_pair, writes_pair, written_by_pair, grown_by}
 use Rattle.co_mv.proofs.Pairing.{newly_read, newly_reads, newly_wrote_above, newly_wrote_below, all_made, not_both}
 use Rattle.co_mv.proofs.Versioning.{key_symm}
+
 or_left : (a b c : Bool) → (a || (b || c)) ≡ (b || (a || c))
 or_left true true c = refl
 or_left true false c = refl

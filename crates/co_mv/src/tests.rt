@@ -1,6 +1,6 @@
 use crate::MvEngine;
 use co_base::{Key, Kind, Range, Reply, Rows, Txn, Value, Written};
-use co_engine::{Answers, Command, Engine, PlainEngine, Played, Seen, play};
+use co_engine::{Answers, Command, Dump, Engine, PlainEngine, Played, Seen, play};
 use co_pairs::{Pair, PairKind, Pairs, Prepared, Sets, are_free};
 use co_state::RecordMap;
 use std::alloc::Global;
@@ -323,34 +323,48 @@ fn drive<E: Engine>(
     engine: &mut E,
     commands: &[Command],
     answers: &Answers,
-) -> Result<Pairs, Fail> {
+) -> Result<(), Fail> {
     let mut pairs = Pairs::new(alloc);
     for (place, command) in commands.iter().enumerate() {
         if place < answers.len() && *answers.at(place) != Played::Refused {
             follow(alloc, engine, command, &mut pairs)?;
         }
     }
-    Ok(pairs)
+    Ok(())
+}
+
+/// Plays commands on both engines.
+fn same_answers<R: AllocGlobal + Abort>(rt: &R, commands: &[Command]) -> Result<Answers, Fail> {
+    let alloc = rt.alloc();
+    let answers = play::<MvEngine>(alloc, Kind::Mv, Rows::new(alloc), &[], commands)?;
+    let plain = play::<PlainEngine>(alloc, Kind::Mv, Rows::new(alloc), &[], commands)?;
+    assert_eq!(rt; answers, plain);
+    Ok(answers)
+}
+
+/// What a multiversion engine dumps after commands.
+fn dumped(alloc: Global, commands: &[Command], answers: &Answers) -> Result<Dump, Fail> {
+    let mut engine = MvEngine::restore(alloc, Kind::Mv, Rows::new(alloc), &[])?;
+    drive(alloc, &mut engine, commands, answers)?;
+    Ok(engine.dump(alloc)?)
+}
+
+/// What a plain engine dumps after commands.
+fn plainly_dumped(alloc: Global, commands: &[Command], answers: &Answers) -> Result<Dump, Fail> {
+    let mut engine = PlainEngine::restore(alloc, Kind::Mv, Rows::new(alloc), &[])?;
+    drive(alloc, &mut engine, commands, answers)?;
+    Ok(engine.dump(alloc)?)
 }
 
 #[test]
 fn it_answers_as_the_plain_engine(rt: HostRuntime) -> Result<(), Fail> {
-    let alloc = rt.alloc();
     for seed in [1, 2, 3, 5, 8, 13, 21, 34, 55, 89] {
-        let commands = random_commands(alloc, seed)?;
-        let commands = commands.as_slice();
-        let answers = play::<MvEngine>(alloc, Kind::Mv, Rows::new(alloc), &[], commands)?;
-        let plain = play::<PlainEngine>(alloc, Kind::Mv, Rows::new(alloc), &[], commands)?;
-        assert_eq!(rt; answers, plain);
-        let mut engine = MvEngine::restore(alloc, Kind::Mv, Rows::new(alloc), &[])?;
-        let mut other = PlainEngine::restore(alloc, Kind::Mv, Rows::new(alloc), &[])?;
-        let pairs = drive(alloc, &mut engine, commands, &answers)?;
-        let plain_pairs = drive(alloc, &mut other, commands, &answers)?;
-        assert_eq!(rt; pairs, plain_pairs);
-        let dump = engine.dump(alloc)?;
-        let plain_dump = other.dump(alloc)?;
-        assert_eq!(rt; dump.rows, plain_dump.rows);
-        assert_eq!(rt; dump.undos, plain_dump.undos);
+        let commands = random_commands(rt.alloc(), seed)?;
+        let answers = same_answers(&rt, commands.as_slice())?;
+        let dump = dumped(rt.alloc(), commands.as_slice(), &answers)?;
+        let plain = plainly_dumped(rt.alloc(), commands.as_slice(), &answers)?;
+        assert_eq!(rt; dump.rows, plain.rows);
+        assert_eq!(rt; dump.undos, plain.undos);
     }
     Ok(())
 }
