@@ -23,6 +23,4 @@ pub use laws::{
 pub use log::Log;
 
 #[cfg(test)]
-mod test_run;
-#[cfg(test)]
 mod tests;
