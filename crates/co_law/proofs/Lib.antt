@@ -5,3 +5,4 @@ pub mod MoveRuns
 pub mod EveryRun
 pub mod EveryEvent
 pub mod EveryQuiet
+pub mod EveryOrder

@@ -74,11 +74,11 @@ union_has (suc n) sets m t l u h = by (union_has n sets m t l) (m == suc n) refl
     by rest true e = second_has (union_to n sets) (sets (suc n)) t (ap (λ k. holds (sets k) t) (sym (eqb-true m (suc n) e)) ∙ h)
     by rest false e = let d = eqb-false m (suc n) e in first_has (union_to n sets) (sets (suc n)) t (rest (omega (arith, u, d)) h)
 
-in_range : (a b : ℕ) → (nat_le 1 a && nat_le a b) ≡ true → (1 ≤ a) × (a ≤ b)
+pub in_range : (a b : ℕ) → (nat_le 1 a && nat_le a b) ≡ true → (1 ≤ a) × (a ≤ b)
 in_range a b h = let p = and_parts (nat_le 1 a) (nat_le a b) h in (grind (arith, nat_tests, p.0), grind (arith, nat_tests, p.1))
 
 -- what records tell, the oldest one first
-abbrev told_all : MemberView → List Record → MemberView
+abbrev pub told_all : MemberView → List Record → MemberView
 told_all v [] = v
 told_all v (r ∷ rs) = told_all (told_by v r) rs
 
@@ -86,7 +86,7 @@ told_more : (v : MemberView) (xs : List Record) (r : Record) → told_all v (xs 
 told_more v [] r = refl
 told_more v (x ∷ xs) r = told_more (told_by v x) xs r
 
-told_turned : (rs : List Record) → recovered_view rs ≡ told_all nothing_known (reverse rs)
+pub told_turned : (rs : List Record) → recovered_view rs ≡ told_all nothing_known (reverse rs)
 told_turned [] = refl
 told_turned (r ∷ rs) = ap (λ v. told_by v r) (told_turned rs) ∙ sym (told_more nothing_known (reverse rs) r) ∙ ap (told_all nothing_known) (sym (reverse-append (r ∷ []) rs))
 

@@ -6,6 +6,7 @@
 
 mod events;
 mod laws;
+mod order;
 mod quiet;
 
 pub use events::{disarming, events_are_moves};
@@ -13,4 +14,5 @@ pub use laws::{
     acknowledged, agreement, fresh_logs, invariants, logs_alone, moves, readable_logs, serial_reads,
     sound_logs,
 };
+pub use order::{commitment_ordered, transcripts_ordered};
 pub use quiet::only_timers;

@@ -160,7 +160,7 @@ module _ (s : Federation) (f : Facts s) where
       let a = holds_found (s.member m).engine.voted t vt in
       let b = holds_found (s.member m).engine.voted u vu in
       let v = (f.members m).views Memory in
-      let apart = (three_parts _ _ _ (v.free t u a.0 b.0 n a.1 b.1)).2 in
+      let apart = (three_parts (reads_meet a.0.sets.reads b.0.sets.writes) (reads_meet b.0.sets.reads a.0.sets.writes) (writes_meet a.0.sets.writes b.0.sets.writes) (v.free t u a.0 b.0 n a.1 b.1)).2 in
       let wa : writes_key a.0.sets.writes key ≡ true = ap (λ z. writes_key z key) (v.replay t a.0 bt a.1).writes ∙ wt in
       let wb : writes_key b.0.sets.writes key ≡ true = ap (λ z. writes_key z key) (v.replay u b.0 bu b.1).writes ∙ wu in
       let z : true ≡ false = sym wa ∙ unwritten a.0.sets.writes b.0.sets.writes key apart wb in cc
@@ -171,7 +171,7 @@ module _ (s : Federation) (f : Facts s) where
       let a = holds_found (s.member m).engine.voted t vt in
       let b = holds_found (s.member m).engine.voted u vu in
       let v = (f.members m).views Memory in
-      let apart = (three_parts _ _ _ (v.free t u a.0 b.0 n a.1 b.1)).0 in
+      let apart = (three_parts (reads_meet a.0.sets.reads b.0.sets.writes) (reads_meet b.0.sets.reads a.0.sets.writes) (writes_meet a.0.sets.writes b.0.sets.writes) (v.free t u a.0 b.0 n a.1 b.1)).0 in
       let ra : reads_key a.0.sets.reads key ≡ true = ap (λ z. reads_key z key) (v.replay t a.0 bt a.1).reads ∙ rt in
       let wb : writes_key b.0.sets.writes key ≡ true = ap (λ z. writes_key z key) (v.replay u b.0 bu b.1).writes ∙ wu in
       let z : true ≡ false = sym ra ∙ unread a.0.sets.reads b.0.sets.writes key apart wb in cc

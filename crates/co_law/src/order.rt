@@ -1,0 +1,28 @@
+//! Commitment ordering (Raz, VLDB 1992).
+ghost use Rattle.std.specs.Prelude.{ℕ, List, map};
+ghost use Rattle.co_message.specs.declared.event.Event.{Event};
+ghost use Rattle.co_base.specs.declared.head.Kind.{Kind};
+ghost use Rattle.co_plain.specs.declared.happening.Happening.{Happening};
+ghost use Rattle.co_plain.specs.CommitmentOrder.{IsCommitmentOrdered};
+ghost use Rattle.co_plain.specs.Opening.{Found, opened};
+ghost use Rattle.co_plain.specs.Runs.{transcript};
+ghost use Rattle.co_law_event.specs.HandedVerdicts.{AreTrueVerdicts};
+ghost use Rattle.co_law_moves.specs.MoveTraces.{run_items};
+ghost use Rattle.co_law_start.specs.OpenedLogs.{AreOpenable};
+
+/// The items of every run are commitment ordered: where an operation of one decided transaction stands before a
+/// conflicting one of another, it is decided first (Raz, The principle of commitment ordering, VLDB 1992). The items tell
+/// begins by `begin` lines alone, so the order is that of the transactions of coordinators.
+pub fn commitment_ordered()
+    ensures { (kinds : List Kind) (coords : ℕ) (found_member found_coord : ℕ → Found) (hs : List Happening) →
+        AreOpenable kinds coords found_member found_coord →
+        AreTrueVerdicts hs (opened kinds coords found_member found_coord) →
+        IsCommitmentOrdered kinds (run_items hs (opened kinds coords found_member found_coord)) }
+{}
+
+/// So is the transcript of every schedule: the items of its lines.
+pub fn transcripts_ordered()
+    ensures { (kinds : List Kind) (coords : ℕ) (found_member found_coord : ℕ → Found) (number : ℕ) (events : List Event) →
+        AreOpenable kinds coords found_member found_coord →
+        IsCommitmentOrdered kinds (map (λ i. i.what) (transcript number events (opened kinds coords found_member found_coord))) }
+{}
