@@ -92,7 +92,7 @@ fn replay_all(alloc: Global, first: &[u8], lines: &[&[u8]]) -> Result<Replayed, 
 ///
 /// `Long` comes exactly where the schedule has 2^30 bytes or more.
 pub fn replay(alloc: Global, text: &[u8]) -> Result<Replayed, ReplayFault>
-    ensures replay { IfOk result (λ did. IsReplay text.now did.transcript.items did.refused) }
+    ensures { IfOk result (λ did. IsReplay text.now did.transcript.items did.refused) }
 {
     if text.len() >= MOST_BYTES as usize {
         return Err(ReplayFault::Long);

@@ -16,6 +16,6 @@ returns c =
     (c.deref.ensures.value ∙ c.in_ok-run.ensures.items (λ m. []) (λ m. [])
     ∙ ap (λ s. transcript 2 c.args.events.items s) (c.in_ok-state.ensures.federation ∙ ap (λ k. fresh_federation k c.args.head.coords) kinds))
     ∙ ap (λ t. t ++ items_text lines) (c.in_ok-put_opening.ensures
-    ∙ ap (λ t. t ++ items_text (numbered 1 (item.Head c.args.head ∷ c.in_ok-state.items.items))) c.new-text.ensures.items
+    ∙ ap (λ t. t ++ items_text (numbered 1 (item.Head c.args.head ∷ c.in_ok-state.field-0.items.items))) c.new-text.ensures.items
     ∙ ap (λ told. items_text (numbered 1 (item.Head c.args.head ∷ told))) (c.in_ok-state.ensures.items ∙ ap (λ k. opening_items k c.args.head.coords (λ m. fresh) (λ c. fresh)) kinds))
     ∙ sym (items_text-append opening lines)
