@@ -8,36 +8,11 @@ mod replay;
 mod tests;
 
 use crate::fault::ReplayFault;
-use crate::replay::replay;
-use co_outside::{Sink, SinkStd, Source, SourceStd, Taken};
+use crate::replay::{MOST_BYTES, replay};
+use co_outside::{Sink, SinkStd, Source, SourceStd, put_all, read_all};
 use std::alloc::Global;
 use std::io;
 use std::process::ExitCode;
-
-/// How many bytes are asked for at a time.
-const PIECE: u32 = 65_536;
-
-/// The whole input.
-fn read_all<S: Source>(alloc: Global, source: &mut S) -> Result<Vec<u8>, ReplayFault> {
-    let mut input = Vec::new(alloc);
-    'reading: while input.len() < 0x4000_0000 {
-        match source.take(alloc, PIECE)? {
-            Taken::Bytes(bytes) => input.extend_from_slice(bytes.as_slice())?,
-            Taken::End => return Ok(input),
-        }
-    }
-    Err(ReplayFault::Long)
-}
-
-/// The whole piece goes out.
-fn put_all<K: Sink>(alloc: Global, sink: &mut K, piece: &[u8]) -> Result<(), ReplayFault> {
-    let mut done: usize = 0;
-    'writing: while done < piece.len() {
-        let count = sink.put(alloc, &piece[done..])?;
-        done += count as usize;
-    }
-    Ok(())
-}
 
 /// Replays the schedule of the source into the sink, and gives why a line was refused.
 fn replay_all<S: Source, K: Sink>(
@@ -45,7 +20,7 @@ fn replay_all<S: Source, K: Sink>(
     source: &mut S,
     out: &mut K,
 ) -> Result<Option<ReplayFault>, ReplayFault> {
-    let text = read_all(alloc, source)?;
+    let text = read_all(alloc, source, MOST_BYTES)?;
     let replayed = replay(alloc, text.as_slice())?;
     put_all(alloc, out, replayed.transcript.as_slice())?;
     Ok(replayed.refused)

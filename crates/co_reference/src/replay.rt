@@ -1,77 +1,19 @@
 //! A schedule as a run of the plain federation.
+ghost use Rattle.std.specs.Prelude.{◌≡◌, ◌<◌, ◌≤◌, ◌+◌, ◌^◌, ◌∷◌, [], Some, length, IfOk};
+ghost use Rattle.co_replay.specs.Schedule.{texts_of};
+ghost use Rattle.co_replay.specs.Transcript.{items_text, run_items};
+ghost use Rattle.co_reference.specs.Replay.{IsReplay, LinesReplayed, BehindReplayed, refused_behind};
+
 use crate::fault::ReplayFault;
 use co_base::{Head, Kinds};
-use co_message::{Event, Item, ItemKind};
+use co_message::Event;
 use co_plain_run::{PlainStep, plain_open, plain_run};
-use co_schedule::{LineFault, read_head, read_line};
-use co_transcript::put_item;
-use std::alloc::Global;
+use co_replay::{ReadEvents, lines_of, put_items, put_opening, read_events};
+use co_schedule::{LineFault, read_head};
+use std::alloc::{AllocError, Global};
 
-/// The lines of a text. The last one may stand without a newline.
-fn lines_of<'a>(alloc: Global, text: &'a [u8]) -> Result<Vec<&'a [u8]>, ReplayFault> {
-    let mut lines: Vec<&'a [u8]> = text.split(|b| *b == b'\n').collect(alloc)?;
-    if text.is_empty() || text[text.len() - 1] == b'\n' {
-        let _ = lines.pop();
-    }
-    if lines.len() >= 0xffff_ffff {
-        return Err(ReplayFault::Long);
-    }
-    Ok(lines)
-}
-
-/// Why a line was refused, with its number.
-fn refused(number: usize, fault: LineFault) -> ReplayFault {
-    match u32::try_from(number) {
-        Ok(number) => ReplayFault::Line { number, fault },
-        Err(_) => ReplayFault::Long,
-    }
-}
-
-/// The events of the lines behind the head, up to the first line that is refused.
-#[derive(Drop)]
-struct Events {
-    events: Vec<Event>,
-    refused: Option<ReplayFault>,
-}
-
-/// Reads the lines behind the head.
-fn events_of(alloc: Global, lines: &[&[u8]], head: &Head) -> Result<Events, ReplayFault> {
-    let mut events = Vec::new(alloc);
-    let mut number: usize = 1;
-    for line in lines {
-        number = number.saturating_add(1);
-        match read_line(line, head) {
-            Ok(view) => events.push(view.event(alloc)?)?,
-            Err(fault) => {
-                return Ok(Events {
-                    events,
-                    refused: Some(refused(number, fault)),
-                });
-            }
-        }
-    }
-    Ok(Events {
-        events,
-        refused: None,
-    })
-}
-
-/// Writes the items of the first line: the head, and then what opening told.
-fn put_opening(
-    head: Head,
-    told: Vec<ItemKind>,
-    transcript: &mut Vec<u8>,
-) -> Result<(), ReplayFault> {
-    let first = Item {
-        number: 1,
-        what: ItemKind::Head(head),
-    };
-    put_item(&first, transcript)?;
-    for what in told {
-        put_item(&Item { number: 1, what }, transcript)?;
-    }
-    Ok(())
-}
+/// A schedule has fewer bytes than this, so that each of its lines has a number.
+pub const MOST_BYTES: u32 = 0x4000_0000;
 
 /// What became of a schedule.
 #[derive(Drop)]
@@ -83,39 +25,81 @@ pub struct Replayed {
 }
 
 /// A schedule without a head.
-fn refused_at_once(alloc: Global, fault: LineFault) -> Replayed {
+fn without_head(alloc: Global, fault: LineFault) -> Replayed
+    ensures { (result.transcript.items ≡ []) × (result.refused ≡ Some (ReplayFault.Line 1 fault)) }
+{
     Replayed {
         transcript: Vec::new(alloc),
-        refused: Some(refused(1, fault)),
+        refused: Some(ReplayFault::Line { number: 1, fault }),
     }
 }
 
-/// Replays a schedule over fresh logs, up to the first line that is outside the grammar. `Long` says
-/// that there are more lines than a number counts.
-pub fn replay(alloc: Global, text: &[u8]) -> Result<Replayed, ReplayFault> {
-    let lines = lines_of(alloc, text)?;
-    let Some(first) = lines.first() else {
-        return Ok(refused_at_once(alloc, LineFault::Head));
-    };
-    let head = match read_head(alloc, first) {
-        Ok(head) => head,
-        Err(LineFault::Memory) => return Err(ReplayFault::Memory),
-        Err(fault) => return Ok(refused_at_once(alloc, fault)),
-    };
-    let Events { events, refused } = events_of(alloc, &lines[1..], &head)?;
-    if events.len() >= 0xffff_0000 {
-        return Err(ReplayFault::Long);
-    }
+/// The text of the run of these events over fresh logs.
+fn text_of(alloc: Global, head: Head, events: Vec<Event>) -> Result<Vec<u8>, AllocError>
+    requires { 2 + length events.items < 2 ^ 32 }
+    ensures { IfOk result (λ text. text.items ≡ items_text (run_items head events.items)) }
+{
     let kinds = Vec::from_slice(alloc, head.kinds.as_slice())?;
     let PlainStep { state, items } = plain_open(alloc, Kinds::of(kinds), head.coords)?;
     let run = plain_run(alloc, state, 2, events)?;
-    let mut transcript = Vec::new(alloc);
-    put_opening(head, items, &mut transcript)?;
-    for item in &run.items {
-        put_item(item, &mut transcript)?;
+    let mut text = Vec::new(alloc);
+    put_opening(head, items, &mut text)?;
+    put_items(&run.items, &mut text)?;
+    Ok(text)
+}
+
+/// Why the line behind so many events was refused.
+fn refused_behind(count: usize, fault: Option<LineFault>) -> Option<ReplayFault>
+    requires { count ≤ 1073741824 }
+    ensures { result ≡ refused_behind count fault }
+{
+    match fault {
+        None => None,
+        Some(fault) => Some(ReplayFault::Line {
+            number: count as u32 + 2,
+            fault,
+        }),
     }
+}
+
+/// Replays the lines behind a head.
+fn replay_lines(alloc: Global, head: Head, lines: &[&[u8]]) -> Result<Replayed, AllocError>
+    requires { length lines.now ≤ 1073741824 }
+    ensures { IfOk result (λ did. BehindReplayed head (texts_of lines.now) did.transcript.items did.refused) }
+{
+    let ReadEvents { events, fault } = read_events(alloc, lines, &head)?;
+    let refused = refused_behind(events.len(), fault);
+    let transcript = text_of(alloc, head, events)?;
     Ok(Replayed {
         transcript,
         refused,
     })
+}
+
+/// Replays lines, the first of which is the head.
+fn replay_all(alloc: Global, first: &[u8], lines: &[&[u8]]) -> Result<Replayed, AllocError>
+    requires { length lines.now ≤ 1073741824 }
+    ensures { IfOk result (λ did. LinesReplayed (first.now ∷ texts_of lines.now) did.transcript.items did.refused) }
+{
+    match read_head(alloc, first) {
+        Ok(head) => replay_lines(alloc, head, lines),
+        Err(LineFault::Memory) => Err(AllocError),
+        Err(fault) => Ok(without_head(alloc, fault)),
+    }
+}
+
+/// Replays a schedule over fresh logs, up to the first line that is outside the grammar.
+///
+/// `Long` comes exactly where the schedule has 2^30 bytes or more.
+pub fn replay(alloc: Global, text: &[u8]) -> Result<Replayed, ReplayFault>
+    ensures { IfOk result (λ did. IsReplay text.now did.transcript.items did.refused) }
+{
+    if text.len() >= MOST_BYTES as usize {
+        return Err(ReplayFault::Long);
+    }
+    let lines = lines_of(alloc, text)?;
+    match lines.as_slice() {
+        [] => Ok(without_head(alloc, LineFault::Head)),
+        [first, behind @ ..] => Ok(replay_all(alloc, first, behind)?),
+    }
 }

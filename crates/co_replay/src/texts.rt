@@ -54,11 +54,7 @@ pub fn put_event(number: u32, event: Event, into: &mut Vec<u8>) -> Result<Event,
 }
 
 /// Appends the text of the first line: the head, and then what opening told.
-pub fn put_opening(
-    head: Head,
-    told: Vec<ItemKind>,
-    into: &mut Vec<u8>,
-) -> Result<(), AllocError>
+pub fn put_opening(head: Head, told: Vec<ItemKind>, into: &mut Vec<u8>) -> Result<(), AllocError>
     ensures { OnOk result (into.new.items ≡ into.old.items ++ items_text (numbered 1 (item.Head head ∷ told.items))) }
 {
     let first = Item {

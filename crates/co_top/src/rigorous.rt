@@ -83,11 +83,7 @@ fn held_at(
 }
 
 /// The transaction that is in the way of an event because locks are held to the decision.
-fn blocked_by(
-    alloc: Global,
-    w: &PlainFederation,
-    event: &Event,
-) -> Result<Option<Txn>, AllocError>
+fn blocked_by(alloc: Global, w: &PlainFederation, event: &Event) -> Result<Option<Txn>, AllocError>
     ensures { (m c : ℕ → List Record) → IfOk result (λ holder. holder ≡ blocked_by (federation_of w.now m c) event.now) }
 {
     match event {

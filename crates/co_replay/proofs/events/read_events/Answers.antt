@@ -20,9 +20,9 @@ loop-line-preserved c =
     let e : event_of c.in-Ok.view ≡ c.in_ok-event-in-Ok.field-0 = sym c.in_ok-event-in-Ok.ensures in
     let n : c.push.new.self.items ≡ c.loop-line.events.items ++ c.in_ok-event-in-Ok.field-0 ∷ [] = c.in_ok-push-in-Ok.ensures.items in
     let p = pushed c.args.head.now (texts_of c.args.lines.now) c.loop-line.events.items c.loop-line.line-index _ c.in_ok-event-in-Ok.field-0 c.loop-line.invariant.count
-            c.loop-line.invariant.lines c.loop-line.invariant.events
-            (at_place c.args.lines.now c.loop-line.line-index (record { ref_ptr = (0, 0); now = [] }) c.loop-line-test.true)
-            (subst (λ x. IsEventFor (length c.args.head.now.kinds) c.args.head.now.coords x) e c.in-Ok.ensures.found.0) (c.in-Ok.ensures.found.1 ∙ ap line_text e) few in
+    c.loop-line.invariant.lines c.loop-line.invariant.events
+    (at_place c.args.lines.now c.loop-line.line-index (record { ref_ptr = (0, 0); now = [] }) c.loop-line-test.true)
+    (subst (λ x. IsEventFor (length c.args.head.now.kinds) c.args.head.now.coords x) e c.in-Ok.ensures.found.0) (c.in-Ok.ensures.found.1 ∙ ap line_text e) few in
     let q = subst (λ es. HasPushed c.args.head.now (texts_of c.args.lines.now) es c.loop-line.line-index) (sym n) p in
     record { count = q.count; lines = q.lines; events = q.events }
 

@@ -11,8 +11,10 @@ returns-then-is_built_head c =
     (λ did. IsReplayed c.in-Ok.head (texts_of c.args.lines.now) c.args.long did.text.items did.stop)
     (λ did. LinesReplayed (c.args.first.now ∷ texts_of c.args.lines.now) c.args.long did.text.items did.stop)
     (λ did h. inr (
-      c.in-Ok.head, sym c.is_built_head.ensures ∙ c.if-is_built_head.true,
-      (c.in-Ok.ensures.found, not_more _ (λ k. absurd (let z = c.in-Ok.ensures.long.1 k in cc))), h,
+      c.in-Ok.head,
+      sym c.is_built_head.ensures ∙ c.if-is_built_head.true,
+      (c.in-Ok.ensures.found, not_more _ (λ k. absurd (let z = c.in-Ok.ensures.long.1 k in cc))),
+      h,
     ))
     c.replay_lines.ensures
 
