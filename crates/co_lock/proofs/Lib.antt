@@ -1,0 +1,11 @@
+pub mod Locking
+pub mod Stepping
+mod Picking
+mod Joining
+mod Keeping
+mod Blocking
+mod Fitting
+mod Rolling
+mod Pairing
+mod Standing
+mod Restoring

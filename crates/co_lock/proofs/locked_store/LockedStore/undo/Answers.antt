@@ -1,0 +1,23 @@
+use Rattle.std.proofs.Common.{◌&&◌, not, ◌∙◌}
+use Rattle.std.specs.Prelude.{◌==◌}
+use Rattle.co_store.specs.StoreState.{with_undone}
+use Rattle.co_locktab.specs.Locks.{without_locks}
+use Rattle.co_lock.proofs.Locking.{read_without, written_without}
+use Rattle.co_lock.proofs.Stepping.{ArePlaced, placed_undone}
+use Rattle.co_lock.proofs.locked_store.LockedStore.undo.Goals as goal
+
+pub returns : goal.returns
+returns c = λ g s.
+    let p = placed_undone s.kept g c.args.t (record { images_are = s.images_are; written_are = s.written_are; clean_are = s.clean_are; apart = s.apart }) in
+    record {
+      kept = with_undone s.kept c.args.t;
+      kept_shown = c.undo.ensures s.kept s.kept_shown;
+      held = without_locks s.held c.args.t;
+      held_shown = c.end_all.ensures s.held s.held_shown;
+      writes_held = λ u q. written_without s.held.writes c.args.t u q ∙ (λ i. not (u == c.args.t) && s.writes_held u q i);
+      reads_held = λ u q. read_without s.held.reads c.args.t u q ∙ (λ i. not (u == c.args.t) && s.reads_held u q i);
+      images_are = p.images_are;
+      written_are = p.written_are;
+      clean_are = p.clean_are;
+      apart = p.apart;
+    }

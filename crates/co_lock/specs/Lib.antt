@@ -1,0 +1,4 @@
+pub mod LockedState
+pub mod Locked
+pub mod Undecided
+pub mod Standing

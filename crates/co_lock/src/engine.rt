@@ -1,0 +1,353 @@
+//! The locking engine.
+ghost use Rattle.std.specs.Prelude.{◌≡◌, ◌∷◌, true, None, Some, IsTrue, IfOk, OnOk, OnErr, ℕ, List, map, option_copied, false};
+ghost use Rattle.std.specs.FinMap.{entries};
+ghost use Rattle.co_base.specs.declared.head.Kind.TheVariants.{Lock};
+ghost use Rattle.co_base.specs.declared.op.Op.{Op};
+ghost use Rattle.co_base.specs.declared.row.Row.{Row};
+ghost use Rattle.co_state.specs.Keys.{writes_key};
+ghost use Rattle.co_pairs.specs.Free.{clashes_with};
+ghost use Rattle.co_pairs.specs.declared.prepared.Prepared.{Prepared};
+ghost use Rattle.co_state.specs.declared.engine_state.EngineState.{EngineState};
+ghost use Rattle.co_state.specs.Changes.{span_read, change_made};
+ghost use Rattle.co_state.specs.Conflicts.{AreNewPairs};
+ghost use Rattle.co_state.specs.Effects.{after_operation, with_operation, restored, records_from};
+ghost use Rattle.co_state.specs.EngineState.{installed_records};
+ghost use Rattle.co_state.specs.LockRule.{lock_blocker};
+ghost use Rattle.co_state.specs.ReadRule.{operation_reply};
+ghost use Rattle.co_state.specs.Table.{look, without};
+ghost use Rattle.co_engine.specs.Calls.{may_operate, seen_of, writing, votes_of, Appends, AppendsNewPairs};
+ghost use Rattle.co_lock.specs.Locked.{IsLocked};
+ghost use Rattle.co_lock.specs.LockedState.{LockedState, IsClear, with_writes};
+ghost use Rattle.co_lock.specs.Standing.{StandsFor};
+ghost use Rattle.co_lock.specs.Undecided.{or_new, with_range, with_change_of, newly_reads, found_in, read_by_pair, own};
+
+use crate::dumping::dump_in_place;
+use crate::locked_store::LockedStore;
+use crate::pairs::{append, pairs_made};
+use crate::undecided::{Roll, Undecided};
+use co_base::{Key, Kind, Op, Range, Ranges, Reply, Rows, Txn, Value, Writes, Written};
+use co_engine::{Dump, Engine, Seen};
+use co_pairs::{Pairs, Prepared, Sets};
+use co_state::{RecordMap, put_change, put_range, records_from};
+use std::alloc::{AllocError, Global};
+
+/// The engine that locks: it writes in place, holds write locks to the decision and read locks to the vote,
+/// and keeps what was read and written until the decision.
+#[derive(Drop)]
+pub struct LockEngine {
+    place: LockedStore,
+    roll: Roll,
+    nothing: Sets,
+}
+
+/// An answered or blocked operation with the pairs that it made.
+#[derive(Drop)]
+struct Operated {
+    seen: Seen,
+    pairs: Pairs,
+}
+
+/// Takes an undecided transaction out; a new one where it is absent.
+fn take(alloc: Global, roll: &mut Roll, t: Txn) -> Undecided
+    ensures value { result ≡ or_new (look roll.old t) }
+    ensures rest { roll.new ≡ without roll.old t }
+{
+    match roll.take(t) {
+        Some(undecided) => undecided,
+        None => Undecided {
+            voted: false,
+            sets: Sets::new(alloc),
+        },
+    }
+}
+
+/// A transaction read a range.
+fn note_read(alloc: Global, roll: &mut Roll, t: Txn, range: Range) -> Result<(), AllocError>
+    ensures { OnOk result (roll.new ≡ with_range roll.old t range) }
+{
+    let own = take(alloc, roll, t);
+    let sets = own.sets;
+    let mut reads = sets.reads.into_vec();
+    put_range(&mut reads, range)?;
+    let sets = Sets {
+        reads: Ranges::of(reads),
+        writes: sets.writes,
+    };
+    roll.put(t, Undecided { voted: false, sets })
+}
+
+/// A transaction made a change. Gives the pairs that the change makes.
+fn note_write(
+    alloc: Global,
+    roll: &mut Roll,
+    t: Txn,
+    change: Written,
+) -> Result<Pairs, AllocError>
+    ensures roll { OnOk result (roll.new ≡ with_change_of roll.old t change) }
+    ensures pairs { IfOk result (λ pairs. pairs ≡ map (read_by_pair t) (found_in (newly_reads change.key (own roll.old t).sets.writes) (entries (without roll.old t)))) }
+{
+    let own = take(alloc, roll, t);
+    let pairs = pairs_made(alloc, roll, t, &change.key, &own.sets)?;
+    let sets = own.sets;
+    let mut writes = sets.writes.into_vec();
+    put_change(&mut writes, change)?;
+    let sets = Sets {
+        reads: sets.reads,
+        writes: Writes::of(writes),
+    };
+    roll.put(t, Undecided { voted: false, sets })?;
+    Ok(pairs)
+}
+
+/// An equal value, if there is one.
+fn copy_value(value: Option<&Value>) -> Result<Option<Value>, AllocError>
+    ensures { IfOk result (λ copy. copy ≡ option_copied value.entry) }
+{
+    match value {
+        Some(value) => Ok(Some(value.copy()?)),
+        None => Ok(None),
+    }
+}
+
+/// The value that stands there, if there is one.
+fn lent(value: &Option<Value>) -> Option<&Value>
+    ensures { option_copied result ≡ value.now }
+{
+    value.as_ref()
+}
+
+/// The operation that writes a record, or takes it away where there is no value.
+fn writing(key: &Key, value: Option<&Value>) -> Result<Op, AllocError>
+    ensures { IfOk result (λ op. op ≡ writing key.now (option_copied value.entry)) }
+{
+    match value {
+        Some(value) => Ok(Op::Write(key.copy()?, value.copy()?)),
+        None => Ok(Op::Erase(key.copy()?)),
+    }
+}
+
+/// A transaction writes changes in place of keys that no other one wrote, one after another.
+fn lay_changes(place: &mut LockedStore, t: Txn, changes: &[Written]) -> Result<(), AllocError>
+    ensures { (g : LockedState) → IsLocked place.old g → ((q : List ℕ) → writes_key changes.now q ≡ true → IsClear g t q) → OnOk result (IsLocked place.new (with_writes g t changes.now)) }
+{
+    for change in changes {
+        place.write(t, &change.key, lent(&change.value))?;
+    }
+    Ok(())
+}
+
+impl LockEngine {
+    /// Lays in a prepared transaction, which is in conflict with no other one, as a voted one.
+    fn lay_vote(&mut self, alloc: Global, prepared: &Prepared) -> Result<(), AllocError>
+        ensures { (rows : List Row) (ps : List Prepared) → StandsFor self.old (restored Lock (records_from rows) (votes_of ps)) → clashes_with prepared.now ps ≡ false → OnOk result (StandsFor self.new (restored Lock (records_from rows) (votes_of (prepared.now ∷ ps)))) }
+    {
+        lay_changes(&mut self.place, prepared.txn, prepared.sets.writes())?;
+        self.roll.put(
+            prepared.txn,
+            Undecided {
+                voted: true,
+                sets: prepared.sets.copy(alloc)?,
+            },
+        )
+    }
+
+    /// The least other transaction that is in the way of an operation.
+    fn blocker(&self, t: Txn, op: &Op) -> Result<Option<Txn>, AllocError>
+        ensures { (b : EngineState) → StandsFor self.now b → IfOk result (λ found. found ≡ lock_blocker b t op.now) }
+    {
+        match op {
+            Op::Read(key) => Ok(self.place.read_blocker(t, &Range::of_key(key)?)),
+            Op::Scan(range) => Ok(self.place.read_blocker(t, range)),
+            Op::Write(key, _) => Ok(self.place.write_blocker(t, key)),
+            Op::Erase(key) => Ok(self.place.write_blocker(t, key)),
+        }
+    }
+
+    /// What an operation answers that is not blocked.
+    fn reply(&self, t: Txn, op: &Op) -> Result<Reply, AllocError>
+        ensures { (b : EngineState) → StandsFor self.now b → IsTrue (may_operate b t) → lock_blocker b t op.now ≡ None → IfOk result (λ reply. reply ≡ operation_reply b t op.now) }
+    {
+        match op {
+            Op::Read(key) => Ok(Reply::Got(copy_value(self.place.get(t, key))?)),
+            Op::Scan(range) => Ok(Reply::Rows(self.place.range(t, range)?)),
+            Op::Write(_, _) => Ok(Reply::Done),
+            Op::Erase(_) => Ok(Reply::Done),
+        }
+    }
+
+    /// A read of a range, which is not blocked.
+    fn add_read(&mut self, alloc: Global, t: Txn, range: Range) -> Result<(), AllocError>
+        ensures { (b : EngineState) (op : Op) → StandsFor self.old b → IsTrue (may_operate b t) → span_read op ≡ Some range → change_made op ≡ None → lock_blocker b t op ≡ None → OnOk result (StandsFor self.new (with_operation b t op)) }
+    {
+        self.place.read(t, &range)?;
+        note_read(alloc, &mut self.roll, t, range)
+    }
+
+    /// A change, which is not blocked. Gives the pairs that it makes.
+    fn add_write(&mut self, alloc: Global, t: Txn, change: Written) -> Result<Pairs, AllocError>
+        ensures state { (b : EngineState) (op : Op) → StandsFor self.old b → IsTrue (may_operate b t) → span_read op ≡ None → change_made op ≡ Some change → lock_blocker b t op ≡ None → OnOk result (StandsFor self.new (with_operation b t op)) }
+        ensures pairs { (b : EngineState) (op : Op) → StandsFor self.old b → IsTrue (may_operate b t) → span_read op ≡ None → change_made op ≡ Some change → lock_blocker b t op ≡ None → IfOk result (AreNewPairs b (with_operation b t op)) }
+    {
+        self.place.write(t, &change.key, lent(&change.value))?;
+        note_write(alloc, &mut self.roll, t, change)
+    }
+
+    /// Adds an operation to its transaction, which is not blocked, and gives the pairs that it makes.
+    fn add(&mut self, alloc: Global, t: Txn, op: Op) -> Result<Pairs, AllocError>
+        ensures state { (b : EngineState) → StandsFor self.old b → IsTrue (may_operate b t) → lock_blocker b t op ≡ None → OnOk result (StandsFor self.new (with_operation b t op)) }
+        ensures pairs { (b : EngineState) → StandsFor self.old b → IsTrue (may_operate b t) → lock_blocker b t op ≡ None → IfOk result (AreNewPairs b (with_operation b t op)) }
+    {
+        match op {
+            Op::Read(key) => {
+                self.add_read(alloc, t, Range::of_key(&key)?)?;
+                Ok(Pairs::new(alloc))
+            }
+            Op::Scan(range) => {
+                self.add_read(alloc, t, range)?;
+                Ok(Pairs::new(alloc))
+            }
+            Op::Write(key, value) => {
+                let value = Some(value);
+                self.add_write(alloc, t, Written { key, value })
+            }
+            Op::Erase(key) => self.add_write(alloc, t, Written { key, value: None }),
+        }
+    }
+
+    /// Does an operation, unless another transaction is in the way.
+    fn operate(&mut self, alloc: Global, t: Txn, op: Op) -> Result<Operated, AllocError>
+        ensures seen { (b : EngineState) → StandsFor self.old b → IsTrue (may_operate b t) → IfOk result (λ operated. operated.seen ≡ seen_of b t op) }
+        ensures state { (b : EngineState) → StandsFor self.old b → IsTrue (may_operate b t) → OnOk result (StandsFor self.new (after_operation b t op)) }
+        ensures pairs { (b : EngineState) → StandsFor self.old b → IsTrue (may_operate b t) → IfOk result (λ operated. AreNewPairs b (after_operation b t op) operated.pairs) }
+    {
+        let found = self.blocker(t, &op)?;
+        if let Some(holder) = found {
+            return Ok(Operated {
+                seen: Seen::Blocked(holder),
+                pairs: Pairs::new(alloc),
+            });
+        }
+        let reply = self.reply(t, &op)?;
+        let pairs = self.add(alloc, t, op)?;
+        Ok(Operated {
+            seen: Seen::Answer(reply),
+            pairs,
+        })
+    }
+
+    /// Does an operation, unless another transaction is in the way, and adds the pairs that it made.
+    fn serve(
+        &mut self,
+        alloc: Global,
+        t: Txn,
+        op: Op,
+        pairs: &mut Pairs,
+    ) -> Result<Seen, AllocError>
+        ensures seen { (b : EngineState) → StandsFor self.old b → IsTrue (may_operate b t) → IfOk result (λ seen. seen ≡ seen_of b t op) }
+        ensures state { (b : EngineState) → StandsFor self.old b → IsTrue (may_operate b t) → OnOk result (StandsFor self.new (after_operation b t op)) }
+        ensures pairs { (b : EngineState) → StandsFor self.old b → IsTrue (may_operate b t) → OnOk result (AppendsNewPairs b (after_operation b t op) pairs.old pairs.new) }
+        ensures kept { OnErr result (Appends pairs.old pairs.new) }
+    {
+        let operated = self.operate(alloc, t, op)?;
+        append(pairs, &operated.pairs)?;
+        Ok(operated.seen)
+    }
+
+    /// The installed records.
+    fn installed_records(&self, alloc: Global) -> Result<RecordMap, AllocError>
+        ensures { (b : EngineState) → StandsFor self.now b → IfOk result (λ records. records ≡ installed_records b) }
+    {
+        records_from(alloc, self.place.clean()?.into_vec())
+    }
+}
+
+impl Engine for LockEngine {
+    ghost takes = { λ kind. kind ≡ Lock };
+
+    ghost stands_for = { StandsFor };
+
+    fn restore(
+        alloc: Global,
+        kind: Kind,
+        rows: Rows,
+        voted: &[Prepared],
+    ) -> Result<Self, AllocError> {
+        let mut engine = LockEngine {
+            place: LockedStore::of_rows(alloc, rows)?,
+            roll: Roll::new(alloc),
+            nothing: Sets::new(alloc),
+        };
+        let mut place = voted.len();
+        while 0 < place {
+            place -= 1;
+            engine.lay_vote(alloc, &voted[place])?;
+        }
+        Ok(engine)
+    }
+
+    fn read(
+        &mut self,
+        alloc: Global,
+        t: Txn,
+        key: &Key,
+        pairs: &mut Pairs,
+    ) -> Result<Seen, AllocError> {
+        let op = Op::Read(key.copy()?);
+        self.serve(alloc, t, op, pairs)
+    }
+
+    fn scan(
+        &mut self,
+        alloc: Global,
+        t: Txn,
+        range: &Range,
+        pairs: &mut Pairs,
+    ) -> Result<Seen, AllocError> {
+        let op = Op::Scan(range.copy()?);
+        self.serve(alloc, t, op, pairs)
+    }
+
+    fn write(
+        &mut self,
+        alloc: Global,
+        t: Txn,
+        key: &Key,
+        value: Option<&Value>,
+        pairs: &mut Pairs,
+    ) -> Result<Seen, AllocError> {
+        let op = writing(key, value)?;
+        self.serve(alloc, t, op, pairs)
+    }
+
+    fn sets(&self, t: Txn) -> &Sets {
+        match self.roll.get(t) {
+            Some(undecided) => &undecided.sets,
+            None => &self.nothing,
+        }
+    }
+
+    fn stale(&self, t: Txn) -> Option<&Key> {
+        None
+    }
+
+    fn cast(&mut self, t: Txn) {
+        self.roll.cast(t);
+        self.place.end_reads(t);
+    }
+
+    fn install(&mut self, alloc: Global, t: Txn) -> Result<(), AllocError> {
+        let _ = self.roll.take(t);
+        self.place.keep(t);
+        Ok(())
+    }
+
+    fn drop_txn(&mut self, t: Txn) {
+        let _ = self.roll.take(t);
+        self.place.undo(t);
+    }
+
+    fn dump(&self, alloc: Global) -> Result<Dump, AllocError> {
+        let records = self.installed_records(alloc)?;
+        dump_in_place(alloc, records, &self.roll)
+    }
+}

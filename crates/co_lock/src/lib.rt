@@ -1,0 +1,15 @@
+//! The engine that locks: strict two-phase locking, with read locks that end at the vote.
+//!
+//! Writes are in place, and each undecided transaction keeps what leads back. Write locks are held to the
+//! decision and read locks to the vote; what was read stays on record until the decision.
+#![tactic(auto)]
+
+mod dumping;
+mod engine;
+mod locked_store;
+mod pairs;
+#[cfg(test)]
+mod tests;
+mod undecided;
+
+pub use engine::LockEngine;
