@@ -115,12 +115,12 @@ module _ (s : Federation) (m : ℕ) (f : Facts s) where
   -- what is nowhere is dropped without a trace
   pub absent_same : (t : ℕ) → holds (s.member m).engine.voted t ≡ false → holds (s.member m).engine.active t ≡ false → dropped (s.member m) t ≡ s.member m
   absent_same t v a = λ i. record {
-      up = (s.member m).up;
-      engine = record (s.member m).engine { active = without_absent (s.member m).engine.active t (not_held (s.member m).engine.active t a) i; voted = without_absent (s.member m).engine.voted t (not_held (s.member m).engine.voted t v) i };
-      committed = (s.member m).committed;
-      asked = without_absent (s.member m).asked t unasked i;
-      log = (s.member m).log;
-    }
+    up = (s.member m).up;
+    engine = record (s.member m).engine { active = without_absent (s.member m).engine.active t (not_held (s.member m).engine.active t a) i; voted = without_absent (s.member m).engine.voted t (not_held (s.member m).engine.voted t v) i };
+    committed = (s.member m).committed;
+    asked = without_absent (s.member m).asked t unasked i;
+    log = (s.member m).log;
+  }
     where
       unasked : look (s.member m).asked t ≡ None
       unasked = not_held (s.member m).asked t (false_from_ne_true (holds (s.member m).asked t) (λ h.

@@ -265,14 +265,20 @@ module _ (r : Rest) (m : ℕ) (x : MemberState) (w : OnlyAborts r x.log.waiting)
   -- a local transaction
   local_forced_told : (t n : ℕ) (next : MemberState) → next.log ≡ x.log → (o : Outcome) →
       MemberTells (forced_by m next (log.Commit t [] ∷ prepare_record t local_coord n (sets_of (operations_of x.engine t)) ∷ []) answer.Committed None o) (local_decision_moves t m o)
-  local_forced_told t n next same Completes = (ap (λ l. marks_trace (marks_of (node.Member m) (log.Commit t [] ∷ prepare_record t local_coord n (sets_of (operations_of x.engine t)) ∷ l.waiting))) same
-      ∙ commit_told (node.Member m) t [] (prepare_record t local_coord n (sets_of (operations_of x.engine t)) ∷ x.log.waiting) (tt, quiet), λ e. refl)
+  local_forced_told t n next same Completes = (
+    ap (λ l. marks_trace (marks_of (node.Member m) (log.Commit t [] ∷ prepare_record t local_coord n (sets_of (operations_of x.engine t)) ∷ l.waiting))) same
+        ∙ commit_told (node.Member m) t [] (prepare_record t local_coord n (sets_of (operations_of x.engine t)) ∷ x.log.waiting) (tt, quiet),
+    λ e. refl,
+  )
   local_forced_told t n next same (StopsAt call leaves) = by (batch_is_stable call leaves)
     where
       by : (b : Bool) → MemberTells (stopped_member m next call b (log.Commit t [] ∷ prepare_record t local_coord n (sets_of (operations_of x.engine t)) ∷ []))
           (if b then CommitLocally t m ∷ CrashMember m ∷ [] else AskEnd t ∷ CrashMember m ∷ [])
-      by true = (ap (λ l. marks_trace (marks_of (node.Member m) (log.Commit t [] ∷ prepare_record t local_coord n (sets_of (operations_of x.engine t)) ∷ l.waiting))) same
-          ∙ commit_told (node.Member m) t [] (prepare_record t local_coord n (sets_of (operations_of x.engine t)) ∷ x.log.waiting) (tt, quiet), λ e. refl)
+      by true = (
+        ap (λ l. marks_trace (marks_of (node.Member m) (log.Commit t [] ∷ prepare_record t local_coord n (sets_of (operations_of x.engine t)) ∷ l.waiting))) same
+            ∙ commit_told (node.Member m) t [] (prepare_record t local_coord n (sets_of (operations_of x.engine t)) ∷ x.log.waiting) (tt, quiet),
+        λ e. refl,
+      )
       by false = (refl, λ e. refl)
 
   drops_alone : (b : Bool) (t : ℕ) → [] ≡ moves_trace (AskEnd t ∷ drop_moves b t m)

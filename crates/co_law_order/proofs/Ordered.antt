@@ -565,7 +565,6 @@ module _ (kinds : List Kind) (s : Federation) (fresh : Fresh kinds s) (acts : Li
             let c4 = (reach_onward (effect (run_acts du.front s) (Decide u du.coord)) last to_last.reach).committed m t c3 in
             let z : true ≡ false = sym c4 ∙ uncommitted_t in cc
 
-
     -- t read what u overwrote later
     not_before : (key : List ℕ) → ReadsKey kinds whole t m key u false → WritesKey whole u m key → ⊥
     not_before key r wu = by (done_at t m r.o r.before r.operated)

@@ -144,7 +144,6 @@ module _ (s : Federation) (f : Facts s) where
           told : Told
           told = record { site = record { member = m; op = o }; reply = operation_reply (s.member m).engine t o }
 
-
   move_told : (move : Move) → Guard s move → ToldOn s (effect s move)
   move_told (Operate t m o) g = operated t m o g
   move_told (Begin t c) g = fresh t (begun_by (node.Coord c)) g (effect s (Begin t c)) refl refl

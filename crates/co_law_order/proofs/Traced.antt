@@ -266,9 +266,11 @@ module _ (s : Federation) (f : Facts s) (tr : List Trace) (r : Traced tr s) wher
       some u by e None q = now (t == u) refl (sym (decider_none tr u x q) ∙ e)
         where
           now : (b : Bool) → (t == u) ≡ b → (if t == u then Some (node.Coord c) else None) ≡ Some by → (d : ℕ) × (by ≡ node.Coord d) × (by_coord (look (put s.sessions t (begun_by (node.Coord c))) u) d ≡ true)
-          now true k h =
-              (c, sym (in_some (sym (ap (λ b. if b then Some (node.Coord c) else None) k) ∙ h)),
-              ap (λ j. by_coord (look (put s.sessions t (begun_by (node.Coord c))) j) c) (sym (eqb-true t u k)) ∙ ap (λ o. by_coord o c) here ∙ eq-eqb c c refl)
+          now true k h = (
+            c,
+            sym (in_some (sym (ap (λ b. if b then Some (node.Coord c) else None) k) ∙ h)),
+            ap (λ j. by_coord (look (put s.sessions t (begun_by (node.Coord c))) j) c) (sym (eqb-true t u k)) ∙ ap (λ o. by_coord o c) here ∙ eq-eqb c c refl,
+          )
           now false k h = absurd (let z : None ≡ Some by = sym (ap (λ b. if b then Some (node.Coord c) else None) k) ∙ h in cc)
 
       begun : (u d : ℕ) (b : Bool) → (t == u) ≡ b → by_coord (look (put s.sessions t (begun_by (node.Coord c))) u) d ≡ true → decider_in (tr ++ x) u ≡ Some (node.Coord d)

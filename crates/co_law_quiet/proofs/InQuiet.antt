@@ -110,9 +110,12 @@ module _ (s : Federation) (f : Facts s) (q : FitSessions (length s.kinds) s.coor
 
       helps : may_be_asked (standing_of (s.member lack.0) t) (holds (s.member lack.0).asked t) ≡ true → ⊥
       helps h =
-          quiet.nothing_helps (Prepares t lack.0 c)
-          (here, i, ap (λ z. lacks_yes z lack.0 && may_be_asked (standing_of (s.member lack.0) t) (holds (s.member lack.0).asked t)) e
-          ∙ and_from _ _ (and_from _ _ part (ap not lack.2)) h)
+          quiet.nothing_helps (Prepares t lack.0 c) (
+            here,
+            i,
+            ap (λ z. lacks_yes z lack.0 && may_be_asked (standing_of (s.member lack.0) t) (holds (s.member lack.0).asked t)) e
+                ∙ and_from _ _ (and_from _ _ part (ap not lack.2)) h,
+          )
 
       by : (st : Standing) → standing_of (s.member lack.0) t ≡ st → TimerThere s
       by IsActive k = active_at t lack.0 here (active_is _ _ _ k)

@@ -34,9 +34,10 @@ module _ {X : Type 0} (test : ℕ → X → Bool) where
   first_by : (e : ℕ × X) (es : List (ℕ × X)) (b : Bool) → test e.0 e.1 ≡ b → T (below_all nat_cmp e.0 es)
       → IsLeast (λ u. passes (test u) (find nat_cmp u es)) (first_in test es)
       → IsLeast (λ u. passes (test u) (find nat_cmp u (e ∷ es))) (if b then Some e.0 else first_in test es)
-  first_by e es true is h k =
-      (ap (λ b. passes (test e.0) (cond b (Some e.1) (find nat_cmp e.0 es))) (number_itself e.0) ∙ is,
-      λ v f. by v (same_number v e.0) refl f)
+  first_by e es true is h k = (
+    ap (λ b. passes (test e.0) (cond b (Some e.1) (find nat_cmp e.0 es))) (number_itself e.0) ∙ is,
+    λ v f. by v (same_number v e.0) refl f,
+  )
     where
       by : (v : ℕ) (b : Bool) → same_number v e.0 ≡ b → passes (test v) (cond b (Some e.1) (find nat_cmp v es)) ≡ true → e.0 ≤ v
       by v true s f = subst (λ j. e.0 ≤ j) (sym (one_number v e.0 s)) (omega arith)

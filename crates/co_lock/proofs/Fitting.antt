@@ -240,12 +240,15 @@ fits_end g b next t records h installed sets operations fresh = record {
     wrote_by : (u : ℕ) (q : List ℕ) (c : Bool) → (not c && g.wrote u q) ≡ writes_key (if c then no_sets else sets_at b u).writes q
     wrote_by u q true = refl
     wrote_by u q false = h.wrote_are u q
+
     values_by : (u : ℕ) (q : List ℕ) (c : Bool) → (not c && g.wrote u q) ≡ true → g.value u q ≡ get (with_changes empty (if c then no_sets else sets_at b u).writes) q
     values_by u q true w = absurd (true≢false (sym w))
     values_by u q false w = h.values_are u q w
+
     reads_by : (u : ℕ) (q : List ℕ) (c : Bool) → (not c && g.reads u q) ≡ reads_key (spans_of (if c then [] else operations_of b u)) q
     reads_by u q true = refl
     reads_by u q false = h.reads_are u q
+
     fresh_by : (u : ℕ) (c : Bool) → (u == t) ≡ c → stale_keys next.installed (if c then [] else operations_of b u) ≡ []
     fresh_by u true e = refl
     fresh_by u false e = fresh u (other_than u t e)
@@ -265,6 +268,7 @@ fits_cast g b next t h base installed sets operations = record {
     reads_by : (u : ℕ) (q : List ℕ) (c : Bool) → (not c && g.reads u q) ≡ reads_key (spans_of (if c then [] else operations_of b u)) q
     reads_by u q true = refl
     reads_by u q false = h.reads_are u q
+
     fresh_by : (u : ℕ) (c : Bool) → stale_keys b.installed (if c then [] else operations_of b u) ≡ []
     fresh_by u true = refl
     fresh_by u false = h.fresh u

@@ -233,11 +233,14 @@ all_back (f ∷ es) m q v h k now = all_back es (laid_back m (entries f.1)) q v 
     later : (u : ℕ) (images : Images) → find nat_cmp u es ≡ Some images → (b : Bool) → same_number u f.0 ≡ b → find nat_cmp u (f ∷ es) ≡ Some images
     later u images is true e = absurd (let g : None ≡ Some images = sym (number_below u es (subst (λ j. T (below_all nat_cmp j es)) (sym (one_number u f.0 e)) (first _ _ k))) ∙ is in cc)
     later u images is false e = ap (λ b. cond b (Some f.1) (find nat_cmp u es)) e ∙ is
+
     own : find nat_cmp f.0 (f ∷ es) ≡ Some f.1
     own = ap (λ b. cond b (Some f.1) (find nat_cmp f.0 es)) (number_itself f.0)
+
     by : (o : Option Slot) → get f.1 q ≡ o → (is_some o || list_any (λ (e : ℕ × Images). contains_key e.1 q) es) ≡ true → (get (laid_back m (entries f.1)) q ≡ v) ⊎ (list_any (λ (e : ℕ × Images). contains_key e.1 q) es ≡ true)
     by None is e = inr e
     by (Some s) is e = inl (get-undone m f.1 q ∙ ap (λ o. slot_value o (get m q)) is ∙ h f.0 f.1 s own is)
+
     next : (get m q ≡ v) ⊎ (list_any (λ (e : ℕ × Images). contains_key e.1 q) (f ∷ es) ≡ true) → (get (laid_back m (entries f.1)) q ≡ v) ⊎ (list_any (λ (e : ℕ × Images). contains_key e.1 q) es ≡ true)
     next (inl is) = inl (get-undone m f.1 q ∙ settles v (get m q) (get f.1 q) (λ s e. h f.0 f.1 s own e) is)
     next (inr e) = by (get f.1 q) refl e
@@ -261,9 +264,11 @@ clean_by s installed wrote images clean =
     value_of : (q : List ℕ) (b : Bool) (slot : Slot) → (if b then Some (slot_of (get installed q)) else None) ≡ Some slot → slot.value ≡ get installed q
     value_of q true slot e = let f : Some (slot_of (get installed q)) ≡ Some slot = e in ap (λ o. slot_value o None) (sym f)
     value_of q false slot e = absurd (let f : None ≡ Some slot = e in cc)
+
     none_wrote : (q : List ℕ) (b : Bool) → (if b then Some (slot_of (get installed q)) else None) ≡ None → b ≡ false
     none_wrote q true e = absurd (let f : Some (slot_of (get installed q)) ≡ None = e in cc)
     none_wrote q false e = refl
+
     by : (q : List ℕ) (b : Bool) → list_any (λ (e : ℕ × Images). contains_key e.1 q) (entries s.undos) ≡ b → (get s.now q ≡ get installed q) ⊎ (list_any (λ (e : ℕ × Images). contains_key e.1 q) (entries s.undos) ≡ true)
     by q true e = inr e
     by q false e = inl (clean q (λ u. none_wrote q (wrote u q) (sym (images u q) ∙ ap (λ o. get (or_nothing o) q) (get-entries s.undos u) ∙ nobody_has (entries s.undos) q u e)))

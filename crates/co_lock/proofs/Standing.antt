@@ -182,6 +182,7 @@ fits_vote p b t coord count s h =
   where
     voted : look b.voted t ≡ None
     voted = active_only (look b.active t) (look b.voted t) (one_each p b s t) h
+
     sets : (u : ℕ) (c : Bool) → (u == t) ≡ c → sets_at (after_cast b t coord count) u ≡ sets_at b u
     sets u true e =
         ap (λ o. sets_in o (operations_of (after_cast b t coord count) u)) (look-put b.voted t (cast_vote b t coord count) u ∙ cond_if (same_number u t) true (Some (cast_vote b t coord count)) (look b.voted u) (same_as u t ∙ e))

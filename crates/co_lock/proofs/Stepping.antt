@@ -41,6 +41,7 @@ seen_in_place s g t q h clear = by (g.wrote t q) refl
     all_clear : g.wrote t q ≡ false → (u : ℕ) → (b : Bool) → (u == t) ≡ b → g.wrote u q ≡ false
     all_clear e u true is = ap (λ j. g.wrote j q) (one_of u t is) ∙ e
     all_clear e u false is = clear u (other_than u t is)
+
     by : (b : Bool) → g.wrote t q ≡ b → get s.now q ≡ (if b then g.value t q else get g.installed q)
     by true e = h.written_are t q e
     by false e = h.clean_are q (λ u. all_clear e u (u == t) refl)
@@ -61,6 +62,7 @@ module _ (s : StoreState) (g : LockedState) (t : ℕ) (key : List ℕ) (value : 
     where
       before : get s.now key ≡ get g.installed key
       before = seen_in_place s g t key h clear ∙ ap (λ b. if b then g.value t key else get g.installed key) e
+
       by : (b : Bool) → same_key key q ≡ b → cond (same_key q key) (Some (slot_of (get s.now key))) (get (images_of s t) q) ≡ (if b || g.wrote t q then Some (slot_of (get g.installed q)) else None)
       by true is = ap (λ b. cond b (Some (slot_of (get s.now key))) (get (images_of s t) q)) (same_key_sym q key ∙ is) ∙ ap (λ v. Some (slot_of v)) (before ∙ ap (get g.installed) (same_key_is key q is))
       by false is = ap (λ b. cond b (Some (slot_of (get s.now key))) (get (images_of s t) q)) (same_key_sym q key ∙ is) ∙ h.images_are t q

@@ -77,12 +77,7 @@ fn note_read(alloc: Global, roll: &mut Roll, t: Txn, range: Range) -> Result<(),
 }
 
 /// A transaction made a change. Gives the pairs that the change makes.
-fn note_write(
-    alloc: Global,
-    roll: &mut Roll,
-    t: Txn,
-    change: Written,
-) -> Result<Pairs, AllocError>
+fn note_write(alloc: Global, roll: &mut Roll, t: Txn, change: Written) -> Result<Pairs, AllocError>
     ensures roll { OnOk result (roll.new ≡ with_change_of roll.old t change) }
     ensures pairs { IfOk result (λ pairs. pairs ≡ map (read_by_pair t) (found_in (newly_reads change.key (own roll.old t).sets.writes) (entries (without roll.old t)))) }
 {

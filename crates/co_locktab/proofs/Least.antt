@@ -66,8 +66,10 @@ min_test p q t u e f = by (min t u) (picks t u)
     picks_by : (t u : ℕ) (b : Bool) → nat_le t u ≡ b → (min t u ≡ t) ⊎ (min t u ≡ u)
     picks_by t u true is = inl (let h : t ≤ u = grind (arith, nat_tests) in omega arith)
     picks_by t u false is = inr (let h : u ≤ t = grind (arith, nat_tests) in omega arith)
+
     picks : (t u : ℕ) → (min t u ≡ t) ⊎ (min t u ≡ u)
     picks t u = picks_by t u (nat_le t u) refl
+
     by : (m : ℕ) → (m ≡ t) ⊎ (m ≡ u) → (p m || q m) ≡ true
     by m (inl is) = ap (λ b. b || q m) (ap p is ∙ e)
     by m (inr is) = ap (λ b. p m || b) (ap q is ∙ f) ∙ or_true (p m)
@@ -112,9 +114,10 @@ module _ {X : Type 0} (t : ℕ) where
   first_by : (e : ℕ × X) (es : List (ℕ × X)) (b : Bool) → not (e.0 == t) ≡ b → T (below_all nat_cmp e.0 es)
       → IsLeast (λ u. not (u == t) && is_some (find nat_cmp u es)) (first_in (λ u x. not (u == t)) es)
       → IsLeast (λ u. not (u == t) && is_some (find nat_cmp u (e ∷ es))) (if b then Some e.0 else first_in (λ u x. not (u == t)) es)
-  first_by e es true is h k =
-      ((λ i. is i && is_some (cond (number_itself e.0 i) (Some e.1) (find nat_cmp e.0 es))),
-      λ v f. by v (same_number v e.0) refl (right_true _ _ f))
+  first_by e es true is h k = (
+    (λ i. is i && is_some (cond (number_itself e.0 i) (Some e.1) (find nat_cmp e.0 es))),
+    λ v f. by v (same_number v e.0) refl (right_true _ _ f),
+  )
     where
       by : (v : ℕ) (b : Bool) → same_number v e.0 ≡ b → is_some (cond b (Some e.1) (find nat_cmp v es)) ≡ true → e.0 ≤ v
       by v true s f = subst (λ j. e.0 ≤ j) (sym (one_number v e.0 s)) (omega arith)

@@ -9,8 +9,7 @@ use crate::holders::Holders;
 use co_base::{Key, Range, Txn};
 use co_state::lesser;
 use std::alloc::{AllocError, Global};
-use std::collections::BTreeMap;
-use std::collections::btree_map;
+use std::collections::{BTreeMap, btree_map};
 use std::marker::Model;
 use std::ops::Bound;
 

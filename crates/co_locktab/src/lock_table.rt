@@ -158,7 +158,12 @@ impl LockTable {
         ensures { (locks : Locks) → Shows self.old locks → Shows self.new (without_reads locks t) }
     {
         let ranges = take_reads(self.alloc, &mut self.reads, t);
-        end_ranges(&mut self.readers, &mut self.wide_readers, ranges.as_slice(), t);
+        end_ranges(
+            &mut self.readers,
+            &mut self.wide_readers,
+            ranges.as_slice(),
+            t,
+        );
     }
 
     /// A transaction holds nothing any more. Takes no memory.

@@ -20,13 +20,34 @@ fn the_least_holder_blocks(rt: HostRuntime) -> Result<(), Fail> {
     locks.add_read(Txn(5), &range(alloc, b"a", b"c")?)?;
     locks.add_read(Txn(6), &range(alloc, b"c", b"c")?)?;
     locks.add_read(Txn(4), &range(alloc, b"d", b"f")?)?;
-    assert_eq!(rt; locks.blocker_read(Txn(1), &range(alloc, b"a", b"f")?), Some(Txn(3)));
-    assert_eq!(rt; locks.blocker_read(Txn(3), &range(alloc, b"a", b"f")?), Some(Txn(7)));
-    assert_eq!(rt; locks.blocker_read(Txn(1), &range(alloc, b"a", b"b")?), None);
-    assert_eq!(rt; locks.blocker_write(Txn(1), &key(alloc, b"c")?), Some(Txn(5)));
-    assert_eq!(rt; locks.blocker_write(Txn(5), &key(alloc, b"c")?), Some(Txn(6)));
-    assert_eq!(rt; locks.blocker_write(Txn(1), &key(alloc, b"a")?), Some(Txn(5)));
-    assert_eq!(rt; locks.blocker_write(Txn(1), &key(alloc, b"d")?), Some(Txn(4)));
+    assert_eq!(rt;
+        locks.blocker_read(Txn(1), &range(alloc, b"a", b"f")?),
+        Some(Txn(3))
+    );
+    assert_eq!(rt;
+        locks.blocker_read(Txn(3), &range(alloc, b"a", b"f")?),
+        Some(Txn(7))
+    );
+    assert_eq!(rt;
+        locks.blocker_read(Txn(1), &range(alloc, b"a", b"b")?),
+        None
+    );
+    assert_eq!(rt;
+        locks.blocker_write(Txn(1), &key(alloc, b"c")?),
+        Some(Txn(5))
+    );
+    assert_eq!(rt;
+        locks.blocker_write(Txn(5), &key(alloc, b"c")?),
+        Some(Txn(6))
+    );
+    assert_eq!(rt;
+        locks.blocker_write(Txn(1), &key(alloc, b"a")?),
+        Some(Txn(5))
+    );
+    assert_eq!(rt;
+        locks.blocker_write(Txn(1), &key(alloc, b"d")?),
+        Some(Txn(4))
+    );
     assert_eq!(rt; locks.blocker_write(Txn(1), &key(alloc, b"g")?), None);
     Ok(())
 }
@@ -74,7 +95,10 @@ fn a_large_table_names_each_blocker_in_time(rt: HostRuntime) -> Result<(), Fail>
         locks.add_write(Txn(t), &key_of(alloc, t)?)?;
     }
     for t in 1..MANY + 1 {
-        assert_eq!(rt; locks.blocker_write(Txn(0), &key_of(alloc, t)?), Some(Txn(t)));
+        assert_eq!(rt;
+            locks.blocker_write(Txn(0), &key_of(alloc, t)?),
+            Some(Txn(t))
+        );
     }
     locks.end_all(Txn(MANY));
     assert_eq!(rt; locks.blocker_write(Txn(0), &key_of(alloc, MANY)?), None);

@@ -40,4 +40,3 @@ pub fn kind_of(kinds: &[Kind], member: u8) -> Kind
         }
     }
 }
-

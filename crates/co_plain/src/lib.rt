@@ -34,7 +34,9 @@ pub use marks::{batch_marks, checkpoint_marks};
 pub use member_state::{AskedMark, MemberState};
 pub use member_step::MemberStep;
 pub use member_view::MemberView;
-pub use numbers::{counted, first_lacking, has_number, has_part, members_of, numbers_lacking, with_number};
+pub use numbers::{
+    counted, first_lacking, has_number, has_part, members_of, numbers_lacking, with_number,
+};
 pub use outcome::{Outcome, outcome_of};
 pub use session::{Decided, Session, Told};
 pub use standing::Standing;

@@ -37,9 +37,11 @@ pub fn batch_marks(
 pub fn checkpoint_marks(alloc: Global, node: Node, generation: u32) -> Result<Marks, AllocError>
     ensures { IfOk result (λ marks. marks ≡ checkpoint_marks node generation) }
 {
-    Ok(Marks::of(vec![in alloc; Mark {
-        node,
-        kind: MarkKind::Checkpoint,
-        number: generation,
-    }]?))
+    Ok(Marks::of(vec![in alloc;
+        Mark {
+            node,
+            kind: MarkKind::Checkpoint,
+            number: generation,
+        },
+    ]?))
 }

@@ -3,10 +3,10 @@ ghost use Rattle.std.specs.Prelude.{◌≡◌, ◌∷◌, [], IfOk, reverse};
 ghost use Rattle.co_plain.specs.CoordStep.{coord_says, coord_sends, stopped_coord, force_coord};
 
 use crate::coord_past::coord_down;
-use co_plain::{CoordState, CoordStep, Outcome, batch_marks, outcome_of};
-use co_record::{Record, batch_is_stable};
 use co_base::{Marks, Node};
 use co_message::{Answer, Message, Messages};
+use co_plain::{CoordState, CoordStep, Outcome, batch_marks, outcome_of};
+use co_record::{Record, batch_is_stable};
 use std::alloc::{AllocError, Global};
 
 /// Only an answer.

@@ -8,10 +8,12 @@ ghost use Rattle.co_plain.specs.Numbers.{next_generation};
 
 use crate::coord_force::coord_says;
 use crate::coord_past::coord_down;
-use co_plain::{CoordState, CoordStep, Entry, Outcome, Stop, checkpoint_marks, copy_bytes, outcome_of};
-use co_record::{Record, batch_is_stable, closes_spare};
 use co_base::{Leaves, Node};
 use co_message::{Answer, Messages};
+use co_plain::{
+    CoordState, CoordStep, Entry, Outcome, Stop, checkpoint_marks, copy_bytes, outcome_of,
+};
+use co_record::{Record, batch_is_stable, closes_spare};
 use co_state::Table;
 use std::alloc::{AllocError, Global};
 

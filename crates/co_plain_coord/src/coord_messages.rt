@@ -5,9 +5,12 @@ ghost use Rattle.co_plain.specs.Coordinator.{decided_by, yes_counted, no_counted
 use crate::coord_force::{coord_says, coord_sends, force_coord};
 use crate::coordinator::{aborts, decisions_to, waits, with_entry, without_entry};
 use crate::entry::entry_of;
-use co_plain::{CoordState, CoordStep, Entry, copy_bytes, first_lacking, has_number, has_part, members_of, with_number};
 use co_base::{Bytes, Parts, Txn};
 use co_message::{Answer, Cause, Message};
+use co_plain::{
+    CoordState, CoordStep, Entry, copy_bytes, first_lacking, has_number, has_part, members_of,
+    with_number,
+};
 use co_record::Record;
 use std::alloc::{AllocError, Global};
 

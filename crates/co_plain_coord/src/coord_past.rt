@@ -4,8 +4,8 @@ ghost use Rattle.std.specs.FinMap.{entries};
 ghost use Rattle.co_plain.specs.CoordView.{no_commits, unended_with, coord_told_by, recovered_commits};
 ghost use Rattle.co_plain.specs.CoordStep.{table_from, coord_from, coord_down};
 
-use co_plain::{CoordState, CoordView, Entry, LogState, copy_bytes};
 use co_base::{Bytes, Txn};
+use co_plain::{CoordState, CoordView, Entry, LogState, copy_bytes};
 use co_record::Record;
 use co_state::Table;
 use std::alloc::{AllocError, Global};

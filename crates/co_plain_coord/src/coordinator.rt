@@ -7,9 +7,11 @@ ghost use Rattle.co_plain.specs.Numbers.{first_lacking};
 
 use crate::coord_force::{coord_says, coord_sends, force_coord};
 use crate::entry::{copy_parts, entry_of};
-use co_plain::{CoordState, CoordStep, Entry, first_lacking, has_number, members_of, numbers_lacking};
 use co_base::{Bytes, Part, Txn};
 use co_message::{Answer, Cause, Message};
+use co_plain::{
+    CoordState, CoordStep, Entry, first_lacking, has_number, members_of, numbers_lacking,
+};
 use co_record::Record;
 use std::alloc::{AllocError, Global};
 

@@ -2,8 +2,8 @@
 ghost use Rattle.std.specs.Prelude.{◌≡◌, IfOk};
 ghost use Rattle.co_state.specs.Table.{look};
 
-use co_plain::{Entry, copy_bytes};
 use co_base::{Part, Parts, Txn};
+use co_plain::{Entry, copy_bytes};
 use co_state::Table;
 use std::alloc::{AllocError, Global};
 

@@ -5,9 +5,9 @@ ghost use Rattle.co_plain.specs.LocalCommit.{local_commit_by, member_local_commi
 use crate::member::prepare_record;
 use crate::member_force::{force_member, says};
 use crate::member_states::{dropped, installed_state, standing_of, voted_state};
-use co_plain::{MemberState, MemberStep, Standing, counted};
 use co_base::{Bytes, Txn};
 use co_message::{Answer, Cause};
+use co_plain::{MemberState, MemberStep, Standing, counted};
 use co_record::Record;
 use co_state::Verdict;
 use std::alloc::{AllocError, Global};

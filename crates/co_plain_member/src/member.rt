@@ -7,10 +7,12 @@ ghost use Rattle.co_plain.specs.MemberStep.{says_and_sends, standing_of};
 ghost use Rattle.co_plain.specs.Member.{prepare_record, unless_blocked, member_op, coord_of, vote_by, vote_on, vote_where_asked, member_prepare, member_vote, abort_by, member_decide, member_timer, member_ask, member_deliver};
 
 use crate::member_force::{force_member, says, says_and_sends};
-use crate::member_states::{coord_of, dropped, dropped_voted, installed_state, standing_of, voted_state, with_mark};
-use co_plain::{MemberState, MemberStep, Standing, counted};
+use crate::member_states::{
+    coord_of, dropped, dropped_voted, installed_state, standing_of, voted_state, with_mark,
+};
 use co_base::{Bytes, Op, Txn};
 use co_message::{Answer, Message};
+use co_plain::{MemberState, MemberStep, Standing, counted};
 use co_record::Record;
 use co_state::{EngineState, Verdict, sets_of};
 use std::alloc::{AllocError, Global};

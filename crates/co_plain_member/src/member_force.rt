@@ -3,10 +3,10 @@ ghost use Rattle.std.specs.Prelude.{◌≡◌, IfOk, reverse};
 ghost use Rattle.co_plain.specs.MemberStep.{says, says_and_sends, stopped_member, force_member};
 
 use crate::member_past::member_down;
-use co_plain::{MemberState, MemberStep, Outcome, batch_marks, outcome_of};
-use co_record::{Record, batch_is_stable};
 use co_base::{Marks, Node};
 use co_message::{Answer, Message};
+use co_plain::{MemberState, MemberStep, Outcome, batch_marks, outcome_of};
+use co_record::{Record, batch_is_stable};
 use std::alloc::{AllocError, Global};
 
 /// Only an answer.

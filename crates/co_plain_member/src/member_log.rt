@@ -8,10 +8,10 @@ ghost use Rattle.co_plain.specs.Numbers.{next_generation};
 
 use crate::member_force::says;
 use crate::member_past::member_down;
-use co_plain::{MemberState, MemberStep, Outcome, Stop, checkpoint_marks, outcome_of};
-use co_record::{Record, batch_is_stable, closes_spare};
 use co_base::{Leaves, Node, Txn, Txns};
 use co_message::Answer;
+use co_plain::{MemberState, MemberStep, Outcome, Stop, checkpoint_marks, outcome_of};
+use co_record::{Record, batch_is_stable, closes_spare};
 use co_state::{Table, Vote, copy_ranges, copy_writes};
 use std::alloc::{AllocError, Global};
 

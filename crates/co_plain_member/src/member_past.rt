@@ -4,8 +4,8 @@ ghost use Rattle.co_plain.specs.MemberView.{numbers_from, cast_in, forget_in, in
 ghost use Rattle.co_plain.specs.MemberStep.{member_down_with};
 ghost use Rattle.co_state.specs.Table.{look};
 
-use co_plain::{LogState, MemberState, MemberView, copy_rows};
 use co_base::{Kind, Row, Txn, Written};
+use co_plain::{LogState, MemberState, MemberView, copy_rows};
 use co_record::Record;
 use co_state::{EngineState, RecordMap, Sets, Table, Vote, copy_ranges, copy_writes, records_from};
 use std::alloc::{AllocError, Global};

@@ -4,8 +4,8 @@ ghost use Rattle.co_plain.specs.MemberStep.{standing_of, dropped, with_log};
 ghost use Rattle.co_plain.specs.Member.{voted_state, installed_state, with_mark, coord_of};
 ghost use Rattle.co_plain.specs.LogWrite.{with_waiting};
 
-use co_plain::{AskedMark, MemberState, Standing};
 use co_base::Txn;
+use co_plain::{AskedMark, MemberState, Standing};
 use co_record::Record;
 use std::alloc::{AllocError, Global};
 

@@ -2,11 +2,16 @@
 ghost use Rattle.std.specs.Prelude.{◌≡◌, IfOk};
 ghost use Rattle.co_plain_run.specs.PlainProgram.{member_does, coord_does};
 
-use co_plain::{CoordState, CoordStep, MemberState, MemberStep};
-use co_plain_coord::{coord_arm, coord_checkpoint, coord_crash, coord_deliver, coord_resend, coord_timer};
-use co_plain_member::{coord_of, member_arm, member_ask, member_checkpoint, member_crash, member_decide, member_deliver, member_timer, member_vote};
 use co_base::{Leaves, Txn};
 use co_message::Message;
+use co_plain::{CoordState, CoordStep, MemberState, MemberStep};
+use co_plain_coord::{
+    coord_arm, coord_checkpoint, coord_crash, coord_deliver, coord_resend, coord_timer,
+};
+use co_plain_member::{
+    coord_of, member_arm, member_ask, member_checkpoint, member_crash, member_decide,
+    member_deliver, member_timer, member_vote,
+};
 use std::alloc::{AllocError, Global};
 
 /// What may be asked of a member that is up, apart from what clients ask.

@@ -10,14 +10,16 @@ ghost use Rattle.co_plain.specs.Sessions.{count_at, may_visit, leave_to_end};
 ghost use Rattle.co_plain.specs.Step.{is_used, begin_where, local_where, operate, operated, reply_in, is_stopped, is_held, coord_answers, local_answers};
 
 use crate::call::Ending;
-use crate::lone_step::{answers, coord_is_up, member_is_up, settle_coord, settle_member, take_coord, take_member};
+use crate::lone_step::{
+    answers, coord_is_up, member_is_up, settle_coord, settle_member, take_coord, take_member,
+};
 use crate::plain_federation::{PlainFederation, PlainStep};
 use crate::told::{asked_to_end, begun_by, copy_reply, count_at, parts_of, with_told};
+use co_base::{Node, Op, Part, Txn};
+use co_message::Answer;
 use co_plain::{CoordState, CoordStep, MemberState, MemberStep, Session, Told};
 use co_plain_coord::{coord_abort, coord_begin, coord_commit};
 use co_plain_member::{member_local_abort, member_local_commit, member_op};
-use co_base::{Node, Op, Part, Txn};
-use co_message::Answer;
 use co_serial::Site;
 use co_state::{History, Table};
 use std::alloc::{AllocError, Global};

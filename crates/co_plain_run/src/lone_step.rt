@@ -8,11 +8,11 @@ ghost use Rattle.co_plain.specs.Step.{member_step, coord_step, restart_at};
 use crate::call::{CoordCall, MemberCall, coord_does, member_does};
 use crate::noting::{decide_all, items_of, message_list, send_all};
 use crate::plain_federation::{PlainFederation, PlainStep};
+use co_base::Node;
+use co_message::{Answer, ItemKind};
 use co_plain::{CoordState, CoordStep, MemberState, MemberStep};
 use co_plain_coord::{coord_restart, fresh_coord};
 use co_plain_member::{fresh_member, member_restart};
-use co_base::Node;
-use co_message::{Answer, ItemKind};
 use std::alloc::{AllocError, Global};
 
 /// An answer that changes nothing.

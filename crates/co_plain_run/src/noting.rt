@@ -7,9 +7,9 @@ ghost use Rattle.co_plain.specs.Wire.{send_all};
 ghost use Rattle.co_state.specs.Table.{look};
 
 use crate::told::copy_told;
-use co_plain::{Decided, Session};
 use co_base::{Mark, MarkKind, Node, Txn};
 use co_message::{Answer, ItemKind, Message, Messages, Wire};
+use co_plain::{Decided, Session};
 use co_state::{History, Table};
 use std::alloc::{AllocError, Global};
 

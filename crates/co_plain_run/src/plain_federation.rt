@@ -1,8 +1,8 @@
 //! The federation as lists and maps.
 use crate::nodes::Nodes;
-use co_plain::{CoordState, Decided, MemberState, Session};
 use co_base::Kinds;
 use co_message::{ItemKind, Wire};
+use co_plain::{CoordState, Decided, MemberState, Session};
 use co_state::{History, Table};
 
 /// The whole federation as plain data: what the definitions speak of, kept in lists and maps.

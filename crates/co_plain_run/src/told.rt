@@ -2,8 +2,8 @@
 ghost use Rattle.std.specs.Prelude.{◌≡◌, IfOk, OnOk, reverse};
 ghost use Rattle.co_plain.specs.Sessions.{count_at, parts_of, begun_by, with_told, asked_to_end};
 
-use co_plain::{Session, Told, copy_rows, count_one};
 use co_base::{Node, Parts, Reply, Rows};
+use co_plain::{Session, Told, copy_rows, count_one};
 use co_serial::Site;
 use co_state::History;
 use std::alloc::{AllocError, Global};
