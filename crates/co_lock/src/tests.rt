@@ -126,11 +126,17 @@ fn expected(alloc: Global, steps: &[(Act, Wanted)]) -> Result<Answers, Fail> {
 }
 
 /// Plays the commands on a locking engine without records.
-fn check<R: AllocGlobal + Abort>(rt: &R, kind: Kind, steps: &[(Act, Wanted)]) -> Result<(), Fail> {
+fn check<R: AllocGlobal + Abort>(rt: &R, steps: &[(Act, Wanted)]) -> Result<(), Fail> {
     let alloc = rt.alloc();
     let commands = commands(alloc, steps)?;
     let expected = expected(alloc, steps)?;
-    let answers = play::<LockEngine>(alloc, kind, Rows::new(alloc), &[], commands.as_slice())?;
+    let answers = play::<LockEngine>(
+        alloc,
+        Kind::Lock,
+        Rows::new(alloc),
+        &[],
+        commands.as_slice(),
+    )?;
     assert_eq!(rt; answers, expected);
     Ok(())
 }
@@ -146,7 +152,7 @@ const WRITE_AND_READ: [(Act, Wanted); 6] = [
 
 #[test]
 fn a_locking_engine_reads_what_was_written(rt: HostRuntime) -> Result<(), Fail> {
-    check(&rt, Kind::Lock, &WRITE_AND_READ)
+    check(&rt, &WRITE_AND_READ)
 }
 
 #[test]
@@ -161,7 +167,7 @@ fn a_lock_blocks_by_the_least_number(rt: HostRuntime) -> Result<(), Fail> {
         (Act::Read(3, b"x"), Wanted::Blocked(2)),
         (Act::Drop(3), Wanted::Refused),
     ];
-    check(&rt, Kind::Lock, &steps)
+    check(&rt, &steps)
 }
 
 #[test]
@@ -175,7 +181,7 @@ fn a_read_lock_ends_at_the_vote(rt: HostRuntime) -> Result<(), Fail> {
         (Act::Read(3, b"x"), Wanted::Blocked(2)),
         (Act::Read(1, b"x"), Wanted::Refused),
     ];
-    check(&rt, Kind::Lock, &steps)
+    check(&rt, &steps)
 }
 
 #[test]
@@ -211,5 +217,5 @@ fn a_scan_blocks_writes_of_its_keys(rt: HostRuntime) -> Result<(), Fail> {
         (Act::Scan(3, b"b", b"b"), Wanted::Row(b"b", b"1")),
         (Act::Install(1), Wanted::Done),
     ];
-    check(&rt, Kind::Lock, &steps)
+    check(&rt, &steps)
 }
