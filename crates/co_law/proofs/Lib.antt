@@ -1,5 +1,6 @@
 pub mod Acknowledging
 pub mod Readable
+pub mod OwnStart
 pub mod FreshLogs
 pub mod MoveRuns
 pub mod EveryRun

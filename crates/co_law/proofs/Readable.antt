@@ -152,43 +152,51 @@ free_all coords place v (r ∷ rs) h f = by (free_all coords (suc place) (told_b
 nothing_free : IsFree nothing_known
 nothing_free = record { free = λ t u a b n e. is_nothing (sym (look_none t) ∙ e); apart = λ t h. ap is_some (look_none t) }
 
+-- Logs of the federation's own nodes alone, each member's as the grammar allows it, sound or not.
+module _ (kinds : List Kind) (coords : ℕ) (fm fc : ℕ → Found) (own : OnlyOwnLogs kinds coords fm fc) (allowed : (m : ℕ) → first_refused_at_member coords (reverse (fm m).records) ≡ None) where
+  is_free : (m : ℕ) → IsFree (recovered_view (fm m).records)
+  is_free m = subst IsFree (sym (told_turned (fm m).records)) (free_all coords 0 nothing_known (reverse (fm m).records) (allowed m) nothing_free)
+
+  members : Numbers
+  members = union_to (length kinds) (λ m. numbers_in (recovered_view (fm m).records))
+
+  coordinators : Numbers
+  coordinators = union_to coords (λ c. (recovered_commits (fc c).records).seen)
+
+  none_stands : (t : ℕ) → stands (recovered_view []) t ≡ false
+  none_stands t = or_from _ _ (ap is_some (look_none t)) (ap is_some (look_none t))
+
+  pub votes_free : (m : ℕ) → VotedAreConflictFree (recovered_view (fm m).records)
+  votes_free m = (is_free m).free
+
+  pub votes_apart : (m t : ℕ) → holds (recovered_view (fm m).records).committed t ≡ true → holds (recovered_view (fm m).records).voted t ≡ false
+  votes_apart m = (is_free m).apart
+
+  pub members_used : (m t : ℕ) → stands (recovered_view (fm m).records) t ≡ true → holds (used_numbers (length kinds) coords fm fc) t ≡ true
+  members_used m t h = by (nat_le 1 m && nat_le m (length kinds)) refl
+    where
+      by : (b : Bool) → (nat_le 1 m && nat_le m (length kinds)) ≡ b → holds (used_numbers (length kinds) coords fm fc) t ≡ true
+      by true e =
+          let p = in_range m (length kinds) e in
+          first_has members coordinators t (union_has (length kinds) (λ k. numbers_in (recovered_view (fm k).records)) m t p.0 p.1 (view_has (recovered_view (fm m).records) t h))
+      by false e = absurd (let z : true ≡ false = sym h ∙ ap (λ rs. stands (recovered_view rs) t) (own.members m e) ∙ none_stands t in cc)
+
+  pub coords_used : (c t : ℕ) → has_commit_of (fc c).records t ≡ true → holds (used_numbers (length kinds) coords fm fc) t ≡ true
+  coords_used c t h = by (nat_le 1 c && nat_le c coords) refl
+    where
+      by : (b : Bool) → (nat_le 1 c && nat_le c coords) ≡ b → holds (used_numbers (length kinds) coords fm fc) t ≡ true
+      by true e =
+          let p = in_range c coords e in
+          second_has members coordinators t (union_has coords (λ k. (recovered_commits (fc k).records).seen) c t p.0 p.1 h)
+      by false e = absurd (let z : true ≡ false = sym h ∙ ap (λ rs. has_commit_of rs t) (own.coordinators c e) ∙ ap is_some (look_none t) in cc)
+
 pub readable : (kinds : List Kind) (coords : ℕ) (fm fc : ℕ → Found) → AreSound (λ m. (fm m).records) (λ c. (fc c).records) → OnlyOwnLogs kinds coords fm fc →
     ((m : ℕ) → first_refused_at_member coords (reverse (fm m).records) ≡ None) → AreOpenable kinds coords fm fc
 readable kinds coords fm fc sound own allowed =
     record {
       sound = sound;
-      free = λ m. (is_free m).free;
-      apart = λ m. (is_free m).apart;
-      members_used = members_used;
-      coords_used = coords_used;
+      free = votes_free kinds coords fm fc own allowed;
+      apart = votes_apart kinds coords fm fc own allowed;
+      members_used = members_used kinds coords fm fc own allowed;
+      coords_used = coords_used kinds coords fm fc own allowed;
     }
-  where
-    is_free : (m : ℕ) → IsFree (recovered_view (fm m).records)
-    is_free m = subst IsFree (sym (told_turned (fm m).records)) (free_all coords 0 nothing_known (reverse (fm m).records) (allowed m) nothing_free)
-
-    members : Numbers
-    members = union_to (length kinds) (λ m. numbers_in (recovered_view (fm m).records))
-
-    coordinators : Numbers
-    coordinators = union_to coords (λ c. (recovered_commits (fc c).records).seen)
-
-    none_stands : (t : ℕ) → stands (recovered_view []) t ≡ false
-    none_stands t = or_from _ _ (ap is_some (look_none t)) (ap is_some (look_none t))
-
-    members_used : (m t : ℕ) → stands (recovered_view (fm m).records) t ≡ true → holds (used_numbers (length kinds) coords fm fc) t ≡ true
-    members_used m t h = by (nat_le 1 m && nat_le m (length kinds)) refl
-      where
-        by : (b : Bool) → (nat_le 1 m && nat_le m (length kinds)) ≡ b → holds (used_numbers (length kinds) coords fm fc) t ≡ true
-        by true e =
-            let p = in_range m (length kinds) e in
-            first_has members coordinators t (union_has (length kinds) (λ k. numbers_in (recovered_view (fm k).records)) m t p.0 p.1 (view_has (recovered_view (fm m).records) t h))
-        by false e = absurd (let z : true ≡ false = sym h ∙ ap (λ rs. stands (recovered_view rs) t) (own.members m e) ∙ none_stands t in cc)
-
-    coords_used : (c t : ℕ) → has_commit_of (fc c).records t ≡ true → holds (used_numbers (length kinds) coords fm fc) t ≡ true
-    coords_used c t h = by (nat_le 1 c && nat_le c coords) refl
-      where
-        by : (b : Bool) → (nat_le 1 c && nat_le c coords) ≡ b → holds (used_numbers (length kinds) coords fm fc) t ≡ true
-        by true e =
-            let p = in_range c coords e in
-            second_has members coordinators t (union_has coords (λ k. (recovered_commits (fc k).records).seen) c t p.0 p.1 h)
-        by false e = absurd (let z : true ≡ false = sym h ∙ ap (λ rs. has_commit_of rs t) (own.coordinators c e) ∙ ap is_some (look_none t) in cc)

@@ -11,8 +11,8 @@ mod quiet;
 
 pub use events::{disarming, events_are_moves};
 pub use laws::{
-    acknowledged, agreement, fresh_logs, invariants, logs_alone, moves, readable_logs,
-    serial_reads, sound_logs,
+    acknowledged, agreement, fresh_logs, invariants, kept_by_each, logs_alone, moves,
+    readable_logs, serial_reads, sound_logs,
 };
 pub use order::{commitment_ordered, transcripts_ordered};
 pub use quiet::only_timers;

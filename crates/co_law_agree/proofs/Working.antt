@@ -169,7 +169,7 @@ module _ (s : Federation) (f : Facts s) where
       by (inr k) = absurd (let z : true ≡ false = sym (((f.members m).views Memory).known t k begun) ∙ o.undecided in cc)
       by (inl k) =
           let d = coord_of (s.member m) t in
-          let v = votes_own s m f t k in
+          let v = votes_own s m t k in
           let home : c ≡ d = one_belongs (rest_of s) f.numbers t c d (Begun o.begun_there) (((f.members m).views Memory).named t d v) in
           told (((f.members m).views Memory).works t d v (or_left _ _ (subst (λ e. holds (s.coord e).table t ≡ true) home here)))
 
@@ -226,7 +226,7 @@ module _ (s : Federation) (f : Facts s) where
           nowhere_else k q = now (or_cases _ _ q)
             where
               now : (holds (s.member k).engine.voted t ≡ true) ⊎ (holds (s.member k).committed t ≡ true) → ⊥
-              now (inl r) = local_apart s f.numbers t (coord_of (s.member k) t) m session (((f.members k).views Memory).named t (coord_of (s.member k) t) (votes_own s k f t r)) e h
+              now (inl r) = local_apart s f.numbers t (coord_of (s.member k) t) m session (((f.members k).views Memory).named t (coord_of (s.member k) t) (votes_own s k t r)) e h
               now (inr r) = let z : true ≡ false = sym (((f.members k).views Memory).known t r (found_holds s.sessions t session e)) ∙ undecided in cc
 
           mine : (k : ℕ) → stands (view Memory (with_at s.member m (local_state (s.member m) t (count_at (told_of s t) m)) k)) t ≡ true → 1 ≤ count_at (told_in (look (put s.sessions t (asked_to_end session)) t)) k

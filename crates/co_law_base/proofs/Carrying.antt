@@ -163,6 +163,64 @@ pub record Later (r : Rest) (coord : ℕ → CoordState) (sessions : Table Sessi
       (takes_part_in (look (coord c).table t) m ≡ true) ⊎ ((side : Side) → holds (view side (member m)).committed t ≡ true)
   pub sent_on : (note : Message) → was_sent r.sent note ≡ true → was_sent sent note ≡ true
 
+-- What must hold for the facts of a coordinator to go over to other sessions and messages.
+pub record ClientsOn (r : Rest) (sessions : Table Session) (sent : List Message) : Type 0 where
+  pub told_same : (t : ℕ) → over r t ≡ true → told_in (look sessions t) ≡ told r t
+  pub asked_on : (t : ℕ) → asked r t ≡ true → asked_in (look sessions t) ≡ true
+  pub by_on : (t c : ℕ) → by_coord (look r.sessions t) c ≡ true → by_coord (look sessions t) c ≡ true
+  pub sent_on : (note : Message) → was_sent r.sent note ≡ true → was_sent sent note ≡ true
+
+module _ (r : Rest) (coord : ℕ → CoordState) (sessions : Table Session) (sent : List Message) (l : ClientsOn r sessions sent) where
+  pub clients_over : (t : ℕ) → over r t ≡ true → over (changed r coord sessions sent) t ≡ true
+  clients_over t h = by (or_cases (asked r t) (holds r.used t) h)
+    where
+      by : (asked r t ≡ true) ⊎ (holds r.used t ≡ true) → over (changed r coord sessions sent) t ≡ true
+      by (inl a) = or_left (asked_in (look sessions t)) (holds r.used t) (l.asked_on t a)
+      by (inr u) = or_right (asked_in (look sessions t)) (holds r.used t) u
+
+  pub clients_coord : (c : ℕ) (table : Table Entry) (stable waiting : List Record) → CoordFacts r c table stable waiting → CoordFacts (changed r coord sessions sent) c table stable waiting
+  clients_coord c table stable waiting y =
+      record {
+        idle = λ t f. still t (y.idle t f);
+        collecting = λ t parts yeses f. let e = y.collecting t parts yeses f in
+            record {
+              still = still t e.still;
+              asked = l.asked_on t e.asked;
+              parts_told = e.parts_told ∙ ap parts_of (sym (l.told_same t (or_left (asked r t) (holds r.used t) e.asked)));
+              lacks = e.lacks;
+              yeses_sent = λ m h. l.sent_on _ (e.yeses_sent m h);
+            };
+        committed = λ t ms acks f. let e = y.committed t ms acks f in
+            record {
+              recorded = e.recorded;
+              logged = e.logged;
+              lacks = e.lacks;
+              acks_sent = λ m h. l.sent_on _ (e.acks_sent m h);
+            };
+        known = λ t h. known t (or_cases _ _ (y.known t h));
+        unended_over = λ t ms h. clients_over t (y.unended_over t ms h);
+        unended_known = λ t ms h. unended_known t ms (y.unended_known t ms h);
+        ends = y.ends;
+      }
+    where
+      still : (t : ℕ) → OpenEntry r c stable t → OpenEntry (changed r coord sessions sent) c stable t
+      still t e = record { begun_there = l.by_on t c e.begun_there; undecided = e.undecided; unrecorded = e.unrecorded }
+
+      unended_known : (t : ℕ) (members : List ℕ) → ((by_coord (look r.sessions t) c && is_decided r.decided t) ≡ true) ⊎ (unended_in (r.opened_coord c) t ≡ Some members) →
+          ((by_coord (look sessions t) c && is_decided r.decided t) ≡ true) ⊎ (unended_in (r.opened_coord c) t ≡ Some members)
+      unended_known t members (inl p) = let q = and_parts _ _ p in inl (and_from _ _ (l.by_on t c q.0) q.1)
+      unended_known t members (inr h) = inr h
+
+      known : (t : ℕ) → ((by_coord (look r.sessions t) c && is_decided r.decided t) ≡ true) ⊎ (has_commit_of (r.opened_coord c) t ≡ true) →
+          ((by_coord (look sessions t) c && is_decided r.decided t) || has_commit_of (r.opened_coord c) t) ≡ true
+      known t (inl p) =
+          let q = and_parts _ _ p in
+          or_left _ _ (and_from _ _ (l.by_on t c q.0) q.1)
+      known t (inr p) = or_right _ _ p
+
+pub clients_of : (r : Rest) (coord : ℕ → CoordState) (sessions : Table Session) (sent : List Message) (member : ℕ → MemberState) → Later r coord sessions sent member → ClientsOn r sessions sent
+clients_of r coord sessions sent member l = record { told_same = l.told_same; asked_on = l.asked_on; by_on = l.by_on; sent_on = l.sent_on }
+
 pub votes_held : (v : MemberView) (t c : ℕ) → votes_for (look v.voted t) c ≡ true → holds v.voted t ≡ true
 votes_held v t c h = by (look v.voted t) h
   where
@@ -172,11 +230,7 @@ votes_held v t c h = by (look v.voted t) h
 
 module _ (r : Rest) (n : NumberFacts r) (coord : ℕ → CoordState) (sessions : Table Session) (sent : List Message) (member : ℕ → MemberState) (l : Later r coord sessions sent member) where
   pub over_on : (t : ℕ) → over r t ≡ true → over (changed r coord sessions sent) t ≡ true
-  over_on t h = by (or_cases (asked r t) (holds r.used t) h)
-    where
-      by : (asked r t ≡ true) ⊎ (holds r.used t ≡ true) → over (changed r coord sessions sent) t ≡ true
-      by (inl a) = or_left (asked_in (look sessions t)) (holds r.used t) (l.asked_on t a)
-      by (inr u) = or_right (asked_in (look sessions t)) (holds r.used t) u
+  over_on = clients_over r coord sessions sent (clients_of r coord sessions sent member l)
 
   pub belongs_on : (t c : ℕ) → belongs r t c → belongs (changed r coord sessions sent) t c
   belongs_on t c (Begun h) = Begun (l.by_on t c h)
@@ -246,44 +300,7 @@ module _ (r : Rest) (n : NumberFacts r) (coord : ℕ → CoordState) (sessions :
       }
 
   pub later_coord : (c : ℕ) (table : Table Entry) (stable waiting : List Record) → CoordFacts r c table stable waiting → CoordFacts (changed r coord sessions sent) c table stable waiting
-  later_coord c table stable waiting y =
-      record {
-        idle = λ t f. still t (y.idle t f);
-        collecting = λ t parts yeses f. let e = y.collecting t parts yeses f in
-            record {
-              still = still t e.still;
-              asked = l.asked_on t e.asked;
-              parts_told = e.parts_told ∙ ap parts_of (sym (l.told_same t (or_left (asked r t) (holds r.used t) e.asked)));
-              lacks = e.lacks;
-              yeses_sent = λ m h. l.sent_on _ (e.yeses_sent m h);
-            };
-        committed = λ t ms acks f. let e = y.committed t ms acks f in
-            record {
-              recorded = e.recorded;
-              logged = e.logged;
-              lacks = e.lacks;
-              acks_sent = λ m h. l.sent_on _ (e.acks_sent m h);
-            };
-        known = λ t h. known t (or_cases _ _ (y.known t h));
-        unended_over = λ t ms h. over_on t (y.unended_over t ms h);
-        unended_known = λ t ms h. unended_known t ms (y.unended_known t ms h);
-        ends = y.ends;
-      }
-    where
-      still : (t : ℕ) → OpenEntry r c stable t → OpenEntry (changed r coord sessions sent) c stable t
-      still t e = record { begun_there = l.by_on t c e.begun_there; undecided = e.undecided; unrecorded = e.unrecorded }
-
-      unended_known : (t : ℕ) (members : List ℕ) → ((by_coord (look r.sessions t) c && is_decided r.decided t) ≡ true) ⊎ (unended_in (r.opened_coord c) t ≡ Some members) →
-          ((by_coord (look sessions t) c && is_decided r.decided t) ≡ true) ⊎ (unended_in (r.opened_coord c) t ≡ Some members)
-      unended_known t members (inl p) = let q = and_parts _ _ p in inl (and_from _ _ (l.by_on t c q.0) q.1)
-      unended_known t members (inr h) = inr h
-
-      known : (t : ℕ) → ((by_coord (look r.sessions t) c && is_decided r.decided t) ≡ true) ⊎ (has_commit_of (r.opened_coord c) t ≡ true) →
-          ((by_coord (look sessions t) c && is_decided r.decided t) || has_commit_of (r.opened_coord c) t) ≡ true
-      known t (inl p) =
-          let q = and_parts _ _ p in
-          or_left _ _ (and_from _ _ (l.by_on t c q.0) q.1)
-      known t (inr p) = or_right _ _ p
+  later_coord = clients_coord r coord sessions sent (clients_of r coord sessions sent member l)
 
   pub later_records : RecordFacts r member → ((c t : ℕ) (members : List ℕ) → unended_in (coord c).log.stable t ≡ Some members → unended_in (r.coord c).log.stable t ≡ Some members) →
       RecordFacts (changed r coord sessions sent) member

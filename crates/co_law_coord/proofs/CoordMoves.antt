@@ -14,7 +14,7 @@ use Rattle.co_plain.specs.declared.coord_state.Entry.{Entry}
 use Rattle.co_plain.specs.declared.coord_state.Entry.TheVariants as entry
 use Rattle.co_plain.specs.declared.session.Session.{Session}
 use Rattle.co_plain.specs.declared.log_state.Stop.{Stop}
-use Rattle.co_plain.specs.Numbers.{has_number, next_generation}
+use Rattle.co_plain.specs.Numbers.{first_lacking, has_number, next_generation}
 use Rattle.co_plain.specs.LogWrite.{with_filled_spare, with_spare, with_stop, with_waiting, generation_of}
 use Rattle.co_plain.specs.CoordView.{recovered_commits, has_commit_of}
 use Rattle.co_plain.specs.CoordStep.{with_table, with_coord_log, coord_down, members_of, table_from}
@@ -28,7 +28,7 @@ use Rattle.co_plain.specs.Invariants.{Side, view, takes_part_in}
 use Rattle.co_plain.specs.Moves.{RecordYes, RecordAck, Collect, Leave, End, CrashCoord, RestartCoord, ArmCoord, CloseCoordSpare, FillCoordSpare, effect, Guard, entry_at, record_yes, record_ack}
 use Rattle.co_law_base.proofs.Lookups.{is_nothing, look_none, put_here, put_there, without_here, without_there, without_cases, holds_found, found_holds}
 use Rattle.co_law_base.proofs.ImageRules.{EachEntry, each_entry}
-use Rattle.co_law_base.proofs.Facts.{Rest, rest_of, settled_at, by_coord, OpenEntry, CommittedEntry, CoordHas, NumberFacts, Facts}
+use Rattle.co_law_base.proofs.Facts.{Rest, rest_of, told, asked, settled_at, by_coord, OpenEntry, CollectingEntry, CommittedEntry, CoordHas, NumberFacts, Facts}
 use Rattle.co_law_base.proofs.Commits.{lacks_none, lacks_at_first, unended_seen, unended_some, from_cases, from_found, spare_cases, seen_cases, spare_found}
 use Rattle.co_law_coord.proofs.Tabled.{EntryFits, coord_put, coord_without}
 use Rattle.co_law_coord.proofs.CoordFrame.{coord_change}
@@ -71,6 +71,17 @@ one_yes P yeses m k p h n = by (or_cases (m == k) (has_number yeses k) n)
     by (inl e) = subst P (eqb-true m k e) p
     by (inr e) = h e
 
+pub yes_fits : (r : Rest) (c : ℕ) (stable : List Record) (t m : ℕ) (parts : List Part) (yeses : List ℕ) → CollectingEntry r c stable t parts yeses → was_sent r.sent (message.Vote t m c true) ≡ true →
+    first_lacking (members_of parts) (m ∷ yeses) ≢ None → CollectingEntry r c stable t parts (m ∷ yeses)
+yes_fits r c stable t m parts yeses old v l =
+    record {
+      still = old.still;
+      asked = old.asked;
+      parts_told = old.parts_told;
+      lacks = l;
+      yeses_sent = λ k. one_yes (λ k. was_sent r.sent (message.Vote t k c true) ≡ true) yeses m k v (old.yeses_sent k);
+    }
+
 pub keeps_record_yes : (s : Federation) → Facts s → (t c m : ℕ) → Guard s (RecordYes t c m) → Facts (effect s (RecordYes t c m))
 keeps_record_yes s f t c m g =
     let parts = g.0 in
@@ -78,15 +89,19 @@ keeps_record_yes s f t c m g =
     let old = (f.coords c).collecting t parts yeses g.2 in
     subst (λ o. Facts (record_yes s t c m o)) (sym g.2)
     (replaced s f t c (entry.Collecting parts yeses) (entry.Collecting parts (m ∷ yeses)) g.2 (λ k h. h)
-    (record {
-      still = old.still;
-      asked = old.asked;
-      parts_told = old.parts_told;
-      lacks = g.5;
-      yeses_sent = λ k. one_yes (λ k. was_sent s.sent (message.Vote t k c true) ≡ true) yeses m k g.4 (old.yeses_sent k);
-    }))
+    (yes_fits (rest_of s) c (s.coord c).log.stable t m parts yeses old g.4 g.5))
 
 -- an acknowledgement is recorded
+pub ack_fits : (r : Rest) (c : ℕ) (stable waiting : List Record) (t m : ℕ) (members acks : List ℕ) → CommittedEntry r c stable waiting t members acks → was_sent r.sent (message.Ack t m c) ≡ true →
+    first_lacking members (m ∷ acks) ≢ None → CommittedEntry r c stable waiting t members (m ∷ acks)
+ack_fits r c stable waiting t m members acks old v l =
+    record {
+      recorded = old.recorded;
+      logged = old.logged;
+      lacks = l;
+      acks_sent = λ k. one_yes (λ k. was_sent r.sent (message.Ack t k c) ≡ true) acks m k v (old.acks_sent k);
+    }
+
 pub keeps_record_ack : (s : Federation) → Facts s → (t c m : ℕ) → Guard s (RecordAck t c m) → Facts (effect s (RecordAck t c m))
 keeps_record_ack s f t c m g =
     let members = g.0 in
@@ -94,28 +109,27 @@ keeps_record_ack s f t c m g =
     let old = (f.coords c).committed t members acks g.2 in
     subst (λ o. Facts (record_ack s t c m o)) (sym g.2)
     (replaced s f t c (entry.Committed members acks) (entry.Committed members (m ∷ acks)) g.2 (λ k h. h)
-    (record {
-      recorded = old.recorded;
-      logged = old.logged;
-      lacks = g.5;
-      acks_sent = λ k. one_yes (λ k. was_sent s.sent (message.Ack t k c) ≡ true) acks m k g.4 (old.acks_sent k);
-    }))
+    (ack_fits (rest_of s) c (s.coord c).log.stable (s.coord c).log.waiting t m members acks old g.4 g.5))
 
 no_members : (parts : List Part) → members_of parts ≡ [] → parts ≡ []
 no_members [] e = refl
 no_members (p ∷ ps) e = absurd (let f : p.member ∷ members_of ps ≡ [] = e in cc)
 
 -- votes are collected
+pub collect_fits : (r : Rest) (c : ℕ) (stable : List Record) (t : ℕ) → OpenEntry r c stable t → asked r t ≡ true → parts_of (told r t) ≢ [] → CollectingEntry r c stable t (parts_of (told r t)) []
+collect_fits r c stable t still a n =
+    record {
+      still = still;
+      asked = a;
+      parts_told = refl;
+      lacks = lacks_at_first (members_of (parts_of (told r t))) (λ e. n (no_members (parts_of (told r t)) e));
+      yeses_sent = λ k h. absurd (let z : false ≡ true = h in cc);
+    }
+
 pub keeps_collect : (s : Federation) → Facts s → (t c : ℕ) → Guard s (Collect t c) → Facts (effect s (Collect t c))
 keeps_collect s f t c g =
     replaced s f t c entry.Idle (entry.Collecting (parts_of (told_of s t)) []) g.0 (λ k h. absurd (let z : false ≡ true = h in cc))
-    (record {
-      still = (f.coords c).idle t g.0;
-      asked = g.2;
-      parts_told = refl;
-      lacks = lacks_at_first (members_of (parts_of (told_of s t))) (λ e. g.3 (no_members (parts_of (told_of s t)) e));
-      yeses_sent = λ k h. absurd (let z : false ≡ true = h in cc);
-    })
+    (collect_fits (rest_of s) c (s.coord c).log.stable t ((f.coords c).idle t g.0) g.2 g.3)
 
 -- a transaction that is not decided leaves the table
 still_open : (s : Federation) → Facts s → (t c : ℕ) → Guard s (Leave t c) → OpenEntry (rest_of s) c (s.coord c).log.stable t
@@ -156,26 +170,32 @@ keeps_leave s f t c g =
         (sym (ap (λ b. b || settled_at (rest_of s) c t) (ap is_some (without_here (s.coord c).table t))) ∙ ap (λ n. holds (without (s.coord c).table t) n || settled_at (rest_of s) c n) same ∙ a))
 
 -- the last acknowledgement came, and the end record waits
+pub ended_has : (r : Rest) (c : ℕ) (x : CoordState) (t : ℕ) → CoordHas r c x → CoordHas r c (with_coord_log (with_table x (without x.table t)) (with_waiting x.log (log.End t)))
+ended_has r c x t y =
+    record {
+      idle = λ u h. y.idle u (gone u entry.Idle h).1;
+      collecting = λ u parts yeses h. y.collecting u parts yeses (gone u _ h).1;
+      committed = λ u members acks h. let old = y.committed u members acks (gone u _ h).1 in
+          record {
+            recorded = old.recorded;
+            logged = without_there (recovered_commits (x.log.waiting ++ x.log.stable)).unended t u (gone u _ h).0 ∙ old.logged;
+            lacks = old.lacks;
+            acks_sent = old.acks_sent;
+          };
+      known = y.known;
+      unended_over = y.unended_over;
+      unended_known = y.unended_known;
+      ends = y.ends;
+    }
+  where
+    gone : (u : ℕ) (e : Entry) → look (without x.table t) u ≡ Some e → (t ≢ u) × (look x.table u ≡ Some e)
+    gone u e h = without_cases x.table t u e h
+
 pub keeps_end : (s : Federation) → Facts s → (t c : ℕ) → Guard s (End t c) → Facts (effect s (End t c))
 keeps_end s f t c g =
     coord_change s c (with_coord_log (with_table (s.coord c) (without (s.coord c).table t)) (with_waiting (s.coord c).log (log.End t)))
     (record {
-      has =
-          record {
-            idle = λ u h. y.idle u (gone u entry.Idle h).1;
-            collecting = λ u parts yeses h. y.collecting u parts yeses (gone u _ h).1;
-            committed = λ u members acks h. let old = y.committed u members acks (gone u _ h).1 in
-                record {
-                  recorded = old.recorded;
-                  logged = without_there (recovered_commits ((s.coord c).log.waiting ++ (s.coord c).log.stable)).unended t u (gone u _ h).0 ∙ old.logged;
-                  lacks = old.lacks;
-                  acks_sent = old.acks_sent;
-                };
-            known = y.known;
-            unended_over = y.unended_over;
-            unended_known = y.unended_known;
-            ends = y.ends;
-          };
+      has = ended_has (rest_of s) c (s.coord c) t y;
       alive_back = λ u h. let p = holds_found (without (s.coord c).table t) u h in or_left _ _ (found_holds (s.coord c).table u p.0 (without_cases (s.coord c).table t u p.0 p.1).1);
       part = λ u m b a h. by u m h (t == u) refl;
       unended_back = λ u ms h. h;
@@ -183,9 +203,6 @@ keeps_end s f t c g =
   where
     y : CoordHas (rest_of s) c (s.coord c)
     y = f.coords c
-
-    gone : (u : ℕ) (x : Entry) → look (without (s.coord c).table t) u ≡ Some x → (t ≢ u) × (look (s.coord c).table u ≡ Some x)
-    gone u x h = without_cases (s.coord c).table t u x h
 
     all_acked : (m : ℕ) → takes_part_in (entry_at s t c) m ≡ true → (side : Side) → holds (view side (s.member m)).committed t ≡ true
     all_acked m h side =
@@ -211,20 +228,44 @@ known_settled r c t h = by (or_cases (by_coord (look r.sessions t) c && is_decid
     by (inl p) = or_left (is_decided r.decided t) (has_commit_of (r.opened_coord c) t) (and_parts (by_coord (look r.sessions t) c) (is_decided r.decided t) p).1
     by (inr p) = or_right (is_decided r.decided t) (has_commit_of (r.opened_coord c) t) p
 
+pub crashed_has : (r : Rest) (c : ℕ) (x : CoordState) → CoordHas r c x → CoordHas r c (coord_down x.log)
+crashed_has r c x y =
+    record {
+      idle = λ t h. let p = from_cases unended t entry.Idle h in absurd (let z : entry.Committed p.0 [] ≡ entry.Idle = p.2 in cc);
+      collecting = λ t parts yeses h. let p = from_cases unended t _ h in absurd (let z : entry.Committed p.0 [] ≡ entry.Collecting parts yeses = p.2 in cc);
+      committed = λ t members acks h. let p = from_cases unended t _ h in again t members acks p.0 p.1 p.2;
+      known = y.known;
+      unended_over = y.unended_over;
+      unended_known = y.unended_known;
+      ends = refl;
+    }
+  where
+    unended : Table (List ℕ)
+    unended = (recovered_commits x.log.stable).unended
+
+    members_in : Entry → List ℕ
+    members_in entry.Idle = []
+    members_in (entry.Collecting parts yeses) = []
+    members_in (entry.Committed ms acks) = ms
+
+    acks_in : Entry → List ℕ
+    acks_in entry.Idle = []
+    acks_in (entry.Collecting parts yeses) = []
+    acks_in (entry.Committed ms acks) = acks
+
+    again : (t : ℕ) (members acks ms : List ℕ) → unended_in x.log.stable t ≡ Some ms → entry.Committed ms [] ≡ entry.Committed members acks → CommittedEntry r c x.log.stable [] t members acks
+    again t members acks ms u e =
+        let same : ms ≡ members = ap members_in e in
+        let none : [] ≡ acks = ap acks_in e in
+        subst (λ k. CommittedEntry r c x.log.stable [] t members k) none
+        (subst (λ k. CommittedEntry r c x.log.stable [] t k []) same
+        (record { recorded = u; logged = u; lacks = lacks_at_first ms (unended_some x.log.stable t ms u); acks_sent = λ m h. absurd (let z : false ≡ true = h in cc) }))
+
 pub keeps_coord_crash : (s : Federation) → Facts s → (c : ℕ) → Guard s (CrashCoord c) → Facts (effect s (CrashCoord c))
 keeps_coord_crash s f c g =
     coord_change s c (coord_down (s.coord c).log)
     (record {
-      has =
-          record {
-            idle = λ t h. let p = from_cases unended t entry.Idle h in absurd (other p.0 entry.Idle p.2);
-            collecting = λ t parts yeses h. let p = from_cases unended t _ h in absurd (collects p.0 parts yeses p.2);
-            committed = λ t members acks h. let p = from_cases unended t _ h in again t members acks p.0 p.1 p.2;
-            known = y.known;
-            unended_over = y.unended_over;
-            unended_known = y.unended_known;
-            ends = refl;
-          };
+      has = crashed_has (rest_of s) c (s.coord c) y;
       alive_back = λ t h. let p = holds_found (table_from (entries unended)) t h in let q = from_cases unended t p.0 p.1 in
           or_right _ _ (known_settled (rest_of s) c t (y.known t (unended_seen stable t q.0 q.1)));
       part = λ t m b a h. inl (by t m a h (look (s.coord c).table t) refl);
@@ -239,30 +280,6 @@ keeps_coord_crash s f c g =
 
     unended : Table (List ℕ)
     unended = (recovered_commits (s.coord c).log.stable).unended
-
-    other : (ms : List ℕ) (x : Entry) → entry.Committed ms [] ≡ entry.Idle → ⊥
-    other ms x e = cc
-
-    collects : (ms : List ℕ) (parts : List Part) (yeses : List ℕ) → entry.Committed ms [] ≡ entry.Collecting parts yeses → ⊥
-    collects ms parts yeses e = cc
-
-    members_in : Entry → List ℕ
-    members_in entry.Idle = []
-    members_in (entry.Collecting parts yeses) = []
-    members_in (entry.Committed ms acks) = ms
-
-    acks_in : Entry → List ℕ
-    acks_in entry.Idle = []
-    acks_in (entry.Collecting parts yeses) = []
-    acks_in (entry.Committed ms acks) = acks
-
-    again : (t : ℕ) (members acks ms : List ℕ) → unended_in stable t ≡ Some ms → entry.Committed ms [] ≡ entry.Committed members acks → CommittedEntry (rest_of s) c stable [] t members acks
-    again t members acks ms u e =
-        let same : ms ≡ members = ap members_in e in
-        let none : [] ≡ acks = ap acks_in e in
-        subst (λ k. CommittedEntry (rest_of s) c stable [] t members k) none
-        (subst (λ k. CommittedEntry (rest_of s) c stable [] t k []) same
-        (record { recorded = u; logged = u; lacks = lacks_at_first ms (unended_some stable t ms u); acks_sent = λ m h. absurd (let z : false ≡ true = h in cc) }))
 
     lost : (t : ℕ) → OpenEntry (rest_of s) c stable t → (holds (table_from (entries unended)) t || settled_at (rest_of s) c t) ≡ true → ⊥
     lost t e a = now (or_cases _ _ a)
@@ -303,76 +320,71 @@ pub keeps_coord_close : (s : Federation) → Facts s → (c : ℕ) (closed : Boo
 keeps_coord_close s f c closed g = alike s f c (with_coord_log (s.coord c) (with_spare (s.coord c).log closed)) (f.coords c) refl refl
 
 -- a spare is filled with the commits of the table
+module _ (r : Rest) (c : ℕ) (x : CoordState) (y : CoordHas r c x) where
+  abbrev table : Table Entry
+  table = x.table
+
+  abbrev stable : List Record
+  stable = x.log.stable
+
+  abbrev base : List Record
+  base = log.Header (node.Coord c) (next_generation (generation_of x.log.stable)) ∷ []
+
+  abbrev pub spare : List Record
+  spare = coord_spare c x (next_generation (generation_of x.log.stable))
+
+  each : EachEntry (λ t e. look table t ≡ Some e) (entries table)
+  each = each_entry (λ t e. look table t ≡ Some e) (entries table) (entries_sorted table) (λ t e h. get-entries table t ∙ h)
+
+  pub filled_back : (t : ℕ) (members : List ℕ) → unended_in (coord_spare c x (next_generation (generation_of x.log.stable))) t ≡ Some members → unended_in x.log.stable t ≡ Some members
+  filled_back t members h = by (spare_cases (λ t e. look table t ≡ Some e) (entries table) base t members each h)
+    where
+      by : (unended_in base t ≡ Some members) ⊎ ((acks : List ℕ) × (look table t ≡ Some (entry.Committed members acks))) → unended_in stable t ≡ Some members
+      by (inl k) = is_nothing (sym (look_none t) ∙ k)
+      by (inr p) = (y.committed t members p.0 p.1).recorded
+
+  tabled : (t : ℕ) → has_commit_of spare t ≡ true → (ms acks : List ℕ) × (look table t ≡ Some (entry.Committed ms acks))
+  tabled t h = by (seen_cases (λ t e. look table t ≡ Some e) (entries table) base t each h)
+    where
+      by : (has_commit_of base t ≡ true) ⊎ ((ms acks : List ℕ) × (look table t ≡ Some (entry.Committed ms acks))) → (ms acks : List ℕ) × (look table t ≡ Some (entry.Committed ms acks))
+      by (inl k) = absurd (let z : false ≡ true = sym (ap is_some (look_none t)) ∙ k in cc)
+      by (inr p) = p
+
+  open_still : (t : ℕ) → OpenEntry r c stable t → ((ms acks : List ℕ) → look table t ≡ Some (entry.Committed ms acks) → ⊥) → OpenEntry r c spare t
+  open_still t e none =
+      record {
+        begun_there = e.begun_there;
+        undecided = e.undecided;
+        unrecorded = false_from_ne_true (has_commit_of spare t) (λ h. let p = tabled t h in none p.0 p.1 p.2);
+      }
+
+  pub filled_has : CoordHas r c (with_coord_log x (with_filled_spare x.log (coord_spare c x (next_generation (generation_of x.log.stable)))))
+  filled_has =
+      record {
+        idle = λ t h. open_still t (y.idle t h) (λ ms acks k. let z : Some entry.Idle ≡ Some (entry.Committed ms acks) = sym h ∙ k in cc);
+        collecting = λ t parts yeses h. let old = y.collecting t parts yeses h in
+            record {
+              still = open_still t old.still (λ ms acks k. let z : Some (entry.Collecting parts yeses) ≡ Some (entry.Committed ms acks) = sym h ∙ k in cc);
+              asked = old.asked;
+              parts_told = old.parts_told;
+              lacks = old.lacks;
+              yeses_sent = old.yeses_sent;
+            };
+        committed = λ t members acks h. let old = y.committed t members acks h in
+            let is : unended_in spare t ≡ Some members = spare_found (entries table) base t members acks (entries_sorted table) (unended_some stable t members old.recorded) (sym (get-entries table t) ∙ h) in
+            record { recorded = is; logged = is; lacks = old.lacks; acks_sent = old.acks_sent };
+        known = λ t h. let p = tabled t h in y.known t (unended_seen stable t p.0 (y.committed t p.0 p.1 p.2).recorded);
+        unended_over = λ t members h. y.unended_over t members (filled_back t members h);
+        unended_known = λ t members h. y.unended_known t members (filled_back t members h);
+        ends = refl;
+      }
+
 pub keeps_coord_fill : (s : Federation) → Facts s → (c : ℕ) → Guard s (FillCoordSpare c) → Facts (effect s (FillCoordSpare c))
 keeps_coord_fill s f c g =
-    coord_change s c (with_coord_log (s.coord c) (with_filled_spare (s.coord c).log spare))
+    coord_change s c (with_coord_log (s.coord c) (with_filled_spare (s.coord c).log (coord_spare c (s.coord c) (next_generation (generation_of (s.coord c).log.stable)))))
     (record {
-      has =
-          record {
-            idle = λ t h. open_still t (y.idle t h) (λ ms acks k. let z : Some entry.Idle ≡ Some (entry.Committed ms acks) = sym h ∙ k in cc);
-            collecting = λ t parts yeses h. let old = y.collecting t parts yeses h in
-                record {
-                  still = open_still t old.still (λ ms acks k. let z : Some (entry.Collecting parts yeses) ≡ Some (entry.Committed ms acks) = sym h ∙ k in cc);
-                  asked = old.asked;
-                  parts_told = old.parts_told;
-                  lacks = old.lacks;
-                  yeses_sent = old.yeses_sent;
-                };
-            committed = λ t members acks h. let old = y.committed t members acks h in
-                let is : unended_in spare t ≡ Some members = spare_found (entries table) base t members acks (entries_sorted table) (unended_some stable t members old.recorded) (sym (get-entries table t) ∙ h) in
-                record { recorded = is; logged = is; lacks = old.lacks; acks_sent = old.acks_sent };
-            known = λ t h. known t h;
-            unended_over = λ t members h. y.unended_over t members (back t members h);
-            unended_known = λ t members h. y.unended_known t members (back t members h);
-            ends = refl;
-          };
+      has = filled_has (rest_of s) c (s.coord c) (f.coords c);
       alive_back = λ t h. or_left _ _ h;
       part = λ t m b a h. inl h;
-      unended_back = back;
+      unended_back = filled_back (rest_of s) c (s.coord c) (f.coords c);
     }) f
-  where
-    y : CoordHas (rest_of s) c (s.coord c)
-    y = f.coords c
-
-    table : Table Entry
-    table = (s.coord c).table
-
-    stable : List Record
-    stable = (s.coord c).log.stable
-
-    generation : ℕ
-    generation = next_generation (generation_of (s.coord c).log.stable)
-
-    base : List Record
-    base = log.Header (node.Coord c) generation ∷ []
-
-    spare : List Record
-    spare = coord_spare c (s.coord c) generation
-
-    each : EachEntry (λ t e. look table t ≡ Some e) (entries table)
-    each = each_entry (λ t e. look table t ≡ Some e) (entries table) (entries_sorted table) (λ t e h. get-entries table t ∙ h)
-
-    back : (t : ℕ) (members : List ℕ) → unended_in spare t ≡ Some members → unended_in stable t ≡ Some members
-    back t members h = by (spare_cases (λ t e. look table t ≡ Some e) (entries table) base t members each h)
-      where
-        by : (unended_in base t ≡ Some members) ⊎ ((acks : List ℕ) × (look table t ≡ Some (entry.Committed members acks))) → unended_in stable t ≡ Some members
-        by (inl k) = is_nothing (sym (look_none t) ∙ k)
-        by (inr p) = (y.committed t members p.0 p.1).recorded
-
-    tabled : (t : ℕ) → has_commit_of spare t ≡ true → (ms acks : List ℕ) × (look table t ≡ Some (entry.Committed ms acks))
-    tabled t h = by (seen_cases (λ t e. look table t ≡ Some e) (entries table) base t each h)
-      where
-        by : (has_commit_of base t ≡ true) ⊎ ((ms acks : List ℕ) × (look table t ≡ Some (entry.Committed ms acks))) → (ms acks : List ℕ) × (look table t ≡ Some (entry.Committed ms acks))
-        by (inl k) = absurd (let z : false ≡ true = sym (ap is_some (look_none t)) ∙ k in cc)
-        by (inr p) = p
-
-    known : (t : ℕ) → has_commit_of spare t ≡ true → ((by_coord (look s.sessions t) c && is_decided s.decided t) || has_commit_of (s.opened_coord c) t) ≡ true
-    known t h = let p = tabled t h in y.known t (unended_seen stable t p.0 (y.committed t p.0 p.1 p.2).recorded)
-
-    open_still : (t : ℕ) → OpenEntry (rest_of s) c stable t → ((ms acks : List ℕ) → look table t ≡ Some (entry.Committed ms acks) → ⊥) → OpenEntry (rest_of s) c spare t
-    open_still t e none =
-        record {
-          begun_there = e.begun_there;
-          undecided = e.undecided;
-          unrecorded = false_from_ne_true (has_commit_of spare t) (λ h. let p = tabled t h in none p.0 p.1 p.2);
-        }

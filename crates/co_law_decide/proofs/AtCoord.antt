@@ -51,17 +51,6 @@ ends_seen (log.Commit a b ∷ rs) stable t e = absurd (let z : false ≡ true = 
 ends_seen (log.Abort a ∷ rs) stable t e = absurd (let z : false ≡ true = e in cc)
 ends_seen (log.Checkpoint a b c ∷ rs) stable t e = absurd (let z : false ≡ true = e in cc)
 
--- What is known of a transaction that is decided with these participants.
-record Chosen (s : Federation) (t c : ℕ) (members : List ℕ) : Type 0 where
-  there : OpenEntry (rest_of s) c (s.coord c).log.stable t
-  tabled : holds (s.coord c).table t ≡ true
-  was_asked : (told (rest_of s) t ≡ []) ⊎ (asked (rest_of s) t ≡ true)
-  part : (m : ℕ) → takes_part_in (look (s.coord c).table t) m ≡ true → has_number members m ≡ true
-  whole : (m : ℕ) → 1 ≤ count_at (told (rest_of s) t) m → has_number members m ≡ true
-  over_them : members ≢ [] → over (rest_of s) t ≡ true
-  taking : (m : ℕ) → has_number members m ≡ true → 1 ≤ count_at (told (rest_of s) t) m
-  standing : (m : ℕ) (side : Side) → has_number members m ≡ true → stands (view side (s.member m)) t ≡ true
-
 -- its records after it
 abbrev records_after : Federation → ℕ → ℕ → List ℕ → List Record
 records_after s t c members = log.Commit t members ∷ ((s.coord c).log.waiting ++ (s.coord c).log.stable)
@@ -70,45 +59,21 @@ records_after s t c members = log.Commit t members ∷ ((s.coord c).log.waiting 
 abbrev after_it : Federation → ℕ → ℕ → List ℕ → ℕ → CoordState
 after_it s t c members = with_at s.coord c (decide_members (s.coord c) t members)
 
-module _ (s : Federation) (f : Facts s) (t c : ℕ) (members : List ℕ) (g : Chosen s t c members) where
-  table_other : (u : ℕ) → t ≢ u → look (decide_members (s.coord c) t members).table u ≡ look (s.coord c).table u
+-- The coordinators after it, whatever the members are.
+module _ (s : Federation) (coords : (d : ℕ) → CoordHas (rest_of s) d (s.coord d)) (t c : ℕ) (members : List ℕ) (there : OpenEntry (rest_of s) c (s.coord c).log.stable t) (over_them : members ≢ [] → over (rest_of s) t ≡ true) where
+  pub table_other : (u : ℕ) → t ≢ u → look (decide_members (s.coord c) t members).table u ≡ look (s.coord c).table u
   table_other u n = by members
     where
       by : (ms : List ℕ) → look (decide_members (s.coord c) t ms).table u ≡ look (s.coord c).table u
       by [] = without_there (s.coord c).table t u n
       by (m ∷ ms) = put_there (s.coord c).table t (entry.Committed (m ∷ ms) []) u n
 
-  table_here : (x : Entry) → look (decide_members (s.coord c) t members).table t ≡ Some x → (entry.Committed members [] ≡ x) × (members ≢ [])
+  pub table_here : (x : Entry) → look (decide_members (s.coord c) t members).table t ≡ Some x → (entry.Committed members [] ≡ x) × (members ≢ [])
   table_here x = by members
     where
       by : (ms : List ℕ) → look (decide_members (s.coord c) t ms).table t ≡ Some x → (entry.Committed ms [] ≡ x) × (ms ≢ [])
       by [] h = is_nothing (sym (without_here (s.coord c).table t) ∙ h)
       by (m ∷ ms) h = (in_some (sym (put_here (s.coord c).table t (entry.Committed (m ∷ ms) [])) ∙ h), λ e. absurd (let z : m ∷ ms ≡ [] = e in cc))
-
-  takes_here : (m : ℕ) → has_number members m ≡ true → takes_part_in (look (decide_members (s.coord c) t members).table t) m ≡ true
-  takes_here m = by members
-    where
-      by : (ms : List ℕ) → has_number ms m ≡ true → takes_part_in (look (decide_members (s.coord c) t ms).table t) m ≡ true
-      by [] h = absurd (let z : false ≡ true = h in cc)
-      by (k ∷ ms) h = ap (λ o. takes_part_in o m) (put_here (s.coord c).table t (entry.Committed (k ∷ ms) [])) ∙ h
-
-  unopened : (d : ℕ) → has_commit_of (s.opened_coord d) t ≡ false
-  unopened d = false_from_ne_true (has_commit_of (s.opened_coord d) t) (λ h. let z : true ≡ false = sym (f.numbers.commit_used d t h) ∙ f.numbers.new t (by_coord_begun (look s.sessions t) c g.there.begun_there) in cc)
-
-  decides : Decides (rest_of s) (with_at s.coord c (decide_members (s.coord c) t members)) t
-  decides =
-      record {
-        undecided = g.there.undecided;
-        unopened = unopened;
-        was_begun = by_coord_begun (look s.sessions t) c g.there.begun_there;
-        was_asked = g.was_asked;
-        local_asked = λ m session h b. absurd (let z : true ≡ false = sym g.there.begun_there ∙ ap (λ o. by_coord o c) h ∙ ap (λ k. same_node k (node.Coord c)) b in cc);
-        was_alive = λ d b. subst (λ e. alive (rest_of s) e t ≡ true) (one_belongs (rest_of s) f.numbers t c d (Begun g.there.begun_there) b) (or_left (holds (s.coord c).table t) _ g.tabled);
-        part = λ d m b. subst (λ e. takes_part_in (entry_of (rest_of s) e t) m ≡ true → takes_part_in (look (with_at s.coord c (decide_members (s.coord c) t members) e).table t) m ≡ true)
-            (one_belongs (rest_of s) f.numbers t c d (Begun g.there.begun_there) b)
-            (λ h. ap (λ z. takes_part_in (look z.table t) m) (at_here s.coord c (decide_members (s.coord c) t members)) ∙ takes_here m (g.part m h));
-        others = λ u d n. at_each (λ d z. look z.table u ≡ entry_of (rest_of s) d u) s.coord c (decide_members (s.coord c) t members) (table_other u n) (λ d. refl) d;
-      }
 
   -- the facts of an entry of another transaction
   other_open : (d : ℕ) (stable next : List Record) (u : ℕ) → t ≢ u → has_commit_of next u ≡ has_commit_of stable u → OpenEntry (rest_of s) d stable u → OpenEntry (decided_rest (rest_of s) (after_it s t c members) t) d next u
@@ -120,7 +85,7 @@ module _ (s : Federation) (f : Facts s) (t c : ℕ) (members : List ℕ) (g : Ch
       }
 
   seen_same : (u : ℕ) → t ≢ u → has_commit_of (records_after s t c members) u ≡ has_commit_of (s.coord c).log.stable u
-  seen_same u n = ap is_some (put_there (recovered_commits ((s.coord c).log.waiting ++ (s.coord c).log.stable)).seen t tt u n) ∙ ends_seen (s.coord c).log.waiting (s.coord c).log.stable u (f.coords c).ends
+  seen_same u n = ap is_some (put_there (recovered_commits ((s.coord c).log.waiting ++ (s.coord c).log.stable)).seen t tt u n) ∙ ends_seen (s.coord c).log.waiting (s.coord c).log.stable u (coords c).ends
 
   known_more : (d u : ℕ) → ((by_coord (look s.sessions u) d && is_decided s.decided u) || has_commit_of (s.opened_coord d) u) ≡ true →
       ((by_coord (look s.sessions u) d && ((t == u) || is_decided s.decided u)) || has_commit_of (s.opened_coord d) u) ≡ true
@@ -142,7 +107,7 @@ module _ (s : Federation) (f : Facts s) (t c : ℕ) (members : List ℕ) (g : Ch
       inl (and_from (by_coord (look s.sessions u) d) ((t == u) || is_decided s.decided u) q.0 (or_right (t == u) (is_decided s.decided u) q.1))
 
   -- the coordinator that decides
-  coord_here : CoordFacts (decided_rest (rest_of s) (after_it s t c members) t) c (decide_members (s.coord c) t members).table (records_after s t c members) []
+  pub coord_here : CoordFacts (decided_rest (rest_of s) (after_it s t c members) t) c (decide_members (s.coord c) t members).table (records_after s t c members) []
   coord_here =
       record {
         idle = λ u h. idle u h (t == u) refl;
@@ -155,7 +120,7 @@ module _ (s : Federation) (f : Facts s) (t c : ℕ) (members : List ℕ) (g : Ch
       }
     where
       old : CoordHas (rest_of s) c (s.coord c)
-      old = f.coords c
+      old = coords c
 
       at_t : (u : ℕ) (x : Entry) → look (decide_members (s.coord c) t members).table u ≡ Some x → (t == u) ≡ true → (entry.Committed members [] ≡ x) × (members ≢ [])
       at_t u x h e = table_here x (ap (look (decide_members (s.coord c) t members).table) (eqb-true t u e) ∙ h)
@@ -209,21 +174,21 @@ module _ (s : Federation) (f : Facts s) (t c : ℕ) (members : List ℕ) (g : Ch
       known u (inl e) =
           or_left (by_coord (look s.sessions u) c && ((t == u) || is_decided s.decided u)) (has_commit_of (s.opened_coord c) u)
           (and_from (by_coord (look s.sessions u) c) ((t == u) || is_decided s.decided u)
-          (ap (λ k. by_coord (look s.sessions k) c) (sym e) ∙ g.there.begun_there) (or_left (t == u) (is_decided s.decided u) (eq-eqb t u e)))
+          (ap (λ k. by_coord (look s.sessions k) c) (sym e) ∙ there.begun_there) (or_left (t == u) (is_decided s.decided u) (eq-eqb t u e)))
       known u (inr h) = known_more c u (old.known u (sym (ends_seen (s.coord c).log.waiting (s.coord c).log.stable u old.ends) ∙ h))
 
       unended_known : (u : ℕ) (ms : List ℕ) → ((t ≡ u) × (members ≡ ms) × (members ≢ [])) ⊎ (unended_in ((s.coord c).log.waiting ++ (s.coord c).log.stable) u ≡ Some ms) →
           ((by_coord (look s.sessions u) c && ((t == u) || is_decided s.decided u)) ≡ true) ⊎ (unended_in (s.opened_coord c) u ≡ Some ms)
       unended_known u ms (inl p) =
-          inl (and_from (by_coord (look s.sessions u) c) ((t == u) || is_decided s.decided u) (ap (λ k. by_coord (look s.sessions k) c) (sym p.0) ∙ g.there.begun_there) (or_left (t == u) (is_decided s.decided u) (eq-eqb t u p.0)))
+          inl (and_from (by_coord (look s.sessions u) c) ((t == u) || is_decided s.decided u) (ap (λ k. by_coord (look s.sessions k) c) (sym p.0) ∙ there.begun_there) (or_left (t == u) (is_decided s.decided u) (eq-eqb t u p.0)))
       unended_known u ms (inr h) = more_known c u ms (old.unended_known u ms (ends_back (s.coord c).log.waiting (s.coord c).log.stable u ms old.ends h))
 
       overs : (u : ℕ) (ms : List ℕ) → ((t ≡ u) × (members ≡ ms) × (members ≢ [])) ⊎ (unended_in ((s.coord c).log.waiting ++ (s.coord c).log.stable) u ≡ Some ms) → over (rest_of s) u ≡ true
-      overs u ms (inl p) = ap (over (rest_of s)) (sym p.0) ∙ g.over_them p.2
+      overs u ms (inl p) = ap (over (rest_of s)) (sym p.0) ∙ over_them p.2
       overs u ms (inr h) = old.unended_over u ms (ends_back (s.coord c).log.waiting (s.coord c).log.stable u ms old.ends h)
 
   -- another coordinator
-  coord_there : (d : ℕ) → c ≢ d → CoordFacts (decided_rest (rest_of s) (after_it s t c members) t) d (s.coord d).table (s.coord d).log.stable (s.coord d).log.waiting
+  pub coord_there : (d : ℕ) → c ≢ d → CoordFacts (decided_rest (rest_of s) (after_it s t c members) t) d (s.coord d).table (s.coord d).log.stable (s.coord d).log.waiting
   coord_there d n =
       record {
         idle = λ u h. still u (old.idle u h);
@@ -237,12 +202,59 @@ module _ (s : Federation) (f : Facts s) (t c : ℕ) (members : List ℕ) (g : Ch
       }
     where
       old : CoordHas (rest_of s) d (s.coord d)
-      old = f.coords d
+      old = coords d
 
       still : (u : ℕ) → OpenEntry (rest_of s) d (s.coord d).log.stable u → OpenEntry (decided_rest (rest_of s) (after_it s t c members) t) d (s.coord d).log.stable u
       still u e =
           other_open d (s.coord d).log.stable (s.coord d).log.stable u
-          (λ q. n (same_coord (look s.sessions t) c d g.there.begun_there (ap (λ k. by_coord (look s.sessions k) d) q ∙ e.begun_there))) refl e
+          (λ q. n (same_coord (look s.sessions t) c d there.begun_there (ap (λ k. by_coord (look s.sessions k) d) q ∙ e.begun_there))) refl e
+
+  pub coord_each : (d : ℕ) → CoordHas (decided_rest (rest_of s) (after_it s t c members) t) d (with_at s.coord c (decide_members (s.coord c) t members) d)
+  coord_each d = each (c == d) refl
+    where
+      each : (b : Bool) → (c == d) ≡ b → CoordHas (decided_rest (rest_of s) (after_it s t c members) t) d (if c == d then decide_members (s.coord c) t members else s.coord d)
+      each true e =
+          subst (λ b. CoordHas (decided_rest (rest_of s) (after_it s t c members) t) d (if b then decide_members (s.coord c) t members else s.coord d)) (sym e)
+          (subst (λ k. CoordHas (decided_rest (rest_of s) (after_it s t c members) t) k (decide_members (s.coord c) t members)) (eqb-true c d e) coord_here)
+      each false e =
+          subst (λ b. CoordHas (decided_rest (rest_of s) (after_it s t c members) t) d (if b then decide_members (s.coord c) t members else s.coord d)) (sym e) (coord_there d (eqb-false c d e))
+
+-- What is known of a transaction that is decided with these participants.
+record Chosen (s : Federation) (t c : ℕ) (members : List ℕ) : Type 0 where
+  there : OpenEntry (rest_of s) c (s.coord c).log.stable t
+  tabled : holds (s.coord c).table t ≡ true
+  was_asked : (told (rest_of s) t ≡ []) ⊎ (asked (rest_of s) t ≡ true)
+  part : (m : ℕ) → takes_part_in (look (s.coord c).table t) m ≡ true → has_number members m ≡ true
+  whole : (m : ℕ) → 1 ≤ count_at (told (rest_of s) t) m → has_number members m ≡ true
+  over_them : members ≢ [] → over (rest_of s) t ≡ true
+  taking : (m : ℕ) → has_number members m ≡ true → 1 ≤ count_at (told (rest_of s) t) m
+  standing : (m : ℕ) (side : Side) → has_number members m ≡ true → stands (view side (s.member m)) t ≡ true
+
+module _ (s : Federation) (f : Facts s) (t c : ℕ) (members : List ℕ) (g : Chosen s t c members) where
+  takes_here : (m : ℕ) → has_number members m ≡ true → takes_part_in (look (decide_members (s.coord c) t members).table t) m ≡ true
+  takes_here m = by members
+    where
+      by : (ms : List ℕ) → has_number ms m ≡ true → takes_part_in (look (decide_members (s.coord c) t ms).table t) m ≡ true
+      by [] h = absurd (let z : false ≡ true = h in cc)
+      by (k ∷ ms) h = ap (λ o. takes_part_in o m) (put_here (s.coord c).table t (entry.Committed (k ∷ ms) [])) ∙ h
+
+  unopened : (d : ℕ) → has_commit_of (s.opened_coord d) t ≡ false
+  unopened d = false_from_ne_true (has_commit_of (s.opened_coord d) t) (λ h. let z : true ≡ false = sym (f.numbers.commit_used d t h) ∙ f.numbers.new t (by_coord_begun (look s.sessions t) c g.there.begun_there) in cc)
+
+  decides : Decides (rest_of s) (with_at s.coord c (decide_members (s.coord c) t members)) t
+  decides =
+      record {
+        undecided = g.there.undecided;
+        unopened = unopened;
+        was_begun = by_coord_begun (look s.sessions t) c g.there.begun_there;
+        was_asked = g.was_asked;
+        local_asked = λ m session h b. absurd (let z : true ≡ false = sym g.there.begun_there ∙ ap (λ o. by_coord o c) h ∙ ap (λ k. same_node k (node.Coord c)) b in cc);
+        was_alive = λ d b. subst (λ e. alive (rest_of s) e t ≡ true) (one_belongs (rest_of s) f.numbers t c d (Begun g.there.begun_there) b) (or_left (holds (s.coord c).table t) _ g.tabled);
+        part = λ d m b. subst (λ e. takes_part_in (entry_of (rest_of s) e t) m ≡ true → takes_part_in (look (with_at s.coord c (decide_members (s.coord c) t members) e).table t) m ≡ true)
+            (one_belongs (rest_of s) f.numbers t c d (Begun g.there.begun_there) b)
+            (λ h. ap (λ z. takes_part_in (look z.table t) m) (at_here s.coord c (decide_members (s.coord c) t members)) ∙ takes_here m (g.part m h));
+        others = λ u d n. at_each (λ d z. look z.table u ≡ entry_of (rest_of s) d u) s.coord c (decide_members (s.coord c) t members) (table_other s f.coords t c members g.there g.over_them u n) (λ d. refl) d;
+      }
 
   records_decide : RecordFacts (decided_rest (rest_of s) (after_it s t c members) t) s.member
   records_decide =
@@ -268,18 +280,11 @@ module _ (s : Federation) (f : Facts s) (t c : ℕ) (members : List ℕ) (g : Ch
       record {
         numbers = numbers_decide (rest_of s) (after_it s t c members) t decides f.numbers;
         members = λ m. member_decide (rest_of s) (after_it s t c members) t decides m (s.member m) (f.members m) (λ side h. g.standing m side (g.whole m h));
-        coords = λ d. each d (c == d) refl;
+        coords = coord_each s f.coords t c members g.there g.over_them;
         sent = sent_decide (rest_of s) (after_it s t c members) t decides s.member f.sent;
         records = records_decide;
         serially = (reads_serially (rest_of s) (after_it s t c members) t decides s.member (λ m. (f.members m).views Memory) (λ m h. g.standing m Memory (g.whole m h)), f.serially);
       }
-    where
-      each : (d : ℕ) (b : Bool) → (c == d) ≡ b → CoordHas (decided_rest (rest_of s) (after_it s t c members) t) d (if c == d then decide_members (s.coord c) t members else s.coord d)
-      each d true e =
-          subst (λ b. CoordHas (decided_rest (rest_of s) (after_it s t c members) t) d (if b then decide_members (s.coord c) t members else s.coord d)) (sym e)
-          (subst (λ k. CoordHas (decided_rest (rest_of s) (after_it s t c members) t) k (decide_members (s.coord c) t members)) (eqb-true c d e) coord_here)
-      each d false e =
-          subst (λ b. CoordHas (decided_rest (rest_of s) (after_it s t c members) t) d (if b then decide_members (s.coord c) t members else s.coord d)) (sym e) (coord_there d (eqb-false c d e))
 
 no_parts : (told : List Told) → parts_of told ≡ [] → told ≡ []
 no_parts [] e = refl

@@ -53,10 +53,10 @@ record Alone (s : Federation) (t m : ℕ) (old : Session) : Type 0 where
   says : SaysYes (s.member m).engine t (count_at (told (rest_of s) t) m)
 
 -- the vote of the transaction, and the member after it
-abbrev local_vote : Federation → ℕ → ℕ → Vote
+abbrev pub local_vote : Federation → ℕ → ℕ → Vote
 local_vote s t m = record { coord = local_coord; count = counted (count_at (told (rest_of s) t) m); sets = sets_of (operations_of (s.member m).engine t) }
 
-abbrev member_after : Federation → ℕ → ℕ → Option Vote → MemberState
+abbrev pub member_after : Federation → ℕ → ℕ → Option Vote → MemberState
 member_after s t m o =
     record {
       up = (s.member m).up;
@@ -66,6 +66,47 @@ member_after s t m o =
       log = with_batch (s.member m).log
           (log.Commit t [] ∷ prepare_record t local_coord (counted (count_at (told (rest_of s) t) m)) (sets_of (operations_of (s.member m).engine t)) ∷ []);
     }
+
+-- The coordinators after a decision that is none of theirs.
+module _ (s : Federation) (coords : (d : ℕ) → CoordHas (rest_of s) d (s.coord d)) (t : ℕ) (foreign : (d : ℕ) → by_coord (look s.sessions t) d ≡ true → ⊥) where
+  pub coord_still : (d : ℕ) → CoordHas (decided_rest (rest_of s) s.coord t) d (s.coord d)
+  coord_still d =
+      record {
+        idle = λ u h. still u (x.idle u h);
+        collecting = λ u parts yeses h. let e = x.collecting u parts yeses h in
+            record { still = still u e.still; asked = e.asked; parts_told = e.parts_told; lacks = e.lacks; yeses_sent = e.yeses_sent };
+        committed = λ u ms acks h. let e = x.committed u ms acks h in record { recorded = e.recorded; logged = e.logged; lacks = e.lacks; acks_sent = e.acks_sent };
+        known = λ u h. known u (or_cases (by_coord (look s.sessions u) d && is_decided s.decided u) (has_commit_of (s.opened_coord d) u) (x.known u h));
+        unended_over = x.unended_over;
+        unended_known = λ u ms h. unended_known u ms (x.unended_known u ms h);
+        ends = x.ends;
+      }
+    where
+      x : CoordHas (rest_of s) d (s.coord d)
+      x = coords d
+
+      still : (u : ℕ) → OpenEntry (rest_of s) d (s.coord d).log.stable u → OpenEntry (decided_rest (rest_of s) s.coord t) d (s.coord d).log.stable u
+      still u e =
+          record {
+            begun_there = e.begun_there;
+            undecided = or_from (t == u) (is_decided s.decided u) (ne_eqb t u (λ q. foreign d (ap (λ k. by_coord (look s.sessions k) d) q ∙ e.begun_there))) e.undecided;
+            unrecorded = e.unrecorded;
+          }
+
+      unended_known : (u : ℕ) (ms : List ℕ) → ((by_coord (look s.sessions u) d && is_decided s.decided u) ≡ true) ⊎ (unended_in (s.opened_coord d) u ≡ Some ms) →
+          ((by_coord (look s.sessions u) d && ((t == u) || is_decided s.decided u)) ≡ true) ⊎ (unended_in (s.opened_coord d) u ≡ Some ms)
+      unended_known u ms (inr h) = inr h
+      unended_known u ms (inl p) =
+          let q = and_parts (by_coord (look s.sessions u) d) (is_decided s.decided u) p in
+          inl (and_from (by_coord (look s.sessions u) d) ((t == u) || is_decided s.decided u) q.0 (or_right (t == u) (is_decided s.decided u) q.1))
+
+      known : (u : ℕ) → ((by_coord (look s.sessions u) d && is_decided s.decided u) ≡ true) ⊎ (has_commit_of (s.opened_coord d) u ≡ true) →
+          ((by_coord (look s.sessions u) d && ((t == u) || is_decided s.decided u)) || has_commit_of (s.opened_coord d) u) ≡ true
+      known u (inr k) = or_right (by_coord (look s.sessions u) d && ((t == u) || is_decided s.decided u)) (has_commit_of (s.opened_coord d) u) k
+      known u (inl p) =
+          let q = and_parts (by_coord (look s.sessions u) d) (is_decided s.decided u) p in
+          or_left (by_coord (look s.sessions u) d && ((t == u) || is_decided s.decided u)) (has_commit_of (s.opened_coord d) u)
+          (and_from (by_coord (look s.sessions u) d) ((t == u) || is_decided s.decided u) q.0 (or_right (t == u) (is_decided s.decided u) q.1))
 
 module _ (s : Federation) (f : Facts s) (t m : ℕ) (old : Session) (g : Alone s t m old) where
   foreign : (c : ℕ) → belongs (rest_of s) t c → ⊥
@@ -243,45 +284,6 @@ module _ (s : Federation) (f : Facts s) (t m : ℕ) (old : Session) (g : Alone s
           (replays_serially (serial (rest_of s) m) (settled (rest_of s)) (cast_in (view Memory (s.member m)) t (local_vote s t m)) t (local_vote s t m) (told_here (rest_of s) m t)
           (still_open (rest_of s) s.coord t decides) middle_here replayed.reads middle_free middle_image replayed.replays)
 
-  coord_still : (d : ℕ) → CoordHas (decided_rest (rest_of s) s.coord t) d (s.coord d)
-  coord_still d =
-      record {
-        idle = λ u h. still u (x.idle u h);
-        collecting = λ u parts yeses h. let e = x.collecting u parts yeses h in
-            record { still = still u e.still; asked = e.asked; parts_told = e.parts_told; lacks = e.lacks; yeses_sent = e.yeses_sent };
-        committed = λ u ms acks h. let e = x.committed u ms acks h in record { recorded = e.recorded; logged = e.logged; lacks = e.lacks; acks_sent = e.acks_sent };
-        known = λ u h. known u (or_cases (by_coord (look s.sessions u) d && is_decided s.decided u) (has_commit_of (s.opened_coord d) u) (x.known u h));
-        unended_over = x.unended_over;
-        unended_known = λ u ms h. unended_known u ms (x.unended_known u ms h);
-        ends = x.ends;
-      }
-    where
-      x : CoordHas (rest_of s) d (s.coord d)
-      x = f.coords d
-
-      still : (u : ℕ) → OpenEntry (rest_of s) d (s.coord d).log.stable u → OpenEntry (decided_rest (rest_of s) s.coord t) d (s.coord d).log.stable u
-      still u e =
-          record {
-            begun_there = e.begun_there;
-            undecided = or_from (t == u) (is_decided s.decided u) (ne_eqb t u (λ q. foreign d (Begun (ap (λ k. by_coord (look s.sessions k) d) q ∙ e.begun_there)))) e.undecided;
-            unrecorded = e.unrecorded;
-          }
-
-      unended_known : (u : ℕ) (ms : List ℕ) → ((by_coord (look s.sessions u) d && is_decided s.decided u) ≡ true) ⊎ (unended_in (s.opened_coord d) u ≡ Some ms) →
-          ((by_coord (look s.sessions u) d && ((t == u) || is_decided s.decided u)) ≡ true) ⊎ (unended_in (s.opened_coord d) u ≡ Some ms)
-      unended_known u ms (inr h) = inr h
-      unended_known u ms (inl p) =
-          let q = and_parts (by_coord (look s.sessions u) d) (is_decided s.decided u) p in
-          inl (and_from (by_coord (look s.sessions u) d) ((t == u) || is_decided s.decided u) q.0 (or_right (t == u) (is_decided s.decided u) q.1))
-
-      known : (u : ℕ) → ((by_coord (look s.sessions u) d && is_decided s.decided u) ≡ true) ⊎ (has_commit_of (s.opened_coord d) u ≡ true) →
-          ((by_coord (look s.sessions u) d && ((t == u) || is_decided s.decided u)) || has_commit_of (s.opened_coord d) u) ≡ true
-      known u (inr k) = or_right (by_coord (look s.sessions u) d && ((t == u) || is_decided s.decided u)) (has_commit_of (s.opened_coord d) u) k
-      known u (inl p) =
-          let q = and_parts (by_coord (look s.sessions u) d) (is_decided s.decided u) p in
-          or_left (by_coord (look s.sessions u) d && ((t == u) || is_decided s.decided u)) (has_commit_of (s.opened_coord d) u)
-          (and_from (by_coord (look s.sessions u) d) ((t == u) || is_decided s.decided u) q.0 (or_right (t == u) (is_decided s.decided u) q.1))
-
   all_on : (k : ℕ) → StandsOn (rest_of s) (s.member k) (with_at s.member m (member_after s t m (Some (local_vote s t m))) k)
   all_on = at_each (λ k z. StandsOn (rest_of s) (s.member k) z) s.member m (member_after s t m (Some (local_vote s t m))) stands_on (λ k. stands_same (rest_of s) (s.member k))
 
@@ -292,7 +294,7 @@ module _ (s : Federation) (f : Facts s) (t m : ℕ) (old : Session) (g : Alone s
       record {
         numbers = numbers_decide (rest_of s) s.coord t decides f.numbers;
         members = λ k. each k (m == k) refl;
-        coords = coord_still;
+        coords = coord_still s f.coords t (λ d h. foreign d (Begun h));
         sent = sent_decide (rest_of s) s.coord t decides after' (sent_on (rest_of s) f.numbers s.member after' all_on f.sent);
         records = record { unended = records.unended; taking = records.taking; opened_stand = records.opened_stand };
         serially = (reads_whole, f.serially);

@@ -45,6 +45,20 @@ use Rattle.co_law_event.proofs.CoordEvents.{deciding_event, aborts_event}
 pub asked_state : (s : Federation) → Facts s → (t : ℕ) (session : Session) → look s.sessions t ≡ Some session → Facts (with_session s t (asked_to_end session))
 asked_state s f t session e = subst (λ o. Facts (marked_over s t o)) e (keeps_ask s f t (found_holds s.sessions t session e))
 
+-- the session of who asked, at its coordinator
+module _ (s : Federation) (t c : ℕ) (session : Session) where
+  pub found : look (put s.sessions t (asked_to_end session)) t ≡ Some (asked_to_end session)
+  found = put_here s.sessions t (asked_to_end session)
+
+  pub over1 : over (rest_of (with_session s t (asked_to_end session))) t ≡ true
+  over1 = or_left (asked_in (look (put s.sessions t (asked_to_end session)) t)) (holds s.used t) (ap asked_in found)
+
+  pub by_here : look s.sessions t ≡ Some session → session.by ≡ node.Coord c → by_coord (look s.sessions t) c ≡ true
+  by_here e mine = ap (λ o. by_coord o c) e ∙ ap (λ k. same_node k (node.Coord c)) mine ∙ eq-eqb c c refl
+
+  pub by_there : session.by ≡ node.Coord c → by_coord (look (put s.sessions t (asked_to_end session)) t) c ≡ true
+  by_there mine = ap (λ o. by_coord o c) found ∙ ap (λ k. same_node k (node.Coord c)) mine ∙ eq-eqb c c refl
+
 module _ (s : Federation) (f : Facts s) (t c : ℕ) (session : Session) (e : look s.sessions t ≡ Some session) (mine : session.by ≡ node.Coord c) where
   abbrev pub s1 : Federation
   s1 = with_session s t (asked_to_end session)
@@ -52,20 +66,8 @@ module _ (s : Federation) (f : Facts s) (t c : ℕ) (session : Session) (e : loo
   pub f1 : Facts (with_session s t (asked_to_end session))
   f1 = asked_state s f t session e
 
-  pub found : look (put s.sessions t (asked_to_end session)) t ≡ Some (asked_to_end session)
-  found = put_here s.sessions t (asked_to_end session)
-
   stays1 : Facts (with_coord (with_session s t (asked_to_end session)) c (s.coord c))
   stays1 = coord_stays (with_session s t (asked_to_end session)) c f1
-
-  pub over1 : over (rest_of (with_session s t (asked_to_end session))) t ≡ true
-  over1 = or_left (asked_in (look (put s.sessions t (asked_to_end session)) t)) (holds s.used t) (ap asked_in found)
-
-  pub by_here : by_coord (look s.sessions t) c ≡ true
-  by_here = ap (λ o. by_coord o c) e ∙ ap (λ k. same_node k (node.Coord c)) mine ∙ eq-eqb c c refl
-
-  pub by_there : by_coord (look (put s.sessions t (asked_to_end session)) t) c ≡ true
-  by_there = ap (λ o. by_coord o c) found ∙ ap (λ k. same_node k (node.Coord c)) mine ∙ eq-eqb c c refl
 
   -- decided at once, where nothing was done
   abbrev next : CoordState
@@ -79,11 +81,11 @@ module _ (s : Federation) (f : Facts s) (t c : ℕ) (session : Session) (e : loo
       Facts (at_coord (marked_asked s t session (not (is_stopped (coord_forced_by c (with_table (s.coord c) (without (s.coord c).table t)) (log.Commit t [] ∷ []) answer.Committed [] o).answer))) c
       (coord_forced_by c (with_table (s.coord c) (without (s.coord c).table t)) (log.Commit t [] ∷ []) answer.Committed [] o)).state
   none_told p Completes i =
-      deciding_event (with_session s t (asked_to_end session)) c t f1 (with_table (s.coord c) (without (s.coord c).table t)) [] answer.Committed [] refl by_there
-      (nothing_done (with_session s t (asked_to_end session)) f1 i (ap (λ o. parts_of (told_in o)) found ∙ p)) tt Completes
+      deciding_event (with_session s t (asked_to_end session)) c t f1 (with_table (s.coord c) (without (s.coord c).table t)) [] answer.Committed [] refl (by_there s t c session mine)
+      (nothing_done (with_session s t (asked_to_end session)) f1 i (ap (λ o. parts_of (told_in o)) (found s t c session) ∙ p)) tt Completes
   none_told p (StopsAt call leaves) i =
       by (batch_is_stable call leaves)
-      (deciding_event s c t f (with_table (s.coord c) (without (s.coord c).table t)) [] answer.Committed [] refl by_here
+      (deciding_event s c t f (with_table (s.coord c) (without (s.coord c).table t)) [] answer.Committed [] refl (by_here s t c session e mine)
       (nothing_done s f i (ap (λ o. parts_of (told_in o)) e ∙ p)) tt (StopsAt call leaves))
     where
       by : (b : Bool) → Facts (at_coord s c (stopped_coord c (with_table (s.coord c) (without (s.coord c).table t)) call b (log.Commit t [] ∷ []))).state →
@@ -102,13 +104,13 @@ module _ (s : Federation) (f : Facts s) (t c : ℕ) (session : Session) (e : loo
       (sym same)))
     where
       same : parts_of (told_of (with_session s t (asked_to_end session)) t) ≡ p ∷ ps
-      same = ap (λ o. parts_of (told_in o)) found ∙ q
+      same = ap (λ o. parts_of (told_in o)) (found s t c session) ∙ q
 
       collected : Facts (with_coord (with_session s t (asked_to_end session)) c (with_table (s.coord c) (put (s.coord c).table t (entry.Collecting (p ∷ ps) []))))
       collected =
           subst (λ parts. Facts (with_coord (with_session s t (asked_to_end session)) c (with_table (s.coord c) (put (s.coord c).table t (entry.Collecting parts []))))) same
           (keeps_collect (with_session s t (asked_to_end session)) f1 t c
-          (i, subst (λ o. session_by_coord o c) (sym found) mine, ap asked_in found, λ n. let z : p ∷ ps ≡ [] = sym same ∙ n in cc))
+          (i, subst (λ o. session_by_coord o c) (sym (found s t c session)) mine, ap asked_in (found s t c session), λ n. let z : p ∷ ps ≡ [] = sym same ∙ n in cc))
 
   asks : (ps : List Part) → parts_of session.told ≡ ps → look (s.coord c).table t ≡ Some entry.Idle →
       Facts (at_coord (marked_asked s t session (not (is_stopped (ask_commit c (s.coord c) t ps).answer))) c (ask_commit c (s.coord c) t ps)).state
@@ -126,7 +128,7 @@ module _ (s : Federation) (f : Facts s) (t c : ℕ) (session : Session) (e : loo
       Facts (at_coord (marked_asked s t session (not (is_stopped (abort_entry c (s.coord c) t (parts_of session.told) o).answer))) c (abort_entry c (s.coord c) t (parts_of session.told) o)).state
   abort_event None i = stays1
   abort_event (Some entry.Idle) i =
-      aborts_event (with_session s t (asked_to_end session)) c f1 t cause.Client (parts_of session.told) ((f1.coords c).idle t i) over1
+      aborts_event (with_session s t (asked_to_end session)) c f1 t cause.Client (parts_of session.told) ((f1.coords c).idle t i) (over1 s t c session)
       (keeps_leave (with_session s t (asked_to_end session)) f1 t c (inl i))
   abort_event (Some (entry.Collecting parts yeses)) i = stays1
   abort_event (Some (entry.Committed members acks)) i = stays1

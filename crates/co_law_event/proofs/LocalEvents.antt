@@ -39,9 +39,33 @@ use Rattle.co_law_base.proofs.Facts.{rest_of, Facts}
 use Rattle.co_law_member.proofs.LogMoves.{local_apart}
 use Rattle.co_law_decide.proofs.Locally.{keeps_local}
 use Rattle.co_law_event.proofs.Nodes.{member_stays, drop_active_at, crash_at}
-use Rattle.co_law_event.proofs.Marks.{aborts_quiet, commit_marks}
-use Rattle.co_law_event.proofs.MemberEvents.{absent_dropped, active_is}
+use Rattle.co_law_event.proofs.Marks.{AllQuiet, aborts_quiet, commit_marks}
+use Rattle.co_law_event.proofs.MemberEvents.{absent_dropped, active_is, install_kind}
 use Rattle.co_law_event.proofs.ClientEvents.{asked_state}
+
+-- the member after its own decision, and its records
+abbrev pub decided_alone : MemberState → ℕ → ℕ → MemberState
+decided_alone x t n = installed_state (voted_state x t local_coord (counted n)) t
+
+abbrev pub batch_alone : MemberState → ℕ → ℕ → List Record
+batch_alone x t n = log.Commit t [] ∷ prepare_record t local_coord (counted n) (sets_of (operations_of x.engine t)) ∷ []
+
+-- its commit record decides it
+pub decides_alone : (s : Federation) (t m : ℕ) (session : Session) → session.by ≡ node.Member m → AllQuiet (put s.sessions t (asked_to_end session)) (node.Member m) (s.member m).log.waiting →
+    decide_all (put s.sessions t (asked_to_end session)) s.decided (marks_of (node.Member m) (batch_alone (s.member m) t (count_at session.told m) ++ (s.member m).log.waiting)) ≡ record { txn = t; told = told_of (with_session s t (asked_to_end session)) t } ∷ s.decided
+decides_alone s t m session mine quiet =
+    commit_marks (put s.sessions t (asked_to_end session)) (node.Member m) s.decided t []
+    (prepare_record t local_coord (counted (count_at session.told m)) (sets_of (operations_of (s.member m).engine t)) ∷ (s.member m).log.waiting)
+    (tt, quiet)
+    ∙ decides_it s.decided
+  where
+    decides_it : (ds : List Decided) → decided_where (look (put s.sessions t (asked_to_end session)) t) (node.Member m) t ds ≡ record { txn = t; told = told_of (with_session s t (asked_to_end session)) t } ∷ ds
+    decides_it ds =
+        subst (λ o. decided_where o (node.Member m) t ds ≡ record { txn = t; told = told_in o } ∷ ds) (sym (put_here s.sessions t (asked_to_end session)))
+        (ap (λ b. if b then record { txn = t; told = session.told } ∷ ds else ds) (ap (λ k. same_node k (node.Member m)) mine ∙ eq-eqb m m refl))
+
+pub positive : (n : ℕ) → (n == 0) ≡ false → 1 ≤ n
+positive n h = grind (arith, nat_tests, h)
 
 module _ (s : Federation) (f : Facts s) (t m : ℕ) (session : Session) (e : look s.sessions t ≡ Some session) (mine : session.by ≡ node.Member m) (unasked : session.asked ≡ false) where
   pub f1 : Facts (with_session s t (asked_to_end session))
@@ -73,16 +97,6 @@ module _ (s : Federation) (f : Facts s) (t m : ℕ) (session : Session) (e : loo
   local_abort_event IsInstalled i = stays1
   local_abort_event IsAbsent i = stays1
 
-  -- the member after its own decision, and its records
-  abbrev pub count : ℕ
-  count = count_at session.told m
-
-  abbrev pub next : MemberState
-  next = installed_state (voted_state (s.member m) t local_coord (counted (count_at session.told m))) t
-
-  abbrev pub batch : List Record
-  batch = log.Commit t [] ∷ prepare_record t local_coord (counted (count_at session.told m)) (sets_of (operations_of (s.member m).engine t)) ∷ []
-
   told_same : told_of s t ≡ session.told
   told_same = ap told_in e
 
@@ -98,21 +112,14 @@ module _ (s : Federation) (f : Facts s) (t m : ℕ) (session : Session) (e : loo
         subst (λ ts. vote_of (s.member m).engine t (count_at ts m) ≡ VoteYes) (sym told_same) v,
       )))
 
-  decides_it : (ds : List Decided) → decided_where (look (put s.sessions t (asked_to_end session)) t) (node.Member m) t ds ≡ record { txn = t; told = told_of (with_session s t (asked_to_end session)) t } ∷ ds
-  decides_it ds =
-      subst (λ o. decided_where o (node.Member m) t ds ≡ record { txn = t; told = told_in o } ∷ ds) (sym found)
-      (ap (λ b. if b then record { txn = t; told = session.told } ∷ ds else ds) (ap (λ k. same_node k (node.Member m)) mine ∙ eq-eqb m m refl))
+  abbrev next : MemberState
+  next = decided_alone (s.member m) t (count_at session.told m)
 
-  pub marks_decide : decide_all (put s.sessions t (asked_to_end session)) s.decided (marks_of (node.Member m) (batch ++ (s.member m).log.waiting)) ≡ record { txn = t; told = told_of (with_session s t (asked_to_end session)) t } ∷ s.decided
-  marks_decide =
-      commit_marks (put s.sessions t (asked_to_end session)) (node.Member m) s.decided t []
-      (prepare_record t local_coord (counted (count_at session.told m)) (sets_of (operations_of (s.member m).engine t)) ∷ (s.member m).log.waiting)
-      (tt, aborts_quiet (rest_of s) (put s.sessions t (asked_to_end session)) (node.Member m) (s.member m).log.waiting (f.members m).waiting)
-      ∙ decides_it s.decided
+  abbrev batch : List Record
+  batch = batch_alone (s.member m) t (count_at session.told m)
 
-  pub install_kind : (b : EngineState) (o : Option Vote) → (install_vote b t o).kind ≡ b.kind
-  install_kind b None = refl
-  install_kind b (Some vote) = refl
+  marks_decide : decide_all (put s.sessions t (asked_to_end session)) s.decided (marks_of (node.Member m) (batch ++ (s.member m).log.waiting)) ≡ record { txn = t; told = told_of (with_session s t (asked_to_end session)) t } ∷ s.decided
+  marks_decide = decides_alone s t m session mine (aborts_quiet (rest_of s) (put s.sessions t (asked_to_end session)) (node.Member m) (s.member m).log.waiting (f.members m).waiting)
 
   forced_local : 1 ≤ count_at session.told m → vote_of (s.member m).engine t (count_at session.told m) ≡ VoteYes → (o : Outcome) →
       Facts (at_member (marked_asked s t session (not (is_held (forced_by m next batch answer.Committed None o).answer))) m (forced_by m next batch answer.Committed None o)).state
@@ -126,7 +133,7 @@ module _ (s : Federation) (f : Facts s) (t m : ℕ) (session : Session) (e : loo
           (crash_at (with_decision (with_session s t (asked_to_end session)) t) m (local_state (s.member m) t (count_at session.told m)) (done n v))
       by false =
           subst (λ k. Facts (with_member (with_session s t (asked_to_end session)) m (member_down_with k (s.member m).log)))
-          (sym (install_kind (after_cast (s.member m).engine t local_coord (counted (count_at session.told m))) (look (after_cast (s.member m).engine t local_coord (counted (count_at session.told m))).voted t)))
+          (sym (install_kind (after_cast (s.member m).engine t local_coord (counted (count_at session.told m))) t (look (after_cast (s.member m).engine t local_coord (counted (count_at session.told m))).voted t)))
           (crash_at (with_session s t (asked_to_end session)) m (s.member m) stays1)
 
   by_verdict : 1 ≤ count_at session.told m → (v : Verdict) → vote_of (s.member m).engine t (count_at session.told m) ≡ v →
@@ -135,9 +142,6 @@ module _ (s : Federation) (f : Facts s) (t m : ℕ) (session : Session) (e : loo
   by_verdict n (StaleRead key) v = drops
   by_verdict n (HeldBy u) v = member_stays s m f
   by_verdict n VoteYes v = forced_local n v (outcome_of (s.member m).log.armed 4)
-
-  pub positive : (n : ℕ) → (n == 0) ≡ false → 1 ≤ n
-  positive n h = grind (arith, nat_tests, h)
 
   by_count : (b : Bool) → (count_at session.told m == 0) ≡ b →
       Facts (at_member (marked_asked s t session (not (is_held (if b then says (s.member m) answer.Absent else local_commit_by m (s.member m) t (count_at session.told m) (vote_of (s.member m).engine t (count_at session.told m))).answer))) m

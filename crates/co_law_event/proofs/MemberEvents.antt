@@ -81,6 +81,16 @@ only s note g k e = subst (Allowed s) (in_some e) g
 never : (s : Federation) (k : Message) → None ≡ Some k → Allowed s k
 never s k e = absurd (let z : None ≡ Some k = e in cc)
 
+pub votes_own : (s : Federation) (m t : ℕ) → holds (s.member m).engine.voted t ≡ true → votes_for (look (s.member m).engine.voted t) (coord_of (s.member m) t) ≡ true
+votes_own s m t h =
+    let p = holds_found (s.member m).engine.voted t h in
+    subst (λ o. votes_for o (coord_in o) ≡ true) (sym p.1) (eq-eqb p.0.coord p.0.coord refl)
+
+-- an install leaves the kind
+pub install_kind : (b : EngineState) (t : ℕ) (o : Option Vote) → (install_vote b t o).kind ≡ b.kind
+install_kind b t None = refl
+install_kind b t (Some vote) = refl
+
 -- A forced batch: the write completes, or it is stopped and the member goes down.
 pub forced_event : (s : Federation) (m : ℕ) (x next : MemberState) (batch : List Record) (a : Answer) (note : Option Message) → Facts (with_member s m x) →
     member_down next next.log ≡ member_down x x.log → Facts (with_member s m (with_log next (with_batch next.log batch))) →
@@ -135,11 +145,6 @@ module _ (s : Federation) (m : ℕ) (f : Facts s) where
         log = (s.member m).log;
       }
 
-  pub votes_own : (t : ℕ) → holds (s.member m).engine.voted t ≡ true → votes_for (look (s.member m).engine.voted t) (coord_of (s.member m) t) ≡ true
-  votes_own t h =
-      let p = holds_found (s.member m).engine.voted t h in
-      subst (λ o. votes_for o (coord_in o) ≡ true) (sym p.1) (eq-eqb p.0.coord p.0.coord refl)
-
   -- a message of the member as it stands
   sends_here : (note : Message) (a : Answer) → Allowed (with_member s m (s.member m)) note → Facts (at_member s m (record { state = s.member m; answer = a; sent = Some note; marks = [] })).state
   sends_here note a g = noted_sent (with_member s m (s.member m)) [] (Some note) stays refl (only (with_member s m (s.member m)) note g)
@@ -154,7 +159,7 @@ module _ (s : Federation) (m : ℕ) (f : Facts s) where
       vote_event s m (with_mark (s.member m) t c n) t c n w marked p (drop_active_at s m (with_mark (s.member m) t c n) marked t a) (vote_of (s.member m).engine t n) refl
   prepare_event t c n p IsVoted e =
       let v : holds (s.member m).engine.voted t ≡ true = voted_is _ _ _ e in
-      sends_here (message.Vote t m (coord_of (s.member m) t) true) answer.Voted (at_m (λ z. votes_for (look z.engine.voted t) (coord_of (s.member m) t) ≡ true) (votes_own t v))
+      sends_here (message.Vote t m (coord_of (s.member m) t) true) answer.Voted (at_m (λ z. votes_for (look z.engine.voted t) (coord_of (s.member m) t) ≡ true) (votes_own s m t v))
   prepare_event t c n p IsInstalled e = stays
   prepare_event t c n p IsAbsent e =
       let a = absent_is _ _ _ e in
@@ -180,7 +185,7 @@ module _ (s : Federation) (m : ℕ) (f : Facts s) where
   pub ask_event : (t : ℕ) (st : Standing) → standing_of (s.member m) t ≡ st → Facts (at_member s m (ask_by m (s.member m) t st)).state
   ask_event t IsActive e = stays
   ask_event t IsVoted e =
-      sends_here (message.Ask t m (coord_of (s.member m) t)) answer.Asking (at_m (λ z. votes_for (look z.engine.voted t) (coord_of (s.member m) t) ≡ true) (votes_own t (voted_is _ _ _ e)))
+      sends_here (message.Ask t m (coord_of (s.member m) t)) answer.Asking (at_m (λ z. votes_for (look z.engine.voted t) (coord_of (s.member m) t) ≡ true) (votes_own s m t (voted_is _ _ _ e)))
   ask_event t IsInstalled e = stays
   ask_event t IsAbsent e = stays
 
@@ -189,7 +194,7 @@ module _ (s : Federation) (m : ℕ) (f : Facts s) where
   voted_quiet t h ds = by (look s.sessions t) refl
     where
       home : (c : ℕ) × belongs (rest_of s) t c
-      home = (coord_of (s.member m) t, ((f.members m).views Memory).named t (coord_of (s.member m) t) (votes_own t h))
+      home = (coord_of (s.member m) t, ((f.members m).views Memory).named t (coord_of (s.member m) t) (votes_own s m t h))
 
       node_of : (session : Session) → look s.sessions t ≡ Some session → (at : Node) → session.by ≡ at → (if same_node at (node.Member m) then record { txn = t; told = session.told } ∷ ds else ds) ≡ ds
       node_of session e (node.Member k) b = absurd (local_apart s f.numbers t home.0 k session home.1 e b)
@@ -198,10 +203,6 @@ module _ (s : Federation) (m : ℕ) (f : Facts s) where
       by : (o : Option Session) → look s.sessions t ≡ o → decided_where o (node.Member m) t ds ≡ ds
       by None e = refl
       by (Some session) e = node_of session e session.by refl
-
-  pub install_kind : (b : EngineState) (t : ℕ) (o : Option Vote) → (install_vote b t o).kind ≡ b.kind
-  install_kind b t None = refl
-  install_kind b t (Some vote) = refl
 
   pub commit_event : (t c : ℕ) → settled (rest_of s) t → (st : Standing) → standing_of (s.member m) t ≡ st → Facts (at_member s m (commit_by m (s.member m) t c st)).state
   commit_event t c d IsActive e = stays

@@ -51,6 +51,9 @@ use Rattle.co_law_event.proofs.CoordEvents as coords
 use Rattle.co_law_event.proofs.ClientEvents as clients
 use Rattle.co_law_event.proofs.LocalEvents as locals
 
+pub visits_there : (session : Session) (m : ℕ) → may_visit session.by m ≡ true → session.asked ≡ false → may_operate_at (Some session) m
+visits_there session m v a = (a, λ n b. eqb-true n m (sym (ap (λ k. may_visit k m) b) ∙ v))
+
 module _ (s : Federation) (f : Facts s) where
   begins : (t c : ℕ) (used up : Bool) → is_used s t ≡ used → Facts (begin_where s t c used up).state
   begins t c true up e = f
@@ -62,15 +65,12 @@ module _ (s : Federation) (f : Facts s) where
   begins_local t m false true e = keeps_begin_local s f t m e
   begins_local t m false false e = f
 
-  pub may_be : (session : Session) (m : ℕ) → may_visit session.by m ≡ true → session.asked ≡ false → may_operate_at (Some session) m
-  may_be session m v a = (a, λ n b. eqb-true n m (sym (ap (λ k. may_visit k m) b) ∙ v))
-
   operates : (t m : ℕ) (o : Op) → Facts (operate s t m o).state
   operates t m o = by (look s.sessions t) refl
     where
       asked : (session : Session) → look s.sessions t ≡ Some session → may_visit session.by m ≡ true → (b : Bool) → session.asked ≡ b → Facts (operate_with s t m o (if b then Refuses answer.Asked else Grants session)).state
       asked session e v true a = f
-      asked session e v false a = clients.operation_event s f t m o session e (may_be session m v a) (s.member m).up
+      asked session e v false a = clients.operation_event s f t m o session e (visits_there session m v a) (s.member m).up
 
       visits : (session : Session) → look s.sessions t ≡ Some session → (b : Bool) → may_visit session.by m ≡ b → Facts (operate_with s t m o (if b then unless_asked session else Refuses answer.NotBegun)).state
       visits session e false v = f
@@ -202,7 +202,7 @@ module _ (s : Federation) (f : Facts s) where
   handed_abort t m d IsAbsent e = member_stays s m f
   handed_abort t m d IsVoted e =
       let h : holds (s.member m).engine.voted t ≡ true = members.voted_is _ _ _ e in
-      let home = ((f.members m).views Memory).named t (coord_of (s.member m) t) (members.votes_own s m f t h) in
+      let home = ((f.members m).views Memory).named t (coord_of (s.member m) t) (members.votes_own s m t h) in
       members.abort_event s m f t (coord_of (s.member m) t) (inl (home, dead_there s f.numbers t (coord_of (s.member m) t) home d)) IsVoted e
 
   hand : (t m : ℕ) (commit : Bool) → IsTrueVerdict s (happening.Hand t m commit) → Facts (step s (happening.Hand t m commit)).state

@@ -31,46 +31,48 @@ use Rattle.co_plain.specs.Moves.{Move, AskEnd, Collect, Decide, CrashCoord, Leav
 use Rattle.co_law_base.proofs.Lookups.{put_here, found_holds}
 use Rattle.co_law_base.proofs.Facts.{Facts}
 use Rattle.co_law_base.proofs.Carrying.{at_here}
-use Rattle.co_law_event.proofs.CoordNotes.{all_prepares, prepares_allowed}
+use Rattle.co_law_event.proofs.CoordNotes.{prepares_allowed}
 use Rattle.co_law_event.proofs.ClientEvents as clients
 use Rattle.co_law_moves.specs.EventMoves.{sends, stopped_moves, decided_at_once, ask_commit_moves, commit_entry_moves, leave_moves, abort_entry_moves, unless_lock, operation_moves, where_up}
-use Rattle.co_law_moves.proofs.Made.{Made, no_move, one_more, made_to, made_from, coord_still, member_still, sends_made}
+use Rattle.co_law_moves.proofs.Made.{all_prepares, where_map, always, AllowedOver, AllAllowedOver, MadeOver, no_move, one_more, made_to, made_from, coord_still, member_still, sends_made}
 use Rattle.co_law_moves.proofs.CoordMade.{deciding_made, leave_made}
+use Rattle.co_law_own.specs.OwnGuards.{Logs, SoundLogs, AnyLogs, Where, GuardOver}
+use Rattle.co_law_moves.proofs.FactsOver.{FactsOver, where_sound, coords_over, marked_over', sent_over, waiting_quiet, vote_quiet, asks_over, local_unvoted}
 
 -- the client asked, and then
-pub ask_first : (s : Federation) (t : ℕ) (session : Session) → look s.sessions t ≡ Some session → (moves : List Move) (z : Federation) → Made (with_session s t (asked_to_end session)) moves z → Made s (AskEnd t ∷ moves) z
-ask_first s t session e moves z r =
-    one_more s z (AskEnd t) moves (found_holds s.sessions t session e)
-    (made_from (effect s (AskEnd t)) (with_session s t (asked_to_end session)) moves z (ap (marked_over s t) e) r)
+pub ask_first : (l : Logs) (s : Federation) (t : ℕ) (session : Session) → look s.sessions t ≡ Some session → (moves : List Move) (z : Federation) → MadeOver l (with_session s t (asked_to_end session)) moves z → MadeOver l s (AskEnd t ∷ moves) z
+ask_first l s t session e moves z r =
+    one_more l s z (AskEnd t) moves (found_holds s.sessions t session e)
+    (made_from l (effect s (AskEnd t)) (with_session s t (asked_to_end session)) moves z (ap (marked_over s t) e) r)
 
-module _ (s : Federation) (f : Facts s) (t c : ℕ) (session : Session) (e : look s.sessions t ≡ Some session) (mine : session.by ≡ node.Coord c) where
-  f1 : Facts (with_session s t (asked_to_end session))
-  f1 = clients.f1 s f t c session e mine
+module _ (l : Logs) (s : Federation) (f : FactsOver l s) (t c : ℕ) (session : Session) (e : look s.sessions t ≡ Some session) (mine : session.by ≡ node.Coord c) where
+  f1 : FactsOver l (with_session s t (asked_to_end session))
+  f1 = asks_over l s f t session e
 
   found : look (put s.sessions t (asked_to_end session)) t ≡ Some (asked_to_end session)
   found = put_here s.sessions t (asked_to_end session)
 
-  still1 : Made s (AskEnd t ∷ []) (with_coord (with_session s t (asked_to_end session)) c (s.coord c))
-  still1 = ask_first s t session e [] (with_coord (with_session s t (asked_to_end session)) c (s.coord c)) (coord_still (with_session s t (asked_to_end session)) c)
+  still1 : MadeOver l s (AskEnd t ∷ []) (with_coord (with_session s t (asked_to_end session)) c (s.coord c))
+  still1 = ask_first l s t session e [] (with_coord (with_session s t (asked_to_end session)) c (s.coord c)) (coord_still l (with_session s t (asked_to_end session)) c)
 
   at_once : (z : Federation) → look (z.coord c).table t ≡ Some entry.Idle →
       effect z (Decide t c) ≡ with_decision (with_coord z c (with_coord_log (with_table (z.coord c) (without (z.coord c).table t)) (with_batch (z.coord c).log (log.Commit t [] ∷ [])))) t
   at_once z i = ap (λ o. with_decision (with_coord z c (decide_entry (z.coord c) t o)) t) i
 
   none_told : parts_of session.told ≡ [] → (o : Outcome) → look (s.coord c).table t ≡ Some entry.Idle →
-      Made s (decided_at_once t c o) (at_coord (marked_asked s t session (not (is_stopped (coord_forced_by c (with_table (s.coord c) (without (s.coord c).table t)) (log.Commit t [] ∷ []) answer.Committed [] o).answer))) c
+      MadeOver l s (decided_at_once t c o) (at_coord (marked_asked s t session (not (is_stopped (coord_forced_by c (with_table (s.coord c) (without (s.coord c).table t)) (log.Commit t [] ∷ []) answer.Committed [] o).answer))) c
       (coord_forced_by c (with_table (s.coord c) (without (s.coord c).table t)) (log.Commit t [] ∷ []) answer.Committed [] o)).state
   none_told p Completes i =
-      ask_first s t session e (Decide t c ∷ []) (at_coord (with_session s t (asked_to_end session)) c (coord_forced_by c (with_table (s.coord c) (without (s.coord c).table t)) (log.Commit t [] ∷ []) answer.Committed [] Completes)).state
-      (deciding_made (with_session s t (asked_to_end session)) c t f1 (with_table (s.coord c) (without (s.coord c).table t)) [] answer.Committed [] refl (clients.by_there s f t c session e mine)
+      ask_first l s t session e (Decide t c ∷ []) (at_coord (with_session s t (asked_to_end session)) c (coord_forced_by c (with_table (s.coord c) (without (s.coord c).table t)) (log.Commit t [] ∷ []) answer.Committed [] Completes)).state
+      (deciding_made l (with_session s t (asked_to_end session)) c t f1 (with_table (s.coord c) (without (s.coord c).table t)) [] answer.Committed [] refl (clients.by_there s t c session mine)
       (inl (i, ap (λ o. parts_of (told_in o)) found ∙ p)) (at_once (with_session s t (asked_to_end session)) i) tt Completes)
   none_told p (StopsAt call leaves) i =
       by (batch_is_stable call leaves)
-      (deciding_made s c t f (with_table (s.coord c) (without (s.coord c).table t)) [] answer.Committed [] refl (clients.by_here s f t c session e mine)
+      (deciding_made l s c t f (with_table (s.coord c) (without (s.coord c).table t)) [] answer.Committed [] refl (clients.by_here s t c session e mine)
       (inl (i, ap (λ o. parts_of (told_in o)) e ∙ p)) (at_once s i) tt (StopsAt call leaves))
     where
-      by : (b : Bool) → Made s (stopped_moves (Decide t c) (CrashCoord c) b) (at_coord s c (stopped_coord c (with_table (s.coord c) (without (s.coord c).table t)) call b (log.Commit t [] ∷ []))).state →
-          Made s (stopped_moves (Decide t c) (CrashCoord c) b) (at_coord (marked_asked s t session (not (is_stopped (stopped_coord c (with_table (s.coord c) (without (s.coord c).table t)) call b (log.Commit t [] ∷ [])).answer))) c
+      by : (b : Bool) → MadeOver l s (stopped_moves (Decide t c) (CrashCoord c) b) (at_coord s c (stopped_coord c (with_table (s.coord c) (without (s.coord c).table t)) call b (log.Commit t [] ∷ []))).state →
+          MadeOver l s (stopped_moves (Decide t c) (CrashCoord c) b) (at_coord (marked_asked s t session (not (is_stopped (stopped_coord c (with_table (s.coord c) (without (s.coord c).table t)) call b (log.Commit t [] ∷ [])).answer))) c
           (stopped_coord c (with_table (s.coord c) (without (s.coord c).table t)) call b (log.Commit t [] ∷ []))).state
       by true h = h
       by false h = h
@@ -85,15 +87,15 @@ module _ (s : Federation) (f : Facts s) (t c : ℕ) (session : Session) (e : loo
   asked_for p ps = (at_coord (with_session s t (asked_to_end session)) c (ask_commit c (s.coord c) t (p ∷ ps))).state
 
   some_told : (p : Part) (ps : List Part) → parts_of session.told ≡ p ∷ ps → look (s.coord c).table t ≡ Some entry.Idle →
-      Made s (ask_commit_moves (s.coord c) t c (p ∷ ps)) (at_coord (with_session s t (asked_to_end session)) c (ask_commit c (s.coord c) t (p ∷ ps))).state
+      MadeOver l s (ask_commit_moves (s.coord c) t c (p ∷ ps)) (at_coord (with_session s t (asked_to_end session)) c (ask_commit c (s.coord c) t (p ∷ ps))).state
   some_told p ps q i =
-      ask_first s t session e (Collect t c ∷ sends (prepares_to c t (p ∷ ps))) (asked_for p ps)
-      (one_more s1 (asked_for p ps) (Collect t c) (sends (prepares_to c t (p ∷ ps)))
+      ask_first l s t session e (Collect t c ∷ sends (prepares_to c t (p ∷ ps))) (asked_for p ps)
+      (one_more l s1 (asked_for p ps) (Collect t c) (sends (prepares_to c t (p ∷ ps)))
       (i, subst (λ o. session_by_coord o c) (sym found) mine, ap asked_in found, λ n. let r : p ∷ ps ≡ [] = sym same ∙ n in cc)
-      (made_from (effect s1 (Collect t c)) (collecting (p ∷ ps)) (sends (prepares_to c t (p ∷ ps))) (asked_for p ps)
+      (made_from l (effect s1 (Collect t c)) (collecting (p ∷ ps)) (sends (prepares_to c t (p ∷ ps))) (asked_for p ps)
       (ap (λ parts. with_coord s1 c (with_table (s.coord c) (put (s.coord c).table t (entry.Collecting parts [])))) same)
-      (sends_made (collecting (p ∷ ps)) [] (prepares_to c t (p ∷ ps)) refl
-      (all_prepares (collecting (p ∷ ps)) t c (p ∷ ps)
+      (sends_made l (collecting (p ∷ ps)) [] (prepares_to c t (p ∷ ps)) refl
+      (all_prepares l (collecting (p ∷ ps)) t c (p ∷ ps)
       (prepares_allowed (collecting (p ∷ ps)) t c (p ∷ ps) []
       (ap (λ y. look y.table t) (at_here s.coord c (with_table (s.coord c) (put (s.coord c).table t (entry.Collecting (p ∷ ps) [])))) ∙ put_here (s.coord c).table t (entry.Collecting (p ∷ ps) []))
       (sym same))))))
@@ -102,31 +104,31 @@ module _ (s : Federation) (f : Facts s) (t c : ℕ) (session : Session) (e : loo
       same = ap (λ o. parts_of (told_in o)) found ∙ q
 
   asks : (ps : List Part) → parts_of session.told ≡ ps → look (s.coord c).table t ≡ Some entry.Idle →
-      Made s (ask_commit_moves (s.coord c) t c ps) (at_coord (marked_asked s t session (not (is_stopped (ask_commit c (s.coord c) t ps).answer))) c (ask_commit c (s.coord c) t ps)).state
+      MadeOver l s (ask_commit_moves (s.coord c) t c ps) (at_coord (marked_asked s t session (not (is_stopped (ask_commit c (s.coord c) t ps).answer))) c (ask_commit c (s.coord c) t ps)).state
   asks [] q i = none_told q (outcome_of (s.coord c).log.armed 4) i
   asks (p ∷ ps) q i = some_told p ps q i
 
   pub commit_made : (o : Option Entry) → look (s.coord c).table t ≡ o →
-      Made s (commit_entry_moves (s.coord c) t c (parts_of session.told) o) (at_coord (marked_asked s t session (not (is_stopped (commit_entry c (s.coord c) t (parts_of session.told) o).answer))) c (commit_entry c (s.coord c) t (parts_of session.told) o)).state
+      MadeOver l s (commit_entry_moves (s.coord c) t c (parts_of session.told) o) (at_coord (marked_asked s t session (not (is_stopped (commit_entry c (s.coord c) t (parts_of session.told) o).answer))) c (commit_entry c (s.coord c) t (parts_of session.told) o)).state
   commit_made None i = still1
   commit_made (Some entry.Idle) i = asks (parts_of session.told) refl i
   commit_made (Some (entry.Collecting parts yeses)) i = still1
   commit_made (Some (entry.Committed members acks)) i = still1
 
   pub abort_made : (o : Option Entry) → look (s.coord c).table t ≡ o →
-      Made s (abort_entry_moves t c (parts_of session.told) o) (at_coord (marked_asked s t session (not (is_stopped (abort_entry c (s.coord c) t (parts_of session.told) o).answer))) c (abort_entry c (s.coord c) t (parts_of session.told) o)).state
+      MadeOver l s (abort_entry_moves t c (parts_of session.told) o) (at_coord (marked_asked s t session (not (is_stopped (abort_entry c (s.coord c) t (parts_of session.told) o).answer))) c (abort_entry c (s.coord c) t (parts_of session.told) o)).state
   abort_made None i = still1
   abort_made (Some entry.Idle) i =
-      ask_first s t session e (leave_moves t c (parts_of session.told)) (at_coord (with_session s t (asked_to_end session)) c (abort_entry c (s.coord c) t (parts_of session.told) (Some entry.Idle))).state
-      (leave_made (with_session s t (asked_to_end session)) c f1 t cause.Client (parts_of session.told) ((f1.coords c).idle t i) (clients.over1 s f t c session e mine) (inl i))
+      ask_first l s t session e (leave_moves t c (parts_of session.told)) (at_coord (with_session s t (asked_to_end session)) c (abort_entry c (s.coord c) t (parts_of session.told) (Some entry.Idle))).state
+      (leave_made l (with_session s t (asked_to_end session)) c f1 t cause.Client (parts_of session.told) ((coords_over l (with_session s t (asked_to_end session)) f1 c).idle t i) (clients.over1 s t c session) (inl i))
   abort_made (Some (entry.Collecting parts yeses)) i = still1
   abort_made (Some (entry.Committed members acks)) i = still1
 
 -- an operation
-module _ (s : Federation) (f : Facts s) (t m : ℕ) (o : Op) (session : Session) (e : look s.sessions t ≡ Some session) (may : may_operate_at (Some session) m) where
+module _ (l : Logs) (s : Federation) (f : FactsOver l s) (t m : ℕ) (o : Op) (session : Session) (e : look s.sessions t ≡ Some session) (may : may_operate_at (Some session) m) where
   blocked_made : (z : Option ℕ) → lock_blocker (s.member m).engine t o ≡ z → kept_count (s.member m).engine t ≡ count_at session.told m → count_at session.told m ≢ most_operations →
-      Made s (unless_lock t m o z) (at_member (entered s t session m o (reply_in (unless_blocked (s.member m) t o z).answer)) m (unless_blocked (s.member m) t o z)).state
-  blocked_made (Some u) b k n = member_still s m
+      MadeOver l s (unless_lock t m o z) (at_member (entered s t session m o (reply_in (unless_blocked (s.member m) t o z).answer)) m (unless_blocked (s.member m) t o z)).state
+  blocked_made (Some u) b k n = member_still l s m
   blocked_made None b k n =
       record {
         same = ap (λ z. with_member (entered_reply s t m o z) m (with_engine (s.member m) (with_operation (s.member m).engine t o))) e;
@@ -134,23 +136,23 @@ module _ (s : Federation) (f : Facts s) (t m : ℕ) (o : Op) (session : Session)
       }
 
   full_made : (b : Bool) → (count_at session.told m == most_operations) ≡ b → kept_count (s.member m).engine t ≡ count_at session.told m →
-      Made s (if b then [] else unless_lock t m o (lock_blocker (s.member m).engine t o))
+      MadeOver l s (if b then [] else unless_lock t m o (lock_blocker (s.member m).engine t o))
       (at_member (entered s t session m o (reply_in (if b then says (s.member m) answer.TooMany else unless_blocked (s.member m) t o (lock_blocker (s.member m).engine t o)).answer)) m
       (if b then says (s.member m) answer.TooMany else unless_blocked (s.member m) t o (lock_blocker (s.member m).engine t o))).state
-  full_made true b k = member_still s m
+  full_made true b k = member_still l s m
   full_made false b k = blocked_made (lock_blocker (s.member m).engine t o) refl k (eqb-false (count_at session.told m) most_operations b)
 
   kept_made : (b : Bool) → (kept_count (s.member m).engine t == count_at session.told m) ≡ b →
-      Made s (if b then (if count_at session.told m == most_operations then [] else unless_lock t m o (lock_blocker (s.member m).engine t o)) else [])
+      MadeOver l s (if b then (if count_at session.told m == most_operations then [] else unless_lock t m o (lock_blocker (s.member m).engine t o)) else [])
       (at_member (entered s t session m o (reply_in (if b
       then (if count_at session.told m == most_operations then says (s.member m) answer.TooMany else unless_blocked (s.member m) t o (lock_blocker (s.member m).engine t o))
       else says (s.member m) (answer.Gone (counted (kept_count (s.member m).engine t)) (counted (count_at session.told m)))).answer)) m
       (if b
       then (if count_at session.told m == most_operations then says (s.member m) answer.TooMany else unless_blocked (s.member m) t o (lock_blocker (s.member m).engine t o))
       else says (s.member m) (answer.Gone (counted (kept_count (s.member m).engine t)) (counted (count_at session.told m))))).state
-  kept_made false b = member_still s m
+  kept_made false b = member_still l s m
   kept_made true b = full_made (count_at session.told m == most_operations) refl (eqb-true (kept_count (s.member m).engine t) (count_at session.told m) b)
 
-  pub operation_made : (up : Bool) → Made s (where_up up (operation_moves (s.member m) t m o (count_at session.told m))) (operated s t session m o up (member_op (s.member m) t (count_at session.told m) o)).state
-  operation_made false = no_move s
+  pub operation_made : (up : Bool) → MadeOver l s (where_up up (operation_moves (s.member m) t m o (count_at session.told m))) (operated s t session m o up (member_op (s.member m) t (count_at session.told m) o)).state
+  operation_made false = no_move l s
   operation_made true = kept_made (kept_count (s.member m).engine t == count_at session.told m) refl

@@ -3,11 +3,13 @@ pub mod Derived
 pub mod KeptFrom
 pub mod MoveByMove
 pub mod Made
+pub mod FactsOver
 pub mod MemberMade
 pub mod CoordMade
 pub mod ClientMade
 pub mod LocalMade
 pub mod StepsMade
+pub mod OwnRuns
 pub mod Onward
 pub mod ByMoves
 pub mod NodesTold

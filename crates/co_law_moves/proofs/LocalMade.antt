@@ -15,48 +15,50 @@ use Rattle.co_plain.specs.declared.session.Session.{Session}
 use Rattle.co_plain.specs.declared.standing.Standing.{Standing}
 use Rattle.co_plain.specs.declared.standing.Standing.TheVariants.{IsActive, IsVoted, IsInstalled, IsAbsent}
 use Rattle.co_plain.specs.Numbers.{counted}
-use Rattle.co_plain.specs.LogWrite.{outcome_of, with_batch}
+use Rattle.co_plain.specs.LogWrite.{marks_of, outcome_of, with_batch}
 use Rattle.co_plain.specs.MemberStep.{says, standing_of, dropped, member_down, member_down_with, stopped_member, forced_by}
 use Rattle.co_plain.specs.LocalCommit.{local_coord, local_commit_by, member_local_commit, local_abort_by}
 use Rattle.co_plain.specs.Sessions.{count_at, asked_to_end}
-use Rattle.co_plain.specs.Federation.{Federation, with_session, with_member, at_member, noted}
+use Rattle.co_plain.specs.Federation.{Federation, with_session, with_member, at_member, noted, decide_all}
 use Rattle.co_plain.specs.Step.{marked_asked, is_held}
 use Rattle.co_plain.specs.Decisions.{told_of, told_in, asked_in}
 use Rattle.co_plain.specs.Moves.{Move, CommitLocally, CrashMember, AskEnd, DropActive, Guard, effect, marked_over, with_decision, local_state, session_by_member}
 use Rattle.co_law_base.proofs.Facts.{Facts}
-use Rattle.co_law_event.proofs.MemberEvents.{active_is}
+use Rattle.co_law_event.proofs.MemberEvents.{active_is, install_kind}
 use Rattle.co_law_event.proofs.LocalEvents as locals
 use Rattle.co_law_moves.specs.EventMoves.{drop_moves, local_decision_moves, local_verdict_moves, local_commit_moves, local_abort_moves}
-use Rattle.co_law_moves.proofs.Made.{Made, no_move, one_more, made_to, made_from, member_first, member_still, crash_made}
+use Rattle.co_law_moves.proofs.Made.{where_map, always, AllowedOver, AllAllowedOver, MadeOver, no_move, one_more, made_to, made_from, member_first, member_still, crash_made}
 use Rattle.co_law_moves.proofs.MemberMade.{absent_same}
 use Rattle.co_law_moves.proofs.ClientMade.{ask_first}
+use Rattle.co_law_own.specs.OwnGuards.{Logs, SoundLogs, AnyLogs, Where, GuardOver}
+use Rattle.co_law_moves.proofs.FactsOver.{FactsOver, where_sound, coords_over, marked_over', sent_over, waiting_quiet, vote_quiet, asks_over, local_unvoted}
 
-module _ (s : Federation) (f : Facts s) (t m : ℕ) (session : Session) (e : look s.sessions t ≡ Some session) (mine : session.by ≡ node.Member m) (unasked : session.asked ≡ false) where
+module _ (l : Logs) (s : Federation) (f : FactsOver l s) (t m : ℕ) (session : Session) (e : look s.sessions t ≡ Some session) (mine : session.by ≡ node.Member m) (unasked : session.asked ≡ false) where
   abbrev s1 : Federation
   s1 = with_session s t (asked_to_end session)
 
-  f1 : Facts (with_session s t (asked_to_end session))
-  f1 = locals.f1 s f t m session e mine unasked
+  f1 : FactsOver l (with_session s t (asked_to_end session))
+  f1 = asks_over l s f t session e
 
-  still1 : Made s (AskEnd t ∷ []) (with_member (with_session s t (asked_to_end session)) m (s.member m))
-  still1 = ask_first s t session e [] (with_member (with_session s t (asked_to_end session)) m (s.member m)) (member_still (with_session s t (asked_to_end session)) m)
+  still1 : MadeOver l s (AskEnd t ∷ []) (with_member (with_session s t (asked_to_end session)) m (s.member m))
+  still1 = ask_first l s t session e [] (with_member (with_session s t (asked_to_end session)) m (s.member m)) (member_still l (with_session s t (asked_to_end session)) m)
 
   -- what is there is dropped
-  drops : Made s (AskEnd t ∷ drop_moves (holds (s.member m).engine.active t) t m) (with_member (with_session s t (asked_to_end session)) m (dropped (s.member m) t))
-  drops = ask_first s t session e (drop_moves (holds (s.member m).engine.active t) t m) (with_member (with_session s t (asked_to_end session)) m (dropped (s.member m) t)) (by (holds (s.member m).engine.active t) refl)
+  drops : MadeOver l s (AskEnd t ∷ drop_moves (holds (s.member m).engine.active t) t m) (with_member (with_session s t (asked_to_end session)) m (dropped (s.member m) t))
+  drops = ask_first l s t session e (drop_moves (holds (s.member m).engine.active t) t m) (with_member (with_session s t (asked_to_end session)) m (dropped (s.member m) t)) (by (holds (s.member m).engine.active t) refl)
     where
-      by : (b : Bool) → holds (s.member m).engine.active t ≡ b → Made (with_session s t (asked_to_end session)) (drop_moves b t m) (with_member (with_session s t (asked_to_end session)) m (dropped (s.member m) t))
+      by : (b : Bool) → holds (s.member m).engine.active t ≡ b → MadeOver l (with_session s t (asked_to_end session)) (drop_moves b t m) (with_member (with_session s t (asked_to_end session)) m (dropped (s.member m) t))
       by true a = record { same = refl; guards = (a, tt) }
       by false a =
-          made_to (with_session s t (asked_to_end session)) [] (with_member (with_session s t (asked_to_end session)) m (s.member m)) (with_member (with_session s t (asked_to_end session)) m (dropped (s.member m) t))
-          (λ i. with_member (with_session s t (asked_to_end session)) m (sym (absent_same (with_session s t (asked_to_end session)) m f1 t (locals.unvoted s f t m session e mine unasked) a) i))
-          (member_still (with_session s t (asked_to_end session)) m)
+          made_to l (with_session s t (asked_to_end session)) [] (with_member (with_session s t (asked_to_end session)) m (s.member m)) (with_member (with_session s t (asked_to_end session)) m (dropped (s.member m) t))
+          (λ i. with_member (with_session s t (asked_to_end session)) m (sym (absent_same l (with_session s t (asked_to_end session)) m f1 t (local_unvoted l s f t m session e mine unasked) a) i))
+          (member_still l (with_session s t (asked_to_end session)) m)
 
   pub local_abort_made : (st : Standing) → standing_of (s.member m) t ≡ st →
-      Made s (local_abort_moves t m st) (at_member (marked_asked s t session (not (is_held (local_abort_by (s.member m) t st).answer))) m (local_abort_by (s.member m) t st)).state
+      MadeOver l s (local_abort_moves t m st) (at_member (marked_asked s t session (not (is_held (local_abort_by (s.member m) t st).answer))) m (local_abort_by (s.member m) t st)).state
   local_abort_made IsActive i =
       let a : holds (s.member m).engine.active t ≡ true = active_is _ _ _ i in
-      ask_first s t session e (DropActive t m ∷ []) (with_member (with_session s t (asked_to_end session)) m (dropped (s.member m) t)) (record { same = refl; guards = (a, tt) })
+      ask_first l s t session e (DropActive t m ∷ []) (with_member (with_session s t (asked_to_end session)) m (dropped (s.member m) t)) (record { same = refl; guards = (a, tt) })
   local_abort_made IsVoted i = still1
   local_abort_made IsInstalled i = still1
   local_abort_made IsAbsent i = still1
@@ -75,50 +77,53 @@ module _ (s : Federation) (f : Facts s) (t m : ℕ) (session : Session) (e : loo
   does : effect s (CommitLocally t m) ≡ with_decision (with_member (with_session s t (asked_to_end session)) m (local_state (s.member m) t (count_at session.told m))) t
   does = ap (λ o. with_decision (with_member (marked_over s t o) m (local_state (s.member m) t (count_at (told_in o) m))) t) e
 
-  decides : 1 ≤ count_at session.told m → vote_of (s.member m).engine t (count_at session.told m) ≡ VoteYes → (moves : List Move) (z : Federation) → Made local moves z → Made s (CommitLocally t m ∷ moves) z
-  decides n v moves z r = one_more s z (CommitLocally t m) moves (guarded n v) (made_from (effect s (CommitLocally t m)) local moves z does r)
+  decides : 1 ≤ count_at session.told m → vote_of (s.member m).engine t (count_at session.told m) ≡ VoteYes → (moves : List Move) (z : Federation) → MadeOver l local moves z → MadeOver l s (CommitLocally t m ∷ moves) z
+  decides n v moves z r = one_more l s z (CommitLocally t m) moves (guarded n v) (made_from l (effect s (CommitLocally t m)) local moves z does r)
 
   abbrev next : MemberState
-  next = locals.next s f t m session e mine unasked
+  next = locals.decided_alone (s.member m) t (count_at session.told m)
+
+  marks_decide : decide_all (put s.sessions t (asked_to_end session)) s.decided (marks_of (node.Member m) (locals.batch_alone (s.member m) t (count_at session.told m) ++ (s.member m).log.waiting)) ≡ record { txn = t; told = told_of (with_session s t (asked_to_end session)) t } ∷ s.decided
+  marks_decide = locals.decides_alone s t m session mine (waiting_quiet l s f m (put s.sessions t (asked_to_end session)))
 
   forced_made : 1 ≤ count_at session.told m → vote_of (s.member m).engine t (count_at session.told m) ≡ VoteYes → (o : Outcome) →
-      Made s (local_decision_moves t m o) (at_member (marked_asked s t session (not (is_held (forced_by m (locals.next s f t m session e mine unasked) (locals.batch s f t m session e mine unasked) answer.Committed None o).answer))) m (forced_by m (locals.next s f t m session e mine unasked) (locals.batch s f t m session e mine unasked) answer.Committed None o)).state
+      MadeOver l s (local_decision_moves t m o) (at_member (marked_asked s t session (not (is_held (forced_by m (locals.decided_alone (s.member m) t (count_at session.told m)) (locals.batch_alone (s.member m) t (count_at session.told m)) answer.Committed None o).answer))) m (forced_by m (locals.decided_alone (s.member m) t (count_at session.told m)) (locals.batch_alone (s.member m) t (count_at session.told m)) answer.Committed None o)).state
   forced_made n v Completes =
-      let z = (at_member (with_session s t (asked_to_end session)) m (forced_by m (locals.next s f t m session e mine unasked) (locals.batch s f t m session e mine unasked) answer.Committed None Completes)).state in
-      decides n v [] z (made_to local [] local z (λ i. record local { decided = sym (locals.marks_decide s f t m session e mine unasked) i }) (no_move local))
+      let z = (at_member (with_session s t (asked_to_end session)) m (forced_by m (locals.decided_alone (s.member m) t (count_at session.told m)) (locals.batch_alone (s.member m) t (count_at session.told m)) answer.Committed None Completes)).state in
+      decides n v [] z (made_to l local [] local z (λ i. record local { decided = sym (marks_decide) i }) (no_move l local))
   forced_made n v (StopsAt call leaves) = by (batch_is_stable call leaves)
     where
-      by : (b : Bool) → Made s (if b then CommitLocally t m ∷ CrashMember m ∷ [] else AskEnd t ∷ CrashMember m ∷ [])
-          (at_member (marked_asked s t session (not (is_held (stopped_member m (locals.next s f t m session e mine unasked) call b (locals.batch s f t m session e mine unasked)).answer))) m (stopped_member m (locals.next s f t m session e mine unasked) call b (locals.batch s f t m session e mine unasked))).state
+      by : (b : Bool) → MadeOver l s (if b then CommitLocally t m ∷ CrashMember m ∷ [] else AskEnd t ∷ CrashMember m ∷ [])
+          (at_member (marked_asked s t session (not (is_held (stopped_member m (locals.decided_alone (s.member m) t (count_at session.told m)) call b (locals.batch_alone (s.member m) t (count_at session.told m))).answer))) m (stopped_member m (locals.decided_alone (s.member m) t (count_at session.told m)) call b (locals.batch_alone (s.member m) t (count_at session.told m)))).state
       by true =
-          let z = (at_member (with_session s t (asked_to_end session)) m (stopped_member m (locals.next s f t m session e mine unasked) call true (locals.batch s f t m session e mine unasked))).state in
-          let down = member_down (locals.next s f t m session e mine unasked) (with_batch (s.member m).log (locals.batch s f t m session e mine unasked)) in
+          let z = (at_member (with_session s t (asked_to_end session)) m (stopped_member m (locals.decided_alone (s.member m) t (count_at session.told m)) call true (locals.batch_alone (s.member m) t (count_at session.told m)))).state in
+          let down = member_down (locals.decided_alone (s.member m) t (count_at session.told m)) (with_batch (s.member m).log (locals.batch_alone (s.member m) t (count_at session.told m))) in
           decides n v (CrashMember m ∷ []) z
-          (made_to local (CrashMember m ∷ []) (noted (with_member (with_decision (with_session s t (asked_to_end session)) t) m down) [] []) z
-          (λ i. record (noted (with_member (with_decision (with_session s t (asked_to_end session)) t) m down) [] []) { decided = sym (locals.marks_decide s f t m session e mine unasked) i })
-          (crash_made (with_decision (with_session s t (asked_to_end session)) t) m (local_state (s.member m) t (count_at session.told m)) [] refl))
+          (made_to l local (CrashMember m ∷ []) (noted (with_member (with_decision (with_session s t (asked_to_end session)) t) m down) [] []) z
+          (λ i. record (noted (with_member (with_decision (with_session s t (asked_to_end session)) t) m down) [] []) { decided = sym (marks_decide) i })
+          (crash_made l (with_decision (with_session s t (asked_to_end session)) t) m (local_state (s.member m) t (count_at session.told m)) [] refl))
       by false =
-          let z = (at_member (with_session s t (asked_to_end session)) m (stopped_member m (locals.next s f t m session e mine unasked) call false (locals.batch s f t m session e mine unasked))).state in
-          ask_first s t session e (CrashMember m ∷ []) z
-          (made_to (with_session s t (asked_to_end session)) (CrashMember m ∷ []) (noted (with_member (with_session s t (asked_to_end session)) m (member_down (s.member m) (s.member m).log)) [] []) z
+          let z = (at_member (with_session s t (asked_to_end session)) m (stopped_member m (locals.decided_alone (s.member m) t (count_at session.told m)) call false (locals.batch_alone (s.member m) t (count_at session.told m)))).state in
+          ask_first l s t session e (CrashMember m ∷ []) z
+          (made_to l (with_session s t (asked_to_end session)) (CrashMember m ∷ []) (noted (with_member (with_session s t (asked_to_end session)) m (member_down (s.member m) (s.member m).log)) [] []) z
           (ap (λ k. noted (with_member (with_session s t (asked_to_end session)) m (member_down_with k (s.member m).log)) [] [])
-          (sym (locals.install_kind s f t m session e mine unasked (after_cast (s.member m).engine t local_coord (counted (count_at session.told m))) (look (after_cast (s.member m).engine t local_coord (counted (count_at session.told m))).voted t))))
-          (member_first (with_session s t (asked_to_end session)) m (CrashMember m ∷ []) (noted (with_member (with_session s t (asked_to_end session)) m (member_down (s.member m) (s.member m).log)) [] [])
-          (crash_made (with_session s t (asked_to_end session)) m (s.member m) [] refl)))
+          (sym (install_kind (after_cast (s.member m).engine t local_coord (counted (count_at session.told m))) t (look (after_cast (s.member m).engine t local_coord (counted (count_at session.told m))).voted t))))
+          (member_first l (with_session s t (asked_to_end session)) m (CrashMember m ∷ []) (noted (with_member (with_session s t (asked_to_end session)) m (member_down (s.member m) (s.member m).log)) [] [])
+          (crash_made l (with_session s t (asked_to_end session)) m (s.member m) [] refl)))
 
   by_verdict : 1 ≤ count_at session.told m → (v : Verdict) → vote_of (s.member m).engine t (count_at session.told m) ≡ v →
-      Made s (local_verdict_moves (s.member m) t m v) (at_member (marked_asked s t session (not (is_held (local_commit_by m (s.member m) t (count_at session.told m) v).answer))) m (local_commit_by m (s.member m) t (count_at session.told m) v)).state
+      MadeOver l s (local_verdict_moves (s.member m) t m v) (at_member (marked_asked s t session (not (is_held (local_commit_by m (s.member m) t (count_at session.told m) v).answer))) m (local_commit_by m (s.member m) t (count_at session.told m) v)).state
   by_verdict n LostOperations v = drops
   by_verdict n (StaleRead key) v = drops
-  by_verdict n (HeldBy u) v = member_still s m
+  by_verdict n (HeldBy u) v = member_still l s m
   by_verdict n VoteYes v = forced_made n v (outcome_of (s.member m).log.armed 4)
 
   by_count : (b : Bool) → (count_at session.told m == 0) ≡ b →
-      Made s (if b then AskEnd t ∷ [] else local_verdict_moves (s.member m) t m (vote_of (s.member m).engine t (count_at session.told m)))
+      MadeOver l s (if b then AskEnd t ∷ [] else local_verdict_moves (s.member m) t m (vote_of (s.member m).engine t (count_at session.told m)))
       (at_member (marked_asked s t session (not (is_held (if b then says (s.member m) answer.Absent else local_commit_by m (s.member m) t (count_at session.told m) (vote_of (s.member m).engine t (count_at session.told m))).answer))) m
       (if b then says (s.member m) answer.Absent else local_commit_by m (s.member m) t (count_at session.told m) (vote_of (s.member m).engine t (count_at session.told m)))).state
   by_count true z = still1
-  by_count false z = by_verdict (locals.positive s f t m session e mine unasked (count_at session.told m) z) (vote_of (s.member m).engine t (count_at session.told m)) refl
+  by_count false z = by_verdict (locals.positive (count_at session.told m) z) (vote_of (s.member m).engine t (count_at session.told m)) refl
 
-  pub local_commit_made : Made s (local_commit_moves (s.member m) t m (count_at session.told m)) (at_member (marked_asked s t session (not (is_held (member_local_commit m (s.member m) t (count_at session.told m)).answer))) m (member_local_commit m (s.member m) t (count_at session.told m))).state
+  pub local_commit_made : MadeOver l s (local_commit_moves (s.member m) t m (count_at session.told m)) (at_member (marked_asked s t session (not (is_held (member_local_commit m (s.member m) t (count_at session.told m)).answer))) m (member_local_commit m (s.member m) t (count_at session.told m))).state
   local_commit_made = by_count (count_at session.told m == 0) refl

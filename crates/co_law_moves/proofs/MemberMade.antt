@@ -48,69 +48,71 @@ use Rattle.co_law_event.proofs.Marks.{AllAllowed, AllQuiet, aborts_quiet, quiet_
 use Rattle.co_law_event.proofs.MemberEvents.{active_is, voted_is, installed_is, absent_is, votes_own, voted_quiet, install_kind}
 use Rattle.co_law_moves.specs.EventMoves.{sends, written_moves, stopped_moves, drop_moves, vote_moves, prepare_moves, asked_moves, again_moves, commit_moves, abort_moves, timer_moves, question_moves, closing_moves, member_checkpoint_moves, restart_moves}
 use Rattle.co_law_moves.proofs.KeptFrom.{settled_is, dead_is}
-use Rattle.co_law_moves.proofs.Made.{Made, no_move, made_to, member_first, member_still, member_then, sends_made, crash_made}
+use Rattle.co_law_moves.proofs.Made.{where_map, always, AllowedOver, AllAllowedOver, MadeOver, no_move, made_to, member_first, member_still, member_then, sends_made, crash_made}
+use Rattle.co_law_own.specs.OwnGuards.{Logs, SoundLogs, AnyLogs, Where, GuardOver}
+use Rattle.co_law_moves.proofs.FactsOver.{FactsOver, where_sound, coords_over, marked_over', sent_over, waiting_quiet, vote_quiet, asks_over, local_unvoted}
 
 -- the messages of a step that sends at most one
-one_allowed : (z : Federation) (note : Option Message) → ((k : Message) → note ≡ Some k → Allowed z k) → AllAllowed z (message_list note)
-one_allowed z None g = tt
-one_allowed z (Some k) g = (g k refl, tt)
+one_allowed : (l : Logs) (z : Federation) (note : Option Message) → ((k : Message) → note ≡ Some k → AllowedOver l z k) → AllAllowedOver l z (message_list note)
+one_allowed l z None g = tt
+one_allowed l z (Some k) g = (g k refl, tt)
 
-only : (z : Federation) (note : Message) → Allowed z note → (k : Message) → Some note ≡ Some k → Allowed z k
-only z note g k e = subst (Allowed z) (in_some e) g
+only : (l : Logs) (z : Federation) (note : Message) → AllowedOver l z note → (k : Message) → Some note ≡ Some k → AllowedOver l z k
+only l z note g k e = subst (AllowedOver l z) (in_some e) g
 
 -- A forced batch: the move, or the move and a crash, or the crash alone.
-abbrev pub Follows : Federation → ℕ → MemberState → MemberState → Move → Type 0
-Follows s m x next move = (moves : List Move) (z : Federation) → Made (with_member s m next) moves z → Made (with_member s m x) (move ∷ moves) z
+abbrev pub Follows : Logs → Federation → ℕ → MemberState → MemberState → Move → Type 0
+Follows l s m x next move = (moves : List Move) (z : Federation) → MadeOver l (with_member s m next) moves z → MadeOver l (with_member s m x) (move ∷ moves) z
 
-pub forced_made : (s : Federation) (m : ℕ) (x next : MemberState) (batch : List Record) (a : Answer) (note : Option Message) (move : Move) →
-    Follows s m x (with_log next (with_batch next.log batch)) move → member_down next next.log ≡ member_down x x.log →
-    AllQuiet s.sessions (node.Member m) (batch ++ next.log.waiting) → ((k : Message) → note ≡ Some k → Allowed (with_member s m (with_log next (with_batch next.log batch))) k) →
-    (o : Outcome) → Made (with_member s m x) (written_moves move (CrashMember m) (sends (message_list note)) o) (at_member s m (forced_by m next batch a note o)).state
-forced_made s m x next batch a note move done same q g Completes =
+pub forced_made : (l : Logs) (s : Federation) (m : ℕ) (x next : MemberState) (batch : List Record) (a : Answer) (note : Option Message) (move : Move) →
+    Follows l s m x (with_log next (with_batch next.log batch)) move → member_down next next.log ≡ member_down x x.log →
+    AllQuiet s.sessions (node.Member m) (batch ++ next.log.waiting) → ((k : Message) → note ≡ Some k → AllowedOver l (with_member s m (with_log next (with_batch next.log batch))) k) →
+    (o : Outcome) → MadeOver l (with_member s m x) (written_moves move (CrashMember m) (sends (message_list note)) o) (at_member s m (forced_by m next batch a note o)).state
+forced_made l s m x next batch a note move done same q g Completes =
     done (sends (message_list note)) (at_member s m (forced_by m next batch a note Completes)).state
-    (sends_made (with_member s m (with_log next (with_batch next.log batch))) (marks_of (node.Member m) (batch ++ next.log.waiting)) (message_list note)
-    (quiet_marks s.sessions (node.Member m) s.decided (batch ++ next.log.waiting) q) (one_allowed (with_member s m (with_log next (with_batch next.log batch))) note g))
-forced_made s m x next batch a note move done same q g (StopsAt call leaves) = by (batch_is_stable call leaves)
+    (sends_made l (with_member s m (with_log next (with_batch next.log batch))) (marks_of (node.Member m) (batch ++ next.log.waiting)) (message_list note)
+    (quiet_marks s.sessions (node.Member m) s.decided (batch ++ next.log.waiting) q) (one_allowed l (with_member s m (with_log next (with_batch next.log batch))) note g))
+forced_made l s m x next batch a note move done same q g (StopsAt call leaves) = by (batch_is_stable call leaves)
   where
-    by : (b : Bool) → Made (with_member s m x) (stopped_moves move (CrashMember m) b) (at_member s m (stopped_member m next call b batch)).state
+    by : (b : Bool) → MadeOver l (with_member s m x) (stopped_moves move (CrashMember m) b) (at_member s m (stopped_member m next call b batch)).state
     by true =
         done (CrashMember m ∷ []) (at_member s m (stopped_member m next call true batch)).state
-        (crash_made s m (with_log next (with_batch next.log batch)) (marks_of (node.Member m) (batch ++ next.log.waiting)) (quiet_marks s.sessions (node.Member m) s.decided (batch ++ next.log.waiting) q))
+        (crash_made l s m (with_log next (with_batch next.log batch)) (marks_of (node.Member m) (batch ++ next.log.waiting)) (quiet_marks s.sessions (node.Member m) s.decided (batch ++ next.log.waiting) q))
     by false =
-        made_to (with_member s m x) (CrashMember m ∷ []) (noted (with_member s m (member_down x x.log)) [] []) (noted (with_member s m (member_down next next.log)) [] [])
-        (λ i. noted (with_member s m (sym same i)) [] []) (crash_made s m x [] refl)
+        made_to l (with_member s m x) (CrashMember m ∷ []) (noted (with_member s m (member_down x x.log)) [] []) (noted (with_member s m (member_down next next.log)) [] [])
+        (λ i. noted (with_member s m (sym same i)) [] []) (crash_made l s m x [] refl)
 
 -- what is active is dropped
-drop_made : (s : Federation) (m : ℕ) (x : MemberState) (t : ℕ) → (holds x.engine.active t ≡ false → dropped x t ≡ x) → (b : Bool) → holds x.engine.active t ≡ b →
-    (moves : List Move) (z : Federation) → Made (with_member s m (dropped x t)) moves z → Made (with_member s m x) (drop_moves b t m ++ moves) z
-drop_made s m x t same true a moves z r =
-    member_then s m x (λ y. dropped y t) (DropActive t m) refl (subst (λ y. holds y.engine.active t ≡ true) (sym (at_here s.member m x)) a) moves z r
-drop_made s m x t same false a moves z r = subst (λ y. Made (with_member s m y) moves z) (same a) r
+drop_made : (l : Logs) (s : Federation) (m : ℕ) (x : MemberState) (t : ℕ) → (holds x.engine.active t ≡ false → dropped x t ≡ x) → (b : Bool) → holds x.engine.active t ≡ b →
+    (moves : List Move) (z : Federation) → MadeOver l (with_member s m (dropped x t)) moves z → MadeOver l (with_member s m x) (drop_moves b t m ++ moves) z
+drop_made l s m x t same true a moves z r =
+    member_then l s m x (λ y. dropped y t) (DropActive t m) refl (subst (λ y. holds y.engine.active t ≡ true) (sym (at_here s.member m x)) a) moves z r
+drop_made l s m x t same false a moves z r = subst (λ y. MadeOver l (with_member s m y) moves z) (same a) r
 
 -- a vote, by its verdict
-vote_made : (s : Federation) (m : ℕ) (x : MemberState) (t c n : ℕ) → OnlyAborts (rest_of s) x.log.waiting → was_sent s.sent (message.Prepare t c m n) ≡ true →
-    (holds x.engine.active t ≡ false → dropped x t ≡ x) → (v : Verdict) → vote_of x.engine t n ≡ v → Made (with_member s m x) (vote_moves x t m c n v) (at_member s m (vote_by m x t c n v)).state
-vote_made s m x t c n w p d LostOperations e =
-    drop_made s m x t d (holds x.engine.active t) refl (sends (message.Vote t m c false ∷ [])) (at_member s m (vote_by m x t c n LostOperations)).state
-    (sends_made (with_member s m (dropped x t)) [] (message.Vote t m c false ∷ []) refl ((n, p), tt))
-vote_made s m x t c n w p d (StaleRead key) e =
-    drop_made s m x t d (holds x.engine.active t) refl (sends (message.Vote t m c false ∷ [])) (at_member s m (vote_by m x t c n (StaleRead key))).state
-    (sends_made (with_member s m (dropped x t)) [] (message.Vote t m c false ∷ []) refl ((n, p), tt))
-vote_made s m x t c n w p d (HeldBy u) e = no_move (with_member s m x)
-vote_made s m x t c n w p d VoteYes e =
-    forced_made s m x (voted_state x t c n) (prepare_record t c n (sets_of (operations_of x.engine t)) ∷ []) answer.Yes (Some (message.Vote t m c true)) (Cast t m c n)
-    (member_then s m x (λ y. cast_state y t c n) (Cast t m c n) refl (p, subst (λ y. vote_of y.engine t n ≡ VoteYes) (sym (at_here s.member m x)) e))
-    refl (tt, aborts_quiet (rest_of s) s.sessions (node.Member m) x.log.waiting w)
-    (only (with_member s m (cast_state x t c n)) (message.Vote t m c true) (subst (λ y. votes_for (look y.engine.voted t) c ≡ true) (sym (at_here s.member m (cast_state x t c n)))
+vote_made : (l : Logs) (s : Federation) (m : ℕ) (x : MemberState) (t c n : ℕ) → AllQuiet s.sessions (node.Member m) x.log.waiting → was_sent s.sent (message.Prepare t c m n) ≡ true →
+    (holds x.engine.active t ≡ false → dropped x t ≡ x) → (v : Verdict) → vote_of x.engine t n ≡ v → MadeOver l (with_member s m x) (vote_moves x t m c n v) (at_member s m (vote_by m x t c n v)).state
+vote_made l s m x t c n w p d LostOperations e =
+    drop_made l s m x t d (holds x.engine.active t) refl (sends (message.Vote t m c false ∷ [])) (at_member s m (vote_by m x t c n LostOperations)).state
+    (sends_made l (with_member s m (dropped x t)) [] (message.Vote t m c false ∷ []) refl ((n, p), tt))
+vote_made l s m x t c n w p d (StaleRead key) e =
+    drop_made l s m x t d (holds x.engine.active t) refl (sends (message.Vote t m c false ∷ [])) (at_member s m (vote_by m x t c n (StaleRead key))).state
+    (sends_made l (with_member s m (dropped x t)) [] (message.Vote t m c false ∷ []) refl ((n, p), tt))
+vote_made l s m x t c n w p d (HeldBy u) e = no_move l (with_member s m x)
+vote_made l s m x t c n w p d VoteYes e =
+    forced_made l s m x (voted_state x t c n) (prepare_record t c n (sets_of (operations_of x.engine t)) ∷ []) answer.Yes (Some (message.Vote t m c true)) (Cast t m c n)
+    (member_then l s m x (λ y. cast_state y t c n) (Cast t m c n) refl (p, subst (λ y. vote_of y.engine t n ≡ VoteYes) (sym (at_here s.member m x)) e))
+    refl (tt, w)
+    (only l (with_member s m (cast_state x t c n)) (message.Vote t m c true) (subst (λ y. votes_for (look y.engine.voted t) c ≡ true) (sym (at_here s.member m (cast_state x t c n)))
     (ap (λ o. votes_for o c) (put_here x.engine.voted t (record { coord = c; count = n; sets = sets_of (operations_of x.engine t) })) ∙ eq-eqb c c refl)))
     (outcome_of x.log.armed 4)
 
-module _ (s : Federation) (m : ℕ) (f : Facts s) where
-  still : Made s [] (with_member s m (s.member m))
-  still = member_still s m
+module _ (l : Logs) (s : Federation) (m : ℕ) (f : FactsOver l s) where
+  still : MadeOver l s [] (with_member s m (s.member m))
+  still = member_still l s m
 
-  w : OnlyAborts (rest_of s) (s.member m).log.waiting
-  w = (f.members m).waiting
+  w : AllQuiet s.sessions (node.Member m) (s.member m).log.waiting
+  w = waiting_quiet l s f m s.sessions
 
   -- what is nowhere is dropped without a trace
   pub absent_same : (t : ℕ) → holds (s.member m).engine.voted t ≡ false → holds (s.member m).engine.active t ≡ false → dropped (s.member m) t ≡ s.member m
@@ -125,112 +127,118 @@ module _ (s : Federation) (m : ℕ) (f : Facts s) where
       unasked : look (s.member m).asked t ≡ None
       unasked = not_held (s.member m).asked t (false_from_ne_true (holds (s.member m).asked t) (λ h.
           let p = holds_found (s.member m).asked t h in
-          let z : true ≡ false = sym ((f.members m).marked t p.0 p.1).0 ∙ a in cc))
+          let z : true ≡ false = sym (marked_over' l s f m t p.0 p.1).0 ∙ a in cc))
 
   at_m : (P : MemberState → Type 0) → P (s.member m) → P (with_at s.member m (s.member m) m)
   at_m P h = subst P (sym (at_here s.member m (s.member m))) h
 
   -- a message of the member as it stands
-  sends_here : (note : Message) (a : Answer) → Allowed (with_member s m (s.member m)) note → Made s (sends (note ∷ [])) (at_member s m (record { state = s.member m; answer = a; sent = Some note; marks = [] })).state
-  sends_here note a g = member_first s m (sends (note ∷ [])) (at_member s m (record { state = s.member m; answer = a; sent = Some note; marks = [] })).state (sends_made (with_member s m (s.member m)) [] (note ∷ []) refl (g, tt))
+  sends_here : (note : Message) (a : Answer) → AllowedOver l (with_member s m (s.member m)) note → MadeOver l s (sends (note ∷ [])) (at_member s m (record { state = s.member m; answer = a; sent = Some note; marks = [] })).state
+  sends_here note a g = member_first l s m (sends (note ∷ [])) (at_member s m (record { state = s.member m; answer = a; sent = Some note; marks = [] })).state (sends_made l (with_member s m (s.member m)) [] (note ∷ []) refl (g, tt))
 
-  drops_active : (t : ℕ) → holds (s.member m).engine.active t ≡ true → Made s (DropActive t m ∷ []) (with_member s m (dropped (s.member m) t))
+  drops_active : (t : ℕ) → holds (s.member m).engine.active t ≡ true → MadeOver l s (DropActive t m ∷ []) (with_member s m (dropped (s.member m) t))
   drops_active t a = record { same = refl; guards = (a, tt) }
 
   pub prepare_made : (t c n : ℕ) → was_sent s.sent (message.Prepare t c m n) ≡ true → (st : Standing) → standing_of (s.member m) t ≡ st →
-      Made s (prepare_moves (s.member m) t m c n st) (at_member s m (prepare_by m (s.member m) t c n st)).state
+      MadeOver l s (prepare_moves (s.member m) t m c n st) (at_member s m (prepare_by m (s.member m) t c n st)).state
   prepare_made t c n p IsActive e =
       let a : holds (s.member m).engine.active t ≡ true = active_is _ _ _ e in
       let z = (at_member s m (prepare_by m (s.member m) t c n IsActive)).state in
       let moves = vote_moves (s.member m) t m c n (vote_of (s.member m).engine t n) in
-      member_first s m (MarkAsked t m c n ∷ moves) z
-      (member_then s m (s.member m) (λ y. with_mark y t c n) (MarkAsked t m c n) refl (at_m (λ y. holds y.engine.active t ≡ true) a, p) moves z
-      (vote_made s m (with_mark (s.member m) t c n) t c n w p (λ k. absurd (let q : true ≡ false = sym a ∙ k in cc)) (vote_of (s.member m).engine t n) refl))
+      member_first l s m (MarkAsked t m c n ∷ moves) z
+      (member_then l s m (s.member m) (λ y. with_mark y t c n) (MarkAsked t m c n) refl (at_m (λ y. holds y.engine.active t ≡ true) a, p) moves z
+      (vote_made l s m (with_mark (s.member m) t c n) t c n w p (λ k. absurd (let q : true ≡ false = sym a ∙ k in cc)) (vote_of (s.member m).engine t n) refl))
   prepare_made t c n p IsVoted e =
       let v : holds (s.member m).engine.voted t ≡ true = voted_is _ _ _ e in
-      sends_here (message.Vote t m (coord_of (s.member m) t) true) answer.Voted (at_m (λ z. votes_for (look z.engine.voted t) (coord_of (s.member m) t) ≡ true) (votes_own s m f t v))
+      sends_here (message.Vote t m (coord_of (s.member m) t) true) answer.Voted (at_m (λ z. votes_for (look z.engine.voted t) (coord_of (s.member m) t) ≡ true) (votes_own s m t v))
   prepare_made t c n p IsInstalled e = still
   prepare_made t c n p IsAbsent e =
       let a = absent_is _ _ _ e in
-      member_first s m (vote_moves (s.member m) t m c n (vote_of (s.member m).engine t n)) (at_member s m (prepare_by m (s.member m) t c n IsAbsent)).state
-      (vote_made s m (s.member m) t c n w p (absent_same t a.1) (vote_of (s.member m).engine t n) refl)
+      member_first l s m (vote_moves (s.member m) t m c n (vote_of (s.member m).engine t n)) (at_member s m (prepare_by m (s.member m) t c n IsAbsent)).state
+      (vote_made l s m (s.member m) t c n w p (absent_same t a.1) (vote_of (s.member m).engine t n) refl)
 
-  again_asked : (t : ℕ) → holds (s.member m).engine.active t ≡ true → (o : Option AskedMark) → look (s.member m).asked t ≡ o → Made s (asked_moves (s.member m) t m o) (at_member s m (vote_where_asked m (s.member m) t o)).state
+  again_asked : (t : ℕ) → holds (s.member m).engine.active t ≡ true → (o : Option AskedMark) → look (s.member m).asked t ≡ o → MadeOver l s (asked_moves (s.member m) t m o) (at_member s m (vote_where_asked m (s.member m) t o)).state
   again_asked t a None e = still
   again_asked t a (Some mark) e =
-      member_first s m (vote_moves (s.member m) t m mark.coord mark.count (vote_of (s.member m).engine t mark.count)) (at_member s m (vote_where_asked m (s.member m) t (Some mark))).state
-      (vote_made s m (s.member m) t mark.coord mark.count w ((f.members m).marked t mark e).1 (λ k. absurd (let q : true ≡ false = sym a ∙ k in cc)) (vote_of (s.member m).engine t mark.count) refl)
+      member_first l s m (vote_moves (s.member m) t m mark.coord mark.count (vote_of (s.member m).engine t mark.count)) (at_member s m (vote_where_asked m (s.member m) t (Some mark))).state
+      (vote_made l s m (s.member m) t mark.coord mark.count w (marked_over' l s f m t mark e).1 (λ k. absurd (let q : true ≡ false = sym a ∙ k in cc)) (vote_of (s.member m).engine t mark.count) refl)
 
-  pub again_made : (t : ℕ) (st : Standing) → standing_of (s.member m) t ≡ st → Made s (again_moves (s.member m) t m st) (at_member s m (vote_again_by m (s.member m) t st)).state
+  pub again_made : (t : ℕ) (st : Standing) → standing_of (s.member m) t ≡ st → MadeOver l s (again_moves (s.member m) t m st) (at_member s m (vote_again_by m (s.member m) t st)).state
   again_made t IsActive e = again_asked t (active_is _ _ _ e) (look (s.member m).asked t) refl
   again_made t IsVoted e = still
   again_made t IsInstalled e = still
   again_made t IsAbsent e = still
 
-  pub timer_made : (t : ℕ) (st : Standing) → standing_of (s.member m) t ≡ st → Made s (timer_moves t m st) (at_member s m (timer_by (s.member m) t st)).state
+  pub timer_made : (t : ℕ) (st : Standing) → standing_of (s.member m) t ≡ st → MadeOver l s (timer_moves t m st) (at_member s m (timer_by (s.member m) t st)).state
   timer_made t IsActive e = drops_active t (active_is _ _ _ e)
   timer_made t IsVoted e = still
   timer_made t IsInstalled e = still
   timer_made t IsAbsent e = still
 
-  pub question_made : (t : ℕ) (st : Standing) → standing_of (s.member m) t ≡ st → Made s (question_moves (s.member m) t m st) (at_member s m (ask_by m (s.member m) t st)).state
+  pub question_made : (t : ℕ) (st : Standing) → standing_of (s.member m) t ≡ st → MadeOver l s (question_moves (s.member m) t m st) (at_member s m (ask_by m (s.member m) t st)).state
   question_made t IsActive e = still
   question_made t IsVoted e =
-      sends_here (message.Ask t m (coord_of (s.member m) t)) answer.Asking (at_m (λ z. votes_for (look z.engine.voted t) (coord_of (s.member m) t) ≡ true) (votes_own s m f t (voted_is _ _ _ e)))
+      sends_here (message.Ask t m (coord_of (s.member m) t)) answer.Asking (at_m (λ z. votes_for (look z.engine.voted t) (coord_of (s.member m) t) ≡ true) (votes_own s m t (voted_is _ _ _ e)))
   question_made t IsInstalled e = still
   question_made t IsAbsent e = still
 
-  pub commit_made : (t c : ℕ) → settled (rest_of s) t → (st : Standing) → standing_of (s.member m) t ≡ st → Made s (commit_moves (s.member m) t m c st) (at_member s m (commit_by m (s.member m) t c st)).state
+  pub commit_made : (t c : ℕ) → Where l (settled (rest_of s) t) → (st : Standing) → standing_of (s.member m) t ≡ st → MadeOver l s (commit_moves (s.member m) t m c st) (at_member s m (commit_by m (s.member m) t c st)).state
   commit_made t c d IsActive e = still
   commit_made t c d IsVoted e =
       let v : holds (s.member m).engine.voted t ≡ true = voted_is _ _ _ e in
-      member_first s m (commit_moves (s.member m) t m c IsVoted) (at_member s m (commit_by m (s.member m) t c IsVoted)).state
-      (forced_made s m (s.member m) (installed_state (s.member m) t) (log.Commit t [] ∷ []) answer.Installed (Some (message.Ack t m c)) (Install t m)
-      (member_then s m (s.member m) (λ y. install_state y t) (Install t m) refl (at_m (λ y. holds y.engine.voted t ≡ true) v, settled_is (with_member s m (s.member m)) t d))
-      (ap (λ k. member_down_with k (s.member m).log) (install_kind s m f (s.member m).engine t (look (s.member m).engine.voted t)))
-      (voted_quiet s m f t v, aborts_quiet (rest_of s) s.sessions (node.Member m) (s.member m).log.waiting w)
-      (only (with_member s m (install_state (s.member m) t)) (message.Ack t m c) (subst (λ z. holds z.committed t ≡ true) (sym (at_here s.member m (install_state (s.member m) t))) (holds_new (s.member m).committed t)))
+      member_first l s m (commit_moves (s.member m) t m c IsVoted) (at_member s m (commit_by m (s.member m) t c IsVoted)).state
+      (forced_made l s m (s.member m) (installed_state (s.member m) t) (log.Commit t [] ∷ []) answer.Installed (Some (message.Ack t m c)) (Install t m)
+      (member_then l s m (s.member m) (λ y. install_state y t) (Install t m) refl (at_m (λ y. holds y.engine.voted t ≡ true) v, where_map l (settled_is (with_member s m (s.member m)) t) d))
+      (ap (λ k. member_down_with k (s.member m).log) (install_kind (s.member m).engine t (look (s.member m).engine.voted t)))
+      (vote_quiet l s f m t v, w)
+      (only l (with_member s m (install_state (s.member m) t)) (message.Ack t m c) (subst (λ z. holds z.committed t ≡ true) (sym (at_here s.member m (install_state (s.member m) t))) (holds_new (s.member m).committed t)))
       (outcome_of (s.member m).log.armed 4))
   commit_made t c d IsInstalled e = sends_here (message.Ack t m c) answer.Already (at_m (λ z. holds z.committed t ≡ true) (installed_is _ _ _ e))
   commit_made t c d IsAbsent e = still
 
-  drops_voted : (t c : ℕ) → holds (s.member m).engine.voted t ≡ true → IsPresumedAborted s t → Made s (DropVoted t m ∷ []) (with_member s m (with_log (dropped (s.member m) t) (with_waiting (s.member m).log (log.Abort t))))
+  drops_voted : (t c : ℕ) → holds (s.member m).engine.voted t ≡ true → Where l (IsPresumedAborted s t) → MadeOver l s (DropVoted t m ∷ []) (with_member s m (with_log (dropped (s.member m) t) (with_waiting (s.member m).log (log.Abort t))))
   drops_voted t c v d = record { same = refl; guards = ((v, d), tt) }
 
-  pub abort_made : (t c : ℕ) → (belongs (rest_of s) t c × (alive (rest_of s) c t ≡ false)) ⊎ (holds (view Stable (s.member m)).committed t ≡ true) → (st : Standing) → standing_of (s.member m) t ≡ st →
-      Made s (abort_moves t m st) (at_member s m (abort_by (s.member m) t st)).state
-  abort_made t c d IsActive e = drops_active t (active_is _ _ _ e)
-  abort_made t c (inl d) IsVoted e = drops_voted t c (voted_is _ _ _ e) (dead_is s t c d.0 d.1)
-  abort_made t c (inr h) IsVoted e =
-      let v : holds (s.member m).engine.voted t ≡ true = voted_is _ _ _ e in
+  -- who is voted and is told to abort is presumed aborted
+  told_dead : (t c : ℕ) → Facts s → holds (s.member m).engine.voted t ≡ true →
+      (belongs (rest_of s) t c × (alive (rest_of s) c t ≡ false)) ⊎ (holds (view Stable (s.member m)).committed t ≡ true) → IsPresumedAborted s t
+  told_dead t c f v (inl d) = dead_is s t c d.0 d.1
+  told_dead t c f v (inr h) =
       let k : holds (s.member m).committed t ≡ true = ap (λ n. holds n t) (committed_both (rest_of s) m (s.member m) (f.members m)) ∙ h in
       absurd (let z : true ≡ false = sym v ∙ ((f.members m).views Memory).apart t k in cc)
+
+  pub abort_made : (t c : ℕ) → (Facts s → (belongs (rest_of s) t c × (alive (rest_of s) c t ≡ false)) ⊎ (holds (view Stable (s.member m)).committed t ≡ true)) → (st : Standing) → standing_of (s.member m) t ≡ st →
+      MadeOver l s (abort_moves t m st) (at_member s m (abort_by (s.member m) t st)).state
+  abort_made t c d IsActive e = drops_active t (active_is _ _ _ e)
+  abort_made t c d IsVoted e =
+      let v : holds (s.member m).engine.voted t ≡ true = voted_is _ _ _ e in
+      drops_voted t c v (where_sound l s f (λ g. told_dead t c g v (d g)))
   abort_made t c d IsInstalled e = still
   abort_made t c d IsAbsent e = still
 
-  pub handed_abort_made : (t : ℕ) → IsPresumedAborted s t → (st : Standing) → standing_of (s.member m) t ≡ st → Made s (abort_moves t m st) (at_member s m (abort_by (s.member m) t st)).state
+  pub handed_abort_made : (t : ℕ) → Where l (IsPresumedAborted s t) → (st : Standing) → standing_of (s.member m) t ≡ st → MadeOver l s (abort_moves t m st) (at_member s m (abort_by (s.member m) t st)).state
   handed_abort_made t d IsActive e = drops_active t (active_is _ _ _ e)
   handed_abort_made t d IsVoted e = drops_voted t 0 (voted_is _ _ _ e) d
   handed_abort_made t d IsInstalled e = still
   handed_abort_made t d IsAbsent e = still
 
-  pub crash_event_made : Made s (CrashMember m ∷ []) (at_member s m (says (member_down (s.member m) (s.member m).log) answer.Crashed)).state
-  crash_event_made = member_first s m (CrashMember m ∷ []) (at_member s m (says (member_down (s.member m) (s.member m).log) answer.Crashed)).state (crash_made s m (s.member m) [] refl)
+  pub crash_event_made : MadeOver l s (CrashMember m ∷ []) (at_member s m (says (member_down (s.member m) (s.member m).log) answer.Crashed)).state
+  crash_event_made = member_first l s m (CrashMember m ∷ []) (at_member s m (says (member_down (s.member m) (s.member m).log) answer.Crashed)).state (crash_made l s m (s.member m) [] refl)
 
-  pub restart_made : (up : Bool) → Made s (restart_moves (RestartMember m) up) (at_member s m (restart_by (s.member m) up)).state
+  pub restart_made : (up : Bool) → MadeOver l s (restart_moves (RestartMember m) up) (at_member s m (restart_by (s.member m) up)).state
   restart_made true = still
   restart_made false =
       record { same = refl; guards = (tt, tt) }
 
-  pub arm_made : (stop : Option Stop) → Made s (ArmMember m stop ∷ []) (with_member s m (with_log (s.member m) (with_stop (s.member m).log stop)))
+  pub arm_made : (stop : Option Stop) → MadeOver l s (ArmMember m stop ∷ []) (with_member s m (with_log (s.member m) (with_stop (s.member m).log stop)))
   arm_made stop = record { same = refl; guards = (tt, tt) }
 
-  close_made : (o : Outcome) → Made s (closing_moves (CloseMemberSpare m true) (CrashMember m) (CloseMemberSpare m) o) (at_member s m (close_by (s.member m) o)).state
+  close_made : (o : Outcome) → MadeOver l s (closing_moves (CloseMemberSpare m true) (CrashMember m) (CloseMemberSpare m) o) (at_member s m (close_by (s.member m) o)).state
   close_made Completes = record { same = refl; guards = (tt, tt) }
   close_made (StopsAt call leaves) =
-      member_first s m (CloseMemberSpare m (closes_spare leaves) ∷ CrashMember m ∷ []) (at_member s m (close_by (s.member m) (StopsAt call leaves))).state
-      (member_then s m (s.member m) (λ y. with_log y (with_spare y.log (closes_spare leaves))) (CloseMemberSpare m (closes_spare leaves)) refl tt (CrashMember m ∷ []) (at_member s m (close_by (s.member m) (StopsAt call leaves))).state
-      (crash_made s m (with_log (s.member m) (with_spare (s.member m).log (closes_spare leaves))) [] refl))
+      member_first l s m (CloseMemberSpare m (closes_spare leaves) ∷ CrashMember m ∷ []) (at_member s m (close_by (s.member m) (StopsAt call leaves))).state
+      (member_then l s m (s.member m) (λ y. with_log y (with_spare y.log (closes_spare leaves))) (CloseMemberSpare m (closes_spare leaves)) refl tt (CrashMember m ∷ []) (at_member s m (close_by (s.member m) (StopsAt call leaves))).state
+      (crash_made l s m (with_log (s.member m) (with_spare (s.member m).log (closes_spare leaves))) [] refl))
 
   abbrev generation : ℕ
   generation = next_generation (generation_of (s.member m).log.stable)
@@ -238,18 +246,18 @@ module _ (s : Federation) (m : ℕ) (f : Facts s) where
   abbrev filled : MemberState → MemberState
   filled y = with_log y (with_filled_spare y.log (member_spare m y (next_generation (generation_of y.log.stable))))
 
-  fill_made : (o : Outcome) → Made s (written_moves (FillMemberSpare m) (CrashMember m) [] o) (at_member s m (fill_by m (s.member m) (next_generation (generation_of (s.member m).log.stable)) o)).state
+  fill_made : (o : Outcome) → MadeOver l s (written_moves (FillMemberSpare m) (CrashMember m) [] o) (at_member s m (fill_by m (s.member m) (next_generation (generation_of (s.member m).log.stable)) o)).state
   fill_made Completes = record { same = refl; guards = (tt, tt) }
   fill_made (StopsAt call leaves) = by (batch_is_stable call leaves)
     where
-      by : (b : Bool) → Made s (stopped_moves (FillMemberSpare m) (CrashMember m) b) (at_member s m (stopped_fill m (s.member m) (next_generation (generation_of (s.member m).log.stable)) call b)).state
+      by : (b : Bool) → MadeOver l s (stopped_moves (FillMemberSpare m) (CrashMember m) b) (at_member s m (stopped_fill m (s.member m) (next_generation (generation_of (s.member m).log.stable)) call b)).state
       by true =
           let z = (at_member s m (stopped_fill m (s.member m) (next_generation (generation_of (s.member m).log.stable)) call true)).state in
-          member_first s m (FillMemberSpare m ∷ CrashMember m ∷ []) z
-          (member_then s m (s.member m) filled (FillMemberSpare m) refl tt (CrashMember m ∷ []) z
-          (crash_made s m (filled (s.member m)) (checkpoint_marks (node.Member m) generation) refl))
-      by false = member_first s m (CrashMember m ∷ []) (at_member s m (stopped_fill m (s.member m) (next_generation (generation_of (s.member m).log.stable)) call false)).state (crash_made s m (s.member m) [] refl)
+          member_first l s m (FillMemberSpare m ∷ CrashMember m ∷ []) z
+          (member_then l s m (s.member m) filled (FillMemberSpare m) refl tt (CrashMember m ∷ []) z
+          (crash_made l s m (filled (s.member m)) (checkpoint_marks (node.Member m) generation) refl))
+      by false = member_first l s m (CrashMember m ∷ []) (at_member s m (stopped_fill m (s.member m) (next_generation (generation_of (s.member m).log.stable)) call false)).state (crash_made l s m (s.member m) [] refl)
 
-  pub checkpoint_made : (closed : Bool) → Made s (member_checkpoint_moves (s.member m) m closed) (at_member s m (checkpoint_by m (s.member m) closed)).state
+  pub checkpoint_made : (closed : Bool) → MadeOver l s (member_checkpoint_moves (s.member m) m closed) (at_member s m (checkpoint_by m (s.member m) closed)).state
   checkpoint_made false = close_made (outcome_of (s.member m).log.armed 2)
   checkpoint_made true = fill_made (outcome_of (s.member m).log.armed 4)

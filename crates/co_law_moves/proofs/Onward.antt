@@ -238,7 +238,7 @@ module _ (s : Federation) (f : Facts s) where
   drop_voted t m g =
       drop t m _ refl refl (λ l.
       let c = coord_of (s.member m) t in
-      let b = ((f.members m).views Memory).named t c (votes_own s m f t g.0) in
+      let b = ((f.members m).views Memory).named t c (votes_own s m t g.0) in
       absurd (let z : true ≡ false = sym (l c b) ∙ dead_there s f.numbers t c b g.1 in cc))
 
   -- a vote is installed

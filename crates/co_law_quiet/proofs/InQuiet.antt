@@ -141,7 +141,7 @@ module _ (s : Federation) (f : Facts s) (q : FitSessions (length s.kinds) s.coor
       c = coord_of (s.member m) t
 
       mine : votes_for (look (s.member m).engine.voted t) (coord_of (s.member m) t) ≡ true
-      mine = votes_own s m f t v
+      mine = votes_own s m t v
 
       home : IsCoordinator s (coord_of (s.member m) t)
       home = belongs_fits t (coord_of (s.member m) t) (((f.members m).views Memory).named t (coord_of (s.member m) t) mine)

@@ -25,7 +25,7 @@ use Rattle.co_law_base.proofs.ViewMoves.{each_map, each_both, each_decided, hold
 use Rattle.co_law_coord.proofs.Tabled.{coord_put}
 
 -- a number that was not seen is none that was
-other_than : (r : Rest) (t u : ℕ) → seen r t ≡ false → seen r u ≡ true → t ≢ u
+pub other_than : (r : Rest) (t u : ℕ) → seen r t ≡ false → seen r u ≡ true → t ≢ u
 other_than r t u new old e = let z : true ≡ false = sym old ∙ ap (seen r) (sym e) ∙ new in cc
 
 asked_begun : (o : Option Session) → asked_in o ≡ true → is_some o ≡ true

@@ -39,10 +39,10 @@ snapshot_in Mv now [] s = omega arith
 snapshot_in Mv now (o ∷ os) s = s.0
 
 -- the operation and its reply, as the client is told
-abbrev entry_for : Federation → ℕ → ℕ → Op → Told
+abbrev pub entry_for : Federation → ℕ → ℕ → Op → Told
 entry_for s t m o = record { site = record { member = m; op = o }; reply = operation_reply (s.member m).engine t o }
 
-abbrev sessions_with : Federation → ℕ → ℕ → Op → Session → Table Session
+abbrev pub sessions_with : Federation → ℕ → ℕ → Op → Session → Table Session
 sessions_with s t m o old = put s.sessions t (with_told old (entry_for s t m o))
 
 -- what the move needs

@@ -28,7 +28,7 @@ use Rattle.co_law_base.proofs.Facts.{rest_of, asked, settled, Here, Before, aliv
 use Rattle.co_law_start.specs.OpenedLogs.{AreOpenable}
 use Rattle.co_law_start.proofs.Laid.{durable_image}
 
-made_view : (owner : Node) (rs : List Record) → recovered_view (made owner rs) ≡ recovered_view rs
+pub made_view : (owner : Node) (rs : List Record) → recovered_view (made owner rs) ≡ recovered_view rs
 made_view owner [] = refl
 made_view owner (r ∷ rs) = refl
 
@@ -38,6 +38,35 @@ made_commits owner (r ∷ rs) = refl
 
 nobody : {A : Type 0} (t : ℕ) → holds (no_entries {X = Session}) t ≡ true → A
 nobody t h = absurd (let z : false ≡ true = sym (ap is_some (look_none {X = Session} t)) ∙ h in cc)
+
+-- The coordinators over opened logs, sound or not.
+module _ (kinds : List Kind) (coords : ℕ) (fm fc : ℕ → Found) (used : (c t : ℕ) → has_commit_of (fc c).records t ≡ true → holds (used_numbers (length kinds) coords fm fc) t ≡ true) where
+  pub coord_facts : (c : ℕ) → CoordHas (rest_of (opened kinds coords fm fc)) c ((opened kinds coords fm fc).coord c)
+  coord_facts c =
+      record {
+        idle = λ t f. let p = from_cases unended t entry.Idle f in absurd (let z : entry.Committed p.0 [] ≡ entry.Idle = p.2 in cc);
+        collecting = λ t parts yeses f. let p = from_cases unended t (entry.Collecting parts yeses) f in absurd (let z : entry.Committed p.0 [] ≡ entry.Collecting parts yeses = p.2 in cc);
+        committed = λ t ms acks f. let p = from_cases unended t (entry.Committed ms acks) f in committed t ms acks p.0 p.1 p.2;
+        known = λ t h. or_right _ _ (sym (ap (λ k. holds k.seen t) (made_commits (node.Coord c) (fc c).records)) ∙ h);
+        unended_over = λ t ms h. or_right (asked (rest_of (opened kinds coords fm fc)) t) (holds (used_numbers (length kinds) coords fm fc) t) (used c t (unended_seen (fc c).records t ms (sym (ap (λ k. look k.unended t) (made_commits (node.Coord c) (fc c).records)) ∙ h)));
+        unended_known = λ t ms h. inr (sym (ap (λ k. look k.unended t) (made_commits (node.Coord c) (fc c).records)) ∙ h);
+        ends = refl;
+      }
+    where
+      unended : Table (List ℕ)
+      unended = (recovered_commits (fc c).records).unended
+
+      fits : Entry → ℕ → Type 0
+      fits entry.Idle t = Unit {0}
+      fits (entry.Collecting parts yeses) t = Unit {0}
+      fits (entry.Committed ms acks) t = CommittedEntry (rest_of (opened kinds coords fm fc)) c (made (node.Coord c) (fc c).records) [] t ms acks
+
+      committed : (t : ℕ) (ms acks ns : List ℕ) → look (recovered_commits (fc c).records).unended t ≡ Some ns → entry.Committed ns [] ≡ entry.Committed ms acks →
+          CommittedEntry (rest_of (opened kinds coords fm fc)) c (made (node.Coord c) (fc c).records) [] t ms acks
+      committed t ms acks ns e q =
+          let is : unended_in (made (node.Coord c) (fc c).records) t ≡ Some ns = ap (λ k. look k.unended t) (made_commits (node.Coord c) (fc c).records) ∙ e in
+          subst (λ x. fits x t) q
+          (record { recorded = is; logged = is; lacks = lacks_at_first ns (unended_some (fc c).records t ns e); acks_sent = λ m h. absurd (let z : false ≡ true = h in cc) })
 
 module _ (kinds : List Kind) (coords : ℕ) (fm fc : ℕ → Found) (g : AreOpenable kinds coords fm fc) where
   abbrev pub s0 : Federation
@@ -117,33 +146,6 @@ module _ (kinds : List Kind) (coords : ℕ) (fm fc : ℕ → Found) (g : AreOpen
         waiting = tt;
       }
 
-  coord_facts : (c : ℕ) → CoordHas (rest_of (opened kinds coords fm fc)) c ((opened kinds coords fm fc).coord c)
-  coord_facts c =
-      record {
-        idle = λ t f. let p = from_cases unended t entry.Idle f in absurd (let z : entry.Committed p.0 [] ≡ entry.Idle = p.2 in cc);
-        collecting = λ t parts yeses f. let p = from_cases unended t (entry.Collecting parts yeses) f in absurd (let z : entry.Committed p.0 [] ≡ entry.Collecting parts yeses = p.2 in cc);
-        committed = λ t ms acks f. let p = from_cases unended t (entry.Committed ms acks) f in committed t ms acks p.0 p.1 p.2;
-        known = λ t h. or_right _ _ (sym (ap (λ k. holds k.seen t) (made_commits (node.Coord c) (fc c).records)) ∙ h);
-        unended_over = λ t ms h. or_right (asked (rest_of (opened kinds coords fm fc)) t) (holds (used_numbers (length kinds) coords fm fc) t) (g.coords_used c t (unended_seen (fc c).records t ms (sym (ap (λ k. look k.unended t) (made_commits (node.Coord c) (fc c).records)) ∙ h)));
-        unended_known = λ t ms h. inr (sym (ap (λ k. look k.unended t) (made_commits (node.Coord c) (fc c).records)) ∙ h);
-        ends = refl;
-      }
-    where
-      unended : Table (List ℕ)
-      unended = (recovered_commits (fc c).records).unended
-
-      fits : Entry → ℕ → Type 0
-      fits entry.Idle t = Unit {0}
-      fits (entry.Collecting parts yeses) t = Unit {0}
-      fits (entry.Committed ms acks) t = CommittedEntry (rest_of (opened kinds coords fm fc)) c (made (node.Coord c) (fc c).records) [] t ms acks
-
-      committed : (t : ℕ) (ms acks ns : List ℕ) → look (recovered_commits (fc c).records).unended t ≡ Some ns → entry.Committed ns [] ≡ entry.Committed ms acks →
-          CommittedEntry (rest_of (opened kinds coords fm fc)) c (made (node.Coord c) (fc c).records) [] t ms acks
-      committed t ms acks ns e q =
-          let is : unended_in (made (node.Coord c) (fc c).records) t ≡ Some ns = ap (λ k. look k.unended t) (made_commits (node.Coord c) (fc c).records) ∙ e in
-          subst (λ x. fits x t) q
-          (record { recorded = is; logged = is; lacks = lacks_at_first ns (unended_some (fc c).records t ns e); acks_sent = λ m h. absurd (let z : false ≡ true = h in cc) })
-
   from_made : (c t : ℕ) (members : List ℕ) → unended_in (made (node.Coord c) (fc c).records) t ≡ Some members → unended_in (fc c).records t ≡ Some members
   from_made c t members h = sym (ap (λ k. look k.unended t) (made_commits (node.Coord c) (fc c).records)) ∙ h
 
@@ -169,7 +171,7 @@ module _ (kinds : List Kind) (coords : ℕ) (fm fc : ℕ → Found) (g : AreOpen
               one_home = λ t m c d h k. let p = has_open m t c h d k in unended_seen (fc c).records t p.0 p.1;
             };
         members = member_facts;
-        coords = coord_facts;
+        coords = coord_facts kinds coords fm fc g.coords_used;
         sent =
             record {
               over = λ note h. unsent h;

@@ -1,0 +1,7 @@
+pub mod Own
+pub mod OwnMembers
+pub mod OwnCoords
+pub mod OwnClients
+pub mod OwnDecisions
+pub mod OwnMoves
+pub mod KeptBySelf

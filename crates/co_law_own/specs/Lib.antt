@@ -1,0 +1,2 @@
+pub mod OwnFacts
+pub mod OwnGuards

@@ -1,0 +1,2 @@
+//! What each node keeps by itself, over any opened logs.
+#![tactic(auto)]
