@@ -39,12 +39,12 @@ use Rattle.co_plain.specs.Step.{coord_answers, local_answers, marked_asked, is_s
 use Rattle.co_plain.specs.Runs.{run}
 use Rattle.co_plain.specs.Decisions.{is_decided}
 use Rattle.co_plain.specs.Promises.{says_committed, is_about, asks_for, is_acknowledged}
-use Rattle.co_law_base.proofs.Facts.{by_coord, Facts}
+use Rattle.co_law_base.proofs.Facts.{rest_of, by_coord, Facts}
 use Rattle.co_law_event.specs.HandedVerdicts.{AreTrueVerdicts}
-use Rattle.co_law_event.proofs.Marks.{ends_quiet, commit_marks}
+use Rattle.co_law_event.proofs.Marks.{aborts_quiet, ends_quiet, commit_marks}
 use Rattle.co_law_event.proofs.CoordEvents.{decides_there}
 use Rattle.co_law_event.proofs.ClientEvents.{by_there}
-use Rattle.co_law_event.proofs.LocalEvents.{next, batch, marks_decide}
+use Rattle.co_law_event.proofs.LocalEvents.{decided_alone, batch_alone, decides_alone}
 use Rattle.co_law_event.proofs.Steps.{step_keeps}
 use Rattle.co_law_moves.proofs.Growing.{run_grows}
 
@@ -76,7 +76,7 @@ module _ (s : Federation) (f : Facts s) (t c : ℕ) (session : Session) (e : loo
   nothing_done : (o : Outcome) →
       Acknowledges t (at_coord (marked_asked s t session (not (is_stopped (coord_forced_by c (with_table (s.coord c) (without (s.coord c).table t)) (log.Commit t [] ∷ []) answer.Committed [] o).answer))) c
       (coord_forced_by c (with_table (s.coord c) (without (s.coord c).table t)) (log.Commit t [] ∷ []) answer.Committed [] o))
-  nothing_done Completes h = coord_decides s f (put s.sessions t (asked_to_end session)) c t [] (by_there s f t c session e mine)
+  nothing_done Completes h = coord_decides s f (put s.sessions t (asked_to_end session)) c t [] (by_there s t c session mine)
   nothing_done (StopsAt call leaves) h = by (batch_is_stable call leaves) h
     where
       by : (b : Bool) → Acknowledges t (at_coord (marked_asked s t session (not (is_stopped (stopped_coord c (with_table (s.coord c) (without (s.coord c).table t)) call b (log.Commit t [] ∷ [])).answer))) c
@@ -95,14 +95,14 @@ module _ (s : Federation) (f : Facts s) (t c : ℕ) (session : Session) (e : loo
   at_coordinator (Some (entry.Committed members acks)) h = unsaid h
 
 module _ (s : Federation) (f : Facts s) (t m : ℕ) (session : Session) (e : look s.sessions t ≡ Some session) (mine : session.by ≡ node.Member m) (unasked : session.asked ≡ false) where
-  forced_local : (o : Outcome) → Acknowledges t (at_member (marked_asked s t session (not (is_held (forced_by m (next s f t m session e mine unasked) (batch s f t m session e mine unasked) answer.Committed None o).answer))) m
-      (forced_by m (next s f t m session e mine unasked) (batch s f t m session e mine unasked) answer.Committed None o))
-  forced_local Completes h = ap (λ ds. is_decided ds t) (marks_decide s f t m session e mine unasked) ∙ or_left (t == t) (is_decided s.decided t) (eq-eqb t t refl)
+  forced_local : (o : Outcome) → Acknowledges t (at_member (marked_asked s t session (not (is_held (forced_by m (decided_alone (s.member m) t (count_at session.told m)) (batch_alone (s.member m) t (count_at session.told m)) answer.Committed None o).answer))) m
+      (forced_by m (decided_alone (s.member m) t (count_at session.told m)) (batch_alone (s.member m) t (count_at session.told m)) answer.Committed None o))
+  forced_local Completes h = ap (λ ds. is_decided ds t) (decides_alone s t m session mine (aborts_quiet (rest_of s) (put s.sessions t (asked_to_end session)) (node.Member m) (s.member m).log.waiting (f.members m).waiting)) ∙ or_left (t == t) (is_decided s.decided t) (eq-eqb t t refl)
   forced_local (StopsAt call leaves) h = by (batch_is_stable call leaves) h
     where
-      by : (b : Bool) → Acknowledges t (at_member (marked_asked s t session (not (is_held (stopped_member m (next s f t m session e mine unasked) call b (batch s f t m session e mine unasked)).answer))) m
-          (stopped_member m (next s f t m session e mine unasked) call b (batch s f t m session e mine unasked)))
-      by true h = unsaid (sym (says_all (marks_of (node.Member m) (batch s f t m session e mine unasked ++ (s.member m).log.waiting)) [] (answer.Stopped call)) ∙ h)
+      by : (b : Bool) → Acknowledges t (at_member (marked_asked s t session (not (is_held (stopped_member m (decided_alone (s.member m) t (count_at session.told m)) call b (batch_alone (s.member m) t (count_at session.told m))).answer))) m
+          (stopped_member m (decided_alone (s.member m) t (count_at session.told m)) call b (batch_alone (s.member m) t (count_at session.told m))))
+      by true h = unsaid (sym (says_all (marks_of (node.Member m) (batch_alone (s.member m) t (count_at session.told m) ++ (s.member m).log.waiting)) [] (answer.Stopped call)) ∙ h)
       by false h = unsaid h
 
   by_verdict : (v : Verdict) → Acknowledges t (at_member (marked_asked s t session (not (is_held (local_commit_by m (s.member m) t (count_at session.told m) v).answer))) m (local_commit_by m (s.member m) t (count_at session.told m) v))

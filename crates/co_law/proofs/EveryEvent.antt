@@ -1,5 +1,5 @@
 -- Every event of a run is its list of moves.
-use Rattle.std.proofs.Common.{◌≡◌, ◌≢◌, ℕ, List, [], ◌∷◌, ◌++◌, None, refl, sym, ap, ◌∙◌}
+use Rattle.std.proofs.Common.{◌≢◌, ℕ, List, [], None, refl, sym, ap, ◌∙◌}
 use Rattle.co_base.specs.declared.head.Kind.{Kind}
 use Rattle.co_plain.specs.declared.happening.Happening.{Happening}
 use Rattle.co_plain.specs.declared.happening.Happening.TheVariants as happening

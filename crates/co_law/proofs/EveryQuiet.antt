@@ -1,5 +1,5 @@
 -- In every quiet state of a run some timer ends an open transaction for good.
-use Rattle.std.proofs.Common.{◌≡◌, ◌⊎◌, inl, inr, ℕ, Bool, true, false, ◌||◌, ◌&&◌, ◌≤◌, nat_le, List, [], length, Option, None, Some, refl, sym, ap, ◌∙◌, subst, arith}
+use Rattle.std.proofs.Common.{◌≡◌, ◌⊎◌, inl, inr, ℕ, Bool, true, false, ◌||◌, ◌&&◌, nat_le, List, [], length, None, Some, refl, sym, ap, ◌∙◌, subst, arith}
 use Rattle.std.proofs.lemmas.Bool.Decides.{nat_tests}
 use Rattle.std.specs.Option.{is_some}
 use Rattle.std.proofs.lemmas.Bool.{or_cases, and_parts}
@@ -7,14 +7,12 @@ use Rattle.co_base.specs.declared.head.Kind.{Kind}
 use Rattle.co_record.specs.declared.record.Record.{Record}
 use Rattle.co_state.specs.Table.{look, holds}
 use Rattle.co_plain.specs.declared.happening.Happening.{Happening}
-use Rattle.co_plain.specs.Numbers.{has_number}
 use Rattle.co_plain.specs.MemberView.{recovered_view}
 use Rattle.co_plain.specs.Opening.{Found, OnlyOwnLogs, opened}
-use Rattle.co_plain.specs.Federation.{Federation}
 use Rattle.co_plain.specs.Runs.{run}
 use Rattle.co_plain.specs.Decisions.{votes_for}
 use Rattle.co_plain.specs.SoundLogs.{unended_in, log_has_voted, log_has_committed}
-use Rattle.co_plain.specs.Quiet.{IsMember, IsCoordinator, IsOpen, IsQuiet}
+use Rattle.co_plain.specs.Quiet.{IsOpen, IsQuiet}
 use Rattle.co_law_base.proofs.Lookups.{look_none}
 use Rattle.co_law_base.proofs.Facts.{Facts}
 use Rattle.co_law_event.specs.HandedVerdicts.{AreTrueVerdicts}

@@ -1,5 +1,5 @@
 -- What each node keeps by itself, in a federation over any opened logs, and so in every state of its runs.
-use Rattle.std.proofs.Common.{◌≡◌, ℕ, true, false, List, [], ◌∷◌, reverse, length, None, Some, refl, sym, ap, ◌∙◌, subst}
+use Rattle.std.proofs.Common.{◌≡◌, ℕ, true, false, List, [], reverse, length, None, sym, ap, ◌∙◌, subst}
 use Rattle.std.specs.Option.{is_some}
 use Rattle.std.proofs.lemmas.Bool.{or_right}
 use Rattle.co_base.specs.declared.head.Kind.{Kind}

@@ -157,10 +157,10 @@ module _ (kinds : List Kind) (coords : ℕ) (fm fc : ℕ → Found) (own : OnlyO
   is_free : (m : ℕ) → IsFree (recovered_view (fm m).records)
   is_free m = subst IsFree (sym (told_turned (fm m).records)) (free_all coords 0 nothing_known (reverse (fm m).records) (allowed m) nothing_free)
 
-  members : Numbers
+  abbrev members : Numbers
   members = union_to (length kinds) (λ m. numbers_in (recovered_view (fm m).records))
 
-  coordinators : Numbers
+  abbrev coordinators : Numbers
   coordinators = union_to coords (λ c. (recovered_commits (fc c).records).seen)
 
   none_stands : (t : ℕ) → stands (recovered_view []) t ≡ false

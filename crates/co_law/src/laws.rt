@@ -9,7 +9,6 @@ ghost use Rattle.co_plain.specs.Runs.{run};
 ghost use Rattle.co_plain.specs.Promises.{SerialReads, LogsAlone, LogsStaySound, Acknowledged, MembersAgree};
 ghost use Rattle.co_plain.specs.Invariants.{Kept};
 ghost use Rattle.co_plain.specs.Moves.{Move, GuardsHold, all_effects};
-ghost use Rattle.co_law_own.specs.OwnFacts.{KeptByEach};
 ghost use Rattle.co_law_event.specs.HandedVerdicts.{AreTrueVerdicts};
 ghost use Rattle.co_law_start.specs.OpenedLogs.{AreOpenable};
 
@@ -84,17 +83,4 @@ pub fn moves()
         AreOpenable kinds coords found_member found_coord →
         GuardsHold moves (opened kinds coords found_member found_coord) →
         Kept (opened kinds coords found_member found_coord) (all_effects moves (opened kinds coords found_member found_coord)) }
-{}
-
-/// Over any opened logs of the federation's own nodes, sound or not, each member's as its grammar allows it, and with
-/// whatever verdicts are handed: every state has the facts that each node keeps by itself. Votes at a member do not
-/// conflict; what a member keeps is what the client was told, each reply by its read rule; prepares and coordinators
-/// carry the session's counts; who was not asked to end stands nowhere, and no begun number stands in an opened log; the
-/// log tells what memory has, with nothing waiting but one abort record for each vote it still has; and a
-/// coordinator's table, records and waiting ends agree with one another and with the decisions, each made once.
-pub fn kept_by_each()
-    ensures { (kinds : List Kind) (coords : ℕ) (found_member found_coord : ℕ → Found) (hs : List Happening) →
-        OnlyOwnLogs kinds coords found_member found_coord →
-        ((m : ℕ) → first_refused_at_member coords (reverse (found_member m).records) ≡ None) →
-        KeptByEach (run hs (opened kinds coords found_member found_coord)) }
 {}

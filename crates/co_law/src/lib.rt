@@ -1,4 +1,5 @@
-//! The laws of the federation: what every run from sound opened logs keeps, and so what is promised of it.
+//! The laws of the federation: what every run from sound opened logs keeps, and so what is promised of it; and what is
+//! kept over any opened logs.
 //!
 //! Each law is the contract of a function without a body. They speak of the definitions alone: no engine, no byte of a
 //! file and no device call is in them. The argument is told move by move in `docs/PROOF.md`.
@@ -7,12 +8,14 @@
 mod events;
 mod laws;
 mod order;
+mod own;
 mod quiet;
 
 pub use events::{disarming, events_are_moves};
 pub use laws::{
-    acknowledged, agreement, fresh_logs, invariants, kept_by_each, logs_alone, moves,
-    readable_logs, serial_reads, sound_logs,
+    acknowledged, agreement, fresh_logs, invariants, logs_alone, moves, readable_logs,
+    serial_reads, sound_logs,
 };
+pub use own::kept_by_each;
 pub use order::{commitment_ordered, transcripts_ordered};
 pub use quiet::only_timers;

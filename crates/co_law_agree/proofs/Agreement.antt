@@ -1,5 +1,5 @@
 -- No two members decide a transaction differently.
-use Rattle.std.proofs.Common.{◌≡◌, ◌≢◌, ◌⊎◌, inl, inr, ℕ, Bool, true, false, ◌||◌, ◌≤◌, ◌==◌, List, [], ◌∷◌, ◌++◌, Option, None, Some, refl, sym, ap, ◌∙◌, subst, arith}
+use Rattle.std.proofs.Common.{◌≡◌, ◌⊎◌, inl, inr, ℕ, true, false, ◌≤◌, ◌==◌, List, [], ◌∷◌, ◌++◌, Option, None, Some, refl, sym, ap, ◌∙◌, subst, arith}
 use Rattle.std.specs.Option.{is_some}
 use Rattle.std.proofs.lemmas.Bool.{or_cases, or_left, or_right, or_from, or_parts, eqb-true}
 use Rattle.co_base.specs.declared.head.Kind.{Kind}
@@ -10,20 +10,21 @@ use Rattle.co_plain.specs.declared.session.Decided.{Decided}
 use Rattle.co_plain.specs.declared.session.Session.{Session}
 use Rattle.co_plain.specs.Sessions.{count_at}
 use Rattle.co_plain.specs.Federation.{Federation}
-use Rattle.co_plain.specs.Step.{step, disarmed}
+use Rattle.co_plain.specs.Step.{step}
 use Rattle.co_plain.specs.Runs.{run}
 use Rattle.co_plain.specs.Opening.{Found, opened}
 use Rattle.co_plain.specs.Decisions.{told_of, told_in, is_decided}
 use Rattle.co_plain.specs.SoundLogs.{log_has_committed}
-use Rattle.co_plain.specs.Promises.{HasDecidedCommit, HasDecidedAbort, MembersAgree}
-use Rattle.co_plain.specs.Invariants.{Memory, Stable, view, stands}
-use Rattle.co_law_base.proofs.Lookups.{look_none, holds_found}
+use Rattle.co_plain.specs.Promises.{HasDecidedCommit, MembersAgree}
+use Rattle.co_plain.specs.Invariants.{Memory, view, stands}
+use Rattle.co_law_base.proofs.Lookups.{look_none}
 use Rattle.co_law_base.proofs.Facts.{rest_of, told, asked, settled_at, Each, Facts}
 use Rattle.co_law_base.proofs.Carrying.{LivesOn}
 use Rattle.co_law_base.proofs.TwoViews.{committed_both}
 use Rattle.co_law_event.specs.HandedVerdicts.{AreTrueVerdicts}
-use Rattle.co_law_event.proofs.Steps.{step_keeps, run_keeps}
-use Rattle.co_law_moves.proofs.Onward.{Onward, onward_same, onward_on, move_onward, disarm_onward, lives_back, present}
+use Rattle.co_law_event.proofs.Steps.{run_keeps}
+use Rattle.co_law_moves.proofs.MoveOnward.{move_onward}
+use Rattle.co_law_moves.proofs.Onward.{Onward, onward_same, onward_on, disarm_onward, lives_back}
 use Rattle.co_law_moves.proofs.ByMoves.{run_leaves}
 use Rattle.co_law_agree.proofs.Working.{Working, move_works, disarm_works}
 

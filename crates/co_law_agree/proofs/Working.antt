@@ -1,20 +1,17 @@
 -- Who is active has told operations; who is decided and stands at a member held operations there at its decision.
-use Rattle.std.proofs.Common.{◌≡◌, ◌≢◌, ◌⊎◌, inl, inr, ℕ, Bool, true, false, ◌||◌, ◌≤◌, ◌==◌, ◌+◌, if◌then◌else◌, List, [], ◌∷◌, length, Option, None, Some, refl, sym, ap, ◌∙◌, subst, arith}
-use Rattle.std.proofs.lemmas.Bool.Decides.{nat_tests}
+use Rattle.std.proofs.Common.{◌≡◌, ◌≢◌, ◌⊎◌, inl, inr, ℕ, Bool, true, false, ◌||◌, ◌≤◌, ◌==◌, ◌+◌, if◌then◌else◌, Option, None, Some, refl, sym, ap, ◌∙◌, subst, arith}
 use Rattle.std.specs.Option.{is_some}
-use Rattle.std.proofs.lemmas.Bool.{or_cases, or_left, or_right, or_from, or_parts, eqb-true, eqb-false, eq-eqb, false_from_ne_true}
+use Rattle.std.proofs.lemmas.Bool.{or_cases, or_left, or_right, eqb-true, eqb-false, eq-eqb, false_from_ne_true}
 use Rattle.co_base.specs.declared.op.Op.{Op}
 use Rattle.co_state.specs.declared.engine_state.EngineState.{EngineState}
 use Rattle.co_state.specs.declared.engine_state.Vote.{Vote}
 use Rattle.co_state.specs.Table.{look, put, without, holds}
 use Rattle.co_state.specs.Changes.{sets_of}
 use Rattle.co_state.specs.EngineState.{operations_of}
-use Rattle.co_state.specs.VotingRule.{vote_of}
-use Rattle.co_state.specs.Effects.{with_operation, after_cast, after_install, install_vote}
+use Rattle.co_state.specs.Effects.{with_operation, after_cast, install_vote}
 use Rattle.co_state.specs.ReadRule.{operation_reply}
 use Rattle.co_plain.specs.declared.coord_state.Entry.TheVariants as entry
 use Rattle.co_plain.specs.declared.member_state.MemberState.{MemberState}
-use Rattle.co_plain.specs.declared.session.Decided.{Decided}
 use Rattle.co_plain.specs.declared.session.Session.{Session}
 use Rattle.co_plain.specs.Numbers.{counted}
 use Rattle.co_plain.specs.MemberView.{with_number}
@@ -22,25 +19,25 @@ use Rattle.co_plain.specs.LocalCommit.{local_coord}
 use Rattle.co_plain.specs.Member.{coord_of}
 use Rattle.co_plain.specs.MemberStep.{with_engine, dropped, member_down}
 use Rattle.co_plain.specs.Sessions.{count_at, with_told, asked_to_end}
-use Rattle.co_plain.specs.Federation.{Federation, with_member, with_session}
+use Rattle.co_plain.specs.Federation.{Federation, with_member}
 use Rattle.co_plain.specs.Step.{disarmed}
 use Rattle.co_plain.specs.Decisions.{told_of, told_in, asked_in, is_decided}
 use Rattle.co_serial.specs.SerialRun.{with_at}
-use Rattle.co_plain.specs.SoundLogs.{unended_in}
-use Rattle.co_plain.specs.Invariants.{Memory, Stable, view, stands}
+use Rattle.co_plain.specs.Invariants.{Memory, view, stands}
 use Rattle.co_plain.specs.Moves.{Move, Operate, MarkAsked, Cast, DropActive, DropVoted, Install, CommitLocally, CrashMember, RestartMember, ArmMember, CloseMemberSpare, FillMemberSpare, Begin, Collect, RecordYes, Decide, Leave, RecordAck, End, CrashCoord, RestartCoord, ArmCoord, CloseCoordSpare, FillCoordSpare, BeginLocal, AskEnd, Send, Guard, effect, cast_state, install_state, local_state, with_decision, entered_reply, marked_over, session_by_member, may_operate_at, record_yes, record_ack}
 use Rattle.co_law_engine.proofs.YesTells.{yes_parts}
-use Rattle.co_law_base.proofs.Lookups.{put_here, put_there, look_none, holds_found, found_holds}
+use Rattle.co_law_base.proofs.Lookups.{put_here, look_none, holds_found, found_holds}
 use Rattle.co_law_base.proofs.Commits.{holds_cases, unended_seen}
 use Rattle.co_law_base.proofs.ViewMoves.{each_map, each_both, each_decided}
-use Rattle.co_law_base.proofs.Facts.{rest_of, belongs, Begun, takes, ByTold, Named, by_coord, alive, settled_at, OpenEntry, Here, Each, Facts}
-use Rattle.co_law_base.proofs.Carrying.{LivesOn, at_each, at_here, one_belongs, by_coord_begun, settled_alive}
+use Rattle.co_law_base.proofs.Facts.{rest_of, Begun, takes, ByTold, Named, OpenEntry, Here, Each, Facts}
+use Rattle.co_law_base.proofs.Carrying.{LivesOn, at_each, one_belongs, by_coord_begun, settled_alive}
 use Rattle.co_law_base.proofs.TwoViews.{stable_to_memory}
 use Rattle.co_law_member.proofs.LogMoves.{local_apart}
 use Rattle.co_law_member.proofs.VoteMoves.{active_found, asked_unsettled}
 use Rattle.co_law_session.proofs.Asking.{same_reading}
 use Rattle.co_law_event.proofs.MemberEvents.{votes_own}
-use Rattle.co_law_moves.proofs.Onward.{Onward, move_onward, disarm_onward, holds_put_off, holds_without_off, back_without}
+use Rattle.co_law_moves.proofs.MoveOnward.{move_onward}
+use Rattle.co_law_moves.proofs.Onward.{Onward, holds_put_off, holds_without_off, back_without}
 
 pub record Working (s : Federation) : Type 0 where
   pub active : (m t : ℕ) → holds (s.member m).engine.active t ≡ true → 1 ≤ count_at (told_of s t) m

@@ -1,6 +1,6 @@
 -- What an event needs of a state: the facts over sound opened logs have it, and so have those over any.
-use Rattle.std.proofs.Common.{◌≡◌, ◌⊎◌, inl, inr, ℕ, Bool, true, false, ◌==◌, if◌then◌else◌, List, [], ◌∷◌, Option, None, Some, refl, sym, ap, ◌∙◌, subst}
-use Rattle.std.proofs.lemmas.Bool.{or_cases, or_left, false_from_ne_true}
+use Rattle.std.proofs.Common.{◌≡◌, ℕ, true, false, if◌then◌else◌, List, [], ◌∷◌, Option, None, Some, refl, sym, ap, ◌∙◌}
+use Rattle.std.proofs.lemmas.Bool.{false_from_ne_true}
 use Rattle.std.specs.Option.{is_some}
 use Rattle.co_base.specs.declared.node.Node.{Node}
 use Rattle.co_base.specs.declared.node.Node.TheVariants as node
@@ -15,8 +15,7 @@ use Rattle.co_plain.specs.declared.session.Session.{Session}
 use Rattle.co_plain.specs.Sessions.{same_node, asked_to_end}
 use Rattle.co_plain.specs.Wire.{was_sent}
 use Rattle.co_plain.specs.Federation.{Federation, with_session, decided_where}
-use Rattle.co_plain.specs.Decisions.{asked_in}
-use Rattle.co_plain.specs.Invariants.{Memory, view, txn_of}
+use Rattle.co_plain.specs.Invariants.{Memory, txn_of}
 use Rattle.co_law_base.proofs.Facts.{rest_of, over, by_coord, CoordHas, Facts}
 use Rattle.co_law_own.specs.OwnFacts.{OwnAborts}
 use Rattle.co_law_own.specs.OwnGuards.{Logs, SoundLogs, AnyLogs, Where}

@@ -11,6 +11,8 @@ pub mod LocalMade
 pub mod StepsMade
 pub mod OwnRuns
 pub mod Onward
+pub mod MemberOnward
+pub mod MoveOnward
 pub mod ByMoves
 pub mod NodesTold
 pub mod StepsTold

@@ -1,7 +1,7 @@
 -- A list of moves from one state to another.
 use Rattle.std.specs.Option.{is_some}
 use Rattle.co_state.specs.declared.engine_state.Vote.{Vote}
-use Rattle.std.proofs.Common.{◌≡◌, ◌⊎◌, inl, inr, ℕ, Bool, true, false, ◌==◌, List, [], ◌∷◌, Option, None, Some, refl, sym, ap, ◌∙◌, subst}
+use Rattle.std.proofs.Common.{◌≡◌, ◌⊎◌, inl, inr, ℕ, true, false, ◌==◌, List, [], ◌∷◌, Option, None, Some, refl, sym, ap, ◌∙◌, subst}
 use Rattle.std.proofs.lemmas.Bool.{or_left, or_right, eqb-true, eq-eqb}
 use Rattle.co_base.specs.declared.part.Part.{Part}
 use Rattle.co_plain.specs.Numbers.{has_number}
@@ -21,7 +21,6 @@ use Rattle.co_plain.specs.Decisions.{votes_for, BelongsTo, IsPresumedAborted}
 use Rattle.co_plain.specs.SoundLogs.{log_has_committed}
 use Rattle.co_plain.specs.Invariants.{Stable, view}
 use Rattle.co_plain.specs.Moves.{Move, Operate, MarkAsked, Cast, DropActive, DropVoted, Install, CommitLocally, CrashMember, RestartMember, ArmMember, CloseMemberSpare, FillMemberSpare, Begin, Collect, RecordYes, Decide, Leave, RecordAck, End, CrashCoord, RestartCoord, ArmCoord, CloseCoordSpare, FillCoordSpare, BeginLocal, AskEnd, Send, Guard, effect, all_effects, GuardsHold}
-use Rattle.co_law_base.proofs.Lookups.{holds_found}
 use Rattle.co_law_base.proofs.Facts.{rest_of, over, settled, takes, alive, belongs}
 use Rattle.co_law_base.proofs.Carrying.{at_here}
 use Rattle.co_law_session.proofs.Sending.{Allowed}

@@ -1,18 +1,15 @@
 -- Each event of a member is its list of moves.
-use Rattle.std.proofs.Common.{◌≡◌, ◌⊎◌, inl, inr, ℕ, Bool, true, false, if◌then◌else◌, List, [], ◌∷◌, ◌++◌, Option, None, Some, refl, sym, ap, ◌∙◌, subst}
+use Rattle.std.proofs.Common.{◌≡◌, ◌⊎◌, inl, inr, ℕ, Bool, true, false, List, [], ◌∷◌, ◌++◌, Option, None, Some, refl, sym, ap, ◌∙◌, subst}
 use Rattle.std.proofs.lemmas.Bool.{eq-eqb, false_from_ne_true}
-use Rattle.co_base.specs.declared.mark.Mark.{Mark}
 use Rattle.co_base.specs.declared.node.Node.TheVariants as node
 use Rattle.co_message.specs.declared.answer.Answer.{Answer}
 use Rattle.co_message.specs.declared.answer.Answer.TheVariants as answer
-use Rattle.co_plain.specs.Moves.{cast_state, install_state, Move, Operate, MarkAsked, Cast, DropActive, DropVoted, Install, CrashMember, RestartMember, ArmMember, CloseMemberSpare, FillMemberSpare, restarted}
+use Rattle.co_plain.specs.Moves.{cast_state, install_state, Move, MarkAsked, Cast, DropActive, DropVoted, Install, CrashMember, RestartMember, ArmMember, CloseMemberSpare, FillMemberSpare}
 use Rattle.co_message.specs.declared.message.Message.{Message}
 use Rattle.co_message.specs.declared.message.Message.TheVariants as message
 use Rattle.co_record.specs.declared.record.Record.{Record}
 use Rattle.co_record.specs.declared.record.Record.TheVariants as log
 use Rattle.co_serial.specs.SerialRun.{with_at}
-use Rattle.co_state.specs.declared.engine_state.EngineState.{EngineState}
-use Rattle.co_state.specs.declared.engine_state.Vote.{Vote}
 use Rattle.co_state.specs.declared.verdict.Verdict.{Verdict}
 use Rattle.co_state.specs.declared.verdict.Verdict.TheVariants.{LostOperations, StaleRead, HeldBy, VoteYes}
 use Rattle.co_state.specs.Table.{look, holds}
@@ -33,24 +30,23 @@ use Rattle.co_plain.specs.MemberStep.{says, standing_of, with_log, dropped, memb
 use Rattle.co_plain.specs.Member.{prepare_record, voted_state, vote_by, coord_of, with_mark, prepare_by, vote_where_asked, vote_again_by, installed_state, commit_by, abort_by, timer_by, ask_by}
 use Rattle.co_plain.specs.MemberLog.{stopped_fill, fill_by, close_by, checkpoint_by, member_spare, restart_by}
 use Rattle.co_plain.specs.Wire.{was_sent}
-use Rattle.co_plain.specs.Federation.{Federation, with_member, at_member, noted, message_list, decide_all}
-use Rattle.co_plain.specs.Decisions.{votes_for, IsDecided, IsPresumedAborted}
+use Rattle.co_plain.specs.Federation.{Federation, with_member, at_member, noted, message_list}
+use Rattle.co_plain.specs.Decisions.{votes_for, IsPresumedAborted}
 use Rattle.co_plain.specs.Invariants.{Memory, Stable, view}
 use Rattle.co_law_engine.proofs.YesTells.{in_some}
 use Rattle.co_law_base.proofs.Lookups.{holds_found, put_here}
 use Rattle.co_law_base.proofs.Commits.{holds_new}
-use Rattle.co_law_base.proofs.Facts.{rest_of, settled, alive, belongs, OnlyAborts, Facts}
+use Rattle.co_law_base.proofs.Facts.{rest_of, settled, alive, belongs, Facts}
 use Rattle.co_law_base.proofs.Carrying.{at_here}
 use Rattle.co_law_base.proofs.TwoViews.{committed_both}
 use Rattle.co_law_member.proofs.LogMoves.{without_absent, not_held}
-use Rattle.co_law_session.proofs.Sending.{Allowed}
-use Rattle.co_law_event.proofs.Marks.{AllAllowed, AllQuiet, aborts_quiet, quiet_marks}
-use Rattle.co_law_event.proofs.MemberEvents.{active_is, voted_is, installed_is, absent_is, votes_own, voted_quiet, install_kind}
+use Rattle.co_law_event.proofs.Marks.{AllQuiet, quiet_marks}
+use Rattle.co_law_event.proofs.MemberEvents.{active_is, voted_is, installed_is, absent_is, votes_own, install_kind}
 use Rattle.co_law_moves.specs.EventMoves.{sends, written_moves, stopped_moves, drop_moves, vote_moves, prepare_moves, asked_moves, again_moves, commit_moves, abort_moves, timer_moves, question_moves, closing_moves, member_checkpoint_moves, restart_moves}
 use Rattle.co_law_moves.proofs.KeptFrom.{settled_is, dead_is}
-use Rattle.co_law_moves.proofs.Made.{where_map, always, AllowedOver, AllAllowedOver, MadeOver, no_move, made_to, member_first, member_still, member_then, sends_made, crash_made}
-use Rattle.co_law_own.specs.OwnGuards.{Logs, SoundLogs, AnyLogs, Where, GuardOver}
-use Rattle.co_law_moves.proofs.FactsOver.{FactsOver, where_sound, coords_over, marked_over', sent_over, waiting_quiet, vote_quiet, asks_over, local_unvoted}
+use Rattle.co_law_moves.proofs.Made.{where_map, AllowedOver, AllAllowedOver, MadeOver, no_move, made_to, member_first, member_still, member_then, sends_made, crash_made}
+use Rattle.co_law_own.specs.OwnGuards.{Logs, Where}
+use Rattle.co_law_moves.proofs.FactsOver.{FactsOver, where_sound, marked_over', waiting_quiet, vote_quiet}
 
 -- the messages of a step that sends at most one
 one_allowed : (l : Logs) (z : Federation) (note : Option Message) → ((k : Message) → note ≡ Some k → AllowedOver l z k) → AllAllowedOver l z (message_list note)

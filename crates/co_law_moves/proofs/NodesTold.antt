@@ -1,5 +1,5 @@
 -- The items of each node's event tell exactly of its moves.
-use Rattle.std.proofs.Common.{◌≡◌, ◌⊎◌, inl, inr, ℕ, Bool, true, false, not, ◌&&◌, ◌==◌, if◌then◌else◌, List, [], ◌∷◌, ◌++◌, map, reverse, Option, None, Some, refl, sym, ap, ◌∙◌, subst}
+use Rattle.std.proofs.Common.{◌≡◌, ℕ, Bool, true, false, not, ◌&&◌, ◌==◌, if◌then◌else◌, List, [], ◌∷◌, ◌++◌, map, reverse, Option, None, Some, refl, sym, ap, ◌∙◌, subst}
 use Rattle.std.proofs.lemmas.List.{reverse-append}
 use Rattle.co_base.specs.declared.mark.Mark.{Mark}
 use Rattle.co_base.specs.declared.node.Node.{Node}
@@ -17,7 +17,7 @@ use Rattle.co_message.specs.declared.message.Message.TheVariants as message
 use Rattle.co_record.specs.declared.record.Record.{Record}
 use Rattle.co_record.specs.declared.record.Record.TheVariants as log
 use Rattle.co_record.specs.Marks.{mark_of}
-use Rattle.co_record.specs.Gate.{batch_is_stable, closes_spare}
+use Rattle.co_record.specs.Gate.{batch_is_stable}
 use Rattle.co_state.specs.declared.verdict.Verdict.{Verdict}
 use Rattle.co_state.specs.declared.verdict.Verdict.TheVariants.{LostOperations, StaleRead, HeldBy, VoteYes}
 use Rattle.co_state.specs.Table.{look, holds, put, without}
@@ -44,10 +44,10 @@ use Rattle.co_plain.specs.LocalCommit.{local_coord, local_commit_by, local_abort
 use Rattle.co_plain.specs.CoordStep.{with_table, members_of, has_part, stopped_coord, coord_forced_by, coord_says}
 use Rattle.co_plain.specs.Coordinator.{waits, aborts, ask_commit, commit_entry, abort_entry, decided_by, yes_entry, no_entry, ask_entry, ended_by, ack_entry, timer_entry, resend_entry, decisions_to, prepares_to, parts_lacking}
 use Rattle.co_plain.specs.CoordLog.{coord_stopped_fill, coord_fill_by, coord_close_by, coord_checkpoint_by, coord_restart_by}
-use Rattle.co_plain.specs.Federation.{Federation, items_of, message_list}
-use Rattle.co_plain.specs.CommitmentOrder.{Trace, Began, Operated, Committed, traced_commit, traced_answer, trace_from}
+use Rattle.co_plain.specs.Federation.{items_of, message_list}
+use Rattle.co_plain.specs.CommitmentOrder.{Trace, Committed, traced_commit, traced_answer, trace_from}
 use Rattle.co_plain.specs.Invariants.{ends_only}
-use Rattle.co_plain.specs.Moves.{Move, Cast, DropActive, Install, CommitLocally, CrashMember, RestartMember, CloseMemberSpare, FillMemberSpare, RecordYes, Decide, CrashCoord, RestartCoord, CloseCoordSpare, FillCoordSpare, AskEnd, Send}
+use Rattle.co_plain.specs.Moves.{Move, Cast, Install, CommitLocally, CrashMember, RestartMember, CloseMemberSpare, FillMemberSpare, Decide, CrashCoord, RestartCoord, CloseCoordSpare, FillCoordSpare, AskEnd, Send}
 use Rattle.co_law_base.proofs.Facts.{Rest, OnlyAborts}
 use Rattle.co_law_moves.specs.EventMoves.{sends, written_moves, stopped_moves, drop_moves, vote_moves, prepare_moves, asked_moves, again_moves, commit_moves, abort_moves, timer_moves, question_moves, closing_moves, member_checkpoint_moves, restart_moves, local_decision_moves, local_verdict_moves, local_commit_moves, local_abort_moves, decided_at_once, ask_commit_moves, commit_entry_moves, leave_moves, abort_entry_moves, yes_counted_moves, yes_moves, no_moves, ask_moves, ack_counted_moves, ack_moves, coord_timer_moves, resend_moves, coord_checkpoint_moves}
 use Rattle.co_law_moves.specs.MoveTraces.{move_trace, moves_trace}

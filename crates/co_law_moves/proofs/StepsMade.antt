@@ -1,5 +1,5 @@
 -- Every event is its list of moves, each with its guard, where a verdict that is handed is true of the run.
-use Rattle.std.proofs.Common.{◌≡◌, ◌≢◌, inl, ℕ, Bool, true, false, if◌then◌else◌, List, [], ◌∷◌, Option, None, Some, refl, sym, ap, ◌∙◌}
+use Rattle.std.proofs.Common.{◌≡◌, ◌≢◌, ℕ, Bool, true, false, if◌then◌else◌, List, [], ◌∷◌, Option, None, Some, refl}
 use Rattle.co_base.specs.declared.leaves.Leaves.{Leaves}
 use Rattle.co_base.specs.declared.node.Node.{Node}
 use Rattle.co_base.specs.declared.node.Node.TheVariants as node
@@ -33,14 +33,14 @@ use Rattle.co_law_base.proofs.Facts.{Facts}
 use Rattle.co_law_member.proofs.VoteMoves.{as_settled}
 use Rattle.co_law_event.specs.HandedVerdicts.{IsTrueVerdict}
 use Rattle.co_law_event.proofs.Steps.{visits_there}
-use Rattle.co_law_moves.specs.EventMoves.{where_up, begin_moves, operate_moves, operate_with_moves, commit_entry_moves, local_commit_moves, commit_at_moves, commit_with_moves, abort_entry_moves, local_abort_moves, abort_at_moves, abort_with_moves, prepare_moves, commit_moves, abort_moves, decision_moves, yes_moves, no_moves, ask_moves, ack_moves, vote_arrives, arrival_moves, timer_moves, coord_timer_moves, timer_at_moves, crash_at_moves, restart_at_moves, arm_at_moves, member_checkpoint_moves, coord_checkpoint_moves, checkpoint_at_moves, again_moves, question_moves, resend_moves, line_moves, moves_of}
+use Rattle.co_law_moves.specs.EventMoves.{where_up, begin_moves, operate_moves, operate_with_moves, commit_entry_moves, local_commit_moves, commit_at_moves, commit_with_moves, abort_entry_moves, local_abort_moves, abort_at_moves, abort_with_moves, prepare_moves, commit_moves, abort_moves, decision_moves, yes_moves, no_moves, ask_moves, ack_moves, arrival_moves, timer_moves, coord_timer_moves, timer_at_moves, crash_at_moves, restart_at_moves, arm_at_moves, member_checkpoint_moves, coord_checkpoint_moves, checkpoint_at_moves, again_moves, question_moves, resend_moves, line_moves, moves_of}
 use Rattle.co_law_moves.proofs.Made.{where_map, Made, MadeOver, sound_made, no_move}
 use Rattle.co_law_moves.proofs.MemberMade as members
 use Rattle.co_law_moves.proofs.CoordMade as coords
 use Rattle.co_law_moves.proofs.ClientMade as clients
 use Rattle.co_law_moves.proofs.LocalMade as locals
-use Rattle.co_law_own.specs.OwnGuards.{Logs, SoundLogs, AnyLogs, Where, GuardOver}
-use Rattle.co_law_moves.proofs.FactsOver.{FactsOver, where_sound, coords_over, marked_over', sent_over, waiting_quiet, vote_quiet, asks_over, local_unvoted}
+use Rattle.co_law_own.specs.OwnGuards.{Logs, SoundLogs, Where}
+use Rattle.co_law_moves.proofs.FactsOver.{FactsOver, where_sound}
 
 module _ (l : Logs) (s : Federation) (f : FactsOver l s) where
   begins : (t c : ℕ) (used up : Bool) → is_used s t ≡ used → MadeOver l s (begin_moves (Begin t c) used up) (begin_where s t c used up).state

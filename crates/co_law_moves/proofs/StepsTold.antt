@@ -1,5 +1,5 @@
 -- The items of every event tell exactly of its moves.
-use Rattle.std.proofs.Common.{◌≡◌, ℕ, Bool, true, false, ◌==◌, if◌then◌else◌, List, [], ◌∷◌, ◌++◌, Option, None, Some, refl, sym, ap, ◌∙◌}
+use Rattle.std.proofs.Common.{◌≡◌, ℕ, Bool, true, false, ◌==◌, if◌then◌else◌, List, [], ◌∷◌, ◌++◌, Option, None, Some, refl, ap, ◌∙◌}
 use Rattle.co_base.specs.declared.leaves.Leaves.{Leaves}
 use Rattle.co_base.specs.declared.node.Node.{Node}
 use Rattle.co_base.specs.declared.node.Node.TheVariants as node
@@ -27,7 +27,7 @@ use Rattle.co_plain.specs.CoordLog.{coord_checkpoint, coord_crash, coord_arm, co
 use Rattle.co_plain.specs.Sessions.{Refuses, Grants, parts_of, leave_to_visit, leave_to_end, unless_asked, may_visit, count_at}
 use Rattle.co_plain.specs.Wire.{was_sent}
 use Rattle.co_plain.specs.Federation.{Federation, Stepped, answers, at_member, at_coord, message_list}
-use Rattle.co_plain.specs.CommitmentOrder.{Trace, Operated, trace_from, traced_answer, operation_in, operated_by}
+use Rattle.co_plain.specs.CommitmentOrder.{trace_from, traced_answer, operation_in, operated_by}
 use Rattle.co_message.specs.declared.item.ItemKind.{ItemKind}
 use Rattle.co_message.specs.declared.item.ItemKind.TheVariants as item
 use Rattle.co_message.specs.declared.answer.Answer.{Answer}
@@ -36,15 +36,14 @@ use Rattle.co_plain.specs.Member.{most_operations, unless_blocked, member_op}
 use Rattle.co_plain.specs.Numbers.{counted}
 use Rattle.co_state.specs.LockRule.{lock_blocker}
 use Rattle.co_state.specs.VotingRule.{kept_count}
-use Rattle.co_plain.specs.Sessions.{Leave}
-use Rattle.co_plain.specs.Step.{operated, is_held}
+use Rattle.co_plain.specs.Step.{operated}
 use Rattle.co_law_base.proofs.Facts.{OnlyAborts, rest_of}
 use Rattle.co_law_moves.specs.EventMoves.{unless_lock, operation_moves}
-use Rattle.co_law_moves.specs.MoveTraces.{moves_trace, told_with, run_items}
+use Rattle.co_law_moves.specs.MoveTraces.{moves_trace, told_with}
 use Rattle.co_plain.specs.Step.{up_member, member_step, up_coord, coord_step, coord_answers, local_answers, is_used, begin_where, local_where, operate, operate_with, commit_at, commit_with, abort_at, abort_with, arrives, deliver, timer_at, crash_at, restart_at, arm_at, checkpoint_at, step_line, step}
 use Rattle.co_plain.specs.Moves.{Move, Begin, BeginLocal, CrashMember, CrashCoord, ArmMember, ArmCoord, RestartMember, RestartCoord}
 use Rattle.co_law_base.proofs.Facts.{Facts}
-use Rattle.co_law_moves.specs.EventMoves.{where_up, begin_moves, restart_moves, operate_moves, operate_with_moves, commit_entry_moves, local_commit_moves, commit_at_moves, commit_with_moves, abort_entry_moves, local_abort_moves, abort_at_moves, abort_with_moves, prepare_moves, commit_moves, abort_moves, decision_moves, yes_moves, no_moves, ask_moves, ack_moves, vote_arrives, arrival_moves, timer_moves, coord_timer_moves, timer_at_moves, crash_at_moves, restart_at_moves, arm_at_moves, member_checkpoint_moves, coord_checkpoint_moves, checkpoint_at_moves, again_moves, question_moves, resend_moves, line_moves, moves_of}
+use Rattle.co_law_moves.specs.EventMoves.{where_up, begin_moves, restart_moves, operate_moves, operate_with_moves, commit_entry_moves, local_commit_moves, commit_at_moves, commit_with_moves, abort_entry_moves, local_abort_moves, abort_at_moves, abort_with_moves, prepare_moves, commit_moves, abort_moves, decision_moves, yes_moves, no_moves, ask_moves, ack_moves, arrival_moves, timer_moves, coord_timer_moves, timer_at_moves, crash_at_moves, restart_at_moves, arm_at_moves, member_checkpoint_moves, coord_checkpoint_moves, checkpoint_at_moves, again_moves, question_moves, resend_moves, line_moves, moves_of}
 use Rattle.co_law_moves.proofs.NodesTold as nodes
 
 abbrev pub Says : Option Event → List Move → Stepped → Type 0

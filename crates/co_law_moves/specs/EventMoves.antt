@@ -37,7 +37,7 @@ use Rattle.co_plain.specs.CoordStep.{has_part, members_of}
 use Rattle.co_plain.specs.Coordinator.{prepares_to, decisions_to, parts_lacking}
 use Rattle.co_plain.specs.Sessions.{Leave, Refuses, Grants, leave_to_visit, leave_to_end, count_at, parts_of}
 use Rattle.co_plain.specs.Wire.{was_sent}
-use Rattle.co_plain.specs.Federation.{Federation, message_list}
+use Rattle.co_plain.specs.Federation.{Federation}
 use Rattle.co_plain.specs.Step.{is_used}
 use Rattle.co_plain.specs.Moves.{Move, Operate, MarkAsked, Cast, DropActive, DropVoted, Install, CommitLocally, CrashMember, RestartMember, ArmMember, CloseMemberSpare, FillMemberSpare, Begin, Collect, RecordYes, Decide, Leave as LeaveTable, RecordAck, End, CrashCoord, RestartCoord, ArmCoord, CloseCoordSpare, FillCoordSpare, BeginLocal, AskEnd, Send}
 

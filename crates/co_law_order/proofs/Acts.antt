@@ -1,18 +1,18 @@
 -- A run as a list of acts: moves, and the taking away of all armed stops.
-use Rattle.std.proofs.Common.{◌≡◌, ◌≢◌, ◌⊎◌, inl, inr, ℕ, Bool, true, false, List, [], ◌∷◌, ◌++◌, map, Option, None, Some, refl, sym, ap, ◌∙◌, subst}
+use Rattle.std.proofs.Common.{◌≡◌, ◌⊎◌, inl, inr, Bool, true, false, List, [], ◌∷◌, ◌++◌, map, refl, sym, ap, ◌∙◌, subst}
 use Rattle.co_plain.specs.declared.happening.Happening.{Happening}
 use Rattle.co_plain.specs.declared.happening.Happening.TheVariants as happening
 use Rattle.co_plain.specs.Federation.{Federation}
 use Rattle.co_plain.specs.Step.{step, disarmed}
 use Rattle.co_plain.specs.Runs.{run}
 use Rattle.co_plain.specs.CommitmentOrder.{Trace, trace_of}
-use Rattle.co_plain.specs.Moves.{Move, Operate, MarkAsked, Cast, DropActive, DropVoted, Install, CommitLocally, CrashMember, RestartMember, ArmMember, CloseMemberSpare, FillMemberSpare, Begin, Collect, RecordYes, Decide, Leave, RecordAck, End, CrashCoord, RestartCoord, ArmCoord, CloseCoordSpare, FillCoordSpare, BeginLocal, AskEnd, Send, Guard, GuardsHold, effect, all_effects}
+use Rattle.co_plain.specs.Moves.{Move, Operate, Install, CommitLocally, Begin, Decide, Guard, GuardsHold, effect, all_effects}
 use Rattle.co_law_base.proofs.Facts.{Facts}
 use Rattle.co_law_event.specs.HandedVerdicts.{IsTrueVerdict, AreTrueVerdicts}
 use Rattle.co_law_event.proofs.Steps.{step_keeps}
 use Rattle.co_law_moves.specs.EventMoves.{moves_of}
-use Rattle.co_law_moves.specs.MoveTraces.{move_trace, moves_trace, told_with, run_items}
-use Rattle.co_law_moves.proofs.NodesTold.{more, no_rest}
+use Rattle.co_law_moves.specs.MoveTraces.{move_trace, moves_trace, run_items}
+use Rattle.co_law_moves.proofs.NodesTold.{more}
 use Rattle.co_law_moves.proofs.Made.{Made}
 use Rattle.co_law_moves.proofs.MoveByMove.{move_keeps}
 use Rattle.co_law_moves.proofs.StepsMade.{event_made}

@@ -1,17 +1,15 @@
 -- The installs of a member since its last crash are those of committed transactions, with what their clients were
 -- told to have written.
-use Rattle.std.proofs.Common.{◌≡◌, ◌≢◌, ◌⊎◌, inl, inr, ℕ, Bool, true, false, ◌||◌, ◌≤◌, ◌==◌, List, [], ◌∷◌, length, Option, None, Some, refl, sym, ap, ◌∙◌, subst, arith}
+use Rattle.std.proofs.Common.{◌≡◌, ◌⊎◌, inl, inr, ℕ, true, false, ◌≤◌, List, [], ◌∷◌, Option, None, Some, refl, sym, ap, ◌∙◌, subst}
 use Rattle.std.specs.Option.{is_some}
-use Rattle.std.proofs.lemmas.Bool.{or_cases, or_left, or_right, or_from, or_parts, eqb-true, eq-eqb, false_from_ne_true}
-use Rattle.co_base.specs.declared.head.Kind.{Kind}
+use Rattle.std.proofs.lemmas.Bool.{or_cases, or_left, or_right}
 use Rattle.co_state.specs.declared.engine_state.EngineState.{EngineState}
 use Rattle.co_state.specs.declared.engine_state.Install.{Install as Installed}
 use Rattle.co_state.specs.declared.engine_state.Operation.{Operation}
 use Rattle.co_state.specs.declared.engine_state.Vote.{Vote}
-use Rattle.co_state.specs.Table.{look, put, holds}
+use Rattle.co_state.specs.Table.{look, holds}
 use Rattle.co_state.specs.Changes.{change_made, with_written, changes_of, sets_of}
 use Rattle.co_state.specs.EngineState.{operations_of}
-use Rattle.co_state.specs.VotingRule.{vote_of, kept_count}
 use Rattle.co_state.specs.Effects.{with_operation, after_cast, after_install, install_vote}
 use Rattle.co_plain.specs.declared.member_state.MemberState.{MemberState}
 use Rattle.co_plain.specs.declared.session.Session.{Session}
@@ -24,10 +22,10 @@ use Rattle.co_plain.specs.Step.{disarmed}
 use Rattle.co_plain.specs.Decisions.{told_of, told_in, asked_in}
 use Rattle.co_serial.specs.SerialRun.{with_at}
 use Rattle.co_plain.specs.MemberStep.{with_engine}
-use Rattle.co_plain.specs.Invariants.{Memory, view, stands, told_changes, KeptAsTold}
-use Rattle.co_plain.specs.Moves.{Move, Operate, MarkAsked, Cast, DropActive, DropVoted, Install, CommitLocally, CrashMember, RestartMember, ArmMember, CloseMemberSpare, FillMemberSpare, Begin, Collect, RecordYes, Decide, Leave, RecordAck, End, CrashCoord, RestartCoord, ArmCoord, CloseCoordSpare, FillCoordSpare, BeginLocal, AskEnd, Send, Guard, effect, entered_reply, marked_over, record_yes, record_ack, install_state, local_state, with_decision, session_by_member}
+use Rattle.co_plain.specs.Invariants.{Memory, told_changes, KeptAsTold}
+use Rattle.co_plain.specs.Moves.{Move, Operate, MarkAsked, Cast, DropActive, DropVoted, Install, CommitLocally, CrashMember, RestartMember, ArmMember, CloseMemberSpare, FillMemberSpare, Begin, Collect, RecordYes, Decide, Leave, RecordAck, End, CrashCoord, RestartCoord, ArmCoord, CloseCoordSpare, FillCoordSpare, BeginLocal, AskEnd, Send, Guard, effect, entered_reply, marked_over, record_yes, record_ack, install_state, local_state, session_by_member}
 use Rattle.co_law_engine.proofs.YesTells.{yes_parts}
-use Rattle.co_law_base.proofs.Lookups.{put_here, holds_found, found_holds}
+use Rattle.co_law_base.proofs.Lookups.{put_here, holds_found}
 use Rattle.co_law_base.proofs.Commits.{holds_more, holds_new}
 use Rattle.co_law_base.proofs.ViewMoves.{each_map}
 use Rattle.co_law_base.proofs.Facts.{rest_of, over, begun, asked, Each, Facts}

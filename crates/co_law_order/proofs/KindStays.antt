@@ -1,6 +1,5 @@
 -- A member's kind stays.
-use Rattle.std.proofs.Common.{◌≡◌, ℕ, Option, None, Some, refl, sym, ap, ◌∙◌, subst}
-use Rattle.co_base.specs.declared.head.Kind.{Kind}
+use Rattle.std.proofs.Common.{◌≡◌, ℕ, Option, None, Some, refl, ap}
 use Rattle.co_serial.specs.SerialRun.{with_at}
 use Rattle.co_state.specs.declared.engine_state.EngineState.{EngineState}
 use Rattle.co_state.specs.declared.engine_state.Vote.{Vote}

@@ -6,4 +6,5 @@ pub mod Seen
 pub mod Unread
 pub mod KindStays
 pub mod Orders
+pub mod AtDecision
 pub mod Ordered

@@ -1,8 +1,7 @@
 -- Which installs an active transaction did not see: those after the stamp of its read.
 use Rattle.std.proofs.Common.{◌≡◌, ◌≢◌, ◌⊎◌, inl, inr, ℕ, Bool, true, false, ◌||◌, ◌&&◌, ◌≤◌, ◌==◌, nat_le, if◌then◌else◌, List, [], ◌∷◌, ◌++◌, length, filter, map, Option, None, Some, refl, sym, ap, ◌∙◌, subst, arith}
 use Rattle.std.proofs.lemmas.Bool.Decides.{nat_tests}
-use Rattle.std.specs.Option.{is_some}
-use Rattle.std.proofs.lemmas.Bool.{or_cases, or_left, or_right, or_from, or_parts, and_parts, eqb-true, eqb-false, eq-eqb, false_from_ne_true}
+use Rattle.std.proofs.lemmas.Bool.{or_cases, or_left, or_right, and_parts, eqb-true, eq-eqb}
 use Rattle.co_base.specs.Span.{Span, span_has}
 use Rattle.co_base.specs.declared.op.Op.{Op}
 use Rattle.co_base.specs.declared.written.Written.{Written}
@@ -10,14 +9,14 @@ use Rattle.co_state.specs.declared.engine_state.EngineState.{EngineState}
 use Rattle.co_state.specs.declared.engine_state.Install.{Install as Installed}
 use Rattle.co_state.specs.declared.engine_state.Operation.{Operation}
 use Rattle.co_state.specs.declared.engine_state.Vote.{Vote}
-use Rattle.co_state.specs.Table.{look, put, holds}
+use Rattle.co_state.specs.Table.{look, holds}
 use Rattle.co_state.specs.Keys.{writes_key}
 use Rattle.co_state.specs.Changes.{span_read, sets_of}
 use Rattle.co_state.specs.EngineState.{operations_of, operations_in}
 use Rattle.co_state.specs.StaleRead.{keys_since, overwritten, stale_keys}
 use Rattle.co_state.specs.VotingRule.{kept_count}
 use Rattle.co_state.specs.ReadRule.{snapshot_of}
-use Rattle.co_state.specs.Effects.{with_operation, after_cast, after_install, install_vote}
+use Rattle.co_state.specs.Effects.{with_operation, after_cast, install_vote}
 use Rattle.co_plain.specs.declared.member_state.MemberState.{MemberState}
 use Rattle.co_plain.specs.declared.session.Session.{Session}
 use Rattle.co_plain.specs.Numbers.{counted}
@@ -38,12 +37,12 @@ use Rattle.co_plain.specs.Member.{with_mark}
 use Rattle.co_plain.specs.Moves.{restarted}
 use Rattle.co_plain.specs.MemberStep.{with_log, dropped, member_down}
 use Rattle.co_plain.specs.Moves.{cast_state}
-use Rattle.co_law_engine.proofs.YesTells.{in_some, out_of_range, both_empty, filter-append'}
+use Rattle.co_law_engine.proofs.YesTells.{out_of_range, both_empty, filter-append'}
 use Rattle.co_law_base.proofs.Lookups.{put_here, put_cases, without_cases, look_none, holds_found, is_nothing}
 use Rattle.co_law_base.proofs.Commits.{holds_cases}
-use Rattle.co_law_base.proofs.Facts.{StampsIn, Each, Facts}
+use Rattle.co_law_base.proofs.Facts.{Each, Facts}
 use Rattle.co_law_base.proofs.Carrying.{at_each}
-use Rattle.co_law_moves.proofs.Onward.{move_onward, nothing_kept, disarm_onward}
+use Rattle.co_law_moves.proofs.MoveOnward.{move_onward}
 use Rattle.co_law_order.proofs.Acts.{Act, Moves, Disarms, after_act, act_guard}
 
 -- installed after the first so many

@@ -1,13 +1,12 @@
 -- What was told stays told: reads and writes of a session go over, and a session that is over stays as it is.
-use Rattle.std.proofs.Common.{◌≡◌, ◌≢◌, ◌⊎◌, inl, inr, ℕ, Bool, true, false, ◌||◌, ◌==◌, if◌then◌else◌, List, [], ◌∷◌, Option, None, Some, refl, sym, ap, ◌∙◌, subst}
-use Rattle.std.specs.Option.{is_some}
-use Rattle.std.proofs.lemmas.Bool.{or_cases, or_left, or_right, or_from, or_parts, eqb-true, eqb-false, eq-eqb, false_from_ne_true}
+use Rattle.std.proofs.Common.{◌≡◌, ℕ, Bool, true, false, ◌||◌, ◌==◌, if◌then◌else◌, List, ◌∷◌, Option, None, Some, refl, sym, ap, ◌∙◌, subst}
+use Rattle.std.proofs.lemmas.Bool.{or_right, or_from, or_parts, eqb-true, eqb-false}
 use Rattle.co_base.specs.declared.node.Node.TheVariants as node
 use Rattle.co_base.specs.declared.op.Op.{Op}
 use Rattle.co_base.specs.declared.written.Written.{Written}
-use Rattle.co_state.specs.Table.{Table, look, put, holds}
+use Rattle.co_state.specs.Table.{look, put, holds}
 use Rattle.co_state.specs.Keys.{same_key, reads_key, writes_key}
-use Rattle.co_state.specs.Changes.{span_read, change_made, with_span, with_written}
+use Rattle.co_state.specs.Changes.{span_read, change_made, with_written}
 use Rattle.co_state.specs.ReadRule.{operation_reply}
 use Rattle.co_plain.specs.declared.session.Session.{Session}
 use Rattle.co_plain.specs.declared.session.Told.{Told}

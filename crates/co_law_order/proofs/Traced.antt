@@ -1,18 +1,14 @@
 -- What a trace says and what the state has: begins, decisions and installs.
 use Rattle.std.proofs.Common.{◌≡◌, ◌≢◌, ◌⊎◌, inl, inr, ℕ, Bool, true, false, ◌||◌, ◌&&◌, ◌==◌, if◌then◌else◌, List, [], ◌∷◌, ◌++◌, Option, None, Some, refl, sym, ap, ◌∙◌, subst}
-use Rattle.std.specs.Option.{is_some}
-use Rattle.std.proofs.lemmas.Bool.{or_cases, or_left, or_right, or_from, or_parts, and_parts, and_from, eqb-true, eqb-false, eq-eqb, false_from_ne_true}
+use Rattle.std.proofs.lemmas.Bool.{or_cases, or_left, or_right, or_parts, and_parts, and_from, eqb-true, eqb-false, eq-eqb}
 use Rattle.co_base.specs.declared.node.Node.{Node}
 use Rattle.co_base.specs.declared.node.Node.TheVariants as node
 use Rattle.co_base.specs.declared.op.Op.{Op}
 use Rattle.co_serial.specs.SerialRun.{with_at}
-use Rattle.co_state.specs.declared.engine_state.Vote.{Vote}
 use Rattle.co_state.specs.Table.{look, put, holds}
 use Rattle.co_state.specs.ReadRule.{operation_reply}
-use Rattle.co_plain.specs.declared.coord_state.Entry.TheVariants as entry
 use Rattle.co_plain.specs.declared.member_state.MemberState.{MemberState}
 use Rattle.co_plain.specs.declared.session.Session.{Session}
-use Rattle.co_plain.specs.MemberView.{with_number}
 use Rattle.co_plain.specs.MemberStep.{with_engine}
 use Rattle.co_state.specs.Effects.{with_operation}
 use Rattle.co_law_engine.proofs.YesTells.{in_some}
@@ -21,11 +17,10 @@ use Rattle.co_plain.specs.Federation.{Federation, with_member, with_session}
 use Rattle.co_plain.specs.Step.{is_used, disarmed}
 use Rattle.co_plain.specs.Decisions.{told_of, is_decided}
 use Rattle.co_plain.specs.CommitmentOrder.{Trace, Began, Operated, Committed, decider_in, installs}
-use Rattle.co_plain.specs.Invariants.{Memory, Stable, view}
 use Rattle.co_plain.specs.Moves.{Move, Operate, MarkAsked, Cast, DropActive, DropVoted, Install, CommitLocally, CrashMember, RestartMember, ArmMember, CloseMemberSpare, FillMemberSpare, Begin, Collect, RecordYes, Decide, Leave, RecordAck, End, CrashCoord, RestartCoord, ArmCoord, CloseCoordSpare, FillCoordSpare, BeginLocal, AskEnd, Send, Guard, effect, entered_reply, marked_over, record_yes, record_ack, session_by_member, may_operate_at, install_state, local_state, with_decision}
-use Rattle.co_law_base.proofs.Lookups.{put_here, put_there, holds_found}
+use Rattle.co_law_base.proofs.Lookups.{put_here, put_there}
 use Rattle.co_law_base.proofs.Commits.{holds_more, holds_new, holds_cases}
-use Rattle.co_law_base.proofs.Facts.{rest_of, by_coord, OpenEntry, Facts}
+use Rattle.co_law_base.proofs.Facts.{rest_of, by_coord, Facts}
 use Rattle.co_law_base.proofs.Carrying.{at_each, at_here, same_coord}
 use Rattle.co_law_base.proofs.TwoViews.{committed_both}
 use Rattle.co_law_member.proofs.LogMoves.{not_held}

@@ -1,30 +1,25 @@
 -- A voted transaction's read is not overwritten: who installed after what it saw wrote no key of the read.
-use Rattle.std.proofs.Common.{◌≡◌, ◌≢◌, ◌⊎◌, inl, inr, ℕ, Bool, true, false, ◌||◌, ◌≤◌, ◌==◌, List, [], ◌∷◌, length, Option, None, Some, refl, sym, ap, ◌∙◌, subst, arith}
+use Rattle.std.proofs.Common.{◌≡◌, ◌≢◌, ◌⊎◌, inl, inr, ℕ, Bool, true, false, ◌≤◌, ◌==◌, List, Option, None, Some, refl, sym, ap, ◌∙◌, subst}
 use Rattle.std.specs.Option.{is_some}
-use Rattle.std.proofs.lemmas.Bool.{or_cases, or_left, or_right, or_from, or_parts, eqb-true, eqb-false, eq-eqb, false_from_ne_true}
+use Rattle.std.proofs.lemmas.Bool.{or_cases, or_left, or_right, eqb-true, eqb-false}
 use Rattle.co_base.specs.declared.written.Written.{Written}
-use Rattle.co_base.specs.Span.{Span}
 use Rattle.co_serial.specs.SerialRun.{with_at}
-use Rattle.co_state.specs.declared.engine_state.EngineState.{EngineState}
-use Rattle.co_state.specs.declared.engine_state.Operation.{Operation}
 use Rattle.co_state.specs.declared.engine_state.Vote.{Vote}
 use Rattle.co_state.specs.Table.{look, put, without, holds}
-use Rattle.co_state.specs.Keys.{reads_key, writes_key, reads_meet, writes_meet}
+use Rattle.co_state.specs.Keys.{reads_key, writes_key, reads_meet}
 use Rattle.co_state.specs.Changes.{sets_of, changes_of}
 use Rattle.co_state.specs.EngineState.{operations_of}
-use Rattle.co_state.specs.VotingRule.{vote_of}
 use Rattle.co_state.specs.Effects.{with_operation, after_cast, install_vote}
 use Rattle.co_plain.specs.declared.member_state.MemberState.{MemberState}
 use Rattle.co_plain.specs.declared.session.Session.{Session}
 use Rattle.co_plain.specs.Numbers.{counted}
-use Rattle.co_plain.specs.MemberView.{with_number}
 use Rattle.co_plain.specs.LocalCommit.{local_coord}
 use Rattle.co_plain.specs.MemberStep.{with_engine, member_down}
 use Rattle.co_plain.specs.Sessions.{told_at, count_at}
 use Rattle.co_plain.specs.Federation.{Federation}
 use Rattle.co_plain.specs.Step.{disarmed}
 use Rattle.co_plain.specs.Decisions.{told_of}
-use Rattle.co_plain.specs.Invariants.{Memory, Stable, view, stands, told_spans, told_changes}
+use Rattle.co_plain.specs.Invariants.{Memory, Stable, view, told_changes}
 use Rattle.co_plain.specs.Moves.{Move, Operate, MarkAsked, Cast, DropActive, DropVoted, Install, CommitLocally, CrashMember, RestartMember, ArmMember, CloseMemberSpare, FillMemberSpare, Begin, Collect, RecordYes, Decide, Leave, RecordAck, End, CrashCoord, RestartCoord, ArmCoord, CloseCoordSpare, FillCoordSpare, BeginLocal, AskEnd, Send, Guard, effect, entered_reply, marked_over, record_yes, record_ack, cast_state, install_state, local_state}
 use Rattle.co_record.specs.declared.record.Record.TheVariants as log
 use Rattle.co_plain.specs.LogWrite.{with_filled_spare, with_spare, with_stop, with_waiting, generation_of}
@@ -40,10 +35,11 @@ use Rattle.co_law_base.proofs.Commits.{holds_cases}
 use Rattle.co_law_base.proofs.ViewRules.{three_parts}
 use Rattle.co_law_base.proofs.ViewMoves.{each_map}
 use Rattle.co_law_base.proofs.TwoViews.{stable_to_memory, committed_both}
-use Rattle.co_law_base.proofs.Facts.{rest_of, over, Each, Facts}
+use Rattle.co_law_base.proofs.Facts.{rest_of, over, Facts}
 use Rattle.co_law_base.proofs.Carrying.{LivesOn, at_each}
 use Rattle.co_law_member.proofs.VoteMoves.{active_found}
-use Rattle.co_law_moves.proofs.Onward.{Onward, move_onward, disarm_onward, lives_back, holds_put_off, holds_without_off, holds_without_here, back_without}
+use Rattle.co_law_moves.proofs.MoveOnward.{move_onward}
+use Rattle.co_law_moves.proofs.Onward.{disarm_onward, lives_back, holds_put_off, holds_without_off, holds_without_here, back_without}
 use Rattle.co_law_order.proofs.Acts.{Act, Moves, Disarms, after_act, act_guard}
 use Rattle.co_law_order.proofs.ToldOn.{ToldOn, act_told, reads_told, writes_told}
 use Rattle.co_law_order.proofs.Installs.{InstallsTold, act_installs, kept_changes, over_begun, local_told}

@@ -1,5 +1,5 @@
 -- Each move of a client, and each message, keeps what each node keeps by itself.
-use Rattle.std.proofs.Common.{◌≡◌, ◌≢◌, ◌⊎◌, inl, inr, ℕ, Bool, true, false, ◌||◌, ◌&&◌, ◌≤◌, ◌==◌, ◌+◌, if◌then◌else◌, List, [], ◌∷◌, length, Option, None, Some, refl, sym, ap, ◌∙◌, subst, arith}
+use Rattle.std.proofs.Common.{◌≡◌, ◌≢◌, ◌⊎◌, inl, inr, ℕ, Bool, true, false, ◌&&◌, ◌≤◌, ◌==◌, if◌then◌else◌, List, [], ◌∷◌, length, Option, None, Some, refl, sym, ap, ◌∙◌, subst, arith}
 use Rattle.std.specs.Option.{is_some}
 use Rattle.std.proofs.lemmas.Bool.{or_cases, or_left, or_right, or_parts, or_from, and_parts, eqb-true, eqb-false, eq-eqb, ne_eqb, false_from_ne_true}
 use Rattle.co_base.specs.declared.node.Node.{Node}
@@ -22,7 +22,6 @@ use Rattle.co_plain.specs.declared.member_state.MemberState.{MemberState}
 use Rattle.co_plain.specs.declared.member_view.MemberView.{MemberView}
 use Rattle.co_plain.specs.declared.session.Session.{Session}
 use Rattle.co_plain.specs.declared.session.Told.{Told}
-use Rattle.co_plain.specs.MemberView.{Numbers}
 use Rattle.co_plain.specs.CoordView.{has_commit_of}
 use Rattle.co_plain.specs.CoordStep.{with_table, has_part}
 use Rattle.co_plain.specs.MemberStep.{with_engine}
@@ -44,7 +43,7 @@ use Rattle.co_law_session.proofs.Beginning.{other_than}
 use Rattle.co_law_session.proofs.Operating.{entry_for, sessions_with, snapshot_in}
 use Rattle.co_law_session.proofs.Sending.{send_cases, sent_still, parts_told}
 use Rattle.co_law_decide.proofs.AtCoord.{ends_back}
-use Rattle.co_law_own.proofs.Own.{spent, told_there, AtCoord, OwnView, OwnActive, OwnMember, OwnNumbers, OwnSent, OwnFacts}
+use Rattle.co_law_own.proofs.Own.{spent, told_there, OwnView, OwnActive, OwnMember, OwnNumbers, OwnSent, OwnFacts}
 use Rattle.co_law_own.specs.OwnFacts.{OwnEnds}
 use Rattle.co_law_own.specs.OwnGuards.{AnyLogs, may_say}
 

@@ -1,8 +1,6 @@
 -- Each move of a coordinator keeps what each node keeps by itself.
-use Rattle.std.proofs.Common.{◌≡◌, ◌≢◌, ◌⊎◌, inl, inr, ℕ, Bool, true, false, ◌==◌, List, [], ◌∷◌, ◌++◌, Option, None, Some, refl, sym, ap, ◌∙◌, subst}
+use Rattle.std.proofs.Common.{◌≡◌, ℕ, Bool, true, false, ◌==◌, List, [], ◌∷◌, ◌++◌, Option, None, Some, refl, sym, ap, ◌∙◌, subst}
 use Rattle.std.proofs.lemmas.Bool.{eqb-true, eqb-false}
-use Rattle.co_message.specs.declared.message.Message.{Message}
-use Rattle.co_message.specs.declared.message.Message.TheVariants as message
 use Rattle.co_record.specs.declared.record.Record.{Record}
 use Rattle.co_record.specs.declared.record.Record.TheVariants as log
 use Rattle.co_serial.specs.SerialRun.{with_at}
@@ -11,7 +9,6 @@ use Rattle.co_plain.specs.declared.coord_state.CoordState.{CoordState}
 use Rattle.co_plain.specs.declared.coord_state.Entry.{Entry}
 use Rattle.co_plain.specs.declared.coord_state.Entry.TheVariants as entry
 use Rattle.co_plain.specs.declared.log_state.Stop.{Stop}
-use Rattle.co_plain.specs.declared.session.Session.{Session}
 use Rattle.co_plain.specs.Numbers.{next_generation}
 use Rattle.co_plain.specs.LogWrite.{with_filled_spare, with_spare, with_stop, with_waiting, generation_of}
 use Rattle.co_plain.specs.CoordStep.{with_table, with_coord_log, coord_down}
@@ -19,7 +16,6 @@ use Rattle.co_plain.specs.CoordLog.{coord_spare}
 use Rattle.co_plain.specs.Sessions.{parts_of}
 use Rattle.co_plain.specs.Federation.{Federation, with_coord}
 use Rattle.co_plain.specs.Decisions.{told_of}
-use Rattle.co_plain.specs.SoundLogs.{unended_in}
 use Rattle.co_plain.specs.Moves.{Collect, RecordYes, Leave, RecordAck, End, CrashCoord, RestartCoord, ArmCoord, CloseCoordSpare, FillCoordSpare, effect, Guard, record_yes, record_ack}
 use Rattle.co_law_base.proofs.Lookups.{put_there, without_here, without_there}
 use Rattle.co_law_base.proofs.Facts.{rest_of, changed, CoordHas}

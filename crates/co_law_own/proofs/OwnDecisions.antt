@@ -1,27 +1,21 @@
 -- A decision keeps what each node keeps by itself.
-use Rattle.std.proofs.Common.{◌≡◌, ◌≢◌, ◌⊎◌, inl, inr, ℕ, suc, Bool, true, false, ◌||◌, ◌==◌, ◌≤◌, List, [], ◌∷◌, length, Option, None, Some, refl, sym, ap, ◌∙◌, subst, arith}
+use Rattle.std.proofs.Common.{◌≡◌, ◌≢◌, ◌⊎◌, inl, inr, ℕ, suc, Bool, true, false, ◌||◌, ◌==◌, ◌≤◌, List, [], length, Option, None, Some, refl, sym, ap, ◌∙◌, subst, arith}
 use Rattle.std.specs.Option.{is_some}
-use Rattle.std.proofs.lemmas.Bool.{or_cases, or_left, or_right, or_from, eqb-true, eqb-false, false_from_ne_true}
+use Rattle.std.proofs.lemmas.Bool.{or_cases, or_left, or_right, or_from, eqb-true, false_from_ne_true}
 use Rattle.co_base.specs.declared.node.Node.TheVariants as node
-use Rattle.co_serial.specs.SerialRun.{with_at}
 use Rattle.co_state.specs.declared.engine_state.Operation.{Operation}
 use Rattle.co_state.specs.declared.engine_state.Vote.{Vote}
-use Rattle.co_state.specs.Table.{Table, look, holds, put, without}
+use Rattle.co_state.specs.Table.{look, holds, put, without}
 use Rattle.co_state.specs.EngineState.{operations_of}
-use Rattle.co_state.specs.VotingRule.{voted_holds}
-use Rattle.co_plain.specs.declared.coord_state.Entry.{Entry}
-use Rattle.co_plain.specs.declared.coord_state.Entry.TheVariants as entry
-use Rattle.co_plain.specs.declared.member_state.AskedMark.{AskedMark}
 use Rattle.co_plain.specs.declared.member_state.MemberState.{MemberState}
 use Rattle.co_plain.specs.declared.member_view.MemberView.{MemberView}
-use Rattle.co_plain.specs.declared.session.Decided.{Decided}
 use Rattle.co_plain.specs.declared.session.Session.{Session}
-use Rattle.co_plain.specs.MemberView.{Numbers, cast_in, install_in, with_number}
+use Rattle.co_plain.specs.MemberView.{cast_in, install_in, with_number}
 use Rattle.co_plain.specs.CoordStep.{members_of}
 use Rattle.co_plain.specs.Sessions.{count_at, same_node, asked_to_end}
 use Rattle.co_plain.specs.Federation.{Federation, with_session, with_member, with_coord}
 use Rattle.co_plain.specs.Decisions.{is_decided, told_of, told_in, asked_in}
-use Rattle.co_plain.specs.Invariants.{Memory, Stable, view, stands}
+use Rattle.co_plain.specs.Invariants.{Memory, Stable, view}
 use Rattle.co_plain.specs.Moves.{CommitLocally, Decide, effect, Guard, with_decision, decide_entry, decide_members, marked_over, session_by_member, local_state}
 use Rattle.co_law_engine.proofs.YesTells.{SaysYes, yes_parts, yes_apart}
 use Rattle.co_law_base.proofs.Lookups.{put_here, put_there, without_there, without_cases, found_holds}

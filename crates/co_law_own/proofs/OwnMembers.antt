@@ -1,9 +1,8 @@
 -- Each move of a member keeps what each node keeps by itself.
-use Rattle.std.proofs.Common.{◌≡◌, ◌≢◌, ◌⊎◌, inl, inr, ℕ, suc, Bool, true, false, ◌==◌, ◌≤◌, List, [], ◌∷◌, ◌++◌, length, Option, None, Some, refl, sym, ap, ◌∙◌, subst, arith}
+use Rattle.std.proofs.Common.{◌≡◌, ◌≢◌, ◌⊎◌, inl, inr, ℕ, suc, Bool, true, false, ◌≤◌, List, [], ◌∷◌, length, Option, None, Some, refl, sym, ap, ◌∙◌, subst, arith}
 use Rattle.std.specs.Option.{is_some}
 use Rattle.std.proofs.lemmas.Bool.{or_cases, or_left, or_right, or_from, false_from_ne_true}
 use Rattle.co_message.specs.declared.message.Message.TheVariants as message
-use Rattle.co_record.specs.declared.record.Record.{Record}
 use Rattle.co_record.specs.declared.record.Record.TheVariants as log
 use Rattle.co_state.specs.declared.engine_state.EngineState.{EngineState}
 use Rattle.co_state.specs.declared.engine_state.Operation.{Operation}
@@ -39,7 +38,6 @@ use Rattle.co_law_member.proofs.KeptTold.{kept_same, kept_install, stamps_more}
 use Rattle.co_law_member.proofs.LogMoves.{without_absent, not_held}
 use Rattle.co_law_member.proofs.VoteMoves.{active_found}
 use Rattle.co_law_member.proofs.Filling.{spare_tells}
-use Rattle.co_law_own.specs.OwnFacts.{OwnAborts}
 use Rattle.co_law_own.proofs.Own.{spent, told_there, AtCoord, OwnView, OwnActive, OwnMember, OwnFacts}
 
 -- a change of one member

@@ -1,7 +1,7 @@
 -- What a run keeps over any opened logs, sound or not: facts of a node and of the clients, none of two nodes. The
 -- first, sixth and seventh invariants are among them as they stand; the eighth without the word that a vote whose
 -- abort waits is presumed aborted; of the ninth what it says of a coordinator's own table and records.
-use Rattle.std.specs.Prelude.{ℕ, Bool, true, false, ◌≡◌, ◌≢◌, List, [], ◌∷◌, ◌++◌, Option, None, Some}
+use Rattle.std.specs.Prelude.{ℕ, true, false, ◌≡◌, ◌≢◌, List, [], ◌∷◌, ◌++◌, Option, None, Some}
 use Rattle.co_base.specs.declared.node.Node.TheVariants as node
 use Rattle.co_base.specs.declared.part.Part.{Part}
 use Rattle.co_record.specs.declared.record.Record.{Record}

@@ -1,6 +1,6 @@
 -- What must hold before each move over opened logs that are sound, and over any: the same tests, and where the logs are
 -- sound also that decisions are true.
-use Rattle.std.specs.Prelude.{ℕ, true, false, ◌≡◌, ◌⊎◌, List, [], ◌∷◌}
+use Rattle.std.specs.Prelude.{true, false, ◌≡◌, ◌⊎◌, List, [], ◌∷◌}
 use Rattle.co_message.specs.declared.message.Message.{Message}
 use Rattle.co_message.specs.declared.message.Message.TheVariants as message
 use Rattle.co_state.specs.Table.{holds}

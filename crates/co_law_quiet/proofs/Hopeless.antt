@@ -1,29 +1,26 @@
 -- Who is presumed aborted, or lost told operations, is never decided and never installed.
-use Rattle.std.proofs.Common.{◌≡◌, ◌≢◌, ◌⊎◌, inl, inr, ℕ, Bool, true, false, ◌||◌, ◌≤◌, ◌==◌, List, [], ◌∷◌, ◌++◌, Option, None, Some, refl, sym, ap, ◌∙◌, subst, arith}
-use Rattle.std.specs.Option.{is_some}
-use Rattle.std.proofs.lemmas.Bool.{or_cases, or_left, or_right, or_from, or_parts, eqb-true, eqb-false, eq-eqb, false_from_ne_true}
-use Rattle.co_base.specs.declared.node.Node.TheVariants as node
-use Rattle.co_base.specs.declared.part.Part.{Part}
+use Rattle.std.proofs.Common.{◌≡◌, inl, inr, ℕ, Bool, true, false, ◌||◌, ◌≤◌, ◌==◌, List, [], ◌∷◌, ◌++◌, Option, None, Some, refl, sym, ap, ◌∙◌, subst, arith}
+use Rattle.std.proofs.lemmas.Bool.{or_left, or_from, or_parts, eqb-true, eqb-false, false_from_ne_true}
 use Rattle.co_message.specs.declared.message.Message.TheVariants as message
-use Rattle.co_state.specs.Table.{look, holds, without}
+use Rattle.co_state.specs.Table.{look, holds}
 use Rattle.co_plain.specs.declared.coord_state.Entry.TheVariants as entry
 use Rattle.co_plain.specs.declared.happening.Happening.{Happening}
 use Rattle.co_plain.specs.declared.happening.Happening.TheVariants as happening
 use Rattle.co_plain.specs.declared.session.Session.{Session}
 use Rattle.co_plain.specs.Numbers.{has_number}
 use Rattle.co_plain.specs.CoordStep.{has_part, members_of}
-use Rattle.co_plain.specs.Sessions.{count_at, parts_of}
+use Rattle.co_plain.specs.Sessions.{count_at}
 use Rattle.co_plain.specs.Wire.{was_sent}
 use Rattle.co_plain.specs.Federation.{Federation}
 use Rattle.co_plain.specs.Step.{step}
-use Rattle.co_plain.specs.Decisions.{told_of, told_in, is_decided}
-use Rattle.co_plain.specs.CommitmentOrder.{Trace, Began, Operated, Committed, trace_from, trace_of}
+use Rattle.co_plain.specs.Decisions.{told_of, told_in}
+use Rattle.co_plain.specs.CommitmentOrder.{Trace, Began, Operated, Committed, trace_of}
 use Rattle.co_plain.specs.Invariants.{Memory, view, stands}
-use Rattle.co_plain.specs.Moves.{Move, Operate, MarkAsked, Cast, DropActive, DropVoted, Install, CommitLocally, CrashMember, RestartMember, ArmMember, CloseMemberSpare, FillMemberSpare, Begin, Collect, RecordYes, Decide, Leave, RecordAck, End, CrashCoord, RestartCoord, ArmCoord, CloseCoordSpare, FillCoordSpare, BeginLocal, AskEnd, Send, Guard, GuardsHold, effect, all_effects, session_by_member}
+use Rattle.co_plain.specs.Moves.{Move, Install, CommitLocally, Decide, Guard, GuardsHold, effect, session_by_member}
 use Rattle.co_law_base.proofs.Lookups.{found_holds}
 use Rattle.co_law_base.proofs.Commits.{lacks_none}
 use Rattle.co_law_base.proofs.Facts.{rest_of, alive, belongs, Begun, settled, Here, Before, OpenEntry, Facts}
-use Rattle.co_law_base.proofs.Carrying.{LivesOn, one_belongs, one_lives, settled_alive}
+use Rattle.co_law_base.proofs.Carrying.{LivesOn, one_lives, settled_alive}
 use Rattle.co_law_coord.proofs.CoordMoves.{one_yes}
 use Rattle.co_law_member.proofs.LogMoves.{local_apart}
 use Rattle.co_law_member.proofs.VoteMoves.{as_settled}
@@ -31,11 +28,12 @@ use Rattle.co_law_session.proofs.Sending.{told_parts, part_member}
 use Rattle.co_law_event.specs.HandedVerdicts.{IsTrueVerdict, AreTrueVerdicts}
 use Rattle.co_law_event.proofs.Steps.{step_keeps}
 use Rattle.co_law_moves.specs.EventMoves.{moves_of}
-use Rattle.co_law_moves.specs.MoveTraces.{move_trace, moves_trace, told_with, run_items}
+use Rattle.co_law_moves.specs.MoveTraces.{move_trace, moves_trace, run_items}
 use Rattle.co_law_moves.proofs.MoveByMove.{move_keeps}
 use Rattle.co_law_moves.proofs.StepsMade.{event_made}
 use Rattle.co_law_moves.proofs.StepsTold.{step_told}
-use Rattle.co_law_moves.proofs.Onward.{Onward, onward_same, onward_on, move_onward, disarm_onward, lives_back, present, absent_votes}
+use Rattle.co_law_moves.proofs.MoveOnward.{move_onward}
+use Rattle.co_law_moves.proofs.Onward.{Onward, onward_same, onward_on, disarm_onward, lives_back, present, absent_votes}
 use Rattle.co_law_moves.proofs.ByMoves.{step_leaves}
 use Rattle.co_law_agree.proofs.Working.{Working, move_works, disarm_works}
 use Rattle.co_law_agree.proofs.Agreement.{stands_where_told, told_begun}

@@ -1,17 +1,14 @@
 -- Where something is open and the state is quiet, a transaction is active at a member or idle at its coordinator.
-use Rattle.std.proofs.Common.{◌≡◌, ◌≢◌, ◌⊎◌, inl, inr, ℕ, Bool, true, false, not, cond, ◌||◌, ◌&&◌, ◌≤◌, ◌==◌, List, [], ◌∷◌, length, Option, None, Some, refl, sym, ap, ◌∙◌, subst, arith}
+use Rattle.std.proofs.Common.{◌≡◌, ◌≢◌, ℕ, Bool, true, false, not, cond, ◌&&◌, ◌≤◌, ◌==◌, List, [], ◌∷◌, length, Option, None, Some, refl, sym, ap, ◌∙◌, subst, arith}
 use Rattle.std.specs.Option.{is_some}
 use Rattle.std.proofs.lemmas.Bool.{or_left, or_right, or_from, and_from, eqb-true, eq-eqb, false_from_ne_true}
 use Rattle.co_base.specs.declared.node.Node.{Node}
 use Rattle.co_base.specs.declared.node.Node.TheVariants as node
 use Rattle.co_base.specs.declared.part.Part.{Part}
-use Rattle.co_message.specs.declared.answer.Answer.TheVariants as answer
 use Rattle.co_message.specs.declared.event.Event.TheVariants as event
-use Rattle.co_message.specs.declared.item.ItemKind.TheVariants as item
-use Rattle.co_state.specs.Table.{look, holds, without}
+use Rattle.co_state.specs.Table.{look, holds}
 use Rattle.co_plain.specs.declared.coord_state.Entry.{Entry}
 use Rattle.co_plain.specs.declared.coord_state.Entry.TheVariants as entry
-use Rattle.co_plain.specs.declared.happening.Happening.{Happening}
 use Rattle.co_plain.specs.declared.happening.Happening.TheVariants as happening
 use Rattle.co_plain.specs.declared.session.Session.{Session}
 use Rattle.co_plain.specs.declared.standing.Standing.{Standing}
@@ -23,27 +20,26 @@ use Rattle.co_plain.specs.Member.{coord_of, timer_by}
 use Rattle.co_plain.specs.CoordStep.{has_part, members_of}
 use Rattle.co_plain.specs.Coordinator.{timer_entry}
 use Rattle.co_plain.specs.Sessions.{count_at, same_node}
-use Rattle.co_plain.specs.Federation.{Federation, Stepped}
+use Rattle.co_plain.specs.Federation.{Federation}
 use Rattle.co_plain.specs.Step.{step, up_member, up_coord}
-use Rattle.co_plain.specs.Decisions.{told_of, told_in, votes_for}
+use Rattle.co_plain.specs.Decisions.{told_in, votes_for}
 use Rattle.co_plain.specs.SoundLogs.{unended_in}
 use Rattle.co_plain.specs.Invariants.{Memory, view, stands}
 use Rattle.co_plain.specs.Moves.{DropActive, Leave, effect}
 use Rattle.co_plain.specs.Quiet.{IsMember, IsCoordinator, IsNode, IsOpen, InTable, ActiveAt, VotedAt, IsQuiet, Prepares, Commits, Asks, may_be_asked, lacks_yes, lacks_ack}
 use Rattle.co_plain.specs.Settling.{timer_ends, is_idle}
-use Rattle.co_law_base.proofs.Lookups.{holds_found, found_holds, without_here}
-use Rattle.co_law_base.proofs.Facts.{rest_of, told, belongs, Begun, Voted, by_coord, takes, ByTold, Named, settled_at, alive, Facts}
+use Rattle.co_law_base.proofs.Lookups.{holds_found, without_here}
+use Rattle.co_law_base.proofs.Facts.{rest_of, told, belongs, Begun, Voted, by_coord, takes, ByTold, Named, Facts}
 use Rattle.co_law_base.proofs.Carrying.{at_here, by_coord_begun}
 use Rattle.co_law_base.proofs.ViewMoves.{neither_stands}
 use Rattle.co_law_coord.proofs.CoordMoves.{open_unsettled}
 use Rattle.co_law_session.proofs.Sending.{parts_told, part_member}
-use Rattle.co_law_event.specs.HandedVerdicts.{AreTrueVerdicts}
 use Rattle.co_law_event.proofs.Steps.{step_keeps}
 use Rattle.co_law_event.proofs.MemberEvents.{active_is, installed_is, votes_own}
 use Rattle.co_law_moves.proofs.Onward.{present}
 use Rattle.co_law_agree.proofs.Working.{Working}
-use Rattle.co_law_quiet.specs.OnlyTimers.{IsBetween, EndsForGood, SomeTimerEnds, ending_answer}
-use Rattle.co_law_quiet.proofs.Fitting.{Fits, FitSessions, HomeFits}
+use Rattle.co_law_quiet.specs.OnlyTimers.{IsBetween, EndsForGood, SomeTimerEnds}
+use Rattle.co_law_quiet.proofs.Fitting.{FitSessions, HomeFits}
 use Rattle.co_law_quiet.proofs.Hopeless.{Hopeless, Dead, Lost, run_tells_none, step_works}
 
 -- who lacks something
