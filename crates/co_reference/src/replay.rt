@@ -1,5 +1,5 @@
 //! A schedule as a run of the plain federation.
-ghost use Rattle.std.specs.Prelude.{◌≡◌, ◌<◌, ◌≤◌, ◌+◌, ◌^◌, ◌∷◌, [], Some, length, IfOk};
+ghost use Rattle.std.specs.Prelude.{◌≡◌, ◌<◌, ◌≤◌, ◌+◌, ◌^◌, ◌∷◌, ◌⊎◌, ◌↔◌, [], Some, length, IfOk, IfErr, IsErrOf};
 ghost use Rattle.co_replay.specs.Schedule.{texts_of};
 ghost use Rattle.co_replay.specs.Transcript.{items_text, run_items};
 ghost use Rattle.co_reference.specs.Replay.{IsReplay, LinesReplayed, BehindReplayed, refused_behind};
@@ -90,9 +90,12 @@ fn replay_all(alloc: Global, first: &[u8], lines: &[&[u8]]) -> Result<Replayed, 
 
 /// Replays a schedule over fresh logs, up to the first line that is outside the grammar.
 ///
-/// `Long` comes exactly where the schedule has 2^30 bytes or more.
+/// `Long` comes exactly where the schedule has 2^30 bytes or more, and else no fault but want of memory: a line outside
+/// the grammar ends the replay, and is told with the transcript of the lines before it.
 pub fn replay(alloc: Global, text: &[u8]) -> Result<Replayed, ReplayFault>
-    ensures { IfOk result (λ did. IsReplay text.now did.transcript.items did.refused) }
+    ensures long { IsErrOf result ReplayFault.Long ↔ (1073741824 ≤ length text.now) }
+    ensures faults { IfErr result (λ why. (why ≡ ReplayFault.Long) ⊎ (why ≡ ReplayFault.Memory)) }
+    ensures replay { IfOk result (λ did. IsReplay text.now did.transcript.items did.refused) }
 {
     if text.len() >= MOST_BYTES as usize {
         return Err(ReplayFault::Long);
