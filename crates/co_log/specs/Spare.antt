@@ -11,6 +11,7 @@ use Rattle.co_record.specs.Gate.{begins_closed, closes_spare, batch_is_stable}
 use Rattle.co_log.specs.Appending.{IsTooLong}
 use Rattle.co_log.specs.LogFile.{placed_from}
 use Rattle.co_log.specs.LogView.{LogView, IsLive}
+use Rattle.co_log.specs.Stopping.{IsPast}
 
 -- The bytes that a spare has while it is closed: the old ones, or a first gate that is not open, or at most one
 -- byte; and it has more than one byte only where it had as many before.
@@ -31,7 +32,7 @@ pub record IsClosed (closed : Bool) (log after : LogView) : Type 0 where
 -- Ok comes where the armed stop, if there is one, has a number above the two device calls. A stopped write
 -- has no batch, so none is stable and it tells nothing; its image says whether the spare is closed.
 abbrev pub IsClosing : LogView → LogView → Result (Unit {0}) LogFault → Type 0
-IsClosing log after (Ok done) = IsClosed true log after × (after.waiting ≡ log.waiting)
+IsClosing log after (Ok done) = IsClosed true log after × (after.waiting ≡ log.waiting) × IsPast 2 log.stop
 IsClosing log after (Err (Stopped call stable marks)) =
     (leaves : Leaves) × (log.stop ≡ Some (record { call = call; leaves = leaves })) × (call ≤ 2) × (stable ≡ false) × (marks ≡ [])
     × IsClosed (closes_spare leaves) log after × (after.waiting ≡ [])

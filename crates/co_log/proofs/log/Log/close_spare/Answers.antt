@@ -1,9 +1,11 @@
 use Rattle.std.proofs.Common.{rules, ◌≡◌, [], ◌∷◌, ℕ, List, sym, ap, subst, ◌∙◌, refl, false}
-use Rattle.std.specs.Prelude.{Some, Ok, Err}
+use Rattle.std.specs.Prelude.{Option, Some, option_map, Ok, Err}
 use Rattle.co_disk.specs.DiskModel.{DiskState, IsChosen, IsImage, after_write, after_sync}
 use Rattle.co_disk.specs.DiskView.{DiskView}
+use Rattle.co_disk.specs.Stops.{armed_for}
 use Rattle.co_outside.specs.declared.spot.Spot.{Spot}
 use Rattle.co_log.specs.declared.fault.LogFault.TheVariants as faults
+use Rattle.co_log.specs.declared.stop.Stop.{Stop}
 use Rattle.co_record.specs.Gate.{begins_closed}
 use Rattle.co_log.specs.LogView.{LogView}
 use Rattle.co_log.specs.Spare.{IsClosing, IsSpareImage}
@@ -92,6 +94,7 @@ returns-in-Ok-clause-closing g c =
         image = it.2;
       },
       refl,
+      λ s is. c.in-Ok.ensures.passed (armed_for s.call s.leaves) (c.arm_for.ensures.armed ∙ ap (λ (o : Option Stop). option_map (λ t. armed_for t.call t.leaves) o) (c.take-stop.ensures.value ∙ is)),
     )
 
 pub returns-in-Ok-clause-told : goal.returns-in-Ok-clause-told
