@@ -25,6 +25,7 @@ pub record IsClosed (closed : Bool) (log after : LogView) : Type 0 where
   pub gate : after.gate ≡ log.gate
   pub generation : after.generation ≡ log.generation
   pub disarmed : after.stop ≡ None
+  pub spot : after.spare.spot ≡ log.spare.spot
   pub still : after.spare.state.pending ≡ []
   pub closed_is : begins_closed after.spare.state.stable ≡ closed
   pub image : IsSpareImage log.spare.state.stable after.spare.state.stable
@@ -64,6 +65,7 @@ turned log gate generation =
 -- was current is the spare.
 pub record IsFilled (log after : LogView) (items : List Record) : Type 0 where
   pub node : after.node ≡ log.node
+  pub spot : after.current.spot ≡ log.spare.spot
   pub spare : after.spare ≡ log.current
   pub generation : after.generation ≡ log.generation + 1
   pub waiting : after.waiting ≡ []
@@ -78,6 +80,7 @@ pub record IsUnfilled (log after : LogView) : Type 0 where
   pub generation : after.generation ≡ log.generation
   pub waiting : after.waiting ≡ []
   pub disarmed : after.stop ≡ None
+  pub spot : after.spare.spot ≡ log.spare.spot
   pub still : after.spare.state.pending ≡ []
   pub closed : begins_closed after.spare.state.stable ≡ true
 
