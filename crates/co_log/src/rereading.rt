@@ -1,5 +1,5 @@
 //! Crashes between events, and logs that are read again.
-ghost use Rattle.std.specs.Prelude.{◌≡◌, ◌⊎◌, [], None, OnOk, IfErr, IsErrOf, IsOk};
+ghost use Rattle.std.specs.Prelude.{◌≡◌, ◌≢◌, ◌≤◌, [], None, OnOk, IfErr, IsErrOf, IsOk};
 ghost use Rattle.co_outside.specs.declared.spot.Spot.{Spot};
 ghost use Rattle.co_disk.specs.DiskModel.{read_of};
 ghost use Rattle.co_disk.specs.Homes.{Agrees, RestStays, HasFailed};
@@ -54,6 +54,10 @@ impl Log {
         ensures held { IsHeld H.file H.reach home.new self.new }
         ensures faults { IfErr result (IsOfReattach H.gives H.file H.reach H.entered H.faults self.old home.old) }
         ensures same { OnOk result (AreReread H.gives H.file H.reach H.entered H.faults self.old home.old home.new) }
+        ensures others { (s : Spot) → s ≢ self.old.current.spot → s ≢ self.old.spare.spot → H.file home.new s ≡ H.file home.old s }
+        ensures reaches { (s : Spot) → s ≢ self.old.current.spot → s ≢ self.old.spare.spot → H.reach home.new s ≡ H.reach home.old s }
+        ensures entered { H.entered home.new ≡ H.entered home.old }
+        ensures count { H.faults home.old ≤ H.faults home.new }
         ensures device { (spot : Spot) → IsErrOf result (LogFault.Device spot) → HasFailed H.faults H.last_failed spot home.old home.new }
     {
         reread(&mut self.current, home)?;
