@@ -1,7 +1,7 @@
-//! Homes that fail each call in turn, and files that are too long.
-use super::{Found, M1, M1_A, M1_B, close, commit, fill, force, no_files, opened, read_again};
+//! Homes that fail each call in turn, and the last generation.
+use super::{Found, M1, M1_A, M1_B, arm, close, commit, fill, force, no_files, opened, read_again};
 use crate::LogFault;
-use co_base::{MarkKind, Txn};
+use co_base::{Leaves, MarkKind, Txn};
 use co_outside::{FailAt, HomeCall, HomeMemory, Spot};
 use std::alloc::Global;
 use std::test::Fail;
@@ -27,6 +27,14 @@ fn whole_way(alloc: Global, home: &mut HomeMemory) -> Result<(), LogFault> {
     close(&mut log, home)?;
     fill(&mut log, home, commit(alloc, Txn(3)))?;
     log.reattach(home)
+}
+
+/// A `force` that is stopped in its second call.
+fn stopped_way(alloc: Global, home: &mut HomeMemory) -> Result<(), LogFault> {
+    let mut log = opened(alloc, home, M1, false)?;
+    arm(&mut log, 2, Leaves::New);
+    force(&mut log, home, commit(alloc, Txn(1)))?;
+    Ok(())
 }
 
 /// Where the home failed.
@@ -66,6 +74,32 @@ fn each_failed_call_is_told_with_its_spot(rt: HostRuntime) -> Result<(), Fail> {
         }
     }
     whole_way(alloc, &mut no_files(alloc))?;
+    Ok(())
+}
+
+#[test]
+fn a_call_that_fails_while_an_image_is_left_is_told_with_its_spot(
+    rt: HostRuntime,
+) -> Result<(), Fail> {
+    let alloc = rt.alloc();
+    for (call, number) in [
+        (HomeCall::WriteAt, 5),
+        (HomeCall::SetLen, 1),
+        (HomeCall::Sync, 4),
+    ] {
+        let fail = [FailAt {
+            spot: M1_A,
+            call,
+            number,
+        }];
+        let mut home = HomeMemory::new(alloc, fail.to_vec(alloc)?);
+        let answer = stopped_way(alloc, &mut home);
+        assert_eq!(rt; failed_at(&answer), Some(M1_A), "at {call:?}");
+        assert!(rt;
+            is_known(read_again(alloc, &home)?.as_slice()),
+            "at {call:?}"
+        );
+    }
     Ok(())
 }
 
