@@ -10,3 +10,4 @@ pub mod Currents
 pub mod Ordered
 pub mod Short
 pub mod Once
+pub mod Tested

@@ -19,6 +19,7 @@ use Rattle.co_log.proofs.Unmade.{first_shut}
 -- what a log write does not touch, or clears
 pub record IsTidy (log after : LogView) : Type 0 where
   pub node : after.node ≡ log.node
+  pub spot : after.current.spot ≡ log.current.spot
   pub spare : after.spare ≡ log.spare
   pub generation : after.generation ≡ log.generation
   pub waiting : after.waiting ≡ []
@@ -32,6 +33,7 @@ further false gate more made = made
 pub written : (stable : Bool) (log after : LogView) (items : List (ℕ × Record)) (more : List Record) → IsTidy log after → IsLive log items → after.gate ≡ next_gate stable log.gate more → EndsAfter stable after.current.state.stable log.gate items more → IsWritten stable log items more after
 written stable log after items more tidy live at ends = record {
   node = tidy.node;
+  spot = tidy.spot;
   spare = tidy.spare;
   generation = tidy.generation;
   waiting = tidy.waiting;
@@ -56,10 +58,11 @@ stopped log after items more front stop told marks call stable same armed tells 
 abbrev pub after_filling : LogView → DiskView → List Record → Option Stop → LogView
 after_filling log disk waiting stop = record { node = log.node; current = log.current; spare = disk; gate = log.gate; generation = log.generation; waiting = waiting; stop = stop }
 
-pub filled : (log : LogView) (disk : DiskView) (waiting : List Record) (stop : Option Stop) (items : List Record) (next : ℕ) → waiting ≡ [] → stop ≡ None → disk.state.pending ≡ [] → next ≡ next_gate true 0 (filling log items) → EndsAfter true disk.state.stable 0 [] (filling log items)
+pub filled : (log : LogView) (disk : DiskView) (waiting : List Record) (stop : Option Stop) (items : List Record) (next : ℕ) → disk.spot ≡ log.spare.spot → waiting ≡ [] → stop ≡ None → disk.state.pending ≡ [] → next ≡ next_gate true 0 (filling log items) → EndsAfter true disk.state.stable 0 [] (filling log items)
     → IsFilled log (turned (after_filling log disk waiting stop) next (log.generation + 1)) items
-filled log disk waiting stop items next none disarmed still at ends = record {
+filled log disk waiting stop items next its none disarmed still at ends = record {
   node = refl;
+  spot = its;
   spare = refl;
   generation = refl;
   waiting = none;
@@ -67,8 +70,8 @@ filled log disk waiting stop items next none disarmed still at ends = record {
   live = record { made = omega (arith, at); still = still; ends = subst (λ (n : ℕ). EndsAt disk.state.stable n (next_items true 0 [] (filling log items))) (sym at) ends };
 }
 
-pub filled_if : (stable : Bool) (log : LogView) (disk : DiskView) (waiting : List Record) (stop : Option Stop) (items : List Record) (next : ℕ) → waiting ≡ [] → stop ≡ None → disk.state.pending ≡ [] → next ≡ next_gate stable 0 (filling log items)
+pub filled_if : (stable : Bool) (log : LogView) (disk : DiskView) (waiting : List Record) (stop : Option Stop) (items : List Record) (next : ℕ) → disk.spot ≡ log.spare.spot → waiting ≡ [] → stop ≡ None → disk.state.pending ≡ [] → next ≡ next_gate stable 0 (filling log items)
     → EndsAfter stable disk.state.stable 0 [] (filling log items) → IsFilledIf stable log (if stable then turned (after_filling log disk waiting stop) next (log.generation + 1) else after_filling log disk waiting stop) items
-filled_if true log disk waiting stop items next none disarmed still at ends = filled log disk waiting stop items next none disarmed still at ends
-filled_if false log disk waiting stop items next none disarmed still at ends =
-    record { node = refl; current = refl; gate = refl; generation = refl; waiting = none; disarmed = disarmed; still = still; closed = first_shut disk.state.stable ends }
+filled_if true log disk waiting stop items next its none disarmed still at ends = filled log disk waiting stop items next its none disarmed still at ends
+filled_if false log disk waiting stop items next its none disarmed still at ends =
+    record { node = refl; current = refl; gate = refl; generation = refl; waiting = none; disarmed = disarmed; spot = its; still = still; closed = first_shut disk.state.stable ends }

@@ -79,12 +79,12 @@ pub record IsToldAs (spot : Spot) (file : Option File) (disk : DiskView) : Type 
 
 -- Why a log was not attached, by the files of parts a and b where the home tells them. Part a is named
 -- before part b. A log in use is refused where it is not resumed, and all else that a file is refused for
--- where it is.
+-- where it is; no file is too long where one is bad.
 abbrev pub IsOfAttach : Node → Bool → Option File → Option File → LogFault → Type 0
 IsOfAttach node resume a b (Device spot) = (spot ≡ spot_of node 0) ⊎ (spot ≡ spot_of node 1)
 IsOfAttach node resume a b (Stopped call stable marks) = ⊥
 IsOfAttach node resume a b (Bad spot at) =
-    (resume ≡ true) × ((view_a : DiskView) × (view_b : DiskView) × IsToldAs (spot_of node 0) a view_a × IsToldAs (spot_of node 1) b view_b × IsBadPair node view_a view_b (Bad spot at))
+    (resume ≡ true) × IsWithin 268435456 a × IsWithin 268435456 b × ((view_a : DiskView) × (view_b : DiskView) × IsToldAs (spot_of node 0) a view_a × IsToldAs (spot_of node 1) b view_b × IsBadPair node view_a view_b (Bad spot at))
 IsOfAttach node resume a b (Differs spot at kept read) = ⊥
 IsOfAttach node resume a b (Full spot) =
     (resume ≡ true) × (((spot ≡ spot_of node 0) × IsLonger 268435456 a) ⊎ ((spot ≡ spot_of node 1) × IsWithin 268435456 a × IsLonger 268435456 b))

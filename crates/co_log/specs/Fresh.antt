@@ -26,6 +26,7 @@ header_alone node = (5, Header node 1) ∷ []
 -- the log after it was made
 pub record IsMade (log after : LogView) : Type 0 where
   pub node : after.node ≡ log.node
+  pub spot : after.current.spot ≡ log.current.spot
   pub spare : after.spare ≡ log.spare
   pub generation : after.generation ≡ 1
   pub waiting : after.waiting ≡ log.waiting

@@ -11,6 +11,7 @@ use Rattle.co_record.specs.Gate.{begins_closed, closes_spare, batch_is_stable}
 use Rattle.co_log.specs.Appending.{IsTooLong}
 use Rattle.co_log.specs.LogFile.{placed_from}
 use Rattle.co_log.specs.LogView.{LogView, IsLive}
+use Rattle.co_log.specs.Stopping.{IsPast}
 
 -- The bytes that a spare has while it is closed: the old ones, or a first gate that is not open, or at most one
 -- byte; and it has more than one byte only where it had as many before.
@@ -24,6 +25,7 @@ pub record IsClosed (closed : Bool) (log after : LogView) : Type 0 where
   pub gate : after.gate ≡ log.gate
   pub generation : after.generation ≡ log.generation
   pub disarmed : after.stop ≡ None
+  pub spot : after.spare.spot ≡ log.spare.spot
   pub still : after.spare.state.pending ≡ []
   pub closed_is : begins_closed after.spare.state.stable ≡ closed
   pub image : IsSpareImage log.spare.state.stable after.spare.state.stable
@@ -31,7 +33,7 @@ pub record IsClosed (closed : Bool) (log after : LogView) : Type 0 where
 -- Ok comes where the armed stop, if there is one, has a number above the two device calls. A stopped write
 -- has no batch, so none is stable and it tells nothing; its image says whether the spare is closed.
 abbrev pub IsClosing : LogView → LogView → Result (Unit {0}) LogFault → Type 0
-IsClosing log after (Ok done) = IsClosed true log after × (after.waiting ≡ log.waiting)
+IsClosing log after (Ok done) = IsClosed true log after × (after.waiting ≡ log.waiting) × IsPast 2 log.stop
 IsClosing log after (Err (Stopped call stable marks)) =
     (leaves : Leaves) × (log.stop ≡ Some (record { call = call; leaves = leaves })) × (call ≤ 2) × (stable ≡ false) × (marks ≡ [])
     × IsClosed (closes_spare leaves) log after × (after.waiting ≡ [])
@@ -63,6 +65,7 @@ turned log gate generation =
 -- was current is the spare.
 pub record IsFilled (log after : LogView) (items : List Record) : Type 0 where
   pub node : after.node ≡ log.node
+  pub spot : after.current.spot ≡ log.spare.spot
   pub spare : after.spare ≡ log.current
   pub generation : after.generation ≡ log.generation + 1
   pub waiting : after.waiting ≡ []
@@ -77,6 +80,7 @@ pub record IsUnfilled (log after : LogView) : Type 0 where
   pub generation : after.generation ≡ log.generation
   pub waiting : after.waiting ≡ []
   pub disarmed : after.stop ≡ None
+  pub spot : after.spare.spot ≡ log.spare.spot
   pub still : after.spare.state.pending ≡ []
   pub closed : begins_closed after.spare.state.stable ≡ true
 

@@ -24,6 +24,10 @@ HasPassed calls armed = (stop : Armed) → armed ≡ Some stop → calls < stop.
 abbrev pub after_calls : ℕ → Option Armed → Option Armed
 after_calls calls armed = option_map (λ a. record { call = a.call; left = a.left - calls; leaves = a.leaves }) armed
 
+-- no stop of one of so many device calls was armed
+abbrev pub IsPast : ℕ → Option Stop → Type 0
+IsPast calls stop = (s : Stop) → stop ≡ Some s → calls < s.call
+
 -- The log write was stopped at the device call with this number: the image that was chosen of the disk
 -- at that call is left, and nothing is armed.
 pub record IsWriteStopped (stop : Option Stop) (call : ℕ) (before : ℕ → DiskState) (after : DiskView) : Type 0 where

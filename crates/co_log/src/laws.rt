@@ -1,9 +1,9 @@
 //! What holds of every log write.
-ghost use Rattle.std.specs.Prelude.{ℕ, List, ◌≡◌, ◌<◌, ◌≤◌, true, false, [], ◌⊎◌, Result};
+ghost use Rattle.std.specs.Prelude.{ℕ, List, ◌≡◌, ◌<◌, ◌≤◌, true, false, [], ◌∷◌, ◌⊎◌, Result, length};
 ghost use Rattle.std.specs.List.{AllByRecursion};
 ghost use Rattle.co_base.specs.declared.leaves.Leaves.{Leaves};
-ghost use Rattle.co_disk.specs.DiskModel.{IsImage, IsChosen};
-ghost use Rattle.co_frame.specs.LogText.{IsBatch, IsLogText};
+ghost use Rattle.co_disk.specs.DiskModel.{IsImage, IsChosen, stable_disk, after_write};
+ghost use Rattle.co_frame.specs.LogText.{IsBatch, IsLogText, closed_gate};
 ghost use Rattle.co_record.specs.declared.record.Record.{Record};
 ghost use Rattle.co_record.specs.Spelling.{IsSpelled};
 ghost use Rattle.co_record.specs.Stored.{HasRecords};
@@ -29,10 +29,13 @@ pub fn gates_end_files()
     ensures front { (bytes : List ℕ) (items : List (ℕ × Record)) → EndsAt bytes 0 items → IsLogText bytes [] }
 {}
 
+/// While the first gate of a file of at most one byte is closed, every image has at most one byte.
+///
 /// At each device call of a log write every image of the disk has the old records, or with them the new
 /// ones, and before the third call the old ones alone; a chosen image has the new ones exactly where it is
 /// that of a call from the third on and has the gate open; and after the last call the file has them.
 pub fn images_are_old_or_new()
+    ensures closing { (bytes image : List ℕ) → length bytes ≤ 1 → IsImage (after_write (stable_disk bytes) 0 (closed_gate ∷ [])) image → length image ≤ 1 }
     ensures early { (bytes image batch : List ℕ) (gate : ℕ) (items : List (ℕ × Record)) → EndsAt bytes gate items →
         IsImage (batch_pending bytes gate batch) image → EndsAt image gate items }
     ensures late { (bytes image : List ℕ) (gate : ℕ) (items : List (ℕ × Record)) (more : List Record) → EndsAt bytes gate items →

@@ -1,9 +1,9 @@
 //! Crashes between events, and logs that are read again.
-ghost use Rattle.std.specs.Prelude.{◌≡◌, ◌⊎◌, [], None, OnOk, IfErr, IsErrOf, IsOk};
+ghost use Rattle.std.specs.Prelude.{◌≡◌, ◌≢◌, ◌≤◌, [], None, OnOk, IfErr, IsErrOf, IsOk};
 ghost use Rattle.co_outside.specs.declared.spot.Spot.{Spot};
 ghost use Rattle.co_disk.specs.DiskModel.{read_of};
 ghost use Rattle.co_disk.specs.Homes.{Agrees, RestStays, HasFailed};
-ghost use Rattle.co_log.specs.Rereading.{IsOfReread, AreReread};
+ghost use Rattle.co_log.specs.Rereading.{IsOfReread, IsOfReattach, AreReread};
 
 use crate::fault::LogFault;
 use crate::log::Log;
@@ -19,7 +19,7 @@ fn reread<H: Home>(disk: &mut Disk, home: &mut H) -> Result<(), LogFault>
     ensures same { OnOk result (H.gives home.old disk.old.spot 268435457 (read_of disk.old.state)) }
     ensures rest { RestStays H.file H.reach H.entered H.faults disk.old.spot home.old home.new }
     ensures device { IsErrOf result (LogFault.Device disk.old.spot) → HasFailed H.faults H.last_failed disk.old.spot home.old home.new }
-    ensures faults { IfErr result (IsOfReread (H.file home.old disk.old.spot) disk.old) }
+    ensures faults { IfErr result (IsOfReread (H.gives home.old disk.old.spot 268435457) (H.file home.old disk.old.spot) disk.old) }
 {
     let spot = disk.spot();
     match disk.reread(home) {
@@ -43,7 +43,8 @@ impl Log {
     /// Reads both files again, that of the current one first, after a stop or a cut. Nothing of the log
     /// changes.
     ///
-    /// `Differs` comes exactly where a file is not what is kept of it, and never over a home that tells it;
+    /// `Differs` comes exactly where a file is not what is kept of it, with the first place that differs and both
+    /// bytes there, and never over a home that tells it;
     /// `Device` only where the home failed; `Memory` where there was none.
     pub fn reattach<H: Home>(&mut self, home: &mut H) -> Result<(), LogFault>
         requires held { IsHeld H.file H.reach home.old self.old }
@@ -51,8 +52,12 @@ impl Log {
         ensures current { H.file home.new self.old.current.spot ≡ H.file home.old self.old.current.spot }
         ensures spare { H.file home.new self.old.spare.spot ≡ H.file home.old self.old.spare.spot }
         ensures held { IsHeld H.file H.reach home.new self.new }
-        ensures faults { IfErr result (λ e. IsOfReread (H.file home.old self.old.current.spot) self.old.current e ⊎ IsOfReread (H.file home.old self.old.spare.spot) self.old.spare e) }
+        ensures faults { IfErr result (IsOfReattach H.gives H.file H.reach H.entered H.faults self.old home.old) }
         ensures same { OnOk result (AreReread H.gives H.file H.reach H.entered H.faults self.old home.old home.new) }
+        ensures others { (s : Spot) → s ≢ self.old.current.spot → s ≢ self.old.spare.spot → H.file home.new s ≡ H.file home.old s }
+        ensures reaches { (s : Spot) → s ≢ self.old.current.spot → s ≢ self.old.spare.spot → H.reach home.new s ≡ H.reach home.old s }
+        ensures entered { H.entered home.new ≡ H.entered home.old }
+        ensures count { H.faults home.old ≤ H.faults home.new }
         ensures device { (spot : Spot) → IsErrOf result (LogFault.Device spot) → HasFailed H.faults H.last_failed spot home.old home.new }
     {
         reread(&mut self.current, home)?;

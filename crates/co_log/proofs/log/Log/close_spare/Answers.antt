@@ -1,9 +1,11 @@
 use Rattle.std.proofs.Common.{rules, ◌≡◌, [], ◌∷◌, ℕ, List, sym, ap, subst, ◌∙◌, refl, false}
-use Rattle.std.specs.Prelude.{Some, Ok, Err}
+use Rattle.std.specs.Prelude.{Option, Some, option_map, Ok, Err}
 use Rattle.co_disk.specs.DiskModel.{DiskState, IsChosen, IsImage, after_write, after_sync}
 use Rattle.co_disk.specs.DiskView.{DiskView}
+use Rattle.co_disk.specs.Stops.{armed_for}
 use Rattle.co_outside.specs.declared.spot.Spot.{Spot}
 use Rattle.co_log.specs.declared.fault.LogFault.TheVariants as faults
+use Rattle.co_log.specs.declared.stop.Stop.{Stop}
 use Rattle.co_record.specs.Gate.{begins_closed}
 use Rattle.co_log.specs.LogView.{LogView}
 use Rattle.co_log.specs.Spare.{IsClosing, IsSpareImage}
@@ -33,6 +35,7 @@ returns-in-Err-Stopped-clause-closing g c =
         gate = refl;
         generation = refl;
         disarmed = c.take-stop.ensures.after;
+        spot = c.write_through.ensures.spot ∙ c.arm_for.ensures.spot;
         still = e.0.left.stable;
         closed_is = closed_by old.stable c.write_through.new.disk.state.stable e.0.leaves unclosed chosen;
         image = chosen_spare old.stable c.write_through.new.disk.state.stable e.0.leaves unclosed chosen;
@@ -87,11 +90,13 @@ returns-in-Ok-clause-closing g c =
         gate = refl;
         generation = refl;
         disarmed = c.take-stop.ensures.after;
+        spot = ap (λ (d : DiskView). d.spot) c.disarm.ensures ∙ c.write_through.ensures.spot ∙ c.arm_for.ensures.spot;
         still = it.0;
         closed_is = it.1;
         image = it.2;
       },
       refl,
+      λ s is. c.in-Ok.ensures.passed (armed_for s.call s.leaves) (c.arm_for.ensures.armed ∙ ap (λ (o : Option Stop). option_map (λ t. armed_for t.call t.leaves) o) (c.take-stop.ensures.value ∙ is)),
     )
 
 pub returns-in-Ok-clause-told : goal.returns-in-Ok-clause-told

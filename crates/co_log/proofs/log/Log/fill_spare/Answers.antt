@@ -40,7 +40,7 @@ returns-in-Whole-clause-filling g c =
     let ends = ends_at_once c.self.inside.spare.state.stable (subst (λ (l : LogView). begins_closed l.spare.state.stable ≡ true) (sym c.self.view_is) c.requires.closed) in
     let ended = subst (λ (e : Ending). IsEnding e c.self.inside.stop c.append.new.disk 0 [] (filling log items)) c.in-Whole.is (c.in_ok-ending.ensures.ended [] ends) in
     let mark : Mark = filling_mark log in
-    let done = filled log c.append.new.disk c.clear.new.self.items c.append.new.stop items c.in-Whole.next c.clear.ensures.items c.in_ok-ending.ensures.disarmed c.in_ok-ending.ensures.stable ended.1 ended.2 in
+    let done = filled log c.append.new.disk c.clear.new.self.items c.append.new.stop items c.in-Whole.next c.append.ensures.spot c.clear.ensures.items c.in_ok-ending.ensures.disarmed c.in_ok-ending.ensures.stable ended.1 ended.2 in
     subst (λ (l : LogView). IsFilling l items c.turn.new.self (Ok mark)) c.self.view_is
     (subst (λ (a : LogView). IsFilling log items a (Ok mark)) (sym c.turn.ensures) (ended.0, refl, done))
 
@@ -50,7 +50,7 @@ returns-clause-filling g c =
     let items = c.args.items.now in
     let ends = ends_at_once c.self.inside.spare.state.stable (subst (λ (l : LogView). begins_closed l.spare.state.stable ≡ true) (sym c.self.view_is) c.requires.closed) in
     let ended = subst (λ (e : Ending). IsEnding e c.self.inside.stop c.append.new.disk 0 [] (filling log items)) c.in-Stopped.is (c.in_ok-ending.ensures.ended [] ends) in
-    let done = filled_if c.in-Stopped.stable log c.append.new.disk c.clear.new.self.items c.append.new.stop items c.in-Stopped.next c.clear.ensures.items c.in_ok-ending.ensures.disarmed c.in_ok-ending.ensures.stable ended.3 ended.4 in
+    let done = filled_if c.in-Stopped.stable log c.append.new.disk c.clear.new.self.items c.append.new.stop items c.in-Stopped.next c.append.ensures.spot c.clear.ensures.items c.in_ok-ending.ensures.disarmed c.in_ok-ending.ensures.stable ended.3 ended.4 in
     subst (λ (l : LogView). IsFilling l items c.turn_if.new.self (Err (faults.Stopped c.in-Stopped.call c.in-Stopped.stable c.marks_if-marks.result))) c.self.view_is
     (subst (λ (a : LogView). IsFilling log items a (Err (faults.Stopped c.in-Stopped.call c.in-Stopped.stable c.marks_if-marks.result))) (sym c.turn_if.ensures)
     (ended.0, ended.1, ended.2, c.marks_if-marks.ensures ∙ ap (λ (m : List Mark). if c.in-Stopped.stable then m else []) c.in_ok-told.ensures, done))

@@ -18,7 +18,7 @@ returns-in-Whole-clause-forced g c =
     let front = c.self.inside.waiting.items ++ c.args.item ∷ [] in
     let same : more ≡ front = ap (λ (rs : List Record). rs ++ c.args.item ∷ []) c.as_slice-2.ensures.value in
     let tells : c.in_ok-told.told ≡ marks_of c.self.inside.node front = c.in_ok-told.ensures ∙ ap (λ (rs : List Record). marks_of c.self.inside.node (rs ++ c.args.item ∷ [])) c.as_slice.ensures.value in
-    let tidy : IsTidy log after = record { node = refl; spare = refl; generation = refl; waiting = c.clear.ensures.items; disarmed = c.in_ok-ending.ensures.disarmed; still = c.in_ok-ending.ensures.stable } in
+    let tidy : IsTidy log after = record { node = refl; spot = c.append.ensures.spot; spare = refl; generation = refl; waiting = c.clear.ensures.items; disarmed = c.in_ok-ending.ensures.disarmed; still = c.in_ok-ending.ensures.stable } in
     subst (λ (l : LogView). (items : List (ℕ × Record)) → IsLive l items → IsForced l items (l.waiting ++ c.args.item ∷ []) after (Ok c.in_ok-told.told)) c.self.view_is
     (λ items live.
     let ended = subst (λ (e : Ending). IsEnding e c.self.inside.stop c.append.new.disk c.self.inside.gate items more) c.in-Whole.is (c.in_ok-ending.ensures.ended items live.ends) in
@@ -32,7 +32,7 @@ returns-clause-forced g c =
     let front = c.self.inside.waiting.items ++ c.args.item ∷ [] in
     let same : more ≡ front = ap (λ (rs : List Record). rs ++ c.args.item ∷ []) c.as_slice-2.ensures.value in
     let tells : c.in_ok-told.told ≡ marks_of c.self.inside.node front = c.in_ok-told.ensures ∙ ap (λ (rs : List Record). marks_of c.self.inside.node (rs ++ c.args.item ∷ [])) c.as_slice.ensures.value in
-    let tidy : IsTidy log after = record { node = refl; spare = refl; generation = refl; waiting = c.clear.ensures.items; disarmed = c.in_ok-ending.ensures.disarmed; still = c.in_ok-ending.ensures.stable } in
+    let tidy : IsTidy log after = record { node = refl; spot = c.append.ensures.spot; spare = refl; generation = refl; waiting = c.clear.ensures.items; disarmed = c.in_ok-ending.ensures.disarmed; still = c.in_ok-ending.ensures.stable } in
     subst (λ (l : LogView). (items : List (ℕ × Record)) → IsLive l items → IsForced l items (l.waiting ++ c.args.item ∷ []) after (Err (faults.Stopped c.in-Stopped.call c.in-Stopped.stable c.marks_if-marks.result))) c.self.view_is
     (λ items live.
     let ended = subst (λ (e : Ending). IsEnding e c.self.inside.stop c.append.new.disk c.self.inside.gate items more) c.in-Stopped.is (c.in_ok-ending.ensures.ended items live.ends) in
