@@ -1,0 +1,8 @@
+//! One engine of any kind: the kind is chosen when it is restored.
+//!
+//! It meets the contract of all engines, for each kind by the engine of that kind.
+#![tactic(auto)]
+
+mod any_engine;
+
+pub use any_engine::AnyEngine;
