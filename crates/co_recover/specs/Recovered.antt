@@ -4,10 +4,10 @@ use Rattle.std.specs.FinMap.{entries, keys}
 use Rattle.co_record.specs.declared.record.Record.{Record}
 use Rattle.co_serial.specs.Records.{all_rows}
 use Rattle.co_state.specs.declared.engine_state.Vote.{Vote}
-use Rattle.co_state.specs.Table.{Table}
+use Rattle.co_state.specs.Table.{Table, look, holds}
 use Rattle.co_pairs.specs.declared.prepared.Prepared.{Prepared}
 use Rattle.co_plain.specs.declared.member_view.MemberView.{MemberView}
-use Rattle.co_plain.specs.MemberView.{member_allows, told_by, recovered_view, first_refused_at_member}
+use Rattle.co_plain.specs.MemberView.{forget_in, install_in, member_allows, told_by, recovered_view, first_refused_at_member}
 use Rattle.co_plain.specs.declared.coord_view.CoordView.{CoordView}
 use Rattle.co_plain.specs.CoordView.{coord_allows, coord_told_by, recovered_commits, first_refused_at_coord}
 use Rattle.co_recover.specs.declared.fault.RecoverFault.{RecoverFault}
@@ -31,6 +31,13 @@ pub record IsRefusedAt (items : List (ℕ × Record)) (refused : Option ℕ) (at
 -- the view after one more record, or none where it is not allowed
 abbrev pub member_next : ℕ → ℕ → MemberView → Record → Option MemberView
 member_next coords place view entry = if member_allows coords place view entry then Some (told_by view entry) else None
+
+-- the view after a voted transaction was aborted, or was committed; none where it is not voted
+abbrev pub forgotten : MemberView → ℕ → Option MemberView
+forgotten view t = if holds view.voted t then Some (forget_in view t) else None
+
+abbrev pub installed : MemberView → ℕ → Option MemberView
+installed view t = if holds view.voted t then Some (install_in view t (look view.voted t)) else None
 
 abbrev pub prepared_of : ℕ × Vote → Prepared
 prepared_of entry = record { txn = entry.0; coord = entry.1.coord; count = entry.1.count; sets = entry.1.sets }

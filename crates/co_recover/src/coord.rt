@@ -10,7 +10,7 @@ ghost use Rattle.co_recover.specs.Recovered.{coord_next, commits_of, past_of_coo
 use crate::fault::RecoverFault;
 use crate::past::{Commits, CoordPast, Decided};
 use co_base::{Bytes, Txn, Txns};
-use co_plain::CoordView;
+use co_plain::{CoordView, copy_bytes};
 use co_record::{MemberWalk, RecordView, Views};
 use co_state::Table;
 use std::alloc::{AllocError, Global};
@@ -106,7 +106,7 @@ fn commits_of(alloc: Global, unended: &Table<Bytes>) -> Result<Commits, AllocErr
     for (t, members) in unended.iter() {
         commits.push(Decided {
             txn: *t,
-            members: co_plain::copy_bytes(alloc, members.as_slice())?,
+            members: copy_bytes(alloc, members.as_slice())?,
         })?;
     }
     Ok(Commits::of(commits))

@@ -1,5 +1,5 @@
 //! What a member's log tells.
-ghost use Rattle.std.specs.Prelude.{◌≡◌, ℕ, List, IfOk, map, []};
+ghost use Rattle.std.specs.Prelude.{◌≡◌, ℕ, List, IfOk, map};
 ghost use Rattle.std.specs.List.{AllByRecursion};
 ghost use Rattle.co_record.specs.declared.record.Record.{Record};
 ghost use Rattle.co_record.specs.declared.record.Record.TheVariants.{Checkpoint};
@@ -8,8 +8,8 @@ ghost use Rattle.co_record.specs.Reading.{row_of};
 ghost use Rattle.co_record.specs.Spelling.{IsSpelled, IsRow, IsChange};
 ghost use Rattle.co_record.specs.Stored.{HasLeft};
 ghost use Rattle.co_state.specs.Table.{look};
-ghost use Rattle.co_plain.specs.MemberView.{nothing_known, cast_in, forget_in, install_in, told_by, conflicts_with_voted};
-ghost use Rattle.co_recover.specs.Recovered.{member_next, voted_of, past_of_member, IsMemberRecovery};
+ghost use Rattle.co_plain.specs.MemberView.{nothing_known, cast_in, told_by, conflicts_with_voted};
+ghost use Rattle.co_recover.specs.Recovered.{member_next, forgotten, installed, voted_of, past_of_member, IsMemberRecovery};
 
 use crate::coord::numbers_in;
 use crate::fault::RecoverFault;
@@ -94,7 +94,7 @@ fn cast_in<'a>(view: LentView<'a>, t: Txn, vote: LentVote<'a>) -> Result<LentVie
 
 /// A voted transaction was aborted, or none where it is not voted.
 fn forget_in<'a>(view: LentView<'a>, t: Txn) -> Option<LentView<'a>>
-    ensures { result ≡ member_next 1 1 view.entry (Record.Abort t) }
+    ensures { result ≡ forgotten view.entry t }
 {
     let LentView {
         records,
@@ -117,7 +117,7 @@ fn install_in<'a>(
     view: LentView<'a>,
     t: Txn,
 ) -> Result<Option<LentView<'a>>, AllocError>
-    ensures { IfOk result (λ after. after ≡ member_next 1 1 view.entry (Record.Commit t [])) }
+    ensures { IfOk result (λ after. after ≡ installed view.entry t) }
 {
     let LentView {
         records,

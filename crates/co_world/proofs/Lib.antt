@@ -1,0 +1,10 @@
+pub mod Fronts
+pub mod Pairs
+pub mod Numbered
+pub mod Spots
+pub mod Readings
+pub mod Rows
+pub mod Recoveries
+pub mod Opened
+pub mod Durables
+pub mod Refusals

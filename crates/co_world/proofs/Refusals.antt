@@ -1,0 +1,17 @@
+-- Why no records are written, from why there are none.
+use Rattle.std.proofs.Common.{Option, inr}
+use Rattle.co_outside.specs.declared.spot.Spot.{Spot}
+use Rattle.co_outside.specs.Home.{File}
+use Rattle.co_world.specs.declared.fault.WorldFault.{WorldFault}
+use Rattle.co_world.specs.declared.fault.WorldFault.TheVariants.{Device, Differs, InUse, Bad, Full, Count, Memory}
+use Rattle.co_world.specs.Durable.{IsUndurable}
+use Rattle.co_world.specs.Written.{refusal_of, IsRefusal}
+
+pub undurable_refuses : (file : Spot → Option File) (fault : WorldFault) → IsUndurable file 16 8 fault → IsRefusal file (refusal_of fault)
+undurable_refuses file (Device spot) u = inr u
+undurable_refuses file (Differs spot at kept read) u = tt
+undurable_refuses file (InUse spot) u = tt
+undurable_refuses file (Bad spot at) u = u
+undurable_refuses file (Full spot) u = u
+undurable_refuses file Count u = tt
+undurable_refuses file Memory u = tt

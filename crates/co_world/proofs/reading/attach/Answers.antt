@@ -1,0 +1,7 @@
+use Rattle.co_log.specs.Attaching.{spot_of}
+use Rattle.co_world.proofs.Spots.{all_stay}
+use Rattle.co_world.proofs.reading.attach.Goals as goal
+
+pub returns-clause-files : goal.returns-clause-files
+returns-clause-files g c =
+    all_stay (g.H.Home.file c.attach.new.home) (g.H.Home.file c.args.home.now) (spot_of c.args.node 0) (spot_of c.args.node 1) c.attach.ensures.file_a c.attach.ensures.file_b c.attach.ensures.others

@@ -1,0 +1,20 @@
+//! The federation over its logs. It begins with what the logs alone give: the durable records.
+#![tactic(auto)]
+
+mod durable;
+mod fault;
+mod laying;
+mod nodes;
+mod reading;
+mod records;
+mod recovering;
+mod text;
+mod writing;
+
+pub use durable::{Durable, DurableRow};
+pub use fault::WorldFault;
+pub use records::read_durable;
+pub use writing::{RecordsFault, write_records};
+
+#[cfg(test)]
+mod tests;
