@@ -102,8 +102,7 @@ module _ (s : Federation) (f : OwnFacts s) (c : ℕ) where
   own_end t g =
       let old = (f.coords c).committed t g.0 g.1 g.3 in
       own_coord s f c (with_coord_log (with_table (s.coord c) (without (s.coord c).table t)) (with_waiting (s.coord c).log (log.End t)))
-      (ended_has (rest_of s) c (s.coord c) t (f.coords c))
-      (
+      (ended_has (rest_of s) c (s.coord c) t (f.coords c)) (
         without_here (s.coord c).table t,
         (g.0, old.logged, unended_some ((s.coord c).log.waiting ++ (s.coord c).log.stable) t g.0 old.logged),
         ends_under (s.coord c).table (without (s.coord c).table t) (s.coord c).log.stable (s.coord c).log.waiting (fewer_there (s.coord c).table t) (f.ends c),

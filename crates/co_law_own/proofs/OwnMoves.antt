@@ -7,10 +7,11 @@ use Rattle.co_law_own.proofs.Own.{OwnFacts}
 use Rattle.co_law_own.proofs.OwnMembers as members
 use Rattle.co_law_own.proofs.OwnCoords as coords
 use Rattle.co_law_own.proofs.OwnClients as clients
+use Rattle.co_law_own.proofs.OwnOperations as operations
 use Rattle.co_law_own.proofs.OwnDecisions as decisions
 
 pub own_move : (s : Federation) → OwnFacts s → (move : Move) → GuardOver AnyLogs s move → OwnFacts (effect s move)
-own_move s f (Operate t m o) g = clients.own_operate s f t m o g
+own_move s f (Operate t m o) g = operations.own_operate s f t m o g
 own_move s f (MarkAsked t m c n) g = members.own_mark s f m t c n g.0 g.1
 own_move s f (Cast t m c n) g = members.own_yes s f m t c n g.0 g.1
 own_move s f (DropActive t m) g = members.own_drop_active s f m t g
