@@ -9,6 +9,8 @@ mod engine;
 mod locked_store;
 mod pairs;
 #[cfg(test)]
+mod random_tests;
+#[cfg(test)]
 mod tests;
 mod undecided;
 

@@ -9,7 +9,7 @@ use std::test::Fail;
 
 /// A command of a transaction.
 #[derive(Clone, Copy)]
-enum Act {
+pub enum Act {
     Read(u32, &'static [u8]),
     Scan(u32, &'static [u8], &'static [u8]),
     Write(u32, &'static [u8], &'static [u8]),
@@ -34,7 +34,7 @@ enum Wanted {
     Refused,
 }
 
-fn command(alloc: Global, act: Act) -> Result<Command, Fail> {
+pub fn command(alloc: Global, act: Act) -> Result<Command, Fail> {
     Ok(match act {
         Act::Read(t, key) => Command::Read {
             txn: Txn(t),
@@ -85,7 +85,7 @@ fn answered(alloc: Global, reply: Reply, pair: Option<(u32, u32)>) -> Result<Pla
     Ok(Played::Seen(Seen::Answer(reply), pairs))
 }
 
-fn row(alloc: Global, key: &[u8], value: &[u8]) -> Result<Rows, Fail> {
+pub fn row(alloc: Global, key: &[u8], value: &[u8]) -> Result<Rows, Fail> {
     let mut records = RecordMap::new(alloc);
     records.set(Key::new(alloc, key)?, Value::new(alloc, value)?)?;
     Ok(records.rows(alloc)?)
