@@ -149,6 +149,9 @@ impl Log {
         ensures file_a { H.file home.new (spot_of node 0) ≡ H.file home.old (spot_of node 0) }
         ensures file_b { H.file home.new (spot_of node 1) ≡ H.file home.old (spot_of node 1) }
         ensures others { (s : Spot) → s ≢ spot_of node 0 → s ≢ spot_of node 1 → H.file home.new s ≡ H.file home.old s }
+        ensures reaches { (s : Spot) → s ≢ spot_of node 0 → s ≢ spot_of node 1 → H.reach home.new s ≡ H.reach home.old s }
+        ensures entered { H.entered home.new ≡ H.entered home.old }
+        ensures count { H.faults home.old ≤ H.faults home.new }
         ensures device { (spot : Spot) → IsErrOf result (LogFault.Device spot) → HasFailed H.faults H.last_failed spot home.old home.new }
     {
         let spot_a = Spot {
