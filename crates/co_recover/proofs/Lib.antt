@@ -1,2 +1,4 @@
 pub mod Ascending
 pub mod Folds
+pub mod Sets
+pub mod Votes

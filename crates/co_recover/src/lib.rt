@@ -3,9 +3,11 @@
 
 mod coord;
 mod fault;
+mod key_set;
 mod member;
 mod owned;
 mod past;
+mod touched;
 mod vote;
 
 pub use coord::recover_coord;

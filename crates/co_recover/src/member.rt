@@ -15,6 +15,7 @@ use crate::coord::numbers_in;
 use crate::fault::RecoverFault;
 use crate::owned::{lay, numbers_of, ranges_of, rows_of, writes_of};
 use crate::past::MemberPast;
+use crate::touched::Touched;
 use crate::vote::{LentSets, LentVote};
 use co_base::Txn;
 use co_pairs::{Prepared, PreparedList};
@@ -24,30 +25,38 @@ use co_state::{Sets, Table, records_from};
 use std::alloc::{AllocError, Global};
 use std::marker::Model;
 
-/// What the records up to a place tell. The votes are lent from their prepare records.
+/// What the records up to a place tell. The votes are lent from their prepare records, and all that they touched
+/// is kept beside them.
 #[derive(Drop)]
 struct LentView<'a> {
     records: RecordMap,
     voted: Table<LentVote<'a>>,
     committed: Table<()>,
+    touched: Touched<'a>,
 }
 
 impl<'a> Model for LentView<'a> {
     ghost use Rattle.std.specs.Coded.{codes};
     ghost use Rattle.co_plain.specs.declared.member_view.MemberView.{MemberView};
     ghost use Rattle.co_plain.specs.contracts.member_view.MemberView as known;
+    ghost use Rattle.co_recover.specs.Covering.{AreCovered};
 
     ghost Value = { MemberView };
 
     ghost coded = { Prim.hlevel (codes, known.the_row.coded) };
 
     ghost view = { λ v. record { records = v.records; voted = v.voted; committed = v.committed } };
+
+    ghost invariant = { λ v. AreCovered v.touched.written v.touched.read v.touched.wide v.voted };
 }
 
-/// Whether some vote is in conflict with these sets.
-fn conflicts_with_voted(view: &LentView<'_>, sets: &LentSets<'_>) -> bool
+/// Whether some vote is in conflict with these sets. The votes are asked one by one only where some may be.
+fn conflicts_with_voted<'a>(view: &LentView<'a>, sets: &LentSets<'a>) -> bool
     ensures { result ≡ conflicts_with_voted view.now sets.now }
 {
+    if !view.touched.may_conflict(sets) {
+        return false;
+    }
     for (_, vote) in view.voted.iter() {
         if vote.sets.conflicts_with(sets) {
             return true;
@@ -72,6 +81,7 @@ fn checkpoint_view<'a>(
         records,
         voted: Table::new(alloc),
         committed: numbers_of(alloc, committed)?,
+        touched: Touched::new(alloc),
     })
 }
 
@@ -83,12 +93,15 @@ fn cast_in<'a>(view: LentView<'a>, t: Txn, vote: LentVote<'a>) -> Result<LentVie
         records,
         mut voted,
         committed,
+        mut touched,
     } = view;
+    touched.add(&vote.sets)?;
     voted.insert(t, vote)?;
     Ok(LentView {
         records,
         voted,
         committed,
+        touched,
     })
 }
 
@@ -100,6 +113,7 @@ fn forget_in<'a>(view: LentView<'a>, t: Txn) -> Option<LentView<'a>>
         records,
         mut voted,
         committed,
+        touched,
     } = view;
     if voted.remove(t).is_none() {
         return None;
@@ -108,6 +122,7 @@ fn forget_in<'a>(view: LentView<'a>, t: Txn) -> Option<LentView<'a>>
         records,
         voted,
         committed,
+        touched,
     })
 }
 
@@ -123,6 +138,7 @@ fn install_in<'a>(
         records,
         mut voted,
         mut committed,
+        touched,
     } = view;
     match voted.remove(t) {
         None => Ok(None),
@@ -133,6 +149,7 @@ fn install_in<'a>(
                 records,
                 voted,
                 committed,
+                touched,
             }))
         }
     }
@@ -246,6 +263,7 @@ pub fn recover_member(
         records: RecordMap::new(alloc),
         voted: Table::new(alloc),
         committed: Table::new(alloc),
+        touched: Touched::new(alloc),
     };
     let mut place = 0;
     'records: loop {
