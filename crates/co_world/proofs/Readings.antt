@@ -1,14 +1,15 @@
 -- Logs that were read one after another.
-use Rattle.std.proofs.Common.{◌≡◌, ℕ, ◌<◌, List, take, length, get_or, subst, Option, Result, Ok, Err, IfErr}
+use Rattle.std.proofs.Common.{◌≡◌, ℕ, ◌<◌, List, take, length, get_or, subst, Option, Result, Ok, Err, IfErr, ◌≤◌, ◌∙◌, refl, arith}
 use Rattle.std.specs.Result.{IsErrAnd}
 use Rattle.co_base.specs.declared.node.Node.{Node}
 use Rattle.co_outside.specs.declared.spot.Spot.{Spot}
 use Rattle.co_outside.specs.Home.{File}
+use Rattle.co_disk.specs.Homes.{HasFailed}
 use Rattle.co_log.specs.LogView.{LogView}
 use Rattle.co_world.specs.declared.fault.WorldFault.{WorldFault}
 use Rattle.co_world.specs.declared.fault.WorldFault.TheVariants.{Device, Differs, InUse, Bad, Full, Count, Memory}
 use Rattle.co_world.specs.Pairs.{EachPair}
-use Rattle.co_world.specs.Reading.{IsLogOf, HasLog, IsUnread, IsFirstUnread}
+use Rattle.co_world.specs.Reading.{OnlyReads, IsLogOf, HasLog, IsUnread, IsFirstUnread}
 use Rattle.co_world.proofs.Pairs.{left_all, first_at}
 
 -- files that are the same at each place are the same
@@ -42,3 +43,19 @@ logs_moved now before nodes logs stay pairs = subst (λ (f : Spot → Option Fil
 
 pub unread_moved : (now before : Spot → Option File) (nodes : List Node) (fault : WorldFault) → ((s : Spot) → now s ≡ before s) → IsFirstUnread now nodes fault → IsFirstUnread before nodes fault
 unread_moved now before nodes fault stay unread = subst (λ (f : Spot → Option File). IsFirstUnread f nodes fault) (same_files now before stay) unread
+
+module _ {H : Type 0} (file : H → Spot → Option File) (entered : H → Option (List ℕ)) (faults : H → ℕ) (last_failed : H → Spot) where
+  pub nothing_read : (h : H) → OnlyReads file entered faults h h
+  nothing_read h = record { files = λ s. refl; directory = refl; count = omega arith }
+
+  -- one reading after another
+  pub reads_on : (old mid new : H) → OnlyReads file entered faults old mid → OnlyReads file entered faults mid new → OnlyReads file entered faults old new
+  reads_on old mid new first then = record {
+    files = λ s. then.files s ∙ first.files s;
+    directory = then.directory ∙ first.directory;
+    count = omega (arith, first.count, then.count);
+  }
+
+  -- a failure after a reading is one of both
+  pub fails_later : (old mid new : H) (spot : Spot) → faults old ≤ faults mid → HasFailed faults last_failed spot mid new → HasFailed faults last_failed spot old new
+  fails_later old mid new spot count failed = record { count = omega (arith, count, failed.count); named = failed.named }

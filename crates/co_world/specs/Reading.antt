@@ -1,5 +1,5 @@
 -- Logs as their files are read, and what is told of files that are none.
-use Rattle.std.specs.Prelude.{ℕ, ◌≡◌, ◌⊎◌, true, List, Option}
+use Rattle.std.specs.Prelude.{ℕ, ◌≡◌, ◌⊎◌, true, List, Option, ◌≤◌}
 use Rattle.co_base.specs.declared.node.Node.{Node}
 use Rattle.co_outside.specs.declared.spot.Spot.{Spot}
 use Rattle.co_outside.specs.Home.{File}
@@ -10,6 +10,12 @@ use Rattle.co_log.specs.Attaching.{spot_of, IsAttached, IsToldAs, IsOfAttach}
 use Rattle.co_world.specs.Pairs.{FirstWhere}
 use Rattle.co_world.specs.declared.fault.WorldFault.{WorldFault}
 use Rattle.co_world.specs.declared.fault.WorldFault.TheVariants.{Device, Differs, InUse, Bad, Full, Count, Memory}
+
+-- Reading leaves the files and the entered directory, and the count of faults does not fall.
+pub record OnlyReads {H : Type 0} (file : H → Spot → Option File) (entered : H → Option (List ℕ)) (faults : H → ℕ) (old new : H) : Type 0 where
+  pub files : (s : Spot) → file new s ≡ file old s
+  pub directory : entered new ≡ entered old
+  pub count : faults old ≤ faults new
 
 -- the log of a node, as its two files are, where the home tells them
 pub record IsLogOf (file : Spot → Option File) (node : Node) (opened : LogView) : Type 0 where

@@ -3,10 +3,11 @@ ghost use Rattle.std.specs.Prelude.{◌≡◌, IfOk, IfErr, IsErrOf, ◌≤◌, 
 ghost use Rattle.std.specs.List.{AllByRecursion};
 ghost use Rattle.co_base.specs.Nodes.{IsValidNode};
 ghost use Rattle.co_outside.specs.declared.spot.Spot.{Spot};
+ghost use Rattle.co_disk.specs.Homes.{HasFailed};
 ghost use Rattle.co_log.specs.Attaching.{spot_of, IsOfAttach};
 ghost use Rattle.co_world.specs.Nodes.{member_nodes, coord_nodes};
 ghost use Rattle.co_world.specs.Pairs.{EachPair};
-ghost use Rattle.co_world.specs.Reading.{IsLogOf, IsUnread, IsFirstUnread};
+ghost use Rattle.co_world.specs.Reading.{OnlyReads, IsLogOf, IsUnread, IsFirstUnread};
 
 use crate::fault::WorldFault;
 use crate::nodes::{coord_nodes, member_nodes};
@@ -20,8 +21,8 @@ fn attach<H: Home>(alloc: Global, home: &mut H, node: Node) -> Result<Log, LogFa
     requires { IsValidNode node }
     ensures read { IfOk result (IsLogOf (H.file home.old) node) }
     ensures refused { IfErr result (IsOfAttach node true (H.file home.old (spot_of node 0)) (H.file home.old (spot_of node 1))) }
-    ensures files { (s : Spot) → H.file home.new s ≡ H.file home.old s }
-    ensures named { (spot : Spot) → IsErrOf result (LogFault.Device spot) → H.last_failed home.new ≡ spot }
+    ensures reads { OnlyReads H.file H.entered H.faults home.old home.new }
+    ensures device { (spot : Spot) → IsErrOf result (LogFault.Device spot) → HasFailed H.faults H.last_failed spot home.old home.new }
 {
     Log::attach(alloc, home, node, true)
 }
@@ -31,8 +32,8 @@ fn read_log<H: Home>(alloc: Global, home: &mut H, node: Node) -> Result<Log, Wor
     requires { IsValidNode node }
     ensures read { IfOk result (IsLogOf (H.file home.old) node) }
     ensures unread { IfErr result (λ fault. IsUnread (H.file home.old) fault node) }
-    ensures files { (s : Spot) → H.file home.new s ≡ H.file home.old s }
-    ensures named { (spot : Spot) → IsErrOf result (WorldFault.Device spot) → H.last_failed home.new ≡ spot }
+    ensures reads { OnlyReads H.file H.entered H.faults home.old home.new }
+    ensures device { (spot : Spot) → IsErrOf result (WorldFault.Device spot) → HasFailed H.faults H.last_failed spot home.old home.new }
 {
     match attach(alloc, home, node) {
         Ok(log) => Ok(log),
@@ -51,8 +52,8 @@ fn read_logs<H: Home>(alloc: Global, home: &mut H, nodes: &[Node]) -> Result<Vec
     requires { AllByRecursion IsValidNode nodes.now }
     ensures read { IfOk result (λ logs. EachPair (IsLogOf (H.file home.old)) nodes.now logs.items) }
     ensures unread { IfErr result (IsFirstUnread (H.file home.old) nodes.now) }
-    ensures files { (s : Spot) → H.file home.new s ≡ H.file home.old s }
-    ensures named { (spot : Spot) → IsErrOf result (WorldFault.Device spot) → H.last_failed home.new ≡ spot }
+    ensures reads { OnlyReads H.file H.entered H.faults home.old home.new }
+    ensures device { (spot : Spot) → IsErrOf result (WorldFault.Device spot) → HasFailed H.faults H.last_failed spot home.old home.new }
 {
     let mut logs = Vec::new(alloc);
     for node in nodes {
@@ -70,8 +71,8 @@ pub(crate) fn read_members<H: Home>(
     requires { count ≤ 16 }
     ensures read { IfOk result (λ logs. EachPair (IsLogOf (H.file home.old)) (member_nodes count) logs.items) }
     ensures unread { IfErr result (IsFirstUnread (H.file home.old) (member_nodes count)) }
-    ensures files { (s : Spot) → H.file home.new s ≡ H.file home.old s }
-    ensures named { (spot : Spot) → IsErrOf result (WorldFault.Device spot) → H.last_failed home.new ≡ spot }
+    ensures reads { OnlyReads H.file H.entered H.faults home.old home.new }
+    ensures device { (spot : Spot) → IsErrOf result (WorldFault.Device spot) → HasFailed H.faults H.last_failed spot home.old home.new }
 {
     let nodes = member_nodes(alloc, count)?;
     read_logs(alloc, home, nodes.as_slice())
@@ -86,8 +87,8 @@ pub(crate) fn read_coords<H: Home>(
     requires { count ≤ 8 }
     ensures read { IfOk result (λ logs. EachPair (IsLogOf (H.file home.old)) (coord_nodes count) logs.items) }
     ensures unread { IfErr result (IsFirstUnread (H.file home.old) (coord_nodes count)) }
-    ensures files { (s : Spot) → H.file home.new s ≡ H.file home.old s }
-    ensures named { (spot : Spot) → IsErrOf result (WorldFault.Device spot) → H.last_failed home.new ≡ spot }
+    ensures reads { OnlyReads H.file H.entered H.faults home.old home.new }
+    ensures device { (spot : Spot) → IsErrOf result (WorldFault.Device spot) → HasFailed H.faults H.last_failed spot home.old home.new }
 {
     let nodes = coord_nodes(alloc, count)?;
     read_logs(alloc, home, nodes.as_slice())

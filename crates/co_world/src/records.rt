@@ -1,7 +1,9 @@
 //! The durable records of a directory of logs.
 ghost use Rattle.std.specs.Prelude.{◌≡◌, ◌≤◌, IfOk, IfErr, IsErrOf, length};
 ghost use Rattle.co_outside.specs.declared.spot.Spot.{Spot};
+ghost use Rattle.co_disk.specs.Homes.{HasFailed};
 ghost use Rattle.co_world.specs.Durable.{IsDurable, IsUndurable};
+ghost use Rattle.co_world.specs.Reading.{OnlyReads};
 
 use crate::durable::Durable;
 use crate::fault::WorldFault;
@@ -23,8 +25,8 @@ pub(crate) fn read_rows<H: Home>(
     requires coords { coords ≤ 8 }
     ensures durable { IfOk result (IsDurable (H.file home.old) members coords) }
     ensures undurable { IfErr result (IsUndurable (H.file home.old) members coords) }
-    ensures files { (s : Spot) → H.file home.new s ≡ H.file home.old s }
-    ensures named { (spot : Spot) → IsErrOf result (WorldFault.Device spot) → H.last_failed home.new ≡ spot }
+    ensures reads { OnlyReads H.file H.entered H.faults home.old home.new }
+    ensures device { (spot : Spot) → IsErrOf result (WorldFault.Device spot) → HasFailed H.faults H.last_failed spot home.old home.new }
 {
     let member_logs = read_members(alloc, home, members)?;
     let coord_logs = read_coords(alloc, home, coords)?;
@@ -48,8 +50,8 @@ pub fn read_durable<H: Home>(
 ) -> Result<Durable, WorldFault>
     ensures durable { IfOk result (IsDurable (H.file home.old) (length head.now.kinds) head.now.coords) }
     ensures undurable { IfErr result (IsUndurable (H.file home.old) (length head.now.kinds) head.now.coords) }
-    ensures files { (s : Spot) → H.file home.new s ≡ H.file home.old s }
-    ensures named { (spot : Spot) → IsErrOf result (WorldFault.Device spot) → H.last_failed home.new ≡ spot }
+    ensures reads { OnlyReads H.file H.entered H.faults home.old home.new }
+    ensures device { (spot : Spot) → IsErrOf result (WorldFault.Device spot) → HasFailed H.faults H.last_failed spot home.old home.new }
 {
     let members = head.kinds.len() as u8;
     read_rows(alloc, home, members, head.coords)

@@ -1,6 +1,7 @@
 //! The text of the durable records of a whole directory, written to a sink.
 ghost use Rattle.std.specs.Prelude.{◌≡◌, ◌≤◌, ◌++◌, ◌⊎◌, ℕ, List, Some, take, OnOk, OnErr, IfOk, IfErr, IsErrOf};
 ghost use Rattle.co_outside.specs.declared.spot.Spot.{Spot};
+ghost use Rattle.co_disk.specs.Homes.{HasFailed};
 ghost use Rattle.co_outside.specs.Faults.{HasRisen};
 ghost use Rattle.co_world.specs.declared.durable.DurableRow.{DurableRow};
 ghost use Rattle.co_world.specs.Durable.{IsDurable, IsUndurable};
@@ -70,7 +71,8 @@ fn read_directory<H: Home>(alloc: Global, home: &mut H, dir: &str) -> Result<Dur
     ensures refused { IfErr result (IsRefusal (H.file home.old)) }
     ensures write { IsErrOf result RecordsFault.Write → ⊥ }
     ensures files { (s : Spot) → H.file home.new s ≡ H.file home.old s }
-    ensures named { (spot : Spot) → IsErrOf result (RecordsFault.Device spot) → H.last_failed home.new ≡ spot }
+    ensures entered { OnOk result (H.entered home.new ≡ Some dir.now) }
+    ensures device { (spot : Spot) → IsErrOf result (RecordsFault.Device spot) → HasFailed H.faults H.last_failed spot home.old home.new }
 {
     match home.enter(alloc, dir) {
         Ok(()) => match read_rows(alloc, home, MEMBERS, COORDS) {
@@ -100,7 +102,8 @@ pub fn write_records<H: Home, K: Sink>(
     ensures front { (held : List ℕ) → K.told out.old ≡ Some held → IfErr result (IsFront (H.file home.old) held (K.told out.new)) }
     ensures refused { IfErr result (IsRefusal (H.file home.old)) }
     ensures files { (s : Spot) → H.file home.new s ≡ H.file home.old s }
-    ensures named { (spot : Spot) → IsErrOf result (RecordsFault.Device spot) → H.last_failed home.new ≡ spot }
+    ensures entered { OnOk result (H.entered home.new ≡ Some dir.now) }
+    ensures device { (spot : Spot) → IsErrOf result (RecordsFault.Device spot) → HasFailed H.faults H.last_failed spot home.old home.new }
     ensures counts { K.faults out.old ≤ K.faults out.new }
     ensures write { IsErrOf result RecordsFault.Write → HasRisen (K.faults out.old) (K.faults out.new) }
 {

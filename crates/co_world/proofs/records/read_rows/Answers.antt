@@ -29,7 +29,7 @@ returns-in_err-coord_logs-clause-undurable g c =
     let file = g.H.Home.file c.args.home.now in
     let undurable : IsUndurable file c.args.members c.args.coords c.in_err-coord_logs.field-0.0 =
     unread_coord file c.args.members c.args.coords c.in_ok-member_logs.member_logs.items c.in_err-coord_logs.field-0.0 c.in_ok-member_logs.ensures.read
-    (unread_moved (g.H.Home.file c.read_members.new.home) file (coord_nodes c.args.coords) c.in_err-coord_logs.field-0.0 c.read_members.ensures.files c.in_err-coord_logs.ensures.unread) in
+    (unread_moved (g.H.Home.file c.read_members.new.home) file (coord_nodes c.args.coords) c.in_err-coord_logs.field-0.0 c.read_members.ensures.reads.files c.in_err-coord_logs.ensures.unread) in
     handed_on _ (IsUndurable file c.args.members c.args.coords) c.from_residual-in_err-coord_logs.result (λ e is. subst (IsUndurable file c.args.members c.args.coords) (sym is) undurable) c.from_residual-in_err-coord_logs.ensures.1
 
 pub recover_members-requires : goal.recover_members-requires
@@ -41,7 +41,7 @@ returns-in_err-pasts-clause-undurable g c =
     let file = g.H.Home.file c.args.home.now in
     let undurable : IsUndurable file c.args.members c.args.coords c.in_err-pasts.field-0.0 =
     fallen_member file c.args.members c.args.coords c.in_ok-member_logs.member_logs.items c.in_ok-coord_logs.coord_logs.items c.in_err-pasts.field-0.0 c.in_ok-member_logs.ensures.read
-    (logs_moved (g.H.Home.file c.read_members.new.home) file (coord_nodes c.args.coords) c.in_ok-coord_logs.coord_logs.items c.read_members.ensures.files c.in_ok-coord_logs.ensures.read)
+    (logs_moved (g.H.Home.file c.read_members.new.home) file (coord_nodes c.args.coords) c.in_ok-coord_logs.coord_logs.items c.read_members.ensures.reads.files c.in_ok-coord_logs.ensures.read)
     (subst (λ (logs : List LogView). IsFirstToFall (member_refuses c.args.coords) logs c.in_err-pasts.field-0.0) c.as_slice.ensures.value c.in_err-pasts.ensures.refused) in
     handed_on _ (IsUndurable file c.args.members c.args.coords) c.from_residual-in_err-pasts.result (λ e is. subst (IsUndurable file c.args.members c.args.coords) (sym is) undurable) c.from_residual-in_err-pasts.ensures.1
 
@@ -54,7 +54,7 @@ returns-in_err-seen-clause-undurable g c =
     let file = g.H.Home.file c.args.home.now in
     let undurable : IsUndurable file c.args.members c.args.coords c.in_err-seen.field-0.0 =
     fallen_coord file c.args.members c.args.coords c.in_ok-member_logs.member_logs.items c.in_ok-coord_logs.coord_logs.items c.in_ok-pasts.pasts.items c.in_err-seen.field-0.0 c.in_ok-member_logs.ensures.read
-    (logs_moved (g.H.Home.file c.read_members.new.home) file (coord_nodes c.args.coords) c.in_ok-coord_logs.coord_logs.items c.read_members.ensures.files c.in_ok-coord_logs.ensures.read)
+    (logs_moved (g.H.Home.file c.read_members.new.home) file (coord_nodes c.args.coords) c.in_ok-coord_logs.coord_logs.items c.read_members.ensures.reads.files c.in_ok-coord_logs.ensures.read)
     (subst (λ (logs : List LogView). EachPair (IsPastOf c.args.coords) logs c.in_ok-pasts.pasts.items) c.as_slice.ensures.value c.in_ok-pasts.ensures.pasts)
     (subst (λ (logs : List LogView). IsFirstToFall (coord_refuses c.args.members) logs c.in_err-seen.field-0.0) c.as_slice-2.ensures.value c.in_err-seen.ensures.refused) in
     handed_on _ (IsUndurable file c.args.members c.args.coords) c.from_residual-in_err-seen.result (λ e is. subst (IsUndurable file c.args.members c.args.coords) (sym is) undurable) c.from_residual-in_err-seen.ensures.1
@@ -71,7 +71,7 @@ returns-clause-durable g c =
     let file = g.H.Home.file c.args.home.now in
     durable file c.args.members c.args.coords c.in_ok-member_logs.member_logs.items c.in_ok-coord_logs.coord_logs.items c.in_ok-pasts.pasts.items c.in_ok-seen.seen.items c.in_ok-durable_rows.field-0
     c.in_ok-member_logs.ensures.read
-    (logs_moved (g.H.Home.file c.read_members.new.home) file (coord_nodes c.args.coords) c.in_ok-coord_logs.coord_logs.items c.read_members.ensures.files c.in_ok-coord_logs.ensures.read)
+    (logs_moved (g.H.Home.file c.read_members.new.home) file (coord_nodes c.args.coords) c.in_ok-coord_logs.coord_logs.items c.read_members.ensures.reads.files c.in_ok-coord_logs.ensures.read)
     (subst (λ (logs : List LogView). EachPair (IsPastOf c.args.coords) logs c.in_ok-pasts.pasts.items) c.as_slice.ensures.value c.in_ok-pasts.ensures.pasts)
     (subst (λ (logs : List LogView). EachPair (IsSeenIn c.args.members) logs c.in_ok-seen.seen.items) c.as_slice-2.ensures.value c.in_ok-seen.ensures.seen)
     (c.in_ok-durable_rows.ensures ∙ ap (λ (pasts : List MemberPast). durable_of_pasts c.as_slice-4.result.now pasts) c.as_slice-3.ensures.value ∙ ap (λ (seen : List Numbers). durable_of_pasts seen c.in_ok-pasts.pasts.items) c.as_slice-4.ensures.value)
