@@ -32,8 +32,8 @@ use Rattle.co_law_engine.proofs.SetsMade.{unread, unwritten, reads-put, writes-p
 use Rattle.co_law_base.proofs.Lookups.{put_here, holds_found, found_holds}
 use Rattle.co_law_base.proofs.Commits.{lacks_none}
 use Rattle.co_law_base.proofs.ViewRules.{three_parts}
-use Rattle.co_law_base.proofs.Facts.{rest_of, OpenEntry, Facts}
-use Rattle.co_law_base.proofs.Carrying.{by_coord_begun}
+use Rattle.co_law_base.proofs.Facts.{rest_of, OpenEntry, Facts, StampsIn}
+use Rattle.co_law_base.proofs.Carrying.{by_coord_begun, at_here}
 use Rattle.co_law_coord.proofs.CoordMoves.{one_yes}
 use Rattle.co_law_session.proofs.Sending.{told_parts, part_member}
 use Rattle.co_law_moves.proofs.MoveOnward.{move_onward}
@@ -42,9 +42,11 @@ use Rattle.co_law_order.proofs.Acts.{Act, Moves, Disarms, after_act, act_guard, 
 use Rattle.co_law_order.proofs.Traced.{Traced}
 use Rattle.co_law_order.proofs.ToldOn.{ToldOn, told_same, told_on, act_told, reads_told, writes_told}
 use Rattle.co_law_order.proofs.Installs.{InstallsTold, act_installs}
-use Rattle.co_law_order.proofs.Seen.{Seen, act_seen}
+use Rattle.co_law_order.proofs.Seen.{Seen, act_seen, SeenAt, since}
 use Rattle.co_law_order.proofs.Unread.{Unread, act_unread}
 use Rattle.co_law_order.proofs.KindStays.{SameKinds, act_kinds}
+use Rattle.co_law_engine.proofs.YesTells.{in_some}
+use Rattle.co_law_session.proofs.Operating.{snapshot_in}
 
 -- what an act leaves, over a list of them
 pub onward : (acts : List Act) (s : Federation) → Facts s → ActsHold acts s → Onward s (run_acts acts s)
@@ -180,3 +182,29 @@ pub record Fresh (kinds : List Kind) (s : Federation) : Type 0 where
   pub traced : Traced [] s
   pub installs : InstallsTold s
   pub kind : (m : ℕ) → (s.member m).engine.kind ≡ kind_of kinds m
+
+-- the member after an operation
+pub member_now : (z : Federation) (t m : ℕ) (o : Op) → (effect z (Operate t m o)).member m ≡ with_engine (z.member m) (with_operation (z.member m).engine t o)
+member_now z t m o = at_here (entered_reply z t m o (look z.sessions t)).member m (with_engine (z.member m) (with_operation (z.member m).engine t o))
+
+pub stamps_of : (z : Federation) → Facts z → (t m : ℕ) → StampsIn (length (z.member m).engine.installed) (operations_of (z.member m).engine t)
+stamps_of z f t m = by (look (z.member m).engine.active t) refl
+  where
+    by : (o : Option (List Operation)) → look (z.member m).engine.active t ≡ o → StampsIn (length (z.member m).engine.installed) (operations_of (z.member m).engine t)
+    by None e = subst (λ k. StampsIn (length (z.member m).engine.installed) (operations_in k)) (sym e) tt
+    by (Some os) e = subst (λ k. StampsIn (length (z.member m).engine.installed) (operations_in k)) (sym e) ((f.members m).active t os e).stamps
+
+pub stamp_in : (z : Federation) → Facts z → (t m : ℕ) → snapshot_of (z.member m).engine t ≤ length (z.member m).engine.installed
+stamp_in z f t m = snapshot_in (z.member m).engine.kind (length (z.member m).engine.installed) (operations_of (z.member m).engine t) (stamps_of z f t m)
+
+-- what an active transaction has after an operation, by its stamp
+pub seen_now : (Good : List Operation → ℕ → Type 0) (z : Federation) → Facts z → (t u m : ℕ) (o : Op) → Guard z (Operate t m o) →
+    Good (record { op = o; stamp = snapshot_of (z.member m).engine t } ∷ operations_of (z.member m).engine t) (snapshot_of (z.member m).engine t) →
+    (holds (z.member m).committed u ≡ true → since (z.member m).engine.installed (snapshot_of (z.member m).engine t) u ≡ true) → Seen Good t u m (effect z (Operate t m o))
+seen_now Good z f t u m o gd good after =
+    record {
+      worked = counts_now z f t m o gd;
+      seen = subst (SeenAt Good t u) (sym (member_now z t m o)) (λ os a.
+          let same : record { op = o; stamp = snapshot_of (z.member m).engine t } ∷ operations_of (z.member m).engine t ≡ os = in_some (sym (put_here (z.member m).engine.active t _) ∙ a) in
+          (snapshot_of (z.member m).engine t, subst (λ k. Good k (snapshot_of (z.member m).engine t)) same good, stamp_in z f t m, after));
+    }

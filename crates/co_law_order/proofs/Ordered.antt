@@ -7,27 +7,21 @@ use Rattle.co_base.specs.declared.node.Node.{Node}
 use Rattle.co_base.specs.declared.node.Node.TheVariants as node
 use Rattle.co_base.specs.declared.op.Op.{Op}
 use Rattle.co_base.specs.Span.{Span, span_has}
-use Rattle.co_state.specs.declared.engine_state.Operation.{Operation}
 use Rattle.co_state.specs.Table.{look, holds}
 use Rattle.co_state.specs.Changes.{span_read}
-use Rattle.co_state.specs.EngineState.{operations_of, operations_in}
+use Rattle.co_state.specs.EngineState.{operations_of}
 use Rattle.co_state.specs.ReadRule.{snapshot_of}
-use Rattle.co_state.specs.Effects.{with_operation}
 use Rattle.co_plain.specs.Numbers.{has_number}
-use Rattle.co_plain.specs.MemberStep.{with_engine}
 use Rattle.co_plain.specs.Opening.{kind_of}
 use Rattle.co_plain.specs.Sessions.{count_at, same_node}
 use Rattle.co_plain.specs.Federation.{Federation}
 use Rattle.co_plain.specs.Decisions.{told_of, is_decided}
 use Rattle.co_plain.specs.CommitmentOrder.{Trace, Operated, Committed, decider_in, decides_at, decided_in, installs, before_first, part_seen, OperatedIn, ReadsKey, WritesKey, InstalledFirst, Before, Precedes, ReadAfter, ReadBefore, WroteBefore, StandsBefore, Stands}
 use Rattle.co_plain.specs.Invariants.{Memory, view, stands}
-use Rattle.co_plain.specs.Moves.{Operate, Decide, Guard, effect, entered_reply}
-use Rattle.co_law_engine.proofs.YesTells.{in_some}
-use Rattle.co_law_base.proofs.Lookups.{put_here}
-use Rattle.co_law_base.proofs.Facts.{rest_of, Begun, Here, StampsIn, Facts}
-use Rattle.co_law_base.proofs.Carrying.{LivesOn, at_here, one_lives, settled_alive}
+use Rattle.co_plain.specs.Moves.{Operate, Decide, Guard, effect}
+use Rattle.co_law_base.proofs.Facts.{rest_of, Begun, Here, Facts}
+use Rattle.co_law_base.proofs.Carrying.{LivesOn, one_lives, settled_alive}
 use Rattle.co_law_member.proofs.VoteMoves.{active_found}
-use Rattle.co_law_session.proofs.Operating.{snapshot_in}
 use Rattle.co_law_moves.proofs.NodesTold.{more}
 use Rattle.co_law_moves.proofs.MoveOnward.{move_onward}
 use Rattle.co_law_moves.proofs.Onward.{Onward}
@@ -35,11 +29,11 @@ use Rattle.co_law_order.proofs.Acts.{Act, Moves, after_act, act_guard, acts_trac
 use Rattle.co_law_order.proofs.Traced.{Traced, acts_traced, committed_at}
 use Rattle.co_law_order.proofs.ToldOn.{ToldOn, act_told, writes_told}
 use Rattle.co_law_order.proofs.Installs.{act_installs}
-use Rattle.co_law_order.proofs.Seen.{SeenAt, Seen, since, read_at, reads_op}
+use Rattle.co_law_order.proofs.Seen.{Seen, since, read_at, reads_op}
 use Rattle.co_law_order.proofs.Unread.{Unread}
 use Rattle.co_law_order.proofs.KindStays.{act_kinds}
 use Rattle.co_law_order.proofs.Orders.{decided_more, has_decided, is_in_order, committed_stands, decide_act, operate_act, Places, Same, First, Second, places, FirstAt, first_at, first_installs}
-use Rattle.co_law_order.proofs.AtDecision.{HeadStamp, Fresh, begun_there, between, counts_now, decide_stands, decide_uncommitted, decide_voted, head_grows, heads_stay, in_table, installs_stay, kinds_stay, onward, opens, reads_now, told, unread_stays, voted_reads, voted_writes, writes_now}
+use Rattle.co_law_order.proofs.AtDecision.{member_now, seen_now, HeadStamp, Fresh, begun_there, between, counts_now, decide_stands, decide_uncommitted, decide_voted, head_grows, heads_stay, in_table, installs_stay, kinds_stay, onward, opens, reads_now, told, unread_stays, voted_reads, voted_writes, writes_now}
 
 module _ (kinds : List Kind) (s : Federation) (fresh : Fresh kinds s) (acts : List Act) (g : ActsHold acts s) where
   abbrev whole : List Trace
@@ -182,20 +176,6 @@ module _ (kinds : List Kind) (s : Federation) (fresh : Fresh kinds s) (acts : Li
           let more = (reach_onward z (run_acts d.front s) to.reach).counts t m in
           ((reach_told z (run_acts d.front s) to.reach).writes t m key (writes_now (run_acts x.front s) f t m w.o w.change key to.guard w.writes w.same), omega (arith, one, more))
 
-  -- the member after an operation
-  member_now : (z : Federation) (t m : ℕ) (o : Op) → (effect z (Operate t m o)).member m ≡ with_engine (z.member m) (with_operation (z.member m).engine t o)
-  member_now z t m o = at_here (entered_reply z t m o (look z.sessions t)).member m (with_engine (z.member m) (with_operation (z.member m).engine t o))
-
-  stamps_of : (z : Federation) → Facts z → (t m : ℕ) → StampsIn (length (z.member m).engine.installed) (operations_of (z.member m).engine t)
-  stamps_of z f t m = by (look (z.member m).engine.active t) refl
-    where
-      by : (o : Option (List Operation)) → look (z.member m).engine.active t ≡ o → StampsIn (length (z.member m).engine.installed) (operations_of (z.member m).engine t)
-      by None e = subst (λ k. StampsIn (length (z.member m).engine.installed) (operations_in k)) (sym e) tt
-      by (Some os) e = subst (λ k. StampsIn (length (z.member m).engine.installed) (operations_in k)) (sym e) ((f.members m).active t os e).stamps
-
-  stamp_in : (z : Federation) → Facts z → (t m : ℕ) → snapshot_of (z.member m).engine t ≤ length (z.member m).engine.installed
-  stamp_in z f t m = snapshot_in (z.member m).engine.kind (length (z.member m).engine.installed) (operations_of (z.member m).engine t) (stamps_of z f t m)
-
   -- who is not installed in a trace is not committed
   not_committed : (front back : List Act) → acts ≡ front ++ back → (m u : ℕ) → installs (acts_trace front) m u ≡ false → holds (run_acts front s).used u ≡ false → holds ((run_acts front s).member m).committed u ≡ false
   not_committed front back e m u none unused = false_from_ne_true _ (λ c. by ((traced_at front back e).was_installed u m c))
@@ -203,18 +183,6 @@ module _ (kinds : List Kind) (s : Federation) (fresh : Fresh kinds s) (acts : Li
       by : (installs (acts_trace front) m u ≡ true) ⊎ (holds (run_acts front s).used u ≡ true) → ⊥
       by (inl i) = let z : true ≡ false = sym i ∙ none in cc
       by (inr i) = let z : true ≡ false = sym i ∙ unused in cc
-
-  -- what an active transaction has after an operation, by its stamp
-  seen_now : (Good : List Operation → ℕ → Type 0) (z : Federation) → Facts z → (t u m : ℕ) (o : Op) → Guard z (Operate t m o) →
-      Good (record { op = o; stamp = snapshot_of (z.member m).engine t } ∷ operations_of (z.member m).engine t) (snapshot_of (z.member m).engine t) →
-      (holds (z.member m).committed u ≡ true → since (z.member m).engine.installed (snapshot_of (z.member m).engine t) u ≡ true) → Seen Good t u m (effect z (Operate t m o))
-  seen_now Good z f t u m o gd good after =
-      record {
-        worked = counts_now z f t m o gd;
-        seen = subst (SeenAt Good t u) (sym (member_now z t m o)) (λ os a.
-            let same : record { op = o; stamp = snapshot_of (z.member m).engine t } ∷ operations_of (z.member m).engine t ≡ os = in_some (sym (put_here (z.member m).engine.active t _) ∙ a) in
-            (snapshot_of (z.member m).engine t, subst (λ k. Good k (snapshot_of (z.member m).engine t)) same good, stamp_in z f t m, after));
-      }
 
   -- a read, and an install that it does not see
   unread_now : (t u m : ℕ) (key : List ℕ) (o : Op) (span : Span) (front back : List Act) → acts ≡ front ++ Moves (Operate t m o) ∷ back → span_read o ≡ Some span → span_has span key ≡ true →
