@@ -1,4 +1,7 @@
 //! The words of the command line.
+ghost use Rattle.std.specs.Prelude.{◌≡◌, ◌≢◌, ◌≤◌, None, IfSome, length};
+ghost use Rattle.co_bench.specs.Words.{IsLoad};
+
 use crate::load::Load;
 use co_base::Kind;
 
@@ -29,15 +32,20 @@ pub fn which_of(word: &str) -> Option<Which> {
 }
 
 /// The number of a word, from 1 to some greatest one.
-fn number_of(word: &String, most: u32) -> Option<u32> {
+fn number_of(word: &String, most: u32) -> Option<u32>
+    ensures { IfSome result (λ number. (1 ≤ number) × (number ≤ most)) }
+{
     match word.as_str().parse::<u32>() {
         Ok(number) if 0 < number && number <= most => Some(number),
         _ => None,
     }
 }
 
-/// The load of the words behind the engine.
-pub fn load_of(words: &[String]) -> Option<Load> {
+/// The load of the four words behind the engine: none where there are not four, or one is no number in its bounds.
+pub fn load_of(words: &[String]) -> Option<Load>
+    ensures bounds { IfSome result IsLoad }
+    ensures words { length words.now ≢ 4 → result ≡ None }
+{
     let [operations, transactions, keys, span] = words else {
         return None;
     };
