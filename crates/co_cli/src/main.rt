@@ -1,11 +1,17 @@
-//! Replays a schedule: `co_cli run DIR` reads it from standard input and writes the transcript to
-//! standard output and a note of how it ended to standard error.
+//! Replays a schedule, or writes the durable records of a directory of logs.
+//!
+//! `co_cli run DIR` reads a schedule from standard input and writes its transcript to standard output;
+//! `co_cli records DIR` writes the records that the logs in the directory give. A note of how it
+//! ended goes to standard error.
 #![tactic(auto)]
 
-use co_outside::{SinkStd, SourceStd};
+use co_outside::{HomeStd, SinkStd, SourceStd};
 use co_top::run;
 use std::process::ExitCode;
 use std::{env, io};
+
+#[cfg(test)]
+mod tests;
 
 fn main(rt: HostRuntime) -> io::Result<ExitCode> {
     let alloc = rt.alloc();
@@ -16,6 +22,14 @@ fn main(rt: HostRuntime) -> io::Result<ExitCode> {
     let mut source = SourceStd::new(rt.stdin());
     let mut out = SinkStd::new(rt.stdout());
     let mut notes = SinkStd::new(rt.stderr());
-    let status = run(alloc, words.as_slice(), &mut source, &mut out, &mut notes);
+    let mut home = HomeStd::new(rt);
+    let status = run(
+        alloc,
+        words.as_slice(),
+        &mut source,
+        &mut out,
+        &mut notes,
+        &mut home,
+    );
     Ok(ExitCode::from(status.code()))
 }

@@ -4,3 +4,4 @@ pub mod Lines
 pub mod Heads
 pub mod OneReplay
 pub mod Ending
+pub mod Recording

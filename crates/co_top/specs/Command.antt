@@ -1,17 +1,40 @@
--- The words of the command line.
-use Rattle.std.specs.Prelude.{ℕ, Bool, true, false, not, ◌==◌, ◌&&◌, nat_eq, List, [], ◌∷◌, codes}
+-- The words of the command line: a command and the name of a directory.
+use Rattle.std.specs.Prelude.{ℕ, Bool, true, false, not, ◌==◌, ◌≡◌, ◌&&◌, ◌||◌, nat_eq, List, [], ◌∷◌, codes}
 use Rattle.std.specs.Cmp.Lexicographic.{pointwise}
 use Rattle.std.specs.declared.string.String.{String}
 use Rattle.std.specs.String.{string_bytes}
+use Rattle.co_top.specs.declared.words.Command.{Command}
+use Rattle.co_top.specs.declared.words.Command.TheVariants.{Run, Records, Unknown}
 
 -- at least one byte, and the first one is no dash
 abbrev pub is_directory : List ℕ → Bool
 is_directory [] = false
 is_directory (b ∷ bs) = not (b == 45)
 
--- `run` and the name of a directory, and nothing else
+-- this command and the name of a directory, and nothing else
+abbrev pub asks : {A : Type 0} → List ℕ → List (String A) → Bool
+asks command [] = false
+asks command (word ∷ []) = false
+asks command (word ∷ directory ∷ []) = pointwise nat_eq (string_bytes word) command && is_directory (string_bytes directory)
+asks command (word ∷ directory ∷ other ∷ words) = false
+
 abbrev pub is_run : {A : Type 0} → List (String A) → Bool
-is_run [] = false
-is_run (command ∷ []) = false
-is_run (command ∷ directory ∷ []) = pointwise nat_eq (string_bytes command) (codes "run") && is_directory (string_bytes directory)
-is_run (command ∷ directory ∷ word ∷ words) = false
+is_run words = asks (codes "run") words
+
+abbrev pub is_records : {A : Type 0} → List (String A) → Bool
+is_records words = asks (codes "records") words
+
+abbrev pub is_command : {A : Type 0} → List (String A) → Bool
+is_command words = is_run words || is_records words
+
+-- the second word
+abbrev pub directory_of : {A : Type 0} → List (String A) → List ℕ
+directory_of [] = []
+directory_of (word ∷ []) = []
+directory_of (word ∷ directory ∷ words) = string_bytes directory
+
+-- the command that the words are
+abbrev pub IsCommand : {A : Type 0} → List (String A) → Command → Type 0
+IsCommand words Run = (is_run words ≡ true) × (is_records words ≡ false)
+IsCommand words (Records directory) = (is_run words ≡ false) × (is_records words ≡ true) × (directory.now ≡ directory_of words)
+IsCommand words Unknown = (is_run words ≡ false) × (is_records words ≡ false)

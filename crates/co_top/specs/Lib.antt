@@ -4,3 +4,4 @@ pub mod Input
 pub mod Rigorous
 pub mod FirstPath
 pub mod Ends
+pub mod Records

@@ -1,0 +1,7 @@
+use Rattle.std.proofs.Common.{sym, subst}
+use Rattle.co_top.specs.Records.{HasCause}
+use Rattle.co_top.proofs.Recording.{cause_of}
+use Rattle.co_top.proofs.records.records.Goals as goal
+
+pub returns-clause-cause : goal.returns-clause-cause
+returns-clause-cause g c = subst (HasCause (g.H.Home.file c.args.home.now)) (sym c.status_of_records.ensures) (cause_of (g.H.Home.file c.args.home.now) c.write_records-written.result c.write_records-written.ensures.refused)

@@ -1,0 +1,47 @@
+-- How the writing of durable records ends, and what is written then.
+use Rattle.std.specs.Prelude.{ℕ, ◌≡◌, ◌⊎◌, List, ◌++◌, Option, Some, Result, Ok, Err}
+use Rattle.co_outside.specs.declared.spot.Spot.{Spot}
+use Rattle.co_outside.specs.Home.{File}
+use Rattle.co_world.specs.declared.durable.DurableRow.{DurableRow}
+use Rattle.co_world.specs.declared.fault.WorldFault.TheVariants as world
+use Rattle.co_world.specs.declared.writing.RecordsFault.{RecordsFault}
+use Rattle.co_world.specs.declared.writing.RecordsFault.TheVariants as records
+use Rattle.co_world.specs.Durable.{IsDurable, IsUndurable}
+use Rattle.co_world.specs.Text.{records_text}
+use Rattle.co_world.specs.Written.{TookFront}
+use Rattle.co_top.specs.declared.status.LimitKind.TheVariants as limit
+use Rattle.co_top.specs.declared.status.Status.{Status}
+use Rattle.co_top.specs.declared.status.Status.TheVariants as status
+
+-- the status that stands for a fault, or for none
+abbrev pub status_of_records : Result (Unit {0}) RecordsFault → Status
+status_of_records (Ok written) = status.Done
+status_of_records (Err records.Write) = status.Write
+status_of_records (Err (records.Device spot)) = status.Device spot
+status_of_records (Err (records.Bad spot at)) = status.BadLog spot at
+status_of_records (Err (records.Full spot)) = status.Limit (limit.Log spot)
+status_of_records (Err records.Memory) = status.Memory
+
+-- The cause of a status, by the files of 16 members and 8 coordinators where the home tells them. No line is read, so no status of lines comes.
+abbrev pub HasCause : (Spot → Option File) → Status → Type 0
+HasCause file status.Done = Unit {0}
+HasCause file status.Usage = ⊥
+HasCause file status.Read = ⊥
+HasCause file status.Write = Unit {0}
+HasCause file (status.Device spot) = (spot ≡ record { node = 1; part = 0 }) ⊎ IsUndurable file 16 8 (world.Device spot)
+HasCause file (status.BadLog spot at) = IsUndurable file 16 8 (world.Bad spot at)
+HasCause file (status.Limit (limit.Log spot)) = IsUndurable file 16 8 (world.Full spot)
+HasCause file status.Memory = Unit {0}
+HasCause file (status.NotBuilt line) = ⊥
+
+-- What a sink holds then that held this before: the text of the durable records, or a front of it, or nothing of it.
+abbrev pub HoldsRecords : (Spot → Option File) → List ℕ → Option (List ℕ) → Status → Type 0
+HoldsRecords file held told status.Done = (rows : List DurableRow) × IsDurable file 16 8 rows × (told ≡ Some (held ++ records_text rows))
+HoldsRecords file held told status.Usage = ⊥
+HoldsRecords file held told status.Read = ⊥
+HoldsRecords file held told status.Write = TookFront file held told
+HoldsRecords file held told (status.Device spot) = told ≡ Some held
+HoldsRecords file held told (status.BadLog spot at) = told ≡ Some held
+HoldsRecords file held told (status.Limit kind) = told ≡ Some held
+HoldsRecords file held told status.Memory = (told ≡ Some held) ⊎ TookFront file held told
+HoldsRecords file held told (status.NotBuilt line) = ⊥

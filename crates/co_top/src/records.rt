@@ -1,0 +1,43 @@
+//! The durable records of a directory of logs.
+ghost use Rattle.std.specs.Prelude.{◌≡◌, ℕ, List, Some};
+ghost use Rattle.co_outside.specs.declared.spot.Spot.{Spot};
+ghost use Rattle.co_outside.specs.Faults.{HasRisen};
+ghost use Rattle.co_disk.specs.Homes.{HasFailed};
+ghost use Rattle.co_top.specs.Records.{status_of_records, HasCause, HoldsRecords};
+
+use crate::status::{LimitKind, Status};
+use co_outside::{Home, Sink};
+use co_world::{RecordsFault, write_records};
+use std::alloc::Global;
+
+/// The status that stands for how the records were written.
+fn status_of_records(written: Result<(), RecordsFault>) -> Status
+    ensures { result ≡ status_of_records written }
+{
+    match written {
+        Ok(()) => Status::Done,
+        Err(RecordsFault::Write) => Status::Write,
+        Err(RecordsFault::Device { spot }) => Status::Device { spot },
+        Err(RecordsFault::Bad { spot, at }) => Status::BadLog { spot, at },
+        Err(RecordsFault::Full { spot }) => Status::Limit(LimitKind::Log { spot }),
+        Err(RecordsFault::Memory) => Status::Memory,
+    }
+}
+
+/// Writes the durable records of all logs in a directory. No file is changed.
+pub(crate) fn records<K: Sink, H: Home>(
+    alloc: Global,
+    directory: &str,
+    out: &mut K,
+    home: &mut H,
+) -> Status
+    ensures cause { HasCause (H.file home.old) result }
+    ensures durable { (held : List ℕ) → K.told out.old ≡ Some held → HoldsRecords (H.file home.old) held (K.told out.new) result }
+    ensures write { result ≡ Status.Write → HasRisen (K.faults out.old) (K.faults out.new) }
+    ensures device { (spot : Spot) → result ≡ Status.Device spot → HasFailed H.faults H.last_failed spot home.old home.new }
+    ensures files { (s : Spot) → H.file home.new s ≡ H.file home.old s }
+    ensures entered { result ≡ Status.Done → H.entered home.new ≡ Some directory.now }
+{
+    let written = write_records(alloc, home, directory, out);
+    status_of_records(written)
+}
