@@ -132,7 +132,7 @@ module _ {K : Type 0} {R : K → K → Ordering} (o : IsTotalOrder R) (same : Is
     find_below q [] h = refl
     find_below q (e ∷ es) h = ap (λ r. cond (is_eq r) (Some e.1) (find R q es)) (less _ (first _ _ h)) ∙ find_below q es (second _ _ h)
 
-    record Passed (es : List (K × Holders)) : Type 0 where
+    pub record Passed (es : List (K × Holders)) : Type 0 where
       pub key : K
       pub passes : p key ≡ true
       pub held : holder_in (find R key es) u ≡ true
@@ -156,7 +156,7 @@ module _ {K : Type 0} {R : K → K → Ordering} (o : IsTotalOrder R) (same : Is
     passed_by e es true is k f g = passed_head e es (holds e.1.txns u) refl is k f g
     passed_by e es false is k f g = later e es k (g f)
 
-    passed : (es : List (K × Holders)) → T (is_sorted R es) → passing es ≡ true → Passed es
+    pub passed : (es : List (K × Holders)) → T (is_sorted R es) → passing es ≡ true → Passed es
     passed [] h e = absurd (true≢false (sym e))
     passed (f ∷ es) h e = passed_by f es (p f.0) refl (first _ _ h) e (passed es (second _ _ h))
 

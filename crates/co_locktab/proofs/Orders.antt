@@ -19,12 +19,12 @@ keys_apart = slice_cmp-IsAntisymmetric nat_cmp-IsAntisymmetric
 pub spans_total : IsTotalOrder span_cmp
 spans_total = Prim.search (comparing, rules)
 
-then_left : (r s : Ordering) → ordering_then r s ≡ Equal → r ≡ Equal
+pub then_left : (r s : Ordering) → ordering_then r s ≡ Equal → r ≡ Equal
 then_left Less s e = e
 then_left Equal s e = refl
 then_left Greater s e = e
 
-then_right : (r s : Ordering) → r ≡ Equal → ordering_then r s ≡ Equal → s ≡ Equal
+pub then_right : (r s : Ordering) → r ≡ Equal → ordering_then r s ≡ Equal → s ≡ Equal
 then_right r s e f = ap (λ q. ordering_then q s) (sym e) ∙ f
 
 pub spans_apart : IsAntisymmetric span_cmp

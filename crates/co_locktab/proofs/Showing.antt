@@ -1,5 +1,5 @@
 -- Locks stand where they are looked for, after one more and after the end of some.
-use Rattle.std.proofs.Common.{◌≡◌, ℕ, Bool, true, false, cond, not, ◌&&◌, ◌||◌, List, [], ◌∷◌, ◌++◌, if◌then◌else◌, refl, sym, ap, ◌∙◌, subst, true≢false}
+use Rattle.std.proofs.Common.{◌≡◌, ℕ, Bool, true, false, cond, not, ◌&&◌, ◌||◌, List, [], ◌∷◌, ◌++◌, if◌then◌else◌, refl, sym, ap, ◌∙◌, subst, true≢false, Result, Ok, Err, OnOk}
 use Rattle.std.specs.declared.cmp.Ordering.{Ordering}
 use Rattle.std.specs.List.{list_any}
 use Rattle.std.specs.Ordering.{eq_by_cmp}
@@ -78,3 +78,7 @@ not_wide_ties s w q = by (same_span q s) refl
 -- a lock that was not held yet is taken
 pub taken : (table : LockTable) (locks more : Locks) (held : Bool) → held ≡ false → Shows table more → Shows table (if held then locks else more)
 taken table locks more held e s = subst (λ (b : Bool). Shows table (if b then locks else more)) (sym e) s
+
+pub both_ok : {X E : Type 0} (r : Result X E) {A B C : Type 0} → (A → B → C) → OnOk r A → OnOk r B → OnOk r C
+both_ok (Ok x) f h k = f h k
+both_ok (Err e) f h k = tt

@@ -26,5 +26,6 @@ returns c = λ locks s.
       writers_are = λ k u. ap (λ m. is_held m k u) e ∙ stands_more keys_total keys_apart table.writers locks.writes t (λ q. true) same_key s.writers_are key key (λ q. refl) k u;
       readers_are = s.readers_are;
       wide_readers_are = s.wide_readers_are;
+      wide_readers_found = s.wide_readers_found;
     }))
     c.add.ensures

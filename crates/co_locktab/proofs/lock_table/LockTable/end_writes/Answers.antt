@@ -18,4 +18,5 @@ returns c = λ locks s.
           ∙ stands_ended keys_total keys_apart table.writers locks.writes t (λ q. true) same_key s.writers_are (or_none (look locks.writes t)) (λ q h e. h) k u;
       readers_are = s.readers_are;
       wide_readers_are = s.wide_readers_are;
+      wide_readers_found = s.wide_readers_found;
     }

@@ -17,6 +17,7 @@ returns c = record {
   writes_are = c.new-5.ensures;
   writers_are = λ key t. ap (λ m. is_held m key t) c.new.ensures ∙ held_nowhere keys_total keys_apart key t ∙ sym (any_none (same_key key) t);
   readers_are = λ key t. ap (λ m. is_held m key t) c.new-2.ensures ∙ held_nowhere keys_total keys_apart key t ∙ sym (any_none (same_span (span_of_key key)) t);
-  wide_readers_are = λ span t. ap (λ m. is_held m span t) c.new-3.ensures ∙ held_nowhere spans_total spans_apart span t
+  wide_readers_are = λ span t. ap (λ m. is_held m span t) c.new-3.ensures.held ∙ held_nowhere spans_total spans_apart span t
       ∙ sym (ap (λ b. is_wide span && b) (any_none (same_span span) t) ∙ and_false (is_wide span));
+  wide_readers_found = c.new-3.ensures.indexed;
 }
