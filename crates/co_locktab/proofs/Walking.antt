@@ -120,8 +120,8 @@ module _ (m : FinMap span_cmp Holders) (key : List ℕ) (t : ℕ) where
   holds_one span u has e =
       let h : (not (u == t) && is_held m span u) ≡ true = (subst (λ (o : Option ℕ). IsLeast (λ v. not (v == t) && is_held m span v) o) e (least_in_lock spans_total spans_apart m span t)).0 in
       let p : list_any (λ e. holds e.1.txns u) (filter (λ e. span_has e.0 key) (entries m)) ≡ true =
-          passes_with spans_total spans_apart (λ s. span_has s key) u (entries m) span has
-          (ap (λ (o : Option Holders). holder_in o u) (sym (get-entries m span)) ∙ right_true (not (u == t)) (is_held m span u) h) in
+      passes_with spans_total spans_apart (λ s. span_has s key) u (entries m) span has
+      (ap (λ (o : Option Holders). holder_in o u) (sym (get-entries m span)) ∙ right_true (not (u == t)) (is_held m span u) h) in
       λ i. left_true (not (u == t)) (is_held m span u) h i && p i
 
   weighs_right : (least : Option ℕ) (span : Span) (u : ℕ) → weigh_one least span ≡ Some u → (least ≡ Some u) ⊎ (holds_over m key t u ≡ true)
@@ -312,9 +312,9 @@ module _ {A : Type 0} {R : A → A → Ordering} (o : IsTotalOrder R) (same : Is
       let test : Place A → Bool = λ p. is_lt (place_cmp R (record { fork = fork; range = None }) p) && true in
       let all : T (keys_sorted (place_cmp R) set.keys) = sorted_keys (place_cmp R) set.keys ordered in
       let w : Walked R val m key t fork before (walk reaches (λ l x. weigh_one m key t l (val x)) fork before (filter test set.keys)) (filter test set.keys) =
-          walked o same val reaches m key t fork out has_reach (filter test set.keys) before (behind (place_cmp R) start set.keys) (sorted_part (place_cmp R) test set.keys all) in
+      walked o same val reaches m key t fork out has_reach (filter test set.keys) before (behind (place_cmp R) start set.keys) (sorted_part (place_cmp R) test set.keys all) in
       let v : walk reaches (λ l x. weigh_one m key t l (val x)) fork before (filter test set.keys) ≡ after =
-          ap (walk reaches (λ l x. weigh_one m key t l (val x)) fork before) (sym part) ∙ is in
+      ap (walk reaches (λ l x. weigh_one m key t l (val x)) fork before) (sym part) ∙ is in
       record {
         keeps = λ u e. ap (λ (l : Option ℕ). covers l u) (sym v) ∙ w.keeps u e;
         right = λ u e. w.right u (v ∙ e);

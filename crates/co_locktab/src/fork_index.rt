@@ -76,12 +76,22 @@ impl ForkIndex {
     }
 
     /// The least other holder of the ranges at a fork that have a key which is below all their upper bounds.
-    pub fn least_from_below(&self, held: &RangeHolders, fork: Fork, key: &Key, t: Txn, before: Option<Txn>) -> Option<Txn>
+    pub fn least_from_below(
+        &self,
+        held: &RangeHolders,
+        fork: Fork,
+        key: &Key,
+        t: Txn,
+        before: Option<Txn>,
+    ) -> Option<Txn>
         ensures { Weighs held.now key.now t before result (λ s. contains by_lower self.now.lower (record { fork = fork; range = Some s }) ≡ true) }
     {
         let mut least = before;
         let start = Place::before(fork);
-        for place in self.lower.range((Bound::Excluded(&start), Bound::Unbounded)) {
+        for place in self
+            .lower
+            .range((Bound::Excluded(&start), Bound::Unbounded))
+        {
             let Some(range) = place.range_at(&fork) else {
                 return least;
             };
@@ -96,12 +106,22 @@ impl ForkIndex {
     }
 
     /// The least other holder of the ranges at a fork that have a key which is above all their lower bounds.
-    pub fn least_from_above(&self, held: &RangeHolders, fork: Fork, key: &Key, t: Txn, before: Option<Txn>) -> Option<Txn>
+    pub fn least_from_above(
+        &self,
+        held: &RangeHolders,
+        fork: Fork,
+        key: &Key,
+        t: Txn,
+        before: Option<Txn>,
+    ) -> Option<Txn>
         ensures { Weighs held.now key.now t before result (λ s. contains by_upper self.now.upper (record { fork = fork; range = Some (record { range = s }) }) ≡ true) }
     {
         let mut least = before;
         let start = Place::before(fork);
-        for place in self.upper.range((Bound::Excluded(&start), Bound::Unbounded)) {
+        for place in self
+            .upper
+            .range((Bound::Excluded(&start), Bound::Unbounded))
+        {
             let Some(by_upper) = place.range_at(&fork) else {
                 return least;
             };

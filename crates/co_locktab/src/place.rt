@@ -7,7 +7,6 @@ ghost use Rattle.std.specs.Cmp.Rules.{comparing};
 ghost use Rattle.std.proofs.Common.{rules};
 ghost use Rattle.co_base.specs.Order.{key_cmp};
 ghost use Rattle.co_locktab.specs.Upper.{upper_cmp};
-
 ghost use Rattle.co_locktab.specs.Places.{same_fork};
 
 use crate::fork::Fork;

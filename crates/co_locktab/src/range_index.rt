@@ -53,7 +53,14 @@ impl RangeIndex {
 
     /// The least other holder of the ranges with a key whose bounds part behind its first bytes, at a block that
     /// has its next byte.
-    fn least_behind(&self, prefix: &[u8], byte: u8, key: &Key, t: Txn, before: Option<Txn>) -> Option<Txn>
+    fn least_behind(
+        &self,
+        prefix: &[u8],
+        byte: u8,
+        key: &Key,
+        t: Txn,
+        before: Option<Txn>,
+    ) -> Option<Txn>
         requires { length prefix.now ≤ 32 }
         ensures { IsIndexed self.now.held self.now.forks
             → Weighs self.now.held key.now t before result (λ s. (height : ℕ) × (height < 8) × (fork_of s ≡ fork_at prefix.now height byte)) }
@@ -72,9 +79,11 @@ impl RangeIndex {
         ensures { IsIndexed self.now.held self.now.forks → Weighs self.now.held key.now t before result (λ s. fork_of s ≡ fork) }
     {
         if byte < fork.middle {
-            self.forks.least_from_below(&self.held, fork, key, t, before)
+            self.forks
+                .least_from_below(&self.held, fork, key, t, before)
         } else {
-            self.forks.least_from_above(&self.held, fork, key, t, before)
+            self.forks
+                .least_from_above(&self.held, fork, key, t, before)
         }
     }
 

@@ -12,7 +12,7 @@ pub returns-in_default-clause-ended : goal.returns-in_default-clause-ended
 returns-in_default-clause-ended c =
     let range = c.args.range.now in
     let gone : is_some (get c.args.self.now range) ≡ false =
-        ap is_some (sym (c.in_default.ensures.value ∙ sym (view-get spans_total c.self.inside.map.entries range) ∙ ap (λ m. get m range) c.self.view_is)) in
+    ap is_some (sym (c.in_default.ensures.value ∙ sym (view-get spans_total c.self.inside.map.entries range) ∙ ap (λ m. get m range) c.self.view_is)) in
     sym (ap (λ (b : Bool). if b then Some range else None) gone)
 
 pub returns-clause-rest : goal.returns-clause-rest
@@ -22,5 +22,5 @@ pub returns-clause-ended : goal.returns-clause-ended
 returns-clause-ended c =
     let range = c.args.range.now in
     let there : is_some (get c.args.self.now range) ≡ true =
-        ap is_some (sym (c.in-Some.ensures.value ∙ sym (view-get spans_total c.self.inside.map.entries range) ∙ ap (λ m. get m range) c.self.view_is)) in
+    ap is_some (sym (c.in-Some.ensures.value ∙ sym (view-get spans_total c.self.inside.map.entries range) ∙ ap (λ m. get m range) c.self.view_is)) in
     sym (ap (λ (b : Bool). if b then Some range else None) there ∙ ap Some (spans_apart range c.in-Some.forgotten c.in-Some.ensures.same_key))

@@ -15,9 +15,9 @@ loop-shared-preserved c = λ x.
     let least = c.loop-shared.least in
     let result = c.least_behind-least.result in
     let w : Weighs held key c.args.t least result (SeenBehind (take shared c.text-text.result.now) (byte_at c.text-text.result.now shared) 8) =
-        subst (λ (b : ℕ). Weighs held key c.args.t least result (SeenBehind (take shared c.text-text.result.now) b 8)) c.byte_at.ensures (c.least_behind-least.ensures x) in
+    subst (λ (b : ℕ). Weighs held key c.args.t least result (SeenBehind (take shared c.text-text.result.now) b 8)) c.byte_at.ensures (c.least_behind-least.ensures x) in
     let v : Weighs held key c.args.t least result (SeenBehind (take shared key) (byte_at key shared) 8) =
-        subst (λ (text : List ℕ). Weighs held key c.args.t least result (SeenBehind (take shared text) (byte_at text shared) 8)) c.text-text.ensures.value w in
+    subst (λ (text : List ℕ). Weighs held key c.args.t least result (SeenBehind (take shared text) (byte_at text shared) 8)) c.text-text.ensures.value w in
     weighs_more held key c.args.t None least result (SeenUpTo key shared) (SeenBehind (take shared key) (byte_at key shared) 8) (SeenUpTo key (shared + 1)) (c.loop-shared.invariant x) v (more_up_to key shared)
 
 pub returns : goal.returns
