@@ -1,14 +1,14 @@
 -- The index of ranges after one more and one less, and what it finds.
-use Rattle.std.proofs.Common.{◌≡◌, ◌⊎◌, inl, inr, ℕ, Bool, true, false, cond, not, ◌&&◌, ◌||◌, ◌≤◌, ◌<◌, ◌+◌, List, [], ◌∷◌, if◌then◌else◌, Option, None, Some, is_some, length, take, refl, sym, ap, ◌∙◌, subst, true≢false, arith}
+use Rattle.std.proofs.Common.{◌≡◌, ◌⊎◌, inl, inr, ℕ, Bool, true, false, cond, not, ◌&&◌, ◌||◌, ◌≤◌, ◌<◌, ◌+◌, List, if◌then◌else◌, Option, None, Some, is_some, length, take, refl, sym, ap, ◌∙◌, subst, true≢false, arith}
 use Rattle.std.specs.Prelude.{◌==◌, nat_le, nat_lt, filter}
 use Rattle.std.specs.List.{list_any}
-use Rattle.co_locktab.proofs.Holding.{Passed, passed}
+use Rattle.co_locktab.proofs.Holding.{passed}
 use Rattle.co_state.specs.Table.{holds}
-use Rattle.std.specs.BTreeSet.{BTreeSet, contains}
+use Rattle.std.specs.BTreeSet.{contains}
 use Rattle.std.specs.Ordering.{eq_by_cmp, is_eq, ordering_then, ordering_reverse}
 use Rattle.std.specs.Option.{option_cmp}
-use Rattle.std.specs.Cmp.{IsTotalOrder, eq_by_cmp_equiv, both_ways}
-use Rattle.std.specs.FinMap.{FinMap, get, insert, remove, empty, get-insert, get-remove, get-empty, get-entries, entries, entries_sorted, IsAntisymmetric}
+use Rattle.std.specs.Cmp.{IsTotalOrder}
+use Rattle.std.specs.FinMap.{FinMap, get, remove, empty, get-insert, get-remove, get-empty, get-entries, entries, entries_sorted}
 use Rattle.std.proofs.lemmas.Bool.Decides.{nat_tests}
 use Rattle.std.specs.declared.cmp.Ordering.{Ordering}
 use Rattle.std.specs.declared.cmp.Ordering.TheVariants.{Less, Equal, Greater}
@@ -21,13 +21,13 @@ use Rattle.co_locktab.specs.declared.holders.Holders.{Holders}
 use Rattle.co_locktab.specs.declared.place.ByUpper.{ByUpper}
 use Rattle.co_locktab.specs.declared.place.Place.{Place}
 use Rattle.co_locktab.specs.Forks.{fork_of, fork_at, byte_at, IsOnPath}
-use Rattle.co_locktab.specs.Holding.{is_held, holder_in, is_left, changed, left, left_at, held_by, with_holder, settled, without_holder, joined, one_holder}
+use Rattle.co_locktab.specs.Holding.{is_held, holder_in, is_left, changed, left, left_at, held_by, with_holder, without_holder, joined, one_holder}
 use Rattle.co_locktab.specs.Locks.{IsLeast, same_span}
 use Rattle.co_locktab.specs.Places.{fork_cmp, same_fork, by_lower, by_upper, lower_place, upper_place, is_placed, spanned, IsIndexed}
 use Rattle.co_locktab.specs.Weighed.{Weighs, holds_over, covers}
 use Rattle.co_locktab.proofs.Orders.{spans_total, spans_apart, tied, ties-itself}
 use Rattle.co_locktab.proofs.Placing.{forks_total, forks_apart}
-use Rattle.co_locktab.proofs.Least.{left_true, right_true, and_false, or_true}
+use Rattle.co_locktab.proofs.Least.{left_true, right_true, and_false}
 
 -- ---- places tie where their ranges and their forks do
 both_eq : (r s : Ordering) → is_eq (ordering_then r s) ≡ (is_eq r && is_eq s)

@@ -1,18 +1,16 @@
 -- Places are totally ordered, and those that tie are equal.
-use Rattle.std.proofs.Common.{◌≡◌, Bool, true, false, List, Option, None, Some, refl, sym, ap, ◌∙◌, rules}
+use Rattle.std.proofs.Common.{None, Some, refl, sym, ap, rules}
 use Rattle.std.specs.Option.{option_cmp}
-use Rattle.std.specs.Ordering.{ordering_then, nat_cmp}
+use Rattle.std.specs.Ordering.{nat_cmp}
 use Rattle.std.specs.Cmp.{IsTotalOrder, then_total, on_total}
 use Rattle.std.specs.Cmp.Lexicographic.{options_total}
 use Rattle.std.specs.Cmp.Rules.{comparing}
 use Rattle.std.specs.FinMap.{IsAntisymmetric, nat_cmp-IsAntisymmetric}
 use Rattle.std.specs.declared.cmp.Ordering.{Ordering}
-use Rattle.std.specs.declared.cmp.Ordering.TheVariants.{Less, Equal, Greater}
 use Rattle.co_base.specs.Order.{key_cmp}
-use Rattle.co_locktab.specs.declared.place.ByUpper.{ByUpper}
-use Rattle.co_locktab.specs.Places.{fork_cmp, place_cmp, by_lower, by_upper}
+use Rattle.co_locktab.specs.Places.{fork_cmp, place_cmp}
 use Rattle.co_locktab.specs.Upper.{upper_cmp}
-use Rattle.co_locktab.proofs.Orders.{then_left, then_right, keys_apart, spans_total, spans_apart}
+use Rattle.co_locktab.proofs.Orders.{then_left, then_right, keys_apart}
 
 pub forks_total : IsTotalOrder fork_cmp
 forks_total = Prim.search (comparing, rules)

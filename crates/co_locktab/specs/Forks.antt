@@ -1,7 +1,7 @@
 -- Where the two bounds of a range part, and on which such places a key can lie: the virtual backbone of Kriegel,
 -- Poetke and Seidl ("Managing intervals efficiently in object-relational databases", 2000), over keys in place of
 -- numbers.
-use Rattle.std.specs.Prelude.{ℕ, zero, suc, ◌+◌, ◌*◌, ◌/◌, ◌^◌, ◌-◌, ◌<◌, ◌≤◌, ◌≡◌, Bool, ◌==◌, List, [], ◌∷◌, ◌++◌, length, take, drop, replicate, slice_index, if◌then◌else◌}
+use Rattle.std.specs.Prelude.{ℕ, zero, suc, ◌+◌, ◌*◌, ◌/◌, ◌^◌, ◌<◌, ◌≤◌, ◌≡◌, Bool, ◌==◌, List, ◌++◌, length, take, drop, replicate, slice_index, if◌then◌else◌}
 use Rattle.std.specs.List.{take_while, zip}
 use Rattle.co_base.specs.Span.{Span}
 use Rattle.co_locktab.specs.declared.fork.Fork.{Fork}

@@ -1,9 +1,9 @@
 -- Ranges at their forks, in the orders in which they are kept.
-use Rattle.std.specs.Prelude.{ℕ, List, Bool, false, ◌&&◌, ◌≡◌, true, Option, None, Some, is_some, if◌then◌else◌}
-use Rattle.std.specs.Ordering.{on, then_cmp, flip_args, nat_cmp, eq_by_cmp}
+use Rattle.std.specs.Prelude.{ℕ, List, Bool, false, ◌&&◌, ◌≡◌, true, Option, None, Some, is_some}
+use Rattle.std.specs.Ordering.{on, then_cmp, nat_cmp, eq_by_cmp}
 use Rattle.std.specs.Option.{option_cmp}
 use Rattle.std.specs.declared.cmp.Ordering.{Ordering}
-use Rattle.std.specs.BTreeSet.{BTreeSet, contains}
+use Rattle.std.specs.BTreeSet.{contains}
 use Rattle.std.specs.FinMap.{FinMap, get}
 use Rattle.co_base.specs.Order.{key_cmp}
 use Rattle.co_base.specs.Span.{Span, span_cmp, span_has}

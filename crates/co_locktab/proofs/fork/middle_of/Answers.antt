@@ -1,4 +1,3 @@
-use Rattle.std.proofs.Common.{arith}
 use Rattle.co_locktab.proofs.Forking.{middle_fits}
 use Rattle.co_locktab.proofs.fork.middle_of.Goals as goal
 

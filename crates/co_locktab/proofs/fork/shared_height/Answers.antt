@@ -1,6 +1,6 @@
-use Rattle.std.proofs.Common.{arith, ◌∙◌, ◌<◌, ◌-◌, ◌≡◌, true, false, eq-eqb}
+use Rattle.std.proofs.Common.{arith, ◌∙◌, ◌<◌, ◌-◌, ◌≡◌, true, eq-eqb}
 use Rattle.co_locktab.specs.Forks.{one_block}
-use Rattle.co_locktab.proofs.Forking.{height_down, height_stays}
+use Rattle.co_locktab.proofs.Forking.{height_down}
 use Rattle.co_locktab.proofs.fork.shared_height.Goals as goal
 
 pub loop-height-preserved : goal.loop-height-preserved

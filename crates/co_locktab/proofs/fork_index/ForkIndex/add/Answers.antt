@@ -1,11 +1,7 @@
-use Rattle.std.proofs.Common.{◌≡◌, Bool, true, false, ◌||◌, cond, ap, ◌∙◌, refl, Some}
+use Rattle.std.proofs.Common.{◌≡◌, Bool, true, false, ◌||◌, cond, ◌∙◌, refl, Some}
 use Rattle.std.specs.BTreeSet.{contains}
 use Rattle.std.specs.Ordering.{eq_by_cmp}
-use Rattle.co_base.specs.Span.{Span}
-use Rattle.co_locktab.specs.declared.place.Place.{Place}
-use Rattle.co_locktab.specs.declared.place.ByUpper.{ByUpper}
-use Rattle.co_locktab.specs.Places.{by_lower, by_upper, lower_place, upper_place}
-use Rattle.co_locktab.proofs.Walking.{walk}
+use Rattle.co_locktab.specs.Places.{by_lower, by_upper}
 use Rattle.co_locktab.proofs.fork_index.ForkIndex.add.Goals as goal
 
 either : (b c : Bool) → cond b true c ≡ (b || c)

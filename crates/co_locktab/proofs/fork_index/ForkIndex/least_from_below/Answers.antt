@@ -1,12 +1,10 @@
-use Rattle.std.proofs.Common.{◌≡◌, ℕ, List, Option, Bool, true, false, not, ◌&&◌, refl, sym, ap, ◌∙◌, if◌then◌else◌, filter}
+use Rattle.std.proofs.Common.{ℕ, Option, Bool, true, not, ◌&&◌, refl, sym, ap, ◌∙◌, if◌then◌else◌, filter}
 use Rattle.std.specs.Ordering.{is_lt}
 use Rattle.co_base.specs.Order.{key_cmp}
 use Rattle.co_base.specs.Span.{Span}
 use Rattle.co_locktab.specs.declared.place.Place.{Place}
-use Rattle.co_locktab.specs.declared.place.ByUpper.{ByUpper}
 use Rattle.co_locktab.specs.Places.{by_lower}
 use Rattle.co_locktab.proofs.Orders.{spans_total, spans_apart}
-use Rattle.co_locktab.proofs.Placing.{upper_total, upper_apart}
 use Rattle.co_locktab.proofs.Walking.{walk, go_on, weigh_one, weighs, out_above, has_from}
 use Rattle.co_locktab.proofs.fork_index.ForkIndex.least_from_below.Goals as goal
 

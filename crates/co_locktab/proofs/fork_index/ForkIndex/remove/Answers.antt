@@ -1,7 +1,6 @@
-use Rattle.std.proofs.Common.{◌≡◌, Bool, true, false, ◌&&◌, not, cond, ap, ◌∙◌, refl, Some, Option, rules}
+use Rattle.std.proofs.Common.{◌≡◌, Bool, true, false, ◌&&◌, not, cond, ◌∙◌, refl, Some, rules}
 use Rattle.std.specs.BTreeSet.{contains}
 use Rattle.std.specs.Ordering.{eq_by_cmp}
-use Rattle.co_locktab.specs.declared.place.ByUpper.{ByUpper}
 use Rattle.co_locktab.specs.Places.{by_lower, by_upper}
 use Rattle.co_locktab.proofs.fork_index.ForkIndex.remove.Goals as goal
 

@@ -1,11 +1,10 @@
-use Rattle.std.proofs.Common.{◌≡◌, Bool, List, ℕ, true, false, ap, sym, refl, subst, ◌∙◌, ◌++◌, [], ◌∷◌, if◌then◌else◌}
-use Rattle.std.specs.List.{list_any}
-use Rattle.co_base.specs.Span.{Span, span_of_key}
+use Rattle.std.proofs.Common.{◌≡◌, true, false, ap, sym, ◌∙◌, ◌++◌, [], ◌∷◌}
+use Rattle.co_base.specs.Span.{span_of_key}
 use Rattle.co_state.proofs.Tables.{on_ok, put-without}
 use Rattle.co_state.specs.Table.{look, put}
 use Rattle.co_locktab.specs.Holding.{is_held, with_holder}
-use Rattle.co_locktab.specs.Locks.{Locks, or_none, read_by, same_span}
-use Rattle.co_locktab.specs.Shown.{Shows, is_wide}
+use Rattle.co_locktab.specs.Locks.{or_none, same_span}
+use Rattle.co_locktab.specs.Shown.{is_wide}
 use Rattle.co_locktab.proofs.Orders.{keys_total, keys_apart, spans_total, spans_apart}
 use Rattle.co_locktab.proofs.Locking.{not_a_key, narrow, span_ties}
 use Rattle.co_locktab.proofs.Showing.{both_ok, taken, stands_more, stands_still, wide_ties, not_wide_ties}

@@ -1,4 +1,4 @@
-use Rattle.std.proofs.Common.{Bool, ◌≡◌, ℕ, Option, None, true, false, not, ◌&&◌, ◌||◌, filter, ap, sym, subst, refl, ◌∙◌}
+use Rattle.std.proofs.Common.{Bool, ◌≡◌, ℕ, true, false, not, ◌&&◌, ◌||◌, filter, ap, sym, subst, refl, ◌∙◌}
 use Rattle.std.specs.Prelude.{◌==◌}
 use Rattle.std.specs.List.{list_any}
 use Rattle.std.specs.FinMap.{entries, get}

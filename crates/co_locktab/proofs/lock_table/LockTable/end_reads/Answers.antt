@@ -1,4 +1,4 @@
-use Rattle.std.proofs.Common.{◌≡◌, List, ℕ, true, ap, map, ◌∙◌}
+use Rattle.std.proofs.Common.{◌≡◌, List, true, ap, map, ◌∙◌}
 use Rattle.co_base.specs.Span.{Span, span_of_key}
 use Rattle.co_state.specs.Table.{look, without}
 use Rattle.co_locktab.specs.Holding.{is_held, without_all}

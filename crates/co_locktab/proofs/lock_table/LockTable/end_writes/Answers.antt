@@ -1,4 +1,4 @@
-use Rattle.std.proofs.Common.{◌≡◌, List, ℕ, true, ap, ◌∙◌}
+use Rattle.std.proofs.Common.{true, ap, ◌∙◌}
 use Rattle.co_state.specs.Keys.{same_key}
 use Rattle.co_state.specs.Table.{look, without}
 use Rattle.co_locktab.specs.Holding.{is_held, without_all}

@@ -1,5 +1,4 @@
 use Rattle.std.proofs.Common.{sym, ap, ◌∙◌, ◌&&◌}
-use Rattle.std.specs.List.{list_any}
 use Rattle.co_base.specs.Span.{span_of_key}
 use Rattle.co_state.specs.Keys.{same_key}
 use Rattle.co_locktab.specs.Holding.{is_held}

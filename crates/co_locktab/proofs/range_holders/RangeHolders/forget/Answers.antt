@@ -1,7 +1,6 @@
-use Rattle.std.proofs.Common.{◌≡◌, Bool, true, false, Some, None, Option, is_some, ap, sym, ◌∙◌, if◌then◌else◌}
+use Rattle.std.proofs.Common.{◌≡◌, Bool, true, false, Some, None, is_some, ap, sym, ◌∙◌, if◌then◌else◌}
 use Rattle.std.specs.FinMap.{get, remove}
 use Rattle.co_serial.proofs.MapViews.{view-get, view-remove}
-use Rattle.co_locktab.specs.declared.holders.Holders.{Holders}
 use Rattle.co_locktab.proofs.Orders.{spans_total, spans_apart}
 use Rattle.co_locktab.proofs.range_holders.RangeHolders.forget.Goals as goal
 

@@ -1,4 +1,4 @@
-use Rattle.std.proofs.Common.{◌≡◌, subst, sym, ap, ◌∙◌, not, ◌&&◌}
+use Rattle.std.proofs.Common.{subst, sym, ap, ◌∙◌, not, ◌&&◌}
 use Rattle.std.specs.BTreeSet.{contains}
 use Rattle.std.specs.Ordering.{eq_by_cmp}
 use Rattle.co_base.specs.Span.{Span}
