@@ -1,5 +1,5 @@
 -- Who holds a lock after calls, and what the entries of an index say of it.
-use Rattle.std.proofs.Common.{◌≡◌, T, ℕ, Bool, true, false, cond, not, ◌&&◌, ◌||◌, List, [], ◌∷◌, filter, length, if◌then◌else◌, Option, None, Some, is_some, refl, sym, ap, ◌∙◌, subst, true≢false, arith}
+use Rattle.std.proofs.Common.{◌≡◌, T, ℕ, Bool, true, false, cond, not, ◌&&◌, ◌||◌, List, [], ◌∷◌, filter, length, if◌then◌else◌, Option, None, Some, is_some, refl, sym, ap, ◌∙◌, true≢false, arith}
 use Rattle.std.specs.Prelude.{◌==◌}
 use Rattle.std.proofs.lemmas.Bool.Decides.{nat_tests}
 use Rattle.std.specs.List.{list_any}
@@ -10,12 +10,12 @@ use Rattle.std.specs.Cmp.{IsTotalOrder, both_ways}
 use Rattle.std.specs.FinMap.{FinMap, IsAntisymmetric, entries, entries_sorted, get, insert, remove, get-insert, get-remove, get-entries, get-empty, empty}
 use Rattle.std.specs.FinMap.Entries.{find, below_all, is_sorted}
 use Rattle.co_state.proofs.Tables.{look-put, look-without}
-use Rattle.co_state.specs.Table.{no_entries, put, without, look, holds}
+use Rattle.co_state.specs.Table.{no_entries, look, holds}
 use Rattle.co_locktab.specs.declared.holders.Holders.{Holders}
-use Rattle.co_locktab.specs.Holding.{joined, left, one_holder, holder_in, is_left, is_held, changed, left_at, held_by, with_holder, settled, without_holder, without_all, first_in_lock, other_in}
+use Rattle.co_locktab.specs.Holding.{joined, left, one_holder, holder_in, is_left, is_held, changed, left_at, held_by, with_holder, without_holder, without_all, first_in_lock}
 use Rattle.co_locktab.specs.Locks.{IsLeast}
 use Rattle.co_locktab.proofs.Orders.{tied, ties-itself, same_number}
-use Rattle.co_locktab.proofs.Least.{first, second, left_true, right_true, and_false, or_true, least_other, least_same}
+use Rattle.co_locktab.proofs.Least.{first, second, left_true, right_true, and_false, or_true, least_other}
 
 some_joined : (b : Bool) (o : Option (Unit {0})) → is_some (cond b (Some tt) o) ≡ (b || is_some o)
 some_joined true o = refl
@@ -132,7 +132,7 @@ module _ {K : Type 0} {R : K → K → Ordering} (o : IsTotalOrder R) (same : Is
     find_below q [] h = refl
     find_below q (e ∷ es) h = ap (λ r. cond (is_eq r) (Some e.1) (find R q es)) (less _ (first _ _ h)) ∙ find_below q es (second _ _ h)
 
-    record Passed (es : List (K × Holders)) : Type 0 where
+    pub record Passed (es : List (K × Holders)) : Type 0 where
       pub key : K
       pub passes : p key ≡ true
       pub held : holder_in (find R key es) u ≡ true
@@ -156,7 +156,7 @@ module _ {K : Type 0} {R : K → K → Ordering} (o : IsTotalOrder R) (same : Is
     passed_by e es true is k f g = passed_head e es (holds e.1.txns u) refl is k f g
     passed_by e es false is k f g = later e es k (g f)
 
-    passed : (es : List (K × Holders)) → T (is_sorted R es) → passing es ≡ true → Passed es
+    pub passed : (es : List (K × Holders)) → T (is_sorted R es) → passing es ≡ true → Passed es
     passed [] h e = absurd (true≢false (sym e))
     passed (f ∷ es) h e = passed_by f es (p f.0) refl (first _ _ h) e (passed es (second _ _ h))
 

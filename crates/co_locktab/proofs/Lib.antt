@@ -4,3 +4,7 @@ pub mod Holding
 pub mod Locking
 pub mod Ranging
 pub mod Showing
+pub mod Forking
+pub mod Placing
+pub mod Walking
+pub mod Indexing

@@ -1,22 +1,20 @@
 -- For which plain locks the kept tables stand, and whom the kept locks block.
-use Rattle.std.proofs.Common.{◌≡◌, T, ℕ, Bool, true, false, cond, not, ◌&&◌, ◌||◌, List, [], ◌∷◌, ◌++◌, map, filter, if◌then◌else◌, Option, None, Some, refl, sym, ap, ◌∙◌, subst, true≢false}
-use Rattle.std.specs.Prelude.{◌==◌}
+use Rattle.std.proofs.Common.{◌≡◌, ℕ, Bool, true, false, cond, not, ◌&&◌, ◌||◌, List, [], ◌∷◌, ◌++◌, map, Option, None, Some, refl, sym, ap, ◌∙◌, true≢false}
 use Rattle.std.specs.List.{list_any}
 use Rattle.std.proofs.lemmas.List.Folds.{list_any-append}
-use Rattle.std.specs.Ordering.{nat_cmp, eq_by_cmp, is_eq, is_gt, ordering_then, ordering_reverse}
+use Rattle.std.specs.Ordering.{nat_cmp, is_eq, is_gt, ordering_then, ordering_reverse}
 use Rattle.std.specs.declared.cmp.Ordering.{Ordering}
 use Rattle.std.specs.declared.cmp.Ordering.TheVariants.{Less, Equal, Greater}
-use Rattle.std.specs.Cmp.{both_ways}
-use Rattle.std.specs.FinMap.{FinMap, get-empty}
+use Rattle.std.specs.FinMap.{get-empty}
 use Rattle.co_base.specs.Order.{key_cmp}
-use Rattle.co_base.specs.Span.{Span, span_cmp, span_has, span_of_key}
+use Rattle.co_base.specs.Span.{Span, span_has, span_of_key}
 use Rattle.co_state.proofs.Tables.{look-put, look-without}
 use Rattle.co_state.specs.Keys.{same_key, reads_key}
 use Rattle.co_state.specs.Table.{Table, look, put, without, no_entries}
 use Rattle.co_locktab.specs.Locks.{or_none, same_span}
 use Rattle.co_locktab.specs.Shown.{is_wide}
-use Rattle.co_locktab.proofs.Orders.{keys_total, keys_apart, spans_total, spans_apart, tied, ties-itself, tie, same_number, one_number}
-use Rattle.co_locktab.proofs.Least.{and_false, or_false, or_true}
+use Rattle.co_locktab.proofs.Orders.{keys_total, keys_apart, spans_total, spans_apart, tied, ties-itself, same_number, one_number}
+use Rattle.co_locktab.proofs.Least.{or_false, or_true}
 
 -- ---- one key as a range
 both_tie : (r : Ordering) → is_eq (ordering_then r r) ≡ is_eq r

@@ -1,5 +1,5 @@
 -- Keys and ranges are totally ordered, and those that tie are equal.
-use Rattle.std.proofs.Common.{◌≡◌, T, ℕ, Bool, true, false, List, refl, sym, ap, ◌∙◌, subst, true≢false, rules}
+use Rattle.std.proofs.Common.{◌≡◌, ℕ, Bool, true, refl, sym, ap, ◌∙◌, true≢false, rules}
 use Rattle.std.specs.declared.cmp.Ordering.{Ordering}
 use Rattle.std.specs.declared.cmp.Ordering.TheVariants.{Less, Equal, Greater}
 use Rattle.std.specs.Ordering.{nat_cmp, eq_by_cmp, is_eq, ordering_then}
@@ -8,7 +8,7 @@ use Rattle.std.specs.Cmp.Rules.{comparing}
 use Rattle.std.specs.FinMap.{IsAntisymmetric, nat_cmp-IsAntisymmetric, slice_cmp-IsAntisymmetric}
 use Rattle.std.proofs.lemmas.Cmp.{nat_list_cmp_total}
 use Rattle.co_base.specs.Order.{key_cmp}
-use Rattle.co_base.specs.Span.{Span, span_cmp}
+use Rattle.co_base.specs.Span.{span_cmp}
 
 pub keys_total : IsTotalOrder key_cmp
 keys_total = nat_list_cmp_total
@@ -19,12 +19,12 @@ keys_apart = slice_cmp-IsAntisymmetric nat_cmp-IsAntisymmetric
 pub spans_total : IsTotalOrder span_cmp
 spans_total = Prim.search (comparing, rules)
 
-then_left : (r s : Ordering) → ordering_then r s ≡ Equal → r ≡ Equal
+pub then_left : (r s : Ordering) → ordering_then r s ≡ Equal → r ≡ Equal
 then_left Less s e = e
 then_left Equal s e = refl
 then_left Greater s e = e
 
-then_right : (r s : Ordering) → r ≡ Equal → ordering_then r s ≡ Equal → s ≡ Equal
+pub then_right : (r s : Ordering) → r ≡ Equal → ordering_then r s ≡ Equal → s ≡ Equal
 then_right r s e f = ap (λ q. ordering_then q s) (sym e) ∙ f
 
 pub spans_apart : IsAntisymmetric span_cmp

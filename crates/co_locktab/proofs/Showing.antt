@@ -1,12 +1,11 @@
 -- Locks stand where they are looked for, after one more and after the end of some.
-use Rattle.std.proofs.Common.{◌≡◌, ℕ, Bool, true, false, cond, not, ◌&&◌, ◌||◌, List, [], ◌∷◌, ◌++◌, if◌then◌else◌, refl, sym, ap, ◌∙◌, subst, true≢false}
+use Rattle.std.proofs.Common.{◌≡◌, ℕ, Bool, true, false, cond, not, ◌&&◌, ◌||◌, List, [], ◌∷◌, ◌++◌, if◌then◌else◌, refl, sym, ap, ◌∙◌, subst, Result, Ok, Err, OnOk}
 use Rattle.std.specs.declared.cmp.Ordering.{Ordering}
 use Rattle.std.specs.List.{list_any}
 use Rattle.std.specs.Ordering.{eq_by_cmp}
 use Rattle.std.specs.Cmp.{IsTotalOrder}
 use Rattle.std.specs.FinMap.{FinMap, IsAntisymmetric}
-use Rattle.co_base.specs.Span.{Span, span_of_key}
-use Rattle.co_state.specs.Keys.{same_key}
+use Rattle.co_base.specs.Span.{Span}
 use Rattle.co_state.specs.Table.{Table, look, put, without}
 use Rattle.co_locktab.specs.declared.holders.Holders.{Holders}
 use Rattle.co_locktab.specs.Holding.{is_held, with_holder, without_all}
@@ -15,8 +14,8 @@ use Rattle.co_locktab.specs.Locks.{Locks, or_none, same_span}
 use Rattle.co_locktab.specs.Shown.{Shows, is_wide}
 use Rattle.co_locktab.proofs.Holding.{held-with, held-without_all}
 use Rattle.co_locktab.proofs.Least.{and_false}
-use Rattle.co_locktab.proofs.Locking.{any_more, any_gone, ended_by, not_a_key, narrow}
-use Rattle.co_locktab.proofs.Orders.{same_number, tied, ties-itself, spans_total, spans_apart}
+use Rattle.co_locktab.proofs.Locking.{any_more, any_gone, ended_by}
+use Rattle.co_locktab.proofs.Orders.{same_number, tied, spans_total, spans_apart}
 
 joins : (c p s l : Bool) → (((c && p) && s) || (c && l)) ≡ (c && ((s && p) || l))
 joins true true true l = refl
@@ -78,3 +77,7 @@ not_wide_ties s w q = by (same_span q s) refl
 -- a lock that was not held yet is taken
 pub taken : (table : LockTable) (locks more : Locks) (held : Bool) → held ≡ false → Shows table more → Shows table (if held then locks else more)
 taken table locks more held e s = subst (λ (b : Bool). Shows table (if b then locks else more)) (sym e) s
+
+pub both_ok : {X E : Type 0} (r : Result X E) {A B C : Type 0} → (A → B → C) → OnOk r A → OnOk r B → OnOk r C
+both_ok (Ok x) f h k = f h k
+both_ok (Err e) f h k = tt

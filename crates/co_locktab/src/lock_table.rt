@@ -4,6 +4,7 @@ ghost use Rattle.std.specs.List.{list_any};
 ghost use Rattle.co_state.specs.Table.{look, without};
 ghost use Rattle.co_locktab.specs.Holding.{without_all};
 ghost use Rattle.co_locktab.specs.Locks.{Locks, no_locks, or_none, with_read, with_write, without_reads, without_locks, read_by, same_span, blocks_read, blocks_write, IsLeast};
+ghost use Rattle.co_locktab.specs.Places.{IsIndexed};
 ghost use Rattle.co_locktab.specs.Shown.{Shows, is_wide};
 
 use crate::key_index::KeyIndex;
@@ -61,7 +62,8 @@ fn take_writes(alloc: Global, writes: &mut Table<Keys>, t: Txn) -> Keys
 /// A transaction holds these ranges for reading no longer.
 fn end_ranges(readers: &mut KeyIndex, wide_readers: &mut RangeIndex, ranges: &[Range], t: Txn)
     ensures one { readers.new ≡ without_all readers.old (map (λ s. s.lo) ranges.now) t }
-    ensures wide { wide_readers.new ≡ without_all wide_readers.old ranges.now t }
+    ensures wide { wide_readers.new.held ≡ without_all wide_readers.old.held ranges.now t }
+    ensures indexed { IsIndexed wide_readers.old.held wide_readers.old.forks → IsIndexed wide_readers.new.held wide_readers.new.forks }
 {
     for range in ranges {
         readers.remove(range.lo(), t);

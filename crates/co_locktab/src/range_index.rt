@@ -1,151 +1,108 @@
-//! Locks of ranges, by their lower bounds.
-ghost use Rattle.std.specs.Prelude.{◌≡◌, filter, OnOk, option_copied, None};
+//! Locks of ranges.
+ghost use Rattle.std.specs.Prelude.{◌≡◌, ◌<◌, ◌≤◌, ℕ, length, OnOk};
 ghost use Rattle.std.specs.FinMap as map;
-ghost use Rattle.std.specs.FinMap.{entries, get, insert};
-ghost use Rattle.co_base.specs.Span.{span_has};
-ghost use Rattle.co_locktab.specs.Holding.{is_held, first_in_lock, least_along, joined_at, left_at, settled, with_holder, without_holder, one_holder};
+ghost use Rattle.co_locktab.specs.Forks.{fork_at, fork_of};
+ghost use Rattle.co_locktab.specs.Holding.{is_held, with_holder, without_holder};
+ghost use Rattle.co_locktab.specs.Locks.{IsLeast};
+ghost use Rattle.co_locktab.specs.Places.{IsIndexed};
+ghost use Rattle.co_locktab.specs.Weighed.{Weighs, holds_over};
 
-use crate::holders::Holders;
+use crate::fork::{Fork, byte_at};
+use crate::fork_index::ForkIndex;
+use crate::range_holders::RangeHolders;
 use co_base::{Key, Range, Txn};
-use co_state::lesser;
 use std::alloc::{AllocError, Global};
-use std::collections::BTreeMap;
-use std::collections::btree_map::Iter;
-use std::marker::Model;
 
-/// The holders of each range's lock. A contract sees the finite map.
+/// The holders of each range's lock, and the ranges by where their bounds part.
 #[derive(Drop)]
 pub struct RangeIndex {
-    map: BTreeMap<Range, Holders>,
-}
-
-impl Model for RangeIndex {
-    ghost use Rattle.std.specs.Coded.{codes};
-    ghost use Rattle.std.specs.FinMap.{FinMap, code, from_entries};
-    ghost use Rattle.co_base.specs.Span.{span_cmp};
-    ghost use Rattle.co_base.specs.contracts.range.Range as range;
-    ghost use Rattle.co_locktab.specs.contracts.holders.Holders as holders;
-    ghost use Rattle.co_locktab.specs.declared.holders.Holders.{Holders};
-
-    ghost Value = { FinMap span_cmp Holders };
-
-    ghost coded = { Prim.hlevel (codes, code {R = span_cmp} range.the_row.coded holders.the_row.coded) };
-
-    ghost view = { λ x. from_entries x.map.entries };
+    held: RangeHolders,
+    forks: ForkIndex,
 }
 
 impl RangeIndex {
     /// No locks. Takes no memory.
     pub fn new(alloc: Global) -> RangeIndex
-        ensures { result ≡ map.empty }
+        ensures held { result.held ≡ map.empty }
+        ensures indexed { IsIndexed result.held result.forks }
     {
         RangeIndex {
-            map: BTreeMap::new(alloc),
+            held: RangeHolders::new(alloc),
+            forks: ForkIndex::new(alloc),
         }
-    }
-
-    /// The holders of a range's lock, if there are any.
-    fn at(&self, range: &Range) -> Option<&Holders>
-        ensures { option_copied result ≡ get self.now range.now }
-    {
-        self.map.get(range)
     }
 
     /// Whether a transaction holds a range's lock.
     pub fn is_held(&self, range: &Range, t: Txn) -> bool
-        ensures { result ≡ is_held self.now range.now t }
+        ensures { result ≡ is_held self.now.held range.now t }
     {
-        match self.at(range) {
-            Some(holders) => holders.txns.contains(t),
-            None => false,
-        }
-    }
-
-    /// The locks by the lower bounds of their ranges, and then by the upper ones.
-    fn iter(&self) -> Iter<'_, Range, Holders>
-        ensures { result ≡ entries self.now }
-    {
-        self.map.iter()
+        self.held.is_held(range, t)
     }
 
     /// The least holder of a lock whose range has a key, other than one transaction.
     pub fn least_over(&self, key: &Key, t: Txn) -> Option<Txn>
-        ensures { result ≡ least_along t None (filter (λ e. span_has e.0 key.now) (entries self.now)) }
+        ensures { IsIndexed self.now.held self.now.forks → IsLeast (holds_over self.now.held key.now t) result }
     {
+        let text = key.text();
         let mut least = None;
-        for (range, holders) in self.iter() {
-            if key < range.lo() {
-                return least;
-            }
-            if range.has(key) {
-                least = lesser(least, holders.first_other(t));
-            }
+        for shared in 0..text.len() + 1 {
+            least = self.least_behind(&text[..shared], byte_at(text, shared), key, t, least);
         }
         least
     }
 
-    /// A transaction holds a range's lock.
-    pub fn add(&mut self, alloc: Global, range: &Range, t: Txn) -> Result<(), AllocError>
-        ensures { OnOk result (self.new ≡ with_holder self.old range.now t) }
+    /// The least other holder of the ranges with a key whose bounds part behind its first bytes, at a block that
+    /// has its next byte.
+    fn least_behind(
+        &self,
+        prefix: &[u8],
+        byte: u8,
+        key: &Key,
+        t: Txn,
+        before: Option<Txn>,
+    ) -> Option<Txn>
+        requires { length prefix.now ≤ 32 }
+        ensures { IsIndexed self.now.held self.now.forks
+            → Weighs self.now.held key.now t before result (λ s. (height : ℕ) × (height < 8) × (fork_of s ≡ fork_at prefix.now height byte)) }
     {
-        match self.at(range) {
-            Some(_) => self.join(range, t),
-            None => self.enter(alloc, range.copy()?, t),
+        let mut least = before;
+        for height in 0..8 {
+            let fork = Fork::at(prefix, height, byte);
+            least = self.least_at(fork, byte, key, t, least);
+        }
+        least
+    }
+
+    /// The least other holder of the ranges with a key whose bounds part at a fork, where the next byte of the key
+    /// is given.
+    fn least_at(&self, fork: Fork, byte: u8, key: &Key, t: Txn, before: Option<Txn>) -> Option<Txn>
+        ensures { IsIndexed self.now.held self.now.forks → Weighs self.now.held key.now t before result (λ s. fork_of s ≡ fork) }
+    {
+        if byte < fork.middle {
+            self.forks
+                .least_from_below(&self.held, fork, key, t, before)
+        } else {
+            self.forks
+                .least_from_above(&self.held, fork, key, t, before)
         }
     }
 
-    /// A transaction is the first one to hold a range's lock.
-    fn enter(&mut self, alloc: Global, range: Range, t: Txn) -> Result<(), AllocError>
-        ensures { OnOk result (self.new ≡ insert self.old range (one_holder t)) }
+    /// A transaction holds a range's lock.
+    pub fn add(&mut self, alloc: Global, range: &Range, t: Txn) -> Result<(), AllocError>
+        ensures held { OnOk result (self.new.held ≡ with_holder self.old.held range.now t) }
+        ensures indexed { IsIndexed self.old.held self.old.forks → OnOk result (IsIndexed self.new.held self.new.forks) }
     {
-        let mut holders = Holders::new(alloc);
-        holders.join(t)?;
-        self.map.insert(range, holders)?;
-        Ok(())
-    }
-
-    /// A transaction holds a range's lock too, where there are others.
-    fn join(&mut self, range: &Range, t: Txn) -> Result<(), AllocError>
-        ensures { OnOk result (self.new ≡ joined_at self.old range.now t) }
-    {
-        let Some(holders) = self.map.get_mut(range) else {
-            return Ok(());
-        };
-        holders.join(t)
+        self.forks.add(range)?;
+        self.held.add(alloc, range, t)
     }
 
     /// A transaction holds a range's lock no longer, and a lock that nobody holds is gone. Takes no memory.
     pub fn remove(&mut self, range: &Range, t: Txn)
-        ensures { self.new ≡ without_holder self.old range.now t }
+        ensures held { self.new.held ≡ without_holder self.old.held range.now t }
+        ensures indexed { IsIndexed self.old.held self.old.forks → IsIndexed self.new.held self.new.forks }
     {
-        self.leave(range, t);
-        self.settle(range);
-    }
-
-    /// A transaction holds a range's lock no longer.
-    fn leave(&mut self, range: &Range, t: Txn)
-        ensures { self.new ≡ left_at self.old range.now t }
-    {
-        let Some(holders) = self.map.get_mut(range) else {
-            return;
-        };
-        holders.leave(t);
-    }
-
-    /// A lock that nobody holds is gone.
-    fn settle(&mut self, range: &Range)
-        ensures { self.new ≡ settled self.old range.now }
-    {
-        match self.at(range) {
-            Some(holders) if holders.is_empty() => self.forget(range),
-            _ => {}
+        if let Some(ended) = self.held.remove(range, t) {
+            self.forks.remove(ended);
         }
-    }
-
-    /// A range's lock is gone.
-    fn forget(&mut self, range: &Range)
-        ensures { self.new ≡ map.remove self.old range.now }
-    {
-        let _ = self.map.remove(range);
     }
 }

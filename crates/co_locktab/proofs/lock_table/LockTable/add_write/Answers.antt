@@ -1,11 +1,9 @@
-use Rattle.std.proofs.Common.{◌≡◌, Bool, List, ℕ, true, false, ap, sym, refl, subst, ◌∙◌, ◌++◌, [], ◌∷◌, if◌then◌else◌}
-use Rattle.std.specs.List.{list_any}
+use Rattle.std.proofs.Common.{true, ap, sym, refl, ◌∙◌, ◌++◌, [], ◌∷◌}
 use Rattle.co_state.proofs.Tables.{on_ok, put-without}
 use Rattle.co_state.specs.Keys.{same_key}
 use Rattle.co_state.specs.Table.{look, put}
 use Rattle.co_locktab.specs.Holding.{is_held}
-use Rattle.co_locktab.specs.Locks.{Locks, or_none, written_by}
-use Rattle.co_locktab.specs.Shown.{Shows}
+use Rattle.co_locktab.specs.Locks.{or_none}
 use Rattle.co_locktab.proofs.Orders.{keys_total, keys_apart}
 use Rattle.co_locktab.proofs.Showing.{taken, stands_more}
 use Rattle.co_locktab.proofs.lock_table.LockTable.add_write.Goals as goal
@@ -26,5 +24,6 @@ returns c = λ locks s.
       writers_are = λ k u. ap (λ m. is_held m k u) e ∙ stands_more keys_total keys_apart table.writers locks.writes t (λ q. true) same_key s.writers_are key key (λ q. refl) k u;
       readers_are = s.readers_are;
       wide_readers_are = s.wide_readers_are;
+      wide_readers_found = s.wide_readers_found;
     }))
     c.add.ensures

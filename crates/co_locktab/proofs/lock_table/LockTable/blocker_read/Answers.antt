@@ -1,9 +1,7 @@
-use Rattle.std.proofs.Common.{Bool, ◌≡◌, ℕ, Option, None, true, false, not, ◌&&◌, ◌||◌, filter, ap, sym, subst}
+use Rattle.std.proofs.Common.{None, true, false, not, ◌&&◌, filter, ap, sym, subst}
 use Rattle.std.specs.Prelude.{◌==◌}
-use Rattle.std.specs.List.{list_any}
 use Rattle.std.specs.FinMap.{entries}
 use Rattle.co_base.specs.Span.{span_has}
-use Rattle.co_state.specs.Table.{holds}
 use Rattle.co_locktab.specs.Holding.{least_along}
 use Rattle.co_locktab.specs.Locks.{IsLeast, blocks_read, written_by}
 use Rattle.co_locktab.proofs.Orders.{keys_total, keys_apart}

@@ -1,4 +1,4 @@
-use Rattle.std.proofs.Common.{◌≡◌, List, ℕ, true, ap, map, ◌∙◌}
+use Rattle.std.proofs.Common.{◌≡◌, List, true, ap, map, ◌∙◌}
 use Rattle.co_base.specs.Span.{Span, span_of_key}
 use Rattle.co_state.specs.Table.{look, without}
 use Rattle.co_locktab.specs.Holding.{is_held, without_all}
@@ -21,6 +21,7 @@ returns c = λ locks s.
       readers_are = λ k u. ap (λ m. is_held m k u) (c.end_ranges.ensures.one ∙ ap (λ (rs : List Span). without_all table.readers (map (λ r. r.lo) rs) t) held)
           ∙ stands_ended keys_total keys_apart table.readers locks.reads t (λ q. true) (λ q. same_span (span_of_key q)) s.readers_are (map (λ r. r.lo) (or_none (look locks.reads t)))
           (λ q h e. bounds_found q (or_none (look locks.reads t)) h) k u;
-      wide_readers_are = λ r u. ap (λ m. is_held m r u) (c.end_ranges.ensures.wide ∙ ap (λ (rs : List Span). without_all table.wide_readers rs t) held)
-          ∙ stands_ended spans_total spans_apart table.wide_readers locks.reads t is_wide same_span s.wide_readers_are (or_none (look locks.reads t)) (λ q h e. h) r u;
+      wide_readers_are = λ r u. ap (λ m. is_held m r u) (c.end_ranges.ensures.wide ∙ ap (λ (rs : List Span). without_all table.wide_readers.held rs t) held)
+          ∙ stands_ended spans_total spans_apart table.wide_readers.held locks.reads t is_wide same_span s.wide_readers_are (or_none (look locks.reads t)) (λ q h e. h) r u;
+      wide_readers_found = c.end_ranges.ensures.indexed s.wide_readers_found;
     }

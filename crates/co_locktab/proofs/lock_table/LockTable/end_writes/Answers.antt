@@ -1,4 +1,4 @@
-use Rattle.std.proofs.Common.{◌≡◌, List, ℕ, true, ap, ◌∙◌}
+use Rattle.std.proofs.Common.{true, ap, ◌∙◌}
 use Rattle.co_state.specs.Keys.{same_key}
 use Rattle.co_state.specs.Table.{look, without}
 use Rattle.co_locktab.specs.Holding.{is_held, without_all}
@@ -18,4 +18,5 @@ returns c = λ locks s.
           ∙ stands_ended keys_total keys_apart table.writers locks.writes t (λ q. true) same_key s.writers_are (or_none (look locks.writes t)) (λ q h e. h) k u;
       readers_are = s.readers_are;
       wide_readers_are = s.wide_readers_are;
+      wide_readers_found = s.wide_readers_found;
     }

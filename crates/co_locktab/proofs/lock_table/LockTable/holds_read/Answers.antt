@@ -1,6 +1,5 @@
-use Rattle.std.proofs.Common.{ap, sym, ◌∙◌, ◌&&◌, not, true}
+use Rattle.std.proofs.Common.{ap, sym, ◌∙◌}
 use Rattle.std.specs.List.{list_any}
-use Rattle.co_base.specs.Span.{span_of_key}
 use Rattle.co_locktab.specs.Holding.{is_held}
 use Rattle.co_locktab.specs.Locks.{same_span, read_by}
 use Rattle.co_locktab.proofs.Locking.{narrow}

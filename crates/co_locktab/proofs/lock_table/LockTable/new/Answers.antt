@@ -1,5 +1,4 @@
 use Rattle.std.proofs.Common.{sym, ap, ◌∙◌, ◌&&◌}
-use Rattle.std.specs.List.{list_any}
 use Rattle.co_base.specs.Span.{span_of_key}
 use Rattle.co_state.specs.Keys.{same_key}
 use Rattle.co_locktab.specs.Holding.{is_held}
@@ -17,6 +16,7 @@ returns c = record {
   writes_are = c.new-5.ensures;
   writers_are = λ key t. ap (λ m. is_held m key t) c.new.ensures ∙ held_nowhere keys_total keys_apart key t ∙ sym (any_none (same_key key) t);
   readers_are = λ key t. ap (λ m. is_held m key t) c.new-2.ensures ∙ held_nowhere keys_total keys_apart key t ∙ sym (any_none (same_span (span_of_key key)) t);
-  wide_readers_are = λ span t. ap (λ m. is_held m span t) c.new-3.ensures ∙ held_nowhere spans_total spans_apart span t
+  wide_readers_are = λ span t. ap (λ m. is_held m span t) c.new-3.ensures.held ∙ held_nowhere spans_total spans_apart span t
       ∙ sym (ap (λ b. is_wide span && b) (any_none (same_span span) t) ∙ and_false (is_wide span));
+  wide_readers_found = c.new-3.ensures.indexed;
 }

@@ -1,23 +1,31 @@
-use Rattle.std.proofs.Common.{◌≡◌, T, ℕ, List, [], ◌∷◌, filter, None, refl, sym, ap, ◌∙◌, subst}
-use Rattle.std.specs.FinMap.{entries, entries_sorted}
-use Rattle.std.specs.FinMap.Entries.{is_sorted}
-use Rattle.std.specs.declared.cmp.Ordering.TheVariants.{Less}
-use Rattle.co_base.specs.Order.{key_cmp}
-use Rattle.co_base.specs.Span.{Span, span_has, span_cmp}
-use Rattle.co_locktab.specs.declared.holders.Holders.{Holders}
-use Rattle.co_locktab.specs.Holding.{least_along}
-use Rattle.co_locktab.proofs.Ranging.{none_from, less}
+use Rattle.std.proofs.Common.{◌≡◌, ℕ, List, ◌+◌, ◌≤◌, None, length, take, ap, subst, arith}
+use Rattle.co_locktab.specs.Forks.{byte_at}
+use Rattle.co_locktab.specs.Weighed.{Weighs}
+use Rattle.co_locktab.proofs.Indexing.{SeenBehind, SeenUpTo, weighs_nothing, none_up_to, weighs_more, more_up_to, weighs_least}
 use Rattle.co_locktab.proofs.range_index.RangeIndex.least_over.Goals as goal
 
-pub loop-range-init : goal.loop-range-init
-loop-range-init c = (refl, subst (λ (es : List (Span × Holders)). T (is_sorted span_cmp es)) (sym (c.into_iter-range-iterator.ensures.into_iter_gives ∙ c.iter-range-items.ensures)) (entries_sorted c.args.self.now))
+pub loop-shared-init : goal.loop-shared-init
+loop-shared-init c = λ x. weighs_nothing c.args.self.now.held c.args.key.now c.args.t None (SeenUpTo c.args.key.now 0) (none_up_to c.args.key.now)
 
-pub returns-then-lt : goal.returns-then-lt
-returns-then-lt c =
+pub loop-shared-preserved : goal.loop-shared-preserved
+loop-shared-preserved c = λ x.
+    let held = c.args.self.now.held in
     let key = c.args.key.now in
-    let above : key_cmp key c.in-Some.range.now.lo ≡ Less = ap (key_cmp key) (sym c.lo.ensures) ∙ less _ (sym c.lt.ensures ∙ c.if-lt.true) in
-    let none : filter (λ e. span_has e.0 key) c.loop-range.range-iterator ≡ [] =
-    subst (λ (es : List (Span × Holders)). T (is_sorted span_cmp es) → filter (λ e. span_has e.0 key) es ≡ []) (sym c.in-Some.ensures.steps)
-    (λ h. none_from key _ _ h above) c.loop-range.invariant.1 in
-    sym (ap (λ (es : List (Span × Holders)). least_along c.args.t c.loop-range.least es) none) ∙ c.loop-range.invariant.0
-    ∙ ap (λ (es : List (Span × Holders)). least_along c.args.t None (filter (λ e. span_has e.0 key) es)) (c.into_iter-range-iterator.ensures.into_iter_gives ∙ c.iter-range-items.ensures)
+    let shared = c.loop-shared.shared in
+    let least = c.loop-shared.least in
+    let result = c.least_behind-least.result in
+    let w : Weighs held key c.args.t least result (SeenBehind (take shared c.text-text.result.now) (byte_at c.text-text.result.now shared) 8) =
+    subst (λ (b : ℕ). Weighs held key c.args.t least result (SeenBehind (take shared c.text-text.result.now) b 8)) c.byte_at.ensures (c.least_behind-least.ensures x) in
+    let v : Weighs held key c.args.t least result (SeenBehind (take shared key) (byte_at key shared) 8) =
+    subst (λ (text : List ℕ). Weighs held key c.args.t least result (SeenBehind (take shared text) (byte_at text shared) 8)) c.text-text.ensures.value w in
+    weighs_more held key c.args.t None least result (SeenUpTo key shared) (SeenBehind (take shared key) (byte_at key shared) 8) (SeenUpTo key (shared + 1)) (c.loop-shared.invariant x) v (more_up_to key shared)
+
+pub returns : goal.returns
+returns c = λ x.
+    let held = c.args.self.now.held in
+    let key = c.args.key.now in
+    let same : length c.text-text.result.now ≡ length key = ap (λ (text : List ℕ). length text) c.text-text.ensures.value in
+    let end : c.loop-shared.shared ≤ length c.text-text.result.now + 1 = c.loop-shared.auto.shared-end in
+    let all : c.loop-shared.shared ≡ length key + 1 = omega arith in
+    weighs_least held c.args.self.now.forks key c.args.t x c.loop-shared.least
+    (subst (λ (n : ℕ). Weighs held key c.args.t None c.loop-shared.least (SeenUpTo key n)) all (c.loop-shared.invariant x))

@@ -6,7 +6,7 @@ use Rattle.co_serial.proofs.MapViews.{view-get, view-insert}
 use Rattle.co_state.proofs.Tables.{on_ok}
 use Rattle.co_locktab.specs.Holding.{changed, joined}
 use Rattle.co_locktab.proofs.Orders.{spans_total, spans_apart}
-use Rattle.co_locktab.proofs.range_index.RangeIndex.join.Goals as goal
+use Rattle.co_locktab.proofs.range_holders.RangeHolders.join.Goals as goal
 
 pub returns-in_default : goal.returns-in_default
 returns-in_default c =

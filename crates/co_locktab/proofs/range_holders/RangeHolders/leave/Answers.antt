@@ -5,7 +5,7 @@ use Rattle.co_base.specs.Span.{span_cmp}
 use Rattle.co_serial.proofs.MapViews.{view-get, view-insert}
 use Rattle.co_locktab.specs.Holding.{changed, left}
 use Rattle.co_locktab.proofs.Orders.{spans_total, spans_apart}
-use Rattle.co_locktab.proofs.range_index.RangeIndex.leave.Goals as goal
+use Rattle.co_locktab.proofs.range_holders.RangeHolders.leave.Goals as goal
 
 pub returns-in_default : goal.returns-in_default
 returns-in_default c =

@@ -1,0 +1,85 @@
+//! Where the two bounds of a range part.
+ghost use Rattle.std.specs.Prelude.{◌≡◌, ℕ, ◌+◌, ◌*◌, ◌/◌, ◌^◌, ◌<◌, ◌≤◌, true, length, slice_index};
+ghost use Rattle.co_base.specs.Span.{span_has};
+ghost use Rattle.co_locktab.specs.Forks.{byte_at, common_length, shared_height, middle_of, fork_at, fork_of, IsOnPath};
+
+use co_base::Range;
+
+/// Where the bounds of a range part: behind the first bytes that they share, at the middle of the least block of
+/// bytes that has the next byte of each.
+///
+/// The blocks of height `h` are the runs of `2^(h + 1)` bytes from 0 on. A bound that ends counts as byte 0 there.
+#[derive(Clone, Copy, PartialEq, Eq, PartialOrd, Ord, Drop)]
+pub struct Fork {
+    /// The shared bytes, and 0 behind them.
+    prefix: [u8; 32],
+    /// The middle of the block.
+    pub middle: u8,
+}
+
+/// The byte at a place, or 0 behind the last one.
+pub fn byte_at(text: &[u8], place: usize) -> u8
+    ensures { result ≡ byte_at text.now place }
+{
+    text.get(place).copied().unwrap_or(0)
+}
+
+/// The middle of the block of a height that has a byte.
+fn middle_of(height: u8, byte: u8) -> u8
+    requires { height < 8 }
+    ensures { result ≡ middle_of height byte }
+{
+    ((byte >> height) / 2 * 2 + 1) << height
+}
+
+/// How many first bytes two texts share.
+fn common_length(one: &[u8], other: &[u8]) -> usize
+    ensures value { result ≡ common_length one.now other.now }
+    ensures within { result ≤ length one.now }
+{
+    one.iter()
+        .zip(other)
+        .take_while(|(x, y)| **x == **y)
+        .count()
+}
+
+/// The height of the least block that has both bytes.
+fn shared_height(one: u8, other: u8) -> u8
+    ensures value { result ≡ shared_height 7 one other }
+    ensures bound { result < 8 }
+{
+    let mut height = 7;
+    while height > 0 && (one >> (height - 1)) / 2 == (other >> (height - 1)) / 2 {
+        height -= 1;
+    }
+    height
+}
+
+impl Fork {
+    /// Where texts part that share these bytes, at the block of a height that has the next byte of each.
+    pub fn at(prefix: &[u8], height: u8, byte: u8) -> Fork
+        requires prefix { length prefix.now ≤ 32 }
+        requires height { height < 8 }
+        ensures { result ≡ fork_at prefix.now height byte }
+    {
+        let mut padded = [0; 32];
+        padded[..prefix.len()].copy_from_slice(prefix);
+        Fork {
+            prefix: padded,
+            middle: middle_of(height, byte),
+        }
+    }
+
+    /// Where the bounds of a range part. Each key of the range has it on its path.
+    pub fn of(range: &Range) -> Fork
+        ensures value { result ≡ fork_of range.now }
+        ensures path { (key : _) → span_has range.now key ≡ true → IsOnPath key result }
+    {
+        let lo = range.lo().text();
+        let hi = range.hi().text();
+        let shared = common_length(lo, hi);
+        let byte = byte_at(lo, shared);
+        let height = shared_height(byte, byte_at(hi, shared));
+        Fork::at(&lo[..shared], height, byte)
+    }
+}
