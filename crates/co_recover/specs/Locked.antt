@@ -53,9 +53,10 @@ abbrev pub IsFound : (ℕ → Bool) → Option ℕ → Type 0
 IsFound test None = (u : ℕ) → test u ≡ false
 IsFound test (Some u) = test u ≡ true
 
--- the votes with one more, or none where a vote is in conflict with it
+-- whether a vote is in conflict with these sets
 abbrev pub some_conflicts : Table Vote → Sets → Bool
 some_conflicts voted sets = not (is_none (least_where (λ u vote. sets_conflict vote.sets sets) voted))
 
+-- the votes with one more, or none where a vote is in conflict with it
 abbrev pub with_vote : Table Vote → ℕ → Vote → Option (Table Vote)
 with_vote voted t vote = if some_conflicts voted vote.sets then None else Some (put voted t vote)

@@ -26,7 +26,6 @@ impl<'a> Model for LockedVotes<'a> {
     ghost use Rattle.std.specs.Ordering.{nat_cmp};
     ghost use Rattle.co_state.specs.declared.engine_state.Vote.{Vote};
     ghost use Rattle.co_state.specs.contracts.engine_state.Vote as vote;
-    ghost use Rattle.co_state.specs.Table.{Table};
     ghost use Rattle.co_recover.specs.Locked.{Holds, held_by};
 
     ghost Value = { map.FinMap nat_cmp Vote };
