@@ -1,5 +1,5 @@
 -- How far a walk over a log has come, and what the records tell and allow up to there.
-use Rattle.std.proofs.Common.{◌≡◌, ℕ, zero, suc, ◌+◌, Bool, true, false, List, [], ◌∷◌, ◌++◌, map, length, reverse, slice_get, if◌then◌else◌, Option, None, Some, refl, sym, ap, subst, ◌∙◌, append_assoc, arith}
+use Rattle.std.proofs.Common.{◌≡◌, ℕ, suc, ◌+◌, Bool, true, false, List, [], ◌∷◌, ◌++◌, map, length, reverse, slice_get, if◌then◌else◌, Option, None, Some, refl, sym, ap, ◌∙◌, append_assoc, arith}
 use Rattle.std.proofs.lemmas.List.{append-nil, map_push, reverse-append, length_push}
 use Rattle.co_record.specs.declared.record.Record.{Record}
 use Rattle.co_record.specs.Stored.{RecordWalk, HasLeft}

@@ -1,4 +1,6 @@
 pub mod Ascending
+pub mod Finding
 pub mod Folds
-pub mod Sets
-pub mod Votes
+pub mod Holding
+pub mod Meeting
+pub mod PlainLocks

@@ -1,2 +1,2 @@
 pub mod Recovered
-pub mod Covering
+pub mod Locked

@@ -7,7 +7,7 @@ use Rattle.co_state.specs.declared.engine_state.Vote.{Vote}
 use Rattle.co_state.specs.Table.{Table, look, holds}
 use Rattle.co_pairs.specs.declared.prepared.Prepared.{Prepared}
 use Rattle.co_plain.specs.declared.member_view.MemberView.{MemberView}
-use Rattle.co_plain.specs.MemberView.{forget_in, install_in, member_allows, told_by, recovered_view, first_refused_at_member}
+use Rattle.co_plain.specs.MemberView.{cast_in, conflicts_with_voted, forget_in, install_in, member_allows, told_by, recovered_view, first_refused_at_member}
 use Rattle.co_plain.specs.declared.coord_view.CoordView.{CoordView}
 use Rattle.co_plain.specs.CoordView.{coord_allows, coord_told_by, recovered_commits, first_refused_at_coord}
 use Rattle.co_recover.specs.declared.fault.RecoverFault.{RecoverFault}
@@ -31,6 +31,10 @@ pub record IsRefusedAt (items : List (ℕ × Record)) (refused : Option ℕ) (at
 -- the view after one more record, or none where it is not allowed
 abbrev pub member_next : ℕ → ℕ → MemberView → Record → Option MemberView
 member_next coords place view entry = if member_allows coords place view entry then Some (told_by view entry) else None
+
+-- the view after a transaction voted, or none where a vote is in conflict with it
+abbrev pub cast : MemberView → ℕ → Vote → Option MemberView
+cast view t vote = if conflicts_with_voted view vote.sets then None else Some (cast_in view t vote)
 
 -- the view after a voted transaction was aborted, or was committed; none where it is not voted
 abbrev pub forgotten : MemberView → ℕ → Option MemberView

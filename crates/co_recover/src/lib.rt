@@ -3,12 +3,12 @@
 
 mod coord;
 mod fault;
-mod key_set;
+mod locks;
 mod member;
 mod owned;
 mod past;
-mod touched;
 mod vote;
+mod votes;
 
 pub use coord::recover_coord;
 pub use fault::RecoverFault;

@@ -1,5 +1,5 @@
 //! What a member's log tells.
-ghost use Rattle.std.specs.Prelude.{◌≡◌, ℕ, List, IfOk, map};
+ghost use Rattle.std.specs.Prelude.{◌≡◌, ℕ, List, IfOk, map, false};
 ghost use Rattle.std.specs.List.{AllByRecursion};
 ghost use Rattle.co_record.specs.declared.record.Record.{Record};
 ghost use Rattle.co_record.specs.declared.record.Record.TheVariants.{Checkpoint};
@@ -7,62 +7,42 @@ ghost use Rattle.co_record.specs.Lent.{record_of};
 ghost use Rattle.co_record.specs.Reading.{row_of};
 ghost use Rattle.co_record.specs.Spelling.{IsSpelled, IsRow, IsChange};
 ghost use Rattle.co_record.specs.Stored.{HasLeft};
-ghost use Rattle.co_state.specs.Table.{look};
-ghost use Rattle.co_plain.specs.MemberView.{nothing_known, cast_in, told_by, conflicts_with_voted};
-ghost use Rattle.co_recover.specs.Recovered.{member_next, forgotten, installed, voted_of, past_of_member, IsMemberRecovery};
+ghost use Rattle.co_state.specs.Table.{holds};
+ghost use Rattle.co_plain.specs.MemberView.{nothing_known, told_by};
+ghost use Rattle.co_recover.specs.Recovered.{member_next, cast, forgotten, installed, voted_of, past_of_member, IsMemberRecovery};
 
 use crate::coord::numbers_in;
 use crate::fault::RecoverFault;
-use crate::owned::{lay, numbers_of, ranges_of, rows_of, writes_of};
+use crate::owned::{lay, numbers_of, rows_of, sets_of};
 use crate::past::MemberPast;
-use crate::touched::Touched;
 use crate::vote::{LentSets, LentVote};
+use crate::votes::LockedVotes;
 use co_base::Txn;
 use co_pairs::{Prepared, PreparedList};
 use co_record::{ChangeWalk, PairWalk, RecordView, TxnWalk, Views};
 use co_serial::RecordMap;
-use co_state::{Sets, Table, records_from};
+use co_state::{Table, records_from};
 use std::alloc::{AllocError, Global};
 use std::marker::Model;
 
-/// What the records up to a place tell. The votes are lent from their prepare records, and all that they touched
-/// is kept beside them.
+/// What the records up to a place tell. The votes are lent from their prepare records.
 #[derive(Drop)]
 struct LentView<'a> {
     records: RecordMap,
-    voted: Table<LentVote<'a>>,
+    voted: LockedVotes<'a>,
     committed: Table<()>,
-    touched: Touched<'a>,
 }
 
 impl<'a> Model for LentView<'a> {
     ghost use Rattle.std.specs.Coded.{codes};
     ghost use Rattle.co_plain.specs.declared.member_view.MemberView.{MemberView};
     ghost use Rattle.co_plain.specs.contracts.member_view.MemberView as known;
-    ghost use Rattle.co_recover.specs.Covering.{AreCovered};
 
     ghost Value = { MemberView };
 
     ghost coded = { Prim.hlevel (codes, known.the_row.coded) };
 
     ghost view = { λ v. record { records = v.records; voted = v.voted; committed = v.committed } };
-
-    ghost invariant = { λ v. AreCovered v.touched.written v.touched.read v.touched.wide v.voted };
-}
-
-/// Whether some vote is in conflict with these sets. The votes are asked one by one only where some may be.
-fn conflicts_with_voted<'a>(view: &LentView<'a>, sets: &LentSets<'a>) -> bool
-    ensures { result ≡ conflicts_with_voted view.now sets.now }
-{
-    if !view.touched.may_conflict(sets) {
-        return false;
-    }
-    for (_, vote) in view.voted.iter() {
-        if vote.sets.conflicts_with(sets) {
-            return true;
-        }
-    }
-    false
 }
 
 /// The view of a checkpoint, whose rows may be dirty.
@@ -79,30 +59,34 @@ fn checkpoint_view<'a>(
     let records = lay(alloc, records_from(alloc, rows_of(alloc, rows)?)?, undos)?;
     Ok(LentView {
         records,
-        voted: Table::new(alloc),
+        voted: LockedVotes::new(alloc),
         committed: numbers_of(alloc, committed)?,
-        touched: Touched::new(alloc),
     })
 }
 
-/// A transaction voted.
-fn cast_in<'a>(view: LentView<'a>, t: Txn, vote: LentVote<'a>) -> Result<LentView<'a>, AllocError>
-    ensures { IfOk result (λ after. after ≡ cast_in view.entry t vote.entry) }
+/// A transaction voted that has no vote, or none where a vote that stands is in conflict with it.
+fn cast_in<'a>(
+    alloc: Global,
+    view: LentView<'a>,
+    t: Txn,
+    vote: LentVote<'a>,
+) -> Result<Option<LentView<'a>>, AllocError>
+    requires { holds view.voted t ≡ false }
+    ensures { IfOk result (λ after. after ≡ cast view.entry t vote.entry) }
 {
     let LentView {
         records,
-        mut voted,
+        voted,
         committed,
-        mut touched,
     } = view;
-    touched.add(&vote.sets)?;
-    voted.insert(t, vote)?;
-    Ok(LentView {
+    let Some(voted) = voted.cast(alloc, t, vote)? else {
+        return Ok(None);
+    };
+    Ok(Some(LentView {
         records,
         voted,
         committed,
-        touched,
-    })
+    }))
 }
 
 /// A voted transaction was aborted, or none where it is not voted.
@@ -113,16 +97,14 @@ fn forget_in<'a>(view: LentView<'a>, t: Txn) -> Option<LentView<'a>>
         records,
         mut voted,
         committed,
-        touched,
     } = view;
-    if voted.remove(t).is_none() {
+    if voted.take(t).is_none() {
         return None;
     }
     Some(LentView {
         records,
         voted,
         committed,
-        touched,
     })
 }
 
@@ -138,9 +120,8 @@ fn install_in<'a>(
         records,
         mut voted,
         mut committed,
-        touched,
     } = view;
-    match voted.remove(t) {
+    match voted.take(t) {
         None => Ok(None),
         Some(vote) => {
             let records = lay(alloc, records, vote.sets.writes.again())?;
@@ -149,7 +130,6 @@ fn install_in<'a>(
                 records,
                 voted,
                 committed,
-                touched,
             }))
         }
     }
@@ -191,20 +171,16 @@ fn next_view<'a>(
             reads,
             writes,
         } => {
-            let sets = LentSets { reads, writes };
             if place < 1
                 || view.voted.contains(txn)
                 || view.committed.contains(txn)
                 || coord < 1
                 || coord > coords
-                || conflicts_with_voted(&view, &sets)
             {
                 return Ok(None);
             }
-            match cast_in(view, txn, LentVote { coord, count, sets }) {
-                Ok(after) => Ok(Some(after)),
-                Err(fault) => Err(fault),
-            }
+            let sets = LentSets { reads, writes };
+            cast_in(alloc, view, txn, LentVote { coord, count, sets })
         }
         RecordView::Commit { txn, mut members } => {
             if members.next().is_some() {
@@ -227,10 +203,7 @@ fn prepared_in(alloc: Global, voted: &Table<LentVote<'_>>) -> Result<PreparedLis
             txn: *t,
             coord: vote.coord,
             count: vote.count,
-            sets: Sets {
-                reads: ranges_of(alloc, vote.sets.reads.again())?,
-                writes: writes_of(alloc, vote.sets.writes.again())?,
-            },
+            sets: sets_of(alloc, &vote.sets)?,
         })?;
     }
     Ok(list)
@@ -242,7 +215,7 @@ fn past_of(alloc: Global, view: LentView<'_>) -> Result<MemberPast, AllocError>
 {
     Ok(MemberPast {
         rows: view.records.rows(alloc)?,
-        voted: prepared_in(alloc, &view.voted)?,
+        voted: prepared_in(alloc, view.voted.as_table())?,
         committed: numbers_in(alloc, &view.committed)?,
     })
 }
@@ -251,7 +224,8 @@ fn past_of(alloc: Global, view: LentView<'_>) -> Result<MemberPast, AllocError>
 /// transactions with all that they read and wrote, and the transactions that are committed here.
 ///
 /// `Inconsistent` comes exactly at the first record that is not allowed where it stands. Whose log it is, is not judged.
-/// A prepare record stays where it is lent from until its transaction is committed or the log ends.
+/// A prepare record stays where it is lent from until its transaction is committed or the log ends. The locks of the votes
+/// that stand are kept beside them, so a prepare record costs what it reads and writes, however many votes stand.
 pub fn recover_member(
     alloc: Global,
     mut views: Views<'_>,
@@ -261,9 +235,8 @@ pub fn recover_member(
 {
     let mut view = LentView {
         records: RecordMap::new(alloc),
-        voted: Table::new(alloc),
+        voted: LockedVotes::new(alloc),
         committed: Table::new(alloc),
-        touched: Touched::new(alloc),
     };
     let mut place = 0;
     'records: loop {

@@ -9,10 +9,11 @@ ghost use Rattle.co_record.specs.Spelling.{IsKey, IsValue, IsRange, IsRow, IsCha
 ghost use Rattle.co_serial.specs.Records.{with_changes};
 ghost use Rattle.co_plain.specs.MemberView.{numbers_from};
 
+use crate::vote::LentSets;
 use co_base::{BaseFault, Key, Range, Ranges, Row, Sequence, Value, Writes, Written};
 use co_record::{ChangeWalk, PairWalk, TxnWalk};
 use co_serial::RecordMap;
-use co_state::Table;
+use co_state::{Sets, Table};
 use std::alloc::{AllocError, Global};
 
 /// A key of these bytes.
@@ -92,6 +93,16 @@ pub(crate) fn writes_of(alloc: Global, mut walk: ChangeWalk<'_>) -> Result<Write
         })?;
     }
     Ok(writes)
+}
+
+/// What a lent record says was read and written.
+pub(crate) fn sets_of(alloc: Global, sets: &LentSets<'_>) -> Result<Sets, AllocError>
+    ensures { IfOk result (λ owned. owned ≡ sets.now) }
+{
+    Ok(Sets {
+        reads: ranges_of(alloc, sets.reads.again())?,
+        writes: writes_of(alloc, sets.writes.again())?,
+    })
 }
 
 /// The rows of a lent checkpoint.

@@ -1,11 +1,9 @@
-use Rattle.std.proofs.Common.{◌+◌, ℕ, List, refl, sym, ap, subst, ◌∙◌, arith}
-use Rattle.co_record.specs.declared.record.Record.{Record}
+use Rattle.std.proofs.Common.{◌+◌, refl, sym, ap, subst, ◌∙◌, arith}
 use Rattle.co_record.specs.Lent.{record_of}
 use Rattle.co_plain.specs.declared.member_view.MemberView.{MemberView}
 use Rattle.co_plain.specs.MemberView.{member_allows, told_by, first_refused_from, recovered_view}
 use Rattle.co_recover.specs.Recovered.{past_of_member}
 use Rattle.co_recover.proofs.Folds.{Reached, one_more, refused_here, at_end, none_means, some_means}
-use Rattle.co_recover.proofs.Votes.{nothing_there}
 use Rattle.co_recover.proofs.member.recover_member.Goals as goal
 
 pub returns-in-None : goal.returns-in-None
@@ -34,6 +32,3 @@ records-preserved c = record {
       (one_more (member_allows c.args.coords) told_by (first_refused_from c.args.coords) recovered_view (λ place v. refl) (λ place v r rs. refl) (λ r rs. refl)
       items lent.0 c.records.views c.next.new.self c.records.place c.in-Some.at c.records.view (record_of c.in-Some.item) reached lent.1 lent.2 next.0);
 }
-
-pub invariant_of-view : goal.invariant_of-view
-invariant_of-view c = λ t vote f. nothing_there c.new-2.result t vote c.new-2.ensures f
