@@ -1,6 +1,6 @@
 use crate::AnyEngine;
 use co_base::{Key, Kind, Range, Reply, Rows, Txn, Value};
-use co_engine::{Answers, Command, Played, Seen, play};
+use co_engine::{Answers, Command, Dump, Engine, Played, Seen, play};
 use co_pairs::{Pair, PairKind, Pairs};
 use co_state::RecordMap;
 use std::alloc::Global;
@@ -201,4 +201,47 @@ fn a_validating_engine_reads_the_last_install(rt: HostRuntime) -> Result<(), Fai
         (Act::Read(2, b"x"), Wanted::Got(b"1")),
     ];
     check(&rt, Kind::Occ, &steps)
+}
+
+/// What an engine of this kind dumps of one record, while a transaction takes it away.
+fn dumped<E: Engine + Drop>(alloc: Global, kind: Kind) -> Result<Dump, Fail>
+    requires { E.takes kind }
+{
+    let key = Key::new(alloc, b"x")?;
+    let mut engine = E::restore(alloc, kind, row(alloc, b"x", b"0")?, &[])?;
+    let mut pairs = Pairs::new(alloc);
+    let _ = engine.write(alloc, Txn(1), &key, None, &mut pairs)?;
+    Ok(engine.dump(alloc)?)
+}
+
+#[test]
+fn a_locking_engine_alone_writes_in_place(rt: HostRuntime) -> Result<(), Fail> {
+    for (kind, rows, undos) in [(Kind::Lock, 0, 1), (Kind::Occ, 1, 0), (Kind::Mv, 1, 0)] {
+        let dump = dumped::<AnyEngine>(rt.alloc(), kind)?;
+        assert_eq!(rt; dump.rows.len(), rows);
+        assert_eq!(rt; dump.undos.len(), undos);
+    }
+    Ok(())
+}
+
+/// Whether a read is stale on an engine of this kind, once another transaction committed a write there.
+fn is_overwritten<E: Engine + Drop>(alloc: Global, kind: Kind) -> Result<bool, Fail>
+    requires { E.takes kind }
+{
+    let key = Key::new(alloc, b"x")?;
+    let mut engine = E::restore(alloc, kind, Rows::new(alloc), &[])?;
+    let mut pairs = Pairs::new(alloc);
+    let _ = engine.read(alloc, Txn(2), &key, &mut pairs)?;
+    let _ = engine.write(alloc, Txn(1), &key, None, &mut pairs)?;
+    engine.cast(Txn(1));
+    engine.install(alloc, Txn(1))?;
+    Ok(engine.sets(Txn(2)).reads().len() == 1 && engine.stale(Txn(2)).is_some())
+}
+
+#[test]
+fn a_read_is_overwritten_where_nobody_is_blocked(rt: HostRuntime) -> Result<(), Fail> {
+    for kind in [Kind::Occ, Kind::Mv] {
+        assert!(rt; is_overwritten::<AnyEngine>(rt.alloc(), kind)?);
+    }
+    Ok(())
 }
