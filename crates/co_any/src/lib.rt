@@ -4,5 +4,7 @@
 #![tactic(auto)]
 
 mod any_engine;
+#[cfg(test)]
+mod tests;
 
 pub use any_engine::AnyEngine;

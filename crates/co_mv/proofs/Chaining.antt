@@ -12,7 +12,7 @@ use Rattle.co_base.specs.declared.written.Written.{Written}
 use Rattle.co_state.specs.Keys.{same_key}
 use Rattle.co_mv.specs.declared.version.Version.{Version}
 use Rattle.co_mv.specs.Chains.{Chains, chain_in, chain_of, laid, rewritten, rewritten_all, narrowed_in, narrowed, settled, pruned, pruned_all}
-use Rattle.co_mv.specs.Kept.{IsPruned}
+use Rattle.co_mv.specs.Kept.{IsPruned, AreLeft}
 use Rattle.co_mv.specs.Recents.{Recents, keys_at, has_key}
 use Rattle.co_mv.specs.Versions.{later, last_change, closed}
 use Rattle.co_mv.proofs.Needing.{Each, filter-within}
@@ -141,6 +141,13 @@ pruned_end keep recents from k to old new h p = λ key. by key (p key)
         → (chain_of new key ≡ filter keep (chain_of old key)) ⊎ ((chain_of new key ≡ chain_of old key) × ((n : ℕ) → from < n → n ≤ to → has_key (keys_at recents n) key ≡ false))
     by key (inl e) = inl e
     by key (inr e) = inr (e.0, λ n a b. e.1 n a (omega (arith, b, h)))
+
+pub left_step : (keep : Version → Bool) (recents : Recents) (from to k : ℕ) (old mid : Chains) → from ≤ k → k < to → AreLeft recents from to old mid
+    → AreLeft recents from to old (pruned_all keep mid (keys_at recents (k + 1)))
+left_step keep recents from to k old mid a b h = λ key none.
+    chain-pruned_all keep mid (keys_at recents (k + 1)) key
+    ∙ ap (λ c. if c then filter keep (chain_of mid key) else chain_of mid key) (none (k + 1) (omega (arith, a)) (omega (arith, b)))
+    ∙ h key none
 
 -- ---- changes of an install
 abbrev pub fresh : ℕ → Option (List ℕ) → Version

@@ -5,7 +5,6 @@ use Rattle.std.proofs.lemmas.Bool.Decides.{nat_tests}
 use Rattle.std.specs.FinMap.{entries, entries_sorted, get-entries}
 use Rattle.std.specs.FinMap.Entries.{find, below_all, is_sorted}
 use Rattle.std.specs.Ordering.{nat_cmp, eq_by_cmp}
-use Rattle.co_state.specs.Table.{look}
 use Rattle.co_mv.specs.declared.snapshots.Snapshots.{Snapshots}
 use Rattle.co_mv.specs.Kept.{IsNeeded, IsNext, nearer, nearest}
 use Rattle.co_mv.proofs.Needing.{first, second, some_same, find-later, find-first}

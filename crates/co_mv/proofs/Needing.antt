@@ -1,7 +1,6 @@
 -- The needed numbers, and which versions are kept for them.
-use Rattle.std.proofs.Common.{◌≡◌, ◌⊎◌, inl, inr, T, ℕ, suc, ◌<◌, ◌≤◌, Bool, true, false, cond, not, ◌&&◌, ◌||◌, List, [], ◌∷◌, map, filter, length, if◌then◌else◌, is_some, Option, None, Some, refl, sym, ap, ◌∙◌, subst, true≢false, arith}
+use Rattle.std.proofs.Common.{◌≡◌, inl, inr, T, ℕ, suc, ◌<◌, ◌≤◌, Bool, true, false, cond, not, ◌&&◌, ◌||◌, List, [], ◌∷◌, map, filter, length, is_some, Option, None, Some, refl, sym, ap, ◌∙◌, subst, true≢false, arith}
 use Rattle.std.specs.Prelude.{nat_lt, nat_le}
-use Rattle.std.proofs.lemmas.Bool.Decides.{nat_tests}
 use Rattle.std.specs.List.{list_any, list_all}
 use Rattle.std.specs.FinMap.{entries, entries_sorted, get-entries, nat_cmp-IsAntisymmetric}
 use Rattle.std.specs.FinMap.Entries.{find, below_all, is_sorted}
@@ -10,12 +9,11 @@ use Rattle.std.specs.Cmp.{nat_cmp_total, eq_by_cmp_equiv, both_ways}
 use Rattle.std.specs.declared.cmp.Ordering.{Ordering}
 use Rattle.std.specs.declared.cmp.Ordering.TheVariants.{Less, Equal, Greater}
 use Rattle.co_state.specs.declared.engine_state.Install.{Install}
-use Rattle.co_state.specs.Table.{look}
 use Rattle.co_mv.specs.declared.snapshots.Snapshots.{Snapshots}
 use Rattle.co_mv.specs.declared.version.Version.{Version}
 use Rattle.co_mv.specs.Kept.{needed, grown, IsNeeded}
 use Rattle.co_mv.specs.Versions.{closed_by, closed, is_before, sees, is_gone, is_kept}
-use Rattle.co_mv.proofs.Versioning.{le_true, true_le, lt_true, true_lt, and_first, and_second, and-false, IsLink, Linked, IsWritten, written_bound}
+use Rattle.co_mv.proofs.Versioning.{le_true, true_le, true_lt, and_first, and_second, and-false, IsLink, Linked, written_bound}
 
 tie : (r : Ordering) → is_eq r ≡ true → r ≡ Equal
 tie Less e = absurd (subst T (sym e) tt)

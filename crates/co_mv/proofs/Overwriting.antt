@@ -1,23 +1,22 @@
 -- The keys that were written since a transaction read them.
-use Rattle.std.proofs.Common.{◌≡◌, T, ℕ, suc, ◌<◌, ◌≤◌, Bool, true, false, cond, not, ◌&&◌, ◌||◌, List, [], ◌∷◌, ◌++◌, map, filter, length, if◌then◌else◌, is_some, Option, None, Some, refl, sym, ap, ◌∙◌, subst, true≢false, eqb→eq, arith}
+use Rattle.std.proofs.Common.{◌≡◌, T, ℕ, suc, ◌<◌, ◌≤◌, Bool, true, false, cond, ◌&&◌, ◌||◌, List, [], ◌∷◌, ◌++◌, map, filter, length, if◌then◌else◌, is_some, Option, None, Some, refl, sym, ap, ◌∙◌, subst, true≢false, eqb→eq, arith}
 use Rattle.std.specs.Prelude.{nat_lt, nat_le, ◌==◌}
 use Rattle.std.proofs.lemmas.Bool.Decides.{nat_tests}
 use Rattle.std.specs.List.{list_any, list_all}
 use Rattle.std.specs.Cmp.{both_ways}
-use Rattle.std.specs.FinMap.{entries, entries_sorted, get, get-entries}
-use Rattle.std.specs.FinMap.Entries.{find, below_all, is_sorted}
+use Rattle.std.specs.FinMap.{get}
+use Rattle.std.specs.FinMap.Entries.{find, is_sorted}
 use Rattle.co_base.specs.Order.{key_cmp}
 use Rattle.co_base.specs.Span.{Span, span_has}
-use Rattle.co_base.specs.declared.written.Written.{Written}
 use Rattle.co_serial.specs.Records.{Records}
 use Rattle.co_state.specs.declared.engine_state.Install.{Install}
 use Rattle.co_state.specs.declared.engine_state.Operation.{Operation}
 use Rattle.co_state.specs.Changes.{span_read, spans_of, with_span}
-use Rattle.co_state.specs.Keys.{same_key, writes_key, reads_key, least_key}
+use Rattle.co_state.specs.Keys.{same_key, writes_key, reads_key}
 use Rattle.co_state.specs.Search.{range_has}
 use Rattle.co_state.specs.StaleRead.{keys_since, overwritten, stale_keys}
 use Rattle.co_mv.specs.declared.version.Version.{Version}
-use Rattle.co_mv.specs.Chains.{Chains, chain_in, chain_of}
+use Rattle.co_mv.specs.Chains.{chain_in}
 use Rattle.co_mv.specs.Overwritten.{written_keys, written_within}
 use Rattle.co_mv.specs.Recents.{has_key}
 use Rattle.co_mv.specs.Versions.{last_change, base_versions, closed, written_over, versions_of, written_since}
@@ -25,7 +24,7 @@ use Rattle.co_mv.proofs.Archiving.{has-keys}
 use Rattle.co_mv.proofs.Chaining.{same_keys}
 use Rattle.co_mv.proofs.Growing.{reads_key-put}
 use Rattle.co_mv.proofs.Visible.{key-below, find-within, sorted-within, first, second}
-use Rattle.co_mv.proofs.Versioning.{le_true, true_le, lt_true, true_lt, lt_false, le_false, and_first, and_second, and-false, key_symm, writes-change, IsLink, Linked, linked, IsWritten, written_bound}
+use Rattle.co_mv.proofs.Versioning.{true_le, lt_true, true_lt, lt_false, and_first, and_second, and-false, key_symm, writes-change, IsLink, Linked, linked, written_bound}
 
 or_assoc : (a b c : Bool) → (a || (b || c)) ≡ ((a || b) || c)
 or_assoc true b c = refl

@@ -1,5 +1,5 @@
 -- Rows as versions before all installs, the last row first.
-use Rattle.std.proofs.Common.{◌≡◌, ℕ, List, [], ◌∷◌, ◌++◌, Some, refl, ap}
+use Rattle.std.proofs.Common.{◌≡◌, List, [], ◌∷◌, ◌++◌, Some, refl, ap}
 use Rattle.std.specs.FinMap.{empty, insert}
 use Rattle.co_base.specs.declared.row.Row.{Row}
 use Rattle.co_mv.specs.Chains.{Chains, chains_from}

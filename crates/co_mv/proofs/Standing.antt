@@ -1,12 +1,11 @@
 -- For which states the engine stands after each call.
-use Rattle.std.proofs.Common.{◌≡◌, ◌⊎◌, inl, inr, T, ℕ, suc, ◌<◌, ◌≤◌, Bool, true, false, cond, not, ◌&&◌, ◌||◌, List, [], ◌∷◌, map, filter, length, reverse, if◌then◌else◌, is_some, Option, None, Some, IsTrue, refl, sym, ap, ◌∙◌, subst, true≢false, eqb→eq, eq-eqb, arith}
-use Rattle.std.specs.Prelude.{nat_lt, nat_le, ◌==◌}
-use Rattle.std.proofs.lemmas.Bool.Decides.{nat_tests}
+use Rattle.std.proofs.Common.{◌≡◌, inl, inr, T, ℕ, ◌<◌, ◌≤◌, Bool, true, false, cond, not, ◌&&◌, List, [], ◌∷◌, map, filter, length, reverse, if◌then◌else◌, is_some, Option, None, Some, IsTrue, refl, sym, ap, ◌∙◌, subst, true≢false, eqb→eq, eq-eqb, arith}
+use Rattle.std.specs.Prelude.{◌==◌}
 use Rattle.std.specs.List.{list_all}
 use Rattle.std.specs.Option.{option_map}
 use Rattle.std.specs.Ordering.{nat_cmp, eq_by_cmp, is_lt}
 use Rattle.std.specs.Cmp.{nat_cmp_total}
-use Rattle.std.specs.FinMap.{FinMap, empty, entries, entries_sorted, get, get-entries, get-empty, nat_cmp-IsAntisymmetric}
+use Rattle.std.specs.FinMap.{empty, entries, entries_sorted, get, get-entries, get-empty, nat_cmp-IsAntisymmetric}
 use Rattle.std.specs.FinMap.Entries.{find, below_all, is_sorted, same_entries}
 use Rattle.co_base.specs.Span.{Span, span_has}
 use Rattle.co_base.specs.declared.head.Kind.{Kind}
@@ -20,33 +19,30 @@ use Rattle.co_state.specs.declared.engine_state.Install.{Install}
 use Rattle.co_state.specs.declared.engine_state.Operation.{Operation}
 use Rattle.co_state.specs.declared.engine_state.Sets.{Sets}
 use Rattle.co_state.specs.declared.engine_state.Vote.{Vote}
-use Rattle.co_state.specs.declared.pair.Pair.{Pair}
-use Rattle.co_state.specs.Changes.{sets_of, no_sets, changes_of, span_read, spans_of}
-use Rattle.co_state.specs.Conflicts.{AreNewPairs, has_pair}
-use Rattle.co_state.specs.Effects.{with_operation, after_operation, after_cast, after_install, after_drop, install_vote, restored, records_from, dumped_rows}
-use Rattle.co_state.specs.EngineState.{operations_in, operations_of, sets_in, sets_at, records_at, records_now, installed_records}
+use Rattle.co_state.specs.Changes.{sets_of, span_read}
+use Rattle.co_state.specs.Conflicts.{AreNewPairs}
+use Rattle.co_state.specs.Effects.{with_operation, after_cast, after_install, after_drop, install_vote, restored, dumped_rows}
+use Rattle.co_state.specs.EngineState.{operations_in, operations_of, sets_in, sets_at, records_at, records_now}
 use Rattle.co_state.specs.Keys.{least_key, reads_key}
 use Rattle.co_state.specs.LockRule.{lock_blocker, lock_holder, blocker_by}
 use Rattle.co_state.specs.ReadRule.{stamp_after, snapshot_of, operation_reply}
-use Rattle.co_state.specs.StaleRead.{stale_key, stale_keys, keys_since}
-use Rattle.co_state.specs.Table.{Table, no_entries, look, put, without, holds}
+use Rattle.co_state.specs.StaleRead.{stale_key, keys_since}
+use Rattle.co_state.specs.Table.{no_entries, look, put, without, holds}
 use Rattle.co_state.proofs.Tables.{look-put, look-without, put-without}
-use Rattle.co_engine.specs.Calls.{may_operate, is_installed, votes_of, vote_in, seen_by, seen_of}
-use Rattle.co_engine.specs.declared.answers.Seen.TheVariants.{Answer}
+use Rattle.co_engine.specs.Calls.{may_operate, is_installed, votes_of, vote_in}
 use Rattle.co_mv.specs.declared.archive.Archive.{Archive}
 use Rattle.co_mv.specs.declared.mv_engine.MvEngine.{MvEngine}
-use Rattle.co_mv.specs.declared.snapshots.Snapshots.{Snapshots}
 use Rattle.co_mv.specs.declared.version.Version.{Version}
 use Rattle.co_mv.specs.Chains.{chain_of, chain_in}
 use Rattle.co_mv.specs.Kept.{needed, or_now, stamp_of, entered, left, grown, IsNeeded, Keeps, AreStamped, active_sets, voted_sets, IsKept, StandsFor, visible_within, prepared_sets}
 use Rattle.co_mv.specs.NewPairs.{or_nothing, grown_by, pairs_made}
 use Rattle.co_mv.specs.Overwritten.{written_within}
-use Rattle.co_mv.specs.Reading.{all_noted, laid_within}
+use Rattle.co_mv.specs.Reading.{all_noted}
 use Rattle.co_mv.specs.Recents.{has_key}
 use Rattle.co_mv.specs.Versions.{first_stamp, needed_numbers, kept_versions, is_kept, versions_of, seen_value, written_since}
 use Rattle.co_mv.proofs.Archiving.{stamp_needed}
 use Rattle.co_mv.proofs.Least.{least_same}
-use Rattle.co_mv.proofs.Needing.{tied, ties-itself, kept_for_all, not_kept, sees_open}
+use Rattle.co_mv.proofs.Needing.{tied, kept_for_all, not_kept, sees_open}
 use Rattle.co_mv.proofs.Overwriting.{has-stale, has-within, since-versions, since-kept}
 use Rattle.co_mv.proofs.Growing.{made_alike}
 use Rattle.co_mv.proofs.Pairing.{Grows, made_exactly, made_once, ties}

@@ -1,18 +1,18 @@
 -- Records that are read from versions.
-use Rattle.std.proofs.Common.{◌≡◌, T, ℕ, Bool, true, false, cond, not, ◌&&◌, List, [], ◌∷◌, map, filter, if◌then◌else◌, Option, None, Some, refl, sym, ap, ◌∙◌, subst, true≢false}
+use Rattle.std.proofs.Common.{◌≡◌, T, ℕ, Bool, true, false, cond, not, ◌&&◌, List, [], ◌∷◌, map, filter, if◌then◌else◌, Option, None, Some, refl, sym, ap, ◌∙◌, true≢false}
 use Rattle.std.proofs.lemmas.Cmp.{nat_list_cmp_total}
-use Rattle.std.specs.Ordering.{is_eq, is_lt, is_gt, eq_by_cmp}
+use Rattle.std.specs.Ordering.{is_eq, is_lt, is_gt}
 use Rattle.std.specs.declared.cmp.Ordering.{Ordering}
 use Rattle.std.specs.declared.cmp.Ordering.TheVariants.{Less, Equal, Greater}
 use Rattle.std.specs.FinMap.{empty, entries, entries_sorted, get, get-entries, get-empty, same_map, slice_cmp-IsAntisymmetric, nat_cmp-IsAntisymmetric}
-use Rattle.std.specs.FinMap.Entries.{find, below_all, is_sorted, where_key, same_entries, find-where_key, is_sorted-where_key}
+use Rattle.std.specs.FinMap.Entries.{find, below_all, is_sorted, same_entries, find-where_key, is_sorted-where_key}
 use Rattle.co_base.specs.Order.{key_cmp}
 use Rattle.co_base.specs.Span.{Span, span_has, span_of_key}
 use Rattle.co_base.specs.declared.op.Op.{Op}
 use Rattle.co_base.specs.declared.op.Op.TheVariants.{Read, Write, Erase, Scan}
 use Rattle.co_base.specs.declared.reply.Reply.TheVariants.{Got, Rows}
 use Rattle.co_base.specs.declared.written.Written.{Written}
-use Rattle.co_serial.specs.Records.{Records, row_of, all_rows, rows_within, with_change, with_changes}
+use Rattle.co_serial.specs.Records.{Records, row_of, rows_within, with_change, with_changes}
 use Rattle.co_serial.specs.SerialRun.{reply_to}
 use Rattle.co_state.specs.Changes.{span_read}
 use Rattle.co_state.specs.Keys.{same_key}

@@ -1,5 +1,5 @@
 -- What a multiversion engine keeps, and for which states it stands.
-use Rattle.std.specs.Prelude.{ℕ, suc, Bool, true, false, ◌≡◌, ◌⊎◌, ◌<◌, ◌≤◌, ◌&&◌, ◌||◌, ◌==◌, nat_le, nat_lt, List, [], ◌∷◌, map, filter, length, if◌then◌else◌, is_some, Option, None, Some}
+use Rattle.std.specs.Prelude.{ℕ, suc, Bool, true, false, ◌≡◌, ◌⊎◌, ◌<◌, ◌≤◌, ◌&&◌, ◌||◌, ◌==◌, nat_le, nat_lt, List, [], ◌∷◌, map, filter, length, if◌then◌else◌, Option, None, Some}
 use Rattle.std.specs.List.{list_all}
 use Rattle.std.specs.Option.{option_map}
 use Rattle.std.specs.FinMap.{empty, entries}
@@ -62,6 +62,11 @@ abbrev pub IsPruned : (Version → Bool) → Recents → ℕ → ℕ → Chains 
 IsPruned keep recents from to old new =
     (key : List ℕ) → (chain_of new key ≡ filter keep (chain_of old key))
     ⊎ ((chain_of new key ≡ chain_of old key) × ((n : ℕ) → from < n → n ≤ to → has_key (keys_at recents n) key ≡ false))
+
+-- a key that no install of the window wrote keeps its versions
+abbrev pub AreLeft : Recents → ℕ → ℕ → Chains → Chains → Type 0
+AreLeft recents from to old new =
+    (key : List ℕ) → ((n : ℕ) → from < n → n ≤ to → has_key (keys_at recents n) key ≡ false) → chain_of new key ≡ chain_of old key
 
 -- ---- the snapshots after calls
 abbrev pub entered : Snapshots → ℕ → Snapshots

@@ -1,7 +1,7 @@
 //! Versions and installs that are forgotten, install after install.
 ghost use Rattle.std.specs.Prelude.{◌≡◌, ◌<◌, ◌≤◌, [], ℕ};
 ghost use Rattle.co_mv.specs.Versions.{is_kept};
-ghost use Rattle.co_mv.specs.Kept.{needed, IsPruned};
+ghost use Rattle.co_mv.specs.Kept.{needed, IsPruned, AreLeft};
 ghost use Rattle.co_mv.specs.Recents.{keys_at};
 
 use crate::chains::Chains;
@@ -17,7 +17,8 @@ pub fn prune_window(
     to: u64,
     snapshots: &Snapshots,
 )
-    ensures { IsPruned (is_kept (needed snapshots.now)) recents.now from to chains.old chains.new }
+    ensures pruned { IsPruned (is_kept (needed snapshots.now)) recents.now from to chains.old chains.new }
+    ensures others { AreLeft recents.now from to chains.old chains.new }
 {
     let mut install = from;
     while install < to {

@@ -1,10 +1,14 @@
-use Rattle.co_mv.specs.Kept.{needed, IsPruned}
+use Rattle.co_mv.specs.Kept.{needed, IsPruned, AreLeft}
 use Rattle.co_mv.specs.Versions.{is_kept}
-use Rattle.std.proofs.Common.{◌-◌}
+use Rattle.std.proofs.Common.{◌≤◌, ◌-◌}
 use Rattle.co_mv.proofs.pruning.prune_window.Given as goal
 
 abbrev pub invariant-loop-install : goal.invariant-loop-install
-invariant-loop-install l = IsPruned (is_kept (needed l.snapshots)) l.recents l.from l.install l.initial.chains l.chains
+invariant-loop-install l = record {
+  within : l.from ≤ l.install;
+  pruned : IsPruned (is_kept (needed l.snapshots)) l.recents l.from l.install l.initial.chains l.chains;
+  others : AreLeft l.recents l.from l.to l.initial.chains l.chains;
+}
 
 abbrev pub decreases-loop-install : goal.decreases-loop-install
 decreases-loop-install l = l.to - l.install

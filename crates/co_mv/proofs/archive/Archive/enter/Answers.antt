@@ -1,4 +1,4 @@
-use Rattle.std.proofs.Common.{◌≡◌, ap, ◌∙◌, refl}
+use Rattle.std.proofs.Common.{ap, ◌∙◌, refl}
 use Rattle.co_state.specs.Table.{put}
 use Rattle.co_state.proofs.Tables.{on_ok}
 use Rattle.co_mv.proofs.Archiving.{keeps_entered}

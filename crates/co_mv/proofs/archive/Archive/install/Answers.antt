@@ -1,4 +1,4 @@
-use Rattle.std.proofs.Common.{◌≡◌, sym, ap, ◌∙◌, refl, add-one, suc, ◌+◌}
+use Rattle.std.proofs.Common.{◌≡◌, sym, ◌∙◌, add-one, suc, ◌+◌}
 use Rattle.co_mv.specs.Chains.{rewritten_all}
 use Rattle.co_mv.specs.Kept.{needed}
 use Rattle.co_mv.specs.Versions.{is_kept}

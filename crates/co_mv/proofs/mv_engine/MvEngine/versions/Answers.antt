@@ -1,4 +1,4 @@
-use Rattle.std.proofs.Common.{length, reverse, sym, ap, ◌∙◌}
+use Rattle.std.proofs.Common.{length, sym, ap, ◌∙◌}
 use Rattle.std.proofs.lemmas.List.{length-reverse}
 use Rattle.co_mv.specs.Chains.{chain_of}
 use Rattle.co_mv.proofs.Standing.{versions_alike}
