@@ -1,5 +1,5 @@
 -- The locks of the votes that stand: each vote holds what it read for reading and what it wrote for writing.
-use Rattle.std.specs.Prelude.{ℕ, Bool, ◌≡◌, ◌&&◌, ◌||◌, ◌==◌, not, false, true, List, if◌then◌else◌, Option, None, Some, is_none}
+use Rattle.std.specs.Prelude.{ℕ, Bool, ◌≡◌, ◌&&◌, ◌||◌, ◌==◌, not, false, true, List, map, if◌then◌else◌, Option, None, Some, is_none}
 use Rattle.std.specs.List.{list_any}
 use Rattle.co_base.specs.Span.{Span}
 use Rattle.co_base.specs.declared.written.Written.{Written}
@@ -31,6 +31,13 @@ with_reads held t spans = record held { reads = λ u key. ((u == t) && reads_key
 
 abbrev pub with_writes : Held → ℕ → List Written → Held
 with_writes held t changes = record held { writes = λ u key. ((u == t) && writes_key changes key) || held.writes u key }
+
+-- a change of the same key, without its value
+abbrev pub without_value : Written → Written
+without_value w = record { key = w.key; value = None }
+
+abbrev pub without_values : Sets → Sets
+without_values sets = record { reads = sets.reads; writes = map without_value sets.writes }
 
 -- what a transaction that may have voted read and wrote
 abbrev pub sets_in : Option Vote → Sets

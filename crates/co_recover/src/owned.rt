@@ -8,6 +8,7 @@ ghost use Rattle.co_record.specs.Reading.{span_of, row_of};
 ghost use Rattle.co_record.specs.Spelling.{IsKey, IsValue, IsRange, IsRow, IsChange};
 ghost use Rattle.co_serial.specs.Records.{with_changes};
 ghost use Rattle.co_plain.specs.MemberView.{numbers_from};
+ghost use Rattle.co_recover.specs.Locked.{without_value, without_values};
 
 use crate::vote::LentSets;
 use co_base::{BaseFault, Key, Range, Ranges, Row, Sequence, Value, Writes, Written};
@@ -93,6 +94,30 @@ pub(crate) fn writes_of(alloc: Global, mut walk: ChangeWalk<'_>) -> Result<Write
         })?;
     }
     Ok(writes)
+}
+
+/// The changes of a lent record without their values.
+fn changed_keys_of(alloc: Global, mut walk: ChangeWalk<'_>) -> Result<Writes, AllocError>
+    requires { AllByRecursion IsChange walk }
+    ensures { IfOk result (λ writes. writes ≡ map without_value walk.entry) }
+{
+    let mut writes = Writes::new(alloc);
+    while let Some((key, _)) = walk.next() {
+        writes.push(Written {
+            key: key_of(alloc, key)?,
+            value: None,
+        })?;
+    }
+    Ok(writes)
+}
+
+/// What a lent record says was read, and which keys were written. The values stay where they are lent from.
+pub(crate) fn touched_of(alloc: Global, sets: &LentSets<'_>) -> Result<Sets, AllocError>
+    ensures { IfOk result (λ touched. touched ≡ without_values sets.now) }
+{
+    let reads = ranges_of(alloc, sets.reads.again())?;
+    let writes = changed_keys_of(alloc, sets.writes.again())?;
+    Ok(Sets { reads, writes })
 }
 
 /// What a lent record says was read and written.

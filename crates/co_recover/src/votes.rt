@@ -4,7 +4,7 @@ ghost use Rattle.co_state.specs.Table.{no_entries, look, without, holds};
 ghost use Rattle.co_recover.specs.Locked.{with_vote};
 
 use crate::locks::{hold, vote_against};
-use crate::owned::sets_of;
+use crate::owned::touched_of;
 use crate::vote::LentVote;
 use co_base::Txn;
 use co_locktab::LockTable;
@@ -76,7 +76,7 @@ impl<'a> LockedVotes<'a> {
             mut voted,
             mut locks,
         } = self;
-        let sets = sets_of(alloc, &vote.sets)?;
+        let sets = touched_of(alloc, &vote.sets)?;
         if vote_against(&locks, t, &sets).is_some() {
             return Ok(None);
         }
