@@ -1,5 +1,5 @@
 -- Changes without their values are of the same keys, so they are in conflict with the same votes and take the same locks.
-use Rattle.std.proofs.Common.{◌≡◌, ℕ, Bool, not, ◌&&◌, ◌||◌, List, [], ◌∷◌, map, Option, refl, ap}
+use Rattle.std.proofs.Common.{◌≡◌, ℕ, not, ◌&&◌, ◌||◌, List, [], ◌∷◌, map, Option, refl, ap}
 use Rattle.std.specs.Prelude.{◌==◌}
 use Rattle.co_base.specs.Span.{Span}
 use Rattle.co_base.specs.declared.written.Written.{Written}
