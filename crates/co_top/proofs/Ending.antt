@@ -1,9 +1,8 @@
 -- How a replay ends, by how its text was put.
-use Rattle.std.proofs.Common.{◌≡◌, ◌⊎◌, inl, inr, ℕ, List, [], ◌++◌, Option, None, Some, Result, Ok, Err, take, refl, sym, ap, ◌∙◌, subst, append-nil}
+use Rattle.std.proofs.Common.{◌≡◌, inl, inr, ℕ, List, ◌++◌, Option, None, Some, Result, Ok, Err, take, refl, sym, ap, ◌∙◌, append-nil}
 use Rattle.std.specs.Prelude.{OnOk, OnErr}
 use Rattle.co_outside.specs.declared.sink.SinkFault.{SinkFault}
 use Rattle.co_outside.specs.declared.sink.SinkFault.TheVariants as fault
-use Rattle.co_top.specs.declared.status.Status.{Status}
 use Rattle.co_top.specs.declared.status.Status.TheVariants as status
 use Rattle.co_top.specs.Ends.{Replays, HasEnd, IsEnd, IsPut, status_after, status_of}
 use Rattle.co_top.proofs.OneReplay.{one_replay}

@@ -1,14 +1,12 @@
 -- What is read has one replay.
-use Rattle.std.proofs.Common.{◌≡◌, ◌⊎◌, inl, inr, ℕ, Bool, true, List, [], ◌∷◌, length, Option, Some, refl, sym, ap, ◌∙◌, subst}
+use Rattle.std.proofs.Common.{◌≡◌, inl, inr, ℕ, Bool, List, [], ◌∷◌, length, Option, sym, ap, ◌∙◌, subst}
 use Rattle.co_base.specs.declared.head.Head.{Head}
-use Rattle.co_message.specs.declared.event.Event.{Event}
 use Rattle.co_schedule.proofs.HeadUnique.{head_line}
-use Rattle.co_replay.specs.Schedule.{IsHeadLine, AreRead}
 use Rattle.co_replay.specs.Transcript.{items_text}
 use Rattle.co_replay.proofs.Same.{same_events}
 use Rattle.co_top.specs.Ends.{IsReplayed, LinesReplayed, Replays, stop_behind}
 use Rattle.co_top.specs.FirstPath.{first_items}
-use Rattle.co_top.specs.Forms.{built_front, is_built_head}
+use Rattle.co_top.specs.Forms.{built_front}
 use Rattle.co_top.specs.Input.{is_long, lines_within}
 
 abbrev pub Same : List ℕ → List ℕ → Option ℕ → Option ℕ → Type 0

@@ -1,8 +1,7 @@
 -- A run with locks that are held to the decision is a run of the events that are not blocked so.
-use Rattle.std.proofs.Common.{◌≡◌, ℕ, Bool, true, false, ◌&&◌, ◌||◌, List, [], ◌∷◌, ◌++◌, Option, None, Some, refl, sym, ap, ◌∙◌, subst}
+use Rattle.std.proofs.Common.{◌≡◌, ℕ, Bool, true, false, ◌&&◌, ◌||◌, List, [], ◌∷◌, Option, None, Some, refl, sym, ap, ◌∙◌, subst}
 use Rattle.co_base.specs.declared.head.Head.{Head}
 use Rattle.co_message.specs.declared.event.Event.{Event}
-use Rattle.co_plain.specs.declared.session.Decided.{Decided}
 use Rattle.co_plain.specs.Decisions.{is_decided}
 use Rattle.co_plain.specs.Federation.{Federation}
 use Rattle.co_plain.specs.Opening.{fresh}

@@ -1,5 +1,5 @@
 -- How a command ends, and what it has written then.
-use Rattle.std.specs.Prelude.{ℕ, Bool, true, false, ◌||◌, ◌+◌, ◌≡◌, ◌⊎◌, nat_lt, List, [], ◌∷◌, ◌++◌, length, take, if◌then◌else◌, Option, None, Some, Result, Ok, Err, codes, decimal}
+use Rattle.std.specs.Prelude.{ℕ, Bool, true, ◌||◌, ◌+◌, ◌≡◌, ◌⊎◌, nat_lt, List, [], ◌∷◌, ◌++◌, length, take, if◌then◌else◌, Option, None, Some, Result, Ok, Err, codes, decimal}
 use Rattle.co_base.specs.declared.head.Head.{Head}
 use Rattle.co_message.specs.declared.event.Event.{Event}
 use Rattle.co_outside.specs.declared.sink.SinkFault.{SinkFault}

@@ -1,6 +1,6 @@
 -- Locks that are held to the decision (rigorous two-phase locking: Breitbart, Georgakopoulos, Rusinkiewicz and
 -- Silberschatz 1991). Beside what is in its way in any case, a reader that voted is in the way of a write.
-use Rattle.std.specs.Prelude.{ℕ, Bool, true, false, not, ◌&&◌, ◌==◌, List, [], ◌∷◌, if◌then◌else◌, Option, None, Some}
+use Rattle.std.specs.Prelude.{ℕ, Bool, true, false, not, ◌&&◌, ◌==◌, List, if◌then◌else◌, Option, None, Some}
 use Rattle.co_base.specs.declared.op.Op.TheVariants as op
 use Rattle.co_message.specs.declared.answer.Answer.TheVariants as answer
 use Rattle.co_message.specs.declared.event.Event.{Event}

@@ -1,4 +1,4 @@
-use Rattle.std.proofs.Common.{ap, sym, ◌∙◌, ◌++◌, ◌∷◌, []}
+use Rattle.std.proofs.Common.{ap, ◌∙◌, ◌++◌}
 use Rattle.co_message.specs.declared.item.ItemKind.TheVariants as item
 use Rattle.co_plain.specs.Runs.{numbered}
 use Rattle.co_plain_run.specs.PlainProgram.{federation_of}

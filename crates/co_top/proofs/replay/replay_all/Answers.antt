@@ -1,4 +1,4 @@
-use Rattle.std.proofs.Common.{◌≡◌, ◌⊎◌, inl, inr, ◌∷◌, [], true, sym, ◌∙◌, ap}
+use Rattle.std.proofs.Common.{inl, inr, ◌∷◌, sym, ◌∙◌}
 use Rattle.co_replay.specs.Schedule.{texts_of}
 use Rattle.co_replay.proofs.Reading.{not_more}
 use Rattle.co_top.specs.Ends.{IsReplayed, LinesReplayed}

@@ -1,4 +1,4 @@
-use Rattle.std.proofs.Common.{◌≡◌, ◌<◌, [], length, sym, ap, ◌∙◌, rules, arith}
+use Rattle.std.proofs.Common.{◌≡◌, ◌<◌, [], length, ap, ◌∙◌, arith}
 use Rattle.co_replay.specs.Schedule.{texts_of}
 use Rattle.co_top.specs.Ends.{Replays}
 use Rattle.co_top.specs.Input.{lines_within}

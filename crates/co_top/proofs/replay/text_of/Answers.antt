@@ -1,12 +1,10 @@
-use Rattle.std.proofs.Common.{ap, sym, ◌≡◌, ◌∙◌, ◌++◌, ◌∷◌, [], List}
-use Rattle.co_record.specs.declared.record.Record.{Record}
+use Rattle.std.proofs.Common.{ap, sym, ◌≡◌, ◌∙◌, ◌++◌, ◌∷◌, []}
 use Rattle.co_message.specs.declared.item.ItemKind.TheVariants as item
 use Rattle.co_plain.specs.Opening.{fresh, fresh_federation, opening_items}
 use Rattle.co_plain.specs.Runs.{numbered}
-use Rattle.co_plain_run.specs.PlainProgram.{federation_of}
 use Rattle.co_replay.specs.Transcript.{items_text}
 use Rattle.co_replay.proofs.Appended.{items_text-append}
-use Rattle.co_top.specs.FirstPath.{first_items, fresh_of, rigorous_transcript, without_logs}
+use Rattle.co_top.specs.FirstPath.{fresh_of, rigorous_transcript, without_logs}
 use Rattle.co_top.proofs.replay.text_of.Goals as goal
 
 pub returns : goal.returns

@@ -1,4 +1,4 @@
-use Rattle.std.proofs.Common.{◌⊎◌, inl, inr, refl, sym, subst, ap}
+use Rattle.std.proofs.Common.{inr, refl, sym, subst}
 use Rattle.co_top.specs.Ends.{HasEnd, IsEnd, IsPut, Replays, status_of}
 use Rattle.co_top.proofs.Ending.{found_after, ends_after, put_after, put_nothing}
 use Rattle.co_top.proofs.top.put_replay.Goals as goal

@@ -1,4 +1,4 @@
-use Rattle.std.proofs.Common.{◌≡◌, sym, subst, ◌∙◌}
+use Rattle.std.proofs.Common.{sym, subst, ◌∙◌}
 use Rattle.co_top.specs.Ends.{HasEnd, Replays}
 use Rattle.co_top.proofs.top.replay.Goals as goal
 
