@@ -1,8 +1,7 @@
 -- Which file is current, and with which records.
-use Rattle.std.proofs.Common.{◌≡◌, ◌⊎◌, ℕ, ◌+◌, ◌<◌, ◌≤◌, Bool, true, false, List, [], ◌∷◌, length, refl, sym, ap, subst, ◌∙◌, arith, inl, inr}
+use Rattle.std.proofs.Common.{◌≡◌, ℕ, Bool, true, false, List, [], ◌∷◌, refl, sym, ap, subst, ◌∙◌, arith, inl, inr}
 use Rattle.std.specs.Prelude.{Option, Some, Result, Ok, Err}
 use Rattle.std.specs.Result.{IsErrAnd}
-use Rattle.co_base.specs.declared.mark.Mark.{Mark}
 use Rattle.co_base.specs.declared.node.Node.{Node}
 use Rattle.co_outside.specs.Home.{File}
 use Rattle.co_outside.specs.declared.spot.Spot.{Spot}
@@ -15,7 +14,7 @@ use Rattle.co_log.specs.declared.fault.LogFault.{LogFault}
 use Rattle.co_log.specs.declared.fault.LogFault.TheVariants.{Device, Stopped, Bad, Differs, Full, InUse, Memory}
 use Rattle.co_log.specs.Appending.{IsOfAppend}
 use Rattle.co_log.specs.Attaching.{IsOlder}
-use Rattle.co_log.specs.Current.{BeginsWith, IsCurrentOf, IsOrdered, IsOldCurrent, IsNewCurrent, IsCurrentIf, IsCurrentAfter}
+use Rattle.co_log.specs.Current.{BeginsWith, IsOrdered, IsOldCurrent, IsNewCurrent, IsCurrentIf, IsCurrentAfter}
 use Rattle.co_log.specs.LogFile.{next_gate, EndsAt, EndsAfter, OldOrBoth}
 use Rattle.co_log.specs.LogView.{LogView, IsHeld}
 use Rattle.co_log.specs.Scanning.{IsLogFile}

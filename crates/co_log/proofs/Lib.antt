@@ -10,4 +10,6 @@ pub mod Currents
 pub mod Ordered
 pub mod Short
 pub mod Once
+pub mod Splits
+pub mod Judged
 pub mod Tested

@@ -1,6 +1,6 @@
 -- Logs whose files are in order stay so.
 use Rattle.std.proofs.Common.{◌≡◌, ◌⊎◌, ℕ, ◌+◌, ◌<◌, Bool, true, false, List, [], ◌∷◌, ◌++◌, refl, sym, ap, subst, ◌∙◌, arith, inl, inr}
-use Rattle.std.specs.Prelude.{◌==◌, Option, Some, Result, Ok, Err}
+use Rattle.std.specs.Prelude.{◌==◌, Option, Result, Ok, Err}
 use Rattle.co_base.specs.Nodes.{IsValidNode}
 use Rattle.co_base.specs.declared.mark.Mark.{Mark}
 use Rattle.co_base.specs.declared.node.Node.{Node}

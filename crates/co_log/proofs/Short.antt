@@ -1,5 +1,5 @@
 -- Short lists are in order, and each of their elements is known.
-use Rattle.std.proofs.Common.{ℕ, zero, suc, List, [], ◌∷◌, ◌<◌, length, arith}
+use Rattle.std.proofs.Common.{zero, suc, [], ◌∷◌, arith}
 use Rattle.std.specs.List.{All}
 use Rattle.co_record.proofs.Short.{none_sorted, one_sorted, two_sorted}
 

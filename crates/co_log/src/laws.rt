@@ -1,5 +1,5 @@
 //! What holds of every log write.
-ghost use Rattle.std.specs.Prelude.{ℕ, List, ◌≡◌, ◌<◌, ◌≤◌, true, false, [], ◌∷◌, ◌⊎◌, Result, length};
+ghost use Rattle.std.specs.Prelude.{ℕ, List, Option, ◌≡◌, ◌<◌, ◌≤◌, true, false, [], ◌∷◌, ◌⊎◌, Result, length};
 ghost use Rattle.std.specs.List.{AllByRecursion};
 ghost use Rattle.co_base.specs.declared.leaves.Leaves.{Leaves};
 ghost use Rattle.co_disk.specs.DiskModel.{IsImage, IsChosen, stable_disk, after_write};
@@ -9,7 +9,7 @@ ghost use Rattle.co_record.specs.Spelling.{IsSpelled};
 ghost use Rattle.co_record.specs.Stored.{HasRecords};
 ghost use Rattle.co_base.specs.declared.node.Node.{Node};
 ghost use Rattle.co_disk.specs.DiskView.{DiskView};
-ghost use Rattle.co_log.specs.Attaching.{built, IsAttached};
+ghost use Rattle.co_log.specs.Attaching.{built, IsAttached, IsBadPair};
 ghost use Rattle.co_base.specs.Nodes.{IsValidNode};
 ghost use Rattle.co_base.specs.declared.mark.Mark.{Mark};
 ghost use Rattle.co_log.specs.declared.fault.LogFault.{LogFault};
@@ -21,6 +21,7 @@ ghost use Rattle.co_log.specs.LogView.{LogView, IsLive};
 ghost use Rattle.co_log.specs.BatchWrite.{closed_batch, batch_pending, gate_pending, disk_at, disk_after};
 ghost use Rattle.co_record.specs.Gate.{batch_is_stable};
 ghost use Rattle.co_log.specs.LogFile.{spelled, EndsAt, EndsAfter, OldOrBoth};
+ghost use Rattle.co_log.specs.Scanning.{IsLogFile, IsBadAt};
 
 /// A file that ends at a gate that is not open has the records in front of it; and it has no batch where
 /// that gate is its first byte.
@@ -75,4 +76,18 @@ pub fn starts_find_the_current_file()
         IsAttached node a b log → log ≡ built node a b current.gate generation }
     ensures part_b { (node : Node) (a b : DiskView) (log : LogView) (generation : ℕ) (items : List (ℕ × Record)) (current : IsCurrentOf node generation b.state.stable a.state.stable items) →
         IsAttached node a b log → log ≡ built node b a current.gate generation }
+{}
+
+/// A file is a log of its node, with one gate and one generation, or bad at one place, and not both. Over the two
+/// files of a node a log is attached, or one of them is bad at one place, and not both. At most one of the two is
+/// current, with one list of records; a file without a batch is not.
+pub fn files_are_judged_once()
+    ensures log { (node : Node) (bytes : List ℕ) (this that : ℕ) (g h : Option ℕ) → IsLogFile node bytes this g → IsLogFile node bytes that h → (this ≡ that) × (g ≡ h) }
+    ensures place { (node : Node) (bytes : List ℕ) (this that : ℕ) → IsBadAt node bytes this → IsBadAt node bytes that → this ≡ that }
+    ensures either { (node : Node) (bytes : List ℕ) (gate at : ℕ) (g : Option ℕ) → IsLogFile node bytes gate g → IsBadAt node bytes at → ⊥ }
+    ensures pair { (node : Node) (a b : DiskView) (this that : LogFault) → IsBadPair node a b this → IsBadPair node a b that → this ≡ that }
+    ensures attached { (node : Node) (a b : DiskView) (log : LogView) (fault : LogFault) → IsAttached node a b log → IsBadPair node a b fault → ⊥ }
+    ensures records { (node : Node) (g h : ℕ) (a b : List ℕ) (items more : List (ℕ × Record)) → IsCurrentOf node g a b items → IsCurrentOf node h a b more → items ≡ more }
+    ensures current { (node : Node) (g h : ℕ) (a b : List ℕ) (items more : List (ℕ × Record)) → IsCurrentOf node g a b items → IsCurrentOf node h b a more → ⊥ }
+    ensures none { (node : Node) (g : ℕ) (a b : List ℕ) (items : List (ℕ × Record)) → IsLogText a [] → IsCurrentOf node g a b items → ⊥ }
 {}

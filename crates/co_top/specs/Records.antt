@@ -8,7 +8,7 @@ use Rattle.co_world.specs.declared.writing.RecordsFault.{RecordsFault}
 use Rattle.co_world.specs.declared.writing.RecordsFault.TheVariants as records
 use Rattle.co_world.specs.Durable.{IsDurable, IsUndurable}
 use Rattle.co_world.specs.Text.{records_text}
-use Rattle.co_world.specs.Written.{TookFront}
+use Rattle.co_world.specs.Written.{HasDurable, TookFront}
 use Rattle.co_top.specs.declared.status.LimitKind.TheVariants as limit
 use Rattle.co_top.specs.declared.status.Status.{Status}
 use Rattle.co_top.specs.declared.status.Status.TheVariants as status
@@ -22,17 +22,31 @@ status_of_records (Err (records.Bad spot at)) = status.BadLog spot at
 status_of_records (Err (records.Full spot)) = status.Limit (limit.Log spot)
 status_of_records (Err records.Memory) = status.Memory
 
--- The cause of a status, by the files of 16 members and 8 coordinators where the home tells them. No line is read, so no status of lines comes.
+-- The cause of a status, by the files of 16 members and 8 coordinators where the home tells them. All is read before anything is put, and no
+-- line is read, so no status of lines comes.
 abbrev pub HasCause : (Spot → Option File) → Status → Type 0
-HasCause file status.Done = Unit {0}
+HasCause file status.Done = HasDurable file
 HasCause file status.Usage = ⊥
 HasCause file status.Read = ⊥
-HasCause file status.Write = Unit {0}
+HasCause file status.Write = HasDurable file
 HasCause file (status.Device spot) = (spot ≡ record { node = 1; part = 0 }) ⊎ IsUndurable file 16 8 (world.Device spot)
 HasCause file (status.BadLog spot at) = IsUndurable file 16 8 (world.Bad spot at)
 HasCause file (status.Limit (limit.Log spot)) = IsUndurable file 16 8 (world.Full spot)
 HasCause file status.Memory = Unit {0}
 HasCause file (status.NotBuilt line) = ⊥
+
+-- the directory failed, or there was no memory
+abbrev pub IsExcused : Status → Type 0
+IsExcused (status.Device spot) = Unit {0}
+IsExcused status.Memory = Unit {0}
+IsExcused _ = ⊥
+
+-- Where the files have durable records, all was done, unless the sink failed; and where they have a fault, that one is told. In both cases the
+-- directory may have failed, or there was no memory.
+pub record IsExact (file : Spot → Option File) (ended : Status) : Type 0 where
+  pub done : (rows : List DurableRow) → IsDurable file 16 8 rows → (ended ≡ status.Done) ⊎ ((ended ≡ status.Write) ⊎ IsExcused ended)
+  pub bad : (spot : Spot) (at : ℕ) → IsUndurable file 16 8 (world.Bad spot at) → (ended ≡ status.BadLog spot at) ⊎ IsExcused ended
+  pub full : (spot : Spot) → IsUndurable file 16 8 (world.Full spot) → (ended ≡ status.Limit (limit.Log spot)) ⊎ IsExcused ended
 
 -- What a sink holds then that held this before: the text of the durable records, or a front of it, or nothing of it.
 abbrev pub HoldsRecords : (Spot → Option File) → List ℕ → Option (List ℕ) → Status → Type 0

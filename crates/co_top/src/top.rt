@@ -11,7 +11,8 @@ ghost use Rattle.co_top.specs.Ends.{Replays, HasEnd, IsEnd, IsPut, IsNoted, IsRe
 ghost use Rattle.co_top.specs.FirstPath.{ReadSerially, AreAcknowledged};
 ghost use Rattle.co_top.specs.Forms.{built_front, is_built_head};
 ghost use Rattle.co_top.specs.Input.{lines_within, within};
-ghost use Rattle.co_top.specs.Records.{HasCause, HoldsRecords};
+ghost use Rattle.co_world.specs.Told.{AreTold};
+ghost use Rattle.co_top.specs.Records.{HasCause, IsExact, HoldsRecords};
 
 use crate::input::MOST_BYTES;
 use crate::records::records;
@@ -59,6 +60,7 @@ pub fn run<S: Source, K: Sink, N: Sink, H: Home>(
     ensures serial_reads { (input : List ℕ) (head : Head) (events : List Event) → S.left source.old ≡ Some input → is_built_head head ≡ true → IsRead (lines_within (within input)) head events → ReadSerially head (built_front events) }
     ensures acknowledged { (input : List ℕ) (head : Head) (events : List Event) → S.left source.old ≡ Some input → is_built_head head ≡ true → IsRead (lines_within (within input)) head events → AreAcknowledged head (built_front events) }
     ensures causes { is_records words.now ≡ true → HasCause (H.file home.old) result }
+    ensures exact { is_records words.now ≡ true → AreTold (H.file home.old) 16 8 → IsExact (H.file home.old) result }
     ensures durable { (held : List ℕ) → is_records words.now ≡ true → K.told out.old ≡ Some held → HoldsRecords (H.file home.old) held (K.told out.new) result }
     ensures files { (s : Spot) → H.file home.new s ≡ H.file home.old s }
     ensures entered { is_records words.now ≡ true → result ≡ Status.Done → H.entered home.new ≡ Some (directory_of words.now) }

@@ -1,8 +1,7 @@
 -- What is told of opened logs is the durable records of their files, or why there are none.
-use Rattle.std.proofs.Common.{◌≡◌, ◌⊎◌, inl, inr, ℕ, zero, suc, ◌+◌, ◌-◌, ◌<◌, List, [], ◌∷◌, ◌++◌, map, reverse, length, get_or, Option, None, Ok, if◌then◌else◌, Bool, refl, sym, ap, subst, ◌∙◌, arith}
+use Rattle.std.proofs.Common.{◌≡◌, inl, inr, ℕ, zero, suc, ◌+◌, ◌-◌, List, [], ◌∷◌, ◌++◌, map, length, get_or, Option, Ok, if◌then◌else◌, refl, sym, ap, ◌∙◌, arith}
 use Rattle.std.specs.FinMap.{entries}
 use Rattle.std.specs.List.{AllByRecursion}
-use Rattle.std.proofs.Math.ListN.{get_or-map}
 use Rattle.co_base.specs.declared.node.Node.{Node}
 use Rattle.co_base.specs.declared.node.Node.TheVariants.{Member}
 use Rattle.co_base.specs.declared.row.Row.{Row}
@@ -25,13 +24,13 @@ use Rattle.co_world.specs.declared.fault.WorldFault.{WorldFault}
 use Rattle.co_world.specs.declared.fault.WorldFault.TheVariants.{Device, Differs, InUse, Bad, Full, Count, Memory}
 use Rattle.co_world.specs.Durable.{HasRecordsIn, IsLogIn, log_of, numbered_rows, IsAllowedBy, IsDurable, Stands, Falls, IsUndurable}
 use Rattle.co_world.specs.Laying.{seen_by, with_decided_votes, durable_of_past, member_rows, rows_from, durable_of_pasts}
-use Rattle.co_world.specs.Nodes.{numbered, member_nodes, coord_nodes}
+use Rattle.co_world.specs.Nodes.{member_nodes, coord_nodes}
 use Rattle.co_world.specs.Pairs.{EachPair, FirstWhere}
 use Rattle.co_world.specs.Reading.{IsLogOf, HasLog, IsUnread, IsFirstUnread}
 use Rattle.co_world.specs.Recovering.{Items, HasItems, member_refuses, coord_refuses, newest_first, IsPastOf, AreSeen, IsSeenIn, LogStands, LogFalls, IsFirstToFall}
 use Rattle.co_world.proofs.Numbered.{so_many}
 use Rattle.co_world.proofs.Opened.{opened, log_in, stands, falls}
-use Rattle.co_world.proofs.Pairs.{left_all, all_map, all_over, all_append, first_left, first_right, first_map, first_over, pairs_length}
+use Rattle.co_world.proofs.Pairs.{left_all, all_over, all_append, first_left, first_right, first_map, first_over, pairs_length}
 use Rattle.co_world.proofs.Rows.{records_again}
 
 -- ---- why there are none

@@ -8,3 +8,5 @@ pub mod Recoveries
 pub mod Opened
 pub mod Durables
 pub mod Refusals
+pub mod Firsts
+pub mod ReadOnce

@@ -1,15 +1,14 @@
 -- An opened log is that of the current file of its node.
-use Rattle.std.proofs.Common.{◌≡◌, ◌⊎◌, inl, inr, ℕ, List, [], ◌∷◌, refl, sym, ap, subst, ◌∙◌, Option}
+use Rattle.std.proofs.Common.{◌≡◌, inl, inr, ℕ, List, [], ◌∷◌, refl, sym, ap, subst, ◌∙◌, Option}
 use Rattle.std.specs.List.{AllByRecursion}
 use Rattle.co_base.specs.declared.node.Node.{Node}
 use Rattle.co_outside.specs.declared.spot.Spot.{Spot}
 use Rattle.co_outside.specs.Home.{File}
 use Rattle.co_disk.specs.DiskView.{DiskView}
 use Rattle.co_frame.specs.LogText.{IsLogText}
-use Rattle.co_record.specs.declared.record.Record.{Record}
 use Rattle.co_record.specs.declared.record.Record.TheVariants.{Header}
 use Rattle.co_record.specs.Stored.{HasRecords}
-use Rattle.co_log.specs.Attaching.{built, spot_of, IsToldAs, IsAttached, IsCurrent}
+use Rattle.co_log.specs.Attaching.{built, spot_of, IsCurrent}
 use Rattle.co_log.specs.Current.{IsCurrentOf}
 use Rattle.co_log.specs.LogView.{LogView}
 use Rattle.co_log.proofs.Files.{has_records}
@@ -31,7 +30,15 @@ pub record IsOpen (file : Spot → Option File) (node : Node) (log : LogView) : 
 
 module _ (file : Spot → Option File) (node : Node) (log : LogView) (is : IsLogOf file node log) where
   in_file : (part : ℕ) (items : Items) → HasCurrent node is.a.state.stable is.b.state.stable part items → IsCurrentIn file node part items
-  in_file part items current = record { a = is.a.state.stable; b = is.b.state.stable; told_a = is.file_a.told; told_b = is.file_b.told; current = current }
+  in_file part items current = record {
+    a = is.a.state.stable;
+    b = is.b.state.stable;
+    told_a = is.file_a.told;
+    told_b = is.file_b.told;
+    within_a = is.within_a;
+    within_b = is.within_b;
+    current = current;
+  }
 
   has_items : (disk spare : DiskView) (gate generation : ℕ) (items : Items) → disk.state.pending ≡ [] → log ≡ built node disk spare gate generation → HasRecords disk.state.stable items → HasItems log items
   has_items disk spare gate generation items still built_is has =

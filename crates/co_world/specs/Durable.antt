@@ -4,9 +4,9 @@ use Rattle.std.specs.List.{AllByRecursion}
 use Rattle.co_base.specs.declared.node.Node.{Node}
 use Rattle.co_outside.specs.declared.spot.Spot.{Spot}
 use Rattle.co_outside.specs.Home.{File}
-use Rattle.co_frame.specs.LogText.{IsLogText}
+use Rattle.co_frame.specs.LogText.{IsLogText, most_log_bytes}
 use Rattle.co_record.specs.declared.record.Record.{Record}
-use Rattle.co_log.specs.Attaching.{spot_of}
+use Rattle.co_log.specs.Attaching.{spot_of, IsWithin}
 use Rattle.co_log.specs.Current.{IsCurrentOf}
 use Rattle.co_serial.specs.Records.{all_rows}
 use Rattle.co_serial.specs.SerialRun.{AllRecords}
@@ -28,12 +28,15 @@ HasCurrent node a b part items =
     ((part ≡ 0) × (items ≡ []) × IsLogText a [] × IsLogText b [])
     ⊎ (((part ≡ 0) × ((generation : ℕ) × IsCurrentOf node generation a b items)) ⊎ ((part ≡ 1) × ((generation : ℕ) × IsCurrentOf node generation b a items)))
 
--- the current file of a node and its records, by the bytes of its files, where the home tells them
+-- the current file of a node and its records, by the bytes of its files, where the home tells them; neither file is
+-- too long
 pub record IsCurrentIn (file : Spot → Option File) (node : Node) (part : ℕ) (items : Items) : Type 0 where
   pub a : List ℕ
   pub b : List ℕ
   pub told_a : (f : File) → file (spot_of node 0) ≡ Some f → f.bytes ≡ a
   pub told_b : (f : File) → file (spot_of node 1) ≡ Some f → f.bytes ≡ b
+  pub within_a : IsWithin most_log_bytes (file (spot_of node 0))
+  pub within_b : IsWithin most_log_bytes (file (spot_of node 1))
   pub current : HasCurrent node a b part items
 
 abbrev pub HasRecordsIn : (Spot → Option File) → Node → Items → Type 0

@@ -4,5 +4,6 @@ pub mod Reading
 pub mod Recovering
 pub mod Laying
 pub mod Durable
+pub mod Told
 pub mod Text
 pub mod Written

@@ -6,7 +6,8 @@ use Rattle.co_outside.specs.Home.{File}
 use Rattle.co_disk.specs.DiskView.{DiskView}
 use Rattle.co_log.specs.declared.fault.LogFault.TheVariants as log
 use Rattle.co_log.specs.LogView.{LogView}
-use Rattle.co_log.specs.Attaching.{spot_of, IsAttached, IsToldAs, IsOfAttach}
+use Rattle.co_frame.specs.LogText.{most_log_bytes}
+use Rattle.co_log.specs.Attaching.{spot_of, IsAttached, IsWithin, IsToldAs, IsOfAttach}
 use Rattle.co_world.specs.Pairs.{FirstWhere}
 use Rattle.co_world.specs.declared.fault.WorldFault.{WorldFault}
 use Rattle.co_world.specs.declared.fault.WorldFault.TheVariants.{Device, Differs, InUse, Bad, Full, Count, Memory}
@@ -17,12 +18,14 @@ pub record OnlyReads {H : Type 0} (file : H → Spot → Option File) (entered :
   pub directory : entered new ≡ entered old
   pub count : faults old ≤ faults new
 
--- the log of a node, as its two files are, where the home tells them
+-- the log of a node, as its two files are, where the home tells them; neither is too long
 pub record IsLogOf (file : Spot → Option File) (node : Node) (opened : LogView) : Type 0 where
   pub a : DiskView
   pub b : DiskView
   pub file_a : IsToldAs (spot_of node 0) (file (spot_of node 0)) a
   pub file_b : IsToldAs (spot_of node 1) (file (spot_of node 1)) b
+  pub within_a : IsWithin most_log_bytes (file (spot_of node 0))
+  pub within_b : IsWithin most_log_bytes (file (spot_of node 1))
   pub attached : IsAttached node a b opened
 
 abbrev pub HasLog : (Spot → Option File) → Node → Type 0

@@ -1,5 +1,5 @@
 -- What opened logs tell, and logs with a record that is not allowed at its place.
-use Rattle.std.specs.Prelude.{ℕ, ◌≡◌, List, reverse, Option, None, Result, Ok}
+use Rattle.std.specs.Prelude.{ℕ, ◌≡◌, List, reverse, Option, None, Ok}
 use Rattle.co_disk.specs.DiskModel.{read_of}
 use Rattle.co_log.specs.LogView.{LogView}
 use Rattle.co_outside.specs.declared.spot.Spot.{Spot}

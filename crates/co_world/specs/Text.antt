@@ -1,5 +1,5 @@
 -- The text of durable records: one line for each.
-use Rattle.std.specs.Prelude.{ℕ, List, [], ◌∷◌, ◌++◌, codes, decimal}
+use Rattle.std.specs.Prelude.{ℕ, List, ◌++◌, codes, decimal}
 use Rattle.std.specs.List.{flat_map}
 use Rattle.co_world.specs.declared.durable.DurableRow.{DurableRow}
 

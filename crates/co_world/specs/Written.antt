@@ -19,10 +19,14 @@ refusal_of (world.Full spot) = Full spot
 refusal_of world.Count = Memory
 refusal_of world.Memory = Memory
 
+-- There are durable records.
+abbrev pub HasDurable : (Spot → Option File) → Type 0
+HasDurable file = (rows : List DurableRow) × IsDurable file 16 8 rows
+
 -- The cause of a refusal, by the files where the home tells them: a failed device is one of the nodes' files, or
--- the directory could not be entered.
+-- the directory could not be entered. Nothing is put before all is read, so a sink fails where there are records.
 abbrev pub IsRefusal : (Spot → Option File) → RecordsFault → Type 0
-IsRefusal file Write = Unit {0}
+IsRefusal file Write = HasDurable file
 IsRefusal file (Device spot) = (spot ≡ record { node = 1; part = 0 }) ⊎ IsUndurable file 16 8 (world.Device spot)
 IsRefusal file (Bad spot at) = IsUndurable file 16 8 (world.Bad spot at)
 IsRefusal file (Full spot) = IsUndurable file 16 8 (world.Full spot)

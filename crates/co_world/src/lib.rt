@@ -3,6 +3,7 @@
 
 mod durable;
 mod fault;
+mod laws;
 mod laying;
 mod nodes;
 mod reading;
@@ -13,6 +14,7 @@ mod writing;
 
 pub use durable::{Durable, DurableRow};
 pub use fault::WorldFault;
+pub use laws::directories_are_read_once;
 pub use records::read_durable;
 pub use writing::{RecordsFault, write_records};
 

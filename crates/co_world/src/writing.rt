@@ -6,7 +6,7 @@ ghost use Rattle.co_outside.specs.Faults.{HasRisen};
 ghost use Rattle.co_world.specs.declared.durable.DurableRow.{DurableRow};
 ghost use Rattle.co_world.specs.Durable.{IsDurable, IsUndurable};
 ghost use Rattle.co_world.specs.Text.{records_text};
-ghost use Rattle.co_world.specs.Written.{refusal_of, IsRefusal, IsFront};
+ghost use Rattle.co_world.specs.Written.{refusal_of, HasDurable, IsRefusal, IsFront};
 
 use crate::durable::Durable;
 use crate::fault::WorldFault;
@@ -97,6 +97,7 @@ pub fn write_records<H: Home, K: Sink>(
     dir: &str,
     out: &mut K,
 ) -> Result<(), RecordsFault>
+    ensures read { OnOk result (HasDurable (H.file home.old)) }
     ensures written { (held : List ℕ) → K.told out.old ≡ Some held →
         OnOk result ((rows : List DurableRow) × IsDurable (H.file home.old) 16 8 rows × (K.told out.new ≡ Some (held ++ records_text rows))) }
     ensures front { (held : List ℕ) → K.told out.old ≡ Some held → IfErr result (IsFront (H.file home.old) held (K.told out.new)) }

@@ -1,4 +1,4 @@
-use Rattle.std.proofs.Common.{◌≡◌, ◌+◌, [], ◌∷◌, ◌++◌, List, ℕ, length, ap, ◌∙◌, arith}
+use Rattle.std.proofs.Common.{[], ◌∷◌, ◌++◌, List, ℕ, length, ap, ◌∙◌, arith}
 use Rattle.co_frame.specs.LogText.{batch_text}
 use Rattle.co_log.proofs.Appends.{batch_is}
 use Rattle.co_log.proofs.Images.{some_bytes}

@@ -1,4 +1,4 @@
-use Rattle.std.proofs.Common.{◌≡◌, ◌∙◌, ◌≤◌, ℕ, List, length, ap, arith}
+use Rattle.std.proofs.Common.{◌∙◌, ℕ, List, length, ap, arith}
 use Rattle.co_log.proofs.attaching.open_file.Goals as goal
 
 pub returns-in-Ok-clause-told_short : goal.returns-in-Ok-clause-told_short

@@ -1,9 +1,9 @@
-use Rattle.std.proofs.Common.{◌≡◌, ◌+◌, ◌++◌, ◌∷◌, [], take, refl, sym, ap, ◌∙◌, subst, get_or}
+use Rattle.std.proofs.Common.{◌+◌, take, refl, sym, subst, get_or}
 use Rattle.co_base.specs.declared.node.Node.TheVariants.{Member}
 use Rattle.co_world.specs.Pairs.{EachPair}
 use Rattle.co_world.specs.Reading.{IsLogOf, IsFirstUnread}
 use Rattle.co_world.proofs.Pairs.{pair_more}
-use Rattle.co_world.proofs.Readings.{first_unread, log_moved, handed_on, reads_on, fails_later}
+use Rattle.co_world.proofs.Readings.{first_unread, log_moved, handed_on, reads_on}
 use Rattle.co_world.proofs.reading.read_logs.Goals as goal
 
 pub returns-in_err-read_log-clause-unread : goal.returns-in_err-read_log-clause-unread

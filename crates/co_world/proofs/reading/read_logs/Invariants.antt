@@ -1,4 +1,4 @@
-use Rattle.std.proofs.Common.{◌≡◌, take}
+use Rattle.std.proofs.Common.{take}
 use Rattle.co_world.specs.Pairs.{EachPair}
 use Rattle.co_world.specs.Reading.{OnlyReads, IsLogOf}
 use Rattle.co_world.proofs.reading.read_logs.Given as goal

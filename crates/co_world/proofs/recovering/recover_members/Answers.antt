@@ -1,4 +1,4 @@
-use Rattle.std.proofs.Common.{◌≡◌, ◌+◌, take, sym, subst}
+use Rattle.std.proofs.Common.{◌+◌, take, sym, subst}
 use Rattle.co_world.specs.Pairs.{EachPair}
 use Rattle.co_world.specs.Recovering.{member_refuses, IsPastOf, IsFirstToFall}
 use Rattle.co_world.proofs.Pairs.{pair_more}

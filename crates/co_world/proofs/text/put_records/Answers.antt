@@ -1,4 +1,4 @@
-use Rattle.std.proofs.Common.{◌≡◌, ◌+◌, ◌++◌, ℕ, List, Some, take, ap, ◌∙◌, append_assoc, arith}
+use Rattle.std.proofs.Common.{◌+◌, ◌++◌, Some, ap, ◌∙◌, append_assoc, arith}
 use Rattle.co_world.proofs.Fronts.{kept_front, part_front, line_more, on_err, in_err}
 use Rattle.co_world.proofs.text.put_records.Goals as goal
 
