@@ -36,17 +36,31 @@ fn vote(alloc: Global, key: &[u8], value: &[u8]) -> Result<Record, BaseFault>
     })
 }
 
-/// A commit with these participants; that of a member names none.
+/// The commit of a member.
 #[tactic(auto, using(co_log::proofs::Short::short_lists))]
-fn commit(members: Bytes) -> Record
-    requires { IsWritable (Record.Commit 1 members) }
+fn commit(alloc: Global) -> Record
     ensures writable { IsWritable result }
     ensures header { IsHeader result → ⊥ }
 {
     Record::Commit {
         txn: TRANSFER,
-        members,
+        members: Bytes::new(alloc),
     }
+}
+
+/// The commit of the coordinator, with both members.
+#[tactic(auto, using(co_log::proofs::Short::short_lists))]
+fn decision(alloc: Global) -> Result<Record, AllocError>
+    ensures writable { IfOk result IsWritable }
+    ensures header { IfOk result (λ item. IsHeader item → ⊥) }
+{
+    let mut members = Bytes::new(alloc);
+    members.push(1)?;
+    members.push(2)?;
+    Ok(Record::Commit {
+        txn: TRANSFER,
+        members,
+    })
 }
 
 /// The log of a node, made now; none where it was made before.
@@ -77,7 +91,7 @@ fn force<H: Home>(log: &mut Log, home: &mut H, item: Record) -> Result<(), LogFa
 fn write_first<H: Home>(alloc: Global, home: &mut H) -> Result<()> {
     if let Some(mut log) = made(alloc, home, Node::Member(1))? {
         force(&mut log, home, vote(alloc, b"a", b"5")?)?;
-        force(&mut log, home, commit(Bytes::new(alloc)))?;
+        force(&mut log, home, commit(alloc))?;
     }
     Ok(())
 }
@@ -93,10 +107,7 @@ fn write_second<H: Home>(alloc: Global, home: &mut H) -> Result<()> {
 /// The log of the coordinator: it decided.
 fn write_coordinator<H: Home>(alloc: Global, home: &mut H) -> Result<()> {
     if let Some(mut log) = made(alloc, home, Node::Coord(1))? {
-        let mut members = Bytes::new(alloc);
-        members.push(1)?;
-        members.push(2)?;
-        force(&mut log, home, commit(members))?;
+        force(&mut log, home, decision(alloc)?)?;
     }
     Ok(())
 }

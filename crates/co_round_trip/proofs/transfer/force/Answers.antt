@@ -1,0 +1,9 @@
+use Rattle.std.proofs.Common.{[], ◌∷◌, ◌++◌, Ok}
+use Rattle.co_log.proofs.Ordered.{forced_ordered}
+use Rattle.co_round_trip.proofs.transfer.force.Goals as goal
+
+pub returns : goal.returns
+returns g c =
+    let ready = c.requires.ready in
+    let next = forced_ordered c.args.log.now c.force.new.self ready.items (c.args.log.now.waiting ++ c.args.item ∷ []) (Ok c.in_ok-force.field-0) ready.ordered (c.in_ok-force.ensures.forced ready.items ready.ordered.live) tt in
+    record { held = c.in_ok-force.ensures.held tt; items = next.0; ordered = next.1 }
