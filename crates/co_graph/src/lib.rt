@@ -9,8 +9,6 @@ mod bond;
 mod graph;
 mod near;
 mod nodes;
-#[cfg(test)]
-mod tests;
 
 pub use graph::Graph;
 pub use near::Near;

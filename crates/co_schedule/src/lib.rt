@@ -32,7 +32,3 @@ pub use writing::{
     append_word, put_line,
 };
 
-#[cfg(test)]
-mod reader_tests;
-#[cfg(test)]
-mod tests;

@@ -20,8 +20,6 @@ mod rules;
 mod sets;
 mod stale;
 mod table;
-#[cfg(test)]
-mod tests;
 mod verdict;
 mod voting;
 

@@ -17,5 +17,3 @@ pub use laws::one_text;
 pub use reading::read_item;
 pub use writing::put_item;
 
-#[cfg(test)]
-mod tests;

@@ -35,16 +35,3 @@ pub fn timer(phase: Phase) -> Fire
         Phase::Voted | Phase::Installed | Phase::Absent => Fire::Nothing,
     }
 }
-
-#[cfg(test)]
-mod tests {
-    use super::*;
-
-    #[test]
-    fn only_an_active_transaction_is_dropped(rt: HostRuntime) {
-        assert!(rt; timer(Phase::Active) == Fire::Drop);
-        for phase in [Phase::Voted, Phase::Installed, Phase::Absent] {
-            assert!(rt; timer(phase) == Fire::Nothing);
-        }
-    }
-}

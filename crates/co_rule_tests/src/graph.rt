@@ -1,4 +1,4 @@
-use crate::Graph;
+use co_graph::Graph;
 use co_base::Txn;
 use co_pairs::{Pair, PairKind};
 use std::alloc::Global;

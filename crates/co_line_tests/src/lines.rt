@@ -1,5 +1,6 @@
-use super::*;
+//! Lines that are read, and written again.
 use co_base::Head;
+use co_schedule::{LineFault, LineKind, append_head, put_line, read_head, read_line};
 use std::alloc::Global;
 use std::test::Fail;
 

@@ -1,4 +1,4 @@
-use crate::{EngineState, RecordMap, Table, Verdict};
+use co_state::{EngineState, RecordMap, Table, Verdict};
 use co_base::{Key, Kind, Op, Reply, Txn, Value};
 use std::alloc::Global;
 use std::test::Fail;

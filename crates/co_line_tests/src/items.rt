@@ -1,4 +1,5 @@
-use super::*;
+//! Items that are read, and written again.
+use co_transcript::{ItemFault, put_item, read_item};
 use co_base::{Key, Mark, MarkKind, Node, Reply, Txn, Value};
 use co_message::{Answer, Item, ItemKind, Message};
 use std::alloc::Global;

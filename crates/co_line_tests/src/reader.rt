@@ -2,8 +2,8 @@ ghost use Rattle.std.specs.Prelude.{◌≡◌, List, ℕ, Some, OnOk, None};
 ghost use Rattle.co_schedule.specs.LineText.{behind_line};
 ghost use Rattle.co_schedule.specs.Lines.{ahead};
 
-use super::*;
 use co_base::Bytes;
+use co_schedule::{Lines, LinesFault};
 use co_outside::{Source, SourceFault, SourceMemory, Taken};
 use std::alloc::Global;
 use std::process::Abort;

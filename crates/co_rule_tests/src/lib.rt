@@ -1,0 +1,16 @@
+//! The rules that members go by: an engine's state, conflicts, the voting rule and the timer, the graph of
+//! undecided transactions, and what clients may do.
+#![tactic(auto)]
+
+#[cfg(test)]
+mod firing;
+#[cfg(test)]
+mod graph;
+#[cfg(test)]
+mod pairs;
+#[cfg(test)]
+mod session;
+#[cfg(test)]
+mod state;
+#[cfg(test)]
+mod voting;
