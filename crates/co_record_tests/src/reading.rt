@@ -2,15 +2,17 @@
 ghost use Rattle.std.specs.Prelude.{◌≤◌, length};
 
 use crate::files::{CHECKPOINT, COORDINATOR, MEMBER};
-use co_record::{ChangeWalk, PairWalk, RecordView, TxnWalk, read_record};
+use co_record::{ChangeWalk, MemberWalk, PairWalk, RecordView, TxnWalk, read_record};
 
-/// The node and the generation of a header; none is 0.
-fn header(bytes: &[u8]) -> (u8, u32)
+/// Whether this is a header with the byte of this node and this generation.
+fn is_header(bytes: &[u8], byte: u8, number: u32) -> bool
     requires { length bytes.now ≤ 4096 }
 {
     match read_record(bytes) {
-        Ok((RecordView::Header { node, generation }, _)) => (node.byte(), generation),
-        _ => (0, 0),
+        Ok((RecordView::Header { node, generation }, _)) => {
+            node.byte() == byte && generation == number
+        }
+        _ => false,
     }
 }
 
@@ -38,6 +40,16 @@ fn is_txn(mut walk: TxnWalk<'_>, number: u32) -> bool {
     }
 }
 
+/// Whether a walk has these members and no others.
+fn has_members(mut walk: MemberWalk<'_>, wanted: &[u8]) -> bool {
+    for member in wanted {
+        if !walk.next().is_some_and(|found| found == *member) {
+            return false;
+        }
+    }
+    walk.next().is_none()
+}
+
 /// Whether this is the vote of coordinator 1 and two operations, which read `a` and wrote `a 5`.
 fn is_vote(bytes: &[u8]) -> bool
     requires { length bytes.now ≤ 4096 }
@@ -61,15 +73,13 @@ fn is_vote(bytes: &[u8]) -> bool
     }
 }
 
-/// What three looks at the members of a commit give; no member has the number 255.
-fn commit(bytes: &[u8]) -> [Option<u8>; 3]
+/// Whether this is a commit of these members and no others.
+fn is_commit(bytes: &[u8], wanted: &[u8]) -> bool
     requires { length bytes.now ≤ 4096 }
 {
     match read_record(bytes) {
-        Ok((RecordView::Commit { mut members, .. }, _)) => {
-            [members.next(), members.next(), members.next()]
-        }
-        _ => [Some(255); 3],
+        Ok((RecordView::Commit { members, .. }, _)) => has_members(members, wanted),
+        _ => false,
     }
 }
 
@@ -94,15 +104,15 @@ fn is_checkpoint(bytes: &[u8]) -> bool
 
 #[test]
 fn the_log_of_a_member_is_read(rt: HostRuntime) {
-    assert_eq!(rt; header(&MEMBER[5..12]), (0x01, 1));
+    assert!(rt; is_header(&MEMBER[5..12], 0x01, 1));
     assert!(rt; is_vote(&MEMBER[17..39]));
-    assert_eq!(rt; commit(&MEMBER[44..50]), [None; 3]);
+    assert!(rt; is_commit(&MEMBER[44..50], b""));
 }
 
 #[test]
 fn the_log_of_a_coordinator_is_read(rt: HostRuntime) {
-    assert_eq!(rt; header(&COORDINATOR[5..12]), (0x81, 1));
-    assert_eq!(rt; commit(&COORDINATOR[17..25]), [Some(1), Some(2), None]);
+    assert!(rt; is_header(&COORDINATOR[5..12], 0x81, 1));
+    assert!(rt; is_commit(&COORDINATOR[17..25], &[1, 2]));
 }
 
 #[test]

@@ -73,23 +73,21 @@ fn checkpoint_log(alloc: Global, file: &mut Vec<u8>) -> Result<(), BaseFault> {
     Ok(())
 }
 
-#[test]
-fn the_log_of_a_member_is_written(rt: HostRuntime) {
-    let mut file = Vec::new(rt.alloc());
-    assert!(rt; member_log(rt.alloc(), &mut file).is_ok());
-    assert!(rt; file.as_slice() == MEMBER.as_slice());
+/// Whether a log is made, and has these bytes.
+fn is_log(made: Result<(), BaseFault>, file: &[u8], wanted: &[u8]) -> bool {
+    made.is_ok() && file == wanted
 }
 
 #[test]
-fn the_log_of_a_coordinator_is_written(rt: HostRuntime) {
-    let mut file = Vec::new(rt.alloc());
-    assert!(rt; coordinator_log(rt.alloc(), &mut file).is_ok());
-    assert!(rt; file.as_slice() == COORDINATOR.as_slice());
-}
-
-#[test]
-fn the_log_of_a_checkpoint_is_written(rt: HostRuntime) {
-    let mut file = Vec::new(rt.alloc());
-    assert!(rt; checkpoint_log(rt.alloc(), &mut file).is_ok());
-    assert!(rt; file.as_slice() == CHECKPOINT.as_slice());
+fn the_three_logs_are_written(rt: HostRuntime) {
+    let alloc = rt.alloc();
+    let mut file = Vec::new(alloc);
+    let made = member_log(alloc, &mut file);
+    assert!(rt; is_log(made, file.as_slice(), MEMBER.as_slice()));
+    file.clear();
+    let made = coordinator_log(alloc, &mut file);
+    assert!(rt; is_log(made, file.as_slice(), COORDINATOR.as_slice()));
+    file.clear();
+    let made = checkpoint_log(alloc, &mut file);
+    assert!(rt; is_log(made, file.as_slice(), CHECKPOINT.as_slice()));
 }
