@@ -4,7 +4,5 @@
 #![tactic(auto)]
 
 mod any_engine;
-#[cfg(test)]
-mod tests;
 
 pub use any_engine::AnyEngine;

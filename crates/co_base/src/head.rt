@@ -4,7 +4,7 @@ ghost use Rattle.std.specs.Prelude.{◌≤◌, length};
 use crate::sequence::Sequence;
 
 /// The kinds of engines that a member may have.
-#[derive(Clone, Copy, Debug, PartialEq, Eq)]
+#[derive(Clone, Copy, PartialEq, Eq)]
 pub enum Kind {
     /// Strict locking.
     Lock,
@@ -18,7 +18,7 @@ pub enum Kind {
 pub type Kinds = Sequence<Kind>;
 
 /// The members of a federation by their kinds, and how many coordinators it has.
-#[derive(Debug, Drop)]
+#[derive(Drop)]
 pub struct Head {
     /// The kind of each member, from member 1 on: 1 to 16 of them.
     pub kinds: Kinds,

@@ -16,7 +16,7 @@ use std::marker::Model;
 /// The name of a record: 1 to 32 visible characters of ASCII. A contract sees its bytes.
 ///
 /// Keys are ordered by their bytes.
-#[derive(Debug, Drop)]
+#[derive(Drop)]
 pub struct Key {
     bytes: Vec<u8>,
 }

@@ -5,7 +5,7 @@ use crate::sequence::Sequence;
 pub type Bytes = Sequence<u8>;
 
 /// The choice of one of the images that a disk may have after a crash.
-#[derive(Debug, Drop, PartialEq)]
+#[derive(Drop, PartialEq)]
 pub enum Leaves {
     /// The stable bytes alone.
     Old,

@@ -19,8 +19,6 @@ mod reply;
 mod row;
 mod rows;
 mod sequence;
-#[cfg(test)]
-mod tests;
 mod txn;
 mod txns;
 mod value;

@@ -7,7 +7,7 @@ use crate::value::Value;
 use std::alloc::AllocError;
 
 /// What a transaction does at one member.
-#[derive(Debug, Drop, PartialEq)]
+#[derive(Drop, PartialEq)]
 pub enum Op {
     /// Reads one record.
     Read(Key),

@@ -2,7 +2,7 @@
 use crate::sequence::Sequence;
 
 /// A participant, with how many operations it answered.
-#[derive(Clone, Copy, Debug, PartialEq, Eq)]
+#[derive(Clone, Copy, PartialEq, Eq)]
 pub struct Part {
     /// The number of the member.
     pub member: u8,

@@ -18,7 +18,7 @@ use std::marker::Model;
 /// The keys from `lo` to `hi`, both included; `lo` is never above `hi`.
 ///
 /// Ranges are ordered by their lower bound, then by their upper one.
-#[derive(Debug, Drop)]
+#[derive(Drop)]
 pub struct Range {
     lo: Key,
     hi: Key,

@@ -3,7 +3,7 @@ use crate::key::Key;
 use crate::value::Value;
 
 /// A record: a key and its value.
-#[derive(Debug, Drop, PartialEq)]
+#[derive(Drop, PartialEq)]
 pub struct Row {
     /// The name of the record.
     pub key: Key,

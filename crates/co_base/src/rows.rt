@@ -10,7 +10,7 @@ use std::alloc::{AllocError, Global};
 use std::marker::Model;
 
 /// Records in strictly ascending order of key. A contract sees the list of them.
-#[derive(Debug, Drop)]
+#[derive(Drop)]
 pub struct Rows {
     items: Vec<Row>,
 }

@@ -7,7 +7,7 @@ use std::alloc::{AllocError, Global};
 use std::marker::Model;
 
 /// Transaction numbers, strictly ascending. A contract sees the list of them.
-#[derive(Debug, Drop)]
+#[derive(Drop)]
 pub struct Txns {
     items: Vec<Txn>,
 }

@@ -16,7 +16,7 @@ use std::marker::Model;
 /// What a record holds: 1 to 256 visible characters of ASCII. A contract sees its bytes.
 ///
 /// Values are ordered by their bytes.
-#[derive(Debug, Drop)]
+#[derive(Drop)]
 pub struct Value {
     bytes: Vec<u8>,
 }

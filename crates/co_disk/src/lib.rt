@@ -9,8 +9,6 @@ mod image;
 mod laws;
 mod laying;
 mod stop;
-#[cfg(test)]
-mod tests;
 mod touched;
 
 pub use disk::Disk;

@@ -6,7 +6,7 @@ use co_base::Leaves;
 
 /// An armed stop: the number of its device call, how many calls there are until it, itself
 /// included, and the image that it leaves.
-#[derive(Debug, Drop)]
+#[derive(Drop)]
 pub(crate) struct Armed {
     pub(crate) call: u8,
     pub(crate) left: u8,

@@ -8,7 +8,7 @@ use co_outside::lay;
 use std::alloc::{AllocError, Global};
 
 /// A write of one byte inside the length while nothing else was pending. It takes no memory.
-#[derive(Clone, Copy, Debug)]
+#[derive(Clone, Copy)]
 pub(crate) struct FirstByte {
     pub(crate) at: u32,
     pub(crate) byte: u8,
@@ -16,7 +16,7 @@ pub(crate) struct FirstByte {
 }
 
 /// A write: where it begins, its bytes, and those that stood in its range before.
-#[derive(Debug, Drop)]
+#[derive(Drop)]
 pub(crate) struct Touched {
     pub(crate) at: u32,
     pub(crate) piece: Vec<u8>,

@@ -2,7 +2,7 @@
 use co_base::{Reply, Rows, Txn, Writes};
 
 /// What an operation of a transaction comes to.
-#[derive(Debug, Drop, PartialEq)]
+#[derive(Drop, PartialEq)]
 pub enum Seen {
     /// It was done, and this is its reply.
     Answer(Reply),
@@ -11,7 +11,7 @@ pub enum Seen {
 }
 
 /// The records as an engine keeps them, and the changes that lead back to the installed ones.
-#[derive(Debug, Drop)]
+#[derive(Drop)]
 pub struct Dump {
     /// The records.
     pub rows: Rows,

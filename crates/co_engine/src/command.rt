@@ -4,7 +4,7 @@ use co_base::{Key, Range, Sequence, Txn, Value};
 use co_pairs::Pairs;
 
 /// A call of an engine.
-#[derive(Debug, Drop)]
+#[derive(Drop)]
 pub enum Command {
     /// Reads one record.
     Read {
@@ -38,7 +38,7 @@ pub enum Command {
 }
 
 /// What a command comes to.
-#[derive(Debug, Drop, PartialEq)]
+#[derive(Drop, PartialEq)]
 pub enum Played {
     /// What an operation came to, with the pairs that are new.
     Seen(Seen, Pairs),

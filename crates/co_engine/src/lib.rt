@@ -12,8 +12,6 @@ mod known;
 mod new_pairs;
 mod plain;
 mod player;
-#[cfg(test)]
-mod tests;
 mod undecided;
 
 pub use answers::{Dump, Seen};

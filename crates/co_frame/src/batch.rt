@@ -1,7 +1,7 @@
 //! Lent batches.
 
 /// A batch behind an open gate, lent from the text that it stands in.
-#[derive(Clone, Copy, Debug)]
+#[derive(Clone, Copy)]
 pub struct Batch<'a> {
     /// The place of its records, in bytes from the front of the text.
     pub at: u32,

@@ -15,6 +15,3 @@ pub use batches::{Batches, CLOSED_GATE, MOST_LOG_BYTES, OPEN_GATE};
 pub use fault::FrameFault;
 pub use laws::{closed_gate_hides, one_reading, open_gate_adds, passed_come_first};
 pub use put::put_batch;
-
-#[cfg(test)]
-mod tests;

@@ -1,7 +1,7 @@
 //! Items that are read, and written again.
-use co_transcript::{ItemFault, put_item, read_item};
 use co_base::{Key, Mark, MarkKind, Node, Reply, Txn, Value};
 use co_message::{Answer, Item, ItemKind, Message};
+use co_transcript::{ItemFault, put_item, read_item};
 use std::alloc::Global;
 use std::process::Abort;
 use std::test::Fail;

@@ -3,8 +3,8 @@ ghost use Rattle.co_schedule.specs.LineText.{behind_line};
 ghost use Rattle.co_schedule.specs.Lines.{ahead};
 
 use co_base::Bytes;
-use co_schedule::{Lines, LinesFault};
 use co_outside::{Source, SourceFault, SourceMemory, Taken};
+use co_schedule::{Lines, LinesFault};
 use std::alloc::Global;
 use std::process::Abort;
 use std::test::Fail;

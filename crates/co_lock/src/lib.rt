@@ -8,10 +8,6 @@ mod dumping;
 mod engine;
 mod locked_store;
 mod pairs;
-#[cfg(test)]
-mod random_tests;
-#[cfg(test)]
-mod tests;
 mod undecided;
 
 pub use engine::LockEngine;

@@ -13,7 +13,5 @@ mod lock_table;
 mod place;
 mod range_holders;
 mod range_index;
-#[cfg(test)]
-mod tests;
 
 pub use lock_table::LockTable;

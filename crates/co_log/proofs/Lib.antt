@@ -12,4 +12,3 @@ pub mod Short
 pub mod Once
 pub mod Splits
 pub mod Judged
-pub mod Tested

@@ -20,7 +20,7 @@ use co_record::{Record, put_record};
 use std::alloc::{AllocError, Global};
 
 /// How a log write that met no fault ended.
-#[derive(Clone, Copy, Debug, PartialEq, Eq)]
+#[derive(Clone, Copy, PartialEq, Eq)]
 pub(crate) enum Ending {
     /// All its device calls were done, and the next gate stands at this place.
     Whole { next: u32 },

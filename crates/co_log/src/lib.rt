@@ -21,6 +21,3 @@ pub use laws::{
     images_are_old_or_new, starts_find_the_current_file,
 };
 pub use log::Log;
-
-#[cfg(test)]
-mod tests;

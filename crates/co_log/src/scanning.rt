@@ -11,7 +11,7 @@ use co_record::{RecordView, read_record};
 
 /// A file as it was read: the place of its first gate that is not open, and its generation, where it has
 /// a batch.
-#[derive(Clone, Copy, Debug)]
+#[derive(Clone, Copy)]
 pub(crate) struct Found {
     pub(crate) gate: u32,
     pub(crate) generation: Option<u32>,

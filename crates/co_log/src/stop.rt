@@ -7,7 +7,7 @@ use co_disk::Disk;
 
 /// The device call of the next log write at which it stops, counted from 1, and the image that is
 /// left then.
-#[derive(Debug, Drop)]
+#[derive(Drop)]
 pub(crate) struct Stop {
     pub(crate) call: u8,
     pub(crate) leaves: Leaves,

@@ -5,7 +5,7 @@ use crate::message::Message;
 use co_base::{Head, Mark, Sequence};
 
 /// One line of a transcript.
-#[derive(Debug, Drop)]
+#[derive(Drop)]
 pub struct Item {
     /// The number of the schedule line that it belongs to.
     pub number: u32,
@@ -14,7 +14,7 @@ pub struct Item {
 }
 
 /// What an item tells.
-#[derive(Debug, Drop)]
+#[derive(Drop)]
 pub enum ItemKind {
     /// The head of the schedule.
     Head(Head),

@@ -2,7 +2,7 @@
 use co_base::{Sequence, Txn};
 
 /// A message between a coordinator and a member about one transaction.
-#[derive(Clone, Copy, Debug, PartialEq, Eq, Hash)]
+#[derive(Clone, Copy, PartialEq, Eq, Hash)]
 pub enum Message {
     /// The coordinator asks the member to vote; `count` is how many operations of the transaction
     /// the client saw answered there.

@@ -11,7 +11,7 @@ use std::alloc::{AllocError, Global};
 use std::marker::Model;
 
 /// The versions of a key, the newest first. A contract sees the list.
-#[derive(Debug, Drop)]
+#[derive(Drop)]
 pub struct Chain {
     versions: Vec<Version>,
 }

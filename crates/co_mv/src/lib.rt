@@ -15,10 +15,6 @@ mod reading;
 mod recents;
 mod snapshots;
 mod stale;
-#[cfg(test)]
-mod tests;
 mod version;
-#[cfg(test)]
-mod version_tests;
 
 pub use mv_engine::MvEngine;

@@ -6,7 +6,7 @@ use co_base::Value;
 
 /// What a key held from one install to another one (Larson and others, VLDB 2012, on versions with the times
 /// of their begin and their end).
-#[derive(Debug, Drop)]
+#[derive(Drop)]
 pub struct Version {
     /// The number of the install that wrote it; 0 for a record that was there before all installs.
     pub written: u64,

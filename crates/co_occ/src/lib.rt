@@ -14,11 +14,7 @@ mod installed;
 mod new_pairs;
 mod old;
 mod own;
-#[cfg(test)]
-mod random_tests;
 mod reading;
-#[cfg(test)]
-mod tests;
 mod touched;
 mod undecided;
 mod validation;

@@ -30,7 +30,7 @@ impl From<AllocError> for HomeFault {
 }
 
 /// A call of a home.
-#[derive(Clone, Copy, Debug, PartialEq, Eq)]
+#[derive(Clone, Copy, PartialEq, Eq)]
 pub enum HomeCall {
     /// `Home::enter`, which counts on the spot `m1.a`.
     Enter,
@@ -45,7 +45,7 @@ pub enum HomeCall {
 }
 
 /// A call that is to fail: the one of this kind on this spot with this number, counted from 1.
-#[derive(Clone, Copy, Debug, PartialEq, Eq)]
+#[derive(Clone, Copy, PartialEq, Eq)]
 pub struct FailAt {
     /// Where the call is made.
     pub spot: Spot,

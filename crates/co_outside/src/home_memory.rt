@@ -10,7 +10,7 @@ use std::alloc::{AllocError, Global};
 /// A directory of logs in memory, which tells its files and fails at named calls.
 ///
 /// It tells the files of part `a` and part `b` of every node.
-#[derive(Debug, Drop)]
+#[derive(Drop)]
 pub struct HomeMemory {
     files: Vec<Stored>,
     clean: [bool; 512],

@@ -8,7 +8,7 @@ use std::alloc::Global;
 
 /// A home over a home in memory, which gives a wrong byte from a certain read of one file on. It
 /// tells nothing.
-#[derive(Debug, Drop)]
+#[derive(Drop)]
 pub struct HomeTwist {
     inner: HomeMemory,
     spot: Spot,

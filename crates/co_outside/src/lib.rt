@@ -20,8 +20,6 @@ mod source_memory;
 mod source_std;
 mod spot;
 mod stored;
-#[cfg(test)]
-mod tests;
 mod whole;
 
 pub use home::{FailAt, Home, HomeCall, HomeFault};

@@ -6,7 +6,7 @@ use crate::sink::{Sink, SinkFault};
 use std::alloc::Global;
 
 /// A sink that keeps in memory what it takes, tells it, and fails at named calls.
-#[derive(Debug, Drop)]
+#[derive(Drop)]
 pub struct SinkMemory {
     bytes: Vec<u8>,
     fail: Vec<u32>,

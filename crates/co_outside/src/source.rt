@@ -9,7 +9,7 @@ use std::alloc::{AllocError, Global};
 use thiserror::Error;
 
 /// What a source gives.
-#[derive(Debug, Drop)]
+#[derive(Drop)]
 pub enum Taken {
     /// These bytes, at least one.
     Bytes(Bytes),

@@ -7,7 +7,7 @@ use co_base::Bytes;
 use std::alloc::Global;
 
 /// A source over bytes in memory, which tells what it has left and fails at named calls.
-#[derive(Debug, Drop)]
+#[derive(Drop)]
 pub struct SourceMemory {
     bytes: Vec<u8>,
     at: usize,

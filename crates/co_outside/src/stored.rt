@@ -9,7 +9,7 @@ use crate::spot::Spot;
 use std::alloc::{AllocError, Global};
 
 /// A file: its spot and its bytes.
-#[derive(Debug, Drop)]
+#[derive(Drop)]
 pub(crate) struct Stored {
     pub(crate) spot: Spot,
     pub(crate) bytes: Vec<u8>,

@@ -7,7 +7,7 @@ use co_state::Sets;
 use std::alloc::{AllocError, Global};
 
 /// A transaction that has voted yes at a member.
-#[derive(Debug, Drop)]
+#[derive(Drop)]
 pub struct Prepared {
     /// Its number.
     pub txn: Txn,

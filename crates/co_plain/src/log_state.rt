@@ -8,7 +8,7 @@ use co_state::History;
 use std::alloc::{AllocError, Global};
 
 /// An armed stop: the next log write ends in one of its device calls.
-#[derive(Debug, Drop)]
+#[derive(Drop)]
 pub struct Stop {
     /// The number of the device call in that write, 1 to 4.
     pub call: u8,

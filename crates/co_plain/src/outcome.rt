@@ -6,7 +6,7 @@ use crate::log_state::Stop;
 use co_base::Leaves;
 
 /// How a log write ends.
-#[derive(Debug, Drop)]
+#[derive(Drop)]
 pub enum Outcome {
     /// Every device call was done.
     Completes,

@@ -1,7 +1,7 @@
 //! Where a transaction stands at a member.
 
 /// Where a transaction stands at a member.
-#[derive(Clone, Copy, Debug, PartialEq, Eq)]
+#[derive(Clone, Copy, PartialEq, Eq)]
 pub enum Standing {
     /// It has operations there and has not voted.
     IsActive,

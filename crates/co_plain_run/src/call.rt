@@ -53,7 +53,7 @@ pub enum CoordCall {
 }
 
 /// How a client asks for the end of a transaction.
-#[derive(Clone, Copy, Debug, PartialEq, Eq)]
+#[derive(Clone, Copy, PartialEq, Eq)]
 pub enum Ending {
     /// It asks for the commit.
     Commit,

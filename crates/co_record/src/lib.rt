@@ -30,8 +30,3 @@ pub use record::Record;
 pub use view::RecordView;
 pub use views::Views;
 pub use walk::{ChangeWalk, MemberWalk, PairWalk, TxnWalk};
-
-#[cfg(test)]
-mod read_tests;
-#[cfg(test)]
-mod tests;

@@ -2,7 +2,7 @@
 use co_base::{Bytes, Node, Ranges, Rows, Txn, Txns, Writes};
 
 /// A record of a log.
-#[derive(Debug, Drop)]
+#[derive(Drop)]
 pub enum Record {
     /// The first record of a file: whose log it is, and which of the node's two files is newer.
     Header {

@@ -3,7 +3,7 @@ use crate::walk::{ChangeWalk, MemberWalk, PairWalk, TxnWalk};
 use co_base::{Node, Txn};
 
 /// A record of a log, lent from the bytes that it stands in: nothing of it is copied.
-#[derive(Debug, Drop)]
+#[derive(Drop)]
 pub enum RecordView<'a> {
     /// The first record of a file: whose log it is, and which of the node's two files is newer.
     Header {

@@ -9,7 +9,7 @@ use std::marker::Model;
 
 /// The ranges or rows of a lent record. A contract sees the list of pairs that are left: the two bounds of
 /// each range, or the key and the value of each row.
-#[derive(Debug, Drop)]
+#[derive(Drop)]
 pub struct PairWalk<'a> {
     kind: PairKind,
     left: u32,
@@ -56,7 +56,7 @@ impl<'a> PairWalk<'a> {
 }
 
 /// The writes or undos of a lent record. A contract sees the list of changes that are left.
-#[derive(Debug, Drop)]
+#[derive(Drop)]
 pub struct ChangeWalk<'a> {
     left: u32,
     bytes: &'a [u8],
@@ -105,7 +105,7 @@ impl<'a> ChangeWalk<'a> {
 }
 
 /// The members of a lent commit. A contract sees the list of numbers that are left.
-#[derive(Debug, Drop)]
+#[derive(Drop)]
 pub struct MemberWalk<'a> {
     left: u8,
     bytes: &'a [u8],
@@ -144,7 +144,7 @@ impl<'a> MemberWalk<'a> {
 }
 
 /// The committed transactions of a lent checkpoint. A contract sees the list of numbers that are left.
-#[derive(Debug, Drop)]
+#[derive(Drop)]
 pub struct TxnWalk<'a> {
     left: u32,
     bytes: &'a [u8],

@@ -3,7 +3,7 @@ use co_base::{Bytes, Rows, Sequence, Txn, Txns};
 use co_pairs::PreparedList;
 
 /// What a member's log tells.
-#[derive(Debug, Drop)]
+#[derive(Drop)]
 pub struct MemberPast {
     /// The installed records.
     pub rows: Rows,
@@ -14,7 +14,7 @@ pub struct MemberPast {
 }
 
 /// A decided transaction that some participant may not have acknowledged.
-#[derive(Debug, Drop)]
+#[derive(Drop)]
 pub struct Decided {
     /// Its number.
     pub txn: Txn,
@@ -26,7 +26,7 @@ pub struct Decided {
 pub type Commits = Sequence<Decided>;
 
 /// What a coordinator's log tells.
-#[derive(Debug, Drop)]
+#[derive(Drop)]
 pub struct CoordPast {
     /// The commits without end, ascending by number.
     pub committed: Commits,

@@ -1,5 +1,5 @@
-use co_graph::Graph;
 use co_base::Txn;
+use co_graph::Graph;
 use co_pairs::{Pair, PairKind};
 use std::alloc::Global;
 use std::test::Fail;

@@ -7,8 +7,6 @@ mod firing;
 #[cfg(test)]
 mod graph;
 #[cfg(test)]
-mod pairs;
-#[cfg(test)]
 mod session;
 #[cfg(test)]
 mod state;

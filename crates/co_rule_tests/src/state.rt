@@ -1,5 +1,5 @@
-use co_state::{EngineState, RecordMap, Table, Verdict};
 use co_base::{Key, Kind, Op, Reply, Txn, Value};
+use co_state::{EngineState, RecordMap, Table, Verdict};
 use std::alloc::Global;
 use std::test::Fail;
 

@@ -4,7 +4,7 @@ ghost use Rattle.std.specs.Prelude.{◌≡◌, length};
 use co_base::Head;
 
 /// How many members and how many coordinators a federation has.
-#[derive(Clone, Copy, Debug, PartialEq, Eq)]
+#[derive(Clone, Copy, PartialEq, Eq)]
 pub struct NodeCounts {
     /// The count of members, at most 16.
     pub members: u8,

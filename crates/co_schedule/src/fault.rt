@@ -5,7 +5,7 @@ use std::alloc::{AllocError, AllocFailed};
 use thiserror::Error;
 
 /// What is wrong with a line that is outside the grammar.
-#[derive(Clone, Copy, Debug, PartialEq, Eq)]
+#[derive(Clone, Copy, PartialEq, Eq)]
 pub enum LineKind {
     /// A form or a fixed word is none of those that may stand there, a word is empty, or a word is
     /// missing.
@@ -95,7 +95,7 @@ impl From<AllocError> for LinesFault {
 }
 
 /// What is wrong with a line, and how many bytes of the line there are from that place on.
-#[derive(Clone, Copy, Debug, PartialEq, Eq)]
+#[derive(Clone, Copy, PartialEq, Eq)]
 pub struct Mistake {
     /// What is wrong.
     pub kind: LineKind,
@@ -105,7 +105,7 @@ pub struct Mistake {
 }
 
 /// Why something that takes memory was not read.
-#[derive(Debug, Drop)]
+#[derive(Drop)]
 pub enum ReadFault {
     /// The line has a mistake.
     Mistake(Mistake),

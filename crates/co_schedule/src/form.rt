@@ -4,7 +4,7 @@ ghost use Rattle.co_schedule.specs.Places.{is_in, one_of};
 ghost use Rattle.co_schedule.specs.Grammar.{form_word, form_named, all_forms, message_word, message_named, all_messages};
 
 /// The forms of events.
-#[derive(Clone, Copy, Debug, PartialEq, Eq)]
+#[derive(Clone, Copy, PartialEq, Eq)]
 pub enum Form {
     Begin,
     Read,
@@ -81,7 +81,7 @@ pub fn form_of(word: &[u8]) -> Option<Form>
 }
 
 /// The kinds of messages.
-#[derive(Clone, Copy, Debug, PartialEq, Eq)]
+#[derive(Clone, Copy, PartialEq, Eq)]
 pub enum MessageForm {
     Prepare,
     Vote,

@@ -31,4 +31,3 @@ pub use writing::{
     LONGEST_LINE, append_event, append_head, append_message, append_node, append_number,
     append_word, put_line,
 };
-

@@ -10,7 +10,7 @@ use co_message::{Event, Message};
 use std::alloc::{AllocError, Global};
 
 /// The chosen image of an armed stop, with its digits lent.
-#[derive(Clone, Copy, Debug, PartialEq, Eq)]
+#[derive(Clone, Copy, PartialEq, Eq)]
 pub enum LeavesView<'a> {
     /// The stable bytes alone.
     Old,
@@ -21,7 +21,7 @@ pub enum LeavesView<'a> {
 }
 
 /// An event whose keys, values and digits are lent from its line.
-#[derive(Clone, Copy, Debug, PartialEq, Eq)]
+#[derive(Clone, Copy, PartialEq, Eq)]
 pub enum LineView<'a> {
     /// A client begins the transaction at a coordinator.
     Begin {

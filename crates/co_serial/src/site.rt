@@ -2,7 +2,7 @@
 use co_base::{Op, Sequence};
 
 /// One operation of a transaction.
-#[derive(Debug, Drop, PartialEq)]
+#[derive(Drop, PartialEq)]
 pub struct Site {
     /// The number of the member.
     pub member: u8,

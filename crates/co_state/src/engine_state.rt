@@ -6,7 +6,7 @@ use co_serial::RecordMap;
 
 /// What a transaction read and wrote at a member: the ranges in ascending order, each once, and the
 /// changes by key, each key once.
-#[derive(Debug, Drop)]
+#[derive(Drop)]
 pub struct Sets {
     /// What it read. A read of one record is the range of its key.
     pub reads: Ranges,

@@ -5,7 +5,7 @@ use std::alloc::{AllocError, Global};
 use std::marker::Model;
 
 /// A list that is seen newest first: what was added last is its first element.
-#[derive(Debug, Drop)]
+#[derive(Drop)]
 pub struct History<T> {
     oldest_first: Vec<T>,
 }

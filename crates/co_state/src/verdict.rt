@@ -2,7 +2,7 @@
 use co_base::{Key, Txn};
 
 /// What the voting rule says of a transaction at a member.
-#[derive(Debug, Drop, PartialEq)]
+#[derive(Drop, PartialEq)]
 pub enum Verdict {
     /// No: operations were lost here.
     LostOperations,

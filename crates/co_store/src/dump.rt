@@ -3,7 +3,7 @@ use co_base::{Rows, Writes};
 
 /// The records as a store keeps them, and for each key that an unfinished transaction wrote: what it held
 /// before that transaction wrote there.
-#[derive(Debug, Drop)]
+#[derive(Drop)]
 pub struct Dump {
     /// The records.
     pub rows: Rows,

@@ -7,8 +7,6 @@
 mod dump;
 mod slots;
 mod store;
-#[cfg(test)]
-mod tests;
 
 pub use dump::Dump;
 pub use store::Store;

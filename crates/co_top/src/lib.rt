@@ -18,6 +18,3 @@ mod words;
 
 pub use status::{LimitKind, Status};
 pub use top::run;
-
-#[cfg(test)]
-mod tests;

@@ -8,7 +8,7 @@ use co_schedule::append_number;
 use std::alloc::{AllocError, Global};
 
 /// A limit that ended a command.
-#[derive(Clone, Copy, Debug, PartialEq, Eq)]
+#[derive(Clone, Copy, PartialEq, Eq)]
 pub enum LimitKind {
     /// The log file has more than 268,435,456 bytes.
     Log {
@@ -18,7 +18,7 @@ pub enum LimitKind {
 }
 
 /// How a command ended.
-#[derive(Clone, Copy, Debug, PartialEq, Eq)]
+#[derive(Clone, Copy, PartialEq, Eq)]
 pub enum Status {
     /// The schedule was read to its end, and every line was done; or the records were written whole.
     Done,

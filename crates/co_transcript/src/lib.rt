@@ -16,4 +16,3 @@ pub use form::{AnswerForm, ToldForm};
 pub use laws::one_text;
 pub use reading::read_item;
 pub use writing::put_item;
-

@@ -2,7 +2,7 @@
 ghost use Rattle.std.specs.Prelude.{◌≡◌, ◌≢◌, ◌↔◌};
 
 /// Where a transaction stands at a member.
-#[derive(Clone, Copy, Debug, PartialEq, Eq)]
+#[derive(Clone, Copy, PartialEq, Eq)]
 pub enum Phase {
     /// It has operations here, and has not voted.
     Active,
@@ -15,7 +15,7 @@ pub enum Phase {
 }
 
 /// What a timer does to a transaction at a member.
-#[derive(Clone, Copy, Debug, PartialEq, Eq)]
+#[derive(Clone, Copy, PartialEq, Eq)]
 pub enum Fire {
     /// It drops the transaction.
     Drop,

@@ -2,7 +2,7 @@
 use co_base::{Key, Txn};
 
 /// What a member votes on a transaction that it is asked about.
-#[derive(Debug, Drop)]
+#[derive(Drop)]
 pub enum Ballot<'a> {
     /// No: it lost operations of the transaction.
     NoLost,

@@ -2,7 +2,7 @@
 use co_base::{Row, Sequence};
 
 /// A durable record of a member.
-#[derive(Debug, Drop, PartialEq)]
+#[derive(Drop, PartialEq)]
 pub struct DurableRow {
     /// The number of the member, from 1 on.
     pub member: u8,

@@ -17,6 +17,3 @@ pub use fault::WorldFault;
 pub use laws::directories_are_read_once;
 pub use records::read_durable;
 pub use writing::{RecordsFault, write_records};
-
-#[cfg(test)]
-mod tests;

@@ -1,0 +1,144 @@
+//! Answers as text: what a command came to, and behind it the pairs of transactions that are new.
+use co_base::{Key, Reply, Row, Txn, Value, Written};
+use co_engine::{Dump, Played, Seen};
+use co_pairs::{Pair, PairKind};
+use itoa::Buffer;
+use std::alloc::{AllocError, Global};
+
+/// Appends a space and a number.
+pub fn put_number(number: usize, into: &mut Vec<u8>) -> Result<(), AllocError> {
+    into.push(b' ')?;
+    into.extend_from_slice(Buffer::new().format(number).as_bytes())
+}
+
+/// Appends a space and the number of a transaction.
+fn put_txn(t: Txn, into: &mut Vec<u8>) -> Result<(), AllocError> {
+    into.push(b' ')?;
+    into.extend_from_slice(Buffer::new().format(t.0).as_bytes())
+}
+
+/// Appends a space and a key or a value.
+pub fn put_text(text: &[u8], into: &mut Vec<u8>) -> Result<(), AllocError> {
+    into.push(b' ')?;
+    into.extend_from_slice(text)
+}
+
+/// Appends records: the key and the value of each.
+fn put_rows(rows: &[Row], into: &mut Vec<u8>) -> Result<(), AllocError> {
+    into.extend_from_slice(b"rows")?;
+    for row in rows {
+        put_text(row.key.text(), into)?;
+        put_text(row.value.text(), into)?;
+    }
+    Ok(())
+}
+
+/// Appends a value, or that there is none.
+pub fn put_value(value: Option<&Value>, into: &mut Vec<u8>) -> Result<(), AllocError> {
+    match value {
+        Some(value) => {
+            into.extend_from_slice(b"got")?;
+            put_text(value.text(), into)
+        }
+        None => into.extend_from_slice(b"missing"),
+    }
+}
+
+/// Appends a key, or that there is none.
+pub fn put_key(key: Option<&Key>, into: &mut Vec<u8>) -> Result<(), AllocError> {
+    match key {
+        Some(key) => {
+            into.extend_from_slice(b"stale")?;
+            put_text(key.text(), into)
+        }
+        None => into.extend_from_slice(b"not stale"),
+    }
+}
+
+fn put_reply(reply: &Reply, into: &mut Vec<u8>) -> Result<(), AllocError> {
+    match reply {
+        Reply::Got(value) => put_value(value.as_ref(), into),
+        Reply::Rows(rows) => put_rows(rows.as_slice(), into),
+        Reply::Done => into.extend_from_slice(b"written"),
+    }
+}
+
+/// Appends what an operation came to.
+fn put_seen(seen: &Seen, into: &mut Vec<u8>) -> Result<(), AllocError> {
+    match seen {
+        Seen::Answer(reply) => put_reply(reply, into),
+        Seen::Blocked(t) => {
+            into.extend_from_slice(b"blocked")?;
+            put_txn(*t, into)
+        }
+    }
+}
+
+/// Appends how two transactions are in conflict, and their numbers.
+fn put_pair(pair: &Pair, into: &mut Vec<u8>) -> Result<(), AllocError> {
+    match pair.by {
+        PairKind::Reads => into.extend_from_slice(b", reads")?,
+        PairKind::Writes => into.extend_from_slice(b", writes")?,
+    }
+    put_txn(pair.first, into)?;
+    put_txn(pair.second, into)
+}
+
+fn put_pairs(pairs: &[Pair], into: &mut Vec<u8>) -> Result<(), AllocError> {
+    for pair in pairs {
+        put_pair(pair, into)?;
+    }
+    Ok(())
+}
+
+/// Appends what a command came to.
+pub fn put_played(played: &Played, into: &mut Vec<u8>) -> Result<(), AllocError> {
+    match played {
+        Played::Seen(seen, pairs) => {
+            put_seen(seen, into)?;
+            put_pairs(pairs.as_slice(), into)
+        }
+        Played::Done => into.extend_from_slice(b"done"),
+        Played::Refused => into.extend_from_slice(b"refused"),
+    }
+}
+
+/// What commands came to, a line each.
+pub fn played_text(alloc: Global, answers: &[Played]) -> Result<Vec<u8>, AllocError> {
+    let mut text = Vec::new(alloc);
+    for played in answers {
+        put_played(played, &mut text)?;
+        text.push(b'\n')?;
+    }
+    Ok(text)
+}
+
+/// Appends what leads back: the key of each change, and its value or that there is none.
+fn put_undos(undos: &[Written], into: &mut Vec<u8>) -> Result<(), AllocError> {
+    into.extend_from_slice(b"undos")?;
+    for undo in undos {
+        put_text(undo.key.text(), into)?;
+        into.push(b' ')?;
+        put_value(undo.value.as_ref(), into)?;
+    }
+    Ok(())
+}
+
+/// What an engine dumps.
+pub fn dump_text(alloc: Global, dump: &Dump) -> Result<Vec<u8>, AllocError> {
+    let mut text = Vec::new(alloc);
+    put_rows(dump.rows.as_slice(), &mut text)?;
+    text.push(b' ')?;
+    put_undos(dump.undos.as_slice(), &mut text)?;
+    Ok(text)
+}
+
+/// The texts that are wanted, a line each.
+pub fn wanted_text<T>(alloc: Global, rows: &[(T, &'static [u8])]) -> Result<Vec<u8>, AllocError> {
+    let mut text = Vec::new(alloc);
+    for row in rows {
+        text.extend_from_slice(row.1)?;
+        text.push(b'\n')?;
+    }
+    Ok(text)
+}

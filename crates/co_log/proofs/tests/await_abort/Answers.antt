@@ -1,7 +1,0 @@
-use Rattle.std.proofs.Common.{length}
-use Rattle.co_outside.specs.HomeMemory.{memory_file, memory_bytes}
-use Rattle.co_log.proofs.Tested.{ready_waiting}
-use Rattle.co_log.proofs.tests.await_abort.Goals as goal
-
-pub returns-clause-ready : goal.returns-clause-ready
-returns-clause-ready c = λ home ready. ready_waiting memory_file (λ h s. length (memory_bytes h s)) home c.args.log.now c.later.new.self _ _ c.in_ok-later.ensures.ok ready

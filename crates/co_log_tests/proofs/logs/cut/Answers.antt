@@ -1,0 +1,12 @@
+use Rattle.std.proofs.Common.{length, [], subst, sym}
+use Rattle.std.specs.Prelude.{None}
+use Rattle.co_outside.specs.declared.home_memory.HomeMemory.{HomeMemory}
+use Rattle.co_outside.specs.HomeMemory.{memory_file, memory_bytes}
+use Rattle.co_log.specs.Current.{IsReady}
+use Rattle.co_log_tests.proofs.Tested.{ready_waiting}
+use Rattle.co_log_tests.proofs.logs.cut.Goals as goal
+
+pub returns : goal.returns
+returns c =
+    subst (λ (h : HomeMemory). IsReady memory_file (λ h s. length (memory_bytes h s)) h c.cut.new.self) (sym c.cut.ensures.home)
+    (ready_waiting memory_file (λ h s. length (memory_bytes h s)) c.args.home.now c.args.log.now c.cut.new.self [] None c.cut.ensures.log c.requires)

@@ -1,0 +1,19 @@
+use Rattle.std.proofs.Common.{length, sym, ◌∙◌}
+use Rattle.co_outside.specs.HomeMemory.{memory_file, memory_bytes}
+use Rattle.co_log.proofs.Ordered.{found, found_fresh, found_ordered, ready_made}
+use Rattle.co_log_tests.proofs.logs.opened.Goals as goal
+
+pub make-requires-clause-fresh : goal.make-requires-clause-fresh
+make-requires-clause-fresh c =
+    (found_fresh c.in_ok-log.log (found c.args.node _ _ c.in_ok-log.log c.requires c.in_ok-log.ensures.attached) (sym c.fresh.ensures ∙ c.if-fresh.true)).0
+
+pub returns-then-fresh : goal.returns-then-fresh
+returns-then-fresh c =
+    ready_made memory_file (λ h s. length (memory_bytes h s)) c.make.new.home c.in_ok-log.log c.make.new.self
+    (found_fresh c.in_ok-log.log (found c.args.node _ _ c.in_ok-log.log c.requires c.in_ok-log.ensures.attached) (sym c.fresh.ensures ∙ c.if-fresh.true))
+    c.in_ok-make.ensures.made c.in_ok-make.ensures.held
+
+pub returns : goal.returns
+returns c =
+    let one = found_ordered c.in_ok-log.log (found c.args.node _ _ c.in_ok-log.log c.requires c.in_ok-log.ensures.attached) (sym c.fresh.ensures ∙ c.if-fresh.false) in
+    record { held = c.in_ok-log.ensures.held; items = one.0; ordered = one.1 }

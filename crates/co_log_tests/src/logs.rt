@@ -1,0 +1,122 @@
+//! Logs over a home in memory, and their calls.
+ghost use Rattle.std.specs.Prelude.{◌≡◌, ◌≤◌, IfOk, true};
+ghost use Rattle.co_base.specs.Nodes.{IsValidNode};
+ghost use Rattle.co_outside.specs.declared.home_memory.HomeMemory.{HomeMemory};
+ghost use Rattle.co_record.specs.Spelling.{IsWritable};
+ghost use Rattle.co_log.specs.Forcing.{IsDone};
+ghost use Rattle.co_log.specs.LogView.{IsHeader};
+ghost use Rattle.co_log_tests.specs.Ready.{IsReadyIn};
+
+use co_base::{Leaves, Mark, Marks, Node, Txn};
+use co_log::{Log, LogFault};
+use co_outside::{HomeMemory, Spot};
+use co_record::Record;
+use std::alloc::{AllocError, Global};
+
+/// The node whose logs are tried.
+pub(crate) const M1: Node = Node::Member(1);
+
+/// Part `a` of its log.
+pub(crate) const M1_A: Spot = Spot { node: 1, part: 0 };
+
+/// Part `b` of its log.
+pub(crate) const M1_B: Spot = Spot { node: 1, part: 1 };
+
+/// No files.
+pub(crate) fn no_files(alloc: Global) -> HomeMemory {
+    HomeMemory::new(alloc, Vec::new(alloc))
+}
+
+/// Puts a file into a home.
+pub(crate) fn put(
+    alloc: Global,
+    home: &mut HomeMemory,
+    spot: Spot,
+    bytes: &[u8],
+) -> Result<(), AllocError> {
+    home.put(spot, bytes.to_vec(alloc)?)
+}
+
+/// The log of a node as a start finds it, made where it is fresh.
+pub(crate) fn opened(
+    alloc: Global,
+    home: &mut HomeMemory,
+    node: Node,
+    resume: bool,
+) -> Result<Log, LogFault>
+    requires { IsValidNode node }
+    ensures { IfOk result (λ log. IsReadyIn home.new log) }
+{
+    let mut log = Log::attach(alloc, home, node, resume)?;
+    if log.fresh() {
+        log.make(home)?;
+        return Ok(log);
+    }
+    Ok(log)
+}
+
+/// Keeps an abort record waiting.
+pub(crate) fn await_abort(log: &mut Log, txn: Txn) -> Result<(), AllocError>
+    ensures { (home : HomeMemory) → IsReadyIn home log.old → IsReadyIn home log.new }
+{
+    log.later(Record::Abort { txn })?;
+    Ok(())
+}
+
+/// Arms a stop.
+pub(crate) fn arm(log: &mut Log, call: u8, leaves: Leaves)
+    requires { (1 ≤ call) × (call ≤ 4) }
+    ensures { (home : HomeMemory) → IsReadyIn home log.old → IsReadyIn home log.new }
+{
+    log.arm(call, leaves);
+}
+
+/// Crashes between two events.
+pub(crate) fn cut(log: &mut Log, home: &mut HomeMemory) -> Result<(), LogFault>
+    requires { IsReadyIn home.old log.old }
+    ensures { IsReadyIn home.new log.new }
+{
+    log.cut(home)
+}
+
+/// Forces a record.
+pub(crate) fn force(log: &mut Log, home: &mut HomeMemory, item: Record) -> Result<Marks, LogFault>
+    requires ready { IsReadyIn home.old log.old }
+    requires writable { IsWritable item }
+    requires header { IsHeader item → ⊥ }
+    ensures { IsDone result → IsReadyIn home.new log.new }
+{
+    log.force(home, item)
+}
+
+/// Closes the spare where it is not closed.
+pub(crate) fn close(log: &mut Log, home: &mut HomeMemory) -> Result<(), LogFault>
+    requires { IsReadyIn home.old log.old }
+    ensures { IsDone result → IsReadyIn home.new log.new }
+{
+    if log.spare_closed() {
+        return Ok(());
+    }
+    log.close_spare(home)
+}
+
+/// Whether the spare is closed at the end.
+pub(crate) fn is_closed(log: &mut Log, home: &mut HomeMemory) -> bool
+    requires { IsReadyIn home.old log.old }
+    ensures { result ≡ true → IsReadyIn home.new log.new }
+{
+    close(log, home).is_ok()
+}
+
+/// Fills the spare with one record; where it is not closed, it is said to be in use.
+pub(crate) fn fill(log: &mut Log, home: &mut HomeMemory, item: Record) -> Result<Mark, LogFault>
+    requires ready { IsReadyIn home.old log.old }
+    requires writable { IsWritable item }
+    requires header { IsHeader item → ⊥ }
+    ensures { IsDone result → IsReadyIn home.new log.new }
+{
+    if !log.spare_closed() {
+        return Err(LogFault::InUse { spot: M1_B });
+    }
+    log.fill_spare(home, &[item])
+}
