@@ -9,8 +9,6 @@ mod made;
 #[cfg(test)]
 mod message;
 #[cfg(test)]
-mod pairs;
-#[cfg(test)]
 mod same;
 #[cfg(test)]
 mod serial;

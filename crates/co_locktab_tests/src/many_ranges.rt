@@ -1,4 +1,6 @@
 //! Tables in which a hundred thousand transactions hold a range each.
+ghost use Rattle.std.specs.Prelude.{◌<◌};
+
 use crate::locks::{NOBODY, add_read, write_blocker};
 use co_base::{BaseFault, Txn};
 use co_locktab::LockTable;

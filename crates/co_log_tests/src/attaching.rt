@@ -3,7 +3,6 @@ use crate::logs::{M1, M1_A, M1_B, no_files, put};
 use co_log::{Log, LogFault};
 use co_outside::{HomeTwist, Spot};
 use std::alloc::Global;
-use std::test::Fail;
 
 /// The log of member 1 with a header alone.
 const HEADER: [u8; 13] = *b"\xa5\x00\x00\x00\x07\x01\x01\x01\x00\x00\x00\x01\x00";
@@ -95,25 +94,28 @@ fn each_file_is_judged_when_its_log_is_attached(rt: HostRuntime) {
     }
 }
 
-#[test]
-fn a_file_that_changed_differs(rt: HostRuntime) -> Result<(), Fail> {
-    let mut inner = no_files(rt.alloc());
-    put(rt.alloc(), &mut inner, M1_A, &HEADER)?;
-    let mut home = HomeTwist::new(inner, M1_A, 11, 2, 2);
-    let Ok(mut log) = Log::attach(rt.alloc(), &mut home, M1, true) else {
-        return Err("no log".into());
+/// Whether reading the files again finds this place changed, with its old and its new byte.
+fn differs(alloc: Global, home: &mut HomeTwist, place: u32, old: u8, new: u8) -> bool {
+    let Ok(mut log) = Log::attach(alloc, home, M1, true) else {
+        return false;
     };
-    let read = log.reattach(&mut home);
-    assert!(rt;
-        matches!(
-            read,
-            Err(LogFault::Differs {
-                spot: Spot { node: 1, part: 0 },
-                at: 11,
-                kept: Some(1),
-                read: Some(2)
-            })
-        )
-    );
-    Ok(())
+    match log.reattach(home) {
+        Err(
+            LogFault::Differs {
+                spot,
+                at,
+                kept: Some(kept),
+                read: Some(read),
+            },
+        ) => spot == M1_A && at == place && kept == old && read == new,
+        _ => false,
+    }
+}
+
+#[test]
+fn a_file_that_changed_differs(rt: HostRuntime) {
+    let mut inner = no_files(rt.alloc());
+    assert!(rt; put(rt.alloc(), &mut inner, M1_A, &HEADER).is_ok());
+    let mut home = HomeTwist::new(inner, M1_A, 11, 2, 2);
+    assert!(rt; differs(rt.alloc(), &mut home, 11, 1, 2));
 }

@@ -1,17 +1,18 @@
 //! The bytes of whole files, as the calls write them, and what the calls tell.
 ghost use Rattle.std.specs.Prelude.{◌≡◌, IfOk, true};
+ghost use Rattle.co_base.specs.Nodes.{IsValidNode};
 ghost use Rattle.co_record.specs.Spelling.{IsWritable};
 ghost use Rattle.co_log.specs.LogView.{IsHeader};
 ghost use Rattle.co_log_tests.specs.Ready.{IsReadyIn};
 
 use crate::found::is_mark;
 use crate::logs::{M1, M1_A, M1_B, await_abort, fill, force, is_closed, no_files, opened};
-use crate::making::{checkpoint, commit, commit_of_two, vote, vote_on_x};
+use crate::making::{checkpoint, commit, commit_of_two, vote_on_a, vote_on_x};
 use co_base::{BaseFault, Marks, Node, Txn};
 use co_log::Log;
 use co_outside::{HomeMemory, Spot};
 use co_record::Record;
-use std::test::Fail;
+use std::alloc::Global;
 
 /// The log of member 1 after it voted for transaction 1, which read and wrote `a`, and installed it.
 static MEMBER: [u8; 51] =
@@ -103,62 +104,127 @@ fn tells_filling(
     }
 }
 
-#[test]
-fn the_log_of_a_member(rt: HostRuntime) -> Result<(), Fail> {
-    let alloc = rt.alloc();
-    let mut home = no_files(alloc);
-    let Ok(mut log) = opened(alloc, &mut home, M1, false) else {
-        return Err("no log".into());
-    };
-    assert!(rt; !log.fresh());
-    assert!(rt; tells(&mut log, &mut home, vote(alloc), &[("prepare", 1)]));
-    assert!(rt; tells(&mut log, &mut home, Ok(commit(alloc, 1)), &[("commit", 1)]));
-    assert!(rt; home.bytes(M1_A) == MEMBER.as_slice());
-    assert!(rt; home.bytes(M1_B).is_empty());
-    assert!(rt; log.lengths() == (51, 0) && log.spot() == M1_A);
-    Ok(())
+/// A log of which a file is looked at.
+#[derive(Clone, Copy)]
+enum Way {
+    Member,
+    Coordinator,
+    Filled,
+    Waiting,
 }
 
-#[test]
-fn the_log_of_a_coordinator_whose_end_waits(rt: HostRuntime) -> Result<(), Fail> {
-    let alloc = rt.alloc();
-    let mut home = no_files(alloc);
-    let Ok(mut log) = opened(alloc, &mut home, Node::Coord(1), false) else {
-        return Err("no log".into());
-    };
-    assert!(rt; is_forced(&mut log, &mut home, commit_of_two(alloc)));
-    assert!(rt; log.later(Record::End { txn: Txn(1) }).is_ok());
-    assert!(rt; home.bytes(C1_A) == COORDINATOR.as_slice());
-    Ok(())
+/// A member votes and commits.
+fn member(alloc: Global, log: &mut Log, home: &mut HomeMemory) -> &'static str
+    requires { IsReadyIn home.old log.old }
+{
+    if log.fresh() {
+        return "fresh";
+    }
+    if !tells(log, home, vote_on_a(alloc), &[("prepare", 1)]) {
+        return "no vote";
+    }
+    if !tells(log, home, Ok(commit(alloc, 1)), &[("commit", 1)]) {
+        return "no commit";
+    }
+    if home.bytes(M1_A) != MEMBER.as_slice() || !home.bytes(M1_B).is_empty() {
+        return "other files";
+    }
+    if log.lengths() != (51, 0) || log.spot() != M1_A {
+        return "other lengths";
+    }
+    "as wanted"
 }
 
-#[test]
-fn a_filled_spare(rt: HostRuntime) -> Result<(), Fail> {
-    let alloc = rt.alloc();
-    let mut home = no_files(alloc);
-    let Ok(mut log) = opened(alloc, &mut home, M1, false) else {
-        return Err("no log".into());
-    };
-    assert!(rt; !log.spare_closed());
-    assert!(rt; is_closed(&mut log, &mut home));
-    assert!(rt; home.bytes(M1_B) == b"\x00".as_slice());
-    assert!(rt; tells_filling(&mut log, &mut home, checkpoint(alloc), "checkpoint", 2));
-    assert!(rt; home.bytes(M1_B) == CHECKPOINT.as_slice());
-    assert!(rt; log.lengths() == (13, 41) && log.spot() == M1_B);
-    Ok(())
+/// A coordinator decides, and its end record waits.
+fn coordinator(alloc: Global, log: &mut Log, home: &mut HomeMemory) -> &'static str
+    requires { IsReadyIn home.old log.old }
+{
+    if !is_forced(log, home, commit_of_two(alloc)) {
+        return "no commit";
+    }
+    if log.later(Record::End { txn: Txn(1) }).is_err() {
+        return "no memory";
+    }
+    if home.bytes(C1_A) != COORDINATOR.as_slice() {
+        return "another file";
+    }
+    "as wanted"
 }
 
-#[test]
-fn a_waiting_abort_stands_before_the_next_vote(rt: HostRuntime) -> Result<(), Fail> {
-    let alloc = rt.alloc();
-    let mut home = no_files(alloc);
-    let Ok(mut log) = opened(alloc, &mut home, M1, false) else {
-        return Err("no log".into());
-    };
-    assert!(rt; is_forced(&mut log, &mut home, vote_on_x(alloc, 1, b"1")));
-    assert!(rt; await_abort(&mut log, Txn(1)).is_ok());
+/// A spare is closed and filled.
+fn filled(alloc: Global, log: &mut Log, home: &mut HomeMemory) -> &'static str
+    requires { IsReadyIn home.old log.old }
+{
+    if log.spare_closed() {
+        return "closed";
+    }
+    if !is_closed(log, home) || home.bytes(M1_B) != b"\x00".as_slice() {
+        return "not closed";
+    }
+    if !tells_filling(log, home, checkpoint(alloc), "checkpoint", 2) {
+        return "not filled";
+    }
+    if home.bytes(M1_B) != CHECKPOINT.as_slice() {
+        return "another file";
+    }
+    if log.lengths() != (13, 41) || log.spot() != M1_B {
+        return "other lengths";
+    }
+    "as wanted"
+}
+
+/// An abort waits before the next vote.
+fn waiting(alloc: Global, log: &mut Log, home: &mut HomeMemory) -> &'static str
+    requires { IsReadyIn home.old log.old }
+{
+    if !is_forced(log, home, vote_on_x(alloc, 1, b"1")) || await_abort(log, Txn(1)).is_err() {
+        return "no vote";
+    }
     let marks = [("abort", 1), ("prepare", 2)];
-    assert!(rt; tells(&mut log, &mut home, vote_on_x(alloc, 2, b"2"), &marks));
-    assert!(rt; home.bytes(M1_A) == TWO_VOTES.as_slice());
-    Ok(())
+    if !tells(log, home, vote_on_x(alloc, 2, b"2"), &marks) {
+        return "no second vote";
+    }
+    if home.bytes(M1_A) != TWO_VOTES.as_slice() {
+        return "another file";
+    }
+    "as wanted"
+}
+
+/// What is not as it is wanted, over a log that is made.
+fn outcome(alloc: Global, way: Way, node: Node) -> &'static str
+    requires { IsValidNode node }
+{
+    let mut home = no_files(alloc);
+    let Ok(mut log) = opened(alloc, &mut home, node, false) else {
+        return "no log";
+    };
+    match way {
+        Way::Member => member(alloc, &mut log, &mut home),
+        Way::Coordinator => coordinator(alloc, &mut log, &mut home),
+        Way::Filled => filled(alloc, &mut log, &mut home),
+        Way::Waiting => waiting(alloc, &mut log, &mut home),
+    }
+}
+
+#[test]
+fn the_log_of_a_member(rt: HostRuntime) {
+    assert_eq!(rt; outcome(rt.alloc(), Way::Member, M1), "as wanted");
+}
+
+#[test]
+fn the_log_of_a_coordinator_whose_end_waits(rt: HostRuntime) {
+    assert_eq!(rt;
+        outcome(rt.alloc(), Way::Coordinator, Node::Coord(1)),
+        "as wanted"
+    );
+}
+
+#[test]
+fn a_filled_spare(rt: HostRuntime) {
+    assert_eq!(rt; outcome(rt.alloc(), Way::Filled, M1), "as wanted");
+}
+
+#[test]
+fn a_waiting_abort_stands_before_the_next_vote(rt: HostRuntime) {
+    assert_eq!(rt; outcome(rt.alloc(), Way::Waiting, M1), "as wanted");
 }

@@ -1,5 +1,7 @@
 //! Records that are forced and filled in.
 ghost use Rattle.std.specs.Prelude.{◌≤◌, length, IfOk};
+ghost use Rattle.std.specs.List.Sorted.{IsStrictlySortedBy};
+ghost use Rattle.co_base.specs.Span.{span_cmp};
 ghost use Rattle.co_record.specs.Spelling.{AreInKeyOrder, IsWritable};
 ghost use Rattle.co_log.specs.LogView.{IsHeader};
 
@@ -47,39 +49,63 @@ pub(crate) fn commit_of_two(alloc: Global) -> Result<Record, BaseFault>
     })
 }
 
-/// The vote for transaction 1, which read and wrote `a`.
+/// No ranges.
 #[tactic(auto, using(co_log::proofs::Short::short_lists))]
-pub(crate) fn vote(alloc: Global) -> Result<Record, BaseFault>
+fn no_ranges(alloc: Global) -> Ranges
+    ensures count { length result ≤ 1 }
+    ensures order { IsStrictlySortedBy span_cmp result }
+{
+    Ranges::new(alloc)
+}
+
+/// The range of one key.
+#[tactic(auto, using(co_log::proofs::Short::short_lists))]
+fn one_range(alloc: Global, key: &[u8]) -> Result<Ranges, BaseFault>
+    ensures count { IfOk result (λ reads. length reads ≤ 1) }
+    ensures order { IfOk result (λ reads. IsStrictlySortedBy span_cmp reads) }
+{
+    let range = Range::of_key(&Key::new(alloc, key)?)?;
+    let mut reads = Ranges::new(alloc);
+    reads.push(range)?;
+    Ok(reads)
+}
+
+/// A vote for a transaction that wrote one record, asked for by coordinator 1.
+fn vote(txn: Txn, count: u16, reads: Ranges, writes: Writes) -> Record
+    requires operations { (1 ≤ count) × (count ≤ 2) }
+    requires few_reads { length reads ≤ 1 }
+    requires reads { IsStrictlySortedBy span_cmp reads }
+    requires few_writes { length writes ≤ 1 }
+    requires writes { AreInKeyOrder writes }
+    ensures writable { IsWritable result }
+    ensures header { IsHeader result → ⊥ }
+{
+    Record::Prepare {
+        txn,
+        coord: 1,
+        count,
+        reads,
+        writes,
+    }
+}
+
+/// The vote for transaction 1, which read and wrote `a`.
+pub(crate) fn vote_on_a(alloc: Global) -> Result<Record, BaseFault>
     ensures writable { IfOk result IsWritable }
     ensures header { IfOk result (λ item. IsHeader item → ⊥) }
 {
-    let key = Key::new(alloc, b"a")?;
-    let mut reads = Ranges::new(alloc);
-    reads.push(Range::of_key(&key)?)?;
+    let reads = one_range(alloc, b"a")?;
     let writes = one_change(alloc, b"a", b"5")?;
-    Ok(Record::Prepare {
-        txn: Txn(1),
-        coord: 1,
-        count: 2,
-        reads,
-        writes,
-    })
+    Ok(vote(Txn(1), 2, reads, writes))
 }
 
 /// A vote for a transaction that wrote `x`.
-#[tactic(auto, using(co_log::proofs::Short::short_lists))]
 pub(crate) fn vote_on_x(alloc: Global, number: u32, value: &[u8]) -> Result<Record, BaseFault>
     ensures writable { IfOk result IsWritable }
     ensures header { IfOk result (λ item. IsHeader item → ⊥) }
 {
     let writes = one_change(alloc, b"x", value)?;
-    Ok(Record::Prepare {
-        txn: Txn(number),
-        coord: 1,
-        count: 1,
-        reads: Ranges::new(alloc),
-        writes,
-    })
+    Ok(vote(Txn(number), 1, no_ranges(alloc), writes))
 }
 
 /// One row.
@@ -94,14 +120,22 @@ fn one_row(alloc: Global, key: &[u8], value: &[u8]) -> Result<Rows, BaseFault>
     Ok(rows)
 }
 
-/// The state of member 1: the row `a` holds an uncommitted `9` and was `5`.
+/// One transaction.
 #[tactic(auto, using(co_log::proofs::Short::short_lists))]
+fn one_txn(alloc: Global, txn: Txn) -> Result<Txns, BaseFault>
+    ensures { IfOk result (λ txns. length txns ≤ 1) }
+{
+    let mut txns = Txns::new(alloc);
+    txns.push(txn)?;
+    Ok(txns)
+}
+
+/// The state of member 1: the row `a` holds an uncommitted `9` and was `5`.
 pub(crate) fn checkpoint(alloc: Global) -> Result<Record, BaseFault>
     ensures writable { IfOk result IsWritable }
     ensures header { IfOk result (λ item. IsHeader item → ⊥) }
 {
-    let mut committed = Txns::new(alloc);
-    committed.push(Txn(1))?;
+    let committed = one_txn(alloc, Txn(1))?;
     let rows = one_row(alloc, b"a", b"9")?;
     let undos = one_change(alloc, b"a", b"5")?;
     Ok(Record::Checkpoint {

@@ -1,5 +1,5 @@
-//! The rules that members go by: an engine's state, conflicts, the voting rule and the timer, the graph of
-//! undecided transactions, and what clients may do.
+//! The rules that members go by: the voting rule and the timer, the graph of undecided transactions, and what
+//! clients may do.
 #![tactic(auto)]
 
 #[cfg(test)]
@@ -8,7 +8,5 @@ mod firing;
 mod graph;
 #[cfg(test)]
 mod session;
-#[cfg(test)]
-mod state;
 #[cfg(test)]
 mod voting;
