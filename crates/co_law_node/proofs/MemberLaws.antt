@@ -1,0 +1,85 @@
+-- Whole members, as they are told.
+use Rattle.std.proofs.Common.{◌≡◌, ◌≢◌, ℕ, true, false, ◌≤◌, List, [], ◌∷◌, ◌++◌, length, reverse, None, Some, refl, arith}
+use Rattle.co_record.specs.declared.record.Record.{Record}
+use Rattle.co_state.specs.declared.engine_state.Vote.{Vote}
+use Rattle.co_state.specs.Table.{look, holds}
+use Rattle.co_plain.specs.declared.member_state.MemberState.{MemberState}
+use Rattle.co_plain.specs.MemberView.{first_refused_at_member}
+use Rattle.co_plain.specs.Invariants.{Side, Memory, Stable, view, VotedAreConflictFree}
+use Rattle.co_law_node.specs.WholeMembers.{IsWholeMember, MemberStaysWhole, IsAmong, records_of}
+use Rattle.co_law_node.proofs.Allowed.{Allowed, tells, allowed_from, none_from}
+use Rattle.co_law_node.proofs.WholeMoves.{Whole, memory_tells, stable_allowed}
+use Rattle.co_law_node.proofs.WholeFilling.{checkpoints}
+use Rattle.co_law_node.proofs.MemberEvents.{whole_operation, whole_local_commit, whole_local_abort, whole_prepare, whole_decision, whole_vote, whole_timer, whole_question, whole_crash, whole_restart, whole_arming, whole_disarmed}
+
+some_head : (rs : List Record) → rs ≢ [] → 1 ≤ length rs
+some_head [] n = absurd (n refl)
+some_head (r ∷ rs) n = omega arith
+
+no_head : (rs : List Record) → 1 ≤ length rs → rs ≢ []
+no_head [] h e = absurd (omega (arith, h))
+no_head (r ∷ rs) h e = absurd (let z : r ∷ rs ≡ [] = e in cc)
+
+pub as_told : (coords : ℕ) (x : MemberState) → Whole coords x → IsWholeMember coords x
+as_told coords x w =
+    record {
+      conflict_free = free;
+      apart = apart;
+      voted = voted;
+      active = w.keeps.active;
+      installed = w.keeps.installed;
+      marked = w.keeps.marked;
+      logged = w.logged;
+      waiting = w.aborts;
+      readable = readable;
+      headed = no_head x.log.stable w.headed;
+      down = w.down;
+    }
+  where
+    free : (side : Side) → VotedAreConflictFree (view side x)
+    free Memory = (memory_tells coords x w).free
+    free Stable = (tells coords x.log.stable (stable_allowed coords x w)).free
+
+    apart : (side : Side) (t : ℕ) → holds (view side x).committed t ≡ true → holds (view side x).voted t ≡ false
+    apart Memory = (memory_tells coords x w).apart
+    apart Stable = (tells coords x.log.stable (stable_allowed coords x w)).apart
+
+    voted : (side : Side) (t : ℕ) (vote : Vote) → look (view side x).voted t ≡ Some vote → IsAmong coords vote.coord
+    voted Memory = (memory_tells coords x w).among
+    voted Stable = (tells coords x.log.stable (stable_allowed coords x w)).among
+
+    readable : (side : Side) → first_refused_at_member coords (reverse (records_of side x)) ≡ None
+    readable Memory = none_from coords (x.log.waiting ++ x.log.stable) w.allowed
+    readable Stable = none_from coords x.log.stable (stable_allowed coords x w)
+
+pub as_kept : (coords : ℕ) (x : MemberState) → IsWholeMember coords x → Whole coords x
+as_kept coords x f =
+    record {
+      allowed = allowed_from coords (x.log.waiting ++ x.log.stable) (f.readable Memory);
+      headed = some_head x.log.stable f.headed;
+      aborts = f.waiting;
+      logged = f.logged;
+      keeps = record { active = f.active; installed = f.installed; marked = f.marked };
+      down = f.down;
+    }
+
+pub stays_whole : (coords m : ℕ) (x : MemberState) → IsWholeMember coords x → MemberStaysWhole coords m x
+stays_whole coords m x f =
+    record {
+      operation = λ t carried op u n. as_told coords _ (whole_operation coords x w t carried op u n);
+      local_commit = λ t carried some u n. as_told coords _ (whole_local_commit coords x w m t carried some u n);
+      local_abort = λ t u. as_told coords _ (whole_local_abort coords x w t u);
+      prepare = λ t coord count own some u. as_told coords _ (whole_prepare coords x w m t coord count own some u);
+      decision = λ t coord commit u. as_told coords _ (whole_decision coords x w m t coord commit u);
+      vote = λ t u. as_told coords _ (whole_vote coords x w m t u);
+      timer = λ t u. as_told coords _ (whole_timer coords x w t u);
+      question = λ t. as_told coords _ (whole_question coords x w m t);
+      checkpoint = λ u. as_told coords _ (checkpoints coords m x w u);
+      crash = as_told coords _ (whole_crash coords x w);
+      restart = as_told coords _ (whole_restart coords x w);
+      armed = λ call leaves u. as_told coords _ (whole_arming coords x w call leaves u);
+      disarmed = as_told coords _ (whole_disarmed coords x w);
+    }
+  where
+    w : Whole coords x
+    w = as_kept coords x f
