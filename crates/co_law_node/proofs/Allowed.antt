@@ -1,4 +1,4 @@
--- Records that are allowed where they stand, the newest first, and what they tell.
+-- Records of a member's log that are allowed where they stand, and what they tell.
 use Rattle.std.proofs.Common.{◌≡◌, ◌≢◌, ◌⊎◌, inl, inr, ℕ, suc, Bool, true, false, not, ◌&&◌, ◌||◌, ◌==◌, ◌+◌, ◌≤◌, nat_le, if◌then◌else◌, List, [], ◌∷◌, ◌++◌, length, reverse, Option, None, Some, refl, sym, ap, ◌∙◌, subst, arith}
 use Rattle.std.specs.Option.{is_some, is_none}
 use Rattle.std.proofs.lemmas.Bool.{or_from, and_parts, false_from_ne_true}
@@ -22,87 +22,23 @@ use Rattle.co_law_base.proofs.ImageRules.{EachEntry, each_entry}
 use Rattle.co_law_base.proofs.ViewRules.{three_parts, cast_free, forget_free, install_free}
 use Rattle.co_law_base.proofs.ViewMoves.{holds_without, put_holds}
 use Rattle.co_law_node.specs.WholeMembers.{IsAmong}
+use Rattle.co_law_node.proofs.FirstRefused.{AllAllowed, older_allowed, all_from_none, none_from_all}
 
+-- each record of a member's log is allowed where it stands; the newest is first
 abbrev pub Allowed : ℕ → List Record → Type 0
-Allowed coords [] = Unit {0}
-Allowed coords (r ∷ rs) = (member_allows coords (length rs) (recovered_view rs) r ≡ true) × Allowed coords rs
-
--- the view after more records, the oldest first
-abbrev told_all : MemberView → List Record → MemberView
-told_all v [] = v
-told_all v (r ∷ rs) = told_all (told_by v r) rs
-
-told_more : (v : MemberView) (rs : List Record) (r : Record) → told_all v (rs ++ r ∷ []) ≡ told_by (told_all v rs) r
-told_more v [] r = refl
-told_more v (q ∷ rs) r = told_more (told_by v q) rs r
-
-turned : (r : Record) (rs : List Record) → reverse (r ∷ rs) ≡ reverse rs ++ r ∷ []
-turned r rs = reverse-append (r ∷ []) rs
-
-pub told_turned : (rs : List Record) → told_all nothing_known (reverse rs) ≡ recovered_view rs
-told_turned [] = refl
-told_turned (r ∷ rs) =
-    ap (told_all nothing_known) (turned r rs) ∙ told_more nothing_known (reverse rs) r ∙ ap (λ v. told_by v r) (told_turned rs)
+Allowed coords rs = AllAllowed (member_allows coords) recovered_view rs
 
 module _ (coords : ℕ) where
-  -- one more record at the end of a list that is read from its oldest one
-  last_of : (place : ℕ) (v : MemberView) (xs : List Record) (r : Record) → first_refused_from coords place v (xs ++ r ∷ []) ≡ None →
-      (first_refused_from coords place v xs ≡ None) × (member_allows coords (length xs + place) (told_all v xs) r ≡ true)
-  last_of place v [] r h = by (member_allows coords place v r) refl
-    where
-      by : (b : Bool) → member_allows coords place v r ≡ b → (first_refused_from coords place v [] ≡ None) × (member_allows coords (0 + place) v r ≡ true)
-      by true e = (refl, subst (λ n. member_allows coords n v r ≡ true) (omega arith) e)
-      by false e = absurd (let z : Some place ≡ None = sym (ap (λ b. if b then None else Some place) e) ∙ h in cc)
-  last_of place v (x ∷ xs) r h = by (last_of (suc place) (told_by v x) xs r) (member_allows coords place v x) refl
-    where
-      by : (first_refused_from coords (suc place) (told_by v x) (xs ++ r ∷ []) ≡ None →
-          (first_refused_from coords (suc place) (told_by v x) xs ≡ None) × (member_allows coords (length xs + suc place) (told_all (told_by v x) xs) r ≡ true)) →
-          (b : Bool) → member_allows coords place v x ≡ b →
-          (first_refused_from coords place v (x ∷ xs) ≡ None) × (member_allows coords (length (x ∷ xs) + place) (told_all v (x ∷ xs)) r ≡ true)
-      by rest true e =
-          let p = rest (sym (ap (λ b. if b then first_refused_from coords (suc place) (told_by v x) (xs ++ r ∷ []) else Some place) e) ∙ h) in (
-            ap (λ b. if b then first_refused_from coords (suc place) (told_by v x) xs else Some place) e ∙ p.0,
-            subst (λ n. member_allows coords n (told_all (told_by v x) xs) r ≡ true) (omega arith) p.1,
-          )
-      by rest false e = absurd (let z : Some place ≡ None = sym (ap (λ b. if b then first_refused_from coords (suc place) (told_by v x) (xs ++ r ∷ []) else Some place) e) ∙ h in cc)
-
-  at_last : (place : ℕ) (v : MemberView) (xs : List Record) (r : Record) → first_refused_from coords place v xs ≡ None →
-      member_allows coords (length xs + place) (told_all v xs) r ≡ true → first_refused_from coords place v (xs ++ r ∷ []) ≡ None
-  at_last place v [] r h a =
-      let a' : member_allows coords place v r ≡ true = subst (λ n. member_allows coords n v r ≡ true) (omega arith) a in
-      ap (λ b. if b then None else Some place) a'
-  at_last place v (x ∷ xs) r h a = by (at_last (suc place) (told_by v x) xs r) (member_allows coords place v x) refl
-    where
-      by : (first_refused_from coords (suc place) (told_by v x) xs ≡ None → member_allows coords (length xs + suc place) (told_all (told_by v x) xs) r ≡ true →
-          first_refused_from coords (suc place) (told_by v x) (xs ++ r ∷ []) ≡ None) →
-          (b : Bool) → member_allows coords place v x ≡ b → first_refused_from coords place v (x ∷ (xs ++ r ∷ [])) ≡ None
-      by rest true e =
-          ap (λ b. if b then first_refused_from coords (suc place) (told_by v x) (xs ++ r ∷ []) else Some place) e
-          ∙ rest (sym (ap (λ b. if b then first_refused_from coords (suc place) (told_by v x) xs else Some place) e) ∙ h)
-          (subst (λ n. member_allows coords n (told_all (told_by v x) xs) r ≡ true) (omega arith) a)
-      by rest false e = absurd (let z : Some place ≡ None = sym (ap (λ b. if b then first_refused_from coords (suc place) (told_by v x) xs else Some place) e) ∙ h in cc)
-
   pub allowed_from : (rs : List Record) → first_refused_at_member coords (reverse rs) ≡ None → Allowed coords rs
-  allowed_from [] h = tt
-  allowed_from (r ∷ rs) h =
-      let p = last_of 0 nothing_known (reverse rs) r (sym (ap (first_refused_from coords 0 nothing_known) (turned r rs)) ∙ h) in (
-        subst (λ v. member_allows coords (length rs) v r ≡ true) (told_turned rs)
-        (subst (λ n. member_allows coords n (told_all nothing_known (reverse rs)) r ≡ true) (let e = length-reverse rs in omega (arith, e)) p.1),
-        allowed_from rs p.0,
-      )
+  allowed_from =
+      all_from_none (member_allows coords) told_by (first_refused_from coords) recovered_view (λ place v. refl) (λ place v r rs. refl) (λ r rs. refl)
 
   pub none_from : (rs : List Record) → Allowed coords rs → first_refused_at_member coords (reverse rs) ≡ None
-  none_from [] a = refl
-  none_from (r ∷ rs) a =
-      ap (first_refused_from coords 0 nothing_known) (turned r rs)
-      ∙ at_last 0 nothing_known (reverse rs) r (none_from rs a.1)
-      (subst (λ v. member_allows coords (length (reverse rs) + 0) v r ≡ true) (sym (told_turned rs))
-      (subst (λ n. member_allows coords n (recovered_view rs) r ≡ true) (let e = length-reverse rs in omega (arith, e)) a.0))
+  none_from =
+      none_from_all (member_allows coords) told_by (first_refused_from coords) recovered_view (λ place v. refl) (λ place v r rs. refl) (λ r rs. refl)
 
-  -- older records are allowed by themselves
   pub older : (front rs : List Record) → Allowed coords (front ++ rs) → Allowed coords rs
-  older [] rs a = a
-  older (r ∷ front) rs a = older front rs a.1
+  older = older_allowed (member_allows coords) recovered_view
 
 -- What allowed records tell: votes that neither conflict nor are committed, each of a coordinator of the federation.
 pub record Tells (coords : ℕ) (v : MemberView) : Type 0 where

@@ -1,6 +1,9 @@
+pub mod FirstRefused
 pub mod Allowed
 pub mod WholeMoves
 pub mod WholeFilling
 pub mod WholeVotes
 pub mod MemberEvents
 pub mod MemberLaws
+pub mod AllowedCommits
+pub mod WholeTables

@@ -1,1 +1,2 @@
 pub mod WholeMembers
+pub mod WholeCoords
