@@ -7,3 +7,5 @@ pub mod MemberEvents
 pub mod MemberLaws
 pub mod AllowedCommits
 pub mod WholeTables
+pub mod CoordEvents
+pub mod CoordLaws

@@ -12,11 +12,11 @@ use Rattle.co_law_node.proofs.WholeMoves.{Whole, memory_tells, stable_allowed}
 use Rattle.co_law_node.proofs.WholeFilling.{checkpoints}
 use Rattle.co_law_node.proofs.MemberEvents.{whole_operation, whole_local_commit, whole_local_abort, whole_prepare, whole_decision, whole_vote, whole_timer, whole_question, whole_crash, whole_restart, whole_arming, whole_disarmed}
 
-some_head : (rs : List Record) → rs ≢ [] → 1 ≤ length rs
+pub some_head : (rs : List Record) → rs ≢ [] → 1 ≤ length rs
 some_head [] n = absurd (n refl)
 some_head (r ∷ rs) n = omega arith
 
-no_head : (rs : List Record) → 1 ≤ length rs → rs ≢ []
+pub no_head : (rs : List Record) → 1 ≤ length rs → rs ≢ []
 no_head [] h e = absurd (omega (arith, h))
 no_head (r ∷ rs) h e = absurd (let z : r ∷ rs ≡ [] = e in cc)
 

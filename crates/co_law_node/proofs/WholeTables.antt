@@ -53,7 +53,7 @@ none_unended rs t ms h e = absurd (let z : true ≡ false = sym (unended_seen rs
 
 module _ (members : ℕ) where
   -- the table that records tell
-  fits_from : (rs : List Record) → TableFits members rs (table_from (entries (recovered_commits rs).unended))
+  pub fits_from : (rs : List Record) → TableFits members rs (table_from (entries (recovered_commits rs).unended))
   fits_from rs =
       record {
         fits = λ t e f. by t e (from_cases (recovered_commits rs).unended t e f);
