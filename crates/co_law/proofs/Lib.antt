@@ -7,3 +7,4 @@ pub mod EveryRun
 pub mod EveryEvent
 pub mod EveryQuiet
 pub mod EveryOrder
+pub mod WholeRuns

@@ -51,7 +51,7 @@ module _ (kinds : List Kind) (coords : ℕ) (fm fc : ℕ → Found) (own : OnlyO
   unsent : {A : Type 0} → false ≡ true → A
   unsent h = absurd (let z : false ≡ true = h in cc)
 
-  start_own : OwnFacts (opened kinds coords fm fc)
+  pub start_own : OwnFacts (opened kinds coords fm fc)
   start_own =
       record {
         numbers =

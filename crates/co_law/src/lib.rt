@@ -7,6 +7,7 @@
 
 mod events;
 mod laws;
+mod nodes;
 mod order;
 mod own;
 mod quiet;
@@ -16,6 +17,7 @@ pub use laws::{
     acknowledged, agreement, fresh_logs, invariants, logs_alone, moves, readable_logs,
     serial_reads, sound_logs,
 };
+pub use nodes::whole_nodes;
 pub use order::{commitment_ordered, transcripts_ordered};
 pub use own::kept_by_each;
 pub use quiet::only_timers;

@@ -5,7 +5,6 @@ use Rattle.co_base.specs.declared.leaves.Leaves.{Leaves}
 use Rattle.co_base.specs.declared.node.Node.TheVariants as node
 use Rattle.co_base.specs.declared.part.Part.{Part}
 use Rattle.co_message.specs.declared.answer.Answer.TheVariants as answer
-use Rattle.co_message.specs.declared.answer.Cause.{Cause}
 use Rattle.co_message.specs.declared.answer.Cause.TheVariants as cause
 use Rattle.co_record.specs.declared.record.Record.{Record}
 use Rattle.co_record.specs.declared.record.Record.TheVariants as log
@@ -16,16 +15,15 @@ use Rattle.co_plain.specs.declared.coord_state.Entry.TheVariants as entry
 use Rattle.co_plain.specs.Numbers.{first_lacking, has_number}
 use Rattle.co_plain.specs.LogWrite.{with_stop}
 use Rattle.co_plain.specs.CoordView.{has_commit_of, all_up_to, first_refused_at_coord}
-use Rattle.co_plain.specs.CoordStep.{coord_says, with_coord_log, with_table, members_of, has_part, coord_down}
-use Rattle.co_plain.specs.Coordinator.{coord_begin, ask_commit, commit_entry, coord_commit, aborts, abort_entry, coord_abort, waits, decisions_to, decided_by, yes_counted, yes_entry, no_counted, no_entry, coord_vote, ask_entry, coord_ask, ended_by, ack_counted, ack_entry, coord_ack, timer_entry, coord_timer, resend_entry, coord_resend}
+use Rattle.co_plain.specs.CoordStep.{coord_says, with_coord_log, with_table, members_of, has_part}
+use Rattle.co_plain.specs.Coordinator.{coord_begin, ask_commit, commit_entry, coord_commit, aborts, abort_entry, coord_abort, waits, decisions_to, decided_by, yes_entry, no_entry, coord_vote, ask_entry, coord_ask, ended_by, ack_entry, coord_ack, timer_entry, coord_timer, resend_entry, coord_resend}
 use Rattle.co_plain.specs.CoordLog.{coord_crash, coord_restart_by, coord_restart, coord_arm}
-use Rattle.co_plain.specs.Opening.{Found, made, opened_coord}
+use Rattle.co_plain.specs.Opening.{Found, opened_coord}
 use Rattle.co_plain.specs.SoundLogs.{unended_in}
 use Rattle.co_law_engine.proofs.YesTells.{in_some}
-use Rattle.co_law_base.proofs.Lookups.{is_nothing, look_none}
-use Rattle.co_law_node.specs.WholeCoords.{AreParticipants, FitsRecords}
-use Rattle.co_law_node.proofs.AllowedCommits.{AllowedCommits, may_commit, commits_from}
-use Rattle.co_law_node.proofs.WholeTables.{TableFits, WholeTable, coord_runs, none_unended, fits_put, fits_without, fits_end, fits_alone, fits_decided, fits_from, whole_coord_down, stable_commits, coord_alike, retabled, coord_forces}
+use Rattle.co_law_node.specs.WholeCoords.{AreParticipants}
+use Rattle.co_law_node.proofs.AllowedCommits.{may_commit, commits_from}
+use Rattle.co_law_node.proofs.WholeTables.{WholeTable, coord_runs, none_unended, fits_put, fits_without, fits_end, fits_alone, fits_decided, fits_from, whole_coord_down, stable_commits, coord_alike, retabled, coord_forces}
 
 some_members : (parts : List Part) → parts ≢ [] → members_of parts ≢ []
 some_members [] n e = n refl

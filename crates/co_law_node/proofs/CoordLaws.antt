@@ -1,6 +1,5 @@
 -- Whole coordinators, as they are told.
-use Rattle.std.proofs.Common.{◌≡◌, ◌≢◌, ℕ, ◌≤◌, List, [], ◌∷◌, ◌++◌, length, reverse, None, arith}
-use Rattle.co_record.specs.declared.record.Record.{Record}
+use Rattle.std.proofs.Common.{◌≡◌, ℕ, ◌++◌, reverse, None}
 use Rattle.co_plain.specs.declared.coord_state.CoordState.{CoordState}
 use Rattle.co_plain.specs.CoordView.{first_refused_at_coord}
 use Rattle.co_plain.specs.Invariants.{Side, Memory, Stable}
@@ -38,7 +37,7 @@ coord_as_kept members y f =
 pub coord_stays_whole : (members c : ℕ) (y : CoordState) → IsWholeCoord members y → CoordStaysWhole members c y
 coord_stays_whole members c y f =
     record {
-      begin = λ t u n new. coord_as_told members _ (whole_begin members y w t u new);
+      begin = λ t u new. coord_as_told members _ (whole_begin members y w t u new);
       commit = λ t parts u up. coord_as_told members _ (whole_commit members y w c t parts u up);
       abort = λ t parts u. coord_as_told members _ (whole_abort members y w c t parts u);
       vote = λ t m granted u. coord_as_told members _ (whole_coord_vote members y w c t m granted u);

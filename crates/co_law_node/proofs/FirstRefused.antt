@@ -66,7 +66,7 @@ module _ {V : Type 0} (allows : ℕ → V → Record → Bool) (tells : V → Re
   all_from_none (r ∷ rs) h =
       let p = last_of 0 (read []) (reverse rs) r (sym (ap (first 0 (read [])) (turned r rs)) ∙ h) in (
         subst (λ v. allows (length rs) v r ≡ true) (told_turned rs)
-        (subst (λ n. allows n (told_all (read []) (reverse rs)) r ≡ true) (let e = length-reverse rs in omega (arith, e)) p.1),
+            (subst (λ n. allows n (told_all (read []) (reverse rs)) r ≡ true) (let e = length-reverse rs in omega (arith, e)) p.1),
         all_from_none rs p.0,
       )
 

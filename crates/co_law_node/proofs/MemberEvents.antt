@@ -1,5 +1,5 @@
 -- Each event keeps a member whole.
-use Rattle.std.proofs.Common.{◌≡◌, ◌≢◌, ℕ, Bool, true, false, ◌==◌, ◌≤◌, ◌<◌, if◌then◌else◌, List, [], ◌∷◌, ◌++◌, length, reverse, Option, None, Some, refl, sym, ap, ◌∙◌, arith}
+use Rattle.std.proofs.Common.{◌≡◌, ℕ, Bool, true, false, ◌==◌, ◌≤◌, ◌<◌, if◌then◌else◌, List, [], ◌∷◌, length, reverse, Option, None, Some, refl, sym, ap, ◌∙◌, arith}
 use Rattle.std.proofs.lemmas.Bool.{or_from, eqb-true}
 use Rattle.std.proofs.lemmas.Bool.Decides.{nat_tests}
 use Rattle.co_base.specs.declared.head.Kind.{Kind}
@@ -7,7 +7,6 @@ use Rattle.co_base.specs.declared.leaves.Leaves.{Leaves}
 use Rattle.co_base.specs.declared.node.Node.TheVariants as node
 use Rattle.co_base.specs.declared.op.Op.{Op}
 use Rattle.co_message.specs.declared.answer.Answer.TheVariants as answer
-use Rattle.co_message.specs.declared.answer.Cause.TheVariants as cause
 use Rattle.co_message.specs.declared.message.Message.TheVariants as message
 use Rattle.co_record.specs.declared.record.Record.{Record}
 use Rattle.co_state.specs.declared.engine_state.Operation.{Operation}
@@ -22,15 +21,15 @@ use Rattle.co_plain.specs.declared.member_state.MemberState.{MemberState}
 use Rattle.co_plain.specs.Numbers.{counted}
 use Rattle.co_plain.specs.LogWrite.{with_stop}
 use Rattle.co_plain.specs.MemberView.{recovered_view, first_refused_at_member}
-use Rattle.co_plain.specs.MemberStep.{says, standing_by, with_log, member_down}
+use Rattle.co_plain.specs.MemberStep.{says, standing_by, with_log}
 use Rattle.co_plain.specs.Member.{most_operations, unless_blocked, member_op, vote_by, vote_on, with_mark, prepare_by, member_prepare, vote_where_asked, vote_again_by, member_vote, commit_by, abort_by, member_decide, timer_by, member_timer, ask_by, member_ask}
 use Rattle.co_plain.specs.MemberLog.{restart_by, member_restart, member_crash, member_arm}
 use Rattle.co_plain.specs.LocalCommit.{local_coord, local_commit_by, member_local_commit, local_abort_by, member_local_abort}
-use Rattle.co_plain.specs.Opening.{Found, made, member_with, opened_log, opened_member, kind_of}
+use Rattle.co_plain.specs.Opening.{Found, made, member_with, opened_member, kind_of}
 use Rattle.co_plain.specs.Invariants.{Memory, view, stands}
 use Rattle.co_law_base.proofs.Lookups.{is_nothing, look_none, holds_found}
 use Rattle.co_law_node.specs.WholeMembers.{IsAmong}
-use Rattle.co_law_node.proofs.Allowed.{Allowed, allowed_from}
+use Rattle.co_law_node.proofs.Allowed.{allowed_from}
 use Rattle.co_law_node.proofs.WholeMoves.{Whole, whole_down, stable_allowed, alike, drops, drops_vote, marks, runs}
 use Rattle.co_law_node.proofs.WholeVotes.{operates, casts, installs, commits_alone}
 

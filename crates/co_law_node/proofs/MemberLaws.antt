@@ -7,7 +7,7 @@ use Rattle.co_plain.specs.declared.member_state.MemberState.{MemberState}
 use Rattle.co_plain.specs.MemberView.{first_refused_at_member}
 use Rattle.co_plain.specs.Invariants.{Side, Memory, Stable, view, VotedAreConflictFree}
 use Rattle.co_law_node.specs.WholeMembers.{IsWholeMember, MemberStaysWhole, IsAmong, records_of}
-use Rattle.co_law_node.proofs.Allowed.{Allowed, tells, allowed_from, none_from}
+use Rattle.co_law_node.proofs.Allowed.{tells, allowed_from, none_from}
 use Rattle.co_law_node.proofs.WholeMoves.{Whole, memory_tells, stable_allowed}
 use Rattle.co_law_node.proofs.WholeFilling.{checkpoints}
 use Rattle.co_law_node.proofs.MemberEvents.{whole_operation, whole_local_commit, whole_local_abort, whole_prepare, whole_decision, whole_vote, whole_timer, whole_question, whole_crash, whole_restart, whole_arming, whole_disarmed}

@@ -1,5 +1,5 @@
 -- A filled spare is allowed, record by record.
-use Rattle.std.proofs.Common.{◌≡◌, ◌≢◌, ◌⊎◌, inl, inr, ℕ, suc, Bool, true, false, T, ◌≤◌, ◌<◌, List, [], ◌∷◌, length, Option, None, Some, refl, sym, ap, ◌∙◌, subst, arith}
+use Rattle.std.proofs.Common.{◌≡◌, ◌≢◌, ◌⊎◌, inl, inr, ℕ, Bool, true, false, T, ◌≤◌, ◌<◌, List, [], ◌∷◌, length, None, Some, refl, sym, ap, ◌∙◌, arith}
 use Rattle.std.specs.Option.{is_some}
 use Rattle.std.specs.Ordering.{nat_cmp}
 use Rattle.std.specs.FinMap.{entries, entries_sorted, get-entries, keys}
@@ -18,10 +18,9 @@ use Rattle.co_plain.specs.declared.outcome.Outcome.TheVariants.{Completes, Stops
 use Rattle.co_plain.specs.LogWrite.{outcome_of, with_filled_spare, with_spare, generation_of}
 use Rattle.co_plain.specs.Numbers.{next_generation}
 use Rattle.co_plain.specs.MemberView.{recovered_view, cast_in, sets_conflict}
-use Rattle.co_plain.specs.MemberStep.{member_down}
 use Rattle.co_plain.specs.Member.{prepare_record}
 use Rattle.co_plain.specs.MemberLog.{prepares_onto, member_spare, stopped_fill, fill_by, close_by, checkpoint_by, member_checkpoint}
-use Rattle.co_plain.specs.Invariants.{Memory, view, VotedAreConflictFree}
+use Rattle.co_plain.specs.Invariants.{Memory, view}
 use Rattle.co_record.specs.Gate.{batch_is_stable, closes_spare}
 use Rattle.co_law_base.proofs.Lookups.{is_nothing, look_none, put_cases, found_holds}
 use Rattle.co_law_base.proofs.Commits.{both_T}
@@ -65,8 +64,8 @@ module _ (coords : ℕ) (v : MemberView) (f : Tells coords v) where
     f.among e.0 e.1 h.0.0,
     λ u other g. f.free u e.0 other e.1 (λ same. not_laid u other g same) (laid u other g) h.0.0,
     may_lay (cast_in w e.0 e.1) es (both_T _ _ s).1
-    (each_entry (IsLeft (cast_in w e.0 e.1)) es (both_T _ _ s).1 (λ u vote g. still_left u vote g))
-    (λ u other g. now_laid u other (put_cases w.voted e.0 e.1 u other g)) apart,
+        (each_entry (IsLeft (cast_in w e.0 e.1)) es (both_T _ _ s).1 (λ u vote g. still_left u vote g))
+        (λ u other g. now_laid u other (put_cases w.voted e.0 e.1 u other g)) apart,
   )
     where
       not_laid : (u : ℕ) (other : Vote) → look w.voted u ≡ Some other → u ≡ e.0 → ⊥

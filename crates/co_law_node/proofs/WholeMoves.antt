@@ -1,7 +1,6 @@
 -- What a member's changes keep of a whole one.
-use Rattle.std.proofs.Common.{◌≡◌, ◌≢◌, ◌⊎◌, inl, inr, ℕ, suc, Bool, true, false, ◌&&◌, ◌||◌, ◌==◌, ◌+◌, ◌≤◌, nat_le, List, [], ◌∷◌, ◌++◌, length, Option, None, Some, refl, sym, ap, ◌∙◌, subst, arith}
-use Rattle.std.specs.Option.{is_some}
-use Rattle.std.proofs.lemmas.Bool.{or_cases, or_left, or_right, or_from, eqb-true, eqb-false, false_from_ne_true}
+use Rattle.std.proofs.Common.{◌≡◌, ◌≢◌, ◌⊎◌, inl, inr, ℕ, Bool, true, false, ◌≤◌, List, ◌++◌, length, Option, Some, refl, sym, ap, ◌∙◌, subst, arith}
+use Rattle.std.proofs.lemmas.Bool.{or_from, false_from_ne_true}
 use Rattle.std.proofs.lemmas.List.{length-append}
 use Rattle.co_base.specs.declared.head.Kind.{Kind}
 use Rattle.co_message.specs.declared.answer.Answer.{Answer}
@@ -10,8 +9,7 @@ use Rattle.co_record.specs.declared.record.Record.{Record}
 use Rattle.co_record.specs.declared.record.Record.TheVariants as log
 use Rattle.co_record.specs.Gate.{batch_is_stable}
 use Rattle.co_state.specs.declared.engine_state.Operation.{Operation}
-use Rattle.co_state.specs.declared.engine_state.Vote.{Vote}
-use Rattle.co_state.specs.Table.{look, holds, without, put}
+use Rattle.co_state.specs.Table.{look, holds, without}
 use Rattle.co_plain.specs.declared.log_state.LogState.{LogState}
 use Rattle.co_plain.specs.declared.log_state.Stop.{Stop}
 use Rattle.co_plain.specs.declared.member_state.AskedMark.{AskedMark}
@@ -22,8 +20,8 @@ use Rattle.co_plain.specs.LogWrite.{outcome_of, with_batch, with_waiting}
 use Rattle.co_plain.specs.MemberView.{recovered_view, forget_in}
 use Rattle.co_plain.specs.MemberStep.{with_log, dropped, member_down, member_down_with, stopped_member, forced_by, force_member}
 use Rattle.co_plain.specs.Member.{with_mark, most_operations}
-use Rattle.co_plain.specs.Invariants.{Side, Memory, Stable, view, stands}
-use Rattle.co_law_base.proofs.Lookups.{is_nothing, look_none, put_cases, without_cases, holds_found, found_holds}
+use Rattle.co_plain.specs.Invariants.{Memory, view, stands}
+use Rattle.co_law_base.proofs.Lookups.{is_nothing, look_none, put_cases, without_cases}
 use Rattle.co_law_base.proofs.ViewMoves.{neither_stands, holds_without, still_holds}
 use Rattle.co_law_member.proofs.LogMoves.{without_absent, not_held}
 use Rattle.co_law_node.specs.WholeMembers.{AbortsAlone, was_installed, IsAmong}

@@ -1,10 +1,9 @@
 -- What a coordinator's changes keep of a whole one.
 use Rattle.std.proofs.Common.{◌≡◌, ◌≢◌, ◌⊎◌, inl, inr, ℕ, Bool, true, false, ◌==◌, ◌≤◌, List, [], ◌∷◌, ◌++◌, length, Option, None, Some, refl, sym, ap, ◌∙◌, subst, arith}
 use Rattle.std.specs.Option.{is_some}
-use Rattle.std.specs.FinMap.{entries, entries_sorted, get-entries, keys}
+use Rattle.std.specs.FinMap.{entries, entries_sorted, get-entries}
 use Rattle.std.proofs.lemmas.Bool.{eqb-true, eqb-false, false_from_ne_true}
 use Rattle.std.proofs.lemmas.List.{length-append}
-use Rattle.co_base.specs.declared.part.Part.{Part}
 use Rattle.co_base.specs.declared.node.Node.TheVariants as node
 use Rattle.co_message.specs.declared.answer.Answer.{Answer}
 use Rattle.co_message.specs.declared.message.Message.{Message}
@@ -20,16 +19,16 @@ use Rattle.co_plain.specs.declared.log_state.Stop.{Stop}
 use Rattle.co_plain.specs.declared.outcome.Outcome.{Outcome}
 use Rattle.co_plain.specs.declared.outcome.Outcome.TheVariants.{Completes, StopsAt}
 use Rattle.co_plain.specs.Numbers.{next_generation}
-use Rattle.co_plain.specs.LogWrite.{outcome_of, with_batch, with_filled_spare, with_spare, with_waiting, generation_of}
-use Rattle.co_plain.specs.CoordView.{recovered_commits, has_commit_of, all_up_to}
-use Rattle.co_plain.specs.CoordStep.{with_table, with_coord_log, members_of, table_from, coord_down, stopped_coord, coord_forced_by, force_coord}
+use Rattle.co_plain.specs.LogWrite.{outcome_of, with_batch, with_filled_spare, with_spare, generation_of}
+use Rattle.co_plain.specs.CoordView.{recovered_commits, has_commit_of}
+use Rattle.co_plain.specs.CoordStep.{with_table, table_from, coord_down, stopped_coord, coord_forced_by, force_coord}
 use Rattle.co_plain.specs.CoordLog.{coord_spare, coord_stopped_fill, coord_fill_by, coord_close_by, coord_checkpoint_by, coord_checkpoint}
 use Rattle.co_plain.specs.SoundLogs.{unended_in}
 use Rattle.co_law_engine.proofs.YesTells.{in_some}
 use Rattle.co_law_base.proofs.Lookups.{is_nothing, look_none, put_cases, put_here, put_there, without_cases, without_there}
 use Rattle.co_law_base.proofs.Commits.{commit_cases, commit_here, commit_there, unended_seen, unended_some, from_cases, from_found, spare_cases, seen_cases, spare_found}
 use Rattle.co_law_base.proofs.ImageRules.{EachEntry, each_entry}
-use Rattle.co_law_node.specs.WholeCoords.{EndsAlone, AreParticipants, FitsRecords}
+use Rattle.co_law_node.specs.WholeCoords.{EndsAlone, FitsRecords}
 use Rattle.co_law_node.proofs.AllowedCommits.{AllowedCommits, older_commits, unended_up, still_new, IsNewCommit, commits_allowed, more_commits}
 
 -- a table beside records

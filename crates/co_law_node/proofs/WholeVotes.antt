@@ -1,15 +1,13 @@
 -- Operations, votes and installs keep a member whole.
-use Rattle.std.proofs.Common.{◌≡◌, ◌≢◌, ◌⊎◌, inl, inr, ℕ, suc, Bool, true, false, ◌&&◌, ◌||◌, ◌==◌, ◌+◌, ◌≤◌, ◌<◌, List, [], ◌∷◌, ◌++◌, length, Option, None, Some, refl, sym, ap, ◌∙◌, subst, arith}
+use Rattle.std.proofs.Common.{◌≡◌, ◌≢◌, ◌⊎◌, inl, inr, ℕ, true, false, ◌&&◌, ◌==◌, ◌≤◌, ◌<◌, List, [], ◌∷◌, ◌++◌, length, Option, None, Some, refl, sym, ap, ◌∙◌, subst, arith}
 use Rattle.std.specs.Option.{is_some}
 use Rattle.std.proofs.lemmas.Bool.{or_cases, or_from, eqb-true, false_from_ne_true}
 use Rattle.co_base.specs.declared.op.Op.{Op}
 use Rattle.co_message.specs.declared.answer.Answer.{Answer}
 use Rattle.co_message.specs.declared.message.Message.{Message}
-use Rattle.co_record.specs.declared.record.Record.{Record}
 use Rattle.co_record.specs.declared.record.Record.TheVariants as log
 use Rattle.co_state.specs.declared.engine_state.Install.{Install}
 use Rattle.co_state.specs.declared.engine_state.Operation.{Operation}
-use Rattle.co_state.specs.declared.engine_state.Sets.{Sets}
 use Rattle.co_state.specs.declared.engine_state.Vote.{Vote}
 use Rattle.co_state.specs.declared.verdict.Verdict.TheVariants.{VoteYes}
 use Rattle.co_state.specs.Table.{look, holds, put, without}
@@ -18,20 +16,19 @@ use Rattle.co_state.specs.EngineState.{operations_of}
 use Rattle.co_state.specs.ReadRule.{snapshot_of}
 use Rattle.co_state.specs.Effects.{with_operation, after_cast, install_vote}
 use Rattle.co_state.specs.VotingRule.{vote_of}
-use Rattle.co_plain.specs.declared.member_state.AskedMark.{AskedMark}
 use Rattle.co_plain.specs.declared.member_state.MemberState.{MemberState}
-use Rattle.co_plain.specs.MemberView.{member_allows, recovered_view, cast_in, install_in, with_number, Numbers, sets_conflict}
+use Rattle.co_plain.specs.MemberView.{member_allows, recovered_view, cast_in, install_in, with_number, Numbers}
 use Rattle.co_plain.specs.MemberStep.{force_member, with_engine}
 use Rattle.co_plain.specs.Member.{most_operations, prepare_record, voted_state, installed_state}
 use Rattle.co_plain.specs.Invariants.{Memory, view, stands}
-use Rattle.co_law_engine.proofs.YesTells.{SaysYes, yes_parts, yes_apart}
-use Rattle.co_law_base.proofs.Lookups.{put_cases, put_here, put_there, without_cases, holds_found, found_holds}
+use Rattle.co_law_engine.proofs.YesTells.{yes_parts, yes_apart}
+use Rattle.co_law_base.proofs.Lookups.{put_cases, put_here, put_there, without_cases, found_holds}
 use Rattle.co_law_base.proofs.Commits.{holds_cases, holds_new, holds_more}
 use Rattle.co_law_base.proofs.ViewMoves.{neither_stands, holds_without, holds_put}
 use Rattle.co_law_base.proofs.ViewRules.{apart_ways}
 use Rattle.co_law_node.specs.WholeMembers.{was_installed, IsAmong}
 use Rattle.co_law_node.proofs.Allowed.{Allowed, may_vote}
-use Rattle.co_law_node.proofs.WholeMoves.{Whole, Keeps, Forcible, IsActiveHere, IsMarkedHere, runs, forces, more_headed, fewer_marked}
+use Rattle.co_law_node.proofs.WholeMoves.{Whole, Forcible, IsActiveHere, runs, forces, more_headed, fewer_marked}
 
 -- one more install, and its number
 more_installed : (is : List Install) (committed : Numbers) (i : Install) → ((u : ℕ) → was_installed is u ≡ true → holds committed u ≡ true) →
@@ -95,9 +92,9 @@ module _ (coords : ℕ) (x : MemberState) (w : Whole coords x) where
       Allowed coords (prepare_record t coord count (sets_of (operations_of x.engine t)) ∷ (x.log.waiting ++ x.log.stable))
   vote_allowed t coord count carried granted n own = (
     subst (λ v. member_allows coords (length (x.log.waiting ++ x.log.stable)) v (prepare_record t coord count (sets_of (operations_of x.engine t))) ≡ true) (sym w.logged)
-    (may_vote coords (length (x.log.waiting ++ x.log.stable)) (view Memory x) t coord (sets_of (operations_of x.engine t)) behind
-    (neither_stands (view Memory x) t n).0 (neither_stands (view Memory x) t n).1 own
-    (λ u other e. (apart_ways (sets_of (operations_of x.engine t)) other.sets (yes_apart x.engine t carried u other (yes_parts x.engine t carried granted) (another u other e) e)).1)),
+        (may_vote coords (length (x.log.waiting ++ x.log.stable)) (view Memory x) t coord (sets_of (operations_of x.engine t)) behind
+        (neither_stands (view Memory x) t n).0 (neither_stands (view Memory x) t n).1 own
+        (λ u other e. (apart_ways (sets_of (operations_of x.engine t)) other.sets (yes_apart x.engine t carried u other (yes_parts x.engine t carried granted) (another u other e) e)).1)),
     w.allowed,
   )
     where
@@ -146,7 +143,7 @@ module _ (coords : ℕ) (x : MemberState) (w : Whole coords x) where
           let b = w.keeps.active k os h in
           let q = neither_stands (view Memory x) k b.0 in (
             or_from _ _ (false_from_ne_true _ (λ z. let e : true ≡ false = sym (holds_without x.engine.voted t k z).1 ∙ q.0 in cc))
-            (not_committed x.committed t k (λ same. let e : true ≡ false = sym v ∙ ap (holds x.engine.voted) same ∙ q.0 in cc) q.1),
+                (not_committed x.committed t k (λ same. let e : true ≡ false = sym v ∙ ap (holds x.engine.voted) same ∙ q.0 in cc) q.1),
             b.1,
             b.2,
           )
@@ -191,7 +188,7 @@ module _ (coords : ℕ) (x : MemberState) (w : Whole coords x) where
       active vote k os h =
           let p = left_active t (own_vote t coord count) k os h in (
             or_from _ _ (false_from_ne_true _ (λ z. let e : true ≡ false = sym (holds_without (put x.engine.voted t (own_vote t coord count)) t k z).1 ∙ p.1 in cc))
-            (not_committed x.committed t k p.0 p.2),
+                (not_committed x.committed t k p.0 p.2),
             p.3,
             p.4,
           )

@@ -1,2 +1,3 @@
 pub mod WholeMembers
 pub mod WholeCoords
+pub mod WholeNodes

@@ -1,6 +1,6 @@
 -- What a coordinator is by itself, whatever its clients and the members do and whatever log it was opened over, as long as
 -- its grammar allows it: its table and its records agree, and a restart finds a log that is allowed.
-use Rattle.std.specs.Prelude.{ℕ, Bool, true, false, ◌≡◌, ◌≢◌, List, [], ◌∷◌, ◌++◌, reverse, Option, None, Some}
+use Rattle.std.specs.Prelude.{ℕ, Bool, true, false, ◌≡◌, ◌≢◌, List, [], ◌∷◌, ◌++◌, reverse, None, Some}
 use Rattle.co_base.specs.declared.leaves.Leaves.{Leaves}
 use Rattle.co_base.specs.declared.part.Part.{Part}
 use Rattle.co_record.specs.declared.record.Record.{Record}
@@ -51,8 +51,8 @@ pub record IsWholeCoord (members : ℕ) (y : CoordState) : Type 0 where
 
 -- Each event of a coordinator leaves it whole, with the conditions of the call as premises.
 pub record CoordStaysWhole (members c : ℕ) (y : CoordState) : Type 0 where
-  -- a number is begun that has neither an entry nor a commit
-  pub begin : (t : ℕ) → y.up ≡ true → look y.table t ≡ None → has_commit_of (commits_of Memory y) t ≡ false → IsWholeCoord members (coord_begin y t).state
+  -- a number is begun that has no commit
+  pub begin : (t : ℕ) → y.up ≡ true → has_commit_of (commits_of Memory y) t ≡ false → IsWholeCoord members (coord_begin y t).state
   -- participants of a commit are members
   pub commit : (t : ℕ) (parts : List Part) → y.up ≡ true → all_up_to members (members_of parts) ≡ true → IsWholeCoord members (coord_commit c y t parts).state
   pub abort : (t : ℕ) (parts : List Part) → y.up ≡ true → IsWholeCoord members (coord_abort c y t parts).state

@@ -1,6 +1,6 @@
 -- What a member is by itself, whatever its clients do and whatever logs it was opened over, as long as their grammar
 -- allows them: so a restart finds a log that is allowed, and what is forced is allowed where it stands.
-use Rattle.std.specs.Prelude.{ℕ, Bool, true, false, ◌==◌, ◌||◌, ◌≡◌, ◌≢◌, ◌≤◌, List, [], ◌∷◌, ◌++◌, length, reverse, Option, None, Some}
+use Rattle.std.specs.Prelude.{ℕ, Bool, true, false, ◌==◌, ◌||◌, ◌≡◌, ◌≢◌, ◌≤◌, List, [], ◌∷◌, ◌++◌, length, reverse, None, Some}
 use Rattle.co_base.specs.declared.leaves.Leaves.{Leaves}
 use Rattle.co_base.specs.declared.op.Op.{Op}
 use Rattle.co_record.specs.declared.record.Record.{Record}
