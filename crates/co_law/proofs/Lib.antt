@@ -8,3 +8,6 @@ pub mod EveryEvent
 pub mod EveryQuiet
 pub mod EveryOrder
 pub mod WholeRuns
+pub mod Unchanged
+pub mod Refusing
+pub mod RefusedLines
