@@ -1,10 +1,8 @@
-//! Lines and items: what is read, what is written again, what is refused and where; and the lines of a
-//! source, lent out of a buffer of one line.
+//! Items as they are written, and the lines of a source, lent out of a buffer of one line. What is read and what is
+//! refused is shown by the rows of `co_line_rows`.
 #![tactic(auto)]
 
 #[cfg(test)]
 mod items;
-#[cfg(test)]
-mod lines;
 #[cfg(test)]
 mod reader;

@@ -132,13 +132,3 @@ pub fn dump_text(alloc: Global, dump: &Dump) -> Result<Vec<u8>, AllocError> {
     put_undos(dump.undos.as_slice(), &mut text)?;
     Ok(text)
 }
-
-/// The texts that are wanted, a line each.
-pub fn wanted_text<T>(alloc: Global, rows: &[(T, &'static [u8])]) -> Result<Vec<u8>, AllocError> {
-    let mut text = Vec::new(alloc);
-    for row in rows {
-        text.extend_from_slice(row.1)?;
-        text.push(b'\n')?;
-    }
-    Ok(text)
-}

@@ -23,7 +23,7 @@ fn rolled_key(dice: &mut Dice) -> &'static [u8] {
 }
 
 /// A command of a transaction for an engine that validates.
-fn validating_act(picks: &mut Picks, t: u32) -> Act {
+fn validating_act(picks: &mut Picks, t: u32) -> Act<'static> {
     match picks.below(12) {
         0 => Act::Scan(t, b"a", b"c"),
         1 => Act::Scan(t, b"b", b"e"),
@@ -54,7 +54,7 @@ pub fn validating_commands(alloc: Global, seed: u64) -> Result<Sequence<Command>
 }
 
 /// A command of a transaction for an engine that locks.
-fn locking_act(picks: &mut Picks, t: u32) -> Act {
+fn locking_act(picks: &mut Picks, t: u32) -> Act<'static> {
     match picks.below(14) {
         0 => Act::Scan(t, b"a", b"c"),
         1 => Act::Scan(t, b"f", b"h"),
@@ -89,7 +89,7 @@ pub fn locking_commands(alloc: Global, seed: u64) -> Result<Sequence<Command>, B
 }
 
 /// A command of a transaction for an engine that keeps versions.
-fn multiversion_act(dice: &mut Dice, t: u32) -> Act {
+fn multiversion_act(dice: &mut Dice, t: u32) -> Act<'static> {
     match dice.below(12) {
         0 | 1 => Act::Read(t, rolled_key(dice)),
         2 => Act::Scan(t, b"b", b"d"),

@@ -1,23 +1,55 @@
-//! Commands in short, and records.
-use co_base::{BaseFault, Key, Range, Rows, Txn, Value};
+//! Commands in short.
+use crate::rows::{RowFault, cut, number_of};
+use co_base::{BaseFault, Key, Range, Txn, Value};
 use co_engine::Command;
-use co_state::RecordMap;
 use std::alloc::Global;
 
 /// A command of a transaction, with its keys and values.
 #[derive(Clone, Copy)]
-pub enum Act {
-    Read(u32, &'static [u8]),
-    Scan(u32, &'static [u8], &'static [u8]),
-    Write(u32, &'static [u8], &'static [u8]),
-    Erase(u32, &'static [u8]),
+pub enum Act<'a> {
+    Read(u32, &'a [u8]),
+    Scan(u32, &'a [u8], &'a [u8]),
+    Write(u32, &'a [u8], &'a [u8]),
+    Erase(u32, &'a [u8]),
     Cast(u32),
     Install(u32),
     Drop(u32),
 }
 
-/// A record: its key and its value.
-pub type Record = (&'static [u8], &'static [u8]);
+/// The command that a row spells.
+pub fn act_of(row: &[u8]) -> Result<Act<'_>, RowFault> {
+    let (word, rest) = cut(row);
+    let (t, rest) = cut(rest);
+    let t = number_of(t);
+    let (first, second) = cut(rest);
+    if word == b"read".as_slice() {
+        return Ok(Act::Read(t, first));
+    }
+    if word == b"scan".as_slice() {
+        return Ok(Act::Scan(t, first, second));
+    }
+    if word == b"write".as_slice() {
+        return Ok(Act::Write(t, first, second));
+    }
+    if word == b"erase".as_slice() {
+        return Ok(Act::Erase(t, first));
+    }
+    ending_of(word, t)
+}
+
+/// The command by which a transaction votes or ends.
+fn ending_of(word: &[u8], t: u32) -> Result<Act<'static>, RowFault> {
+    if word == b"cast".as_slice() {
+        return Ok(Act::Cast(t));
+    }
+    if word == b"install".as_slice() {
+        return Ok(Act::Install(t));
+    }
+    if word == b"drop".as_slice() {
+        return Ok(Act::Drop(t));
+    }
+    Err(RowFault::Word)
+}
 
 fn read(alloc: Global, t: u32, key: &[u8]) -> Result<Command, BaseFault> {
     let key = Key::new(alloc, key)?;
@@ -50,7 +82,7 @@ fn erase(alloc: Global, t: u32, key: &[u8]) -> Result<Command, BaseFault> {
 }
 
 /// The command.
-pub fn command(alloc: Global, act: Act) -> Result<Command, BaseFault> {
+pub fn command(alloc: Global, act: Act<'_>) -> Result<Command, BaseFault> {
     match act {
         Act::Read(t, key) => read(alloc, t, key),
         Act::Scan(t, lo, hi) => scan(alloc, t, lo, hi),
@@ -60,13 +92,4 @@ pub fn command(alloc: Global, act: Act) -> Result<Command, BaseFault> {
         Act::Install(t) => Ok(Command::Install(Txn(t))),
         Act::Drop(t) => Ok(Command::Drop(Txn(t))),
     }
-}
-
-/// The records as rows.
-pub fn rows(alloc: Global, records: &[Record]) -> Result<Rows, BaseFault> {
-    let mut map = RecordMap::new(alloc);
-    for (key, value) in records {
-        map.set(Key::new(alloc, key)?, Value::new(alloc, value)?)?;
-    }
-    Ok(map.rows(alloc)?)
 }

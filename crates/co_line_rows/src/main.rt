@@ -1,0 +1,149 @@
+//! Reads rows of lines and items and writes how each is judged: `co_line_rows < rows`.
+//!
+//! A row is `head TEXT`, `line TEXT` or `item TEXT`; any other is a title. A head is the first line of a schedule, and lines are
+//! read under the one before them. A row is written as it stands, with `ok` where its text is read and written again as it was, else with
+//! the fault of the line, or the place of the item's.
+//!
+//! The stored input has the worked rows, and the stored output what is to come of them.
+#![tactic(auto)]
+
+use co_base::Head;
+use co_outside::{SinkStd, SourceStd, put_all, read_all};
+use co_schedule::{LineFault, append_head, put_line, read_head, read_line};
+use co_transcript::{ItemFault, put_item, read_item};
+use std::alloc::{AllocError, Global};
+use std::io;
+use std::process::ExitCode;
+
+/// The most bytes of the rows.
+const MOST_BYTES: u32 = 0x10_0000;
+
+/// The first line of a schedule under which lines are read before any other.
+const FIRST_HEAD: &[u8] = b"members lock coords 1";
+
+/// The name of a fault.
+fn name_of(fault: LineFault) -> Result<&'static [u8], AllocError> {
+    match fault {
+        LineFault::Word => Ok(b"word"),
+        LineFault::Number => Ok(b"number"),
+        LineFault::Name => Ok(b"name"),
+        LineFault::Extra => Ok(b"extra"),
+        LineFault::Long => Ok(b"long"),
+        LineFault::Head => Ok(b"head"),
+        LineFault::Memory => Err(AllocError),
+    }
+}
+
+/// Appends whether a text was written again as it was.
+fn put_again(written: &[u8], text: &[u8], out: &mut Vec<u8>) -> Result<(), AllocError> {
+    if written == text {
+        out.extend_from_slice(b"ok")
+    } else {
+        out.extend_from_slice(b"otherwise: ")?;
+        out.extend_from_slice(written)
+    }
+}
+
+/// Appends how a head is judged.
+fn put_head(alloc: Global, text: &[u8], out: &mut Vec<u8>) -> Result<(), AllocError> {
+    let mut written = Vec::new(alloc);
+    match read_head(alloc, text) {
+        Ok(head) => {
+            append_head(&mut written, &head)?;
+            put_again(&written, text, out)
+        }
+        Err(fault) => out.extend_from_slice(name_of(fault)?),
+    }
+}
+
+/// Appends how a line is judged under a head.
+fn put_judged(
+    alloc: Global,
+    head: &Head,
+    text: &[u8],
+    out: &mut Vec<u8>,
+) -> Result<(), AllocError> {
+    match read_line(text, head) {
+        Ok(view) => {
+            let event = view.event(alloc)?;
+            let mut written = Vec::new(alloc);
+            if put_line(&event, &mut written).is_err() {
+                return Err(AllocError);
+            }
+            put_again(&written, text, out)
+        }
+        Err(fault) => out.extend_from_slice(name_of(fault)?),
+    }
+}
+
+/// Appends how a line is judged under the head of this text.
+fn put_line_under(
+    alloc: Global,
+    head: &[u8],
+    text: &[u8],
+    out: &mut Vec<u8>,
+) -> Result<(), AllocError> {
+    match read_head(alloc, head) {
+        Ok(head) => put_judged(alloc, &head, text, out),
+        Err(fault) => out.extend_from_slice(name_of(fault)?),
+    }
+}
+
+/// Appends how an item is judged.
+fn put_item_row(alloc: Global, text: &[u8], out: &mut Vec<u8>) -> Result<(), AllocError> {
+    match read_item(alloc, text) {
+        Ok(item) => {
+            let mut written = Vec::new(alloc);
+            put_item(&item, &mut written)?;
+            put_again(written.strip_suffix(b"\n").unwrap_or(b""), text, out)
+        }
+        Err(ItemFault::Text { at }) => {
+            let place = format!(in alloc; "at {at}")?;
+            out.extend_from_slice(place.as_bytes())
+        }
+        Err(ItemFault::Memory) => Err(AllocError),
+    }
+}
+
+/// How the rows of a text are judged.
+fn judged(alloc: Global, rows: &[u8]) -> Result<Vec<u8>, AllocError> {
+    let mut out = Vec::new(alloc);
+    let mut head = FIRST_HEAD;
+    for row in rows.split(|b| *b == b'\n') {
+        if row.is_empty() {
+            continue;
+        }
+        out.extend_from_slice(row)?;
+        if let Some(text) = row.strip_prefix(b"head ") {
+            head = text;
+            out.extend_from_slice(b" => ")?;
+            put_head(alloc, text, &mut out)?;
+        }
+        if let Some(text) = row.strip_prefix(b"line ") {
+            out.extend_from_slice(b" => ")?;
+            put_line_under(alloc, head, text, &mut out)?;
+        }
+        if let Some(text) = row.strip_prefix(b"item ") {
+            out.extend_from_slice(b" => ")?;
+            put_item_row(alloc, text, &mut out)?;
+        }
+        out.push(b'\n')?;
+    }
+    Ok(out)
+}
+
+fn main(rt: HostRuntime) -> io::Result<ExitCode> {
+    let alloc = rt.alloc();
+    let mut source = SourceStd::new(rt.stdin());
+    let Ok(rows) = read_all(alloc, &mut source, MOST_BYTES) else {
+        return Ok(ExitCode::FAILURE);
+    };
+    let Ok(judged) = judged(alloc, &rows) else {
+        return Ok(ExitCode::FAILURE);
+    };
+    let mut out = SinkStd::new(rt.stdout());
+    match put_all(alloc, &mut out, &judged) {
+        Ok(()) => Ok(ExitCode::SUCCESS),
+        Err(_) => Ok(ExitCode::FAILURE),
+    }
+}
