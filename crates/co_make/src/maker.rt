@@ -35,7 +35,7 @@ impl Model for Maker {
 }
 
 impl Maker {
-    /// The most events that a maker is asked for.
+    /// The most events that a maker makes, so that each has a number.
     pub const MOST: u32 = 4_000_000_000;
 
     /// The maker of the trial with this number. Takes no memory.
@@ -58,11 +58,11 @@ impl Maker {
         self.made
     }
 
-    /// The next event, where these messages were sent.
+    /// The next event, where these messages were sent. Fewer than `MOST` were made, as `made` tells.
     ///
     /// Want of memory leaves a maker that is only dropped.
     pub fn next(&mut self, wire: &Wire) -> Result<Event, AllocError>
-        requires { self.old.made < 4000000000 }
+        requires { self.old.made < Self.MOST }
         ensures { IfOk result (λ event. (event, self.new) ≡ next_event wire.now self.old) }
     {
         self.made += 1;
