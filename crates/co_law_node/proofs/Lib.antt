@@ -9,3 +9,4 @@ pub mod AllowedCommits
 pub mod WholeTables
 pub mod CoordEvents
 pub mod CoordLaws
+pub mod Recovered
