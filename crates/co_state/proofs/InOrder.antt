@@ -28,11 +28,11 @@ use Rattle.co_state.specs.Joined.{joined_all}
 
 module _ {K : Type 0} (cmp : K → K → Ordering) (total : IsTotalOrder cmp) where
   -- what is below the first is below the others
-  further : (p q : K) (ks : List K) → cmp p q ≡ Less → AllByRecursion (λ k. cmp q k ≡ Less) ks → AllByRecursion (λ k. cmp p k ≡ Less) ks
+  pub further : (p q : K) (ks : List K) → cmp p q ≡ Less → AllByRecursion (λ k. cmp q k ≡ Less) ks → AllByRecursion (λ k. cmp p k ≡ Less) ks
   further p q [] less all = tt
   further p q (k ∷ ks) less all = (total.trans p q k less all.0, further p q ks less all.1)
 
-  turned : (p q : K) → cmp p q ≡ Greater → cmp q p ≡ Less
+  pub turned : (p q : K) → cmp p q ≡ Greater → cmp q p ≡ Less
   turned p q e = total.antisymm q p ∙ ap ordering_reverse e
 
 -- ---- ranges
