@@ -5,15 +5,14 @@ use Rattle.co_base.specs.declared.op.Op.TheVariants.{Write, Erase}
 use Rattle.co_base.specs.declared.reply.Reply.{Reply}
 use Rattle.co_engine.specs.declared.answers.Seen.{Seen}
 use Rattle.co_engine.specs.declared.answers.Seen.TheVariants.{Answer, Blocked}
-use Rattle.co_pairs.specs.declared.prepared.Prepared.{Prepared}
+pub use Rattle.co_pairs.specs.Votes.{vote_in, votes_of}
 use Rattle.co_state.specs.declared.engine_state.EngineState.{EngineState}
 use Rattle.co_state.specs.declared.engine_state.Install.{Install}
-use Rattle.co_state.specs.declared.engine_state.Vote.{Vote}
 use Rattle.co_state.specs.declared.pair.Pair.{Pair}
 use Rattle.co_state.specs.Conflicts.{AreNewPairs}
 use Rattle.co_state.specs.LockRule.{lock_blocker}
 use Rattle.co_state.specs.ReadRule.{operation_reply}
-use Rattle.co_state.specs.Table.{Table, no_entries, put, holds}
+use Rattle.co_state.specs.Table.{holds}
 
 abbrev pub is_installed : List Install → ℕ → Bool
 is_installed [] t = false
@@ -35,14 +34,6 @@ seen_of b t op = seen_by (lock_blocker b t op) (operation_reply b t op)
 abbrev pub writing : List ℕ → Option (List ℕ) → Op
 writing key None = Erase key
 writing key (Some value) = Write key value
-
-abbrev pub vote_in : Prepared → Vote
-vote_in p = record { coord = p.coord; count = p.count; sets = p.sets }
-
--- the prepared transactions as voted ones
-abbrev pub votes_of : List Prepared → Table Vote
-votes_of [] = no_entries
-votes_of (p ∷ ps) = put (votes_of ps) p.txn (vote_in p)
 
 -- a list begins with what it held
 pub record Appends (before after : List Pair) : Type 0 where

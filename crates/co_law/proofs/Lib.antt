@@ -7,7 +7,9 @@ pub mod EveryRun
 pub mod EveryEvent
 pub mod EveryQuiet
 pub mod EveryOrder
+pub mod NodeRuns
 pub mod WholeRuns
+pub mod WritableRuns
 pub mod Unchanged
 pub mod Refusing
 pub mod RefusedLines

@@ -18,7 +18,7 @@ pub use laws::{
     acknowledged, agreement, fresh_logs, invariants, logs_alone, moves, readable_logs,
     serial_reads, sound_logs,
 };
-pub use nodes::whole_nodes;
+pub use nodes::{whole_nodes, writable_nodes};
 pub use order::{commitment_ordered, transcripts_ordered};
 pub use own::kept_by_each;
 pub use quiet::only_timers;

@@ -2,7 +2,7 @@
 use Rattle.std.proofs.Common.{◌≡◌, ℕ, Bool, true, false, cond, ◌||◌, if◌then◌else◌, T, List, [], ◌∷◌, map, Option, None, Some, refl, sym, ap, ◌∙◌}
 use Rattle.std.proofs.lemmas.Cmp.{nat_list_cmp_total}
 use Rattle.std.specs.Ordering.{nat_cmp, eq_by_cmp}
-use Rattle.std.specs.FinMap.{get, entries, entries_sorted, get-entries, keys, from_entries, get-from_entries, same_map, slice_cmp-IsAntisymmetric, nat_cmp-IsAntisymmetric}
+use Rattle.std.specs.FinMap.{get, entries, entries_sorted, get-entries, keys, same_map, slice_cmp-IsAntisymmetric, nat_cmp-IsAntisymmetric}
 use Rattle.std.specs.FinMap.Entries.{find, is_sorted}
 use Rattle.co_base.specs.declared.head.Kind.{Kind}
 use Rattle.co_base.specs.declared.head.Kind.TheVariants.{Lock, Occ, Mv}
@@ -10,9 +10,10 @@ use Rattle.co_base.specs.declared.node.Node.TheVariants as node
 use Rattle.co_base.specs.declared.written.Written.{Written}
 use Rattle.co_record.specs.declared.record.Record.{Record}
 use Rattle.co_record.specs.declared.record.Record.TheVariants as log
-use Rattle.co_serial.specs.Records.{Records, with_change, with_changes, row_of, all_rows}
+use Rattle.co_serial.specs.Records.{Records, with_change, with_changes, all_rows}
 use Rattle.co_state.specs.declared.engine_state.EngineState.{EngineState}
 use Rattle.co_state.specs.declared.engine_state.Vote.{Vote}
+use Rattle.co_state.proofs.Rows.{records_from-rows}
 use Rattle.co_state.proofs.Tables.{same_table}
 use Rattle.co_state.specs.Table.{Table, look, put, no_entries}
 use Rattle.co_state.specs.Keys.{same_key, writes_key}
@@ -79,15 +80,6 @@ numbers : (n : Numbers) (es : List (ℕ × Unit {0})) → with_numbers n (map (�
 numbers n [] = refl
 numbers n (e ∷ es) = numbers (with_number n e.0) es
 
-from_rows : (es : List (List ℕ × List ℕ)) → records_from (map row_of es) ≡ from_entries es
-from_rows [] = refl
-from_rows (e ∷ es) = ap (λ r. with_change r e.0 (Some e.1)) (from_rows es)
-
-rows_again : (r : Records) → records_from (all_rows r) ≡ r
-rows_again r =
-    from_rows (entries r)
-    ∙ same_map nat_list_cmp_total (slice_cmp-IsAntisymmetric nat_cmp-IsAntisymmetric) _ _ (λ q. get-from_entries nat_list_cmp_total (entries r) q ∙ sym (get-entries r q))
-
 -- undos lead back to the records that they were taken from
 undone : (ws : List Written) (i r : Records) (q : List ℕ) → (writes_key ws q ≡ false → get r q ≡ get i q) → get (with_changes r (map (undo_of i) ws)) q ≡ get i q
 undone [] i r q h = h refl
@@ -102,12 +94,12 @@ undone (w ∷ ws) i r q h =
         ∙ h (ap (λ b. b || writes_key ws q) (same_key_sym w.key q ∙ e) ∙ n)
 
 dumped : (kind : Kind) (b : EngineState) → with_changes (records_from (dumped_rows kind b)) (dumped_undos kind b) ≡ installed_records b
-dumped Occ b = rows_again (installed_records b)
-dumped Mv b = rows_again (installed_records b)
+dumped Occ b = records_from-rows (installed_records b)
+dumped Mv b = records_from-rows (installed_records b)
 dumped Lock b =
     same_map nat_list_cmp_total (slice_cmp-IsAntisymmetric nat_cmp-IsAntisymmetric) _ _
     (λ q. undone (undecided_changes b) (installed_records b) (records_from (all_rows (with_changes (installed_records b) (undecided_changes b)))) q
-    (λ n. ap (λ r. get r q) (rows_again (with_changes (installed_records b) (undecided_changes b))) ∙ unchanged (undecided_changes b) (installed_records b) q n))
+    (λ n. ap (λ r. get r q) (records_from-rows (with_changes (installed_records b) (undecided_changes b))) ∙ unchanged (undecided_changes b) (installed_records b) q n))
 
 -- what a filled spare tells
 pub spare_tells : (m : ℕ) (x : MemberState) (generation : ℕ) → recovered_view (member_spare m x generation) ≡ view Memory x

@@ -9,3 +9,6 @@ pub mod AllowedCommits
 pub mod WholeTables
 pub mod CoordEvents
 pub mod CoordLaws
+pub mod WritableMembers
+pub mod WritableCoords
+pub mod Recovered

@@ -38,7 +38,7 @@ module _ (coords : ℕ) (x : MemberState) (w : Whole coords x) where
   active_stands : (t : ℕ) → holds x.engine.active t ≡ true → stands (view Memory x) t ≡ false
   active_stands t h = let p = holds_found x.engine.active t h in (w.keeps.active t p.0 p.1).0
 
-  few_kept : (t : ℕ) → length (operations_of x.engine t) ≤ most_operations
+  pub few_kept : (t : ℕ) → length (operations_of x.engine t) ≤ most_operations
   few_kept t = by (look x.engine.active t) refl
     where
       by : (o : Option (List Operation)) → look x.engine.active t ≡ o → length (operations_in o) ≤ most_operations

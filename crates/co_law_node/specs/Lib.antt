@@ -1,3 +1,4 @@
 pub mod WholeMembers
 pub mod WholeCoords
+pub mod Writable
 pub mod WholeNodes

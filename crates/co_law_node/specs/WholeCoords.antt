@@ -38,6 +38,10 @@ FitsRecords members rs t entry.Idle = has_commit_of rs t ≡ false
 FitsRecords members rs t (entry.Collecting parts yeses) = (has_commit_of rs t ≡ false) × AreParticipants members parts
 FitsRecords members rs t (entry.Committed ms acks) = unended_in rs t ≡ Some ms
 
+-- every entry of the table is committed
+abbrev pub HasCommitsAlone : CoordState → Type 0
+HasCommitsAlone y = (t : ℕ) (e : Entry) → look y.table t ≡ Some e → (members : List ℕ) × (acks : List ℕ) × (e ≡ entry.Committed members acks)
+
 pub record IsWholeCoord (members : ℕ) (y : CoordState) : Type 0 where
   pub fits : (t : ℕ) (e : Entry) → look y.table t ≡ Some e → FitsRecords members (commits_of Memory y) t e
   -- each commit without end is in the table
@@ -49,20 +53,24 @@ pub record IsWholeCoord (members : ℕ) (y : CoordState) : Type 0 where
   -- a coordinator that is down is what its records tell: it has no undecided transaction
   pub down : y.up ≡ false → y ≡ coord_down y.log
 
--- Each event of a coordinator leaves it whole, with the conditions of the call as premises.
-pub record CoordStaysWhole (members c : ℕ) (y : CoordState) : Type 0 where
+-- What every event of a coordinator leaves it with, with the conditions of the call as premises: a commit asks for
+-- participants that it may name.
+pub record CoordStays (Keeps : CoordState → Type 0) (MayName : List Part → Type 0) (c : ℕ) (y : CoordState) : Type 0 where
   -- a number is begun that has no commit
-  pub begin : (t : ℕ) → y.up ≡ true → has_commit_of (commits_of Memory y) t ≡ false → IsWholeCoord members (coord_begin y t).state
-  -- participants of a commit are members
-  pub commit : (t : ℕ) (parts : List Part) → y.up ≡ true → all_up_to members (members_of parts) ≡ true → IsWholeCoord members (coord_commit c y t parts).state
-  pub abort : (t : ℕ) (parts : List Part) → y.up ≡ true → IsWholeCoord members (coord_abort c y t parts).state
-  pub vote : (t m : ℕ) (granted : Bool) → y.up ≡ true → IsWholeCoord members (coord_vote c y t m granted).state
-  pub question : (t m : ℕ) → IsWholeCoord members (coord_ask c y t m).state
-  pub acknowledgement : (t m : ℕ) → y.up ≡ true → IsWholeCoord members (coord_ack y t m).state
-  pub timer : (t : ℕ) → y.up ≡ true → IsWholeCoord members (coord_timer c y t).state
-  pub resending : (t : ℕ) → IsWholeCoord members (coord_resend c y t).state
-  pub checkpoint : y.up ≡ true → IsWholeCoord members (coord_checkpoint c y).state
-  pub crash : IsWholeCoord members (coord_crash y).state
-  pub restart : IsWholeCoord members (coord_restart y).state
-  pub armed : (call : ℕ) (leaves : Leaves) → y.up ≡ true → IsWholeCoord members (coord_arm y call leaves).state
-  pub disarmed : IsWholeCoord members (with_coord_log y (with_stop y.log None))
+  pub begin : (t : ℕ) → y.up ≡ true → has_commit_of (commits_of Memory y) t ≡ false → Keeps (coord_begin y t).state
+  pub commit : (t : ℕ) (parts : List Part) → y.up ≡ true → MayName parts → Keeps (coord_commit c y t parts).state
+  pub abort : (t : ℕ) (parts : List Part) → y.up ≡ true → Keeps (coord_abort c y t parts).state
+  pub vote : (t m : ℕ) (granted : Bool) → y.up ≡ true → Keeps (coord_vote c y t m granted).state
+  pub question : (t m : ℕ) → Keeps (coord_ask c y t m).state
+  pub acknowledgement : (t m : ℕ) → y.up ≡ true → Keeps (coord_ack y t m).state
+  pub timer : (t : ℕ) → y.up ≡ true → Keeps (coord_timer c y t).state
+  pub resending : (t : ℕ) → Keeps (coord_resend c y t).state
+  pub checkpoint : y.up ≡ true → Keeps (coord_checkpoint c y).state
+  pub crash : Keeps (coord_crash y).state
+  pub restart : Keeps (coord_restart y).state
+  pub armed : (call : ℕ) (leaves : Leaves) → y.up ≡ true → Keeps (coord_arm y call leaves).state
+  pub disarmed : Keeps (with_coord_log y (with_stop y.log None))
+
+-- each event of a coordinator leaves it whole, where the participants of a commit are members
+abbrev pub CoordStaysWhole : ℕ → ℕ → CoordState → Type 0
+CoordStaysWhole members c y = CoordStays (IsWholeCoord members) (λ parts. all_up_to members (members_of parts) ≡ true) c y

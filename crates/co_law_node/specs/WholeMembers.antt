@@ -61,20 +61,24 @@ pub record IsWholeMember (coords : ℕ) (x : MemberState) : Type 0 where
   -- a member that is down is what its records tell
   pub down : x.up ≡ false → x ≡ member_down x x.log
 
--- Each event of a member leaves it whole, with the conditions of the call as premises.
-pub record MemberStaysWhole (coords m : ℕ) (x : MemberState) : Type 0 where
+-- What every event of a member leaves it with, with the conditions of the call as premises.
+pub record MemberStays (Keeps : MemberState → Type 0) (coords m : ℕ) (x : MemberState) : Type 0 where
   -- an operation, a local commit and a local abort are of a transaction that is neither voted nor committed
-  pub operation : (t carried : ℕ) (op : Op) → x.up ≡ true → stands (view Memory x) t ≡ false → IsWholeMember coords (member_op x t carried op).state
-  pub local_commit : (t carried : ℕ) → 1 ≤ coords → x.up ≡ true → stands (view Memory x) t ≡ false → IsWholeMember coords (member_local_commit m x t carried).state
-  pub local_abort : (t : ℕ) → x.up ≡ true → IsWholeMember coords (member_local_abort x t).state
+  pub operation : (t carried : ℕ) (op : Op) → x.up ≡ true → stands (view Memory x) t ≡ false → Keeps (member_op x t carried op).state
+  pub local_commit : (t carried : ℕ) → 1 ≤ coords → x.up ≡ true → stands (view Memory x) t ≡ false → Keeps (member_local_commit m x t carried).state
+  pub local_abort : (t : ℕ) → x.up ≡ true → Keeps (member_local_abort x t).state
   -- a prepare comes from a coordinator of the federation, about some operations
-  pub prepare : (t coord count : ℕ) → IsAmong coords coord → 1 ≤ count → x.up ≡ true → IsWholeMember coords (member_prepare m x t coord count).state
-  pub decision : (t coord : ℕ) (commit : Bool) → x.up ≡ true → IsWholeMember coords (member_decide m x t coord commit).state
-  pub vote : (t : ℕ) → x.up ≡ true → IsWholeMember coords (member_vote m x t).state
-  pub timer : (t : ℕ) → x.up ≡ true → IsWholeMember coords (member_timer x t).state
-  pub question : (t : ℕ) → IsWholeMember coords (member_ask m x t).state
-  pub checkpoint : x.up ≡ true → IsWholeMember coords (member_checkpoint m x).state
-  pub crash : IsWholeMember coords (member_crash x).state
-  pub restart : IsWholeMember coords (member_restart x).state
-  pub armed : (call : ℕ) (leaves : Leaves) → x.up ≡ true → IsWholeMember coords (member_arm x call leaves).state
-  pub disarmed : IsWholeMember coords (with_log x (with_stop x.log None))
+  pub prepare : (t coord count : ℕ) → IsAmong coords coord → 1 ≤ count → x.up ≡ true → Keeps (member_prepare m x t coord count).state
+  pub decision : (t coord : ℕ) (commit : Bool) → x.up ≡ true → Keeps (member_decide m x t coord commit).state
+  pub vote : (t : ℕ) → x.up ≡ true → Keeps (member_vote m x t).state
+  pub timer : (t : ℕ) → x.up ≡ true → Keeps (member_timer x t).state
+  pub question : (t : ℕ) → Keeps (member_ask m x t).state
+  pub checkpoint : x.up ≡ true → Keeps (member_checkpoint m x).state
+  pub crash : Keeps (member_crash x).state
+  pub restart : Keeps (member_restart x).state
+  pub armed : (call : ℕ) (leaves : Leaves) → x.up ≡ true → Keeps (member_arm x call leaves).state
+  pub disarmed : Keeps (with_log x (with_stop x.log None))
+
+-- each event of a member leaves it whole
+abbrev pub MemberStaysWhole : ℕ → ℕ → MemberState → Type 0
+MemberStaysWhole coords m x = MemberStays (IsWholeMember coords) coords m x

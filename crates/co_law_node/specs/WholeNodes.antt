@@ -1,12 +1,15 @@
 -- A federation of whole nodes, in which who may still act has neither voted nor been installed anywhere.
-use Rattle.std.specs.Prelude.{ℕ, false, ◌≡◌}
+use Rattle.std.specs.Prelude.{ℕ, false, ◌≡◌, ◌≤◌}
 use Rattle.co_state.specs.Table.{look}
 use Rattle.co_plain.specs.declared.session.Session.{Session}
-use Rattle.co_plain.specs.Sessions.{Grants, leave_to_visit, leave_to_end}
+use Rattle.co_plain.specs.Sessions.{Grants, leave_to_visit, leave_to_end, count_at}
+use Rattle.co_plain.specs.Decisions.{told_of}
 use Rattle.co_plain.specs.Federation.{Federation}
+use Rattle.co_plain.specs.Member.{most_operations}
 use Rattle.co_plain.specs.Invariants.{Memory, view, stands}
-use Rattle.co_law_node.specs.WholeMembers.{IsWholeMember}
+use Rattle.co_law_node.specs.WholeMembers.{IsAmong, IsWholeMember}
 use Rattle.co_law_node.specs.WholeCoords.{IsWholeCoord}
+use Rattle.co_law_node.specs.Writable.{IsWritableMember, IsWritableCoord}
 
 pub record AreWhole (members coords : ℕ) (s : Federation) : Type 0 where
   pub member : (m : ℕ) → IsWholeMember coords (s.member m)
@@ -14,3 +17,10 @@ pub record AreWhole (members coords : ℕ) (s : Federation) : Type 0 where
   -- an operation, and what a client may still end, is of a transaction that stands at no member
   pub visited : (t m : ℕ) (session : Session) → leave_to_visit (look s.sessions t) m ≡ Grants session → stands (view Memory (s.member m)) t ≡ false
   pub ended : (t m : ℕ) (session : Session) → leave_to_end (look s.sessions t) ≡ Grants session → stands (view Memory (s.member m)) t ≡ false
+  -- a client was told of a bounded number of operations at a member
+  pub few : (t m : ℕ) → count_at (told_of s t) m ≤ most_operations
+
+-- A federation whose nodes hold what can be written, and write what can be written next.
+pub record AreWritable (members coords : ℕ) (s : Federation) : Type 0 where
+  pub member : (m : ℕ) → IsAmong members m → IsWritableMember coords m (s.member m)
+  pub coord : (c : ℕ) → IsAmong coords c → IsWritableCoord c (s.coord c)

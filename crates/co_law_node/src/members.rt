@@ -1,10 +1,13 @@
 //! Members are whole.
-ghost use Rattle.std.specs.Prelude.{ℕ, List, ◌≡◌, reverse, None};
+ghost use Rattle.std.specs.Prelude.{ℕ, List, ◌≡◌, ◌≤◌, reverse, None};
+ghost use Rattle.std.specs.List.{AllByRecursion};
 ghost use Rattle.co_base.specs.declared.head.Kind.{Kind};
+ghost use Rattle.co_record.specs.Format.{most_coordinators, most_members};
 ghost use Rattle.co_plain.specs.declared.member_state.MemberState.{MemberState};
 ghost use Rattle.co_plain.specs.MemberView.{first_refused_at_member};
 ghost use Rattle.co_plain.specs.Opening.{Found, opened_member};
-ghost use Rattle.co_law_node.specs.WholeMembers.{IsWholeMember, MemberStaysWhole};
+ghost use Rattle.co_law_node.specs.WholeMembers.{IsAmong, IsWholeMember, MemberStaysWhole};
+ghost use Rattle.co_law_node.specs.Writable.{IsWithinBounds, IsWritableMember, MemberStaysWritable};
 
 /// Each event of a whole member leaves it whole, however its log write ends, and a crash at any moment too: votes do not
 /// conflict, active transactions are neither voted nor committed and have 1 to 1,024 operations, the log tells what
@@ -17,4 +20,19 @@ pub fn members_stay_whole()
 pub fn opened_members_are_whole()
     ensures { (coords : ℕ) (kinds : List Kind) (m : ℕ) (found : Found) →
         first_refused_at_member coords (reverse found.records) ≡ None → IsWholeMember coords (opened_member kinds m found) }
+{}
+
+/// What a whole member writes can be written, and stays so with each event: its records are within their bounds and in
+/// order, and so is the record of each vote that the rule grants, whatever its count was asked to be; the two records of
+/// a local commit; and a filled spare, where its lists are as short as a count of 32 bits tells.
+pub fn members_stay_writable()
+    ensures { (coords m : ℕ) (x : MemberState) → coords ≤ most_coordinators → IsAmong most_members m →
+        IsWholeMember coords x → IsWritableMember coords m x → MemberStaysWritable coords m x }
+{}
+
+/// So is a member that is opened over an allowed log whose records are within their bounds.
+pub fn opened_members_are_writable()
+    ensures { (coords : ℕ) (kinds : List Kind) (m : ℕ) (found : Found) → coords ≤ most_coordinators → IsAmong most_members m →
+        first_refused_at_member coords (reverse found.records) ≡ None → AllByRecursion IsWithinBounds found.records →
+        IsWritableMember coords m (opened_member kinds m found) }
 {}

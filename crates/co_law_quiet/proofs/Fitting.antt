@@ -1,6 +1,7 @@
 -- Sessions of a run over own nodes are at own nodes, and the federation's nodes stay.
-use Rattle.std.proofs.Common.{◌≡◌, ◌≢◌, ◌⊎◌, inl, inr, ℕ, Bool, true, false, not, ◌==◌, ◌≤◌, ◌+◌, if◌then◌else◌, List, [], ◌∷◌, Option, None, Some, refl, sym, ◌∙◌, subst, arith}
+use Rattle.std.proofs.Common.{◌≡◌, ◌≢◌, ◌⊎◌, inl, inr, ℕ, Bool, true, false, not, ◌==◌, ◌≤◌, ◌<◌, ◌+◌, if◌then◌else◌, List, [], ◌∷◌, Option, None, Some, refl, sym, ◌∙◌, subst, arith}
 use Rattle.std.proofs.lemmas.Bool.{eqb-true}
+use Rattle.std.proofs.lemmas.Bool.Decides.{nat_tests}
 use Rattle.co_base.specs.declared.leaves.Leaves.{Leaves}
 use Rattle.co_base.specs.declared.node.Node.{Node}
 use Rattle.co_base.specs.declared.node.Node.TheVariants as node
@@ -12,14 +13,19 @@ use Rattle.co_message.specs.declared.event.Event.{Event}
 use Rattle.co_message.specs.declared.event.Event.TheVariants as event
 use Rattle.co_message.specs.declared.message.Message.{Message}
 use Rattle.co_message.specs.declared.message.Message.TheVariants as message
+use Rattle.co_state.specs.LockRule.{lock_blocker}
 use Rattle.co_state.specs.Table.{Table, look, put}
+use Rattle.co_state.specs.VotingRule.{kept_count}
 use Rattle.co_plain.specs.declared.coord_step.CoordStep.{CoordStep}
 use Rattle.co_plain.specs.declared.happening.Happening.{Happening}
 use Rattle.co_plain.specs.declared.happening.Happening.TheVariants as happening
+use Rattle.co_plain.specs.declared.member_state.MemberState.{MemberState}
 use Rattle.co_plain.specs.declared.member_step.MemberStep.{MemberStep}
 use Rattle.co_plain.specs.declared.session.Told.{Told}
 use Rattle.co_plain.specs.declared.session.Session.{Session}
-use Rattle.co_plain.specs.Member.{coord_of, member_deliver, member_vote, member_timer, member_ask, member_decide, member_op}
+use Rattle.co_plain.specs.Numbers.{counted}
+use Rattle.co_plain.specs.MemberStep.{says}
+use Rattle.co_plain.specs.Member.{most_operations, unless_blocked, coord_of, member_deliver, member_vote, member_timer, member_ask, member_decide, member_op}
 use Rattle.co_plain.specs.MemberLog.{member_checkpoint, member_crash, member_restart, member_arm}
 use Rattle.co_plain.specs.LocalCommit.{member_local_commit, member_local_abort}
 use Rattle.co_plain.specs.Coordinator.{coord_begin, coord_commit, coord_abort, coord_deliver, coord_timer, coord_resend}
@@ -39,6 +45,7 @@ HomeFits n k (node.Coord c) = IsBetween c k
 pub record Fits (n k : ℕ) (session : Session) : Type 0 where
   pub home : HomeFits n k session.by
   pub sites : (m : ℕ) → 1 ≤ count_at session.told m → IsBetween m n
+  pub few : (m : ℕ) → count_at session.told m ≤ most_operations
 
 abbrev pub FitSessions : ℕ → ℕ → Table Session → Type 0
 FitSessions n k sessions = (t : ℕ) (session : Session) → look sessions t ≡ Some session → Fits n k session
@@ -55,9 +62,16 @@ put_fits n k sessions t new old fits u session e = by (put_cases sessions t new 
     by (inl p) = subst (Fits n k) p.1 fits
     by (inr p) = old u session p.1
 
-told_fits : (n k m : ℕ) (o : Told) (session : Session) → o.site.member ≡ m → IsBetween m n → Fits n k session → Fits n k (with_told session o)
-told_fits n k m o session e own f = record { home = f.home; sites = λ j h. by j (o.site.member == j) refl h }
+told_fits : (n k m : ℕ) (o : Told) (session : Session) → o.site.member ≡ m → IsBetween m n → count_at session.told m < most_operations → Fits n k session →
+    Fits n k (with_told session o)
+told_fits n k m o session e own room f = record { home = f.home; sites = λ j h. by j (o.site.member == j) refl h; few = λ j. short j (o.site.member == j) refl }
   where
+    short : (j : ℕ) (b : Bool) → (o.site.member == j) ≡ b → (if o.site.member == j then count_at session.told j + 1 else count_at session.told j) ≤ most_operations
+    short j true q =
+        let more : count_at session.told j < most_operations = subst (λ i. count_at session.told i < most_operations) (sym e ∙ eqb-true o.site.member j q) room in
+        subst (λ b. (if b then count_at session.told j + 1 else count_at session.told j) ≤ most_operations) (sym q) (omega (arith, more))
+    short j false q = subst (λ b. (if b then count_at session.told j + 1 else count_at session.told j) ≤ most_operations) (sym q) (f.few j)
+
     by : (j : ℕ) (b : Bool) → (o.site.member == j) ≡ b → 1 ≤ (if o.site.member == j then count_at session.told j + 1 else count_at session.told j) → IsBetween j n
     by j true q h = subst (λ i. IsBetween i n) (sym e ∙ eqb-true o.site.member j q) own
     by j false q h = f.sites j (subst (λ b. 1 ≤ (if b then count_at session.told j + 1 else count_at session.told j)) q h)
@@ -99,15 +113,28 @@ module _ (n k : ℕ) (s : Federation) (q : FitSessions n k s.sessions) where
   sessions_grow t session fits = record { sessions = put_fits n k s.sessions t session q fits; kinds = refl; coordinators = refl }
 
   asked_grows : (t : ℕ) (session : Session) → Fits n k session → (b : Bool) → Fit n k s (marked_asked s t session b)
-  asked_grows t session fits true = sessions_grow t (asked_to_end session) (record { home = fits.home; sites = fits.sites })
+  asked_grows t session fits true = sessions_grow t (asked_to_end session) (record { home = fits.home; sites = fits.sites; few = fits.few })
   asked_grows t session fits false = stays
 
-  entered_grows : (t : ℕ) (session : Session) (m : ℕ) (o : Op) → IsBetween m n → Fits n k session → (reply : Option Reply) → Fit n k s (entered s t session m o reply)
-  entered_grows t session m o own fits None = stays
-  entered_grows t session m o own fits (Some reply) = sessions_grow t _ (told_fits n k m (record { site = record { member = m; op = o }; reply = reply }) session refl own fits)
+  entered_grows : (t : ℕ) (session : Session) (m : ℕ) (o : Op) → IsBetween m n → Fits n k session → (reply : Option Reply) →
+      ((r : Reply) → reply ≡ Some r → count_at session.told m < most_operations) → Fit n k s (entered s t session m o reply)
+  entered_grows t session m o own fits None room = stays
+  entered_grows t session m o own fits (Some reply) room =
+      sessions_grow t _ (told_fits n k m (record { site = record { member = m; op = o }; reply = reply }) session refl own (room reply refl) fits)
+
+  -- who has the most operations gets no further reply
+  replied : (x : MemberState) (t carried : ℕ) (o : Op) → carried ≤ most_operations → (r : Reply) → reply_in (member_op x t carried o).answer ≡ Some r → carried < most_operations
+  replied x t carried o few r h = by (kept_count x.engine t == carried) (carried == most_operations) refl h
+    where
+      by : (kept most : Bool) → (carried == most_operations) ≡ most →
+          reply_in (if kept then (if most then says x answer.TooMany else unless_blocked x t o (lock_blocker x.engine t o)) else says x (answer.Gone (counted (kept_count x.engine t)) (counted carried))).answer ≡ Some r →
+          carried < most_operations
+      by false most e q = absurd (let z : None ≡ Some r = q in cc)
+      by true true e q = absurd (let z : None ≡ Some r = q in cc)
+      by true false e q = grind (arith, nat_tests, few, e)
 
   new_fits : (at : Node) → HomeFits n k at → Fits n k (begun_by at)
-  new_fits at home = record { home = home; sites = λ m h. absurd (omega (arith, h)) }
+  new_fits at home = record { home = home; sites = λ m h. absurd (omega (arith, h)); few = λ m. omega arith }
 
   begins : (t c : ℕ) → IsBetween c k → (used up : Bool) → Fit n k s (begin_where s t c used up).state
   begins t c own true up = stays
@@ -119,13 +146,17 @@ module _ (n k : ℕ) (s : Federation) (q : FitSessions n k s.sessions) where
   begins_local t m own false true = sessions_grow t (begun_by (node.Member m)) (new_fits (node.Member m) own)
   begins_local t m own false false = stays
 
-  operates_by : (t m : ℕ) (o : Op) (session : Session) → IsBetween m n → Fits n k session → (up : Bool) (did : MemberStep) → Fit n k s (operated s t session m o up did).state
-  operates_by t m o session own fits false did = stays
-  operates_by t m o session own fits true did = at_m (entered s t session m o (reply_in did.answer)) (entered_grows t session m o own fits (reply_in did.answer)) m did
+  operates_by : (t m : ℕ) (o : Op) (session : Session) → IsBetween m n → Fits n k session → (up : Bool) →
+      Fit n k s (operated s t session m o up (member_op (s.member m) t (count_at session.told m) o)).state
+  operates_by t m o session own fits false = stays
+  operates_by t m o session own fits true =
+      let did = member_op (s.member m) t (count_at session.told m) o in
+      at_m (entered s t session m o (reply_in did.answer))
+      (entered_grows t session m o own fits (reply_in did.answer) (λ r h. replied (s.member m) t (count_at session.told m) o (fits.few m) r h)) m did
 
   operates : (t m : ℕ) (o : Op) → IsBetween m n → (leave : Leave) → LeaveFits n k leave → Fit n k s (operate_with s t m o leave).state
   operates t m o own (Refuses a) fits = stays
-  operates t m o own (Grants session) fits = operates_by t m o session own fits (s.member m).up (member_op (s.member m) t (count_at session.told m) o)
+  operates t m o own (Grants session) fits = operates_by t m o session own fits (s.member m).up
 
   answers_c : (t : ℕ) (session : Session) → Fits n k session → (c : ℕ) (up : Bool) (did : CoordStep) → Fit n k s (coord_answers s t session c up did).state
   answers_c t session fits c false did = stays

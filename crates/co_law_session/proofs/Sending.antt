@@ -1,5 +1,8 @@
 -- A message that says what is true keeps the facts.
 use Rattle.std.proofs.Common.{◌≡◌, ◌⊎◌, inl, inr, ℕ, Bool, true, false, ◌||◌, ◌&&◌, ◌≤◌, ◌==◌, ◌+◌, if◌then◌else◌, List, [], ◌∷◌, Some, refl, sym, ap, ◌∙◌, subst, arith}
+use Rattle.std.specs.Cmp.{nat_cmp_total}
+use Rattle.std.specs.List.{AllByRecursion}
+use Rattle.std.specs.List.Sorted.{IsStrictlySortedBy}
 use Rattle.std.specs.Ordering.{nat_cmp}
 use Rattle.std.specs.declared.cmp.Ordering.{Ordering}
 use Rattle.std.specs.declared.cmp.Ordering.TheVariants.{Less, Equal, Greater}
@@ -9,7 +12,10 @@ use Rattle.std.proofs.lemmas.Bool.{or_cases, or_left, or_right, eqb-true}
 use Rattle.co_message.specs.declared.message.Message.{Message}
 use Rattle.co_message.specs.declared.message.Message.TheVariants as message
 use Rattle.co_message.specs.Sent.{same_flag, same_message}
+use Rattle.co_base.proofs.Ordered.{sorted_none}
+use Rattle.co_base.specs.Order.{IsAscending}
 use Rattle.co_base.specs.declared.part.Part.{Part}
+use Rattle.co_state.proofs.InOrder.{further, turned}
 use Rattle.co_state.specs.Table.{look, holds}
 use Rattle.co_plain.specs.declared.coord_state.Entry.TheVariants as entry
 use Rattle.co_plain.specs.declared.session.Told.{Told}
@@ -106,6 +112,36 @@ with_part_has k (p ∷ ps) m = by (with_part_has k ps m) (nat_cmp k p.member) re
     by rest Greater e =
         ap (λ o. has_part (by_order o (one ∷ p ∷ ps) (more ∷ ps) (p ∷ with_part k ps)) m) e
         ∙ ap (λ b. (p.member == m) || b) rest ∙ swapped (p.member == m) (k == m) (has_part ps m)
+
+-- a member below all participants
+abbrev IsBelowParts : ℕ → List Part → Type 0
+IsBelowParts low ps = AllByRecursion (λ k. nat_cmp low k ≡ Less) (members_of ps)
+
+below-with_part : (low m : ℕ) (ps : List Part) → nat_cmp low m ≡ Less → IsBelowParts low ps → IsBelowParts low (with_part m ps)
+below-with_part low m [] l a = (l, tt)
+below-with_part low m (p ∷ ps) l a = by (below-with_part low m ps l a.1) (nat_cmp m p.member)
+  where
+    by : IsBelowParts low (with_part m ps) → (o : Ordering) →
+        IsBelowParts low (by_order o (record { member = m; count = 1 } ∷ p ∷ ps) (record { member = p.member; count = p.count + 1 } ∷ ps) (p ∷ with_part m ps))
+    by rest Less = (l, a)
+    by rest Equal = a
+    by rest Greater = (a.0, rest)
+
+ascending-with_part : (m : ℕ) (ps : List Part) → IsAscending (members_of ps) → IsAscending (members_of (with_part m ps))
+unfolding IsStrictlySortedBy
+ascending-with_part m [] a = (tt, tt)
+ascending-with_part m (p ∷ ps) a = by (ascending-with_part m ps a.1) (nat_cmp m p.member) refl
+  where
+    by : IsAscending (members_of (with_part m ps)) → (o : Ordering) → nat_cmp m p.member ≡ o →
+        IsAscending (members_of (by_order o (record { member = m; count = 1 } ∷ p ∷ ps) (record { member = p.member; count = p.count + 1 } ∷ ps) (p ∷ with_part m ps)))
+    by rest Less e = ((e, further nat_cmp nat_cmp_total m p.member (members_of ps) e a.0), a)
+    by rest Equal e = a
+    by rest Greater e = (below-with_part p.member m ps (turned nat_cmp nat_cmp_total m p.member e) a.0, rest)
+
+-- the participants of a session ascend
+pub parts_ascend : (os : List Told) → IsAscending (members_of (parts_of os))
+parts_ascend [] = sorted_none nat_cmp
+parts_ascend (o ∷ os) = ascending-with_part o.site.member (parts_of os) (parts_ascend os)
 
 pub parts_told : (os : List Told) (m : ℕ) → has_part (parts_of os) m ≡ true → 1 ≤ count_at os m
 parts_told [] m h = absurd (let z : false ≡ true = h in cc)

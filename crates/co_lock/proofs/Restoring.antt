@@ -189,14 +189,6 @@ key_listed [] i w h is = absurd (omega (arith, h))
 key_listed (v ∷ ws) zero w h is = ap (λ b. b || writes_key ws w.key) (ap (same_key v.key) (ap (λ (x : Written). x.key) is) ∙ same_key_refl v.key)
 key_listed (v ∷ ws) (suc i) w h is = ap (λ b. same_key v.key w.key || b) (key_listed ws i w (omega (arith, h)) is) ∙ or_true (same_key v.key w.key)
 
--- the rows of records are those records
-rows_back_at : (es : List (List ℕ × List ℕ)) (q : List ℕ) → get (records_from (map row_of es)) q ≡ find key_cmp q es
-rows_back_at [] q = get-empty key_cmp q
-rows_back_at (e ∷ es) q = get-insert keys_total (records_from (map row_of es)) e.0 e.1 q ∙ ap (cond (same_key q e.0) (Some e.1)) (rows_back_at es q)
-
-pub rows_back : (m : Records) → records_from (all_rows m) ≡ m
-rows_back m = same_map keys_total keys_apart (records_from (all_rows m)) m (λ q. rows_back_at (entries m) q ∙ sym (get-entries m q))
-
 -- the prepared transaction before the last laid ones
 pub next_laid : (ps : List Prepared) (i place : ℕ) (p : Prepared) → i < length ps → i + 1 ≡ place → p ≡ get_or ps i p → p ∷ drop place ps ≡ drop i ps
 next_laid ps i place p h e is = (λ j. is j ∷ drop (sym e j) ps) ∙ sym (drop_more ps i p h)

@@ -10,7 +10,7 @@ use Rattle.co_state.specs.declared.engine_state.EngineState.{EngineState}
 use Rattle.co_state.specs.declared.engine_state.Sets.{Sets}
 use Rattle.co_state.specs.declared.engine_state.Vote.{Vote}
 use Rattle.co_state.specs.Table.{Table, no_entries, look, put, without, holds, least_where}
-use Rattle.co_state.specs.Keys.{reads_meet, writes_meet}
+pub use Rattle.co_state.specs.Conflicts.{sets_conflict}
 use Rattle.co_state.specs.EngineState.{installed_records}
 use Rattle.co_state.specs.Effects.{records_from, restored}
 use Rattle.co_plain.specs.declared.member_view.MemberView.{MemberView}
@@ -70,10 +70,6 @@ recovered_view (r ∷ rs) = told_by (recovered_view rs) r
 -- the engine that stands for a view
 abbrev pub engine_from : Kind → MemberView → EngineState
 engine_from kind v = restored kind v.records v.voted
-
--- two sets are in conflict: a read of one meets a write of the other, or both wrote one key
-abbrev pub sets_conflict : Sets → Sets → Bool
-sets_conflict a b = reads_meet a.reads b.writes || reads_meet b.reads a.writes || writes_meet a.writes b.writes
 
 abbrev pub conflicts_with_voted : MemberView → Sets → Bool
 conflicts_with_voted v sets = not (is_none (least_where (λ u vote. sets_conflict vote.sets sets) v.voted))

@@ -9,9 +9,10 @@ use Rattle.std.specs.declared.cmp.Ordering.{Ordering}
 use Rattle.std.specs.declared.cmp.Ordering.TheVariants.{Less, Equal, Greater}
 use Rattle.std.specs.Cmp.{IsTotalOrder}
 use Rattle.std.proofs.lemmas.Bool.{lt-ltb, le-ltb}
-use Rattle.std.proofs.lemmas.Cmp.{nat_cmp_total, nat_list_cmp_total, then_total, on_total}
+use Rattle.std.proofs.lemmas.Cmp.{nat_cmp_total, nat_list_cmp_total}
 use Rattle.std.proofs.lemmas.List.{map-id}
 use Rattle.std.proofs.lemmas.List.Elements.{All-from_recursion, recursion_from_All}
+use Rattle.co_base.proofs.Ordered.{span_total}
 use Rattle.co_base.specs.Letters.{IsLetter}
 use Rattle.co_base.specs.Nodes.{IsValidNode, node_byte}
 use Rattle.co_base.specs.Order.{key_cmp, IsAscending}
@@ -149,9 +150,6 @@ module _ {A K : Type 0} (f : A → K) (cmp : K → K → Ordering) (total : IsTo
 
   pub ascends : (xs : List A) → IsStrictlySortedBy cmp (map f xs) → Ascends (on f cmp) None xs
   ascends xs up = follow None xs (λ y ys e. refl) up
-
-pub span_total : IsTotalOrder span_cmp
-span_total = then_total (on_total (λ s. s.lo) nat_list_cmp_total) (on_total (λ s. s.hi) nat_list_cmp_total)
 
 sorted_plain : {A : Type 0} (cmp : A → A → Ordering) (total : IsTotalOrder cmp) (xs : List A) → Ascends cmp None xs → IsStrictlySortedBy cmp xs
 sorted_plain {A} cmp total xs up = subst (IsStrictlySortedBy cmp) (map-id xs) (sorted (λ (x : A). x) cmp total None xs up)

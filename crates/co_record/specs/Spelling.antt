@@ -1,5 +1,5 @@
 -- The one spelling of each record, and which records have one.
-use Rattle.std.specs.Prelude.{◌≡◌, ℕ, ◌≤◌, ◌<◌, ◌^◌, List, [], ◌∷◌, ◌++◌, length, map, Option, Some, None, IfSome}
+use Rattle.std.specs.Prelude.{◌≡◌, ℕ, ◌≤◌, ◌<◌, ◌^◌, List, [], ◌∷◌, ◌++◌, length, Option, Some, None, IfSome}
 use Rattle.std.specs.List.{flat_map, AllByRecursion}
 use Rattle.std.specs.List.Sorted.{IsStrictlySortedBy}
 use Rattle.std.specs.Int.{Width, w16, w32, to_be_bytes}
@@ -9,6 +9,7 @@ use Rattle.co_base.specs.Letters.{IsText}
 use Rattle.co_base.specs.Nodes.{IsValidNode, node_byte}
 use Rattle.co_base.specs.Order.{key_cmp, IsAscending}
 use Rattle.co_base.specs.RowOrder.{IsInKeyOrder}
+pub use Rattle.co_base.specs.RowOrder.{AreInKeyOrder}
 use Rattle.co_base.specs.Span.{Span, span_cmp}
 use Rattle.co_base.specs.declared.row.Row.{Row}
 use Rattle.co_base.specs.declared.written.Written.{Written}
@@ -58,10 +59,6 @@ spelling (Checkpoint rows undos committed) =
 
 abbrev pub IsMember : ℕ → Type 0
 IsMember member = (1 ≤ member) × (member ≤ most_members)
-
--- changes in strictly ascending order of key
-abbrev pub AreInKeyOrder : List Written → Type 0
-AreInKeyOrder writes = IsStrictlySortedBy key_cmp (map (λ w. w.key) writes)
 
 -- What has to hold of a record that is written, beyond what the types of its parts promise.
 abbrev pub IsWritable : Record → Type 0

@@ -5,7 +5,7 @@ use Rattle.co_record.specs.declared.record.Record.{Record}
 use Rattle.co_serial.specs.Records.{all_rows}
 use Rattle.co_state.specs.declared.engine_state.Vote.{Vote}
 use Rattle.co_state.specs.Table.{Table, look, holds}
-use Rattle.co_pairs.specs.declared.prepared.Prepared.{Prepared}
+pub use Rattle.co_pairs.specs.Votes.{prepared_of, voted_of}
 use Rattle.co_plain.specs.declared.member_view.MemberView.{MemberView}
 use Rattle.co_plain.specs.MemberView.{cast_in, conflicts_with_voted, forget_in, install_in, member_allows, told_by, recovered_view, first_refused_at_member}
 use Rattle.co_plain.specs.declared.coord_view.CoordView.{CoordView}
@@ -42,12 +42,6 @@ forgotten view t = if holds view.voted t then Some (forget_in view t) else None
 
 abbrev pub installed : MemberView → ℕ → Option MemberView
 installed view t = if holds view.voted t then Some (install_in view t (look view.voted t)) else None
-
-abbrev pub prepared_of : ℕ × Vote → Prepared
-prepared_of entry = record { txn = entry.0; coord = entry.1.coord; count = entry.1.count; sets = entry.1.sets }
-
-abbrev pub voted_of : Table Vote → List Prepared
-voted_of voted = map prepared_of (entries voted)
 
 abbrev pub past_of_member : MemberView → MemberPast
 past_of_member view = record { rows = all_rows view.records; voted = voted_of view.voted; committed = keys view.committed }

@@ -1,6 +1,7 @@
 mod Placing
 mod Newest
-mod Rows
+pub mod Rows
 mod Staleness
 pub mod Tables
 mod Joining
+pub mod InOrder

@@ -2,11 +2,16 @@
 -- both wrote one key (Bernstein, Hadzilacos and Goodman 1987, conflicting operations).
 use Rattle.std.specs.Prelude.{ℕ, Bool, ◌&&◌, not, ◌==◌, nat_lt, ◌≡◌, List, [], ◌∷◌, true, false, ◌||◌}
 use Rattle.co_state.specs.declared.engine_state.EngineState.{EngineState}
+use Rattle.co_state.specs.declared.engine_state.Sets.{Sets}
 use Rattle.co_state.specs.declared.pair.Pair.{Pair}
 use Rattle.co_state.specs.declared.pair.PairKind.{PairKind}
 use Rattle.co_state.specs.declared.pair.PairKind.TheVariants.{Reads, Writes}
 use Rattle.co_state.specs.Keys.{reads_meet, writes_meet}
 use Rattle.co_state.specs.EngineState.{sets_at}
+
+-- two sets are in conflict: a read of one meets a write of the other, or both wrote one key
+abbrev pub sets_conflict : Sets → Sets → Bool
+sets_conflict a b = reads_meet a.reads b.writes || reads_meet b.reads a.writes || writes_meet a.writes b.writes
 
 -- a read of u meets a write of t
 abbrev pub reads_written_by : EngineState → ℕ → ℕ → Bool
