@@ -1,14 +1,14 @@
 //! What a member's log tells.
-ghost use Rattle.std.specs.Prelude.{◌≡◌, ℕ, List, IfOk, map, false, not, ◌&&◌, nat_le};
+ghost use Rattle.std.specs.Prelude.{◌≡◌, ℕ, List, IfOk, map, false};
 ghost use Rattle.std.specs.List.{AllByRecursion};
 ghost use Rattle.co_record.specs.declared.record.Record.{Record};
-ghost use Rattle.co_record.specs.declared.record.Record.TheVariants as log;
+ghost use Rattle.co_record.specs.declared.record.Record.TheVariants.{Checkpoint};
 ghost use Rattle.co_record.specs.Lent.{record_of};
 ghost use Rattle.co_record.specs.Reading.{row_of};
 ghost use Rattle.co_record.specs.Spelling.{IsSpelled, IsRow, IsChange};
 ghost use Rattle.co_record.specs.Stored.{HasLeft};
 ghost use Rattle.co_state.specs.Table.{holds};
-ghost use Rattle.co_plain.specs.MemberView.{is_empty, nothing_known, told_by};
+ghost use Rattle.co_plain.specs.MemberView.{nothing_known, told_by};
 ghost use Rattle.co_recover.specs.Recovered.{member_next, cast, forgotten, installed, voted_of, past_of_member, IsMemberRecovery};
 
 use crate::coord::numbers_in;
@@ -19,7 +19,7 @@ use crate::vote::{LentSets, LentVote};
 use crate::votes::LockedVotes;
 use co_base::Txn;
 use co_pairs::{Prepared, PreparedList};
-use co_record::{ChangeWalk, MemberWalk, PairWalk, RecordView, TxnWalk, Views};
+use co_record::{ChangeWalk, PairWalk, RecordView, TxnWalk, Views};
 use co_serial::RecordMap;
 use co_state::{Table, records_from};
 use std::alloc::{AllocError, Global};
@@ -54,7 +54,7 @@ fn checkpoint_view<'a>(
 ) -> Result<LentView<'a>, AllocError>
     requires rows { AllByRecursion IsRow (map row_of rows) }
     requires undos { AllByRecursion IsChange undos }
-    ensures { IfOk result (λ view. view ≡ told_by nothing_known (log.Checkpoint (map row_of rows.entry) undos.entry committed.entry)) }
+    ensures { IfOk result (λ view. view ≡ told_by nothing_known (Checkpoint (map row_of rows.entry) undos.entry committed.entry)) }
 {
     let records = lay(alloc, records_from(alloc, rows_of(alloc, rows)?)?, undos)?;
     Ok(LentView {
@@ -135,88 +135,6 @@ fn install_in<'a>(
     }
 }
 
-/// The view after a header, or none behind another record.
-fn after_header<'a>(place: u32, view: LentView<'a>) -> Option<LentView<'a>>
-    ensures { (coords node generation : ℕ) → result ≡ member_next coords place view.entry (log.Header node generation) }
-{
-    if place == 0 { Some(view) } else { None }
-}
-
-/// The view after a checkpoint, or none where it does not stand right behind the header.
-fn after_checkpoint<'a>(
-    alloc: Global,
-    place: u32,
-    view: LentView<'a>,
-    rows: PairWalk<'a>,
-    undos: ChangeWalk<'a>,
-    committed: TxnWalk<'a>,
-) -> Result<Option<LentView<'a>>, AllocError>
-    requires rows { AllByRecursion IsRow (map row_of rows) }
-    requires undos { AllByRecursion IsChange undos }
-    ensures { (coords : ℕ) → IfOk result (λ next. next ≡ member_next coords place view.entry (log.Checkpoint (map row_of rows.entry) undos.entry committed.entry)) }
-{
-    if place != 1 {
-        return Ok(None);
-    }
-    match checkpoint_view(alloc, rows, undos, committed) {
-        Ok(after) => Ok(Some(after)),
-        Err(fault) => Err(fault),
-    }
-}
-
-/// Whether a transaction may vote behind so many records: once, and for a coordinator of the federation.
-fn may_vote(coords: u8, place: u32, view: &LentView<'_>, t: Txn, coord: u8) -> bool
-    ensures { result ≡ (nat_le 1 place && not (holds view.now.voted t) && not (holds view.now.committed t) && nat_le 1 coord && nat_le coord coords) }
-{
-    1 <= place
-        && !view.voted.contains(t)
-        && !view.committed.contains(t)
-        && 1 <= coord
-        && coord <= coords
-}
-
-/// The view after a vote, or none where the transaction may not vote there.
-fn after_prepare<'a>(
-    alloc: Global,
-    coords: u8,
-    place: u32,
-    view: LentView<'a>,
-    t: Txn,
-    vote: LentVote<'a>,
-) -> Result<Option<LentView<'a>>, AllocError>
-    ensures { IfOk result (λ next. next ≡ member_next coords place view.entry (log.Prepare t vote.entry.coord vote.entry.count vote.entry.sets.reads vote.entry.sets.writes)) }
-{
-    if may_vote(coords, place, &view, t, vote.coord) {
-        cast_in(alloc, view, t, vote)
-    } else {
-        Ok(None)
-    }
-}
-
-/// The view after a commit, or none where the transaction has no vote or the record names members.
-fn after_commit<'a>(
-    alloc: Global,
-    view: LentView<'a>,
-    t: Txn,
-    members: MemberWalk<'a>,
-) -> Result<Option<LentView<'a>>, AllocError>
-    ensures { (coords place : ℕ) → IfOk result (λ next. next ≡ member_next coords place view.entry (log.Commit t members.entry)) }
-{
-    if has_members(members) {
-        Ok(None)
-    } else {
-        install_in(alloc, view, t)
-    }
-}
-
-/// Whether a commit record names any member.
-fn has_members(members: MemberWalk<'_>) -> bool
-    ensures { result ≡ not (is_empty members.entry) }
-{
-    let mut members = members;
-    members.next().is_some()
-}
-
 /// The view after one more record, or none where it is not allowed behind so many others.
 fn next_view<'a>(
     alloc: Global,
@@ -232,12 +150,20 @@ fn next_view<'a>(
         RecordView::Header {
             node: _,
             generation: _,
-        } => Ok(after_header(place, view)),
+        } => { if place == 0 { Ok(Some(view)) } else { Ok(None) } }
         RecordView::Checkpoint {
             rows,
             undos,
             committed,
-        } => after_checkpoint(alloc, place, view, rows, undos, committed),
+        } => {
+            if place != 1 {
+                return Ok(None);
+            }
+            match checkpoint_view(alloc, rows, undos, committed) {
+                Ok(after) => Ok(Some(after)),
+                Err(fault) => Err(fault),
+            }
+        }
         RecordView::Prepare {
             txn,
             coord,
@@ -245,17 +171,23 @@ fn next_view<'a>(
             reads,
             writes,
         } => {
+            if place < 1
+                || view.voted.contains(txn)
+                || view.committed.contains(txn)
+                || coord < 1
+                || coord > coords
+            {
+                return Ok(None);
+            }
             let sets = LentSets { reads, writes };
-            after_prepare(
-                alloc,
-                coords,
-                place,
-                view,
-                txn,
-                LentVote { coord, count, sets },
-            )
+            cast_in(alloc, view, txn, LentVote { coord, count, sets })
         }
-        RecordView::Commit { txn, members } => after_commit(alloc, view, txn, members),
+        RecordView::Commit { txn, mut members } => {
+            if members.next().is_some() {
+                return Ok(None);
+            }
+            install_in(alloc, view, txn)
+        }
         RecordView::Abort { txn } => Ok(forget_in(view, txn)),
         RecordView::End { txn: _ } => Ok(None),
     }
