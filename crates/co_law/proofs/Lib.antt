@@ -6,7 +6,9 @@ pub mod MoveRuns
 pub mod EveryRun
 pub mod EveryEvent
 pub mod EveryQuiet
+pub mod GoingOn
 pub mod EveryOrder
+pub mod EveryFinal
 pub mod NodeRuns
 pub mod WholeRuns
 pub mod WritableRuns
