@@ -15,3 +15,7 @@ pub mod WritableRuns
 pub mod Unchanged
 pub mod Refusing
 pub mod RefusedLines
+pub mod MemberNames
+pub mod CoordNames
+pub mod EveryHome
+pub mod CommitParts

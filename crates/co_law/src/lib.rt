@@ -7,6 +7,7 @@
 
 mod events;
 mod finality;
+mod homes;
 mod laws;
 mod nodes;
 mod order;
@@ -17,6 +18,7 @@ mod runs;
 
 pub use events::{disarming, events_are_moves};
 pub use finality::{lost_transactions_stay_lost, presumed_aborts_stay, timers_are_final};
+pub use homes::messages_name_homes;
 pub use laws::{
     acknowledged, agreement, empty_logs, fresh_logs, invariants, logs_alone, moves, readable_logs,
     serial_reads, sound_logs,
