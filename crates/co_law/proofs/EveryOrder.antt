@@ -26,6 +26,7 @@ use Rattle.co_law_order.proofs.AtDecision.{Fresh}
 use Rattle.co_law_order.proofs.Ordered.{ordered}
 use Rattle.co_law_start.specs.OpenedLogs.{AreOpenable}
 use Rattle.co_law_start.proofs.Start.{start_facts}
+use Rattle.co_law.proofs.GoingOn.{lines_true}
 
 module _ (kinds : List Kind) (coords : ℕ) (fm fc : ℕ → Found) (g : AreOpenable kinds coords fm fc) where
   opened_facts : Facts (opened kinds coords fm fc)
@@ -74,10 +75,6 @@ transcript_items number (e ∷ es) s =
     what_more : (items : List ItemKind) (rest : List Item) → map (λ i. i.what) (numbered number items ++ rest) ≡ items ++ map (λ i. i.what) rest
     what_more [] rest = refl
     what_more (x ∷ items) rest = ap (λ k. x ∷ k) (what_more items rest)
-
-lines_true : (events : List Event) (s : Federation) → AreTrueVerdicts (lines events) s
-lines_true [] s = tt
-lines_true (e ∷ es) s = (tt, lines_true es (step s (happening.Line e)).state)
 
 pub every_transcript : (kinds : List Kind) (coords : ℕ) (fm fc : ℕ → Found) (number : ℕ) (events : List Event) → AreOpenable kinds coords fm fc →
     IsCommitmentOrdered kinds (map (λ i. i.what) (transcript number events (opened kinds coords fm fc)))

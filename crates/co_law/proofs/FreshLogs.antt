@@ -1,9 +1,10 @@
--- Fresh logs may be opened.
-use Rattle.std.proofs.Common.{◌≡◌, ℕ, true, false, List, [], refl, sym, ap, ◌∙◌}
+-- Logs without records may be opened, fresh ones among them.
+use Rattle.std.proofs.Common.{◌≡◌, ℕ, true, false, List, [], reverse, refl, sym, ap, ◌∙◌, subst}
 use Rattle.std.specs.Option.{is_some}
 use Rattle.co_base.specs.declared.head.Kind.{Kind}
 use Rattle.co_state.specs.declared.engine_state.Vote.{Vote}
-use Rattle.co_plain.specs.Opening.{fresh}
+use Rattle.co_plain.specs.MemberView.{first_refused_at_member}
+use Rattle.co_plain.specs.Opening.{Found, fresh}
 use Rattle.co_plain.specs.Decisions.{votes_for}
 use Rattle.co_plain.specs.SoundLogs.{AreSound, log_votes_for, has_unended}
 use Rattle.co_law_base.proofs.Lookups.{is_nothing, look_none}
@@ -28,5 +29,13 @@ fresh_sound =
       nowhere_decided = λ t m c d h k. no_vote t c h;
     }
 
+-- logs without records, whatever their spare files have
+pub empty_openable : (kinds : List Kind) (coords : ℕ) (fm fc : ℕ → Found) → ((m : ℕ) → (fm m).records ≡ []) → ((c : ℕ) → (fc c).records ≡ []) → AreOpenable kinds coords fm fc
+empty_openable kinds coords fm fc em ec =
+    readable kinds coords fm fc
+    (subst (λ logs. AreSound logs (λ c. (fc c).records)) (λ i m. sym (em m) i) (subst (λ logs. AreSound (λ m. []) logs) (λ i c. sym (ec c) i) fresh_sound))
+    (record { members = λ m h. em m; coordinators = λ c h. ec c })
+    (λ m. ap (λ rs. first_refused_at_member coords (reverse rs)) (em m))
+
 pub fresh_openable : (kinds : List Kind) (coords : ℕ) → AreOpenable kinds coords (λ m. fresh) (λ c. fresh)
-fresh_openable kinds coords = readable kinds coords (λ m. fresh) (λ c. fresh) fresh_sound (record { members = λ m h. refl; coordinators = λ c h. refl }) (λ m. refl)
+fresh_openable kinds coords = empty_openable kinds coords (λ m. fresh) (λ c. fresh) (λ m. refl) (λ c. refl)

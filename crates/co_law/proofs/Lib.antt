@@ -6,10 +6,16 @@ pub mod MoveRuns
 pub mod EveryRun
 pub mod EveryEvent
 pub mod EveryQuiet
+pub mod GoingOn
 pub mod EveryOrder
+pub mod EveryFinal
 pub mod NodeRuns
 pub mod WholeRuns
 pub mod WritableRuns
 pub mod Unchanged
 pub mod Refusing
 pub mod RefusedLines
+pub mod MemberNames
+pub mod CoordNames
+pub mod EveryHome
+pub mod CommitParts

@@ -6,16 +6,21 @@
 #![tactic(auto)]
 
 mod events;
+mod finality;
+mod homes;
 mod laws;
 mod nodes;
 mod order;
 mod own;
 mod quiet;
 mod refused;
+mod runs;
 
 pub use events::{disarming, events_are_moves};
+pub use finality::{lost_transactions_stay_lost, presumed_aborts_stay, timers_are_final};
+pub use homes::messages_name_homes;
 pub use laws::{
-    acknowledged, agreement, fresh_logs, invariants, logs_alone, moves, readable_logs,
+    acknowledged, agreement, empty_logs, fresh_logs, invariants, logs_alone, moves, readable_logs,
     serial_reads, sound_logs,
 };
 pub use nodes::{whole_nodes, writable_nodes};
@@ -23,3 +28,4 @@ pub use order::{commitment_ordered, transcripts_ordered};
 pub use own::kept_by_each;
 pub use quiet::only_timers;
 pub use refused::refused_lines;
+pub use runs::{lines_hand_no_verdict, runs_go_on, transcripts_go_on};

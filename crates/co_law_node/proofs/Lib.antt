@@ -12,3 +12,5 @@ pub mod CoordLaws
 pub mod WritableMembers
 pub mod WritableCoords
 pub mod Recovered
+pub mod MemberCauses
+pub mod CoordCauses

@@ -2,9 +2,11 @@
 //! log that is not allowed, and writable, so that no event writes what cannot be written.
 #![tactic(auto)]
 
+mod causes;
 mod coords;
 mod members;
 
+pub use causes::{decisions_are_exact, yes_is_exact};
 pub use coords::{
     coordinators_stay_whole, coordinators_stay_writable, down_coordinators_have_commits_alone,
     opened_coordinators_are_whole, opened_coordinators_are_writable,

@@ -9,6 +9,7 @@ use Rattle.co_message.specs.declared.event.Event.TheVariants as event
 use Rattle.co_state.specs.Table.{look, holds}
 use Rattle.co_plain.specs.declared.coord_state.Entry.{Entry}
 use Rattle.co_plain.specs.declared.coord_state.Entry.TheVariants as entry
+use Rattle.co_plain.specs.declared.happening.Happening.{Happening}
 use Rattle.co_plain.specs.declared.happening.Happening.TheVariants as happening
 use Rattle.co_plain.specs.declared.session.Session.{Session}
 use Rattle.co_plain.specs.declared.standing.Standing.{Standing}
@@ -20,7 +21,8 @@ use Rattle.co_plain.specs.Member.{coord_of, timer_by}
 use Rattle.co_plain.specs.CoordStep.{has_part, members_of}
 use Rattle.co_plain.specs.Coordinator.{timer_entry}
 use Rattle.co_plain.specs.Sessions.{count_at, same_node}
-use Rattle.co_plain.specs.Federation.{Federation}
+use Rattle.co_plain.specs.Federation.{Federation, Stepped}
+use Rattle.co_plain.specs.CommitmentOrder.{trace_of}
 use Rattle.co_plain.specs.Step.{step, up_member, up_coord}
 use Rattle.co_plain.specs.Decisions.{told_in, votes_for}
 use Rattle.co_plain.specs.SoundLogs.{unended_in}
@@ -29,7 +31,7 @@ use Rattle.co_plain.specs.Moves.{DropActive, Leave, effect}
 use Rattle.co_plain.specs.Quiet.{IsMember, IsCoordinator, IsNode, IsOpen, InTable, ActiveAt, VotedAt, IsQuiet, Prepares, Commits, Asks, may_be_asked, lacks_yes, lacks_ack}
 use Rattle.co_plain.specs.Settling.{timer_ends, is_idle}
 use Rattle.co_law_base.proofs.Lookups.{holds_found, without_here}
-use Rattle.co_law_base.proofs.Facts.{rest_of, told, belongs, Begun, Voted, by_coord, takes, ByTold, Named, Facts}
+use Rattle.co_law_base.proofs.Facts.{rest_of, told, belongs, Begun, Voted, by_coord, takes, ByTold, Named, OpenEntry, Facts}
 use Rattle.co_law_base.proofs.Carrying.{at_here, by_coord_begun}
 use Rattle.co_law_base.proofs.ViewMoves.{neither_stands}
 use Rattle.co_law_coord.proofs.CoordMoves.{open_unsettled}
@@ -38,7 +40,9 @@ use Rattle.co_law_event.proofs.Steps.{step_keeps}
 use Rattle.co_law_event.proofs.MemberEvents.{active_is, installed_is, votes_own}
 use Rattle.co_law_moves.proofs.Onward.{present}
 use Rattle.co_law_agree.proofs.Working.{Working}
-use Rattle.co_law_quiet.specs.OnlyTimers.{IsBetween, EndsForGood, SomeTimerEnds}
+use Rattle.co_law_event.specs.HandedVerdicts.{AreTrueVerdicts}
+use Rattle.co_law_moves.specs.MoveTraces.{run_items}
+use Rattle.co_law_quiet.specs.OnlyTimers.{IsBetween, EndsForGood, SomeTimerEnds, tells_commit}
 use Rattle.co_law_quiet.proofs.Fitting.{FitSessions, HomeFits}
 use Rattle.co_law_quiet.proofs.Hopeless.{Hopeless, Dead, Lost, run_tells_none, step_works}
 
@@ -153,22 +157,10 @@ module _ (s : Federation) (f : Facts s) (q : FitSessions (length s.kinds) s.coor
 
 -- the timer ends it
 module _ (s : Federation) (f : Facts s) (w : Working s) where
-  active_ends : (t m : ℕ) → IsNode s (node.Member m) → (s.member m).up ≡ true → holds (s.member m).engine.active t ≡ true → EndsForGood s t (node.Member m)
-  active_ends t m i up a =
-      record {
-        is_node = i;
-        ends = a;
-        answers = ap (λ z. z.items) same;
-        never = λ hs v. run_tells_none hs (step s (happening.Line (event.Timer t (node.Member m)))).state (step_keeps s f (happening.Line (event.Timer t (node.Member m))) tt)
-            (step_works s f (happening.Line (event.Timer t (node.Member m))) tt w) t (subst (λ z. Hopeless z.state t) (sym same) lost) v;
-      }
+  -- who is dropped lost what it was told
+  pub drop_hopeless : (t m : ℕ) → holds (s.member m).engine.active t ≡ true → Hopeless (effect s (DropActive t m)) t
+  drop_hopeless t m a = Lost m (w.active m t a) (λ l. ap (λ x. present x t) (at_here s.member m (dropped (s.member m) t)) ∙ gone)
     where
-      stood : (b c : Bool) → holds (s.member m).engine.active t ≡ true → standing_by (holds (s.member m).engine.active t) b c ≡ IsActive
-      stood b c h = ap (λ z. standing_by z b c) h
-
-      same : step s (happening.Line (event.Timer t (node.Member m))) ≡ up_member s m true (timer_by (s.member m) t IsActive)
-      same = λ j. up_member s m (up j) (timer_by (s.member m) t (stood (holds (s.member m).engine.voted t) (holds (s.member m).committed t) a j))
-
       apart : stands (view Memory (s.member m)) t ≡ false
       apart = let p = holds_found (s.member m).engine.active t a in ((f.members m).active t p.0 p.1).apart
 
@@ -177,8 +169,36 @@ module _ (s : Federation) (f : Facts s) (w : Working s) where
           or_from _ _ (ap is_some (without_here (s.member m).engine.active t))
           (or_from _ _ (ap is_some (without_here (s.member m).engine.voted t)) (neither_stands (view Memory (s.member m)) t apart).1)
 
-      lost : Hopeless (effect s (DropActive t m)) t
-      lost = Lost m (w.active m t a) (λ l. ap (λ x. present x t) (at_here s.member m (dropped (s.member m) t)) ∙ gone)
+  -- who leaves the table undecided is presumed aborted
+  pub leave_hopeless : (t c : ℕ) → OpenEntry (rest_of s) c (s.coord c).log.stable t → Hopeless (effect s (Leave t c)) t
+  leave_hopeless t c x =
+      Dead c (Begun x.begun_there)
+      (or_from _ _ (ap (λ z. holds z.table t) (at_here s.coord c _) ∙ ap is_some (without_here (s.coord c).table t))
+      (false_from_ne_true _ (open_unsettled (rest_of s) f.numbers c (s.coord c).log.stable t x)))
+
+  abbrev timed : ℕ → Node → Stepped
+  timed t at = step s (happening.Line (event.Timer t at))
+
+  -- after a timer that leaves it hopeless no commit record of it becomes stable
+  pub timer_never : (t : ℕ) (at : Node) → Hopeless (timed t at).state t → (hs : List Happening) → AreTrueVerdicts hs (timed t at).state →
+      tells_commit (trace_of (run_items hs (timed t at).state)) t ≡ false
+  timer_never t at hopeless hs v =
+      run_tells_none hs (timed t at).state (step_keeps s f (happening.Line (event.Timer t at)) tt) (step_works s f (happening.Line (event.Timer t at)) tt w) t hopeless v
+
+  pub active_timed : (t m : ℕ) → (s.member m).up ≡ true → holds (s.member m).engine.active t ≡ true → timed t (node.Member m) ≡ up_member s m true (timer_by (s.member m) t IsActive)
+  active_timed t m up a = λ j. up_member s m (up j) (timer_by (s.member m) t (stood (holds (s.member m).engine.voted t) (holds (s.member m).committed t) a j))
+    where
+      stood : (b c : Bool) → holds (s.member m).engine.active t ≡ true → standing_by (holds (s.member m).engine.active t) b c ≡ IsActive
+      stood b c h = ap (λ z. standing_by z b c) h
+
+  active_ends : (t m : ℕ) → IsNode s (node.Member m) → (s.member m).up ≡ true → holds (s.member m).engine.active t ≡ true → EndsForGood s t (node.Member m)
+  active_ends t m i up a =
+      record {
+        is_node = i;
+        ends = a;
+        answers = ap (λ z. z.items) (active_timed t m up a);
+        never = timer_never t (node.Member m) (subst (λ z. Hopeless z.state t) (sym (active_timed t m up a)) (drop_hopeless t m a));
+      }
 
   idle_ends : (t c : ℕ) → IsNode s (node.Coord c) → (s.coord c).up ≡ true → look (s.coord c).table t ≡ Some entry.Idle → EndsForGood s t (node.Coord c)
   idle_ends t c i up e =
@@ -186,19 +206,11 @@ module _ (s : Federation) (f : Facts s) (w : Working s) where
         is_node = i;
         ends = ap is_idle e;
         answers = ap (λ z. z.items) same;
-        never = λ hs v. run_tells_none hs (step s (happening.Line (event.Timer t (node.Coord c)))).state (step_keeps s f (happening.Line (event.Timer t (node.Coord c))) tt)
-            (step_works s f (happening.Line (event.Timer t (node.Coord c))) tt w) t (subst (λ z. Hopeless z.state t) (sym same) dead) v;
+        never = timer_never t (node.Coord c) (subst (λ z. Hopeless z.state t) (sym same) (leave_hopeless t c ((f.coords c).idle t e)));
       }
     where
-      same : step s (happening.Line (event.Timer t (node.Coord c))) ≡ up_coord s c true (timer_entry c (s.coord c) t (Some entry.Idle))
+      same : timed t (node.Coord c) ≡ up_coord s c true (timer_entry c (s.coord c) t (Some entry.Idle))
       same = λ j. up_coord s c (up j) (timer_entry c (s.coord c) t (e j))
-
-      dead : Hopeless (effect s (Leave t c)) t
-      dead =
-          let x = (f.coords c).idle t e in
-          Dead c (Begun x.begun_there)
-          (or_from _ _ (ap (λ z. holds z.table t) (at_here s.coord c _) ∙ ap is_some (without_here (s.coord c).table t))
-          (false_from_ne_true _ (open_unsettled (rest_of s) f.numbers c (s.coord c).log.stable t x)))
 
   pub ends_for_good : IsQuiet s → TimerThere s → SomeTimerEnds s
   ends_for_good quiet t = record { txn = t.txn; at = t.at; for_good = by t.at t.is_node t.ends }

@@ -1,1 +1,2 @@
 pub mod OnlyTimers
+pub mod Finality

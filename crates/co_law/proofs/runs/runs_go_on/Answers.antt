@@ -1,0 +1,5 @@
+use Rattle.co_law_agree.proofs.Agreement.{run_more}
+use Rattle.co_law.proofs.runs.runs_go_on.Goals as goal
+
+pub returns : goal.returns
+returns c = run_more
