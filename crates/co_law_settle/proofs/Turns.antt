@@ -140,9 +140,12 @@ can_done s calm (Restarts at) p = node_restarts s calm at p.0 p.1
 can_done s calm (Exchanges e) p = exchange_done s calm p.0 e p.1
 can_done s calm (Fires t at) p = timer_done s calm p.0 t at p.1 p.2
 
+can_exchange : (s : Federation) (e : Exchange) → AllUp s → IsEnabled s e → CanTurn s (Exchanges e)
+can_exchange s e up h = (up, h)
+
 pub can_turn : (s : Federation) (by : SettlesBy s) → CanTurn s (turn_of by)
 can_turn s (ByRestart at first) = (first.is_node, first.down)
-can_turn s (ByExchange e up first) = (up, first.enabled)
+can_turn s (ByExchange e up first) = can_exchange s e up first.enabled
 can_turn s (ByTimer t at quiet first) = (quiet.all_up, first.is_node, first.ends)
 
 pub by_done : (s : Federation) → Calm s → (by : SettlesBy s) → Done s (turn_of by)
