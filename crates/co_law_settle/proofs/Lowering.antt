@@ -21,7 +21,7 @@ use Rattle.co_law_base.proofs.Facts.{Facts}
 use Rattle.co_law_base.proofs.Carrying.{at_here}
 use Rattle.co_law_event.proofs.Steps.{step_keeps}
 use Rattle.co_law_settle.specs.SettlingTurns.{AllUp, IsServed}
-use Rattle.co_law_settle.specs.SettlingMeasure.{any_to, yes_lacking, ack_lacking, weight_at, left_between}
+use Rattle.co_law_settle.specs.SettlingMeasure.{any_to, yes_lacking, ack_lacking, weight_at, left_between, left_idle, RaisesNothing}
 use Rattle.co_law_settle.proofs.Falling.{Calm, Falls, falls_on, any_found, found_any, weight_falls, MemberFalls, member_calm, member_up, member_falls, CoordFalls, coord_calm, coord_up, coord_falls}
 use Rattle.co_law_settle.proofs.Homes.{Homes, elsewhere}
 use Rattle.co_law_settle.proofs.Reaching.{Reaches, reaches_end}
@@ -57,6 +57,17 @@ module _ (s w : Federation) (n : Next s w) where
         up = coord_up w c t did f n.up;
         falls = falls_on s w _ n.falls (coord_falls w c t did f);
       }
+
+-- a step of a member, or of a coordinator, at one transaction raises nothing
+pub member_raises : (s : Federation) (m t : ℕ) (e : Event) (did : MemberStep) → step_line s e ≡ at_member s m did → MemberFalls t (s.member m) did.state → RaisesNothing s e
+member_raises s m t e did h f =
+    subst (λ z. ((u j : ℕ) → left_between z.state u j ≤ left_between s u j) × ((u : ℕ) → left_idle z.state u ≤ left_idle s u)) (sym h)
+    ((member_falls s m t did f).between, (member_falls s m t did f).idle)
+
+pub coord_raises : (s : Federation) (c t : ℕ) (e : Event) (did : CoordStep) → step_line s e ≡ at_coord s c did → CoordFalls s t (s.coord c) did.state → RaisesNothing s e
+coord_raises s c t e did h f =
+    subst (λ z. ((u j : ℕ) → left_between z.state u j ≤ left_between s u j) × ((u : ℕ) → left_idle z.state u ≤ left_idle s u)) (sym h)
+    ((coord_falls s c t did f).between, (coord_falls s c t did f).idle)
 
 -- a message that was sent arrives
 pub deliver_is : (s : Federation) (note : Message) → was_sent s.sent note ≡ true → step_line s (event.Deliver note) ≡ arrives s note
@@ -97,9 +108,9 @@ pub record AfterVote (w z : Federation) (t c m : ℕ) (granted : Bool) : Type 0 
 -- the last event of a prepare and of a vote
 pub vote_delivered : (s w : Federation) → Next s w → (t c m : ℕ) (granted : Bool) → IsCoordinator w c → was_sent w.sent (message.Vote t m c granted) ≡ true → Homes w t c →
     ((z : Federation) → AfterVote w z t c m granted → suc (left_between z t m) ≤ left_between s t m) →
-    IsServed w (event.Deliver (message.Vote t m c granted)) × Reaches (Lowered s t m) [] (step_line w (event.Deliver (message.Vote t m c granted)))
+    IsServed w (event.Deliver (message.Vote t m c granted)) × RaisesNothing w (event.Deliver (message.Vote t m c granted)) × Reaches (Lowered s t m) [] (step_line w (event.Deliver (message.Vote t m c granted)))
 vote_delivered s w n t c m granted i sent home lower =
-    ((sent, n.up (node.Coord c) i), reaches_end (Lowered s t m) (step_line w (event.Deliver (message.Vote t m c granted))) (subst (λ z. Lowered s t m z.state) (sym arrived) lowered))
+    ((sent, n.up (node.Coord c) i), coord_raises w c t (event.Deliver (message.Vote t m c granted)) did arrived v.falls, reaches_end (Lowered s t m) (step_line w (event.Deliver (message.Vote t m c granted))) (subst (λ z. Lowered s t m z.state) (sym arrived) lowered))
   where
     did : CoordStep
     did = coord_vote c (w.coord c) t m granted

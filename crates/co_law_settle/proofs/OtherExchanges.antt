@@ -38,7 +38,7 @@ use Rattle.co_law_settle.proofs.Homes.{in_table}
 use Rattle.co_law_settle.proofs.Reaching.{Reaches, reaches_some, reaches_end, note_of, found_sent}
 use Rattle.co_law_settle.proofs.AtMember.{member_same, dropped_weight, dropped_falls, installed_weight, installed_falls}
 use Rattle.co_law_settle.proofs.AtCoord.{coord_same, AckNoted, ack_noted}
-use Rattle.co_law_settle.proofs.Lowering.{Next, Lowered, member_next, coord_next, deliver_is, left_by, ack_there}
+use Rattle.co_law_settle.proofs.Lowering.{member_raises, coord_raises, Next, Lowered, member_next, coord_next, deliver_is, left_by, ack_there}
 use Rattle.co_law_settle.proofs.Prepares.{Exchanged, here, gone_left}
 
 -- the commit for the member among those that are sent again
@@ -118,12 +118,15 @@ module _ (s : Federation) (calm : Calm s) (up : AllUp s) where
     acknowledged did j e f sends w =
         record {
           first = up (node.Coord c) k;
+          raises = coord_raises s c t (event.Resend t c) did1 resent (coord_same s t (s.coord c) (calm.coords c));
           rest = subst (Reaches (Lowered s t m) (wanted (Commits t m c))) (sym resent)
               (reaches_some (Lowered s t m) (decides_for m) (acks_from m ∷ []) (at_coord s c did1) (message.Decide t c m true)
               (note_of (decides_for m) [] (decisions_to c t true (numbers_lacking ms acks)) did1.answer ∙ found) (sent1, next1.up (node.Member m) i)
+              (member_raises (at_coord s c did1).state m t (event.Deliver (message.Decide t c m true)) did e f)
               (subst (Reaches (Lowered s t m) (acks_from m ∷ [])) (sym e)
               (reaches_some (Lowered s t m) (acks_from m) [] (at_member (at_coord s c did1).state m did) (message.Ack t m c)
               (note_of (acks_from m) did.marks (message_list did.sent) did.answer ∙ sends2) (sent2, next2.up (node.Coord c) k)
+              (coord_raises (at_member (at_coord s c did1).state m did).state c t (event.Deliver (message.Ack t m c)) did3 acked noted.falls)
               (reaches_end (Lowered s t m) (step_line (at_member (at_coord s c did1).state m did).state (event.Deliver (message.Ack t m c)))
               (subst (λ z. Lowered s t m z.state) (sym acked) lowered)))));
         }
@@ -309,12 +312,15 @@ module _ (s : Federation) (calm : Calm s) (up : AllUp s) where
     questioned =
         record {
           first = up (node.Member m) i;
+          raises = member_raises s m t (event.Ask t m) asks1 asked (member_same t (s.member m) (calm.members m));
           rest = subst (Reaches (Lowered s t m) (wanted (Asks t m c))) (sym asked)
               (reaches_some (Lowered s t m) (asks_from m) (decides_for m ∷ []) (at_member s m asks1) (message.Ask t m c)
               (note_of (asks_from m) [] (message_list asks1.sent) asks1.answer ∙ finds1) (question_sent, next1'.up (node.Coord c) k)
+              (coord_raises s1 c t (event.Deliver (message.Ask t m c)) answers2 answered (coord_same s1 t (s.coord c) (calm.coords c)))
               (subst (Reaches (Lowered s t m) (decides_for m ∷ [])) (sym answered)
               (reaches_some (Lowered s t m) (decides_for m) [] (at_coord s1 c answers2) (message.Decide t c m false)
               (note_of (decides_for m) [] answers2.sent answers2.answer ∙ finds2) (decision_sent, next2'.up (node.Member m) i)
+              (member_raises s2 m t (event.Deliver (message.Decide t c m false)) drops3 dropped_there (dropped_falls (s2.member m) t (with_waiting (s2.member m).log (log.Abort t)) (next2'.calm.members m)))
               (reaches_end (Lowered s t m) (step_line s2 (event.Deliver (message.Decide t c m false)))
               (subst (λ z. Lowered s t m z.state) (sym dropped_there) (record { next = next3'; lower = asking_lower }))))));
         }

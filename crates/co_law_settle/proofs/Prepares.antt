@@ -37,17 +37,18 @@ use Rattle.co_law_base.proofs.Facts.{rest_of, belongs}
 use Rattle.co_law_base.proofs.Carrying.{at_here}
 use Rattle.co_law_event.proofs.MemberEvents.{active_is, voted_is, absent_is, votes_own}
 use Rattle.co_law_settle.specs.SettlingTurns.{AllUp, prepares_member, votes_from, note_in, IsServed, wanted, first_event}
-use Rattle.co_law_settle.specs.SettlingMeasure.{weight, weight_at, left_between, yes_lacking, ack_lacking}
+use Rattle.co_law_settle.specs.SettlingMeasure.{RaisesNothing, weight, weight_at, left_between, yes_lacking, ack_lacking}
 use Rattle.co_law_settle.proofs.Falling.{Calm, falls_same, MemberFalls}
 use Rattle.co_law_settle.proofs.Homes.{Homes, in_table, one_home, belongs_fits}
 use Rattle.co_law_settle.proofs.Reaching.{Reaches, reaches_none, reaches_some, note_of, found_sent}
 use Rattle.co_law_settle.proofs.AtMember.{falls_twice, member_same, dropped_weight, dropped_falls, marked_weight, marked_falls, voted_weight, voted_falls, VoteDid, SaysNo, SaysYes, Holds, vote_did}
 use Rattle.co_law_settle.proofs.AtCoord.{coord_same}
-use Rattle.co_law_settle.proofs.Lowering.{Next, Lowered, member_next, coord_next, deliver_is, left_by, yes_there, AfterVote, vote_delivered}
+use Rattle.co_law_settle.proofs.Lowering.{member_raises, coord_raises, Next, Lowered, member_next, coord_next, deliver_is, left_by, yes_there, AfterVote, vote_delivered}
 
 -- what an exchange does from a state: its first event is served, and what follows reaches this
 pub record Exchanged (s : Federation) (t m : ℕ) (e : Exchange) : Type 0 where
   pub first : IsServed s (first_event e)
+  pub raises : RaisesNothing s (first_event e)
   pub rest : Reaches (Lowered s t m) (wanted e) (step_line s (first_event e))
 
 -- the prepare of the member among those that are sent again
@@ -124,7 +125,7 @@ module _ (s w : Federation) (n : Next s w) (t c m : ℕ) (i : IsCoordinator w c)
       Reaches (Lowered s t m) (votes_from m ∷ []) (at_member w m did)
   vote_follows e did granted same f sends lower =
       reaches_some (Lowered s t m) (votes_from m) [] (at_member w m did) (message.Vote t m c granted) (note_of (votes_from m) did.marks (message_list did.sent) did.answer ∙ found)
-      last.0 last.1
+      last.0 last.1 last.2
     where
       found : find (votes_from m) (message_list did.sent) ≡ Some (message.Vote t m c granted)
       found = ap (λ o. find (votes_from m) (message_list o)) sends ∙ ap (λ b. if b then Some (message.Vote t m c granted) else None) (eq-eqb m m refl)
@@ -136,7 +137,7 @@ module _ (s w : Federation) (n : Next s w) (t c m : ℕ) (i : IsCoordinator w c)
           let l = lower z a in
           omega (arith, by, same, l)
 
-      last : IsServed (at_member w m did).state (event.Deliver (message.Vote t m c granted)) ×
+      last : IsServed (at_member w m did).state (event.Deliver (message.Vote t m c granted)) × RaisesNothing (at_member w m did).state (event.Deliver (message.Vote t m c granted)) ×
           Reaches (Lowered s t m) [] (step_line (at_member w m did).state (event.Deliver (message.Vote t m c granted)))
       last = vote_delivered s (at_member w m did).state (member_next s w n m t e did same f) t c m granted i
           (found_sent (votes_from m) w.sent (message_list did.sent) (message.Vote t m c granted) found) home less
@@ -227,40 +228,47 @@ module _ (s : Federation) (calm : Calm s) (up : AllUp s) where
 
     -- the prepare is delivered, and this follows
     follows : (did : MemberStep) → step_line (at_coord s c did1).state (event.Deliver (message.Prepare t c m n)) ≡ at_member (at_coord s c did1).state m did →
-        Reaches (Lowered s t m) (votes_from m ∷ []) (at_member (at_coord s c did1).state m did) → Exchanged s t m (Prepares t m c)
-    follows did e r =
+        MemberFalls t (s.member m) did.state → Reaches (Lowered s t m) (votes_from m ∷ []) (at_member (at_coord s c did1).state m did) → Exchanged s t m (Prepares t m c)
+    follows did e f r =
         record {
           first = up (node.Coord c) k;
+          raises = coord_raises s c t (event.Resend t c) did1 resent (coord_same s t (s.coord c) (calm.coords c));
           rest = subst (Reaches (Lowered s t m) (wanted (Prepares t m c))) (sym resent)
               (reaches_some (Lowered s t m) (prepares_member m) (votes_from m ∷ []) (at_coord s c did1) (message.Prepare t c m n) note1 served1
+              (member_raises (at_coord s c did1).state m t (event.Deliver (message.Prepare t c m n)) did e f)
               (subst (Reaches (Lowered s t m) (votes_from m ∷ [])) (sym e) r));
         }
 
     -- an active one, not asked before
+    active_falls : holds (s.member m).engine.active t ≡ true → (did : MemberStep) → VoteDid m (with_mark (s.member m) t c n) t c n (vote_of (s.member m).engine t n) did →
+        MemberFalls t (s.member m) did.state
+    active_falls a did v = by v
+      where
+        marked : MemberFalls t (s.member m) (with_mark (s.member m) t c n)
+        marked = marked_falls (s.member m) t c n (calm.members m) a
+
+        by : VoteDid m (with_mark (s.member m) t c n) t c n (vote_of (s.member m).engine t n) did → MemberFalls t (s.member m) did.state
+        by (SaysNo d sends) =
+            subst (MemberFalls t (s.member m)) (sym d) (falls_twice t (s.member m) (with_mark (s.member m) t c n) _ marked (dropped_falls (with_mark (s.member m) t c n) t (s.member m).log (calm.members m)))
+        by (SaysYes l u d sends) =
+            subst (MemberFalls t (s.member m)) (sym d) (falls_twice t (s.member m) (with_mark (s.member m) t c n) _ marked (voted_falls (with_mark (s.member m) t c n) t c n l u a))
+        by (Holds v d sends) = subst (MemberFalls t (s.member m)) (sym d) marked
+
     active_prepared : holds (s.member m).engine.active t ≡ true → holds (s.member m).asked t ≡ false → (did : MemberStep) →
         step_line (at_coord s c did1).state (event.Deliver (message.Prepare t c m n)) ≡ at_member (at_coord s c did1).state m did →
         VoteDid m (with_mark (s.member m) t c n) t c n (vote_of (s.member m).engine t n) did → Reaches (Lowered s t m) (votes_from m ∷ []) (at_member (at_coord s c did1).state m did)
     active_prepared a q did e (SaysNo d sends) =
-        no_sent did (holds (without (with_mark (s.member m) t c n).asked t) t) e
-        (subst (MemberFalls t (s.member m)) (sym d) (falls_twice t (s.member m) (with_mark (s.member m) t c n) _ marked (dropped_falls (with_mark (s.member m) t c n) t (s.member m).log (calm.members m))))
+        no_sent did (holds (without (with_mark (s.member m) t c n).asked t) t) e (active_falls a did (SaysNo d sends))
         sends (λ x y. ap (λ z. weight_at z t x y) d ∙ dropped_weight (with_mark (s.member m) t c n) t (s.member m).log x y)
-      where
-        marked : MemberFalls t (s.member m) (with_mark (s.member m) t c n)
-        marked = marked_falls (s.member m) t c n (calm.members m) a
     active_prepared a q did e (SaysYes l u d sends) =
-        yes_sent did (holds (without (with_mark (s.member m) t c n).asked t) t) e
-        (subst (MemberFalls t (s.member m)) (sym d) (falls_twice t (s.member m) (with_mark (s.member m) t c n) _ marked (voted_falls (with_mark (s.member m) t c n) t c n l u a)))
+        yes_sent did (holds (without (with_mark (s.member m) t c n).asked t) t) e (active_falls a did (SaysYes l u d sends))
         sends (λ x y. ap (λ z. weight_at z t x y) d ∙ voted_weight (with_mark (s.member m) t c n) t c n l x y) (or_left _ _ a)
-      where
-        marked : MemberFalls t (s.member m) (with_mark (s.member m) t c n)
-        marked = marked_falls (s.member m) t c n (calm.members m) a
     active_prepared a q did e (Holds v d sends) =
         reaches_none (Lowered s t m) (votes_from m) [] (at_member (at_coord s c did1).state m did) (note_of (votes_from m) did.marks (message_list did.sent) did.answer ∙ ap (λ o. find (votes_from m) (message_list o)) sends)
         (record { next = next2; lower = lower })
       where
         next2 : Next s (at_member (at_coord s c did1).state m did).state
-        next2 = member_next s (at_coord s c did1).state next1 m t (event.Deliver (message.Prepare t c m n)) did e
-            (subst (MemberFalls t (s.member m)) (sym d) (marked_falls (s.member m) t c n (calm.members m) a))
+        next2 = member_next s (at_coord s c did1).state next1 m t (event.Deliver (message.Prepare t c m n)) did e (active_falls a did (Holds v d sends))
 
         lower : suc (left_between (at_member (at_coord s c did1).state m did).state t m) ≤ left_between s t m
         lower =
@@ -272,14 +280,19 @@ module _ (s : Federation) (calm : Calm s) (up : AllUp s) where
 
     pub prepared : (st : Standing) → standing_of (s.member m) t ≡ st → may_be_asked st (holds (s.member m).asked t) ≡ true → Exchanged s t m (Prepares t m c)
     prepared IsActive e h =
-        follows _ (arrived IsActive e) (active_prepared (active_is _ _ _ e) (not_asked (holds (s.member m).asked t) h) _ (arrived IsActive e)
-        (vote_did m (with_mark (s.member m) t c n) t c n (calm.members m) (vote_of (s.member m).engine t n)))
+        follows did (arrived IsActive e) (active_falls (active_is _ _ _ e) did voted) (active_prepared (active_is _ _ _ e) (not_asked (holds (s.member m).asked t) h) did (arrived IsActive e) voted)
       where
+        did : MemberStep
+        did = prepare_by m (s.member m) t c n IsActive
+
+        voted : VoteDid m (with_mark (s.member m) t c n) t c n (vote_of (s.member m).engine t n) did
+        voted = vote_did m (with_mark (s.member m) t c n) t c n (calm.members m) (vote_of (s.member m).engine t n)
+
         not_asked : (b : Bool) → not b ≡ true → b ≡ false
         not_asked true h = absurd (let z : false ≡ true = h in cc)
         not_asked false h = refl
     prepared IsVoted e h =
-        follows did (arrived IsVoted e) (yes_sent did (holds (s.member m).asked t) (arrived IsVoted e) (member_same t (s.member m) (calm.members m))
+        follows did (arrived IsVoted e) (member_same t (s.member m) (calm.members m)) (yes_sent did (holds (s.member m).asked t) (arrived IsVoted e) (member_same t (s.member m) (calm.members m))
         (ap (λ d. Some (message.Vote t m d true)) named)
         (λ x y. λ j. weight ((voted_apart _ _ _ e).0 j) (holds (s.member m).asked t) ((voted_apart _ _ _ e).1 j) x y) (or_right _ _ (voted_is _ _ _ e)))
       where
@@ -292,6 +305,7 @@ module _ (s : Federation) (calm : Calm s) (up : AllUp s) where
     prepared IsInstalled e h = absurd (let z : false ≡ true = h in cc)
     prepared IsAbsent e h =
         follows did (arrived IsAbsent e ∙ ap (λ v. at_member (at_coord s c did1).state m (vote_by m (s.member m) t c n v)) lost)
+        (dropped_falls (s.member m) t (s.member m).log (calm.members m))
         (no_sent did (holds (without (s.member m).asked t) t) (arrived IsAbsent e ∙ ap (λ v. at_member (at_coord s c did1).state m (vote_by m (s.member m) t c n v)) lost)
         (dropped_falls (s.member m) t (s.member m).log (calm.members m)) refl (λ x y. dropped_weight (s.member m) t (s.member m).log x y))
       where
@@ -317,7 +331,7 @@ module _ (s : Federation) (calm : Calm s) (up : AllUp s) where
   vote_done : (t m : ℕ) → IsMember s m → holds (s.member m).engine.active t ≡ true → (mark : AskedMark) → look (s.member m).asked t ≡ Some mark → (did : MemberStep) →
       step_line s (event.Vote t m) ≡ at_member s m did → (v : Verdict) → is_free v ≡ true → VoteDid m (s.member m) t mark.coord mark.count v did → Exchanged s t m (Votes t m)
   vote_done t m i a mark e did same v free d =
-      record { first = up (node.Member m) i; rest = subst (Reaches (Lowered s t m) (wanted (Votes t m))) (sym same) (by d) }
+      record { first = up (node.Member m) i; raises = member_raises s m t (event.Vote t m) did same (fits d); rest = subst (Reaches (Lowered s t m) (wanted (Votes t m))) (sym same) (by d) }
     where
       sent : was_sent s.sent (message.Prepare t mark.coord m mark.count) ≡ true
       sent = ((calm.facts.members m).marked t mark e).1
@@ -331,18 +345,21 @@ module _ (s : Federation) (calm : Calm s) (up : AllUp s) where
       own : IsCoordinator s mark.coord
       own = belongs_fits s calm.sessions calm.opened t mark.coord home
 
+      fits : VoteDid m (s.member m) t mark.coord mark.count v did → MemberFalls t (s.member m) did.state
+      fits (SaysNo h sends) = subst (MemberFalls t (s.member m)) (sym h) (dropped_falls (s.member m) t (s.member m).log (calm.members m))
+      fits (SaysYes l u h sends) = subst (MemberFalls t (s.member m)) (sym h) (voted_falls (s.member m) t mark.coord mark.count l u a)
+      fits (Holds h q sends) = subst (MemberFalls t (s.member m)) (sym q) (member_same t (s.member m) (calm.members m))
+
       by : VoteDid m (s.member m) t mark.coord mark.count v did → Reaches (Lowered s t m) (votes_from m ∷ []) (at_member s m did)
       by (SaysNo h sends) =
-          vote_follows s s here t mark.coord m own (inl home) (event.Vote t m) did false same
-          (subst (MemberFalls t (s.member m)) (sym h) (dropped_falls (s.member m) t (s.member m).log (calm.members m))) sends
+          vote_follows s s here t mark.coord m own (inl home) (event.Vote t m) did false same (fits (SaysNo h sends)) sends
           (λ z k.
           let now = ap (λ x. weight_at x t (lacks_yes (look (z.coord mark.coord).table t) m) (lacks_ack (look (z.coord mark.coord).table t) m)) h
           ∙ dropped_weight (s.member m) t (s.member m).log (lacks_yes (look (z.coord mark.coord).table t) m) (lacks_ack (look (z.coord mark.coord).table t) m) in
           let few = few_left (holds (without (s.member m).asked t) t) (lacks_yes (look (z.coord mark.coord).table t) m) (lacks_ack (look (z.coord mark.coord).table t) m) in
           omega (arith, now, few, was))
       by (SaysYes l u h sends) =
-          vote_follows s s here t mark.coord m own (inl home) (event.Vote t m) did true same
-          (subst (MemberFalls t (s.member m)) (sym h) (voted_falls (s.member m) t mark.coord mark.count l u a)) sends
+          vote_follows s s here t mark.coord m own (inl home) (event.Vote t m) did true same (fits (SaysYes l u h sends)) sends
           (λ z k.
           let now = ap (λ x. weight_at x t (lacks_yes (look (z.coord mark.coord).table t) m) (lacks_ack (look (z.coord mark.coord).table t) m)) h
           ∙ voted_weight (s.member m) t mark.coord mark.count l (lacks_yes (look (z.coord mark.coord).table t) m) (lacks_ack (look (z.coord mark.coord).table t) m) in

@@ -14,6 +14,7 @@ use Rattle.co_plain.specs.Federation.{Federation, Stepped, items_of}
 use Rattle.co_plain.specs.Step.{step_line}
 use Rattle.co_plain.specs.Runs.{run, lines}
 use Rattle.co_law_session.proofs.Sending.{sent_still}
+use Rattle.co_law_settle.specs.SettlingMeasure.{RaisesNothing, RaiseNothing}
 use Rattle.co_law_settle.specs.SettlingTurns.{note_in, delivers, deliveries, IsServed, AreServed}
 
 -- of what a step tells, the messages
@@ -73,16 +74,18 @@ found_sent test sent (n ∷ ns) note h = by (found_sent test (send_one sent n) n
 -- What holds of the deliveries after a step: each is served, and this holds in the end.
 pub record Reaches (P : Federation → Type 0) (tests : List (Message → Bool)) (z : Stepped) : Type 0 where
   pub served : AreServed (deliveries tests z) z.state
+  pub raises : RaiseNothing (deliveries tests z) z.state
   pub ends : P (run (lines (deliveries tests z)) z.state)
 
 module _ (P : Federation → Type 0) where
   pub reaches_end : (z : Stepped) → P z.state → Reaches P [] z
-  reaches_end z p = record { served = tt; ends = p }
+  reaches_end z p = record { served = tt; raises = tt; ends = p }
 
   pub reaches_none : (test : Message → Bool) (tests : List (Message → Bool)) (z : Stepped) → note_in test z.items ≡ None → P z.state → Reaches P (test ∷ tests) z
   reaches_none test tests z e p =
       record {
         served = subst (λ o. AreServed (delivers o more) z.state) (sym e) tt;
+        raises = subst (λ o. RaiseNothing (delivers o more) z.state) (sym e) tt;
         ends = subst (λ o. P (run (lines (delivers o more)) z.state)) (sym e) p;
       }
     where
@@ -90,10 +93,11 @@ module _ (P : Federation → Type 0) where
       more = λ note. deliveries tests (step_line z.state (event.Deliver note))
 
   pub reaches_some : (test : Message → Bool) (tests : List (Message → Bool)) (z : Stepped) (note : Message) → note_in test z.items ≡ Some note → IsServed z.state (event.Deliver note) →
-      Reaches P tests (step_line z.state (event.Deliver note)) → Reaches P (test ∷ tests) z
-  reaches_some test tests z note e s r =
+      RaisesNothing z.state (event.Deliver note) → Reaches P tests (step_line z.state (event.Deliver note)) → Reaches P (test ∷ tests) z
+  reaches_some test tests z note e s n r =
       record {
         served = subst (λ o. AreServed (delivers o more) z.state) (sym e) (s, r.served);
+        raises = subst (λ o. RaiseNothing (delivers o more) z.state) (sym e) (n, r.raises);
         ends = subst (λ o. P (run (lines (delivers o more)) z.state)) (sym e) r.ends;
       }
     where

@@ -19,7 +19,7 @@ use Rattle.co_plain.specs.Quiet.{IsMember, IsNode, node_up, Exchange, Prepares, 
 use Rattle.co_plain.specs.Settling.{exchange_txn, exchange_member, timer_ends, is_idle, SettlesBy, ByRestart, ByExchange, ByTimer}
 use Rattle.co_law_base.proofs.Carrying.{at_each, at_here}
 use Rattle.co_law_settle.specs.SettlingTurns.{AllUp, Turn, Restarts, Exchanges, Fires, first_event, wanted, turn_events, after_turn, turn_of, IsNext, CanTurn, AreTurns, turns_events}
-use Rattle.co_law_settle.specs.SettlingMeasure.{left_of, one_down, down_count, events_left, AreCounted, TurnLowers, lowered_by}
+use Rattle.co_law_settle.specs.SettlingMeasure.{RaiseNothing, left_of, one_down, down_count, events_left, AreCounted, TurnLowers, lowered_by}
 use Rattle.co_law_settle.proofs.Falling.{Calm, Falls}
 use Rattle.co_law_settle.proofs.Reaching.{deliveries_count}
 use Rattle.co_law_settle.proofs.Lowering.{Next}
@@ -48,15 +48,14 @@ pub record Done (s : Federation) (turn : Turn) : Type 0 where
   pub lowers : TurnLowers s turn
 
 -- a turn after which all nodes are up, and that lowers what is left
-all_up_done : (s : Federation) (turn : Turn) → length (turn_events s turn) ≤ 3 → lowered_by turn ≡ 1 → Next s (after_turn s turn) →
+all_up_done : (s : Federation) (turn : Turn) → length (turn_events s turn) ≤ 3 → lowered_by turn ≡ 1 → RaiseNothing (turn_events s turn) s → Next s (after_turn s turn) →
     ((pairs : ℕ → List ℕ) (numbers : List ℕ) → AreCounted pairs numbers s → suc (left_of pairs numbers (after_turn s turn)) ≤ left_of pairs numbers s) → Done s turn
-all_up_done s turn few one n lower =
+all_up_done s turn few one each n lower =
     record {
       calm = n.calm;
       falls = n.falls;
       lowers = record {
-        between = n.falls.between;
-        idle = n.falls.idle;
+        each = each;
         lowers = λ pairs numbers c. let l = lower pairs numbers c in omega (arith, l, one);
         events = λ pairs numbers c. let l = lower pairs numbers c in let d = none_down (after_turn s turn) n.up in omega (arith, l, d, few);
       };
@@ -67,14 +66,14 @@ exchange_done s calm up e h =
     let x = exchanged s calm up e h in
     let count = deliveries_count (wanted e) (step_line s (first_event e)) in
     let few = few_wanted e in
-    all_up_done s (Exchanges e) (omega (arith, count, few)) refl x.0.rest.ends.next
+    all_up_done s (Exchanges e) (omega (arith, count, few)) refl (x.0.raises, x.0.rest.raises) x.0.rest.ends.next
     (λ pairs numbers c. left_lowers pairs numbers s (after_turn s (Exchanges e)) x.0.rest.ends.next.falls (exchange_txn e) (exchange_member e) x.1
     (let l = x.0.rest.ends.lower in c.between (exchange_txn e) (exchange_member e) (omega (arith, l))) x.0.rest.ends.lower)
 
 pub timer_done : (s : Federation) → Calm s → AllUp s → (t : ℕ) (at : Node) → IsNode s at → timer_ends s t at ≡ true → Done s (Fires t at)
 timer_done s calm up t (node.Member m) i h =
     let x = active_timer s calm up t m i h in
-    all_up_done s (Fires t (node.Member m)) (omega arith) refl x.next
+    all_up_done s (Fires t (node.Member m)) (omega arith) refl ((x.next.falls.between, x.next.falls.idle), tt) x.next
     (λ pairs numbers c. left_lowers pairs numbers s (after_turn s (Fires t (node.Member m))) x.next.falls t m i (let l = x.lower in c.between t m (omega (arith, l))) x.lower)
 timer_done s calm up t (node.Coord c) i h = by (look (s.coord c).table t) refl h
   where
@@ -84,7 +83,7 @@ timer_done s calm up t (node.Coord c) i h = by (look (s.coord c).table t) refl h
     by (Some (entry.Committed ms acks)) e k = absurd (let z : false ≡ true = k in cc)
     by (Some entry.Idle) e k =
         let x = idle_timer s calm up t c i e in
-        all_up_done s (Fires t (node.Coord c)) (omega arith) refl x.next
+        all_up_done s (Fires t (node.Coord c)) (omega arith) refl ((x.next.falls.between, x.next.falls.idle), tt) x.next
         (λ pairs numbers d. idle_lowers pairs numbers s (after_turn s (Fires t (node.Coord c))) x.next.falls t (let l = x.lower in d.idle t (omega (arith, l))) x.lower)
 
 -- a restart
@@ -94,8 +93,7 @@ restart_done s z at same r down =
       calm = subst Calm (sym same) r.calm;
       falls = falls;
       lowers = record {
-        between = falls.between;
-        idle = falls.idle;
+        each = ((falls.between, falls.idle), tt);
         lowers = λ pairs numbers c. let l = left_falls pairs numbers s (after_turn s (Restarts at)) falls in omega (arith, l);
         events = λ pairs numbers c. let l = left_falls pairs numbers s (after_turn s (Restarts at)) falls in let d = ap down_count same in omega (arith, l, d, down);
       };

@@ -3,7 +3,9 @@ use Rattle.std.specs.Prelude.{ℕ, zero, suc, Bool, true, false, ◌||◌, ◌+�
 use Rattle.std.specs.FinMap.{keys}
 use Rattle.co_state.specs.Table.{look, holds}
 use Rattle.co_plain.specs.declared.member_state.MemberState.{MemberState}
+use Rattle.co_message.specs.declared.event.Event.{Event}
 use Rattle.co_plain.specs.Federation.{Federation}
+use Rattle.co_plain.specs.Step.{step_line}
 use Rattle.co_plain.specs.Numbers.{has_number}
 use Rattle.co_plain.specs.Quiet.{lacks_yes, lacks_ack, sum_to, open_between, open_numbers}
 use Rattle.co_plain.specs.Settling.{is_idle}
@@ -81,10 +83,19 @@ lowered_by (Restarts at) = 0
 lowered_by (Exchanges e) = 1
 lowered_by (Fires t at) = 1
 
--- A turn raises nothing, lowers what is left, and takes no more events than it lowers those that are left.
+-- none of these events raises anything
+abbrev pub RaisesNothing : Federation → Event → Type 0
+RaisesNothing s e =
+    ((t m : ℕ) → left_between (step_line s e).state t m ≤ left_between s t m) × ((t : ℕ) → left_idle (step_line s e).state t ≤ left_idle s t)
+
+abbrev pub RaiseNothing : List Event → Federation → Type 0
+RaiseNothing [] s = Unit {0}
+RaiseNothing (e ∷ es) s = RaisesNothing s e × RaiseNothing es (step_line s e).state
+
+-- No event of a turn raises anything; the turn lowers what is left, and takes no more events than it lowers those that are
+-- left.
 pub record TurnLowers (s : Federation) (turn : Turn) : Type 0 where
-  pub between : (t m : ℕ) → left_between (after_turn s turn) t m ≤ left_between s t m
-  pub idle : (t : ℕ) → left_idle (after_turn s turn) t ≤ left_idle s t
+  pub each : RaiseNothing (turn_events s turn) s
   pub lowers : (pairs : ℕ → List ℕ) (numbers : List ℕ) → AreCounted pairs numbers s →
       lowered_by turn + left_of pairs numbers (after_turn s turn) ≤ left_of pairs numbers s
   pub events : (pairs : ℕ → List ℕ) (numbers : List ℕ) → AreCounted pairs numbers s →

@@ -46,8 +46,8 @@ pub fn events_are_answered()
     ensures { (s : Federation) (e : Event) → IsServed s e → IsAnswered s e }
 {}
 
-/// Where no stop is armed, a turn raises nothing of what is left, an exchange and a timer lower it by one at least, and
-/// no turn takes more events than it lowers the events that are left.
+/// Where no stop is armed, no event of a turn raises anything of what is left, an exchange and a timer lower it by one at
+/// least, and no turn takes more events than it lowers the events that are left.
 pub fn turns_lower()
     ensures { (kinds : List Kind) (coords : ℕ) (found_member found_coord : ℕ → Found) (hs : List Happening) (turn : Turn) →
         AreOpenable kinds coords found_member found_coord →
