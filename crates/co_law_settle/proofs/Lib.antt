@@ -14,3 +14,4 @@ pub mod Turns
 pub mod Ending
 pub mod QuietTimers
 pub mod Settled
+pub mod OneWay

@@ -49,6 +49,7 @@ use Rattle.co_law_settle.proofs.Lowering.{deliver_is}
 use Rattle.co_law_settle.proofs.Turns.{exchanged, can_done, TurnsDone, turns_done}
 use Rattle.co_law_settle.proofs.Ending.{settles_from}
 use Rattle.co_law_settle.proofs.QuietTimers.{quiet_timers}
+use Rattle.co_law_settle.proofs.OneWay.{one_way}
 
 -- whose log tells something is a member of the federation
 member_is : (kinds : List Kind) (coords : ℕ) (fm fc : ℕ → Found) → OnlyOwnLogs kinds coords fm fc → (m t : ℕ) → (log_has_voted (fm m).records t || log_has_committed (fm m).records t) ≡ true → IsBetween m (length kinds)
@@ -157,6 +158,16 @@ module _ (kinds : List Kind) (coords : ℕ) (fm fc : ℕ → Found) (hs : List H
       let s = disarmed (run hs (opened kinds coords fm fc)) in
       let end = settles_from (pairs_in s) (numbers_in_state s) (events_left (pairs_in s) (numbers_in_state s) s) s calm (counted s) (omega arith) in
       (turns_events end.turns s, record { settling = record { turns = end.turns; goes = end.goes; same = refl }; done = end.done })
+
+  -- two ways to settle are one
+  pub one_settling : (events others : List Event) → Settles (run hs (opened kinds coords fm fc)) events → Settles (run hs (opened kinds coords fm fc)) others → events ≡ others
+  one_settling events others a b =
+      let s = disarmed (run hs (opened kinds coords fm fc)) in
+      a.settling.same
+      ∙ ap (λ turns. turns_events turns s)
+      (one_way a.settling.turns b.settling.turns s calm a.settling.goes b.settling.goes (subst (λ l. NothingOpen (run (lines l) s)) a.settling.same a.done)
+      (subst (λ l. NothingOpen (run (lines l) s)) b.settling.same b.done))
+      ∙ sym b.settling.same
 
   grows : Grows (opened kinds coords fm fc) (run hs (opened kinds coords fm fc))
   grows = run_grows hs (opened kinds coords fm fc)

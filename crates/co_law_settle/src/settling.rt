@@ -38,6 +38,18 @@ pub fn settling_ends()
         (events : List Event) × Settles (run hs (opened kinds coords found_member found_coord)) events }
 {}
 
+/// There is one way to settle: a state calls for one turn alone, since a transaction is in the table of one coordinator.
+pub fn settling_is_one()
+    ensures { (kinds : List Kind) (coords : ℕ) (found_member found_coord : ℕ → Found) (hs : List Happening) (events others : List Event) →
+        AreOpenable kinds coords found_member found_coord →
+        AreOwnLogs kinds coords found_member found_coord →
+        AreTrueVerdicts hs (opened kinds coords found_member found_coord) →
+        AreOwn (length kinds) coords hs →
+        Settles (run hs (opened kinds coords found_member found_coord)) events →
+        Settles (run hs (opened kinds coords found_member found_coord)) others →
+        events ≡ others }
+{}
+
 /// Each timer of settling stands in a quiet state: every node is up, and no exchange can help.
 pub fn timers_stand_in_quiet_states()
     ensures { (kinds : List Kind) (coords : ℕ) (found_member found_coord : ℕ → Found) (hs : List Happening)
