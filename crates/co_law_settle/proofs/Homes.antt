@@ -1,5 +1,5 @@
 -- A transaction is in the table of one coordinator alone, and that is one of the federation.
-use Rattle.std.proofs.Common.{◌≡◌, ◌≢◌, ◌⊎◌, inl, inr, ℕ, true, false, ◌&&◌, ◌≤◌, List, length, Option, None, Some, refl, sym, ◌∙◌, subst, arith}
+use Rattle.std.proofs.Common.{◌≡◌, ◌≢◌, ◌⊎◌, inl, inr, ℕ, true, false, ◌&&◌, ◌≤◌, List, length, Option, None, Some, refl, sym, ◌∙◌, subst}
 use Rattle.std.proofs.lemmas.Bool.{and_parts, eqb-true}
 use Rattle.co_base.specs.declared.node.Node.{Node}
 use Rattle.co_base.specs.declared.node.Node.TheVariants as node
@@ -7,13 +7,13 @@ use Rattle.co_state.specs.Table.{look}
 use Rattle.co_plain.specs.declared.coord_state.Entry.{Entry}
 use Rattle.co_plain.specs.declared.coord_state.Entry.TheVariants as entry
 use Rattle.co_plain.specs.declared.session.Session.{Session}
-use Rattle.co_plain.specs.Sessions.{same_node, count_at}
+use Rattle.co_plain.specs.Sessions.{same_node}
 use Rattle.co_plain.specs.Federation.{Federation}
-use Rattle.co_plain.specs.Decisions.{told_in, is_decided}
+use Rattle.co_plain.specs.Decisions.{is_decided}
 use Rattle.co_plain.specs.SoundLogs.{unended_in}
-use Rattle.co_plain.specs.Quiet.{IsMember, IsCoordinator}
+use Rattle.co_plain.specs.Quiet.{IsCoordinator}
 use Rattle.co_law_base.proofs.Commits.{unended_seen}
-use Rattle.co_law_base.proofs.Facts.{Facts, rest_of, belongs, Begun, Voted, by_coord, takes, ByTold, Named}
+use Rattle.co_law_base.proofs.Facts.{Facts, rest_of, belongs, Begun, Voted, by_coord}
 use Rattle.co_law_base.proofs.Carrying.{one_belongs, by_coord_begun}
 use Rattle.co_law_quiet.proofs.Fitting.{HomeFits, FitSessions}
 use Rattle.co_law_quiet.proofs.InQuiet.{OpenedFit}
@@ -63,11 +63,3 @@ module _ (s : Federation) (q : FitSessions (length s.kinds) s.coordinators s.ses
       by : (z : Option Session) → look s.sessions t ≡ z → by_coord z c ≡ true → IsCoordinator s c
       by None e k = absurd (let z : false ≡ true = k in cc)
       by (Some session) e k = home session.by (q t session e).home k
-
-  pub takes_fits : (t m : ℕ) → takes (rest_of s) t m → IsMember s m
-  takes_fits t m (Named c members h k) = o.commits c t m members h k
-  takes_fits t m (ByTold l) = by (look s.sessions t) refl l
-    where
-      by : (z : Option Session) → look s.sessions t ≡ z → 1 ≤ count_at (told_in z) m → IsMember s m
-      by None e h = absurd (omega (arith, h))
-      by (Some session) e h = (q t session e).sites m h

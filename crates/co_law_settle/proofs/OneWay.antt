@@ -136,6 +136,6 @@ one_way (x ∷ xs) [] s calm p q n o = absurd (o p.0.0 p.0.1)
 one_way (x ∷ xs) (y ∷ ys) s calm p q n o =
     let first = sym p.1.1 ∙ one_turn s calm.facts p.1.0 q.1.0 ∙ q.1.1 in
     let rest = one_way xs ys (after_turn s x) (next_done s calm x p.1).calm p.2 (subst (λ w. AreTurns ys (after_turn s w)) (sym first) q.2)
-        (subst NothingOpen (run_more (turn_events s x) (turns_events xs (after_turn s x)) s) n)
-        (subst NothingOpen (run_more (turn_events s x) (turns_events ys (after_turn s x)) s) (subst (λ w. NothingOpen (run (lines (turns_events (w ∷ ys) s)) s)) (sym first) o)) in
+    (subst NothingOpen (run_more (turn_events s x) (turns_events xs (after_turn s x)) s) n)
+    (subst NothingOpen (run_more (turn_events s x) (turns_events ys (after_turn s x)) s) (subst (λ w. NothingOpen (run (lines (turns_events (w ∷ ys) s)) s)) (sym first) o)) in
     (λ i. first i ∷ rest i)

@@ -38,7 +38,7 @@ use Rattle.co_law_quiet.proofs.Fitting.{Fit, FitSessions, run_fits}
 use Rattle.co_law_quiet.proofs.InQuiet.{OpenedFit}
 use Rattle.co_law_start.specs.OpenedLogs.{AreOpenable}
 use Rattle.co_law_start.proofs.Start.{start_facts}
-use Rattle.co_law_settle.specs.SettlingTurns.{AllUp, Turn, Exchanges, turn_events, AreServed, IsServed, IsAnswered, goes_to, node_arrives, CanTurn, IsUnarmed, NothingOpen, AreTurns, turns_events, IsSettling, Settles}
+use Rattle.co_law_settle.specs.SettlingTurns.{AllUp, Turn, Exchanges, turn_events, AreServed, IsServed, IsAnswered, goes_to, node_arrives, CanTurn, IsUnarmed, IsNext, SomethingOpen, NothingOpen, AreTurns, turns_events, IsSettling, Settles}
 use Rattle.co_law_settle.specs.SettlingMeasure.{AreCounted, TurnLowers, pairs_in, numbers_in_state, events_left}
 use Rattle.co_law_settle.specs.SettledRecords.{HoldsSerially}
 use Rattle.co_law_settle.proofs.Falling.{Calm}
@@ -46,7 +46,7 @@ use Rattle.co_law_settle.proofs.OpenSets.{pair_counted, idle_counted, left_most}
 use Rattle.co_law_settle.proofs.Counting.{most_down}
 use Rattle.co_law_settle.proofs.First.{settles_by}
 use Rattle.co_law_settle.proofs.Lowering.{deliver_is}
-use Rattle.co_law_settle.proofs.Turns.{exchanged, can_done, TurnsDone, turns_done}
+use Rattle.co_law_settle.proofs.Turns.{exchanged, can_done, TurnsDone, turns_done, one_more}
 use Rattle.co_law_settle.proofs.Ending.{settles_from}
 use Rattle.co_law_settle.proofs.QuietTimers.{quiet_timers}
 use Rattle.co_law_settle.proofs.OneWay.{one_way}
@@ -159,6 +159,14 @@ module _ (kinds : List Kind) (coords : ℕ) (fm fc : ℕ → Found) (hs : List H
       let end = settles_from (pairs_in s) (numbers_in_state s) (events_left (pairs_in s) (numbers_in_state s) s) s calm (counted s) (omega arith) in
       (turns_events end.turns s, record { settling = record { turns = end.turns; goes = end.goes; same = refl }; done = end.done })
 
+  -- however far settling has come
+  pub next_turn : (events : List Event) → IsSettling (run hs (opened kinds coords fm fc)) events → (t : ℕ) → IsOpen (run (lines events) (disarmed (run hs (opened kinds coords fm fc)))) t →
+      SettlesBy (run (lines events) (disarmed (run hs (opened kinds coords fm fc))))
+  next_turn events settling t open' = settles_by (run (lines events) (disarmed (run hs (opened kinds coords fm fc)))) now.facts now.sessions now.opened t open'
+    where
+      now : Calm (run (lines events) (disarmed (run hs (opened kinds coords fm fc))))
+      now = subst (λ l. Calm (run (lines l) (disarmed (run hs (opened kinds coords fm fc))))) (sym settling.same) (so_far settling.turns settling.goes).calm
+
   -- two ways to settle are one
   pub one_settling : (events others : List Event) → Settles (run hs (opened kinds coords fm fc)) events → Settles (run hs (opened kinds coords fm fc)) others → events ≡ others
   one_settling events others a b =
@@ -217,3 +225,10 @@ serially kinds coords fm fc hs g v none m i =
 
 pub quiet : (s : Federation) (events : List Event) → IsSettling s events → (before after : List Event) (t : ℕ) (at : Node) → events ≡ before ++ event.Timer t at ∷ after → IsQuiet (run (lines before) (disarmed s))
 quiet s events settling before after t at e = quiet_timers settling.turns (disarmed s) settling.goes before after t at (sym settling.same ∙ e)
+
+pub goes_on : (s : Federation) (events : List Event) (turn : Turn) → IsSettling s events → SomethingOpen (run (lines events) (disarmed s)) → IsNext (run (lines events) (disarmed s)) turn →
+    IsSettling s (events ++ turn_events (run (lines events) (disarmed s)) turn)
+goes_on s events turn settling o n =
+    let z = run (lines events) (disarmed s) in
+    let more = one_more settling.turns turn (disarmed s) z (ap (λ l. run (lines l) (disarmed s)) (sym settling.same)) settling.goes o n in
+    record { turns = settling.turns ++ turn ∷ []; goes = more.goes; same = ap (λ l. l ++ turn_events z turn) settling.same ∙ sym more.events }

@@ -1,6 +1,6 @@
 -- Each turn of settling lowers what is left, and so settling ends.
-use Rattle.std.proofs.Common.{◌≡◌, ℕ, suc, Bool, true, false, ◌≤◌, ◌+◌, List, [], ◌∷◌, ◌++◌, length, Option, None, Some, refl, sym, ap, subst, arith}
-use Rattle.std.proofs.lemmas.List.{length-append}
+use Rattle.std.proofs.Common.{◌≡◌, ℕ, suc, Bool, true, false, ◌≤◌, ◌+◌, List, [], ◌∷◌, ◌++◌, length, Option, None, Some, refl, sym, ap, ◌∙◌, subst, arith}
+use Rattle.std.proofs.lemmas.List.{length-append, append_assoc, append-nil}
 use Rattle.co_base.specs.declared.node.Node.{Node}
 use Rattle.co_base.specs.declared.node.Node.TheVariants as node
 use Rattle.co_message.specs.declared.event.Event.{Event}
@@ -18,7 +18,7 @@ use Rattle.co_plain.specs.Runs.{run, lines}
 use Rattle.co_plain.specs.Quiet.{IsMember, IsNode, node_up, Exchange, Prepares, Votes, Commits, Asks, IsEnabled}
 use Rattle.co_plain.specs.Settling.{exchange_txn, exchange_member, timer_ends, is_idle, SettlesBy, ByRestart, ByExchange, ByTimer}
 use Rattle.co_law_base.proofs.Carrying.{at_each, at_here}
-use Rattle.co_law_settle.specs.SettlingTurns.{AllUp, Turn, Restarts, Exchanges, Fires, first_event, wanted, turn_events, after_turn, turn_of, IsNext, CanTurn, AreTurns, turns_events}
+use Rattle.co_law_settle.specs.SettlingTurns.{AllUp, Turn, Restarts, Exchanges, Fires, first_event, wanted, turn_events, after_turn, turn_of, IsNext, CanTurn, AreTurns, turns_events, SomethingOpen}
 use Rattle.co_law_settle.specs.SettlingMeasure.{RaiseNothing, left_of, one_down, down_count, events_left, AreCounted, TurnLowers, lowered_by}
 use Rattle.co_law_settle.proofs.Falling.{Calm, Falls}
 use Rattle.co_law_settle.proofs.Reaching.{deliveries_count}
@@ -180,3 +180,21 @@ turns_done pairs numbers (turn ∷ turns) s calm c go =
     let a = first.lowers.events pairs numbers c in
     let b = rest.fewer in
     record { calm = subst Calm (sym more) rest.calm; fewer = omega (arith, many, count, a, b) }
+
+-- turns, and one more
+pub record OneMore (turns : List Turn) (turn : Turn) (s z : Federation) : Type 0 where
+  pub goes : AreTurns (turns ++ turn ∷ []) s
+  pub events : turns_events (turns ++ turn ∷ []) s ≡ turns_events turns s ++ turn_events z turn
+
+pub one_more : (turns : List Turn) (turn : Turn) (s z : Federation) → run (lines (turns_events turns s)) s ≡ z → AreTurns turns s → SomethingOpen z → IsNext z turn → OneMore turns turn s z
+one_more [] turn s z e go o n =
+    record {
+      goes = (subst SomethingOpen (sym e) o, subst (λ w. IsNext w turn) (sym e) n, tt);
+      events = append-nil (turn_events s turn) ∙ ap (λ w. turn_events w turn) e;
+    }
+one_more (x ∷ xs) turn s z e go o n =
+    let rest = one_more xs turn (after_turn s x) z (sym (run_more (turn_events s x) (turns_events xs (after_turn s x)) s) ∙ e) go.2 o n in
+    record {
+      goes = (go.0, go.1, rest.goes);
+      events = ap (λ l. turn_events s x ++ l) rest.events ∙ sym (append_assoc (turn_events s x) (turns_events xs (after_turn s x)) (turn_events z turn));
+    }

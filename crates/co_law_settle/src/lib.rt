@@ -8,8 +8,9 @@ mod settling;
 mod turn;
 
 pub use settling::{
-    settled_records, settling_ends, settling_is_bounded, settling_is_one,
-    settling_leaves_serial_records, timers_stand_in_quiet_states,
+    settled_records, settling_ends, settling_goes_on, settling_has_a_next_turn,
+    settling_is_bounded, settling_is_one, settling_leaves_serial_records,
+    timers_stand_in_quiet_states,
 };
 pub use turn::{
     events_are_answered, exchanges_are_served, settling_is_never_stuck, turns_lower,

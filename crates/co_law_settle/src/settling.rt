@@ -5,15 +5,38 @@ ghost use Rattle.co_base.specs.declared.node.Node.{Node};
 ghost use Rattle.co_message.specs.declared.event.Event.{Event};
 ghost use Rattle.co_message.specs.declared.event.Event.TheVariants as event;
 ghost use Rattle.co_plain.specs.declared.happening.Happening.{Happening};
+ghost use Rattle.co_plain.specs.Federation.{Federation};
 ghost use Rattle.co_plain.specs.Opening.{Found, opened};
-ghost use Rattle.co_plain.specs.Quiet.{IsMember, IsQuiet, settling_bound};
+ghost use Rattle.co_plain.specs.Quiet.{IsMember, IsOpen, IsQuiet, settling_bound};
 ghost use Rattle.co_plain.specs.Runs.{run, lines};
+ghost use Rattle.co_plain.specs.Settling.{SettlesBy};
 ghost use Rattle.co_plain.specs.Step.{disarmed};
 ghost use Rattle.co_law_event.specs.HandedVerdicts.{AreTrueVerdicts};
 ghost use Rattle.co_law_quiet.specs.OnlyTimers.{AreOwn, AreOwnLogs};
 ghost use Rattle.co_law_start.specs.OpenedLogs.{AreOpenable};
-ghost use Rattle.co_law_settle.specs.SettlingTurns.{IsSettling, Settles, NothingOpen};
+ghost use Rattle.co_law_settle.specs.SettlingTurns.{Turn, turn_events, IsNext, IsSettling, Settles, SomethingOpen, NothingOpen};
 ghost use Rattle.co_law_settle.specs.SettledRecords.{HoldsSerially};
+
+/// Settling goes on by the turn that the state calls for, as long as something is open.
+pub fn settling_goes_on()
+    ensures { (s : Federation) (events : List Event) (turn : Turn) →
+        IsSettling s events →
+        SomethingOpen (run (lines events) (disarmed s)) →
+        IsNext (run (lines events) (disarmed s)) turn →
+        IsSettling s (events ++ turn_events (run (lines events) (disarmed s)) turn) }
+{}
+
+/// And as long as something is open there is such a turn, however far settling has come.
+pub fn settling_has_a_next_turn()
+    ensures { (kinds : List Kind) (coords : ℕ) (found_member found_coord : ℕ → Found) (hs : List Happening) (events : List Event) (t : ℕ) →
+        AreOpenable kinds coords found_member found_coord →
+        AreOwnLogs kinds coords found_member found_coord →
+        AreTrueVerdicts hs (opened kinds coords found_member found_coord) →
+        AreOwn (length kinds) coords hs →
+        IsSettling (run hs (opened kinds coords found_member found_coord)) events →
+        IsOpen (run (lines events) (disarmed (run hs (opened kinds coords found_member found_coord)))) t →
+        SettlesBy (run (lines events) (disarmed (run hs (opened kinds coords found_member found_coord)))) }
+{}
 
 /// Settling takes no more events than its bound says, however far it has come. The bound has 24 restarts, so the
 /// federation has at most 16 members and 8 coordinators.
