@@ -1,22 +1,15 @@
--- A transaction is in the table of one coordinator alone, and that is one of the federation.
-use Rattle.std.proofs.Common.{◌≡◌, ◌≢◌, ◌⊎◌, inl, inr, ℕ, true, false, ◌&&◌, ◌≤◌, List, length, Option, None, Some, refl, sym, ◌∙◌, subst}
-use Rattle.std.proofs.lemmas.Bool.{and_parts, eqb-true}
-use Rattle.co_base.specs.declared.node.Node.{Node}
-use Rattle.co_base.specs.declared.node.Node.TheVariants as node
+-- A transaction is in the table of one coordinator alone.
+use Rattle.std.proofs.Common.{◌≡◌, ◌≢◌, ◌⊎◌, inl, inr, ℕ, true, false, ◌&&◌, List, Option, None, Some, refl, sym, ◌∙◌}
+use Rattle.std.proofs.lemmas.Bool.{and_parts}
 use Rattle.co_state.specs.Table.{look}
 use Rattle.co_plain.specs.declared.coord_state.Entry.{Entry}
 use Rattle.co_plain.specs.declared.coord_state.Entry.TheVariants as entry
-use Rattle.co_plain.specs.declared.session.Session.{Session}
-use Rattle.co_plain.specs.Sessions.{same_node}
 use Rattle.co_plain.specs.Federation.{Federation}
 use Rattle.co_plain.specs.Decisions.{is_decided}
 use Rattle.co_plain.specs.SoundLogs.{unended_in}
-use Rattle.co_plain.specs.Quiet.{IsCoordinator}
 use Rattle.co_law_base.proofs.Commits.{unended_seen}
 use Rattle.co_law_base.proofs.Facts.{Facts, rest_of, belongs, Begun, Voted, by_coord}
 use Rattle.co_law_base.proofs.Carrying.{one_belongs, by_coord_begun}
-use Rattle.co_law_quiet.proofs.Fitting.{HomeFits, FitSessions}
-use Rattle.co_law_quiet.proofs.InQuiet.{OpenedFit}
 
 -- it belongs there, or was opened there with its commit
 abbrev pub Homes : Federation → ℕ → ℕ → Type 0
@@ -50,16 +43,3 @@ module _ (s : Federation) (f : Facts s) where
       by : (o : Option Entry) → look (s.coord d).table t ≡ o → look (s.coord d).table t ≡ None
       by None e = e
       by (Some x) e = absurd (n (one_home t c d h (in_table t d x e)))
-
-module _ (s : Federation) (q : FitSessions (length s.kinds) s.coordinators s.sessions) (o : OpenedFit s) where
-  pub belongs_fits : (t c : ℕ) → belongs (rest_of s) t c → IsCoordinator s c
-  belongs_fits t c (Voted m h) = o.votes m t c h
-  belongs_fits t c (Begun h) = by (look s.sessions t) refl h
-    where
-      home : (at : Node) → HomeFits (length s.kinds) s.coordinators at → same_node at (node.Coord c) ≡ true → IsCoordinator s c
-      home (node.Member m) fits k = absurd (let z : false ≡ true = k in cc)
-      home (node.Coord d) fits k = subst (λ e. (1 ≤ e) × (e ≤ s.coordinators)) (eqb-true d c k) fits
-
-      by : (z : Option Session) → look s.sessions t ≡ z → by_coord z c ≡ true → IsCoordinator s c
-      by None e k = absurd (let z : false ≡ true = k in cc)
-      by (Some session) e k = home session.by (q t session e).home k

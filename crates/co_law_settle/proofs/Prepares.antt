@@ -36,10 +36,11 @@ use Rattle.co_plain.specs.Quiet.{IsMember, IsCoordinator, Exchange, Prepares, Vo
 use Rattle.co_law_base.proofs.Facts.{rest_of, belongs}
 use Rattle.co_law_base.proofs.Carrying.{at_here}
 use Rattle.co_law_event.proofs.MemberEvents.{active_is, voted_is, absent_is, votes_own}
+use Rattle.co_law_quiet.proofs.InQuiet.{belongs_fits}
 use Rattle.co_law_settle.specs.SettlingTurns.{AllUp, prepares_member, votes_from, note_in, IsServed, wanted, first_event}
 use Rattle.co_law_settle.specs.SettlingMeasure.{RaisesNothing, weight, weight_at, left_between, yes_lacking, ack_lacking}
 use Rattle.co_law_settle.proofs.Falling.{Calm, falls_same, MemberFalls}
-use Rattle.co_law_settle.proofs.Homes.{Homes, in_table, one_home, belongs_fits}
+use Rattle.co_law_settle.proofs.Homes.{Homes, in_table, one_home}
 use Rattle.co_law_settle.proofs.Reaching.{Reaches, reaches_none, reaches_some, note_of, found_sent}
 use Rattle.co_law_settle.proofs.AtMember.{falls_twice, member_same, dropped_weight, dropped_falls, marked_weight, marked_falls, voted_weight, voted_falls, VoteDid, SaysNo, SaysYes, Holds, vote_did}
 use Rattle.co_law_settle.proofs.AtCoord.{coord_same}
