@@ -69,8 +69,8 @@ pub record OpenedFit (s : Federation) : Type 0 where
   pub votes : (m t c : ℕ) → votes_for (look (recovered_view (s.opened_member m)).voted t) c ≡ true → IsCoordinator s c
   pub commits : (c t m : ℕ) (members : List ℕ) → unended_in (s.opened_coord c) t ≡ Some members → has_number members m ≡ true → IsMember s m
 
-module _ (s : Federation) (f : Facts s) (q : FitSessions (length s.kinds) s.coordinators s.sessions) (o : OpenedFit s) (quiet : IsQuiet s) where
-  takes_fits : (t m : ℕ) → takes (rest_of s) t m → IsMember s m
+module _ (s : Federation) (q : FitSessions (length s.kinds) s.coordinators s.sessions) (o : OpenedFit s) where
+  pub takes_fits : (t m : ℕ) → takes (rest_of s) t m → IsMember s m
   takes_fits t m (Named c members h k) = o.commits c t m members h k
   takes_fits t m (ByTold l) = by (look s.sessions t) refl l
     where
@@ -78,7 +78,7 @@ module _ (s : Federation) (f : Facts s) (q : FitSessions (length s.kinds) s.coor
       by None e h = absurd (omega (arith, h))
       by (Some session) e h = (q t session e).sites m h
 
-  belongs_fits : (t c : ℕ) → belongs (rest_of s) t c → IsCoordinator s c
+  pub belongs_fits : (t c : ℕ) → belongs (rest_of s) t c → IsCoordinator s c
   belongs_fits t c (Voted m h) = o.votes m t c h
   belongs_fits t c (Begun h) = by (look s.sessions t) refl h
     where
@@ -90,6 +90,7 @@ module _ (s : Federation) (f : Facts s) (q : FitSessions (length s.kinds) s.coor
       by None e k = absurd (let z : false ≡ true = k in cc)
       by (Some session) e k = home session.by (q t session e).home k
 
+module _ (s : Federation) (f : Facts s) (q : FitSessions (length s.kinds) s.coordinators s.sessions) (o : OpenedFit s) (quiet : IsQuiet s) where
   active_at : (t m : ℕ) → IsMember s m → holds (s.member m).engine.active t ≡ true → TimerThere s
   active_at t m i a = record { txn = t; at = node.Member m; is_node = i; ends = a }
 
@@ -106,7 +107,7 @@ module _ (s : Federation) (f : Facts s) (q : FitSessions (length s.kinds) s.coor
       part = sym (part_member parts lack.0) ∙ lack.1
 
       here : IsMember s lack.0
-      here = takes_fits t lack.0 (ByTold (parts_told (told (rest_of s) t) lack.0 (ap (λ ps. has_part ps lack.0) (sym ((f.coords c).collecting t parts yeses e).parts_told) ∙ part)))
+      here = takes_fits s q o t lack.0 (ByTold (parts_told (told (rest_of s) t) lack.0 (ap (λ ps. has_part ps lack.0) (sym ((f.coords c).collecting t parts yeses e).parts_told) ∙ part)))
 
       helps : may_be_asked (standing_of (s.member lack.0) t) (holds (s.member lack.0).asked t) ≡ true → ⊥
       helps h =
@@ -132,7 +133,7 @@ module _ (s : Federation) (f : Facts s) (q : FitSessions (length s.kinds) s.coor
       let x = (f.coords c).committed t members acks e in
       let lack = lacks_some members acks x.lacks in
       absurd (quiet.nothing_helps (Commits t lack.0 c)
-      (takes_fits t lack.0 (f.records.taking t c lack.0 members x.recorded lack.1), i, ap (λ z. lacks_ack z lack.0) e ∙ and_from _ _ lack.1 (ap not lack.2)))
+      (takes_fits s q o t lack.0 (f.records.taking t c lack.0 members x.recorded lack.1), i, ap (λ z. lacks_ack z lack.0) e ∙ and_from _ _ lack.1 (ap not lack.2)))
 
   voted_at : (t m : ℕ) → IsMember s m → holds (s.member m).engine.voted t ≡ true → TimerThere s
   voted_at t m i v = by (look (s.coord c).table t) refl
@@ -144,7 +145,7 @@ module _ (s : Federation) (f : Facts s) (q : FitSessions (length s.kinds) s.coor
       mine = votes_own s m t v
 
       home : IsCoordinator s (coord_of (s.member m) t)
-      home = belongs_fits t (coord_of (s.member m) t) (((f.members m).views Memory).named t (coord_of (s.member m) t) mine)
+      home = belongs_fits s q o t (coord_of (s.member m) t) (((f.members m).views Memory).named t (coord_of (s.member m) t) mine)
 
       by : (z : Option Entry) → look (s.coord (coord_of (s.member m) t)).table t ≡ z → TimerThere s
       by (Some e) k = in_table t (coord_of (s.member m) t) home e k

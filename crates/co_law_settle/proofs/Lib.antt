@@ -1,0 +1,17 @@
+pub mod Falling
+pub mod Homes
+pub mod Reaching
+pub mod AtMember
+pub mod AtCoord
+pub mod Lowering
+pub mod Prepares
+pub mod OtherExchanges
+pub mod Timers
+pub mod Counting
+pub mod OpenSets
+pub mod First
+pub mod Turns
+pub mod Ending
+pub mod QuietTimers
+pub mod Settled
+pub mod OneWay

@@ -1,0 +1,3 @@
+pub mod SettlingTurns
+pub mod SettlingMeasure
+pub mod SettledRecords
