@@ -91,6 +91,9 @@ fn put_line_under(
 
 /// Appends how an item is judged.
 fn put_item_row(alloc: Global, text: &[u8], out: &mut Vec<u8>) -> Result<(), AllocError> {
+    if text.len() > MOST_BYTES as usize {
+        return out.extend_from_slice(b"too long");
+    }
     match read_item(alloc, text) {
         Ok(item) => {
             let mut written = Vec::new(alloc);
