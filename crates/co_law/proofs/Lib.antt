@@ -21,3 +21,4 @@ pub mod EveryHome
 pub mod CommitParts
 pub mod HeldOnes
 pub mod LeftLogs
+pub mod WholeInvariants

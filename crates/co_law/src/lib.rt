@@ -25,7 +25,7 @@ pub use laws::{
     serial_reads, sound_logs,
 };
 pub use nodes::{whole_nodes, writable_nodes};
-pub use opening::{allowed_logs_are_own, empty_logs, left_logs};
+pub use opening::{allowed_logs_are_own, empty_logs, left_logs, whole_invariants};
 pub use order::{commitment_ordered, transcripts_ordered};
 pub use own::kept_by_each;
 pub use quiet::only_timers;

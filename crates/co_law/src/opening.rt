@@ -1,4 +1,5 @@
-//! Logs that may be opened: those without records, those that the grammars allow, and those that a run leaves.
+//! Logs that may be opened: those without records, those that the grammars allow, and those that a run leaves; and what
+//! every run over them keeps.
 ghost use Rattle.std.specs.Prelude.{ℕ, Bool, List, [], ◌≡◌, ◌≤◌, length, reverse, None};
 ghost use Rattle.co_base.specs.declared.head.Kind.{Kind};
 ghost use Rattle.co_plain.specs.declared.happening.Happening.{Happening};
@@ -8,6 +9,7 @@ ghost use Rattle.co_plain.specs.Runs.{run};
 ghost use Rattle.co_law_event.specs.HandedVerdicts.{AreTrueVerdicts};
 ghost use Rattle.co_law_quiet.specs.OnlyTimers.{AreOwn, AreOwnLogs};
 ghost use Rattle.co_law.specs.LeftLogs.{MayBeOpened, left};
+ghost use Rattle.co_law.specs.WholeInvariants.{AreKeptWhole};
 
 /// Every premise that the laws ask of opened logs holds of logs without records, whatever their spare files have: a spare
 /// may be closed where nothing else was written.
@@ -34,4 +36,13 @@ pub fn left_logs()
         MayBeOpened kinds coords
         (left (length kinds) (λ m. ((run hs (opened kinds coords found_member found_coord)).member m).log.stable) closed_member)
         (left coords (λ c. ((run hs (opened kinds coords found_member found_coord)).coord c).log.stable) closed_coord) }
+{}
+
+/// Over such logs every state has the invariants whole, in one place: those of every run, what each node keeps by itself,
+/// that each message names the coordinator of its transaction, who is held by it, and that nodes are whole.
+pub fn whole_invariants()
+    ensures { (kinds : List Kind) (coords : ℕ) (found_member found_coord : ℕ → Found) (hs : List Happening) →
+        1 ≤ coords → MayBeOpened kinds coords found_member found_coord →
+        AreTrueVerdicts hs (opened kinds coords found_member found_coord) → AreOwn (length kinds) coords hs →
+        AreKeptWhole kinds coords (opened kinds coords found_member found_coord) (run hs (opened kinds coords found_member found_coord)) }
 {}
