@@ -1,5 +1,5 @@
 -- A commit record of a transaction of this run names the participants of its session.
-use Rattle.std.proofs.Common.{◌≡◌, ◌≢◌, ◌⊎◌, inl, inr, ℕ, Bool, true, false, ◌||◌, ◌==◌, List, [], ◌∷◌, ◌++◌, Option, None, Some, refl, sym, ap, ◌∙◌, subst}
+use Rattle.std.proofs.Common.{◌≡◌, ◌≢◌, ◌⊎◌, inl, inr, ℕ, true, false, List, [], ◌∷◌, ◌++◌, Option, None, Some, refl, sym, ap, ◌∙◌}
 use Rattle.std.proofs.lemmas.Bool.{or_cases, or_left}
 use Rattle.std.specs.FinMap.{entries, entries_sorted, get-entries}
 use Rattle.std.specs.Option.{is_some}
@@ -8,7 +8,6 @@ use Rattle.co_record.specs.declared.record.Record.{Record}
 use Rattle.co_record.specs.declared.record.Record.TheVariants as log
 use Rattle.co_state.specs.Table.{look, holds}
 use Rattle.co_plain.specs.declared.coord_state.CoordState.{CoordState}
-use Rattle.co_plain.specs.declared.coord_state.Entry.{Entry}
 use Rattle.co_plain.specs.declared.coord_state.Entry.TheVariants as entry
 use Rattle.co_plain.specs.declared.happening.Happening.{Happening}
 use Rattle.co_plain.specs.declared.session.Session.{Session}
@@ -21,11 +20,10 @@ use Rattle.co_plain.specs.CoordView.{recovered_commits}
 use Rattle.co_plain.specs.Decisions.{told_of, asked_in}
 use Rattle.co_plain.specs.Federation.{Federation}
 use Rattle.co_plain.specs.Invariants.{ends_only}
-use Rattle.co_plain.specs.Moves.{Move, Operate, MarkAsked, Cast, DropActive, DropVoted, Install, CommitLocally, CrashMember, RestartMember, ArmMember, CloseMemberSpare, FillMemberSpare, Begin, Collect, RecordYes, Decide, Leave, RecordAck, End, CrashCoord, RestartCoord, ArmCoord, CloseCoordSpare, FillCoordSpare, BeginLocal, AskEnd, Send, Guard, effect, entered_reply, marked_over, record_yes, record_ack, decide_entry, decide_members, with_decision}
+use Rattle.co_plain.specs.Moves.{Move, Operate, MarkAsked, Cast, DropActive, DropVoted, Install, CommitLocally, CrashMember, RestartMember, ArmMember, CloseMemberSpare, FillMemberSpare, Begin, Collect, RecordYes, Decide, Leave, RecordAck, End, CrashCoord, RestartCoord, ArmCoord, CloseCoordSpare, FillCoordSpare, BeginLocal, AskEnd, Send, Guard, effect, entered_reply, marked_over, record_yes, record_ack, decide_entry, decide_members}
 use Rattle.co_plain.specs.Runs.{run}
 use Rattle.co_plain.specs.Sessions.{parts_of}
 use Rattle.co_plain.specs.SoundLogs.{unended_in}
-use Rattle.co_plain.specs.Step.{disarmed}
 use Rattle.co_law_base.proofs.Carrying.{at_each}
 use Rattle.co_law_base.proofs.Commits.{commit_cases, spare_cases}
 use Rattle.co_law_base.proofs.Facts.{rest_of, over, CollectingEntry, Facts}
@@ -34,7 +32,7 @@ use Rattle.co_law_base.proofs.Lookups.{is_nothing, look_none, without_cases}
 use Rattle.co_law_event.specs.HandedVerdicts.{AreTrueVerdicts}
 use Rattle.co_law_moves.proofs.ByMoves.{run_leaves}
 use Rattle.co_law_moves.proofs.MoveByMove.{move_keeps}
-use Rattle.co_law_order.proofs.Acts.{Act, Moves}
+use Rattle.co_law_order.proofs.Acts.{Moves}
 use Rattle.co_law_order.proofs.ToldOn.{ToldOn, act_told}
 
 abbrev pub CommitParts : Federation → Type 0

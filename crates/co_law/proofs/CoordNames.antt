@@ -7,7 +7,6 @@ use Rattle.co_message.specs.declared.answer.Answer.{Answer}
 use Rattle.co_message.specs.declared.answer.Answer.TheVariants as answer
 use Rattle.co_message.specs.declared.answer.Cause.TheVariants as cause
 use Rattle.co_message.specs.declared.message.Message.{Message}
-use Rattle.co_message.specs.declared.message.Message.TheVariants as message
 use Rattle.co_record.specs.declared.record.Record.{Record}
 use Rattle.co_record.specs.declared.record.Record.TheVariants as log
 use Rattle.co_record.specs.Gate.{batch_is_stable}

@@ -36,11 +36,10 @@ use Rattle.co_plain.specs.SoundLogs.{unended_in}
 use Rattle.co_law_base.proofs.Facts.{Facts}
 use Rattle.co_law_member.proofs.LogMoves.{as_belongs}
 use Rattle.co_law_session.proofs.Sending.{send_cases}
-use Rattle.co_law_event.specs.HandedVerdicts.{IsTrueVerdict, AreTrueVerdicts}
+use Rattle.co_law_event.specs.HandedVerdicts.{AreTrueVerdicts}
 use Rattle.co_law_event.proofs.Steps.{step_keeps}
-use Rattle.co_law_moves.proofs.Growing.{Grows, step_grows}
+use Rattle.co_law_moves.proofs.Growing.{step_grows}
 use Rattle.co_law_moves.proofs.KeptFrom.{belongs_is}
-use Rattle.co_law_moves.proofs.Onward.{Onward}
 use Rattle.co_law_quiet.proofs.Hopeless.{step_onward}
 use Rattle.co_law_start.specs.OpenedLogs.{AreOpenable}
 use Rattle.co_law_start.proofs.Start.{start_facts}

@@ -19,3 +19,6 @@ pub mod MemberNames
 pub mod CoordNames
 pub mod EveryHome
 pub mod CommitParts
+pub mod HeldOnes
+pub mod LeftLogs
+pub mod WholeInvariants

@@ -1,2 +1,5 @@
 pub mod Refusals
 pub mod MessageHomes
+pub mod HeldOnes
+pub mod LeftLogs
+pub mod WholeInvariants

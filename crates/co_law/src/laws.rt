@@ -1,5 +1,5 @@
 //! What every run keeps, from logs that may be opened and with verdicts that are true where they are handed.
-ghost use Rattle.std.specs.Prelude.{ℕ, List, [], ◌≡◌, reverse, None};
+ghost use Rattle.std.specs.Prelude.{ℕ, List, ◌≡◌, reverse, None};
 ghost use Rattle.co_base.specs.declared.head.Kind.{Kind};
 ghost use Rattle.co_plain.specs.declared.happening.Happening.{Happening};
 ghost use Rattle.co_plain.specs.Opening.{Found, OnlyOwnLogs, fresh, opened};
@@ -75,13 +75,6 @@ pub fn readable_logs()
 /// Fresh logs may be opened.
 pub fn fresh_logs()
     ensures { (kinds : List Kind) (coords : ℕ) → AreOpenable kinds coords (λ m. fresh) (λ c. fresh) }
-{}
-
-/// So may all logs without records, whatever their spare files have: a closed spare alone is not nothing.
-pub fn empty_logs()
-    ensures { (kinds : List Kind) (coords : ℕ) (found_member found_coord : ℕ → Found) →
-        ((m : ℕ) → (found_member m).records ≡ []) → ((c : ℕ) → (found_coord c).records ≡ []) →
-        AreOpenable kinds coords found_member found_coord }
 {}
 
 /// Every list of moves keeps the invariants, where each guard holds where its move is made.

@@ -10,6 +10,7 @@ mod finality;
 mod homes;
 mod laws;
 mod nodes;
+mod opening;
 mod order;
 mod own;
 mod quiet;
@@ -18,12 +19,13 @@ mod runs;
 
 pub use events::{disarming, events_are_moves};
 pub use finality::{lost_transactions_stay_lost, presumed_aborts_stay, timers_are_final};
-pub use homes::messages_name_homes;
+pub use homes::{asked_ones_are_held, messages_name_homes};
 pub use laws::{
-    acknowledged, agreement, empty_logs, fresh_logs, invariants, logs_alone, moves, readable_logs,
+    acknowledged, agreement, fresh_logs, invariants, logs_alone, moves, readable_logs,
     serial_reads, sound_logs,
 };
 pub use nodes::{whole_nodes, writable_nodes};
+pub use opening::{allowed_logs_are_own, empty_logs, left_logs, whole_invariants};
 pub use order::{commitment_ordered, transcripts_ordered};
 pub use own::kept_by_each;
 pub use quiet::only_timers;

@@ -3,5 +3,7 @@ pub mod Fitting
 pub mod InQuiet
 pub mod DeadStays
 pub mod Final
+pub mod MemberYes
+pub mod CoordSends
 pub mod YesStands
 pub mod LostStays

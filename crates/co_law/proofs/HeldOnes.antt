@@ -1,0 +1,97 @@
+-- Who was asked about is held by its coordinator, as a participant of its entry and of its commit record.
+use Rattle.std.proofs.Common.{◌≡◌, ◌⊎◌, inl, inr, ℕ, true, false, ◌||◌, ◌&&◌, ◌≤◌, List, Option, None, Some, refl, sym, ap, ◌∙◌, subst}
+use Rattle.std.specs.Option.{is_some}
+use Rattle.std.proofs.lemmas.Bool.{or_cases, or_left, or_right, and_parts}
+use Rattle.co_base.specs.declared.head.Kind.{Kind}
+use Rattle.co_state.specs.Table.{look, holds}
+use Rattle.co_plain.specs.declared.coord_state.Entry.{Entry}
+use Rattle.co_plain.specs.declared.coord_state.Entry.TheVariants as entry
+use Rattle.co_plain.specs.declared.happening.Happening.{Happening}
+use Rattle.co_plain.specs.CoordStep.{members_of}
+use Rattle.co_plain.specs.Decisions.{is_decided, told_of}
+use Rattle.co_plain.specs.Federation.{Federation}
+use Rattle.co_plain.specs.Invariants.{Memory, takes_part_in}
+use Rattle.co_plain.specs.Numbers.{has_number}
+use Rattle.co_plain.specs.Opening.{Found, opened}
+use Rattle.co_plain.specs.Runs.{run}
+use Rattle.co_plain.specs.Sessions.{parts_of}
+use Rattle.co_plain.specs.SoundLogs.{unended_in, log_has_committed}
+use Rattle.co_law_engine.proofs.YesTells.{in_some}
+use Rattle.co_law_base.proofs.Lookups.{look_none}
+use Rattle.co_law_base.proofs.Carrying.{by_coord_begun}
+use Rattle.co_law_base.proofs.Commits.{unended_seen}
+use Rattle.co_law_base.proofs.Facts.{rest_of, by_coord, takes, ByTold, Named, OpenEntry, Facts}
+use Rattle.co_law_base.proofs.TwoViews.{committed_both}
+use Rattle.co_law_session.proofs.Sending.{told_parts, part_member}
+use Rattle.co_law_event.specs.HandedVerdicts.{AreTrueVerdicts}
+use Rattle.co_law_event.proofs.Steps.{run_keeps}
+use Rattle.co_law_moves.proofs.KeptFrom.{living}
+use Rattle.co_law_agree.proofs.Agreement.{told_begun}
+use Rattle.co_law_start.specs.OpenedLogs.{AreOpenable}
+use Rattle.co_law_start.proofs.Start.{start_facts}
+use Rattle.co_law.specs.HeldOnes.{IsHeldFor, AskedAreHeld}
+use Rattle.co_law.proofs.CommitParts.{CommitParts, run_parts}
+
+module _ (s : Federation) (f : Facts s) (p : CommitParts s) where
+  -- who takes part is named by the commit
+  named : (t c m : ℕ) → takes (rest_of s) t m → (members : List ℕ) → unended_in (s.coord c).log.stable t ≡ Some members → has_number members m ≡ true
+  named t c m (ByTold l) members e =
+      let is : members ≡ members_of (parts_of (told_of s t)) = p c t members e (told_begun (look s.sessions t) m l) in
+      ap (λ ms. has_number ms m) is ∙ part_member (parts_of (told_of s t)) m ∙ told_parts (told_of s t) m l
+  named t c m (Named d ms h k) members e = by ((f.coords c).unended_known t members e)
+    where
+      by : ((by_coord (look s.sessions t) c && is_decided s.decided t) ≡ true) ⊎ (unended_in (s.opened_coord c) t ≡ Some members) → has_number members m ≡ true
+      by (inl q) =
+          let begun = by_coord_begun (look s.sessions t) c (and_parts (by_coord (look s.sessions t) c) (is_decided s.decided t) q).0 in
+          absurd (let z : true ≡ false = sym (f.numbers.commit_used d t (unended_seen (s.opened_coord d) t ms h)) ∙ f.numbers.new t begun in cc)
+      by (inr o) =
+          let same : c ≡ d = f.numbers.one_commit t c d members ms o h in
+          let is : members ≡ ms = in_some (sym o ∙ ap (λ i. unended_in (s.opened_coord i) t) same ∙ h) in
+          ap (λ ns. has_number ns m) is ∙ k
+
+  -- who is in the table undecided is committed nowhere
+  open_apart : (t c m : ℕ) → OpenEntry (rest_of s) c (s.coord c).log.stable t → holds (s.member m).committed t ≡ true → ⊥
+  open_apart t c m o h =
+      let z : true ≡ false = sym (((f.members m).views Memory).known t h (by_coord_begun (look s.sessions t) c o.begun_there)) ∙ o.undecided in cc
+
+  held_for : (t c m : ℕ) → takes (rest_of s) t m → (takes_part_in (look (s.coord c).table t) m || holds (s.member m).committed t) ≡ true → IsHeldFor s t c m
+  held_for t c m part h = record { held = by (or_cases _ _ h); participant = participant; recorded = named t c m part }
+    where
+      in_table : (o : Option Entry) → takes_part_in o m ≡ true → is_some o ≡ true
+      in_table None q = absurd (let z : false ≡ true = q in cc)
+      in_table (Some e) q = refl
+
+      by : (takes_part_in (look (s.coord c).table t) m ≡ true) ⊎ (holds (s.member m).committed t ≡ true) → (holds (s.coord c).table t || log_has_committed (s.member m).log.stable t) ≡ true
+      by (inl q) = or_left _ _ (in_table (look (s.coord c).table t) q)
+      by (inr q) = or_right _ _ (sym (ap (λ n. holds n t) (committed_both (rest_of s) m (s.member m) (f.members m))) ∙ q)
+
+      participant : (e : Entry) → look (s.coord c).table t ≡ Some e → takes_part_in (Some e) m ≡ true
+      participant e q = now (or_cases _ _ h) e q
+        where
+          now : (takes_part_in (look (s.coord c).table t) m ≡ true) ⊎ (holds (s.member m).committed t ≡ true) → (e : Entry) → look (s.coord c).table t ≡ Some e → takes_part_in (Some e) m ≡ true
+          now (inl k) e q = ap (λ o. takes_part_in o m) (sym q) ∙ k
+          now (inr k) entry.Idle q = absurd (open_apart t c m ((f.coords c).idle t q) k)
+          now (inr k) (entry.Collecting parts yeses) q = absurd (open_apart t c m ((f.coords c).collecting t parts yeses q).still k)
+          now (inr k) (entry.Committed members acks) q = named t c m part members ((f.coords c).committed t members acks q).recorded
+
+  pub asked_held : AskedAreHeld s
+  asked_held =
+      record {
+        prepared = λ t c m n h apart.
+            let q = f.sent.prepares_count t c m n h in
+            held_for t c m (ByTold (subst (λ k. 1 ≤ k) q.0 q.1)) (f.sent.prepares_held t c m n h (living s t c (f.sent.prepares_named t c m n h) apart));
+        voted = λ t c m side h apart.
+            let v = (f.members m).views side in
+            let lives = living s t c (v.named t c h) apart in
+            held_for t c m (v.works t c h lives) (or_left _ _ (v.held t c h lives));
+        questioned = λ t m c h apart.
+            let lives = living s t c (f.sent.asks_named t m c h) apart in
+            held_for t c m (f.sent.asks_take t m c h lives) (f.sent.asks_held t m c h lives);
+      }
+
+pub every_held : (kinds : List Kind) (coords : ℕ) (fm fc : ℕ → Found) (hs : List Happening) → AreOpenable kinds coords fm fc → AreTrueVerdicts hs (opened kinds coords fm fc) →
+    AskedAreHeld (run hs (opened kinds coords fm fc))
+every_held kinds coords fm fc hs g v =
+    asked_held (run hs (opened kinds coords fm fc)) (run_keeps hs (opened kinds coords fm fc) (start_facts kinds coords fm fc g) v)
+    (run_parts hs (opened kinds coords fm fc) (start_facts kinds coords fm fc g) v
+    (λ c t members e b. absurd (let z : false ≡ true = sym (ap is_some (look_none t)) ∙ b in cc)))
