@@ -1,0 +1,48 @@
+-- What is kept of each undecided transaction beside its engine and the graph.
+use Rattle.std.specs.Prelude.{ℕ, Bool, true, false, List, length, Option, None, Some}
+use Rattle.co_state.specs.declared.engine_state.EngineState.{EngineState}
+use Rattle.co_state.specs.declared.engine_state.Operation.{Operation}
+use Rattle.co_state.specs.declared.engine_state.Vote.{Vote}
+use Rattle.co_state.specs.Table.{Table, look, put}
+use Rattle.co_plain.specs.declared.member_state.AskedMark.{AskedMark}
+use Rattle.co_undecided.specs.declared.entry.Entry.{Entry}
+use Rattle.co_undecided.specs.declared.entry.Entry.TheVariants.{Active, Voted}
+
+-- one entry changes, where it is there
+abbrev pub changed : Table Entry → ℕ → Entry → Option Entry → Table Entry
+changed entries t entry None = entries
+changed entries t entry (Some old) = put entries t entry
+
+-- how many operations are kept; none of a transaction that is absent or voted
+abbrev pub kept_in : Option Entry → ℕ
+kept_in None = 0
+kept_in (Some (Active kept asked)) = kept
+kept_in (Some (Voted coord count)) = 0
+
+abbrev pub asked_in : Option Entry → Option AskedMark
+asked_in None = None
+asked_in (Some (Active kept asked)) = asked
+asked_in (Some (Voted coord count)) = None
+
+abbrev pub coord_in : Option Entry → Option ℕ
+coord_in None = None
+coord_in (Some (Active kept asked)) = None
+coord_in (Some (Voted coord count)) = Some coord
+
+-- the entry of a transaction by its operations, its vote and its mark
+abbrev pub entry_of : Option (List Operation) → Option Vote → Option AskedMark → Option Entry
+entry_of os (Some vote) asked = Some (Voted vote.coord vote.count)
+entry_of (Some os) None asked = Some (Active (length os) asked)
+entry_of None None asked = None
+
+abbrev pub entry_at : EngineState → Table AskedMark → ℕ → Option Entry
+entry_at b asked t = entry_of (look b.active t) (look b.voted t) (look asked t)
+
+-- whether an undecided transaction voted
+abbrev pub mark_of : Option (List Operation) → Option Vote → Option Bool
+mark_of os (Some vote) = Some true
+mark_of (Some os) None = Some false
+mark_of None None = None
+
+abbrev pub mark_at : EngineState → ℕ → Option Bool
+mark_at b t = mark_of (look b.active t) (look b.voted t)

@@ -1,0 +1,210 @@
+//! The undecided transactions.
+ghost use Rattle.std.specs.Prelude.{◌≡◌, ◌<◌, ◌+◌, IsTrue, false, List, ◌∷◌, IfOk, OnOk};
+ghost use Rattle.co_pairs.specs.Free.{are_free};
+ghost use Rattle.co_pairs.specs.declared.prepared.Prepared.{Prepared};
+ghost use Rattle.co_engine.specs.Calls.{may_operate, seen_of, votes_of, AppendsNewPairs};
+ghost use Rattle.co_plain.specs.declared.member_state.AskedMark.{AskedMark};
+ghost use Rattle.co_state.specs.declared.engine_state.EngineState.{EngineState};
+ghost use Rattle.co_state.specs.Effects.{after_operation, after_cast, after_install, after_drop, restored, records_from};
+ghost use Rattle.co_state.specs.EngineState.{is_undecided};
+ghost use Rattle.co_state.specs.Table.{Table, no_entries, look, put, without, holds};
+ghost use Rattle.co_state.specs.VotingRule.{kept_count, vote_of};
+ghost use Rattle.co_vote.specs.Ballots.{verdict_of};
+ghost use Rattle.co_undecided.specs.Kept.{asked_in, kept_in};
+ghost use Rattle.co_undecided.specs.Represented.{Represents, HaveEntered, kept_at};
+
+use crate::entries::Entries;
+use crate::entry::Entry;
+use co_base::{Kind, Op, Rows, Txn};
+use co_engine::{Engine, Seen};
+use co_graph::Graph;
+use co_pairs::{Pairs, Prepared};
+use co_plain::AskedMark;
+use co_vote::{Ballot, ballot};
+use std::alloc::{AllocError, Global};
+
+/// The undecided transactions of one member: those that are active or voted.
+///
+/// `Represents` says for which engine states and marks they stand. Each clause holds for every such state in which the call may be made. After want
+/// of memory they are only dropped.
+#[derive(Drop)]
+pub struct Undecideds<E> {
+    alloc: Global,
+    engine: E,
+    graph: Graph,
+    entries: Entries,
+}
+
+/// An operation at an engine. The new pairs of its transaction are added.
+fn operate<E: Engine>(
+    alloc: Global,
+    engine: &mut E,
+    t: Txn,
+    op: &Op,
+    pairs: &mut Pairs,
+) -> Result<Seen, AllocError>
+    ensures seen { (b : EngineState) → E.stands_for engine.old b → IsTrue (may_operate b t) → IfOk result (λ seen. seen ≡ seen_of b t op.now) }
+    ensures state { (b : EngineState) → E.stands_for engine.old b → IsTrue (may_operate b t) → OnOk result (E.stands_for engine.new (after_operation b t op.now)) }
+    ensures pairs { (b : EngineState) → E.stands_for engine.old b → IsTrue (may_operate b t) → OnOk result (AppendsNewPairs b (after_operation b t op.now) pairs.old pairs.new) }
+{
+    match op {
+        Op::Read(key) => engine.read(alloc, t, key, pairs),
+        Op::Write(key, value) => engine.write(alloc, t, key, Some(value), pairs),
+        Op::Erase(key) => engine.write(alloc, t, key, None, pairs),
+        Op::Scan(range) => engine.scan(alloc, t, range, pairs),
+    }
+}
+
+/// The entry of an active transaction after one more operation.
+fn one_more(entry: Option<Entry>) -> Entry
+    requires { kept_in entry < 65535 }
+    ensures { result ≡ Entry.Active (kept_in entry + 1) (asked_in entry) }
+{
+    match entry {
+        None => Entry::Active {
+            kept: 1,
+            asked: None,
+        },
+        Some(Entry::Active { kept, asked }) => Entry::Active {
+            kept: kept + 1,
+            asked,
+        },
+        Some(Entry::Voted { coord: _, count: _ }) => Entry::Active {
+            kept: 1,
+            asked: None,
+        },
+    }
+}
+
+/// A voted transaction enters, before those that entered so far.
+fn enter(graph: &mut Graph, entries: &mut Entries, vote: &Prepared) -> Result<(), AllocError>
+    ensures { (ps : List Prepared) → HaveEntered graph.old entries.old ps → OnOk result (HaveEntered graph.new entries.new (vote.now ∷ ps)) }
+{
+    graph.note(vote.txn)?;
+    graph.voted(vote.txn);
+    let entry = Entry::Voted {
+        coord: vote.coord,
+        count: vote.count,
+    };
+    entries.put(vote.txn, entry)
+}
+
+impl<E: Engine> Undecideds<E> {
+    /// The undecided transactions of an engine with these records, where these have voted and none are active.
+    pub fn restore(
+        alloc: Global,
+        kind: Kind,
+        rows: Rows,
+        voted: &[Prepared],
+    ) -> Result<Undecideds<E>, AllocError>
+        requires taken { E.takes kind }
+        requires free { IsTrue (are_free voted.now) }
+        ensures { IfOk result (λ u. Represents E.stands_for u (restored kind (records_from rows) (votes_of voted.now)) no_entries) }
+    {
+        let mut graph = Graph::new(alloc);
+        let mut entries = Entries::new(alloc);
+        let mut left = voted.len();
+        while left > 0 {
+            left -= 1;
+            match voted.get(left) {
+                Some(vote) => enter(&mut graph, &mut entries, vote)?,
+                None => unreachable!(),
+            }
+        }
+        let engine = E::restore(alloc, kind, rows, voted)?;
+        Ok(Undecideds {
+            alloc,
+            engine,
+            graph,
+            entries,
+        })
+    }
+
+    /// How many operations of an active transaction were answered here; none of another one. Takes no memory.
+    pub fn kept(&self, t: Txn) -> u16
+        ensures shown { result ≡ kept_at self.now t }
+        ensures counted { (b : EngineState) (asked : Table AskedMark) → Represents E.stands_for self.now b asked → result ≡ kept_count b t }
+    {
+        match self.entries.get(t) {
+            Some(Entry::Active { kept, asked: _ }) => kept,
+            Some(Entry::Voted { coord: _, count: _ }) => 0,
+            None => 0,
+        }
+    }
+
+    /// An operation of a transaction that has neither voted nor been installed; fewer than 65,535 of its operations are kept.
+    pub fn op(&mut self, t: Txn, op: &Op) -> Result<Seen, AllocError>
+        requires { kept_at self.old t < 65535 }
+        ensures seen { (b : EngineState) (asked : Table AskedMark) → Represents E.stands_for self.old b asked → IsTrue (may_operate b t) → IfOk result (λ seen. seen ≡ seen_of b t op.now) }
+        ensures stands { (b : EngineState) (asked : Table AskedMark) → Represents E.stands_for self.old b asked → IsTrue (may_operate b t) → OnOk result (Represents E.stands_for self.new (after_operation b t op.now) asked) }
+    {
+        let mut pairs = Pairs::new(self.alloc);
+        let entry = one_more(self.entries.get(t));
+        let seen = operate(self.alloc, &mut self.engine, t, op, &mut pairs)?;
+        match seen {
+            Seen::Blocked(u) => Ok(Seen::Blocked(u)),
+            Seen::Answer(reply) => {
+                self.graph.note(t)?;
+                self.graph.add(pairs.as_slice())?;
+                self.entries.put(t, entry)?;
+                Ok(Seen::Answer(reply))
+            }
+        }
+    }
+
+    /// The ballot on a transaction that has not voted, where its client saw so many operations answered here: the voting rule of
+    /// commitment ordering (Raz, VLDB 1992). Takes no memory.
+    pub fn ballot(&self, t: Txn, carried: u16) -> Ballot<'_>
+        ensures { (b : EngineState) (asked : Table AskedMark) → Represents E.stands_for self.now b asked → holds b.voted t ≡ false → verdict_of result ≡ vote_of b t carried }
+    {
+        let kept = self.kept(t);
+        if kept == 0 {
+            return ballot(kept, carried, None, None, None);
+        }
+        let before = self.graph.before(t).next();
+        let after = self.graph.voted_after(t).next();
+        ballot(kept, carried, self.engine.stale(t), before, after)
+    }
+
+    /// An active transaction was asked for its vote, which is held. Takes no memory.
+    pub fn mark(&mut self, t: Txn, mark: AskedMark)
+        ensures { (b : EngineState) (asked : Table AskedMark) → Represents E.stands_for self.old b asked → IsTrue (holds b.active t) → holds b.voted t ≡ false → Represents E.stands_for self.new b (put asked t mark) }
+    {
+        let kept = self.kept(t);
+        self.entries.change(
+            t,
+            Entry::Active {
+                kept,
+                asked: Some(mark),
+            },
+        );
+    }
+
+    /// An active transaction votes yes, as this coordinator asked, with so many operations. Takes no memory.
+    pub fn cast(&mut self, t: Txn, coord: u8, count: u16)
+        ensures { (b : EngineState) (asked : Table AskedMark) → Represents E.stands_for self.old b asked → IsTrue (holds b.active t) → holds b.voted t ≡ false → Represents E.stands_for self.new (after_cast b t coord count) (without asked t) }
+    {
+        self.engine.cast(t);
+        self.graph.voted(t);
+        self.entries.change(t, Entry::Voted { coord, count });
+    }
+
+    /// A voted transaction is committed.
+    pub fn install(&mut self, t: Txn) -> Result<(), AllocError>
+        ensures { (b : EngineState) (asked : Table AskedMark) → Represents E.stands_for self.old b asked → IsTrue (holds b.voted t) → holds b.active t ≡ false → OnOk result (Represents E.stands_for self.new (after_install b t) asked) }
+    {
+        self.engine.install(self.alloc, t)?;
+        self.graph.remove(t);
+        self.entries.take(t);
+        Ok(())
+    }
+
+    /// An undecided transaction is dropped. Takes no memory.
+    pub fn drop_txn(&mut self, t: Txn)
+        ensures { (b : EngineState) (asked : Table AskedMark) → Represents E.stands_for self.old b asked → IsTrue (is_undecided b t) → Represents E.stands_for self.new (after_drop b t) (without asked t) }
+    {
+        self.engine.drop_txn(t);
+        self.graph.remove(t);
+        self.entries.take(t);
+    }
+}
