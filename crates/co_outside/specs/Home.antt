@@ -42,9 +42,10 @@ pub record OthersStay {H : Type 0} (file : H → Spot → Option File) (reach : 
   pub directory : entered new ≡ entered old
 
 -- The count of faults never falls. Where the call failed the count rose, and the call's spot is that
--- of the last failed call; else the last failed call is the one from before.
+-- of the last failed call; with any other answer both are as they were.
 pub record IsCounted {H T : Type 0} (faults : H → ℕ) (last_failed : H → Spot) (spot : Spot) (old new : H) (result : Result T HomeFault) : Type 0 where
   pub count : faults old ≤ faults new
   pub failed : IsErrOf result Failed → HasRisen (faults old) (faults new)
   pub named : IsErrOf result Failed → last_failed new ≡ spot
+  pub quiet : (IsErrOf result Failed → ⊥) → faults new ≡ faults old
   pub kept : (IsErrOf result Failed → ⊥) → last_failed new ≡ last_failed old

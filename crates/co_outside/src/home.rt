@@ -61,8 +61,9 @@ pub struct FailAt {
 /// Between two syncs a crash may leave any bytes in each written range and past the old end, and
 /// no others; a crash after a successful `sync` leaves what a read gives.
 ///
-/// `Failed` comes only where the count of faults rose in that call; the home then keeps the call's
-/// spot as that of its last failed call.
+/// `Failed` comes where the count of faults rose in that call, and only there; the home then keeps
+/// the call's spot as that of its last failed call. So a call that answers anything else met no
+/// fault.
 pub trait Home {
     /// The file at a spot, where the home tells it.
     ghost file: { Self → Spot → Option File };
