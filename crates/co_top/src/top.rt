@@ -27,7 +27,7 @@ use std::alloc::Global;
 ///
 /// `run DIR` replays the schedule of the source over fresh logs, with locks that are held to the
 /// decision, and writes the text of its run without what the logs tell; nothing is kept in files yet.
-/// `Read` and `Write` come where the source, or the sink of the transcript, failed, and only there. `NotBuilt` comes
+/// `Read` and `Write` come only where the source, or the sink of the transcript, failed. `NotBuilt` comes
 /// exactly at the first line that is none of the built forms in its exact spelling, or that holds byte
 /// 524,289; the lines before it are done. `Done` comes exactly where there is no such line, unless one
 /// of these failed or there was no memory.
@@ -35,7 +35,7 @@ use std::alloc::Global;
 /// `records DIR` enters the directory, and makes it where it is missing, and writes the durable records
 /// that the logs of 16 members and 8 coordinators alone give: a line `NODE KEY VALUE` for each, members
 /// ascending and the keys of each member ascending. It reads no schedule and writes no file. `Device`
-/// comes where the home failed, and only there, `Limit` where a file is too long and `BadLog` where the files of a
+/// comes only where the home failed, `Limit` where a file is too long and `BadLog` where the files of a
 /// node are no log, or a record stands where it may not, each at the first such file; `Write` only where
 /// the sink of the records failed.
 ///
@@ -54,7 +54,6 @@ pub fn run<S: Source, K: Sink, N: Sink, H: Home>(
     ensures read { result ≡ Status.Read → HasRisen (S.faults source.old) (S.faults source.new) }
     ensures write { result ≡ Status.Write → HasRisen (K.faults out.old) (K.faults out.new) }
     ensures device { (spot : Spot) → result ≡ Status.Device spot → HasFailed H.faults H.last_failed spot home.old home.new }
-    ensures quiet { ((result ≡ Status.Read → ⊥) → S.faults source.new ≡ S.faults source.old) × ((result ≡ Status.Write → ⊥) → K.faults out.new ≡ K.faults out.old) × (((spot : Spot) → result ≡ Status.Device spot → ⊥) → H.faults home.new ≡ H.faults home.old) }
     ensures ends { (input text : List ℕ) (stop : Option ℕ) → is_run words.now ≡ true → S.left source.old ≡ Some input → Replays (within input) text stop → IsEnd (status_of stop) result }
     ensures found { (input : List ℕ) → is_run words.now ≡ true → S.left source.old ≡ Some input → HasEnd (within input) result }
     ensures transcript { (input held text : List ℕ) (stop : Option ℕ) → is_run words.now ≡ true → S.left source.old ≡ Some input → K.told out.old ≡ Some held → Replays (within input) text stop → IsPut held text result (K.told out.new) }
@@ -86,7 +85,6 @@ fn command<S: Source, K: Sink, H: Home>(
     ensures read { result ≡ Status.Read → HasRisen (S.faults source.old) (S.faults source.new) }
     ensures write { result ≡ Status.Write → HasRisen (K.faults out.old) (K.faults out.new) }
     ensures device { (spot : Spot) → result ≡ Status.Device spot → HasFailed H.faults H.last_failed spot home.old home.new }
-    ensures quiet { ((result ≡ Status.Read → ⊥) → S.faults source.new ≡ S.faults source.old) × ((result ≡ Status.Write → ⊥) → K.faults out.new ≡ K.faults out.old) × (((spot : Spot) → result ≡ Status.Device spot → ⊥) → H.faults home.new ≡ H.faults home.old) }
     ensures ends { (input text : List ℕ) (stop : Option ℕ) → is_run words.now ≡ true → S.left source.old ≡ Some input → Replays (within input) text stop → IsEnd (status_of stop) result }
     ensures found { (input : List ℕ) → is_run words.now ≡ true → S.left source.old ≡ Some input → HasEnd (within input) result }
     ensures transcript { (input held text : List ℕ) (stop : Option ℕ) → is_run words.now ≡ true → S.left source.old ≡ Some input → K.told out.old ≡ Some held → Replays (within input) text stop → IsPut held text result (K.told out.new) }
@@ -107,7 +105,6 @@ fn replay<S: Source, K: Sink>(alloc: Global, source: &mut S, out: &mut K) -> Sta
     ensures own { IsReplayStatus result }
     ensures read { result ≡ Status.Read → HasRisen (S.faults source.old) (S.faults source.new) }
     ensures write { result ≡ Status.Write → HasRisen (K.faults out.old) (K.faults out.new) }
-    ensures quiet { ((result ≡ Status.Read → ⊥) → S.faults source.new ≡ S.faults source.old) × ((result ≡ Status.Write → ⊥) → K.faults out.new ≡ K.faults out.old) }
     ensures ends { (input text : List ℕ) (stop : Option ℕ) → S.left source.old ≡ Some input → Replays (within input) text stop → IsEnd (status_of stop) result }
     ensures found { (input : List ℕ) → S.left source.old ≡ Some input → HasEnd (within input) result }
     ensures transcript { (input held text : List ℕ) (stop : Option ℕ) → S.left source.old ≡ Some input → K.told out.old ≡ Some held → Replays (within input) text stop → IsPut held text result (K.told out.new) }
@@ -125,7 +122,6 @@ fn put_replay<K: Sink>(alloc: Global, input: &[u8], out: &mut K) -> Status
     ensures own { IsReplayStatus result }
     ensures unread { result ≡ Status.Read → ⊥ }
     ensures write { result ≡ Status.Write → HasRisen (K.faults out.old) (K.faults out.new) }
-    ensures quiet { (result ≡ Status.Write → ⊥) → K.faults out.new ≡ K.faults out.old }
     ensures ends { (text : List ℕ) (stop : Option ℕ) → Replays input.now text stop → IsEnd (status_of stop) result }
     ensures found { HasEnd input.now result }
     ensures transcript { (held text : List ℕ) (stop : Option ℕ) → K.told out.old ≡ Some held → Replays input.now text stop → IsPut held text result (K.told out.new) }
