@@ -61,6 +61,7 @@ impl Disk {
         ensures file { H.file home.new spot ≡ H.file home.old spot }
         ensures rest { RestStays H.file H.reach H.entered H.faults spot home.old home.new }
         ensures device { IsErrOf result DiskFault.Device → HasFailed H.faults H.last_failed spot home.old home.new }
+        ensures quiet { (IsErrOf result DiskFault.Device → ⊥) → H.faults home.new ≡ H.faults home.old }
     {
         let bytes = home.read_all(alloc, spot, MOST_BYTES + 1)?;
         if bytes.len() > MOST_BYTES as usize {
@@ -114,8 +115,10 @@ impl Disk {
         ensures agrees { OnOk result (Agrees (H.file home.new self.old.spot) (H.reach home.new self.old.spot) (read_of self.new.state)) }
         ensures image { IsImageIn (after_write self.old.state at piece.now) (H.file home.new self.old.spot) }
         ensures memory { length piece.now ≡ 1 → at < length (read_of self.old.state) → self.old.state.pending ≡ [] → IsErrOf result DiskFault.Memory → ⊥ }
+        ensures short { length (read_of self.new.state) ≤ 268435456 }
         ensures rest { RestStays H.file H.reach H.entered H.faults self.old.spot home.old home.new }
         ensures device { IsErrOf result DiskFault.Device → HasFailed H.faults H.last_failed self.old.spot home.old home.new }
+        ensures quiet { (IsErrOf result DiskFault.Device → ⊥) → H.faults home.new ≡ H.faults home.old }
     {
         note(
             self.alloc,
@@ -148,8 +151,10 @@ impl Disk {
         ensures agrees { OnOk result (Agrees (H.file home.new self.old.spot) (H.reach home.new self.old.spot) (read_of self.new.state)) }
         ensures clean { OnOk result (IsClean (H.file home.new self.old.spot)) }
         ensures image { IsImageIn self.old.state (H.file home.new self.old.spot) }
+        ensures short { length (read_of self.new.state) ≤ 268435456 }
         ensures rest { RestStays H.file H.reach H.entered H.faults self.old.spot home.old home.new }
         ensures device { IsErrOf result DiskFault.Device → HasFailed H.faults H.last_failed self.old.spot home.old home.new }
+        ensures quiet { (IsErrOf result DiskFault.Device → ⊥) → H.faults home.new ≡ H.faults home.old }
     {
         if let Some(stop) = count(&mut self.armed) {
             self.leave(home, &stop.leaves)?;
@@ -192,8 +197,10 @@ impl Disk {
         ensures clean { OnOk result (IsClean (H.file home.new self.old.spot)) }
         ensures image { IsImageIn self.old.state (H.file home.new self.old.spot) }
         ensures faults { IfErr result (λ e. e ≡ DiskFault.Device) }
+        ensures short { length (read_of self.new.state) ≤ 268435456 }
         ensures rest { RestStays H.file H.reach H.entered H.faults self.old.spot home.old home.new }
         ensures device { IsErrOf result DiskFault.Device → HasFailed H.faults H.last_failed self.old.spot home.old home.new }
+        ensures quiet { (IsErrOf result DiskFault.Device → ⊥) → H.faults home.new ≡ H.faults home.old }
     {
         self.armed = None;
         self.leave(home, leaves)?;
@@ -212,6 +219,7 @@ impl Disk {
         ensures faults { IfErr result (IsOfReread (H.gives home.old self.old.spot 268435457) (read_of self.old.state) (H.file home.old self.old.spot)) }
         ensures rest { RestStays H.file H.reach H.entered H.faults self.old.spot home.old home.new }
         ensures device { IsErrOf result DiskFault.Device → HasFailed H.faults H.last_failed self.old.spot home.old home.new }
+        ensures quiet { (IsErrOf result DiskFault.Device → ⊥) → H.faults home.new ≡ H.faults home.old }
     {
         let read = home.read_all(self.alloc, self.spot, MOST_BYTES + 1)?;
         match first_difference(&self.bytes, &read) {
@@ -237,8 +245,10 @@ impl Disk {
         ensures clean { OnOk result (IsClean (H.file home.new self.old.spot)) }
         ensures image { IsImageIn self.old.state (H.file home.new self.old.spot) }
         ensures memory { EndWithin (H.reach home.old self.old.spot) self.old.state.pending → IsErrOf result HomeFault.Memory → ⊥ }
+        ensures short { length (read_of self.new.state) ≤ 268435456 }
         ensures rest { RestStays H.file H.reach H.entered H.faults self.old.spot home.old home.new }
         ensures fault { IsErrOf result HomeFault.Failed → HasFailed H.faults H.last_failed self.old.spot home.old home.new }
+        ensures quiet { (IsErrOf result HomeFault.Failed → ⊥) → H.faults home.new ≡ H.faults home.old }
     {
         choose(&mut self.bytes, &self.first, &self.touched, leaves);
         let laid = lay_image(

@@ -31,6 +31,7 @@ fn lay_part<H: Home>(
     ensures reach { H.reach home.old spot ≤ H.reach home.new spot }
     ensures rest { RestStays H.file H.reach H.entered H.faults spot home.old home.new }
     ensures fault { IsErrOf result HomeFault.Failed → HasFailed H.faults H.last_failed spot home.old home.new }
+    ensures quiet { (IsErrOf result HomeFault.Failed → ⊥) → H.faults home.new ≡ H.faults home.old }
 {
     let from = at as usize;
     if from >= image.len() {
@@ -60,6 +61,7 @@ fn lay_parts<H: Home>(
     ensures reach { H.reach home.old spot ≤ H.reach home.new spot }
     ensures rest { RestStays H.file H.reach H.entered H.faults spot home.old home.new }
     ensures fault { IsErrOf result HomeFault.Failed → HasFailed H.faults H.last_failed spot home.old home.new }
+    ensures quiet { (IsErrOf result HomeFault.Failed → ⊥) → H.faults home.new ≡ H.faults home.old }
 {
     for t in touched {
         lay_part(alloc, home, spot, image, t.at, t.piece.len())?;
@@ -87,6 +89,7 @@ fn lay_first<H: Home>(
     ensures reach { H.reach home.old spot ≤ H.reach home.new spot }
     ensures rest { RestStays H.file H.reach H.entered H.faults spot home.old home.new }
     ensures fault { IsErrOf result HomeFault.Failed → HasFailed H.faults H.last_failed spot home.old home.new }
+    ensures quiet { (IsErrOf result HomeFault.Failed → ⊥) → H.faults home.new ≡ H.faults home.old }
 {
     match first {
         Some(f) => lay_part(alloc, home, spot, image, f.at, 1),
@@ -117,6 +120,7 @@ fn lay_all<H: Home>(
     ensures reach { H.reach home.old spot ≤ H.reach home.new spot }
     ensures rest { RestStays H.file H.reach H.entered H.faults spot home.old home.new }
     ensures fault { IsErrOf result HomeFault.Failed → HasFailed H.faults H.last_failed spot home.old home.new }
+    ensures quiet { (IsErrOf result HomeFault.Failed → ⊥) → H.faults home.new ≡ H.faults home.old }
 {
     lay_first(alloc, home, spot, image, first)?;
     lay_parts(alloc, home, spot, image, touched)
@@ -139,6 +143,7 @@ pub(crate) fn lay_image<H: Home>(
     ensures memory { EndWithin (H.reach home.old spot) (map write_of (entries first.now touched.now)) → IsErrOf result HomeFault.Memory → ⊥ }
     ensures rest { RestStays H.file H.reach H.entered H.faults spot home.old home.new }
     ensures fault { IsErrOf result HomeFault.Failed → HasFailed H.faults H.last_failed spot home.old home.new }
+    ensures quiet { (IsErrOf result HomeFault.Failed → ⊥) → H.faults home.new ≡ H.faults home.old }
 {
     lay_all(alloc, home, spot, image, first, touched)?;
     home.set_len(spot, image.len() as u32)?;

@@ -1,5 +1,5 @@
 -- Which file is current, and with which records.
-use Rattle.std.proofs.Common.{◌≡◌, ℕ, Bool, true, false, List, [], ◌∷◌, refl, sym, ap, subst, ◌∙◌, arith, inl, inr}
+use Rattle.std.proofs.Common.{◌≡◌, ℕ, ◌+◌, ◌++◌, Bool, true, false, List, [], ◌∷◌, refl, sym, ap, subst, ◌∙◌, arith, inl, inr}
 use Rattle.std.specs.Prelude.{Option, Some, Result, Ok, Err}
 use Rattle.std.specs.Result.{IsErrAnd}
 use Rattle.co_base.specs.declared.node.Node.{Node}
@@ -14,12 +14,24 @@ use Rattle.co_log.specs.declared.fault.LogFault.{LogFault}
 use Rattle.co_log.specs.declared.fault.LogFault.TheVariants.{Device, Stopped, Bad, Differs, Full, InUse, Memory}
 use Rattle.co_log.specs.Appending.{IsOfAppend}
 use Rattle.co_log.specs.Attaching.{IsOlder}
-use Rattle.co_log.specs.Current.{BeginsWith, IsOrdered, IsOldCurrent, IsNewCurrent, IsCurrentIf, IsCurrentAfter}
-use Rattle.co_log.specs.LogFile.{next_gate, EndsAt, EndsAfter, OldOrBoth}
+use Rattle.co_log.specs.Current.{BeginsWith, IsOrdered, IsOldCurrent, IsNewCurrent, IsCurrentIf, IsCurrentAfter, IsCurrentForced, IsCurrentMade}
+use Rattle.co_log.specs.LogFile.{next_gate, next_items, placed_from, EndsAt, EndsAfter, OldOrBoth}
+use Rattle.co_log.specs.Fresh.{IsFresh}
+use Rattle.co_frame.specs.LogText.{IsLogText}
+use Rattle.co_record.specs.declared.record.Record.TheVariants.{Header}
 use Rattle.co_log.specs.LogView.{LogView, IsHeld}
 use Rattle.co_log.specs.Scanning.{IsLogFile}
 use Rattle.co_log.specs.Spare.{IsSpareImage, filling}
+use Rattle.co_log.proofs.Spots.{spots_apart}
 use Rattle.co_log.proofs.Unmade.{ends_at_front, ends_at_once, read_stable, closed_file}
+
+begins_more : (node : Node) (generation : ℕ) (items more : List (ℕ × Record)) → BeginsWith node generation items → BeginsWith node generation (items ++ more)
+begins_more node generation [] more begins = absurd begins
+begins_more node generation (x ∷ items) more begins = begins
+
+pub begins_next : (stable : Bool) (node : Node) (generation gate : ℕ) (items : List (ℕ × Record)) (more : List Record) → BeginsWith node generation items → BeginsWith node generation (next_items stable gate items more)
+begins_next true node generation gate items more begins = begins_more node generation items (placed_from (gate + 5) more) begins
+begins_next false node generation gate items more begins = begins
 
 -- a file that begins with a header is a log file of its generation
 pub log_file : (node : Node) (generation : ℕ) (bytes : List ℕ) (gate : ℕ) (items : List (ℕ × Record)) → EndsAt bytes gate items → BeginsWith node generation items → IsLogFile node bytes gate (Some generation)
@@ -75,14 +87,14 @@ current_fault log items more current spare at Memory of o same either full memor
 -- ---- over a home
 
 -- the told current file is what the log keeps of it, after calls on the spare alone
-pub current_told : {H : Type 0} (file : H → Spot → Option File) (reach : H → Spot → ℕ) (entered : H → Option (List ℕ)) (faults : H → ℕ) (old new : H) (log : LogView) (spot : Spot) (f : File) → IsHeld file reach old log → log.current.state.pending ≡ [] → spot ≡ log.spare.spot
+pub current_told : {H : Type 0} (file : H → Spot → Option File) (reach : H → Spot → ℕ) (entered : H → Option (List ℕ)) (faults : H → ℕ) (old new : H) (log : LogView) (spot : Spot) (f : File) → IsHeld (file old) (reach old) log → log.current.state.pending ≡ [] → spot ≡ log.spare.spot
     → RestStays file reach entered faults spot old new → file new log.current.spot ≡ Some f → f.bytes ≡ log.current.state.stable
 current_told file reach entered faults old new log spot f held still its rest told =
-    let kept = rest.others.files log.current.spot (λ e. held.apart (e ∙ its)) in
+    let kept = rest.others.files log.current.spot (λ e. spots_apart log held.spots (e ∙ its)) in
     held.current.told f (sym kept ∙ told) ∙ read_stable log.current.state still
 
 -- which file is current after a filling that met no fault
-pub filled_current : {H : Type 0} (file : H → Spot → Option File) (reach : H → Spot → ℕ) (entered : H → Option (List ℕ)) (faults : H → ℕ) (old new : H) (log : LogView) (disk : DiskView) (more : List Record) (stable : Bool) → IsHeld file reach old log
+pub filled_current : {H : Type 0} (file : H → Spot → Option File) (reach : H → Spot → ℕ) (entered : H → Option (List ℕ)) (faults : H → ℕ) (old new : H) (log : LogView) (disk : DiskView) (more : List Record) (stable : Bool) → IsHeld (file old) (reach old) log
     → RestStays file reach entered faults log.spare.spot old new → Agrees (file new log.spare.spot) (reach new log.spare.spot) (read_of disk.state) → disk.state.pending ≡ [] → EndsAfter stable disk.state.stable 0 [] (filling log more)
     → (items : List (ℕ × Record)) → IsOrdered log items → (c s : File) → file new log.current.spot ≡ Some c → file new log.spare.spot ≡ Some s → IsCurrentIf stable log items more c.bytes s.bytes
 filled_current file reach entered faults old new log disk more stable held rest agrees still ends items o c s told_c told_s =
@@ -91,13 +103,13 @@ filled_current file reach entered faults old new log disk more stable held rest 
     current_if stable log items more c.bytes s.bytes o same (subst (λ (b : List ℕ). EndsAfter stable b 0 [] (filling log more)) (sym whole) ends)
 
 -- the old file stays current where nothing was called
-pub untouched_current : {H : Type 0} (file : H → Spot → Option File) (reach : H → Spot → ℕ) (home : H) (log : LogView) → IsHeld file reach home log → log.spare.state.pending ≡ [] → begins_closed log.spare.state.stable ≡ true
+pub untouched_current : {H : Type 0} (file : H → Spot → Option File) (reach : H → Spot → ℕ) (home : H) (log : LogView) → IsHeld (file home) (reach home) log → log.spare.state.pending ≡ [] → begins_closed log.spare.state.stable ≡ true
     → (items : List (ℕ × Record)) → IsOrdered log items → (c s : File) → file home log.current.spot ≡ Some c → file home log.spare.spot ≡ Some s → IsOldCurrent log items c.bytes s.bytes
 untouched_current file reach home log held still closed items o c s told_c told_s =
     old_current log items c.bytes s.bytes o (held.current.told c told_c ∙ read_stable log.current.state o.live.still) (none_older log.node s.bytes log.generation (closed_file log.spare.state s.bytes still closed (held.spare.told s told_s)))
 
 -- and where its spare is closed
-pub closing_current : {H : Type 0} (file : H → Spot → Option File) (reach : H → Spot → ℕ) (entered : H → Option (List ℕ)) (faults : H → ℕ) (old new : H) (log : LogView) (spot : Spot) → IsHeld file reach old log → spot ≡ log.spare.spot → RestStays file reach entered faults spot old new
+pub closing_current : {H : Type 0} (file : H → Spot → Option File) (reach : H → Spot → ℕ) (entered : H → Option (List ℕ)) (faults : H → ℕ) (old new : H) (log : LogView) (spot : Spot) → IsHeld (file old) (reach old) log → spot ≡ log.spare.spot → RestStays file reach entered faults spot old new
     → ((f : File) → file new log.spare.spot ≡ Some f → IsSpareImage log.spare.state.stable f.bytes)
     → (items : List (ℕ × Record)) → IsOrdered log items → (c s : File) → file new log.current.spot ≡ Some c → file new log.spare.spot ≡ Some s → IsOldCurrent log items c.bytes s.bytes
 closing_current file reach entered faults old new log spot held its rest told items o c s told_c told_s =
@@ -114,7 +126,7 @@ same_err (Ok z) x y is h = absurd is
 same_err (Err e) x y is h = let it : e ≡ y = cc in sym is ∙ it
 
 -- which file is current after a filling that met a fault
-pub faulted_current : {H : Type 0} (file : H → Spot → Option File) (reach : H → Spot → ℕ) (entered : H → Option (List ℕ)) (faults : H → ℕ) (old new : H) (log : LogView) (more : List Record) (e : LogFault) → IsHeld file reach old log → log.spare.state.pending ≡ []
+pub faulted_current : {H : Type 0} (file : H → Spot → Option File) (reach : H → Spot → ℕ) (entered : H → Option (List ℕ)) (faults : H → ℕ) (old new : H) (log : LogView) (more : List Record) (e : LogFault) → IsHeld (file old) (reach old) log → log.spare.state.pending ≡ []
     → begins_closed log.spare.state.stable ≡ true → RestStays file reach entered faults log.spare.spot old new → IsOfAppend log.spare.spot e → ((f : File) → file new log.spare.spot ≡ Some f → OldOrBoth f.bytes 0 [] (filling log more))
     → (e ≡ Full log.spare.spot → new ≡ old) → (e ≡ Memory → (f : File) → file new log.spare.spot ≡ Some f → EndsAt f.bytes 0 [])
     → (items : List (ℕ × Record)) → IsOrdered log items → (c s : File) → file new log.current.spot ≡ Some c → file new log.spare.spot ≡ Some s → IsCurrentAfter log items more c.bytes s.bytes (Err e)
@@ -122,3 +134,68 @@ faulted_current {H = H} file reach entered faults old new log more e held still 
     current_fault log items more c.bytes s.bytes log.spare.spot e of o (current_told file reach entered faults old new log log.spare.spot c held o.live.still refl rest told_c) (either s told_s)
     (λ is. closed_file log.spare.state s.bytes still closed (held.spare.told s (subst (λ (h : H). file h log.spare.spot ≡ Some s) (full is) told_s)))
     (λ is. early is s told_s)
+
+-- ---- after a log write on the current file
+
+-- the current file has these records
+pub now_current : (log : LogView) (items : List (ℕ × Record)) (stable : Bool) (gate : ℕ) (more : List Record) (current spare : List ℕ) → BeginsWith log.node log.generation items → IsOlder log.node spare log.generation → EndsAfter stable current gate items more
+    → IsOldCurrent log (next_items stable gate items more) current spare
+now_current log items stable gate more current spare begins older ends = record { gate = next_gate stable gate more; ends = ends; header = begins_next stable log.node log.generation gate items more begins; older = older }
+
+-- after a fault
+pub force_fault : (log : LogView) (items : List (ℕ × Record)) (more : List Record) (current spare : List ℕ) (at : Spot) (e : LogFault) → IsOfAppend at e → BeginsWith log.node log.generation items → IsOlder log.node spare log.generation → OldOrBoth current log.gate items more
+    → (e ≡ Full at → EndsAt current log.gate items) → (e ≡ Memory → EndsAt current log.gate items) → IsCurrentForced log items more current spare (Err e)
+force_fault log items more current spare at (Device spot) of begins older either full memory = elim either [
+  | inl old ↦ inl (now_current log items false log.gate more current spare begins older old)
+  | inr both ↦ inr (now_current log items true log.gate more current spare begins older both)
+]
+force_fault log items more current spare at (Stopped call stable marks) of begins older either full memory = absurd of
+force_fault log items more current spare at (Bad spot place) of begins older either full memory = absurd of
+force_fault log items more current spare at (Differs spot place kept read) of begins older either full memory = absurd of
+force_fault log items more current spare at (Full spot) of begins older either full memory = now_current log items false log.gate more current spare begins older (full (ap Full of))
+force_fault log items more current spare at (InUse spot) of begins older either full memory = absurd of
+force_fault log items more current spare at Memory of begins older either full memory = now_current log items false log.gate more current spare begins older (memory refl)
+
+-- the told spare is what the log keeps of it, after calls on the current file alone, and so it is older
+pub spare_older : (file after : Spot → Option File) (reach : Spot → ℕ) (log : LogView) (items : List (ℕ × Record)) (f : File) → IsHeld file reach log → IsOrdered log items → after log.spare.spot ≡ file log.spare.spot → after log.spare.spot ≡ Some f → IsOlder log.node f.bytes log.generation
+spare_older file after reach log items f held o kept told = subst (λ (b : List ℕ). IsOlder log.node b log.generation) (sym (held.spare.told f (sym kept ∙ told) ∙ read_stable log.spare.state o.still)) o.older
+
+module _ {H : Type 0} (file : H → Spot → Option File) (reach : H → Spot → ℕ) (entered : H → Option (List ℕ)) (faults : H → ℕ) (old new : H) (log : LogView) (held : IsHeld (file old) (reach old) log) (rest : RestStays file reach entered faults log.current.spot old new) where
+  spare_kept : file new log.spare.spot ≡ file old log.spare.spot
+  spare_kept = rest.others.files log.spare.spot (λ e. spots_apart log held.spots (sym e))
+
+  -- where it met no fault
+  pub forced_current : (disk : DiskView) (items : List (ℕ × Record)) (more : List Record) (stable : Bool) → Agrees (file new log.current.spot) (reach new log.current.spot) (read_of disk.state) → disk.state.pending ≡ [] → EndsAfter stable disk.state.stable log.gate items more → IsOrdered log items
+      → (c s : File) → file new log.current.spot ≡ Some c → file new log.spare.spot ≡ Some s → IsOldCurrent log (next_items stable log.gate items more) c.bytes s.bytes
+  forced_current disk items more stable agrees still ends o c s told_c told_s =
+      let whole : c.bytes ≡ disk.state.stable = agrees.told c told_c ∙ read_stable disk.state still in
+      now_current log items stable log.gate more c.bytes s.bytes o.header (spare_older (file old) (file new) (reach old) log items s held o spare_kept told_s) (subst (λ (b : List ℕ). EndsAfter stable b log.gate items more) (sym whole) ends)
+
+  -- and where it met one
+  pub force_faulted : (items : List (ℕ × Record)) (more : List Record) (e : LogFault) → IsOfAppend log.current.spot e → ((f : File) → file new log.current.spot ≡ Some f → OldOrBoth f.bytes log.gate items more) → (e ≡ Full log.current.spot → new ≡ old)
+      → (e ≡ Memory → (f : File) → file new log.current.spot ≡ Some f → EndsAt f.bytes log.gate items) → IsOrdered log items
+      → (c s : File) → file new log.current.spot ≡ Some c → file new log.spare.spot ≡ Some s → IsCurrentForced log items more c.bytes s.bytes (Err e)
+  force_faulted items more e of either full early o c s told_c told_s =
+      force_fault log items more c.bytes s.bytes log.current.spot e of o.header (spare_older (file old) (file new) (reach old) log items s held o spare_kept told_s) (either c told_c)
+      (λ is.
+      let before : file old log.current.spot ≡ Some c = subst (λ (h : H). file h log.current.spot ≡ Some c) (full is) told_c in
+      subst (λ (b : List ℕ). EndsAt b log.gate items) (sym (held.current.told c before ∙ read_stable log.current.state o.live.still)) o.live.ends)
+      (λ is. early is c told_c)
+
+-- ---- after a making
+
+pub made_fault : (log : LogView) (current spare : List ℕ) (at : Spot) (e : LogFault) → IsOfAppend at e → (e ≡ Full at → ⊥) → OldOrBoth current 0 [] (Header log.node 1 ∷ []) → (e ≡ Memory → EndsAt current 0 []) → IsLogText spare [] → IsCurrentMade log current spare (Err e)
+made_fault log current spare at (Device spot) of not_full either memory none = elim either [
+  | inl old ↦ inl (ends_at_front current [] old, none)
+  | inr both ↦ inr record { gate = next_gate true 0 (Header log.node 1 ∷ []); ends = both; header = refl; older = inl none }
+]
+made_fault log current spare at (Stopped call stable marks) of not_full either memory none = absurd of
+made_fault log current spare at (Bad spot place) of not_full either memory none = absurd of
+made_fault log current spare at (Differs spot place kept read) of not_full either memory none = absurd of
+made_fault log current spare at (Full spot) of not_full either memory none = absurd (not_full (ap Full of))
+made_fault log current spare at (InUse spot) of not_full either memory none = absurd of
+made_fault log current spare at Memory of not_full either memory none = (ends_at_front current [] (memory refl), none)
+
+-- the told spare of a fresh log has no batch, where no call was on it
+pub spare_none : (file after : Spot → Option File) (reach : Spot → ℕ) (log : LogView) (f : File) → IsHeld file reach log → IsFresh log → after log.spare.spot ≡ file log.spare.spot → after log.spare.spot ≡ Some f → IsLogText f.bytes []
+spare_none file after reach log f held fresh kept told = subst (λ (b : List ℕ). IsLogText b []) (sym (held.spare.told f (sym kept ∙ told) ∙ read_stable log.spare.state fresh.spare_still)) fresh.spare_none

@@ -12,3 +12,6 @@ pub mod Short
 pub mod Once
 pub mod Splits
 pub mod Judged
+pub mod Spots
+pub mod Bounds
+pub mod Counted

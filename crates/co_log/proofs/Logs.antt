@@ -7,7 +7,7 @@ use Rattle.co_record.specs.declared.record.Record.{Record}
 use Rattle.co_log.specs.declared.append.Ending.TheVariants.{Whole, Stopped}
 use Rattle.co_log.specs.declared.stop.Stop.{Stop}
 use Rattle.co_log.specs.Appending.{IsEnding}
-use Rattle.co_record.specs.Gate.{batch_is_stable}
+use Rattle.co_record.specs.Gate.{batch_is_stable, begins_closed}
 use Rattle.co_log.specs.Forcing.{IsWritten}
 use Rattle.co_log.specs.LogFile.{next_gate, next_items, EndsAt, EndsAfter}
 use Rattle.co_log.specs.Spare.{IsFilled, IsFilledIf, filling, turned}
@@ -58,20 +58,21 @@ stopped log after items more front stop told marks call stable same armed tells 
 abbrev pub after_filling : LogView → DiskView → List Record → Option Stop → LogView
 after_filling log disk waiting stop = record { node = log.node; current = log.current; spare = disk; gate = log.gate; generation = log.generation; waiting = waiting; stop = stop }
 
-pub filled : (log : LogView) (disk : DiskView) (waiting : List Record) (stop : Option Stop) (items : List Record) (next : ℕ) → disk.spot ≡ log.spare.spot → waiting ≡ [] → stop ≡ None → disk.state.pending ≡ [] → next ≡ next_gate true 0 (filling log items) → EndsAfter true disk.state.stable 0 [] (filling log items)
+pub filled : (log : LogView) (open' : begins_closed log.current.state.stable ≡ false) (disk : DiskView) (waiting : List Record) (stop : Option Stop) (items : List Record) (next : ℕ) → disk.spot ≡ log.spare.spot → waiting ≡ [] → stop ≡ None → disk.state.pending ≡ [] → next ≡ next_gate true 0 (filling log items) → EndsAfter true disk.state.stable 0 [] (filling log items)
     → IsFilled log (turned (after_filling log disk waiting stop) next (log.generation + 1)) items
-filled log disk waiting stop items next its none disarmed still at ends = record {
+filled log open' disk waiting stop items next its none disarmed still at ends = record {
   node = refl;
   spot = its;
   spare = refl;
   generation = refl;
   waiting = none;
   disarmed = disarmed;
+  opens = open';
   live = record { made = omega (arith, at); still = still; ends = subst (λ (n : ℕ). EndsAt disk.state.stable n (next_items true 0 [] (filling log items))) (sym at) ends };
 }
 
-pub filled_if : (stable : Bool) (log : LogView) (disk : DiskView) (waiting : List Record) (stop : Option Stop) (items : List Record) (next : ℕ) → disk.spot ≡ log.spare.spot → waiting ≡ [] → stop ≡ None → disk.state.pending ≡ [] → next ≡ next_gate stable 0 (filling log items)
+pub filled_if : (stable : Bool) (log : LogView) (open' : begins_closed log.current.state.stable ≡ false) (disk : DiskView) (waiting : List Record) (stop : Option Stop) (items : List Record) (next : ℕ) → disk.spot ≡ log.spare.spot → waiting ≡ [] → stop ≡ None → disk.state.pending ≡ [] → next ≡ next_gate stable 0 (filling log items)
     → EndsAfter stable disk.state.stable 0 [] (filling log items) → IsFilledIf stable log (if stable then turned (after_filling log disk waiting stop) next (log.generation + 1) else after_filling log disk waiting stop) items
-filled_if true log disk waiting stop items next its none disarmed still at ends = filled log disk waiting stop items next its none disarmed still at ends
-filled_if false log disk waiting stop items next its none disarmed still at ends =
+filled_if true log open' disk waiting stop items next its none disarmed still at ends = filled log open' disk waiting stop items next its none disarmed still at ends
+filled_if false log open' disk waiting stop items next its none disarmed still at ends =
     record { node = refl; current = refl; gate = refl; generation = refl; waiting = none; disarmed = disarmed; spot = its; still = still; closed = first_shut disk.state.stable ends }

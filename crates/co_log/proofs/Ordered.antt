@@ -1,6 +1,8 @@
 -- Logs whose files are in order stay so.
 use Rattle.std.proofs.Common.{◌≡◌, ◌⊎◌, ℕ, ◌+◌, ◌<◌, Bool, true, false, List, [], ◌∷◌, ◌++◌, refl, sym, ap, subst, ◌∙◌, arith, inl, inr}
-use Rattle.std.specs.Prelude.{◌==◌, Option, Result, Ok, Err}
+use Rattle.std.specs.Prelude.{◌==◌, Option, Some, None, Result, Ok, Err, length, map, if◌then◌else◌}
+use Rattle.std.proofs.lemmas.List.{map-append}
+use Rattle.co_record.specs.Spelling.{spelling}
 use Rattle.co_base.specs.Nodes.{IsValidNode}
 use Rattle.co_base.specs.declared.mark.Mark.{Mark}
 use Rattle.co_base.specs.declared.node.Node.{Node}
@@ -13,26 +15,19 @@ use Rattle.co_record.specs.declared.record.Record.{Record}
 use Rattle.co_record.specs.declared.record.Record.TheVariants.{Header}
 use Rattle.co_log.specs.declared.fault.LogFault.{LogFault}
 use Rattle.co_log.specs.declared.fault.LogFault.TheVariants.{Device, Stopped, Bad, Differs, Full, InUse, Memory}
-use Rattle.co_frame.specs.LogText.{IsLogText}
-use Rattle.co_record.specs.Gate.{closes_spare}
-use Rattle.co_log.specs.Attaching.{built, spot_of, IsToldAs, IsOlder, IsAttached, IsCurrent}
-use Rattle.co_log.specs.Current.{BeginsWith, IsOrdered, IsReady}
-use Rattle.co_log.specs.Forcing.{IsWritten, IsForced, IsDone}
+use Rattle.co_frame.specs.LogText.{IsLogText, gated}
+use Rattle.co_record.specs.Gate.{begins_closed, closes_spare}
+use Rattle.co_log.specs.Attaching.{built, IsToldAs, IsOlder, IsAttached, IsCurrent}
+use Rattle.co_log.specs.Current.{BeginsWith, IsCurrentOf, IsOrdered, IsReady}
+use Rattle.co_log.specs.Forcing.{IsWritten, IsForced, IsDone, counts}
 use Rattle.co_log.specs.Fresh.{IsFresh, IsMade, header_alone}
-use Rattle.co_log.specs.LogFile.{next_items, placed_from, EndsAt}
-use Rattle.co_log.specs.LogView.{LogView, IsLive, IsHeld}
-use Rattle.co_log.specs.Spare.{IsClosed, IsClosing, IsFilled, IsUnfilled, IsFilledIf, IsFilling, filling}
+use Rattle.co_log.specs.LogFile.{next_items, placed_from, records_of, EndsAt}
+use Rattle.co_log.specs.LogView.{LogView, IsLive, IsHeld, spot_of}
+use Rattle.co_log.specs.Spare.{IsClosed, IsClosing, IsFilled, IsUnfilled, IsFilledIf, IsFilling, filling, filled_items}
 use Rattle.co_log.proofs.Attached.{behind_front}
-use Rattle.co_log.proofs.Currents.{log_file, none_older, image_older}
-use Rattle.co_log.proofs.Unmade.{ends_at_once}
-
-begins_more : (node : Node) (generation : ℕ) (items more : List (ℕ × Record)) → BeginsWith node generation items → BeginsWith node generation (items ++ more)
-begins_more node generation [] more begins = absurd begins
-begins_more node generation (x ∷ items) more begins = begins
-
-begins_next : (stable : Bool) (node : Node) (generation gate : ℕ) (items : List (ℕ × Record)) (more : List Record) → BeginsWith node generation items → BeginsWith node generation (next_items stable gate items more)
-begins_next true node generation gate items more begins = begins_more node generation items (placed_from (gate + 5) more) begins
-begins_next false node generation gate items more begins = begins
+use Rattle.co_log.proofs.Currents.{log_file, none_older, image_older, old_current, begins_next}
+use Rattle.co_log.proofs.Spots.{spots_moved}
+use Rattle.co_log.proofs.Unmade.{ends_at_once, read_stable}
 
 -- the same of a log with the same node and generation
 moved : (log after : LogView) (items : List (ℕ × Record)) → after.node ≡ log.node → after.generation ≡ log.generation → BeginsWith log.node log.generation items → BeginsWith after.node after.generation items
@@ -101,9 +96,9 @@ unfilled_ordered log after items o u = record {
 
 -- ---- calls
 
-pub forced_ordered : (log after : LogView) (items : List (ℕ × Record)) (more : List Record) (result : Result (List Mark) LogFault) → IsOrdered log items → IsForced log items more after result → IsDone result → (later : List (ℕ × Record)) × IsOrdered after later
-forced_ordered log after items more (Ok marks) o f done = (next_items true log.gate items more, written_ordered true log after items more o f.2)
-forced_ordered log after items more (Err (Stopped call stable marks)) o f done = (next_items stable log.gate items more, written_ordered stable log after items more o f.4)
+pub forced_ordered : (log after : LogView) (items : List (ℕ × Record)) (more : List Record) (result : Result (List Mark) LogFault) → IsOrdered log items → IsForced log items more after result → IsDone result → IsOrdered after (next_items (counts result) log.gate items more)
+forced_ordered log after items more (Ok marks) o f done = written_ordered true log after items more o f.2
+forced_ordered log after items more (Err (Stopped call stable marks)) o f done = written_ordered stable log after items more o f.4
 forced_ordered log after items more (Err (Device spot)) o f done = absurd done
 forced_ordered log after items more (Err (Bad spot at)) o f done = absurd done
 forced_ordered log after items more (Err (Differs spot at kept read)) o f done = absurd done
@@ -121,19 +116,42 @@ closing_ordered log after items (Err (Full spot)) o f done = absurd done
 closing_ordered log after items (Err (InUse spot)) o f done = absurd done
 closing_ordered log after items (Err Memory) o f done = absurd done
 
-pub filling_ordered : (log after : LogView) (items : List (ℕ × Record)) (more : List Record) (result : Result Mark LogFault) → IsOrdered log items → IsFilling log more after result → IsDone result → (later : List (ℕ × Record)) × IsOrdered after later
-filling_ordered log after items more (Ok mark) o f done = (placed_from 5 (filling log more), filled_ordered log after items more o f.2)
+pub filling_ordered : (log after : LogView) (items : List (ℕ × Record)) (more : List Record) (result : Result Mark LogFault) → IsOrdered log items → IsFilling log more after result → IsDone result → IsOrdered after (filled_items (counts result) log items more)
+filling_ordered log after items more (Ok mark) o f done = filled_ordered log after items more o f.2
 filling_ordered log after items more (Err (Stopped call stable marks)) o f done = by_image stable f.4
   where
-    by_image : (b : Bool) → IsFilledIf b log after more → (later : List (ℕ × Record)) × IsOrdered after later
-    by_image true is = (placed_from 5 (filling log more), filled_ordered log after items more o is)
-    by_image false is = (items, unfilled_ordered log after items o is)
+    by_image : (b : Bool) → IsFilledIf b log after more → IsOrdered after (filled_items b log items more)
+    by_image true is = filled_ordered log after items more o is
+    by_image false is = unfilled_ordered log after items o is
 filling_ordered log after items more (Err (Device spot)) o f done = absurd done
 filling_ordered log after items more (Err (Bad spot at)) o f done = absurd done
 filling_ordered log after items more (Err (Differs spot at kept read)) o f done = absurd done
 filling_ordered log after items more (Err (Full spot)) o f done = absurd done
 filling_ordered log after items more (Err (InUse spot)) o f done = absurd done
 filling_ordered log after items more (Err Memory) o f done = absurd done
+
+-- the records alone, oldest first
+placed_records : (at : ℕ) (more : List Record) → map (λ p. p.1) (placed_from at more) ≡ more
+placed_records at [] = refl
+placed_records at (item ∷ more) = ap (λ (rs : List Record). item ∷ rs) (placed_records (at + length (spelling item)) more)
+
+pub next_records : (stable : Bool) (gate : ℕ) (items : List (ℕ × Record)) (more : List Record) → records_of (next_items stable gate items more) ≡ (if stable then records_of items ++ more else records_of items)
+next_records true gate items more = map-append _ items (placed_from (gate + 5) more) ∙ ap (λ (rs : List Record). records_of items ++ rs) (placed_records (gate + 5) more)
+next_records false gate items more = refl
+
+pub filled_records : (stable : Bool) (log : LogView) (items : List (ℕ × Record)) (more : List Record) → records_of (filled_items stable log items more) ≡ (if stable then filling log more else records_of items)
+filled_records true log items more = placed_records 5 (filling log more)
+filled_records false log items more = refl
+
+-- an attached log has nothing waiting, and no stop is armed
+pub attached_unarmed : (node : Node) (a b : DiskView) (log : LogView) → IsAttached node a b log → (log.node ≡ node) × (log.waiting ≡ []) × (log.stop ≡ None)
+attached_unarmed node a b log attached = elim attached [
+  | inl fresh ↦ subst Unarmed (sym fresh.0) (refl, refl, refl)
+  | inr live ↦ elim live [ inl one ↦ subst Unarmed (sym one.is) (refl, refl, refl) | inr other ↦ subst Unarmed (sym other.is) (refl, refl, refl) ]
+]
+  where
+    Unarmed : LogView → Type 0
+    Unarmed l = (l.node ≡ node) × (l.waiting ≡ []) × (l.stop ≡ None)
 
 -- ---- logs that are attached
 
@@ -181,23 +199,23 @@ found_ordered log is some = elim is [
   | inr one ↦ one
 ]
 
-pub ready_made : {H : Type 0} (file : H → Spot → Option File) (reach : H → Spot → ℕ) (home : H) (log after : LogView) → IsFresh log × IsValidNode log.node → IsMade log after → IsHeld file reach home after → IsReady file reach home after
-ready_made file reach home log after fresh made held = record { held = held; items = header_alone log.node; ordered = made_ordered log after fresh.0 fresh.1 made }
+pub ready_made : (file : Spot → Option File) (reach : Spot → ℕ) (log after : LogView) → IsFresh log × IsValidNode log.node → IsMade log after → IsHeld file reach after → IsReady file reach after
+ready_made file reach log after fresh made held = record { held = held; items = header_alone log.node; ordered = made_ordered log after fresh.0 fresh.1 made }
 
-pub ready_written : {H : Type 0} (file : H → Spot → Option File) (reach : H → Spot → ℕ) (home : H) (log after : LogView) (items : List (ℕ × Record)) (more : List Record) (stable : Bool) → IsOrdered log items → IsWritten stable log items more after → IsHeld file reach home after → IsReady file reach home after
-ready_written file reach home log after items more stable o w held = record { held = held; items = next_items stable log.gate items more; ordered = written_ordered stable log after items more o w }
+pub ready_written : (file : Spot → Option File) (reach : Spot → ℕ) (log after : LogView) (items : List (ℕ × Record)) (more : List Record) (stable : Bool) → IsOrdered log items → IsWritten stable log items more after → IsHeld file reach after → IsReady file reach after
+ready_written file reach log after items more stable o w held = record { held = held; items = next_items stable log.gate items more; ordered = written_ordered stable log after items more o w }
 
-pub ready_closed : {H : Type 0} (file : H → Spot → Option File) (reach : H → Spot → ℕ) (home : H) (log after : LogView) (items : List (ℕ × Record)) (closed : Bool) → IsOrdered log items → IsClosed closed log after → IsHeld file reach home after → IsReady file reach home after
-ready_closed file reach home log after items closed o is held = record { held = held; items = items; ordered = closed_ordered closed log after items o is }
+pub ready_closed : (file : Spot → Option File) (reach : Spot → ℕ) (log after : LogView) (items : List (ℕ × Record)) (closed : Bool) → IsOrdered log items → IsClosed closed log after → IsHeld file reach after → IsReady file reach after
+ready_closed file reach log after items closed o is held = record { held = held; items = items; ordered = closed_ordered closed log after items o is }
 
-pub ready_filled : {H : Type 0} (file : H → Spot → Option File) (reach : H → Spot → ℕ) (home : H) (log after : LogView) (items : List (ℕ × Record)) (more : List Record) (stable : Bool) → IsOrdered log items → IsFilledIf stable log after more → IsHeld file reach home after → IsReady file reach home after
-ready_filled file reach home log after items more true o is held = record { held = held; items = placed_from 5 (filling log more); ordered = filled_ordered log after items more o is }
-ready_filled file reach home log after items more false o is held = record { held = held; items = items; ordered = unfilled_ordered log after items o is }
+pub ready_filled : (file : Spot → Option File) (reach : Spot → ℕ) (log after : LogView) (items : List (ℕ × Record)) (more : List Record) (stable : Bool) → IsOrdered log items → IsFilledIf stable log after more → IsHeld file reach after → IsReady file reach after
+ready_filled file reach log after items more true o is held = record { held = held; items = placed_from 5 (filling log more); ordered = filled_ordered log after items more o is }
+ready_filled file reach log after items more false o is held = record { held = held; items = items; ordered = unfilled_ordered log after items o is }
 
 -- a log that keeps its disks, its gate and its generation
-pub ready_kept : {H : Type 0} (file : H → Spot → Option File) (reach : H → Spot → ℕ) (old home : H) (log after : LogView) → IsReady file reach old log → after.node ≡ log.node → after.current ≡ log.current → after.spare ≡ log.spare → after.gate ≡ log.gate → after.generation ≡ log.generation
-    → IsHeld file reach home after → IsReady file reach home after
-ready_kept file reach old home log after r node current spare gate generation held = record {
+pub ready_kept : (file further : Spot → Option File) (reach room : Spot → ℕ) (log after : LogView) → IsReady file reach log → after.node ≡ log.node → after.current ≡ log.current → after.spare ≡ log.spare → after.gate ≡ log.gate → after.generation ≡ log.generation
+    → IsHeld further room after → IsReady further room after
+ready_kept file further reach room log after r node current spare gate generation held = record {
   held = held;
   items = r.items;
   ordered = record {
@@ -210,9 +228,23 @@ ready_kept file reach old home log after r node current spare gate generation he
 }
 
 -- and its home
-pub ready_same : {H : Type 0} (file : H → Spot → Option File) (reach : H → Spot → ℕ) (home : H) (log after : LogView) → IsReady file reach home log → after.node ≡ log.node → after.current ≡ log.current → after.spare ≡ log.spare → after.gate ≡ log.gate → after.generation ≡ log.generation → IsReady file reach home after
-ready_same file reach home log after r node current spare gate generation = ready_kept file reach home home log after r node current spare gate generation record {
-  apart = λ e. r.held.apart (sym (ap (λ (d : DiskView). d.spot) current) ∙ e ∙ ap (λ (d : DiskView). d.spot) spare);
-  current = subst (λ (d : DiskView). Agrees (file home d.spot) (reach home d.spot) (read_of d.state)) (sym current) r.held.current;
-  spare = subst (λ (d : DiskView). Agrees (file home d.spot) (reach home d.spot) (read_of d.state)) (sym spare) r.held.spare;
+pub ready_same : (file : Spot → Option File) (reach : Spot → ℕ) (log after : LogView) → IsReady file reach log → after.node ≡ log.node → after.current ≡ log.current → after.spare ≡ log.spare → after.gate ≡ log.gate → after.generation ≡ log.generation → IsReady file reach after
+ready_same file reach log after r node current spare gate generation = ready_kept file file reach reach log after r node current spare gate generation record {
+  spots = spots_moved log after node (ap (λ (d : DiskView). d.spot) current) (ap (λ (d : DiskView). d.spot) spare) r.held.spots;
+  current = subst (λ (d : DiskView). Agrees (file d.spot) (reach d.spot) (read_of d.state)) (sym current) r.held.current;
+  spare = subst (λ (d : DiskView). Agrees (file d.spot) (reach d.spot) (read_of d.state)) (sym spare) r.held.spare;
 }
+
+-- the told files of a log in order are current as it has them
+pub held_current : (file : Spot → Option File) (reach : Spot → ℕ) (log : LogView) (items : List (ℕ × Record)) (c s : File) → IsHeld file reach log → IsOrdered log items → file log.current.spot ≡ Some c → file log.spare.spot ≡ Some s → IsCurrentOf log.node log.generation c.bytes s.bytes items
+held_current file reach log items c s held o told_c told_s =
+    let older = subst (λ (b : List ℕ). IsOlder log.node b log.generation) (sym (held.spare.told s told_s ∙ read_stable log.spare.state o.still)) o.older in
+    old_current log items c.bytes s.bytes o (held.current.told c told_c ∙ read_stable log.current.state o.live.still) older
+
+-- a file with a batch begins with an open gate
+pub live_open : (bytes : List ℕ) (gate : ℕ) (items : List (ℕ × Record)) → 0 < gate → EndsAt bytes gate items → begins_closed bytes ≡ false
+live_open bytes gate items made e = ap begins_closed e.text.text ∙ by_batches e.batches e.place
+  where
+    by_batches : (batches : List (List ℕ)) → gate ≡ length (gated batches) → begins_closed (gated batches ++ e.text.gate ∷ e.text.rest) ≡ false
+    by_batches [] at = absurd (omega (arith, at, made))
+    by_batches (b ∷ bs) at = refl

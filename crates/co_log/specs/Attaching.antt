@@ -1,6 +1,5 @@
 -- Which of the two files of a node is current, and why a log is not attached.
 use Rattle.std.specs.Prelude.{ℕ, ◌≡◌, ◌≤◌, ◌<◌, ◌⊎◌, Bool, true, false, List, [], length, nat_lt, Option, Some, None}
-use Rattle.co_base.specs.Nodes.{node_byte}
 use Rattle.co_base.specs.declared.node.Node.{Node}
 use Rattle.co_outside.specs.declared.spot.Spot.{Spot}
 use Rattle.co_outside.specs.Home.{File}
@@ -9,7 +8,7 @@ use Rattle.co_disk.specs.DiskView.{DiskView}
 use Rattle.co_frame.specs.LogText.{IsLogText}
 use Rattle.co_log.specs.declared.fault.LogFault.{LogFault}
 use Rattle.co_log.specs.declared.fault.LogFault.TheVariants.{Device, Stopped, Bad, Differs, Full, InUse, Memory}
-use Rattle.co_log.specs.LogView.{LogView}
+use Rattle.co_log.specs.LogView.{LogView, spot_of}
 use Rattle.co_log.specs.Scanning.{IsLogFile, IsBadAt}
 
 -- a log without waiting records and without an armed stop
@@ -53,10 +52,6 @@ IsBadPair node a b (Differs spot at kept read) = ⊥
 IsBadPair node a b (Full spot) = ⊥
 IsBadPair node a b (InUse spot) = ⊥
 IsBadPair node a b Memory = ⊥
-
--- the two files of a node
-abbrev pub spot_of : Node → ℕ → Spot
-spot_of node part = record { node = node_byte node; part = part }
 
 -- a told file has more than so many bytes
 abbrev pub IsLonger : ℕ → Option File → Type 0

@@ -10,7 +10,9 @@ use Rattle.co_record.specs.declared.record.Record.TheVariants.{Header}
 use Rattle.co_log.specs.declared.fault.LogFault.{LogFault}
 use Rattle.co_log.specs.declared.fault.LogFault.TheVariants.{Device, Stopped, Bad, Differs, Full, InUse, Memory}
 use Rattle.co_log.specs.Attaching.{IsOlder}
-use Rattle.co_log.specs.LogFile.{placed_from, EndsAt}
+use Rattle.co_frame.specs.LogText.{IsLogText}
+use Rattle.co_log.specs.Fresh.{header_alone}
+use Rattle.co_log.specs.LogFile.{placed_from, next_items, EndsAt}
 use Rattle.co_log.specs.LogView.{LogView, IsLive, IsHeld}
 use Rattle.co_log.specs.Spare.{filling}
 
@@ -36,14 +38,27 @@ pub record IsOrdered (log : LogView) (items : List (ℕ × Record)) : Type 0 whe
   pub older : IsOlder log.node log.spare.state.stable log.generation
 
 -- The log is in order with some records, and the home's files are its files.
-pub record IsReady {H : Type 0} (file : H → Spot → Option File) (reach : H → Spot → ℕ) (home : H) (log : LogView) : Type 0 where
-  pub held : IsHeld file reach home log
+pub record IsReady (file : Spot → Option File) (reach : Spot → ℕ) (log : LogView) : Type 0 where
+  pub held : IsHeld file reach log
   pub items : List (ℕ × Record)
   pub ordered : IsOrdered log items
 
 -- the old file is still the current one, with its records
 abbrev pub IsOldCurrent : LogView → List (ℕ × Record) → List ℕ → List ℕ → Type 0
 IsOldCurrent log items current spare = IsCurrentOf log.node log.generation current spare items
+
+-- Which records the current file has after a log write on it: after Ok these with the new ones; after a stop with the
+-- new ones exactly where the image has its gate open; where the directory failed without the new ones or with them; and
+-- without them where the file would be too long or memory was wanted.
+abbrev pub IsCurrentForced : LogView → List (ℕ × Record) → List Record → List ℕ → List ℕ → Result (List Mark) LogFault → Type 0
+IsCurrentForced log items more current spare (Ok marks) = IsOldCurrent log (next_items true log.gate items more) current spare
+IsCurrentForced log items more current spare (Err (Stopped call stable marks)) = IsOldCurrent log (next_items stable log.gate items more) current spare
+IsCurrentForced log items more current spare (Err (Device spot)) = IsOldCurrent log items current spare ⊎ IsOldCurrent log (next_items true log.gate items more) current spare
+IsCurrentForced log items more current spare (Err (Bad spot at)) = ⊥
+IsCurrentForced log items more current spare (Err (Differs spot at kept read)) = ⊥
+IsCurrentForced log items more current spare (Err (Full spot)) = IsOldCurrent log items current spare
+IsCurrentForced log items more current spare (Err (InUse spot)) = ⊥
+IsCurrentForced log items more current spare (Err Memory) = IsOldCurrent log items current spare
 
 -- the filled one is the current one, with these records in place of all others
 abbrev pub IsNewCurrent : LogView → List Record → List ℕ → List ℕ → Type 0
@@ -66,3 +81,23 @@ IsCurrentAfter log items more current spare (Err (Differs spot at kept read)) = 
 IsCurrentAfter log items more current spare (Err (Full spot)) = IsOldCurrent log items current spare
 IsCurrentAfter log items more current spare (Err (InUse spot)) = ⊥
 IsCurrentAfter log items more current spare (Err Memory) = IsOldCurrent log items current spare
+
+-- neither file has a batch
+abbrev pub HaveNoBatch : List ℕ → List ℕ → Type 0
+HaveNoBatch current spare = IsLogText current [] × IsLogText spare []
+
+-- the file is current with the header of generation 1 alone
+abbrev pub IsMadeCurrent : LogView → List ℕ → List ℕ → Type 0
+IsMadeCurrent log current spare = IsCurrentOf log.node 1 current spare (header_alone log.node)
+
+-- Which file is current after a log was made: after Ok its current file, with its header alone; where the directory
+-- failed that one or none; and none where memory was wanted.
+abbrev pub IsCurrentMade : LogView → List ℕ → List ℕ → Result Mark LogFault → Type 0
+IsCurrentMade log current spare (Ok mark) = IsMadeCurrent log current spare
+IsCurrentMade log current spare (Err (Device spot)) = HaveNoBatch current spare ⊎ IsMadeCurrent log current spare
+IsCurrentMade log current spare (Err (Stopped call stable marks)) = ⊥
+IsCurrentMade log current spare (Err (Bad spot at)) = ⊥
+IsCurrentMade log current spare (Err (Differs spot at kept read)) = ⊥
+IsCurrentMade log current spare (Err (Full spot)) = ⊥
+IsCurrentMade log current spare (Err (InUse spot)) = ⊥
+IsCurrentMade log current spare (Err Memory) = HaveNoBatch current spare

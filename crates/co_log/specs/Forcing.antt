@@ -1,5 +1,5 @@
 -- How a log write ends for the log.
-use Rattle.std.specs.Prelude.{ℕ, ◌≡◌, Bool, true, if◌then◌else◌, List, [], Some, None, Result, Ok, Err}
+use Rattle.std.specs.Prelude.{ℕ, ◌≡◌, Bool, true, false, if◌then◌else◌, List, [], Some, None, Result, Ok, Err}
 use Rattle.co_base.specs.declared.leaves.Leaves.{Leaves}
 use Rattle.co_base.specs.declared.mark.Mark.{Mark}
 use Rattle.co_outside.specs.declared.spot.Spot.{Spot}
@@ -45,6 +45,17 @@ IsDone (Err (Differs spot at kept read)) = ⊥
 IsDone (Err (Full spot)) = ⊥
 IsDone (Err (InUse spot)) = ⊥
 IsDone (Err Memory) = ⊥
+
+-- whether the records of a log write count: after Ok, and after a stop whose image has them
+abbrev pub counts : {A : Type 0} → Result A LogFault → Bool
+counts (Ok x) = true
+counts (Err (Device spot)) = false
+counts (Err (Stopped call stable marks)) = stable
+counts (Err (Bad spot at)) = false
+counts (Err (Differs spot at kept read)) = false
+counts (Err (Full spot)) = false
+counts (Err (InUse spot)) = false
+counts (Err Memory) = false
 
 -- the faults of a log write on the file of this spot
 abbrev pub IsOfForce : Spot → LogFault → Type 0

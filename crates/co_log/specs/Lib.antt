@@ -11,3 +11,5 @@ pub mod Scanning
 pub mod Attaching
 pub mod Current
 pub mod Rereading
+pub mod Others
+pub mod NodeFaults

@@ -1,5 +1,5 @@
 -- A log file as its writer keeps it: records, and behind them a gate that is not open.
-use Rattle.std.specs.Prelude.{◌≡◌, ℕ, ◌+◌, ◌==◌, ◌⊎◌, Bool, true, false, Option, Some, None, List, [], ◌∷◌, ◌++◌, length}
+use Rattle.std.specs.Prelude.{◌≡◌, ℕ, ◌+◌, ◌==◌, ◌⊎◌, Bool, true, false, Option, Some, None, List, [], ◌∷◌, ◌++◌, length, map}
 use Rattle.std.specs.List.{flat_map}
 use Rattle.co_frame.specs.LogText.{IsGated, gated, open_gate}
 use Rattle.co_record.specs.declared.record.Record.{Record}
@@ -10,6 +10,10 @@ use Rattle.co_record.specs.Stored.{HoldRecords}
 abbrev pub placed_from : ℕ → List Record → List (ℕ × Record)
 placed_from at [] = []
 placed_from at (item ∷ items) = (at, item) ∷ placed_from (at + length (spelling item)) items
+
+-- the records alone, oldest first
+abbrev pub records_of : List (ℕ × Record) → List Record
+records_of items = map (λ p. p.1) items
 
 -- the bytes of records, one after another
 abbrev pub spelled : List Record → List ℕ

@@ -1,9 +1,11 @@
 -- What contracts see of a log, and when it stands for a list of records.
-use Rattle.std.specs.Prelude.{ℕ, ◌≡◌, ◌≢◌, ◌<◌, ◌==◌, length, if◌then◌else◌, List, [], Option}
+use Rattle.std.specs.Prelude.{ℕ, ◌≡◌, ◌⊎◌, ◌≤◌, ◌<◌, ◌==◌, length, if◌then◌else◌, List, [], Option}
+use Rattle.co_base.specs.Nodes.{node_byte}
 use Rattle.co_base.specs.declared.node.Node.{Node}
 use Rattle.co_outside.specs.declared.spot.Spot.{Spot}
 use Rattle.co_outside.specs.Home.{File}
 use Rattle.co_disk.specs.DiskModel.{read_of}
+use Rattle.co_frame.specs.LogText.{most_log_bytes}
 use Rattle.co_disk.specs.DiskView.{DiskView}
 use Rattle.co_disk.specs.Homes.{Agrees}
 use Rattle.co_record.specs.declared.record.Record.{Record}
@@ -29,11 +31,43 @@ pub record IsLive (log : LogView) (items : List (ℕ × Record)) : Type 0 where
   pub still : log.current.state.pending ≡ []
   pub ends : EndsAt log.current.state.stable log.gate items
 
--- The home's files of a log are what reads of its disks give, where the home tells them, and they are two.
-pub record IsHeld {H : Type 0} (file : H → Spot → Option File) (reach : H → Spot → ℕ) (home : H) (log : LogView) : Type 0 where
-  pub apart : log.current.spot ≢ log.spare.spot
-  pub current : Agrees (file home log.current.spot) (reach home log.current.spot) (read_of log.current.state)
-  pub spare : Agrees (file home log.spare.spot) (reach home log.spare.spot) (read_of log.spare.state)
+-- what reads of a disk give is within the most bytes of a file
+abbrev pub IsShort : DiskView → Type 0
+IsShort disk = length (read_of disk.state) ≤ most_log_bytes
+
+-- the two files of a node
+abbrev pub spot_of : Node → ℕ → Spot
+spot_of node part = record { node = node_byte node; part = part }
+
+-- the files of a log are the two of its node
+abbrev pub HasSpots : LogView → Type 0
+HasSpots log =
+    ((log.current.spot ≡ spot_of log.node 0) × (log.spare.spot ≡ spot_of log.node 1))
+    ⊎ ((log.current.spot ≡ spot_of log.node 1) × (log.spare.spot ≡ spot_of log.node 0))
+
+-- The home's files of a log are those of its node, and what reads of its disks give, where the home tells them.
+pub record IsHeld (file : Spot → Option File) (reach : Spot → ℕ) (log : LogView) : Type 0 where
+  pub spots : HasSpots log
+  pub current : Agrees (file log.current.spot) (reach log.current.spot) (read_of log.current.state)
+  pub spare : Agrees (file log.spare.spot) (reach log.spare.spot) (read_of log.spare.state)
+
+-- a record that may be forced: a prepare, a commit, an abort or an end
+abbrev pub IsForcible : Record → Type 0
+IsForcible (log.Header node generation) = ⊥
+IsForcible (log.Prepare txn coord count reads writes) = Unit {0}
+IsForcible (log.Commit txn members) = Unit {0}
+IsForcible (log.Abort txn) = Unit {0}
+IsForcible (log.End txn) = Unit {0}
+IsForcible (log.Checkpoint rows undos committed) = ⊥
+
+-- a record that may wait for the next log write: an abort, an end, or a prepare before the commit that is forced
+abbrev pub MayWait : Record → Type 0
+MayWait (log.Header node generation) = ⊥
+MayWait (log.Prepare txn coord count reads writes) = Unit {0}
+MayWait (log.Commit txn members) = ⊥
+MayWait (log.Abort txn) = Unit {0}
+MayWait (log.End txn) = Unit {0}
+MayWait (log.Checkpoint rows undos committed) = ⊥
 
 -- a header is written by the log itself
 abbrev pub IsHeader : Record → Type 0

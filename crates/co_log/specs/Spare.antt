@@ -4,7 +4,8 @@ use Rattle.co_base.specs.declared.leaves.Leaves.{Leaves}
 use Rattle.co_base.specs.declared.mark.Mark.{Mark}
 use Rattle.co_base.specs.declared.mark.MarkKind.TheVariants as kind
 use Rattle.co_record.specs.declared.record.Record.{Record}
-use Rattle.co_record.specs.declared.record.Record.TheVariants.{Header}
+use Rattle.co_record.specs.declared.record.Record.TheVariants.{Header, Prepare, Commit, Abort, End, Checkpoint}
+use Rattle.co_record.specs.Spelling.{IsWritable, AreInKeyOrder}
 use Rattle.co_log.specs.declared.fault.LogFault.{LogFault}
 use Rattle.co_log.specs.declared.fault.LogFault.TheVariants.{Device, Stopped, Bad, Differs, Full, InUse, Memory}
 use Rattle.co_record.specs.Gate.{begins_closed, closes_spare, batch_is_stable}
@@ -52,6 +53,15 @@ filling log items = Header log.node (log.generation + 1) ∷ items
 abbrev pub IsOverfull : LogView → List Record → Type 0
 IsOverfull log items = IsTooLong 0 (filling log items) ⊎ (log.generation ≡ 4294967295)
 
+-- A record that a spare may be filled with: one that is written, where its lists are not too long to be counted.
+abbrev pub IsFillable : Record → Type 0
+IsFillable (Header node generation) = ⊥
+IsFillable (Prepare txn coord count reads writes) = IsWritable (Prepare txn coord count reads writes)
+IsFillable (Commit txn members) = IsWritable (Commit txn members)
+IsFillable (Abort txn) = Unit {0}
+IsFillable (End txn) = Unit {0}
+IsFillable (Checkpoint rows undos committed) = AreInKeyOrder undos
+
 -- the mark of a filled spare
 abbrev pub filling_mark : LogView → Mark
 filling_mark log = record { node = log.node; kind = kind.Checkpoint; number = log.generation + 1 }
@@ -70,7 +80,13 @@ pub record IsFilled (log after : LogView) (items : List Record) : Type 0 where
   pub generation : after.generation ≡ log.generation + 1
   pub waiting : after.waiting ≡ []
   pub disarmed : after.stop ≡ None
+  pub opens : begins_closed after.spare.state.stable ≡ false
   pub live : IsLive after (placed_from 5 (filling log items))
+
+-- the records of the current file after a filling that counts, or does not
+abbrev pub filled_items : Bool → LogView → List (ℕ × Record) → List Record → List (ℕ × Record)
+filled_items true log items more = placed_from 5 (filling log more)
+filled_items false log items more = items
 
 -- The log after a stopped filling that does not count: the current file is the old one.
 pub record IsUnfilled (log after : LogView) : Type 0 where

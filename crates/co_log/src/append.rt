@@ -7,6 +7,8 @@ ghost use Rattle.co_disk.specs.Homes.{Agrees, IsClean, RestStays, HasFailed};
 ghost use Rattle.co_record.specs.declared.record.Record.{Record};
 ghost use Rattle.co_record.specs.Spelling.{IsWritable, IsSpelled};
 ghost use Rattle.co_log.specs.Appending.{IsEnding, IsTooLong, IsOfAppend};
+ghost use Rattle.co_log.specs.Attaching.{IsWithin};
+ghost use Rattle.co_log.specs.LogView.{IsShort};
 ghost use Rattle.co_log.specs.BatchWrite.{closed_batch};
 ghost use Rattle.co_log.specs.LogFile.{spelled, opened, EndsAt, OldOrBoth};
 
@@ -112,6 +114,7 @@ pub(crate) fn append<H: Home>(
 ) -> Result<Ending, LogFault>
     requires agrees { Agrees (H.file home.old disk.old.spot) (H.reach home.old disk.old.spot) (read_of disk.old.state) }
     requires stable { disk.old.state.pending ≡ [] }
+    requires read { IsShort disk.old }
     requires stop { IfSome stop.old (λ s. (1 ≤ s.call) × (s.call ≤ 4)) }
     requires ends { (kept : List (ℕ × Record)) × EndsAt disk.old.state.stable gate kept }
     requires some { 0 < length (front.now ++ back.now) }
@@ -130,9 +133,12 @@ pub(crate) fn append<H: Home>(
     ensures short { OnOk result (gate + 6 + length (spelled (front.now ++ back.now)) ≤ 268435456) }
     ensures told { (kept : List (ℕ × Record)) → EndsAt disk.old.state.stable gate kept → OnErr result ((f : File) → H.file home.new disk.old.spot ≡ Some f → OldOrBoth f.bytes gate kept (front.now ++ back.now)) }
     ensures memory { (kept : List (ℕ × Record)) → EndsAt disk.old.state.stable gate kept → IsErrOf result LogFault.Memory → (f : File) → H.file home.new disk.old.spot ≡ Some f → EndsAt f.bytes gate kept }
+    ensures read { IsShort disk.new }
+    ensures within { IsWithin 268435456 (H.file home.new disk.old.spot) }
     ensures faults { IfErr result (IsOfAppend disk.old.spot) }
     ensures rest { RestStays H.file H.reach H.entered H.faults disk.old.spot home.old home.new }
     ensures device { IsErrOf result (LogFault.Device disk.old.spot) → HasFailed H.faults H.last_failed disk.old.spot home.old home.new }
+    ensures quiet { (IsErrOf result (LogFault.Device disk.old.spot) → ⊥) → H.faults home.new ≡ H.faults home.old }
 {
     let batch = batch_of(alloc, disk.spot(), gate, front, back)?;
     let next = gate + batch.len() as u32;

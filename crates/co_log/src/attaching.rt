@@ -5,7 +5,8 @@ ghost use Rattle.co_outside.specs.declared.spot.Spot.{Spot};
 ghost use Rattle.co_disk.specs.DiskModel.{read_of};
 ghost use Rattle.co_disk.specs.Homes.{Agrees, RestStays, HasFailed};
 ghost use Rattle.co_log.specs.Fresh.{IsOfDevice};
-ghost use Rattle.co_log.specs.Attaching.{built, spot_of, used_of, IsAttached, AreTwins, IsBadPair, IsLonger, IsWithin, IsToldAs, IsOfAttach};
+ghost use Rattle.co_log.specs.Attaching.{built, used_of, IsAttached, AreTwins, IsBadPair, IsLonger, IsWithin, IsToldAs, IsOfAttach};
+ghost use Rattle.co_log.specs.LogView.{IsShort};
 ghost use Rattle.co_log.specs.Scanning.{IsLogFile};
 
 use crate::fault::LogFault;
@@ -24,12 +25,13 @@ fn open_file<H: Home>(alloc: Global, home: &mut H, spot: Spot) -> Result<Option<
     ensures long { IfOk result (λ o. IfNone o ((bytes : List ℕ) × H.gives home.old spot 268435457 bytes × (268435456 < length bytes))) }
     ensures told_long { IfOk result (λ o. IfNone o (IsLonger 268435456 (H.file home.old spot))) }
     ensures told { IfOk result (λ o. IfSome o (λ d. IsToldAs spot (H.file home.old spot) d)) }
-    ensures short { IfOk result (λ o. IfSome o (λ d. length d.state.stable ≤ 268435456)) }
+    ensures short { IfOk result (λ o. IfSome o IsShort) }
     ensures told_short { IfOk result (λ o. IfSome o (λ d. IsWithin 268435456 (H.file home.old spot))) }
     ensures file { H.file home.new spot ≡ H.file home.old spot }
     ensures rest { RestStays H.file H.reach H.entered H.faults spot home.old home.new }
     ensures faults { IfErr result (IsOfDevice spot) }
     ensures device { IsErrOf result (LogFault.Device spot) → HasFailed H.faults H.last_failed spot home.old home.new }
+    ensures quiet { (IsErrOf result (LogFault.Device spot) → ⊥) → H.faults home.new ≡ H.faults home.old }
 {
     match Disk::attach(alloc, home, spot) {
         Ok(disk) => Ok(Some(disk)),
@@ -43,6 +45,7 @@ fn open_file<H: Home>(alloc: Global, home: &mut H, spot: Spot) -> Result<Option<
 
 /// The log of a node over two files.
 fn build(alloc: Global, node: Node, current: Disk, spare: Disk, gate: u32, generation: u32) -> Log
+    requires { IsShort current × IsShort spare }
     ensures { result ≡ built node current spare gate generation }
 {
     Log {
@@ -67,6 +70,7 @@ fn choose(
     in_b: Found,
 ) -> Result<Log, LogFault>
     requires stable { (a.state.pending ≡ []) × (b.state.pending ≡ []) }
+    requires short { IsShort a × IsShort b }
     requires a { IsLogFile node a.state.stable in_a.gate in_a.generation }
     requires b { IsLogFile node b.state.stable in_b.gate in_b.generation }
     ensures chosen { IfOk result (IsAttached node a b) }
@@ -96,6 +100,7 @@ fn choose(
 /// else place 0 of the second one where both have one generation.
 fn read_both(alloc: Global, node: Node, a: Disk, b: Disk) -> Result<Log, LogFault>
     requires stable { (a.state.pending ≡ []) × (b.state.pending ≡ []) }
+    requires short { IsShort a × IsShort b }
     ensures chosen { IfOk result (IsAttached node a b) }
     ensures bad { IfErr result (IsBadPair node a b) }
 {
@@ -122,7 +127,9 @@ fn is_used(file: &Option<Disk>) -> bool
 
 impl Log {
     ghost use Rattle.co_disk.specs.DiskView.{DiskView};
-    ghost use Rattle.co_log.specs.LogView.{IsHeld};
+    ghost use Rattle.co_log.specs.Fresh.{IsFresh};
+    ghost use Rattle.co_log.specs.LogView.{IsHeld, spot_of};
+    ghost use Rattle.co_log.specs.Others.{OtherNodesStay};
 
     /// Reads both files of a node, that of part `a` first, and chooses the current one: the one with a batch,
     /// and of two such files the one with the greater generation; part `a` where neither has one. Writes
@@ -131,8 +138,8 @@ impl Log {
     /// Part `a` is named before part `b`. `InUse` comes where the log is not resumed and a file has more than
     /// one byte. Where it is resumed, `Full` comes where a file has more than 268,435,456 bytes; then `Bad`
     /// where a file is no log text, a record is not in the grammar, a first record is no header of the node,
-    /// or two files have one generation, at place 0 of part `b`. `Device` comes only where the home failed,
-    /// `Memory` where there was none.
+    /// or two files have one generation, at place 0 of part `b`. `Device` comes where the home failed, and only
+    /// there; `Memory` where there was none. A log that is not resumed is fresh, of every home.
     pub fn attach<H: Home>(
         alloc: Global,
         home: &mut H,
@@ -143,16 +150,15 @@ impl Log {
         ensures attached { IfOk result (λ log. (a : DiskView) × (b : DiskView) × IsToldAs (spot_of node 0) (H.file home.old (spot_of node 0)) a
             × IsToldAs (spot_of node 1) (H.file home.old (spot_of node 1)) b × IsAttached node a b log) }
         ensures unused { resume ≡ false → OnOk result (IsWithin 1 (H.file home.old (spot_of node 0)) × IsWithin 1 (H.file home.old (spot_of node 1))) }
+        ensures fresh { resume ≡ false → IfOk result IsFresh }
         ensures short { OnOk result (IsWithin 268435456 (H.file home.old (spot_of node 0)) × IsWithin 268435456 (H.file home.old (spot_of node 1))) }
-        ensures held { IfOk result (λ log. IsHeld H.file H.reach home.new log) }
+        ensures held { IfOk result (λ log. IsHeld (H.file home.new) (H.reach home.new) log) }
         ensures faults { IfErr result (IsOfAttach node resume (H.file home.old (spot_of node 0)) (H.file home.old (spot_of node 1))) }
         ensures file_a { H.file home.new (spot_of node 0) ≡ H.file home.old (spot_of node 0) }
         ensures file_b { H.file home.new (spot_of node 1) ≡ H.file home.old (spot_of node 1) }
-        ensures others { (s : Spot) → s ≢ spot_of node 0 → s ≢ spot_of node 1 → H.file home.new s ≡ H.file home.old s }
-        ensures reaches { (s : Spot) → s ≢ spot_of node 0 → s ≢ spot_of node 1 → H.reach home.new s ≡ H.reach home.old s }
-        ensures entered { H.entered home.new ≡ H.entered home.old }
-        ensures count { H.faults home.old ≤ H.faults home.new }
+        ensures rest { OtherNodesStay H.file H.reach H.entered H.faults node home.old home.new }
         ensures device { (spot : Spot) → IsErrOf result (LogFault.Device spot) → HasFailed H.faults H.last_failed spot home.old home.new }
+        ensures quiet { ((spot : Spot) → IsErrOf result (LogFault.Device spot) → ⊥) → H.faults home.new ≡ H.faults home.old }
     {
         let spot_a = Spot {
             node: node.byte(),

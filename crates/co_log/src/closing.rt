@@ -7,6 +7,7 @@ ghost use Rattle.co_disk.specs.Homes.{Agrees, IsClean, RestStays, HasFailed};
 ghost use Rattle.co_frame.specs.LogText.{IsLogText};
 ghost use Rattle.co_log.specs.Fresh.{IsOfDevice};
 ghost use Rattle.co_log.specs.LogFile.{EndsAt};
+ghost use Rattle.co_log.specs.LogView.{IsShort};
 
 use crate::fault::LogFault;
 use crate::log::Log;
@@ -23,15 +24,18 @@ use co_record::begins_closed;
 pub(crate) fn close_unmade<H: Home>(disk: &mut Disk, home: &mut H) -> Result<(), LogFault>
     requires agrees { Agrees (H.file home.old disk.old.spot) (H.reach home.old disk.old.spot) (read_of disk.old.state) }
     requires stable { disk.old.state.pending ≡ [] }
+    requires short { IsShort disk.old }
     requires none { IsLogText disk.old.state.stable [] }
     ensures spot { disk.new.spot ≡ disk.old.spot }
     ensures ends { OnOk result (EndsAt disk.new.state.stable 0 []) }
     ensures stable { OnOk result (disk.new.state.pending ≡ []) }
     ensures agrees { OnOk result (Agrees (H.file home.new disk.old.spot) (H.reach home.new disk.old.spot) (read_of disk.new.state)) }
     ensures told { OnErr result ((f : File) → H.file home.new disk.old.spot ≡ Some f → length f.bytes ≤ 1) }
+    ensures short { IsShort disk.new }
     ensures faults { IfErr result (IsOfDevice disk.old.spot) }
     ensures rest { RestStays H.file H.reach H.entered H.faults disk.old.spot home.old home.new }
     ensures device { IsErrOf result (LogFault.Device disk.old.spot) → HasFailed H.faults H.last_failed disk.old.spot home.old home.new }
+    ensures quiet { (IsErrOf result (LogFault.Device disk.old.spot) → ⊥) → H.faults home.new ≡ H.faults home.old }
 {
     if begins_closed(disk.bytes()) {
         return Ok(());
@@ -51,24 +55,28 @@ impl Log {
     ghost use Rattle.co_log.specs.Current.{IsCurrentOf, IsOrdered};
     ghost use Rattle.co_log.specs.Forcing.{IsDone, IsOfForce};
     ghost use Rattle.co_log.specs.LogView.{IsHeld};
+    ghost use Rattle.co_log.specs.Others.{BothWithin};
     ghost use Rattle.co_log.specs.Spare.{IsClosing, IsSpareImage};
 
     /// Closes the first gate of the spare file, in two device calls: it writes `00` there and syncs. The
     /// current file is not touched, and whatever the answer is, it stays the current one.
     ///
-    /// `Stopped` comes at the armed device call; `Device` only where the home failed.
+    /// `Stopped` comes at the armed device call; `Device` where the home failed, and only there. Both files are within
+    /// 268,435,456 bytes then.
     pub fn close_spare<H: Home>(&mut self, home: &mut H) -> Result<(), LogFault>
-        requires held { IsHeld H.file H.reach home.old self.old }
+        requires held { IsHeld (H.file home.old) (H.reach home.old) self.old }
         requires still { self.old.spare.state.pending ≡ [] }
         requires unclosed { begins_closed self.old.spare.state.stable ≡ false }
         ensures closing { IsClosing self.old self.new result }
-        ensures held { IsDone result → IsHeld H.file H.reach home.new self.new }
+        ensures held { IsDone result → IsHeld (H.file home.new) (H.reach home.new) self.new }
         ensures clean { IsDone result → IsClean (H.file home.new self.old.spare.spot) }
         ensures told { (f : File) → H.file home.new self.old.spare.spot ≡ Some f → IsSpareImage self.old.spare.state.stable f.bytes }
         ensures current { (items : List (ℕ × Record)) → IsOrdered self.old items → (c s : File) → H.file home.new self.old.current.spot ≡ Some c → H.file home.new self.old.spare.spot ≡ Some s → IsCurrentOf self.old.node self.old.generation c.bytes s.bytes items }
+        ensures short { BothWithin (H.file home.new) self.old }
         ensures faults { IfErr result (IsOfForce self.old.spare.spot) }
         ensures rest { RestStays H.file H.reach H.entered H.faults self.old.spare.spot home.old home.new }
         ensures device { IsErrOf result (LogFault.Device self.old.spare.spot) → HasFailed H.faults H.last_failed self.old.spare.spot home.old home.new }
+        ensures quiet { (IsErrOf result (LogFault.Device self.old.spare.spot) → ⊥) → H.faults home.new ≡ H.faults home.old }
     {
         let stop = self.stop.take();
         arm_for(&mut self.spare, stop);

@@ -77,6 +77,55 @@ impl<T: Drop> From<AllocFailed<T>> for LogFault {
     }
 }
 
+/// A log write that was stopped at its armed device call.
+#[derive(Debug, Drop)]
+pub struct StoppedWrite {
+    /// The number of the device call within its log write, counted from 1.
+    pub call: u8,
+    /// Whether the batch counts: the image that is left has its gate open.
+    pub stable: bool,
+    /// What the call would have told, where the batch counts, and nothing else.
+    pub marks: Marks,
+}
+
+impl LogFault {
+    ghost use Rattle.co_log.specs.NodeFaults.{IsOfNode, IsSplit};
+
+    /// Takes the fault of a call other than `attach` apart: a stop, from which the node goes on, or a fault of the
+    /// node, with which a run ends.
+    pub fn split(self) -> Result<StoppedWrite, NodeFault>
+        requires { IsOfNode self }
+        ensures { IsSplit self result }
+    {
+        match self {
+            LogFault::Stopped {
+                call,
+                stable,
+                marks,
+            } => Ok(StoppedWrite {
+                call,
+                stable,
+                marks,
+            }),
+            LogFault::Device { spot } => Err(NodeFault::Device { spot }),
+            LogFault::Differs {
+                spot,
+                at,
+                kept,
+                read,
+            } => Err(NodeFault::Differs {
+                spot,
+                at,
+                kept,
+                read,
+            }),
+            LogFault::Full { spot } => Err(NodeFault::Full { spot }),
+            LogFault::Memory => Err(NodeFault::Memory),
+            LogFault::Bad { .. } | LogFault::InUse { .. } => unreachable!(),
+        }
+    }
+}
+
 /// Why a call of a node on its log did not do its work. After each of them a run ends.
 #[derive(Debug, Drop, Error)]
 pub enum NodeFault {

@@ -1,5 +1,7 @@
 //! What holds of every log write.
-ghost use Rattle.std.specs.Prelude.{ℕ, List, Option, ◌≡◌, ◌<◌, ◌≤◌, true, false, [], ◌∷◌, ◌⊎◌, Result, length};
+ghost use Rattle.std.specs.Prelude.{ℕ, List, Option, Some, None, Bool, ◌≡◌, ◌≢◌, ◌<◌, ◌≤◌, true, false, [], ◌∷◌, ◌++◌, ◌⊎◌, Result, length, if◌then◌else◌};
+ghost use Rattle.co_outside.specs.Home.{File};
+ghost use Rattle.co_outside.specs.declared.spot.Spot.{Spot};
 ghost use Rattle.std.specs.List.{AllByRecursion};
 ghost use Rattle.co_base.specs.declared.leaves.Leaves.{Leaves};
 ghost use Rattle.co_disk.specs.DiskModel.{IsImage, IsChosen, stable_disk, after_write};
@@ -14,13 +16,15 @@ ghost use Rattle.co_base.specs.Nodes.{IsValidNode};
 ghost use Rattle.co_base.specs.declared.mark.Mark.{Mark};
 ghost use Rattle.co_log.specs.declared.fault.LogFault.{LogFault};
 ghost use Rattle.co_log.specs.Current.{IsCurrentOf, IsOrdered};
-ghost use Rattle.co_log.specs.Forcing.{IsForced, IsDone};
-ghost use Rattle.co_log.specs.Fresh.{IsFresh, IsMade, header_alone};
-ghost use Rattle.co_log.specs.Spare.{IsClosing, IsFilling};
-ghost use Rattle.co_log.specs.LogView.{LogView, IsLive};
+ghost use Rattle.co_log.specs.Forcing.{IsForced, IsDone, IsOfForce, counts};
+ghost use Rattle.co_log.specs.Fresh.{IsFresh, IsMade, IsOfDevice, header_alone};
+ghost use Rattle.co_log.specs.NodeFaults.{IsOfNode};
+ghost use Rattle.co_log.specs.Spare.{IsClosing, IsFilling, filling, filled_items};
+ghost use Rattle.co_log.specs.LogView.{LogView, IsLive, IsHeld, HasSpots, spot_of};
+ghost use Rattle.co_log.specs.Others.{OtherFilesStay};
 ghost use Rattle.co_log.specs.BatchWrite.{closed_batch, batch_pending, gate_pending, disk_at, disk_after};
-ghost use Rattle.co_record.specs.Gate.{batch_is_stable};
-ghost use Rattle.co_log.specs.LogFile.{spelled, EndsAt, EndsAfter, OldOrBoth};
+ghost use Rattle.co_record.specs.Gate.{batch_is_stable, begins_closed};
+ghost use Rattle.co_log.specs.LogFile.{spelled, records_of, next_items, EndsAt, EndsAfter, OldOrBoth};
 ghost use Rattle.co_log.specs.Scanning.{IsLogFile, IsBadAt};
 
 /// A file that ends at a gate that is not open has the records in front of it; and it has no batch where
@@ -56,17 +60,45 @@ pub fn attached_logs_stand()
 
 /// The two files of a log stay in order: the current one begins with a header of its generation, and the
 /// spare has no batch or a smaller generation. A log that is attached or made has its files so, and after
-/// each call that did its work or was stopped they are so again.
+/// each call that did its work or was stopped they are so again, with exactly these records. An attached log
+/// has nothing waiting, and no stop is armed.
 pub fn files_stay_in_order()
     ensures attached { (node : Node) (a b : DiskView) (log : LogView) → IsValidNode node → a.state.pending ≡ [] → b.state.pending ≡ [] → IsAttached node a b log →
         (IsFresh log × IsValidNode log.node) ⊎ ((items : List (ℕ × Record)) × IsOrdered log items) }
     ensures made { (log after : LogView) → IsFresh log → IsValidNode log.node → IsMade log after → IsOrdered after (header_alone log.node) }
     ensures forced { (log after : LogView) (items : List (ℕ × Record)) (more : List Record) (result : Result (List Mark) LogFault) → IsOrdered log items →
-        IsForced log items more after result → IsDone result → (later : List (ℕ × Record)) × IsOrdered after later }
+        IsForced log items more after result → IsDone result → IsOrdered after (next_items (counts result) log.gate items more) }
     ensures closed { (log after : LogView) (items : List (ℕ × Record)) (result : Result (Unit {0}) LogFault) → IsOrdered log items →
         IsClosing log after result → IsDone result → IsOrdered after items }
     ensures filled { (log after : LogView) (items : List (ℕ × Record)) (more : List Record) (result : Result Mark LogFault) → IsOrdered log items →
-        IsFilling log more after result → IsDone result → (later : List (ℕ × Record)) × IsOrdered after later }
+        IsFilling log more after result → IsDone result → IsOrdered after (filled_items (counts result) log items more) }
+    ensures unarmed { (node : Node) (a b : DiskView) (log : LogView) → IsAttached node a b log → (log.node ≡ node) × (log.waiting ≡ []) × (log.stop ≡ None) }
+{}
+
+/// The records after a log write, oldest first: where it counts, those before it and the new ones, or after a
+/// filling a header and the new ones; and else those before it.
+pub fn records_are_added()
+    ensures forced { (stable : Bool) (gate : ℕ) (items : List (ℕ × Record)) (more : List Record) →
+        records_of (next_items stable gate items more) ≡ (if stable then records_of items ++ more else records_of items) }
+    ensures filled { (stable : Bool) (log : LogView) (items : List (ℕ × Record)) (more : List Record) →
+        records_of (filled_items stable log items more) ≡ (if stable then filling log more else records_of items) }
+{}
+
+/// The told files of a log that is in order are current as the log has them, and the current one begins with an
+/// open gate.
+pub fn held_files_are_current()
+    ensures current { (file : Spot → Option File) (reach : Spot → ℕ) (log : LogView) (items : List (ℕ × Record)) (c s : File) → IsHeld file reach log → IsOrdered log items →
+        file log.current.spot ≡ Some c → file log.spare.spot ≡ Some s → IsCurrentOf log.node log.generation c.bytes s.bytes items }
+    ensures opens { (log : LogView) (items : List (ℕ × Record)) → IsLive log items → begins_closed log.current.state.stable ≡ false }
+{}
+
+/// A call on one log leaves the log of every other node held: the files of a log are two, and those of its node, and
+/// no file is of two nodes.
+pub fn logs_leave_each_other()
+    ensures two { (log : LogView) → HasSpots log → log.current.spot ≢ log.spare.spot }
+    ensures own { (log : LogView) (s : Spot) → HasSpots log → s ≢ spot_of log.node 0 → s ≢ spot_of log.node 1 → (s ≢ log.current.spot) × (s ≢ log.spare.spot) }
+    ensures held { (node : Node) (file after : Spot → Option File) (reach further : Spot → ℕ) (log : LogView) → IsValidNode node → IsValidNode log.node → log.node ≢ node →
+        OtherFilesStay node file after reach further → IsHeld file reach log → IsHeld after further log }
 {}
 
 /// A start over two files of which one is current attaches that one as the current file, with its generation
@@ -90,4 +122,10 @@ pub fn files_are_judged_once()
     ensures records { (node : Node) (g h : ℕ) (a b : List ℕ) (items more : List (ℕ × Record)) → IsCurrentOf node g a b items → IsCurrentOf node h a b more → items ≡ more }
     ensures current { (node : Node) (g h : ℕ) (a b : List ℕ) (items more : List (ℕ × Record)) → IsCurrentOf node g a b items → IsCurrentOf node h b a more → ⊥ }
     ensures none { (node : Node) (g : ℕ) (a b : List ℕ) (items : List (ℕ × Record)) → IsLogText a [] → IsCurrentOf node g a b items → ⊥ }
+{}
+
+/// The faults of a log write and of making are those that a call of a node splits.
+pub fn faults_are_split()
+    ensures written { (spot : Spot) (fault : LogFault) → IsOfForce spot fault → IsOfNode fault }
+    ensures made { (spot : Spot) (fault : LogFault) → IsOfDevice spot fault → IsOfNode fault }
 {}

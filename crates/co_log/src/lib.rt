@@ -4,6 +4,7 @@
 mod append;
 mod attaching;
 mod closing;
+mod counting;
 mod fault;
 mod laws;
 mod log;
@@ -15,9 +16,10 @@ mod spare;
 mod stop;
 mod writing;
 
-pub use fault::{LogFault, NodeFault};
+pub use fault::{LogFault, NodeFault, StoppedWrite};
 pub use laws::{
-    attached_logs_stand, files_are_judged_once, files_stay_in_order, gates_end_files,
-    images_are_old_or_new, starts_find_the_current_file,
+    attached_logs_stand, faults_are_split, files_are_judged_once, files_stay_in_order,
+    gates_end_files, held_files_are_current, images_are_old_or_new, logs_leave_each_other,
+    records_are_added, starts_find_the_current_file,
 };
 pub use log::Log;

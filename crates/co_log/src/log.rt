@@ -38,13 +38,13 @@ impl Model for Log {
     ghost use Rattle.std.specs.Prelude.{◌≤◌, IfSome};
     ghost use Rattle.std.specs.List.{AllByRecursion};
     ghost use Rattle.co_record.specs.Spelling.{IsWritable};
-    ghost use Rattle.co_log.specs.LogView.{LogView};
+    ghost use Rattle.co_log.specs.LogView.{LogView, IsShort};
 
     ghost Value = { LogView };
 
     ghost view = { λ l. record { node = l.node; current = l.current; spare = l.spare; gate = l.gate; generation = l.generation; waiting = l.waiting.items; stop = l.stop } };
 
-    ghost invariant = { λ l. AllByRecursion IsWritable l.waiting.items × IfSome l.stop (λ s. (1 ≤ s.call) × (s.call ≤ 4)) };
+    ghost invariant = { λ l. AllByRecursion IsWritable l.waiting.items × IfSome l.stop (λ s. (1 ≤ s.call) × (s.call ≤ 4)) × IsShort l.current × IsShort l.spare };
 }
 
 impl Log {
@@ -53,7 +53,9 @@ impl Log {
     ghost use Rattle.co_record.specs.Gate.{begins_closed};
     ghost use Rattle.co_log.specs.Forcing.{IsForced, IsDone, IsOfForce};
     ghost use Rattle.co_log.specs.LogFile.{EndsAt, OldOrBoth};
-    ghost use Rattle.co_log.specs.LogView.{IsLive, IsHeld, IsHeader, lengths_of};
+    ghost use Rattle.co_log.specs.LogView.{IsLive, IsHeld, IsForcible, MayWait, lengths_of};
+    ghost use Rattle.co_log.specs.Current.{IsOrdered, IsCurrentForced};
+    ghost use Rattle.co_log.specs.Others.{BothWithin};
 
     /// The lengths of both files in bytes, that of part `a` first.
     pub fn lengths(&self) -> (u32, u32)
@@ -90,11 +92,11 @@ impl Log {
         Views::new(self.current.bytes())
     }
 
-    /// Keeps a record, which is none but an abort or an end record at most places, waiting for the next
-    /// log write. Want of memory leaves the log as it was.
+    /// Keeps a record waiting for the next log write: an abort, an end, or a prepare before the commit that is
+    /// forced. Want of memory leaves the log as it was.
     pub fn later(&mut self, item: Record) -> Result<(), AllocError>
         requires writable { IsWritable item }
-        requires header { IsHeader item → ⊥ }
+        requires kind { MayWait item }
         ensures ok { OnOk result (self.new ≡ record self.old { waiting = self.old.waiting ++ item ∷ [] }) }
         ensures err { OnErr result (self.new ≡ self.old) }
     {
@@ -125,28 +127,32 @@ impl Log {
         begins_closed(self.spare.bytes())
     }
 
-    /// Appends one batch in one log write: the waiting records in order, and then this one. Its four device
-    /// calls are: write the batch with a closed gate behind it, sync, write the open gate before it, sync.
+    /// Appends one batch in one log write: the waiting records in order, and then this one, which is a prepare, a
+    /// commit, an abort or an end. Its four device calls are: write the batch with a closed gate behind it, sync, write the open gate before it, sync.
     ///
     /// `Full` comes where the file would have more than 268,435,456 bytes, and changes nothing; `Stopped` at
-    /// the armed device call; `Device` only where the home failed; `Memory` before or in the first device
-    /// call, and the file has the old records alone then.
+    /// the armed device call; `Device` where the home failed, and only there; `Memory` before or in the first
+    /// device call, and the file has the old records alone then. Whatever the answer is, the file stays the current
+    /// one, and both are within 268,435,456 bytes.
     pub fn force<H: Home>(&mut self, home: &mut H, item: Record) -> Result<Marks, LogFault>
-        requires held { IsHeld H.file H.reach home.old self.old }
+        requires held { IsHeld (H.file home.old) (H.reach home.old) self.old }
         requires live { (items : List (ℕ × Record)) × IsLive self.old items }
         requires writable { IsWritable item }
-        requires header { IsHeader item → ⊥ }
+        requires kind { IsForcible item }
         ensures forced { (items : List (ℕ × Record)) → IsLive self.old items → IsForced self.old items (self.old.waiting ++ item ∷ []) self.new result }
-        ensures held { IsDone result → IsHeld H.file H.reach home.new self.new }
+        ensures held { IsDone result → IsHeld (H.file home.new) (H.reach home.new) self.new }
         ensures clean { IsDone result → IsClean (H.file home.new self.old.current.spot) }
         ensures full { IsErrOf result (LogFault.Full self.old.current.spot) → IsTooLong self.old.gate (self.old.waiting ++ item ∷ []) }
         ensures too_long { IsTooLong self.old.gate (self.old.waiting ++ item ∷ []) → IsErrOf result (LogFault.Full self.old.current.spot) ⊎ IsErrOf result LogFault.Memory }
         ensures untouched { IsTooLong self.old.gate (self.old.waiting ++ item ∷ []) → (self.new ≡ self.old) × (home.new ≡ home.old) }
         ensures told { (items : List (ℕ × Record)) → IsLive self.old items → (f : File) → H.file home.new self.old.current.spot ≡ Some f → IsDone result ⊎ OldOrBoth f.bytes self.old.gate items (self.old.waiting ++ item ∷ []) }
         ensures memory { (items : List (ℕ × Record)) → IsLive self.old items → IsErrOf result LogFault.Memory → (f : File) → H.file home.new self.old.current.spot ≡ Some f → EndsAt f.bytes self.old.gate items }
+        ensures current { (items : List (ℕ × Record)) → IsOrdered self.old items → (c s : File) → H.file home.new self.old.current.spot ≡ Some c → H.file home.new self.old.spare.spot ≡ Some s → IsCurrentForced self.old items (self.old.waiting ++ item ∷ []) c.bytes s.bytes result }
+        ensures short { BothWithin (H.file home.new) self.old }
         ensures faults { IfErr result (IsOfForce self.old.current.spot) }
         ensures rest { RestStays H.file H.reach H.entered H.faults self.old.current.spot home.old home.new }
         ensures device { IsErrOf result (LogFault.Device self.old.current.spot) → HasFailed H.faults H.last_failed self.old.current.spot home.old home.new }
+        ensures quiet { (IsErrOf result (LogFault.Device self.old.current.spot) → ⊥) → H.faults home.new ≡ H.faults home.old }
     {
         let last = [item];
         let told = marks(self.alloc, self.node, self.waiting.as_slice(), &last)?;

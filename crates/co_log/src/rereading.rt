@@ -19,6 +19,7 @@ fn reread<H: Home>(disk: &mut Disk, home: &mut H) -> Result<(), LogFault>
     ensures same { OnOk result (H.gives home.old disk.old.spot 268435457 (read_of disk.old.state)) }
     ensures rest { RestStays H.file H.reach H.entered H.faults disk.old.spot home.old home.new }
     ensures device { IsErrOf result (LogFault.Device disk.old.spot) → HasFailed H.faults H.last_failed disk.old.spot home.old home.new }
+    ensures quiet { (IsErrOf result (LogFault.Device disk.old.spot) → ⊥) → H.faults home.new ≡ H.faults home.old }
     ensures faults { IfErr result (IsOfReread (H.gives home.old disk.old.spot 268435457) (H.file home.old disk.old.spot) disk.old) }
 {
     let spot = disk.spot();
@@ -39,26 +40,25 @@ fn reread<H: Home>(disk: &mut Disk, home: &mut H) -> Result<(), LogFault>
 
 impl Log {
     ghost use Rattle.co_log.specs.LogView.{IsHeld};
+    ghost use Rattle.co_log.specs.Others.{OtherNodesStay};
 
     /// Reads both files again, that of the current one first, after a stop or a cut. Nothing of the log
     /// changes.
     ///
     /// `Differs` comes exactly where a file is not what is kept of it, with the first place that differs and both
     /// bytes there, and never over a home that tells it;
-    /// `Device` only where the home failed; `Memory` where there was none.
+    /// `Device` where the home failed, and only there; `Memory` where there was none.
     pub fn reattach<H: Home>(&mut self, home: &mut H) -> Result<(), LogFault>
-        requires held { IsHeld H.file H.reach home.old self.old }
+        requires held { IsHeld (H.file home.old) (H.reach home.old) self.old }
         ensures log { self.new ≡ self.old }
         ensures current { H.file home.new self.old.current.spot ≡ H.file home.old self.old.current.spot }
         ensures spare { H.file home.new self.old.spare.spot ≡ H.file home.old self.old.spare.spot }
-        ensures held { IsHeld H.file H.reach home.new self.new }
+        ensures held { IsHeld (H.file home.new) (H.reach home.new) self.new }
         ensures faults { IfErr result (IsOfReattach H.gives H.file H.reach H.entered H.faults self.old home.old) }
         ensures same { OnOk result (AreReread H.gives H.file H.reach H.entered H.faults self.old home.old home.new) }
-        ensures others { (s : Spot) → s ≢ self.old.current.spot → s ≢ self.old.spare.spot → H.file home.new s ≡ H.file home.old s }
-        ensures reaches { (s : Spot) → s ≢ self.old.current.spot → s ≢ self.old.spare.spot → H.reach home.new s ≡ H.reach home.old s }
-        ensures entered { H.entered home.new ≡ H.entered home.old }
-        ensures count { H.faults home.old ≤ H.faults home.new }
+        ensures rest { OtherNodesStay H.file H.reach H.entered H.faults self.old.node home.old home.new }
         ensures device { (spot : Spot) → IsErrOf result (LogFault.Device spot) → HasFailed H.faults H.last_failed spot home.old home.new }
+        ensures quiet { ((spot : Spot) → IsErrOf result (LogFault.Device spot) → ⊥) → H.faults home.new ≡ H.faults home.old }
     {
         reread(&mut self.current, home)?;
         reread(&mut self.spare, home)?;
@@ -68,11 +68,11 @@ impl Log {
     /// A crash between events: the waiting records and the armed stop are lost. It makes no call of the
     /// home, since nothing pends between events.
     pub fn cut<H: Home>(&mut self, _home: &mut H) -> Result<(), LogFault>
-        requires held { IsHeld H.file H.reach _home.old self.old }
+        requires held { IsHeld (H.file _home.old) (H.reach _home.old) self.old }
         requires still { (self.old.current.state.pending ≡ []) × (self.old.spare.state.pending ≡ []) }
         ensures log { self.new ≡ record self.old { waiting = []; stop = None } }
         ensures home { _home.new ≡ _home.old }
-        ensures held { IsHeld H.file H.reach _home.new self.new }
+        ensures held { IsHeld (H.file _home.new) (H.reach _home.new) self.new }
         ensures ok { IsOk result }
     {
         self.waiting.clear();

@@ -8,6 +8,7 @@ ghost use Rattle.co_outside.specs.Home.{File};
 ghost use Rattle.co_disk.specs.DiskModel.{read_of};
 
 use crate::append::{Ending, append};
+use crate::counting::are_counted;
 use crate::fault::LogFault;
 use crate::log::Log;
 use crate::marks::{marks_if, one_mark};
@@ -20,8 +21,9 @@ impl Log {
     ghost use Rattle.co_record.specs.Gate.{begins_closed};
     ghost use Rattle.co_log.specs.Forcing.{IsDone, IsOfForce};
     ghost use Rattle.co_log.specs.LogFile.{EndsAt, OldOrBoth};
-    ghost use Rattle.co_log.specs.LogView.{IsHeld, IsLive, IsHeader};
-    ghost use Rattle.co_log.specs.Spare.{IsOverfull, IsFilling, filling, turned};
+    ghost use Rattle.co_log.specs.LogView.{IsHeld, IsLive};
+    ghost use Rattle.co_log.specs.Others.{BothWithin};
+    ghost use Rattle.co_log.specs.Spare.{IsOverfull, IsFilling, IsFillable, filling, turned};
     ghost use Rattle.co_log.specs.Current.{IsOrdered, IsCurrentAfter};
 
     /// Makes the spare file the current one: writes a header of the next generation and these records there
@@ -31,19 +33,19 @@ impl Log {
     /// Whatever the answer is, the old file is current with its records, or the filled one with the new ones:
     /// after Ok the filled one, and after a stop exactly where the image has its gate open.
     ///
-    /// `Full` comes where the file would have more than 268,435,456 bytes or the generation is 4,294,967,295,
-    /// and changes nothing; `Stopped` at the armed device call; `Device` only where the home failed; `Memory`
-    /// before or in the first device call, and the spare has no batch then.
+    /// `Full` comes where the file would have more than 268,435,456 bytes, as it would with a list of 4,294,967,296
+    /// elements or more, or the generation is 4,294,967,295, and changes nothing; `Stopped` at the armed device call;
+    /// `Device` where the home failed, and only there; `Memory` before or in the first device call, and the spare has
+    /// no batch then. Both files are within 268,435,456 bytes after every answer.
     pub fn fill_spare<H: Home>(&mut self, home: &mut H, items: &[Record]) -> Result<Mark, LogFault>
-        requires held { IsHeld H.file H.reach home.old self.old }
+        requires held { IsHeld (H.file home.old) (H.reach home.old) self.old }
         requires live { (items : List (ℕ × Record)) × IsLive self.old items }
         requires node { IsValidNode self.old.node }
         requires still { self.old.spare.state.pending ≡ [] }
         requires closed { begins_closed self.old.spare.state.stable ≡ true }
-        requires writable { AllByRecursion IsWritable items.now }
-        requires headers { All (λ item. IsHeader item → ⊥) items.now }
+        requires fillable { AllByRecursion IsFillable items.now }
         ensures filling { IsFilling self.old items.now self.new result }
-        ensures held { IsDone result → IsHeld H.file H.reach home.new self.new }
+        ensures held { IsDone result → IsHeld (H.file home.new) (H.reach home.new) self.new }
         ensures clean { IsDone result → IsClean (H.file home.new self.old.spare.spot) }
         ensures full { IsErrOf result (LogFault.Full self.old.spare.spot) → IsOverfull self.old items.now }
         ensures overfull { IsOverfull self.old items.now → IsErrOf result (LogFault.Full self.old.spare.spot) ⊎ IsErrOf result LogFault.Memory }
@@ -51,11 +53,18 @@ impl Log {
         ensures told { IsDone result ⊎ ((f : File) → H.file home.new self.old.spare.spot ≡ Some f → OldOrBoth f.bytes 0 [] (filling self.old items.now)) }
         ensures memory { IsErrOf result LogFault.Memory → (f : File) → H.file home.new self.old.spare.spot ≡ Some f → EndsAt f.bytes 0 [] }
         ensures current { (kept : List (ℕ × Record)) → IsOrdered self.old kept → (c s : File) → H.file home.new self.old.current.spot ≡ Some c → H.file home.new self.old.spare.spot ≡ Some s → IsCurrentAfter self.old kept items.now c.bytes s.bytes result }
+        ensures short { BothWithin (H.file home.new) self.old }
         ensures faults { IfErr result (IsOfForce self.old.spare.spot) }
         ensures rest { RestStays H.file H.reach H.entered H.faults self.old.spare.spot home.old home.new }
         ensures device { IsErrOf result (LogFault.Device self.old.spare.spot) → HasFailed H.faults H.last_failed self.old.spare.spot home.old home.new }
+        ensures quiet { (IsErrOf result (LogFault.Device self.old.spare.spot) → ⊥) → H.faults home.new ≡ H.faults home.old }
     {
         if self.generation == u32::MAX {
+            return Err(LogFault::Full {
+                spot: self.spare.spot(),
+            });
+        }
+        if !are_counted(items) {
             return Err(LogFault::Full {
                 spot: self.spare.spot(),
             });

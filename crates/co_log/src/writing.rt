@@ -5,6 +5,7 @@ ghost use Rattle.co_outside.specs.Home.{File};
 ghost use Rattle.co_disk.specs.Faults.{IsOfWrite};
 ghost use Rattle.co_disk.specs.Homes.{Agrees, IsImageIn, IsClean, RestStays, HasFailed};
 ghost use Rattle.co_log.specs.BatchWrite.{batch_pending, gate_pending, disk_at, disk_after};
+ghost use Rattle.co_log.specs.LogView.{IsShort};
 ghost use Rattle.co_log.specs.Stopping.{IsStoppedWithin, HasPassed, after_calls, IsWriteStopped};
 
 use crate::stop::{Stop, arm_for};
@@ -36,6 +37,8 @@ pub(crate) fn write_through<H: Home>(
     ensures memory { length piece.now ≡ 1 → at < length disk.old.state.stable → IsErrOf result DiskFault.Memory → ⊥ }
     ensures rest { RestStays H.file H.reach H.entered H.faults disk.old.spot home.old home.new }
     ensures device { IsErrOf result DiskFault.Device → HasFailed H.faults H.last_failed disk.old.spot home.old home.new }
+    ensures quiet { (IsErrOf result DiskFault.Device → ⊥) → H.faults home.new ≡ H.faults home.old }
+    ensures short { IsShort disk.new }
 {
     disk.write_at(home, at, piece)?;
     disk.sync(home)?;
@@ -69,6 +72,8 @@ pub(crate) fn write_batch<H: Home>(
     ensures memory { IsErrOf result DiskFault.Memory → IsImageIn (batch_pending disk.old.state.stable gate batch.now) (H.file home.new disk.old.spot) }
     ensures rest { RestStays H.file H.reach H.entered H.faults disk.old.spot home.old home.new }
     ensures device { IsErrOf result DiskFault.Device → HasFailed H.faults H.last_failed disk.old.spot home.old home.new }
+    ensures quiet { (IsErrOf result DiskFault.Device → ⊥) → H.faults home.new ≡ H.faults home.old }
+    ensures short { IsShort disk.new }
 {
     arm_for(disk, stop);
     write_through(disk, home, gate + 1, batch)?;

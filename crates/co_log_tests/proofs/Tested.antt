@@ -14,12 +14,12 @@ use Rattle.co_log.proofs.Ordered.{ready_same}
 use Rattle.co_log.proofs.Unmade.{read_stable}
 
 -- waiting records and an armed stop change nothing of it
-pub ready_waiting : {H : Type 0} (file : H → Spot → Option File) (reach : H → Spot → ℕ) (home : H) (log after : LogView) (waiting : List Record) (stop : Option Stop) → after ≡ record log { waiting = waiting; stop = stop }
-    → IsReady file reach home log → IsReady file reach home after
-ready_waiting file reach home log after waiting stop is ready =
-    ready_same file reach home log after ready (ap (λ (l : LogView). l.node) is) (ap (λ (l : LogView). l.current) is) (ap (λ (l : LogView). l.spare) is) (ap (λ (l : LogView). l.gate) is) (ap (λ (l : LogView). l.generation) is)
+pub ready_waiting : (file : Spot → Option File) (reach : Spot → ℕ) (log after : LogView) (waiting : List Record) (stop : Option Stop) → after ≡ record log { waiting = waiting; stop = stop }
+    → IsReady file reach log → IsReady file reach after
+ready_waiting file reach log after waiting stop is ready =
+    ready_same file reach log after ready (ap (λ (l : LogView). l.node) is) (ap (λ (l : LogView). l.current) is) (ap (λ (l : LogView). l.spare) is) (ap (λ (l : LogView). l.gate) is) (ap (λ (l : LogView). l.generation) is)
 
 -- its current file has records
-pub ready_records : {H : Type 0} (file : H → Spot → Option File) (reach : H → Spot → ℕ) (home : H) (log : LogView) → IsReady file reach home log → (items : List (ℕ × Record)) × HasRecords (read_of log.current.state) items
-ready_records file reach home log ready =
+pub ready_records : (file : Spot → Option File) (reach : Spot → ℕ) (log : LogView) → IsReady file reach log → (items : List (ℕ × Record)) × HasRecords (read_of log.current.state) items
+ready_records file reach log ready =
     (ready.items, subst (λ (b : List ℕ). HasRecords b ready.items) (sym (read_stable log.current.state ready.ordered.live.still)) (has_records log.current.state.stable log.gate ready.items ready.ordered.live.ends))

@@ -7,4 +7,4 @@ use Rattle.co_log.specs.LogView.{LogView}
 
 -- the log is in order with some records, and the home's files are its files
 abbrev pub IsReadyIn : HomeMemory → LogView → Type 0
-IsReadyIn home log = IsReady memory_file (λ h s. length (memory_bytes h s)) home log
+IsReadyIn home log = IsReady (memory_file home) (λ s. length (memory_bytes home s)) log

@@ -2,7 +2,8 @@
 ghost use Rattle.std.specs.Prelude.{◌≡◌, IfOk, true};
 ghost use Rattle.co_base.specs.Nodes.{IsValidNode};
 ghost use Rattle.co_record.specs.Spelling.{IsWritable};
-ghost use Rattle.co_log.specs.LogView.{IsHeader};
+ghost use Rattle.co_log.specs.LogView.{IsForcible};
+ghost use Rattle.co_log.specs.Spare.{IsFillable};
 ghost use Rattle.co_log_tests.specs.Ready.{IsReadyIn};
 
 use crate::found::is_mark;
@@ -53,7 +54,7 @@ fn are_marks(marks: &Marks, wanted: &[(&str, u32)]) -> bool {
 fn is_forced(log: &mut Log, home: &mut HomeMemory, item: Result<Record, BaseFault>) -> bool
     requires ready { IsReadyIn home.old log.old }
     requires writable { IfOk item IsWritable }
-    requires header { IfOk item (λ made. IsHeader made → ⊥) }
+    requires forcible { IfOk item IsForcible }
     ensures { result ≡ true → IsReadyIn home.new log.new }
 {
     match item {
@@ -71,7 +72,7 @@ fn tells(
 ) -> bool
     requires ready { IsReadyIn home.old log.old }
     requires writable { IfOk item IsWritable }
-    requires header { IfOk item (λ made. IsHeader made → ⊥) }
+    requires forcible { IfOk item IsForcible }
     ensures { result ≡ true → IsReadyIn home.new log.new }
 {
     let Ok(item) = item else {
@@ -92,8 +93,7 @@ fn tells_filling(
     number: u32,
 ) -> bool
     requires ready { IsReadyIn home.old log.old }
-    requires writable { IfOk item IsWritable }
-    requires header { IfOk item (λ made. IsHeader made → ⊥) }
+    requires fillable { IfOk item IsFillable }
 {
     let Ok(item) = item else {
         return false;

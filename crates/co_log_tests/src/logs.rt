@@ -4,7 +4,8 @@ ghost use Rattle.co_base.specs.Nodes.{IsValidNode};
 ghost use Rattle.co_outside.specs.declared.home_memory.HomeMemory.{HomeMemory};
 ghost use Rattle.co_record.specs.Spelling.{IsWritable};
 ghost use Rattle.co_log.specs.Forcing.{IsDone};
-ghost use Rattle.co_log.specs.LogView.{IsHeader};
+ghost use Rattle.co_log.specs.LogView.{IsForcible};
+ghost use Rattle.co_log.specs.Spare.{IsFillable};
 ghost use Rattle.co_log_tests.specs.Ready.{IsReadyIn};
 
 use co_base::{Leaves, Mark, Marks, Node, Txn};
@@ -83,7 +84,7 @@ pub(crate) fn cut(log: &mut Log, home: &mut HomeMemory) -> Result<(), LogFault>
 pub(crate) fn force(log: &mut Log, home: &mut HomeMemory, item: Record) -> Result<Marks, LogFault>
     requires ready { IsReadyIn home.old log.old }
     requires writable { IsWritable item }
-    requires header { IsHeader item → ⊥ }
+    requires forcible { IsForcible item }
     ensures { IsDone result → IsReadyIn home.new log.new }
 {
     log.force(home, item)
@@ -111,8 +112,7 @@ pub(crate) fn is_closed(log: &mut Log, home: &mut HomeMemory) -> bool
 /// Fills the spare with one record; where it is not closed, it is said to be in use.
 pub(crate) fn fill(log: &mut Log, home: &mut HomeMemory, item: Record) -> Result<Mark, LogFault>
     requires ready { IsReadyIn home.old log.old }
-    requires writable { IsWritable item }
-    requires header { IsHeader item → ⊥ }
+    requires fillable { IsFillable item }
     ensures { IsDone result → IsReadyIn home.new log.new }
 {
     if !log.spare_closed() {

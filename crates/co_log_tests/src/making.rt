@@ -3,7 +3,8 @@ ghost use Rattle.std.specs.Prelude.{◌≤◌, length, IfOk};
 ghost use Rattle.std.specs.List.Sorted.{IsStrictlySortedBy};
 ghost use Rattle.co_base.specs.Span.{span_cmp};
 ghost use Rattle.co_record.specs.Spelling.{AreInKeyOrder, IsWritable};
-ghost use Rattle.co_log.specs.LogView.{IsHeader};
+ghost use Rattle.co_log.specs.LogView.{IsForcible};
+ghost use Rattle.co_log.specs.Spare.{IsFillable};
 
 use co_base::{BaseFault, Bytes, Key, Range, Ranges, Row, Rows, Txn, Txns, Value, Writes, Written};
 use co_record::Record;
@@ -26,7 +27,8 @@ fn one_change(alloc: Global, key: &[u8], value: &[u8]) -> Result<Writes, BaseFau
 #[tactic(auto, using(co_log::proofs::Short::short_lists))]
 pub(crate) fn commit(alloc: Global, number: u32) -> Record
     ensures writable { IsWritable result }
-    ensures header { IsHeader result → ⊥ }
+    ensures forcible { IsForcible result }
+    ensures fillable { IsFillable result }
 {
     Record::Commit {
         txn: Txn(number),
@@ -38,7 +40,8 @@ pub(crate) fn commit(alloc: Global, number: u32) -> Record
 #[tactic(auto, using(co_log::proofs::Short::short_lists))]
 pub(crate) fn commit_of_two(alloc: Global) -> Result<Record, BaseFault>
     ensures writable { IfOk result IsWritable }
-    ensures header { IfOk result (λ item. IsHeader item → ⊥) }
+    ensures forcible { IfOk result IsForcible }
+    ensures fillable { IfOk result IsFillable }
 {
     let mut members = Bytes::new(alloc);
     members.push(1)?;
@@ -78,7 +81,8 @@ fn vote(txn: Txn, count: u16, reads: Ranges, writes: Writes) -> Record
     requires few_writes { length writes ≤ 1 }
     requires writes { AreInKeyOrder writes }
     ensures writable { IsWritable result }
-    ensures header { IsHeader result → ⊥ }
+    ensures forcible { IsForcible result }
+    ensures fillable { IsFillable result }
 {
     Record::Prepare {
         txn,
@@ -92,7 +96,8 @@ fn vote(txn: Txn, count: u16, reads: Ranges, writes: Writes) -> Record
 /// The vote for transaction 1, which read and wrote `a`.
 pub(crate) fn vote_on_a(alloc: Global) -> Result<Record, BaseFault>
     ensures writable { IfOk result IsWritable }
-    ensures header { IfOk result (λ item. IsHeader item → ⊥) }
+    ensures forcible { IfOk result IsForcible }
+    ensures fillable { IfOk result IsFillable }
 {
     let reads = one_range(alloc, b"a")?;
     let writes = one_change(alloc, b"a", b"5")?;
@@ -102,7 +107,8 @@ pub(crate) fn vote_on_a(alloc: Global) -> Result<Record, BaseFault>
 /// A vote for a transaction that wrote `x`.
 pub(crate) fn vote_on_x(alloc: Global, number: u32, value: &[u8]) -> Result<Record, BaseFault>
     ensures writable { IfOk result IsWritable }
-    ensures header { IfOk result (λ item. IsHeader item → ⊥) }
+    ensures forcible { IfOk result IsForcible }
+    ensures fillable { IfOk result IsFillable }
 {
     let writes = one_change(alloc, b"x", value)?;
     Ok(vote(Txn(number), 1, no_ranges(alloc), writes))
@@ -133,7 +139,7 @@ fn one_txn(alloc: Global, txn: Txn) -> Result<Txns, BaseFault>
 /// The state of member 1: the row `a` holds an uncommitted `9` and was `5`.
 pub(crate) fn checkpoint(alloc: Global) -> Result<Record, BaseFault>
     ensures writable { IfOk result IsWritable }
-    ensures header { IfOk result (λ item. IsHeader item → ⊥) }
+    ensures fillable { IfOk result IsFillable }
 {
     let committed = one_txn(alloc, Txn(1))?;
     let rows = one_row(alloc, b"a", b"9")?;

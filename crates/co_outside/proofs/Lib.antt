@@ -2,3 +2,4 @@ pub mod Files
 pub mod Overlays
 pub mod TornFiles
 pub mod Wholes
+pub mod Dues

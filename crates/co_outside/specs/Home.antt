@@ -1,6 +1,9 @@
 -- What the calls of a home leave.
-use Rattle.std.specs.Prelude.{ℕ, ◌≤◌, ◌≡◌, ◌≢◌, Some, Bool, true, false, List, [], take, Option, Result, IsErrOf}
+use Rattle.std.specs.Prelude.{ℕ, ◌-◌, ◌≤◌, ◌≡◌, ◌≢◌, ◌==◌, ◌&&◌, ◌↔◌, if◌then◌else◌, Some, Bool, true, false, List, [], take, map, Contains, Option, Result, IsErrOf}
 use Rattle.co_outside.specs.declared.spot.Spot.{Spot}
+use Rattle.co_outside.specs.declared.home.FailAt.{FailAt}
+use Rattle.co_outside.specs.declared.home.HomeCall.{HomeCall}
+use Rattle.co_outside.specs.declared.home.HomeCall.TheVariants.{Enter, ReadAll, WriteAt, SetLen, Sync}
 use Rattle.co_outside.specs.declared.home.HomeFault.{HomeFault}
 use Rattle.co_outside.specs.declared.home.HomeFault.TheVariants.{Failed}
 use Rattle.co_outside.specs.Faults.{HasRisen}
@@ -42,9 +45,32 @@ pub record OthersStay {H : Type 0} (file : H → Spot → Option File) (reach : 
   pub directory : entered new ≡ entered old
 
 -- The count of faults never falls. Where the call failed the count rose, and the call's spot is that
--- of the last failed call; else the last failed call is the one from before.
+-- of the last failed call; with any other answer both are as they were.
 pub record IsCounted {H T : Type 0} (faults : H → ℕ) (last_failed : H → Spot) (spot : Spot) (old new : H) (result : Result T HomeFault) : Type 0 where
   pub count : faults old ≤ faults new
   pub failed : IsErrOf result Failed → HasRisen (faults old) (faults new)
   pub named : IsErrOf result Failed → last_failed new ≡ spot
+  pub quiet : (IsErrOf result Failed → ⊥) → faults new ≡ faults old
   pub kept : (IsErrOf result Failed → ⊥) → last_failed new ≡ last_failed old
+
+-- the kinds of calls, numbered
+abbrev pub call_number : HomeCall → ℕ
+call_number Enter = 0
+call_number ReadAll = 1
+call_number WriteAt = 2
+call_number SetLen = 3
+call_number Sync = 4
+
+-- whether a call that is to fail is of this kind and on this spot
+abbrev pub is_such : Spot → HomeCall → FailAt → Bool
+is_such spot call at = ((at.spot.node == spot.node) && (at.spot.part == spot.part)) && (call_number at.call == call_number call)
+
+-- a call that is to fail, after one call of this kind on this spot: where it is such a call, there is one less until it
+abbrev pub nearer : Spot → HomeCall → FailAt → FailAt
+nearer spot call at = if is_such spot call at then record { spot = at.spot; call = at.call; number = at.number - 1 } else at
+
+-- Where a home tells which calls are to fail, one fails exactly where it is the next of them, and it is counted.
+abbrev pub FailsAsDue : {T : Type 0} → Spot → HomeCall → Option (List FailAt) → Option (List FailAt) → Result T HomeFault → Type 0
+FailsAsDue spot call old new result =
+    (calls : List FailAt) → old ≡ Some calls
+    → (IsErrOf result Failed ↔ Contains calls (record { spot = spot; call = call; number = 1 })) × (new ≡ Some (map (nearer spot call) calls))

@@ -1,8 +1,9 @@
 //! The directory of logs.
 ghost use Rattle.std.specs.Prelude.{◌≡◌, ◌≢◌, ◌≤◌, ◌+◌, List, ℕ, Option, None, Some, length, take, max, option_map, OnOk, OnErr, IfOk, IsErrOf};
 ghost use Rattle.co_outside.specs.declared.spot.Spot.{Spot};
+ghost use Rattle.co_outside.specs.declared.home.FailAt.{FailAt};
 ghost use Rattle.co_outside.specs.declared.home.HomeFault.TheVariants.{Memory};
-ghost use Rattle.co_outside.specs.Home.{File, written, shortened, unclean, cleaned, OthersStay, IsCounted, IsTornFile};
+ghost use Rattle.co_outside.specs.Home.{File, written, shortened, unclean, cleaned, OthersStay, IsCounted, IsTornFile, FailsAsDue};
 
 use crate::spot::Spot;
 use std::alloc::{AllocError, Global};
@@ -61,8 +62,9 @@ pub struct FailAt {
 /// Between two syncs a crash may leave any bytes in each written range and past the old end, and
 /// no others; a crash after a successful `sync` leaves what a read gives.
 ///
-/// `Failed` comes only where the count of faults rose in that call; the home then keeps the call's
-/// spot as that of its last failed call.
+/// `Failed` comes where the count of faults rose in that call, and only there; the home then keeps
+/// the call's spot as that of its last failed call. So a call that answers anything else met no
+/// fault.
 pub trait Home {
     /// The file at a spot, where the home tells it.
     ghost file: { Self → Spot → Option File };
@@ -83,13 +85,18 @@ pub trait Home {
     /// How often the home has failed.
     ghost faults: { Self → ℕ };
 
+    /// The calls that are to fail, where the home tells them: each with the number of calls of its
+    /// kind on its spot until it, itself included, and 0 where it is past.
+    ghost due: { Self → Option (List FailAt) };
+
     /// Selects the directory, and makes it where it is missing. It counts as a call on `m1.a`.
     fn enter(&mut self, alloc: Global, dir: &str) -> Result<(), HomeFault>
         ensures entered { OnOk result (entered self.new ≡ Some dir.now) }
         ensures stays { OnErr result (entered self.new ≡ entered self.old) }
         ensures files { (s : Spot) → file self.new s ≡ file self.old s }
         ensures reaches { (s : Spot) → reach self.new s ≡ reach self.old s }
-        ensures counted { IsCounted faults last_failed (record { node = 1; part = 0 }) self.old self.new result };
+        ensures counted { IsCounted faults last_failed (record { node = 1; part = 0 }) self.old self.new result }
+        ensures due { FailsAsDue (record { node = 1; part = 0 }) HomeCall.Enter (due self.old) (due self.new) result };
 
     /// The first `most` bytes of the file, or all of a shorter one.
     fn read_all(&mut self, alloc: Global, spot: Spot, most: u32) -> Result<Vec<u8>, HomeFault>
@@ -99,7 +106,8 @@ pub trait Home {
         ensures file { file self.new spot ≡ file self.old spot }
         ensures reach { reach self.new spot ≡ reach self.old spot }
         ensures others { OthersStay file reach entered spot self.old self.new }
-        ensures counted { IsCounted faults last_failed spot self.old self.new result };
+        ensures counted { IsCounted faults last_failed spot self.old self.new result }
+        ensures due { FailsAsDue spot HomeCall.ReadAll (due self.old) (due self.new) result };
 
     /// Lays the piece into the file at `at`, which is at most the length; the file is made where it
     /// is absent. A failed write may leave any bytes in the range and past the old end. A write
@@ -119,7 +127,8 @@ pub trait Home {
         ensures kept { OnErr result (reach self.old spot ≤ reach self.new spot) }
         ensures memory { at + length piece.now ≤ reach self.old spot → IsErrOf result HomeFault.Memory → ⊥ }
         ensures others { OthersStay file reach entered spot self.old self.new }
-        ensures counted { IsCounted faults last_failed spot self.old self.new result };
+        ensures counted { IsCounted faults last_failed spot self.old self.new result }
+        ensures due { FailsAsDue spot HomeCall.WriteAt (due self.old) (due self.new) result };
 
     /// Cuts the file to a length, which is at most the present one. Never answers `Memory`.
     fn set_len(&mut self, spot: Spot, len: u32) -> Result<(), HomeFault>
@@ -130,7 +139,8 @@ pub trait Home {
         ensures kept { OnErr result (reach self.new spot ≡ reach self.old spot) }
         ensures memory { IsErrOf result HomeFault.Memory → ⊥ }
         ensures others { OthersStay file reach entered spot self.old self.new }
-        ensures counted { IsCounted faults last_failed spot self.old self.new result };
+        ensures counted { IsCounted faults last_failed spot self.old self.new result }
+        ensures due { FailsAsDue spot HomeCall.SetLen (due self.old) (due self.new) result };
 
     /// Makes the file stable. Never answers `Memory`.
     fn sync(&mut self, spot: Spot) -> Result<(), HomeFault>
@@ -139,7 +149,8 @@ pub trait Home {
         ensures reach { reach self.new spot ≡ reach self.old spot }
         ensures memory { IsErrOf result HomeFault.Memory → ⊥ }
         ensures others { OthersStay file reach entered spot self.old self.new }
-        ensures counted { IsCounted faults last_failed spot self.old self.new result };
+        ensures counted { IsCounted faults last_failed spot self.old self.new result }
+        ensures due { FailsAsDue spot HomeCall.Sync (due self.old) (due self.new) result };
 
     /// A home that tells a file gives its front.
     ghost told_gives: { (h : Self) (s : Spot) (most : ℕ) (bytes : List ℕ) (f : File) → file h s ≡ Some f → gives h s most bytes → bytes ≡ take most f.bytes };

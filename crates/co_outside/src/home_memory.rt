@@ -22,7 +22,7 @@ pub struct HomeMemory {
 
 impl HomeMemory {
     ghost use Rattle.co_outside.specs.declared.spot.Spot.{Spot};
-    ghost use Rattle.co_outside.specs.Home.{IsCounted, empty_file};
+    ghost use Rattle.co_outside.specs.Home.{IsCounted, FailsAsDue, empty_file};
     ghost use Rattle.co_outside.specs.HomeMemory.{memory_file, memory_bytes, memory_entered, HasSameFiles, HasSameCounts};
 
     /// No files, each of them clean. `fail` names the calls that are to fail. Takes no memory.
@@ -71,7 +71,7 @@ impl HomeMemory {
         ensures same { HasSameFiles self.old self.new }
         ensures counted { IsCounted (λ h. h.faults) (λ h. h.last_failed) spot self.old self.new result }
         ensures fault { IfErr result (λ e. e ≡ HomeFault.Failed) }
-        ensures due { IsErrOf result HomeFault.Failed ↔ Contains self.old.fail.items (record { spot = spot; call = call; number = 1 }) }
+        ensures due { FailsAsDue spot call (Some self.old.fail.items) (Some self.new.fail.items) result }
     {
         if is_call_due(&mut self.fail, spot, call) {
             self.faults = self.faults.saturating_add(1);
@@ -97,6 +97,8 @@ impl Home for HomeMemory {
     ghost last_failed = { λ h. h.last_failed };
 
     ghost faults = { λ h. h.faults };
+
+    ghost due = { λ h. Some h.fail.items };
 
     ghost told_gives = { gives_front };
 

@@ -51,6 +51,8 @@ impl Home for HomeTwist {
 
     ghost faults = { λ h. h.inner.faults };
 
+    ghost due = { λ _. None };
+
     ghost told_gives = { λ h s most bytes f told gives. absurd (none_is_no_file f told) };
 
     ghost told_reach = { λ h s f told. absurd (none_is_no_file f told) };

@@ -1,7 +1,7 @@
 //! The outside of the program: where bytes come from, where they go, and the directory of logs.
 //!
-//! Each trait says what its calls tell of the content, where it can be told, and that a call
-//! answers `Failed` only where the count of faults rose in it. A form in memory tells its content
+//! Each trait says what its calls tell of the content, where it can be told, and that the count of
+//! faults rises exactly in the calls that answer `Failed`. A form in memory tells its content
 //! and fails at named calls; a form over std's readers, writers and files tells nothing.
 #![tactic(auto)]
 

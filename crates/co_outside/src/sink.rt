@@ -38,12 +38,13 @@ pub trait Sink {
     /// Takes some bytes from the front of the piece and gives their count, at least 1 of a piece
     /// that is not empty. A fault takes nothing.
     ///
-    /// `Failed` comes only where the count of faults rose in this call; so it does where the
-    /// outside took nothing.
+    /// `Failed` comes where the count of faults rose in this call, and only there; so it does where
+    /// the outside took nothing.
     fn put(&mut self, alloc: Global, piece: &[u8]) -> Result<u32, SinkFault>
         ensures count { IfOk result (λ n. n ≤ length piece.now) }
         ensures some { 1 ≤ length piece.now → IfOk result (λ n. 1 ≤ n) }
         ensures appended { (held : List ℕ) → told self.old ≡ Some held → told self.new ≡ Some (held ++ accepted piece.now result) }
         ensures counts { faults self.old ≤ faults self.new }
-        ensures failed { IsErrOf result SinkFault.Failed → HasRisen (faults self.old) (faults self.new) };
+        ensures failed { IsErrOf result SinkFault.Failed → HasRisen (faults self.old) (faults self.new) }
+        ensures quiet { (IsErrOf result SinkFault.Failed → ⊥) → faults self.new ≡ faults self.old };
 }

@@ -53,6 +53,7 @@ impl Sink for SinkMemory {
         ensures appended { memory_held self.new ≡ memory_held self.old ++ accepted piece.now result }
         ensures counts { self.old.faults ≤ self.new.faults }
         ensures failed { IsErrOf result SinkFault.Failed → HasRisen self.old.faults self.new.faults }
+        ensures quiet { (IsErrOf result SinkFault.Failed → ⊥) → self.new.faults ≡ self.old.faults }
         ensures fails { IsErrOf result SinkFault.Failed ↔ Contains (puts_to_fail self.old) 1 }
         ensures counted { puts_to_fail self.new ≡ map (λ n. n - 1) (puts_to_fail self.old) }
     {

@@ -48,7 +48,7 @@ pub trait Source {
 
     /// The next bytes, 1 to `most` of them, or the end. A fault takes nothing from what is left.
     ///
-    /// `Failed` comes only where the count of faults rose in this call.
+    /// `Failed` comes where the count of faults rose in this call, and only there.
     fn take(&mut self, alloc: Global, most: u32) -> Result<Taken, SourceFault>
         requires { 1 ≤ most }
         ensures size { IfOk result (HasSize most) }
@@ -56,5 +56,6 @@ pub trait Source {
         ensures rest { (bytes : List ℕ) → left self.old ≡ Some bytes → left self.new ≡ Some (drop (length (given result)) bytes) }
         ensures end { (bytes : List ℕ) → left self.old ≡ Some bytes → IfOk result (λ taken. (taken ≡ End) ↔ (bytes ≡ [])) }
         ensures counts { faults self.old ≤ faults self.new }
-        ensures failed { IsErrOf result SourceFault.Failed → HasRisen (faults self.old) (faults self.new) };
+        ensures failed { IsErrOf result SourceFault.Failed → HasRisen (faults self.old) (faults self.new) }
+        ensures quiet { (IsErrOf result SourceFault.Failed → ⊥) → faults self.new ≡ faults self.old };
 }

@@ -53,6 +53,7 @@ impl Source for SourceMemory {
         ensures end { IfOk result (λ taken. (taken ≡ End) ↔ (memory_left self.old ≡ [])) }
         ensures counts { self.old.faults ≤ self.new.faults }
         ensures failed { IsErrOf result SourceFault.Failed → HasRisen self.old.faults self.new.faults }
+        ensures quiet { (IsErrOf result SourceFault.Failed → ⊥) → self.new.faults ≡ self.old.faults }
         ensures fails { IsErrOf result SourceFault.Failed ↔ Contains (calls_to_fail self.old) 1 }
         ensures counted { calls_to_fail self.new ≡ map (λ n. n - 1) (calls_to_fail self.old) }
     {

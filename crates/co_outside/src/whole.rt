@@ -11,8 +11,8 @@ const PIECE: u32 = 65_536;
 
 /// The bytes of the source up to its end, or its first `most` bytes where it has more.
 ///
-/// `Failed` comes only where the source failed, and then its count of faults rose; `Memory` comes
-/// where there was none for the bytes. With either fault a front of the bytes is taken and lost.
+/// `Failed` comes where the source failed and its count of faults rose, and only there; `Memory`
+/// comes where there was none for the bytes. With either fault a front of the bytes is taken and lost.
 pub fn read_all<S: Source>(alloc: Global, source: &mut S, most: u32) -> Result<Vec<u8>, SourceFault>
     ensures bytes { (held : List ℕ) → S.left source.old ≡ Some held → IfOk result (λ v. v.items ≡ take most held) }
     ensures size { IfOk result (λ v. length v.items ≤ most) }
@@ -20,6 +20,7 @@ pub fn read_all<S: Source>(alloc: Global, source: &mut S, most: u32) -> Result<V
     ensures lost { (held : List ℕ) → S.left source.old ≡ Some held → OnErr result ((count : ℕ) × (S.left source.new ≡ Some (drop count held))) }
     ensures counts { S.faults source.old ≤ S.faults source.new }
     ensures failed { IsErrOf result SourceFault.Failed → HasRisen (S.faults source.old) (S.faults source.new) }
+    ensures quiet { (IsErrOf result SourceFault.Failed → ⊥) → S.faults source.new ≡ S.faults source.old }
 {
     let mut input = Vec::new(alloc);
     'reading: while input.len() < most as usize {
@@ -34,13 +35,14 @@ pub fn read_all<S: Source>(alloc: Global, source: &mut S, most: u32) -> Result<V
 
 /// Puts the whole piece into the sink.
 ///
-/// `Failed` comes only where the sink failed, and then its count of faults rose; `Memory` comes
-/// where the sink had none. With either fault the sink took a front of the piece.
+/// `Failed` comes where the sink failed and its count of faults rose, and only there; `Memory`
+/// comes where the sink had none. With either fault the sink took a front of the piece.
 pub fn put_all<K: Sink>(alloc: Global, sink: &mut K, piece: &[u8]) -> Result<(), SinkFault>
     ensures appended { (held : List ℕ) → K.told sink.old ≡ Some held → OnOk result (K.told sink.new ≡ Some (held ++ piece.now)) }
     ensures front { (held : List ℕ) → K.told sink.old ≡ Some held → OnErr result ((count : ℕ) × (K.told sink.new ≡ Some (held ++ take count piece.now))) }
     ensures counts { K.faults sink.old ≤ K.faults sink.new }
     ensures failed { IsErrOf result SinkFault.Failed → HasRisen (K.faults sink.old) (K.faults sink.new) }
+    ensures quiet { (IsErrOf result SinkFault.Failed → ⊥) → K.faults sink.new ≡ K.faults sink.old }
 {
     let mut done: usize = 0;
     'writing: while done < piece.len() {

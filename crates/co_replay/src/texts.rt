@@ -1,5 +1,6 @@
 //! The text of items.
 ghost use Rattle.std.specs.Prelude.{◌≡◌, ◌++◌, ◌∷◌, [], IfOk, OnOk};
+ghost use Rattle.co_message.specs.declared.event.Event.{Event};
 ghost use Rattle.co_message.specs.declared.item.ItemKind.TheVariants as item;
 ghost use Rattle.co_plain.specs.Runs.{numbered};
 ghost use Rattle.co_replay.specs.Transcript.{items_text};
@@ -30,13 +31,14 @@ pub fn put_told(number: u32, told: Vec<ItemKind>, into: &mut Vec<u8>) -> Result<
 }
 
 /// The event of an item that tells one.
-fn event_in(told: Item) -> Result<Event, AllocError>
-    ensures { IfOk result (λ event. told.what ≡ item.Event event) }
+fn event_in(told: Item) -> Event
+    requires { (event : Event) × (told.what ≡ item.Event event) }
+    ensures { told.what ≡ item.Event result }
 {
     let Item { number: _, what } = told;
     match what {
-        ItemKind::Event(event) => Ok(event),
-        _ => Err(AllocError),
+        ItemKind::Event(event) => event,
+        _ => unreachable!(),
     }
 }
 
@@ -50,7 +52,7 @@ pub fn put_event(number: u32, event: Event, into: &mut Vec<u8>) -> Result<Event,
         what: ItemKind::Event(event),
     };
     put_item(&told, into)?;
-    event_in(told)
+    Ok(event_in(told))
 }
 
 /// Appends the text of the first line: the head, and then what opening told.

@@ -4,7 +4,7 @@ ghost use Rattle.std.specs.Prelude.{IfOk, IfSome, OnOk};
 ghost use Rattle.co_base.specs.Nodes.{IsValidNode};
 ghost use Rattle.co_record.specs.Spelling.{IsWritable};
 ghost use Rattle.co_log.specs.Current.{IsReady};
-ghost use Rattle.co_log.specs.LogView.{IsHeader};
+ghost use Rattle.co_log.specs.LogView.{IsForcible};
 
 use anyhow::Result;
 use co_base::{BaseFault, Bytes, Key, Node, Ranges, Txn, Value, Writes, Written};
@@ -20,7 +20,7 @@ const TRANSFER: Txn = Txn(1);
 #[tactic(auto, using(co_log::proofs::Short::short_lists))]
 fn vote(alloc: Global, key: &[u8], value: &[u8]) -> Result<Record, BaseFault>
     ensures writable { IfOk result IsWritable }
-    ensures header { IfOk result (λ item. IsHeader item → ⊥) }
+    ensures forcible { IfOk result IsForcible }
 {
     let mut writes = Writes::new(alloc);
     writes.push(Written {
@@ -40,7 +40,7 @@ fn vote(alloc: Global, key: &[u8], value: &[u8]) -> Result<Record, BaseFault>
 #[tactic(auto, using(co_log::proofs::Short::short_lists))]
 fn commit(alloc: Global) -> Record
     ensures writable { IsWritable result }
-    ensures header { IsHeader result → ⊥ }
+    ensures forcible { IsForcible result }
 {
     Record::Commit {
         txn: TRANSFER,
@@ -52,7 +52,7 @@ fn commit(alloc: Global) -> Record
 #[tactic(auto, using(co_log::proofs::Short::short_lists))]
 fn decision(alloc: Global) -> Result<Record, AllocError>
     ensures writable { IfOk result IsWritable }
-    ensures header { IfOk result (λ item. IsHeader item → ⊥) }
+    ensures forcible { IfOk result IsForcible }
 {
     let mut members = Bytes::new(alloc);
     members.push(1)?;
@@ -66,7 +66,7 @@ fn decision(alloc: Global) -> Result<Record, AllocError>
 /// The log of a node, made now; none where it was made before.
 fn made<H: Home>(alloc: Global, home: &mut H, node: Node) -> Result<Option<Log>, LogFault>
     requires { IsValidNode node }
-    ensures { IfOk result (λ made. IfSome made (λ log. IsReady H.file H.reach home.new log)) }
+    ensures { IfOk result (λ made. IfSome made (λ log. IsReady (H.file home.new) (H.reach home.new) log)) }
 {
     let mut log = Log::attach(alloc, home, node, true)?;
     if log.fresh() {
@@ -78,10 +78,10 @@ fn made<H: Home>(alloc: Global, home: &mut H, node: Node) -> Result<Option<Log>,
 
 /// Forces a record.
 fn force<H: Home>(log: &mut Log, home: &mut H, item: Record) -> Result<(), LogFault>
-    requires ready { IsReady H.file H.reach home.old log.old }
+    requires ready { IsReady (H.file home.old) (H.reach home.old) log.old }
     requires writable { IsWritable item }
-    requires header { IsHeader item → ⊥ }
-    ensures { OnOk result (IsReady H.file H.reach home.new log.new) }
+    requires forcible { IsForcible item }
+    ensures { OnOk result (IsReady (H.file home.new) (H.reach home.new) log.new) }
 {
     log.force(home, item)?;
     Ok(())

@@ -40,4 +40,4 @@ pub record IsFilling {S : Type 0} (left : S → Option (List ℕ)) (faults : S �
   pub taken : IsTakenFrom left source_old source_new old.buffer.items new.buffer.items
   pub same : HasSameLimits old new
   pub used : (new.used ≡ old.used) × (new.shown ≡ old.shown)
-  pub counts : faults source_old ≤ faults source_new
+  pub counts : faults source_new ≡ faults source_old

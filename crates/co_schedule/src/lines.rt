@@ -90,6 +90,7 @@ impl Lines {
         ensures used { (self.new.used ≡ self.old.used) × (self.new.shown ≡ self.old.shown) }
         ensures counts { S.faults source.old ≤ S.faults source.new }
         ensures read { IsErrOf result LinesFault.Read → HasRisen (S.faults source.old) (S.faults source.new) }
+        ensures quiet { (IsErrOf result LinesFault.Read → ⊥) → S.faults source.new ≡ S.faults source.old }
         ensures faults { IfErr result IsOfSource }
         ensures err { OnErr result (self.new.buffer.items ≡ self.old.buffer.items) }
     {
@@ -119,6 +120,7 @@ impl Lines {
         ensures used { (self.new.used ≡ self.old.used) × (self.new.shown ≡ self.old.shown) }
         ensures counts { S.faults source.old ≤ S.faults source.new }
         ensures read { IsErrOf result LinesFault.Read → HasRisen (S.faults source.old) (S.faults source.new) }
+        ensures quiet { (IsErrOf result LinesFault.Read → ⊥) → S.faults source.new ≡ S.faults source.old }
         ensures faults { IfErr result IsOfSource }
         ensures err { OnErr result (self.new.buffer.items ≡ self.old.buffer.items) }
     {
@@ -143,6 +145,7 @@ impl Lines {
         ensures used { (self.new.used ≡ self.old.used) × (self.new.shown ≡ self.old.shown) }
         ensures counts { S.faults source.old ≤ S.faults source.new }
         ensures read { IsErrOf result LinesFault.Read → HasRisen (S.faults source.old) (S.faults source.new) }
+        ensures quiet { (IsErrOf result LinesFault.Read → ⊥) → S.faults source.new ≡ S.faults source.old }
         ensures faults { IfErr result IsOfSource }
         ensures whole { OnErr result (position is_newline self.new.buffer.items ≡ None) }
     {
@@ -217,6 +220,7 @@ impl Lines {
         ensures same { HasSameLimits self.old self.new }
         ensures counts { S.faults source.old ≤ S.faults source.new }
         ensures read { IsErrOf result LinesFault.Read → HasRisen (S.faults source.old) (S.faults source.new) }
+        ensures quiet { (IsErrOf result LinesFault.Read → ⊥) → S.faults source.new ≡ S.faults source.old }
         ensures whole { IsErrOf result LinesFault.Read → unread self.new ≡ [] }
     {
         if !self.buffer.is_empty() {
@@ -237,6 +241,7 @@ impl Lines {
         ensures idle { IsIdle self.old source.old source.new }
         ensures counts { S.faults source.old ≤ S.faults source.new }
         ensures read { IsErrOf result LinesFault.Read → HasRisen (S.faults source.old) (S.faults source.new) }
+        ensures quiet { (IsErrOf result LinesFault.Read → ⊥) → S.faults source.new ≡ S.faults source.old }
     {
         self.let_go();
         if self.lent == self.lines {
@@ -260,7 +265,7 @@ impl Lines {
     /// source.
     ///
     /// The source is asked only while the buffer has no whole line. After a fault the reader is only
-    /// dropped: `Read` comes only where the source failed, `Many` exactly where a byte follows the
+    /// dropped: `Read` comes where the source failed, and only there, `Many` exactly where a byte follows the
     /// newline of the last line that there may be, and else `Long` exactly where the line has more
     /// bytes than a line may have.
     pub fn next<'a, S: Source>(&'a mut self, source: &mut S) -> Result<Option<&'a [u8]>, LinesFault>
@@ -270,6 +275,7 @@ impl Lines {
         ensures idle { IsIdle self.old source.old source.new }
         ensures counts { S.faults source.old ≤ S.faults source.new }
         ensures read { IsErrOf result LinesFault.Read → HasRisen (S.faults source.old) (S.faults source.new) }
+        ensures quiet { (IsErrOf result LinesFault.Read → ⊥) → S.faults source.new ≡ S.faults source.old }
     {
         self.advance(source)?;
         Ok(self.shown())

@@ -5,7 +5,7 @@ ghost use Rattle.co_base.specs.Letters.{IsText, most_key_bytes, most_value_bytes
 ghost use Rattle.co_base.specs.Order.{key_cmp};
 ghost use Rattle.co_schedule.specs.View.{leaves_of, event_of, HasTexts};
 
-use co_base::{Bytes, Key, Leaves, Node, Range, Txn, Value};
+use co_base::{BaseFault, Bytes, Key, Leaves, Node, Range, Txn, Value};
 use co_message::{Event, Message};
 use std::alloc::{AllocError, Global};
 
@@ -105,7 +105,10 @@ pub fn key_of(alloc: Global, text: &[u8]) -> Result<Key, AllocError>
 {
     match Key::new(alloc, text) {
         Ok(key) => Ok(key),
-        Err(_) => Err(AllocError),
+        Err(BaseFault::Memory) => Err(AllocError),
+        Err(BaseFault::Length) => unreachable!(),
+        Err(BaseFault::Letter) => unreachable!(),
+        Err(BaseFault::Order) => unreachable!(),
     }
 }
 
@@ -116,7 +119,10 @@ pub fn value_of(alloc: Global, text: &[u8]) -> Result<Value, AllocError>
 {
     match Value::new(alloc, text) {
         Ok(value) => Ok(value),
-        Err(_) => Err(AllocError),
+        Err(BaseFault::Memory) => Err(AllocError),
+        Err(BaseFault::Length) => unreachable!(),
+        Err(BaseFault::Letter) => unreachable!(),
+        Err(BaseFault::Order) => unreachable!(),
     }
 }
 
@@ -127,7 +133,7 @@ fn range_of(alloc: Global, lo: &[u8], hi: &[u8]) -> Result<Range, AllocError>
 {
     match Range::new(key_of(alloc, lo)?, key_of(alloc, hi)?) {
         Ok(range) => Ok(range),
-        Err(_) => Err(AllocError),
+        Err(_) => unreachable!(),
     }
 }
 

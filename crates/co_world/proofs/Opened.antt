@@ -8,9 +8,9 @@ use Rattle.co_disk.specs.DiskView.{DiskView}
 use Rattle.co_frame.specs.LogText.{IsLogText}
 use Rattle.co_record.specs.declared.record.Record.TheVariants.{Header}
 use Rattle.co_record.specs.Stored.{HasRecords}
-use Rattle.co_log.specs.Attaching.{built, spot_of, IsCurrent}
+use Rattle.co_log.specs.Attaching.{built, IsCurrent}
 use Rattle.co_log.specs.Current.{IsCurrentOf}
-use Rattle.co_log.specs.LogView.{LogView}
+use Rattle.co_log.specs.LogView.{spot_of, LogView}
 use Rattle.co_log.proofs.Files.{has_records}
 use Rattle.co_log.proofs.Unmade.{read_stable}
 use Rattle.co_world.specs.Durable.{HasCurrent, IsCurrentIn, IsLogIn, Stands, Falls}

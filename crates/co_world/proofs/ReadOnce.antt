@@ -6,8 +6,8 @@ use Rattle.co_base.specs.declared.node.Node.{Node}
 use Rattle.co_outside.specs.declared.spot.Spot.{Spot}
 use Rattle.co_outside.specs.Home.{File}
 use Rattle.co_disk.specs.DiskView.{DiskView}
-use Rattle.co_log.specs.Attaching.{built, spot_of, IsAttached, IsBadPair, IsGood, AreTwins}
-use Rattle.co_log.specs.LogView.{LogView}
+use Rattle.co_log.specs.Attaching.{built, IsAttached, IsBadPair, IsGood, AreTwins}
+use Rattle.co_log.specs.LogView.{spot_of, LogView}
 use Rattle.co_log.specs.Scanning.{IsBadAt}
 use Rattle.co_log.specs.declared.fault.LogFault.TheVariants as log
 use Rattle.co_log.proofs.Judged.{pair_once, attached_not_bad, current_file, current_once, one_current, none_current}

@@ -6,7 +6,8 @@ use Rattle.co_outside.specs.declared.spot.Spot.{Spot}
 use Rattle.co_outside.specs.Home.{File}
 use Rattle.co_frame.specs.LogText.{IsLogText, most_log_bytes}
 use Rattle.co_record.specs.declared.record.Record.{Record}
-use Rattle.co_log.specs.Attaching.{spot_of, IsWithin}
+use Rattle.co_log.specs.Attaching.{IsWithin}
+use Rattle.co_log.specs.LogView.{spot_of}
 use Rattle.co_log.specs.Current.{IsCurrentOf}
 use Rattle.co_serial.specs.Records.{all_rows}
 use Rattle.co_serial.specs.SerialRun.{AllRecords}

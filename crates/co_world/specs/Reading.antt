@@ -5,9 +5,9 @@ use Rattle.co_outside.specs.declared.spot.Spot.{Spot}
 use Rattle.co_outside.specs.Home.{File}
 use Rattle.co_disk.specs.DiskView.{DiskView}
 use Rattle.co_log.specs.declared.fault.LogFault.TheVariants as log
-use Rattle.co_log.specs.LogView.{LogView}
+use Rattle.co_log.specs.LogView.{spot_of, LogView}
 use Rattle.co_frame.specs.LogText.{most_log_bytes}
-use Rattle.co_log.specs.Attaching.{spot_of, IsAttached, IsWithin, IsToldAs, IsOfAttach}
+use Rattle.co_log.specs.Attaching.{IsAttached, IsWithin, IsToldAs, IsOfAttach}
 use Rattle.co_world.specs.Pairs.{FirstWhere}
 use Rattle.co_world.specs.declared.fault.WorldFault.{WorldFault}
 use Rattle.co_world.specs.declared.fault.WorldFault.TheVariants.{Device, Differs, InUse, Bad, Full, Count, Memory}

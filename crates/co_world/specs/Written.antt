@@ -10,6 +10,17 @@ use Rattle.co_world.specs.declared.writing.RecordsFault.TheVariants.{Write, Devi
 use Rattle.co_world.specs.Durable.{IsDurable, IsUndurable}
 use Rattle.co_world.specs.Text.{records_text}
 
+-- the faults of reading a directory
+abbrev pub IsOfReading : WorldFault → Type 0
+IsOfReading (world.Device spot) = Unit {0}
+IsOfReading (world.Differs spot at kept read) = ⊥
+IsOfReading (world.InUse spot) = ⊥
+IsOfReading (world.Bad spot at) = Unit {0}
+IsOfReading (world.Full spot) = Unit {0}
+IsOfReading world.Count = ⊥
+IsOfReading world.Memory = Unit {0}
+
+-- and what they are for the records; the others do not come
 abbrev pub refusal_of : WorldFault → RecordsFault
 refusal_of (world.Device spot) = Device spot
 refusal_of (world.Differs spot at kept read) = Memory

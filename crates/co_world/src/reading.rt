@@ -4,7 +4,8 @@ ghost use Rattle.std.specs.List.{AllByRecursion};
 ghost use Rattle.co_base.specs.Nodes.{IsValidNode};
 ghost use Rattle.co_outside.specs.declared.spot.Spot.{Spot};
 ghost use Rattle.co_disk.specs.Homes.{HasFailed};
-ghost use Rattle.co_log.specs.Attaching.{spot_of, IsOfAttach};
+ghost use Rattle.co_log.specs.Attaching.{IsOfAttach};
+ghost use Rattle.co_log.specs.LogView.{spot_of};
 ghost use Rattle.co_world.specs.Nodes.{member_nodes, coord_nodes};
 ghost use Rattle.co_world.specs.Pairs.{EachPair};
 ghost use Rattle.co_world.specs.Reading.{OnlyReads, IsLogOf, IsUnread, IsFirstUnread};
@@ -23,6 +24,7 @@ fn attach<H: Home>(alloc: Global, home: &mut H, node: Node) -> Result<Log, LogFa
     ensures refused { IfErr result (IsOfAttach node true (H.file home.old (spot_of node 0)) (H.file home.old (spot_of node 1))) }
     ensures reads { OnlyReads H.file H.entered H.faults home.old home.new }
     ensures device { (spot : Spot) → IsErrOf result (LogFault.Device spot) → HasFailed H.faults H.last_failed spot home.old home.new }
+    ensures quiet { ((spot : Spot) → IsErrOf result (LogFault.Device spot) → ⊥) → H.faults home.new ≡ H.faults home.old }
 {
     Log::attach(alloc, home, node, true)
 }
@@ -34,6 +36,7 @@ fn read_log<H: Home>(alloc: Global, home: &mut H, node: Node) -> Result<Log, Wor
     ensures unread { IfErr result (λ fault. IsUnread (H.file home.old) fault node) }
     ensures reads { OnlyReads H.file H.entered H.faults home.old home.new }
     ensures device { (spot : Spot) → IsErrOf result (WorldFault.Device spot) → HasFailed H.faults H.last_failed spot home.old home.new }
+    ensures quiet { ((spot : Spot) → IsErrOf result (WorldFault.Device spot) → ⊥) → H.faults home.new ≡ H.faults home.old }
 {
     match attach(alloc, home, node) {
         Ok(log) => Ok(log),
@@ -54,6 +57,7 @@ fn read_logs<H: Home>(alloc: Global, home: &mut H, nodes: &[Node]) -> Result<Vec
     ensures unread { IfErr result (IsFirstUnread (H.file home.old) nodes.now) }
     ensures reads { OnlyReads H.file H.entered H.faults home.old home.new }
     ensures device { (spot : Spot) → IsErrOf result (WorldFault.Device spot) → HasFailed H.faults H.last_failed spot home.old home.new }
+    ensures quiet { ((spot : Spot) → IsErrOf result (WorldFault.Device spot) → ⊥) → H.faults home.new ≡ H.faults home.old }
 {
     let mut logs = Vec::new(alloc);
     for node in nodes {
@@ -73,6 +77,7 @@ pub(crate) fn read_members<H: Home>(
     ensures unread { IfErr result (IsFirstUnread (H.file home.old) (member_nodes count)) }
     ensures reads { OnlyReads H.file H.entered H.faults home.old home.new }
     ensures device { (spot : Spot) → IsErrOf result (WorldFault.Device spot) → HasFailed H.faults H.last_failed spot home.old home.new }
+    ensures quiet { ((spot : Spot) → IsErrOf result (WorldFault.Device spot) → ⊥) → H.faults home.new ≡ H.faults home.old }
 {
     let nodes = member_nodes(alloc, count)?;
     read_logs(alloc, home, nodes.as_slice())
@@ -89,6 +94,7 @@ pub(crate) fn read_coords<H: Home>(
     ensures unread { IfErr result (IsFirstUnread (H.file home.old) (coord_nodes count)) }
     ensures reads { OnlyReads H.file H.entered H.faults home.old home.new }
     ensures device { (spot : Spot) → IsErrOf result (WorldFault.Device spot) → HasFailed H.faults H.last_failed spot home.old home.new }
+    ensures quiet { ((spot : Spot) → IsErrOf result (WorldFault.Device spot) → ⊥) → H.faults home.new ≡ H.faults home.old }
 {
     let nodes = coord_nodes(alloc, count)?;
     read_logs(alloc, home, nodes.as_slice())

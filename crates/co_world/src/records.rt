@@ -27,6 +27,7 @@ pub(crate) fn read_rows<H: Home>(
     ensures undurable { IfErr result (IsUndurable (H.file home.old) members coords) }
     ensures reads { OnlyReads H.file H.entered H.faults home.old home.new }
     ensures device { (spot : Spot) → IsErrOf result (WorldFault.Device spot) → HasFailed H.faults H.last_failed spot home.old home.new }
+    ensures quiet { ((spot : Spot) → IsErrOf result (WorldFault.Device spot) → ⊥) → H.faults home.new ≡ H.faults home.old }
 {
     let member_logs = read_members(alloc, home, members)?;
     let coord_logs = read_coords(alloc, home, coords)?;
@@ -39,8 +40,8 @@ pub(crate) fn read_rows<H: Home>(
 /// no file.
 ///
 /// The files are read in the order of nodes, members before coordinators, and of each node part `a` before
-/// part `b`. Then the records of every current file are told, in the same order. `Device` comes only where the
-/// home failed; `Full` where a file has more than 268,435,456 bytes; `Bad` where the files of a node are no
+/// part `b`. Then the records of every current file are told, in the same order. `Device` comes where the home
+/// failed, and only there; `Full` where a file has more than 268,435,456 bytes; `Bad` where the files of a node are no
 /// log, at the place of the first fault, and where all are logs but a record is not allowed at its place;
 /// `Memory` where there was none. `Differs`, `InUse` and `Count` never come.
 pub fn read_durable<H: Home>(
@@ -52,6 +53,7 @@ pub fn read_durable<H: Home>(
     ensures undurable { IfErr result (IsUndurable (H.file home.old) (length head.now.kinds) head.now.coords) }
     ensures reads { OnlyReads H.file H.entered H.faults home.old home.new }
     ensures device { (spot : Spot) → IsErrOf result (WorldFault.Device spot) → HasFailed H.faults H.last_failed spot home.old home.new }
+    ensures quiet { ((spot : Spot) → IsErrOf result (WorldFault.Device spot) → ⊥) → H.faults home.new ≡ H.faults home.old }
 {
     let members = head.kinds.len() as u8;
     read_rows(alloc, home, members, head.coords)

@@ -27,13 +27,14 @@ fn append_line(into: &mut Vec<u8>, row: &DurableRow) -> Result<(), AllocError>
 
 /// Puts the text where a whole piece has come together, and leaves nothing of it then.
 ///
-/// `Failed` comes only where the sink failed, and then its count of faults rose; `Memory` where there was
+/// `Failed` comes where the sink failed and its count of faults rose, and only there; `Memory` where there was
 /// none. With either fault the sink took a front of the text.
 fn put_piece<K: Sink>(alloc: Global, out: &mut K, text: &mut Vec<u8>) -> Result<(), SinkFault>
     ensures put { (held : List ℕ) → K.told out.old ≡ Some held → OnOk result ((more : List ℕ) × (K.told out.new ≡ Some (held ++ more)) × (more ++ text.new.items ≡ text.old.items)) }
     ensures front { (held : List ℕ) → K.told out.old ≡ Some held → OnErr result ((count : ℕ) × (K.told out.new ≡ Some (held ++ take count text.old.items))) }
     ensures counts { K.faults out.old ≤ K.faults out.new }
     ensures failed { IsErrOf result SinkFault.Failed → HasRisen (K.faults out.old) (K.faults out.new) }
+    ensures quiet { (IsErrOf result SinkFault.Failed → ⊥) → K.faults out.new ≡ K.faults out.old }
 {
     if text.len() < PIECE {
         return Ok(());
@@ -45,7 +46,7 @@ fn put_piece<K: Sink>(alloc: Global, out: &mut K, text: &mut Vec<u8>) -> Result<
 
 /// Puts the lines of these records, a piece of them at a time.
 ///
-/// `Failed` comes only where the sink failed, and then its count of faults rose; `Memory` where there was
+/// `Failed` comes where the sink failed and its count of faults rose, and only there; `Memory` where there was
 /// none. With either fault the sink took a front of the text.
 pub(crate) fn put_records<K: Sink>(
     alloc: Global,
@@ -56,6 +57,7 @@ pub(crate) fn put_records<K: Sink>(
     ensures front { (held : List ℕ) → K.told out.old ≡ Some held → OnErr result ((count : ℕ) × (K.told out.new ≡ Some (held ++ take count (records_text rows.now)))) }
     ensures counts { K.faults out.old ≤ K.faults out.new }
     ensures failed { IsErrOf result SinkFault.Failed → HasRisen (K.faults out.old) (K.faults out.new) }
+    ensures quiet { (IsErrOf result SinkFault.Failed → ⊥) → K.faults out.new ≡ K.faults out.old }
 {
     let mut text = Vec::new(alloc);
     for row in rows {

@@ -6,7 +6,7 @@ ghost use Rattle.co_outside.specs.Faults.{HasRisen};
 ghost use Rattle.co_world.specs.declared.durable.DurableRow.{DurableRow};
 ghost use Rattle.co_world.specs.Durable.{IsDurable, IsUndurable};
 ghost use Rattle.co_world.specs.Text.{records_text};
-ghost use Rattle.co_world.specs.Written.{refusal_of, HasDurable, IsRefusal, IsFront};
+ghost use Rattle.co_world.specs.Written.{refusal_of, IsOfReading, HasDurable, IsRefusal, IsFront};
 
 use crate::durable::Durable;
 use crate::fault::WorldFault;
@@ -52,16 +52,15 @@ pub enum RecordsFault {
 
 /// Why there are no records to be written.
 fn refusal(fault: WorldFault) -> RecordsFault
+    requires { IsOfReading fault }
     ensures { result ≡ refusal_of fault }
 {
     match fault {
         WorldFault::Device { spot } => RecordsFault::Device { spot },
         WorldFault::Bad { spot, at } => RecordsFault::Bad { spot, at },
         WorldFault::Full { spot } => RecordsFault::Full { spot },
-        WorldFault::Differs { .. } => RecordsFault::Memory,
-        WorldFault::InUse { .. } => RecordsFault::Memory,
-        WorldFault::Count => RecordsFault::Memory,
         WorldFault::Memory => RecordsFault::Memory,
+        WorldFault::Differs { .. } | WorldFault::InUse { .. } | WorldFault::Count => unreachable!(),
     }
 }
 
@@ -73,6 +72,7 @@ fn read_directory<H: Home>(alloc: Global, home: &mut H, dir: &str) -> Result<Dur
     ensures files { (s : Spot) → H.file home.new s ≡ H.file home.old s }
     ensures entered { OnOk result (H.entered home.new ≡ Some dir.now) }
     ensures device { (spot : Spot) → IsErrOf result (RecordsFault.Device spot) → HasFailed H.faults H.last_failed spot home.old home.new }
+    ensures quiet { ((spot : Spot) → IsErrOf result (RecordsFault.Device spot) → ⊥) → H.faults home.new ≡ H.faults home.old }
 {
     match home.enter(alloc, dir) {
         Ok(()) => match read_rows(alloc, home, MEMBERS, COORDS) {
@@ -88,7 +88,7 @@ fn read_directory<H: Home>(alloc: Global, home: &mut H, dir: &str) -> Result<Dur
 /// `NODE KEY VALUE` for each, members ascending and the keys of each member ascending. The directory is
 /// entered, and made where it is missing; no file is written.
 ///
-/// `Write` comes only where the sink failed, and then its count of faults rose. `Device`, `Bad`, `Full` and
+/// `Write` comes where the sink failed and its count of faults rose, and only there. `Device`, `Bad`, `Full` and
 /// `Memory` come as `read_durable` says, and `Device` with `m1.a` where the directory could not be entered;
 /// with these nothing is written, but for `Memory`, which may come with a front of the text.
 pub fn write_records<H: Home, K: Sink>(
@@ -105,8 +105,10 @@ pub fn write_records<H: Home, K: Sink>(
     ensures files { (s : Spot) → H.file home.new s ≡ H.file home.old s }
     ensures entered { OnOk result (H.entered home.new ≡ Some dir.now) }
     ensures device { (spot : Spot) → IsErrOf result (RecordsFault.Device spot) → HasFailed H.faults H.last_failed spot home.old home.new }
+    ensures quiet { ((spot : Spot) → IsErrOf result (RecordsFault.Device spot) → ⊥) → H.faults home.new ≡ H.faults home.old }
     ensures counts { K.faults out.old ≤ K.faults out.new }
     ensures write { IsErrOf result RecordsFault.Write → HasRisen (K.faults out.old) (K.faults out.new) }
+    ensures silent { (IsErrOf result RecordsFault.Write → ⊥) → K.faults out.new ≡ K.faults out.old }
 {
     match read_directory(alloc, home, dir) {
         Ok(rows) => match put_records(alloc, out, rows.as_slice()) {

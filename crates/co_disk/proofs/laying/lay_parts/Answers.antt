@@ -1,4 +1,4 @@
-use Rattle.std.proofs.Common.{◌≡◌, ◌≤◌, ◌∙◌, ◌++◌, ◌∷◌, [], List, ap, sym, refl, subst, length, map, take, arith, append_assoc}
+use Rattle.std.proofs.Common.{rules, ◌≡◌, ◌≤◌, ◌∙◌, ◌++◌, ◌∷◌, [], List, ap, sym, refl, subst, length, map, take, arith, append_assoc}
 use Rattle.co_disk.specs.DiskModel.{Write}
 use Rattle.co_disk.specs.Kept.{write_of, entry_of}
 use Rattle.co_disk.specs.Laying.{IsLaidTo}
@@ -11,6 +11,7 @@ pub loop-t-init : goal.loop-t-init
 loop-t-init g c = record {
   reach = omega arith;
   rest = rest_here g.H.Home.file g.H.Home.reach g.H.Home.entered g.H.Home.faults g.H.Home.last_failed c.args.spot c.args.home.now;
+  quiet = refl;
   laid = λ disk done touched short start. subst (λ (ws : List Write). IsLaidTo disk c.args.image.now ws (g.H.Home.file c.args.home.now c.args.spot) (g.H.Home.reach c.args.home.now c.args.spot)) (sym (append_none done)) start;
 }
   where
@@ -33,6 +34,7 @@ loop-t-preserved g c =
     record {
       reach = omega (arith, c.loop-t.invariant.reach, c.lay_part.ensures.reach);
       rest = rest_then g.H.Home.file g.H.Home.reach g.H.Home.entered g.H.Home.faults g.H.Home.last_failed c.args.spot c.args.home.now c.loop-t.home c.lay_part.new.home c.loop-t.invariant.rest c.lay_part.ensures.rest;
+      quiet = search rules;
       laid = λ disk done touched short start.
           let so_far = c.loop-t.invariant.laid disk done touched short start in
           let step = c.in_ok-lay_part.ensures.laid disk (done ++ map write_of (map entry_of (take i c.args.touched.now))) (write_of (entry_of t)) refl long (λ place covered. touched place (covered_one place c.args.touched.now i t c.loop-t-test.true c.t-item.is covered)) short so_far in

@@ -10,6 +10,7 @@ abbrev pub invariant-loop-t : goal.invariant-loop-t
 invariant-loop-t g l = record {
   reach : g.H.Home.reach l.initial.home l.spot ≤ g.H.Home.reach l.home l.spot;
   rest : RestStays g.H.Home.file g.H.Home.reach g.H.Home.entered g.H.Home.faults l.spot l.initial.home l.home;
+  quiet : g.H.Home.faults l.home ≡ g.H.Home.faults l.initial.home;
   laid : (disk : DiskState) (done : List Write)
       → ((place : ℕ) → any_covers place (map write_of (map entry_of l.touched)) ≡ true → is_touched disk place ≡ true) → length l.image ≤ length (read_of disk)
       → IsLaidTo disk l.image done (g.H.Home.file l.initial.home l.spot) (g.H.Home.reach l.initial.home l.spot)

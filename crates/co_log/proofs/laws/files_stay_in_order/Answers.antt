@@ -1,4 +1,4 @@
-use Rattle.co_log.proofs.Ordered.{attached_ordered, made_ordered, forced_ordered, closing_ordered, filling_ordered}
+use Rattle.co_log.proofs.Ordered.{attached_ordered, attached_unarmed, made_ordered, forced_ordered, closing_ordered, filling_ordered}
 use Rattle.co_log.proofs.laws.files_stay_in_order.Goals as goal
 
 pub returns-clause-attached : goal.returns-clause-attached
@@ -15,3 +15,6 @@ returns-clause-closed c = closing_ordered
 
 pub returns-clause-filled : goal.returns-clause-filled
 returns-clause-filled c = filling_ordered
+
+pub returns-clause-unarmed : goal.returns-clause-unarmed
+returns-clause-unarmed c = attached_unarmed

@@ -4,4 +4,4 @@ use Rattle.co_log_tests.proofs.Tested.{ready_waiting}
 use Rattle.co_log_tests.proofs.logs.arm.Goals as goal
 
 pub returns : goal.returns
-returns c = λ home ready. ready_waiting memory_file (λ h s. length (memory_bytes h s)) home c.args.log.now c.arm.new.self _ _ c.arm.ensures ready
+returns c = λ home ready. ready_waiting (memory_file home) (λ s. length (memory_bytes home s)) c.args.log.now c.arm.new.self _ _ c.arm.ensures ready

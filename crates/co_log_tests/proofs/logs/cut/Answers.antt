@@ -8,5 +8,5 @@ use Rattle.co_log_tests.proofs.logs.cut.Goals as goal
 
 pub returns : goal.returns
 returns c =
-    subst (λ (h : HomeMemory). IsReady memory_file (λ h s. length (memory_bytes h s)) h c.cut.new.self) (sym c.cut.ensures.home)
-    (ready_waiting memory_file (λ h s. length (memory_bytes h s)) c.args.home.now c.args.log.now c.cut.new.self [] None c.cut.ensures.log c.requires)
+    subst (λ (h : HomeMemory). IsReady (memory_file h) (λ s. length (memory_bytes h s)) c.cut.new.self) (sym c.cut.ensures.home)
+    (ready_waiting (memory_file c.args.home.now) (λ s. length (memory_bytes c.args.home.now s)) c.args.log.now c.cut.new.self [] None c.cut.ensures.log c.requires)

@@ -5,4 +5,4 @@ use Rattle.co_log_tests.proofs.logs.fill.Goals as goal
 pub returns : goal.returns
 returns c = λ done.
     let next = filling_ordered c.args.log.now c.fill_spare.new.self c.requires.ready.items (c.args.item ∷ []) c.fill_spare.result c.requires.ready.ordered c.fill_spare.ensures.filling done in
-    record { held = c.fill_spare.ensures.held done; items = next.0; ordered = next.1 }
+    record { held = c.fill_spare.ensures.held done; items = _; ordered = next }

@@ -5,7 +5,7 @@ use Rattle.co_outside.proofs.whole.put_all.Given as goal
 abbrev pub invariant-writing : goal.invariant-writing
 invariant-writing g l = record {
   within : l.done ≤ length l.piece;
-  counts : g.K.Sink.faults l.fn.sink ≤ g.K.Sink.faults l.sink;
+  counts : g.K.Sink.faults l.sink ≡ g.K.Sink.faults l.fn.sink;
   front : (held : List ℕ) → g.K.Sink.told l.fn.sink ≡ Some held → g.K.Sink.told l.sink ≡ Some (held ++ take l.done l.piece);
 }
 

@@ -5,7 +5,7 @@ use Rattle.co_outside.proofs.whole.read_all.Given as goal
 abbrev pub invariant-reading : goal.invariant-reading
 invariant-reading g l = record {
   within : length l.input.items ≤ l.most;
-  counts : g.S.Source.faults l.fn.source ≤ g.S.Source.faults l.source;
+  counts : g.S.Source.faults l.source ≡ g.S.Source.faults l.fn.source;
   front : (held : List ℕ) → g.S.Source.left l.fn.source ≡ Some held → l.input.items ≡ take (length l.input.items) held;
   rest : (held : List ℕ) → g.S.Source.left l.fn.source ≡ Some held → g.S.Source.left l.source ≡ Some (drop (length l.input.items) held);
 }

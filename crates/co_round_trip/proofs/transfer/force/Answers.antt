@@ -1,4 +1,5 @@
-use Rattle.std.proofs.Common.{[], ◌∷◌, ◌++◌, Ok}
+use Rattle.std.proofs.Common.{[], ◌∷◌, ◌++◌, Ok, true}
+use Rattle.co_log.specs.LogFile.{next_items}
 use Rattle.co_log.proofs.Ordered.{forced_ordered}
 use Rattle.co_round_trip.proofs.transfer.force.Goals as goal
 
@@ -6,4 +7,4 @@ pub returns : goal.returns
 returns g c =
     let ready = c.requires.ready in
     let next = forced_ordered c.args.log.now c.force.new.self ready.items (c.args.log.now.waiting ++ c.args.item ∷ []) (Ok c.in_ok-force.field-0) ready.ordered (c.in_ok-force.ensures.forced ready.items ready.ordered.live) tt in
-    record { held = c.in_ok-force.ensures.held tt; items = next.0; ordered = next.1 }
+    record { held = c.in_ok-force.ensures.held tt; items = next_items true c.args.log.now.gate ready.items (c.args.log.now.waiting ++ c.args.item ∷ []); ordered = next }

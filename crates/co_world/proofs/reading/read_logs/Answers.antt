@@ -1,4 +1,4 @@
-use Rattle.std.proofs.Common.{◌+◌, take, refl, sym, subst, get_or}
+use Rattle.std.proofs.Common.{rules, ◌+◌, take, refl, sym, subst, get_or}
 use Rattle.co_base.specs.declared.node.Node.TheVariants.{Member}
 use Rattle.co_world.specs.Pairs.{EachPair}
 use Rattle.co_world.specs.Reading.{IsLogOf, IsFirstUnread}
@@ -22,4 +22,5 @@ loop-node-preserved g c =
           (pair_more (IsLogOf (g.H.Home.file c.args.home.now)) nodes c.loop-node.logs.items c.loop-node.node-index (get_or nodes c.loop-node.node-index (Member 0)) (Member 0) c.in_ok-read_log.field-0 c.loop-node-test.true refl
           c.loop-node.invariant.read (log_moved (g.H.Home.file c.loop-node.home) (g.H.Home.file c.args.home.now) _ _ c.loop-node.invariant.reads.files c.in_ok-read_log.ensures.read));
       reads = reads_on g.H.Home.file g.H.Home.entered g.H.Home.faults g.H.Home.last_failed c.args.home.now c.loop-node.home c.read_log.new.home c.loop-node.invariant.reads c.read_log.ensures.reads;
+      quiet = search rules;
     }

@@ -1,4 +1,4 @@
-use Rattle.std.proofs.Common.{◌+◌, ◌++◌, Some, ap, ◌∙◌, append_assoc, arith}
+use Rattle.std.proofs.Common.{rules, ◌+◌, ◌++◌, Some, ap, ◌∙◌, append_assoc, arith}
 use Rattle.co_world.proofs.Fronts.{kept_front, part_front, line_more, on_err, in_err}
 use Rattle.co_world.proofs.text.put_records.Goals as goal
 
@@ -25,7 +25,7 @@ loop-row-preserved g c = record {
         append_assoc told.0 put.0 c.put_piece.new.text.items ∙ ap (λ t. told.0 ++ t) (put.2 ∙ c.in_ok-append_line.ensures)
             ∙ line_more c.args.rows.now c.loop-row.row-index c.row-item.result told.0 c.loop-row.text.items c.loop-row-test.true c.row-item.is told.2,
       );
-  counts = omega (arith, c.loop-row.invariant.counts, c.put_piece.ensures.counts);
+  counts = search rules;
 }
 
 pub returns-clause-front : goal.returns-clause-front

@@ -1,9 +1,9 @@
-use Rattle.std.proofs.Common.{◌≤◌, List, length, sym, subst}
+use Rattle.std.proofs.Common.{◌≤◌, ℕ, List, length, map, ap, sym, subst, arith}
 use Rattle.co_disk.specs.declared.touched.Touched.{Touched}
 use Rattle.co_disk.specs.DiskModel.{IsChosen}
 use Rattle.co_disk.specs.DiskView.{DiskView}
 use Rattle.co_disk.specs.Homes.{IsImageIn}
-use Rattle.co_disk.specs.Kept.{entries, state_of}
+use Rattle.co_disk.specs.Kept.{entries, entry_of, state_of, IsKept}
 use Rattle.co_disk.specs.Laying.{BeginWithin}
 use Rattle.co_disk.proofs.Leaving.{to_lay, kept_after}
 use Rattle.co_disk.proofs.disk.Disk.leave.Goals as goal
@@ -34,3 +34,10 @@ returns-clause-image g c =
     let ready = to_lay c.self.inside.bytes.items c.choose.new.bytes.items es c.args.leaves.now (g.H.Home.file c.args.home.now c.self.inside.spot) (g.H.Home.reach c.args.home.now c.self.inside.spot) c.self.invariant chosen reach begins images in
     let after = c.lay_image-laid.ensures.images (state_of c.self.inside.bytes.items es) (rw (c.deref-2.ensures.value, c.deref-3.ensures.value) ready) in
     subst (λ (v : DiskView). IsImageIn v.state (g.H.Home.file c.lay_image-laid.new.home v.spot)) c.self.view_is after
+
+pub returns-clause-short : goal.returns-clause-short
+returns-clause-short g c =
+    let es = entries c.self.inside.first c.self.inside.touched.items in
+    let chosen = subst (λ (ts : List Touched). IsChosen (state_of c.self.inside.bytes.items (entries c.self.inside.first ts)) c.args.leaves.now c.choose.new.bytes.items) c.deref.ensures.value c.choose.ensures in
+    let kept : IsKept c.choose.new.bytes.items (map entry_of c.clear.new.self.items) = rw c.clear.ensures.items (kept_after c.self.inside.bytes.items c.choose.new.bytes.items es c.args.leaves.now c.self.invariant chosen) in
+    omega (arith, ap (λ (b : List ℕ). length b) kept.read, kept.short)

@@ -3,7 +3,8 @@ use Rattle.std.specs.Prelude.{Option, Some, IfSome, IfNone}
 use Rattle.co_outside.specs.Home.{File}
 use Rattle.co_outside.specs.declared.spot.Spot.{Spot}
 use Rattle.co_disk.specs.DiskView.{DiskView}
-use Rattle.co_log.specs.Attaching.{spot_of, used_of, IsToldAs, IsLonger}
+use Rattle.co_log.specs.Attaching.{used_of, IsToldAs, IsLonger}
+use Rattle.co_log.specs.LogView.{spot_of}
 use Rattle.co_log.proofs.Attached.{used_longer, unused_within, unused_text}
 use Rattle.co_log.proofs.log.Log.attach.Goals as goal
 

@@ -10,11 +10,12 @@ use Rattle.co_log.specs.declared.fault.LogFault.TheVariants as faults
 use Rattle.co_log.specs.Appending.{IsEnding}
 use Rattle.co_record.specs.Gate.{begins_closed}
 use Rattle.co_log.specs.LogFile.{OldOrBoth}
-use Rattle.co_log.specs.LogView.{LogView, IsHeld}
+use Rattle.co_log.specs.LogView.{LogView, IsHeld, IsLive}
 use Rattle.co_log.specs.Current.{IsOrdered, IsCurrentIf, IsCurrentAfter}
 use Rattle.co_log.proofs.Currents.{untouched_current, filled_current, faulted_current, err_is, same_err}
 use Rattle.co_log.specs.Spare.{IsFilling, filling, filling_mark}
 use Rattle.co_log.proofs.Logs.{filled, filled_if}
+use Rattle.co_log.proofs.Ordered.{live_open}
 use Rattle.co_log.proofs.Unmade.{ends_at_once, closed_told}
 use Rattle.co_log.proofs.log.Log.fill_spare.Goals as goal
 
@@ -40,7 +41,8 @@ returns-in-Whole-clause-filling g c =
     let ends = ends_at_once c.self.inside.spare.state.stable (subst (λ (l : LogView). begins_closed l.spare.state.stable ≡ true) (sym c.self.view_is) c.requires.closed) in
     let ended = subst (λ (e : Ending). IsEnding e c.self.inside.stop c.append.new.disk 0 [] (filling log items)) c.in-Whole.is (c.in_ok-ending.ensures.ended [] ends) in
     let mark : Mark = filling_mark log in
-    let done = filled log c.append.new.disk c.clear.new.self.items c.append.new.stop items c.in-Whole.next c.append.ensures.spot c.clear.ensures.items c.in_ok-ending.ensures.disarmed c.in_ok-ending.ensures.stable ended.1 ended.2 in
+    let open' = live_open log.current.state.stable log.gate _ (subst (λ (l : LogView). IsLive l c.requires.live.0) (sym c.self.view_is) c.requires.live.1).made (subst (λ (l : LogView). IsLive l c.requires.live.0) (sym c.self.view_is) c.requires.live.1).ends in
+    let done = filled log open' c.append.new.disk c.clear.new.self.items c.append.new.stop items c.in-Whole.next c.append.ensures.spot c.clear.ensures.items c.in_ok-ending.ensures.disarmed c.in_ok-ending.ensures.stable ended.1 ended.2 in
     subst (λ (l : LogView). IsFilling l items c.turn.new.self (Ok mark)) c.self.view_is
     (subst (λ (a : LogView). IsFilling log items a (Ok mark)) (sym c.turn.ensures) (ended.0, refl, done))
 
@@ -50,7 +52,8 @@ returns-clause-filling g c =
     let items = c.args.items.now in
     let ends = ends_at_once c.self.inside.spare.state.stable (subst (λ (l : LogView). begins_closed l.spare.state.stable ≡ true) (sym c.self.view_is) c.requires.closed) in
     let ended = subst (λ (e : Ending). IsEnding e c.self.inside.stop c.append.new.disk 0 [] (filling log items)) c.in-Stopped.is (c.in_ok-ending.ensures.ended [] ends) in
-    let done = filled_if c.in-Stopped.stable log c.append.new.disk c.clear.new.self.items c.append.new.stop items c.in-Stopped.next c.append.ensures.spot c.clear.ensures.items c.in_ok-ending.ensures.disarmed c.in_ok-ending.ensures.stable ended.3 ended.4 in
+    let open' = live_open log.current.state.stable log.gate _ (subst (λ (l : LogView). IsLive l c.requires.live.0) (sym c.self.view_is) c.requires.live.1).made (subst (λ (l : LogView). IsLive l c.requires.live.0) (sym c.self.view_is) c.requires.live.1).ends in
+    let done = filled_if c.in-Stopped.stable log open' c.append.new.disk c.clear.new.self.items c.append.new.stop items c.in-Stopped.next c.append.ensures.spot c.clear.ensures.items c.in_ok-ending.ensures.disarmed c.in_ok-ending.ensures.stable ended.3 ended.4 in
     subst (λ (l : LogView). IsFilling l items c.turn_if.new.self (Err (faults.Stopped c.in-Stopped.call c.in-Stopped.stable c.marks_if-marks.result))) c.self.view_is
     (subst (λ (a : LogView). IsFilling log items a (Err (faults.Stopped c.in-Stopped.call c.in-Stopped.stable c.marks_if-marks.result))) (sym c.turn_if.ensures)
     (ended.0, ended.1, ended.2, c.marks_if-marks.ensures ∙ ap (λ (m : List Mark). if c.in-Stopped.stable then m else []) c.in_ok-told.ensures, done))
@@ -71,7 +74,7 @@ returns-in_err-ending-clause-current g c =
     let closed = subst (λ (l : LogView). begins_closed l.spare.state.stable ≡ true) (sym c.self.view_is) c.requires.closed in
     let ends = ends_at_once c.self.inside.spare.state.stable closed in
     let still = subst (λ (l : LogView). l.spare.state.pending ≡ []) (sym c.self.view_is) c.requires.still in
-    let held = subst (λ (l : LogView). IsHeld g.H.Home.file g.H.Home.reach c.args.home.now l) (sym c.self.view_is) c.requires.held in
+    let held = subst (λ (l : LogView). IsHeld (g.H.Home.file c.args.home.now) (g.H.Home.reach c.args.home.now) l) (sym c.self.view_is) c.requires.held in
     let e = c.in_err-ending.field-0.0 in
     let is = err_is c.from_residual-in_err-ending.result e c.from_residual-in_err-ending.ensures.1 in
     subst (λ (r : Result Mark LogFault). (kept : List (ℕ × Record)) → IsOrdered c.args.self.now kept → (this that : File) → g.H.Home.file c.append.new.home c.args.self.now.current.spot ≡ Some this → g.H.Home.file c.append.new.home c.args.self.now.spare.spot ≡ Some that
@@ -87,7 +90,7 @@ returns-in_err-ending-clause-memory g c = λ is f told.
     c.append.ensures.memory [] ends (c.in_err-ending.was ∙ ap Err (same_err c.from_residual-in_err-ending.result c.in_err-ending.field-0.0 faults.Memory c.from_residual-in_err-ending.ensures.1 is)) f told'
 
 pub invariant_of-self : goal.invariant_of-self
-invariant_of-self g c = (c.self.invariant.0, c.append.ensures.stop)
+invariant_of-self g c = (c.self.invariant.0, c.append.ensures.stop, c.self.invariant.2, c.append.ensures.read)
 
 pub returns-in-Whole-clause-current : goal.returns-in-Whole-clause-current
 returns-in-Whole-clause-current g c =
@@ -95,7 +98,7 @@ returns-in-Whole-clause-current g c =
     let items = c.args.items.now in
     let ends = ends_at_once c.self.inside.spare.state.stable (subst (λ (l : LogView). begins_closed l.spare.state.stable ≡ true) (sym c.self.view_is) c.requires.closed) in
     let ended = subst (λ (e : Ending). IsEnding e c.self.inside.stop c.append.new.disk 0 [] (filling log items)) c.in-Whole.is (c.in_ok-ending.ensures.ended [] ends) in
-    let held = subst (λ (l : LogView). IsHeld g.H.Home.file g.H.Home.reach c.args.home.now l) (sym c.self.view_is) c.requires.held in
+    let held = subst (λ (l : LogView). IsHeld (g.H.Home.file c.args.home.now) (g.H.Home.reach c.args.home.now) l) (sym c.self.view_is) c.requires.held in
     subst (λ (l : LogView). (kept : List (ℕ × Record)) → IsOrdered l kept → (this that : File) → g.H.Home.file c.append.new.home l.current.spot ≡ Some this → g.H.Home.file c.append.new.home l.spare.spot ≡ Some that → IsCurrentIf true l kept items this.bytes that.bytes) c.self.view_is
     (filled_current g.H.Home.file g.H.Home.reach g.H.Home.entered g.H.Home.faults c.args.home.now c.append.new.home log c.append.new.disk items true held c.in_ok-ending.ensures.rest c.in_ok-ending.ensures.agrees c.in_ok-ending.ensures.stable ended.2)
 
@@ -105,6 +108,9 @@ returns-clause-current g c =
     let items = c.args.items.now in
     let ends = ends_at_once c.self.inside.spare.state.stable (subst (λ (l : LogView). begins_closed l.spare.state.stable ≡ true) (sym c.self.view_is) c.requires.closed) in
     let ended = subst (λ (e : Ending). IsEnding e c.self.inside.stop c.append.new.disk 0 [] (filling log items)) c.in-Stopped.is (c.in_ok-ending.ensures.ended [] ends) in
-    let held = subst (λ (l : LogView). IsHeld g.H.Home.file g.H.Home.reach c.args.home.now l) (sym c.self.view_is) c.requires.held in
+    let held = subst (λ (l : LogView). IsHeld (g.H.Home.file c.args.home.now) (g.H.Home.reach c.args.home.now) l) (sym c.self.view_is) c.requires.held in
     subst (λ (l : LogView). (kept : List (ℕ × Record)) → IsOrdered l kept → (this that : File) → g.H.Home.file c.append.new.home l.current.spot ≡ Some this → g.H.Home.file c.append.new.home l.spare.spot ≡ Some that → IsCurrentIf c.in-Stopped.stable l kept items this.bytes that.bytes) c.self.view_is
     (filled_current g.H.Home.file g.H.Home.reach g.H.Home.entered g.H.Home.faults c.args.home.now c.append.new.home log c.append.new.disk items c.in-Stopped.stable held c.in_ok-ending.ensures.rest c.in_ok-ending.ensures.agrees c.in_ok-ending.ensures.stable ended.4)
+
+pub returns-then-not-are_counted-clause-told : goal.returns-then-not-are_counted-clause-told
+returns-then-not-are_counted-clause-told g c = inr (λ f told. closed_told c.args.self.now.spare.state f.bytes (filling c.args.self.now c.args.items.now) c.requires.still c.requires.closed (c.requires.held.spare.told f told))

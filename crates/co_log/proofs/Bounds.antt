@@ -1,0 +1,50 @@
+-- Files of a log are within the most bytes of a file.
+use Rattle.std.proofs.Common.{◌≡◌, ◌⊎◌, ℕ, ◌+◌, ◌<◌, ◌≤◌, List, [], ◌∷◌, length, ap, sym, ◌∙◌, arith, inl, inr}
+use Rattle.std.specs.Prelude.{Option, Some}
+use Rattle.co_outside.specs.Home.{File}
+use Rattle.co_outside.specs.declared.spot.Spot.{Spot}
+use Rattle.co_disk.specs.DiskModel.{IsImage, read_of}
+use Rattle.co_disk.specs.DiskView.{DiskView}
+use Rattle.co_disk.specs.Homes.{Agrees, RestStays}
+use Rattle.co_disk.proofs.Gets.{length_overlaid}
+use Rattle.co_log.specs.Attaching.{IsWithin}
+use Rattle.co_log.specs.BatchWrite.{batch_pending, gate_pending}
+use Rattle.co_log.specs.LogView.{LogView, IsHeld, IsShort}
+use Rattle.co_log.specs.Others.{BothWithin}
+use Rattle.co_log.proofs.Spots.{spots_apart}
+
+-- a told file that is what a disk gives
+pub agreed_within : (file : Option File) (reach : ℕ) (disk : DiskView) → Agrees file reach (read_of disk.state) → IsShort disk → IsWithin 268435456 file
+agreed_within file reach disk agrees short = λ f told. omega (arith, short, ap (λ (b : List ℕ). length b) (agrees.told f told))
+
+-- what a read gives while a log write is on its way
+pub pending_short : (stable batch : List ℕ) (gate : ℕ) → gate < length stable → gate + 1 + length batch ≤ 268435456 → length stable ≤ 268435456 → (length (read_of (batch_pending stable gate batch)) ≤ 268435456) × (length (read_of (gate_pending stable gate batch)) ≤ 268435456)
+pending_short stable batch gate within end short =
+    let first = length_overlaid stable (gate + 1) batch (omega (arith, within)) in
+    let second = length_overlaid (read_of (batch_pending stable gate batch)) gate (165 ∷ []) (omega (arith, first, within)) in
+    (omega (arith, first, end, short), omega (arith, first, second, within, end, short))
+
+-- an image of a log write that met a fault
+pub image_within : (file : Option File) (stable batch : List ℕ) (gate : ℕ) → gate < length stable → gate + 1 + length batch ≤ 268435456 → length stable ≤ 268435456
+    → ((f : File) → file ≡ Some f → IsImage (batch_pending stable gate batch) f.bytes ⊎ IsImage (gate_pending stable gate batch) f.bytes) → IsWithin 268435456 file
+image_within file stable batch gate within end short images = λ f told.
+    let both = pending_short stable batch gate within end short in
+    elim (images f told) [ inl early ↦ omega (arith, early.no_longer, both.0) | inr late ↦ omega (arith, late.no_longer, both.1) ]
+
+same_within : (file after : Option File) → after ≡ file → IsWithin 268435456 file → IsWithin 268435456 after
+same_within file after same within = λ f told. within f (sym same ∙ told)
+
+-- both files are within their bounds where nothing was called
+pub held_within : (file : Spot → Option File) (reach : Spot → ℕ) (log : LogView) → IsHeld file reach log → IsShort log.current → IsShort log.spare → BothWithin file log
+held_within file reach log held current spare = (agreed_within (file log.current.spot) (reach log.current.spot) log.current held.current current, agreed_within (file log.spare.spot) (reach log.spare.spot) log.spare held.spare spare)
+
+module _ {H : Type 0} (file : H → Spot → Option File) (reach : H → Spot → ℕ) (entered : H → Option (List ℕ)) (faults : H → ℕ) (old new : H) (log : LogView) (held : IsHeld (file old) (reach old) log) where
+  -- after calls on the current file alone
+  pub current_within : IsShort log.spare → RestStays file reach entered faults log.current.spot old new → IsWithin 268435456 (file new log.current.spot) → BothWithin (file new) log
+  current_within spare rest within =
+      (within, same_within (file old log.spare.spot) (file new log.spare.spot) (rest.others.files log.spare.spot (λ e. spots_apart log held.spots (sym e))) (agreed_within (file old log.spare.spot) (reach old log.spare.spot) log.spare held.spare spare))
+
+  -- and on the spare alone
+  pub spare_within : IsShort log.current → RestStays file reach entered faults log.spare.spot old new → IsWithin 268435456 (file new log.spare.spot) → BothWithin (file new) log
+  spare_within current rest within =
+      (same_within (file old log.current.spot) (file new log.current.spot) (rest.others.files log.current.spot (λ e. spots_apart log held.spots e)) (agreed_within (file old log.current.spot) (reach old log.current.spot) log.current held.current current), within)

@@ -1,0 +1,128 @@
+-- The two files of a log, and those of all others.
+use Rattle.std.proofs.Common.{◌≡◌, ◌≢◌, ℕ, sym, ap, subst, ◌∙◌, arith, inl, inr}
+use Rattle.std.specs.Prelude.{List, Option}
+use Rattle.co_base.specs.Nodes.{IsValidNode, node_byte}
+use Rattle.co_base.specs.declared.node.Node.{Node}
+use Rattle.co_base.specs.declared.node.Node.TheVariants.{Member, Coord}
+use Rattle.co_outside.specs.Home.{File}
+use Rattle.co_outside.specs.declared.spot.Spot.{Spot}
+use Rattle.co_disk.specs.DiskModel.{read_of}
+use Rattle.co_disk.specs.DiskView.{DiskView}
+use Rattle.co_disk.specs.Homes.{Agrees, RestStays}
+use Rattle.co_log.specs.Attaching.{built, IsAttached}
+use Rattle.co_log.specs.LogView.{LogView, IsHeld, HasSpots, spot_of}
+use Rattle.co_log.specs.Others.{OtherFilesStay, OtherNodesStay}
+
+parts_apart : (node : Node) (p q : ℕ) → (p ≡ q → ⊥) → spot_of node p ≢ spot_of node q
+parts_apart node p q other e = absurd (other (ap (λ (s : Spot). s.part) e))
+
+-- the files of a log are two
+pub spots_apart : (log : LogView) → HasSpots log → log.current.spot ≢ log.spare.spot
+spots_apart log spots e = elim spots [
+  | inl own ↦ absurd (parts_apart log.node 0 1 (λ h. omega (arith, h)) (sym own.0 ∙ e ∙ own.1))
+  | inr own ↦ absurd (parts_apart log.node 1 0 (λ h. omega (arith, h)) (sym own.0 ∙ e ∙ own.1))
+]
+
+-- a log with the same node and the same files has them too
+pub spots_moved : (log after : LogView) → after.node ≡ log.node → after.current.spot ≡ log.current.spot → after.spare.spot ≡ log.spare.spot → HasSpots log → HasSpots after
+spots_moved log after node current spare spots = elim spots [
+  | inl own ↦ inl (current ∙ own.0 ∙ ap (λ (n : Node). spot_of n 0) (sym node), spare ∙ own.1 ∙ ap (λ (n : Node). spot_of n 1) (sym node))
+  | inr own ↦ inr (current ∙ own.0 ∙ ap (λ (n : Node). spot_of n 1) (sym node), spare ∙ own.1 ∙ ap (λ (n : Node). spot_of n 0) (sym node))
+]
+
+-- and so has one whose files are exchanged
+pub spots_turned : (log after : LogView) → after.node ≡ log.node → after.current.spot ≡ log.spare.spot → after.spare.spot ≡ log.current.spot → HasSpots log → HasSpots after
+spots_turned log after node current spare spots = elim spots [
+  | inl own ↦ inr (current ∙ own.1 ∙ ap (λ (n : Node). spot_of n 1) (sym node), spare ∙ own.0 ∙ ap (λ (n : Node). spot_of n 0) (sym node))
+  | inr own ↦ inl (current ∙ own.1 ∙ ap (λ (n : Node). spot_of n 0) (sym node), spare ∙ own.0 ∙ ap (λ (n : Node). spot_of n 1) (sym node))
+]
+
+pub spots_attached : (node : Node) (a b : DiskView) (log : LogView) → a.spot ≡ spot_of node 0 → b.spot ≡ spot_of node 1 → IsAttached node a b log → HasSpots log
+spots_attached node a b log at_a at_b attached = elim attached [
+  | inl fresh ↦ subst HasSpots (sym fresh.0) (inl (at_a, at_b))
+  | inr live ↦ elim live [
+    | inl one ↦ subst HasSpots (sym one.is) (inl (at_a, at_b))
+    | inr other ↦ subst HasSpots (sym other.is) (inr (at_b, at_a))
+  ]
+]
+
+pub held_attached : (node : Node) (a b : DiskView) (log : LogView) (file : Spot → Option File) (reach : Spot → ℕ) → a.spot ≡ spot_of node 0 → b.spot ≡ spot_of node 1 → Agrees (file a.spot) (reach a.spot) (read_of a.state) → Agrees (file b.spot) (reach b.spot) (read_of b.state)
+    → IsAttached node a b log → IsHeld file reach log
+held_attached node a b log file reach at_a at_b agrees_a agrees_b attached =
+    let spots = spots_attached node a b log at_a at_b attached in
+    elim attached [
+      | inl fresh ↦ here log a b fresh.0 agrees_a agrees_b spots
+      | inr live ↦ elim live [
+        | inl one ↦ here log a b one.is agrees_a agrees_b spots
+        | inr other ↦ here log b a other.is agrees_b agrees_a spots
+      ]
+    ]
+  where
+    here : {gate generation : ℕ} (l : LogView) (current spare : DiskView) → l ≡ built node current spare gate generation → Agrees (file current.spot) (reach current.spot) (read_of current.state) → Agrees (file spare.spot) (reach spare.spot) (read_of spare.state) → HasSpots l → IsHeld file reach l
+    here l current spare is this that own = record {
+      spots = own;
+      current = subst (λ (k : LogView). Agrees (file k.current.spot) (reach k.current.spot) (read_of k.current.state)) (sym is) this;
+      spare = subst (λ (k : LogView). Agrees (file k.spare.spot) (reach k.spare.spot) (read_of k.spare.state)) (sym is) that;
+    }
+
+-- no other file is one of its two
+pub not_current : (log : LogView) (s : Spot) → HasSpots log → s ≢ spot_of log.node 0 → s ≢ spot_of log.node 1 → s ≢ log.current.spot
+not_current log s spots not_a not_b e = elim spots [ inl own ↦ absurd (not_a (e ∙ own.0)) | inr own ↦ absurd (not_b (e ∙ own.0)) ]
+
+pub not_spare : (log : LogView) (s : Spot) → HasSpots log → s ≢ spot_of log.node 0 → s ≢ spot_of log.node 1 → s ≢ log.spare.spot
+not_spare log s spots not_a not_b e = elim spots [ inl own ↦ absurd (not_b (e ∙ own.1)) | inr own ↦ absurd (not_a (e ∙ own.1)) ]
+
+-- ---- other nodes
+
+pub bytes_apart : (this that : Node) → IsValidNode this → IsValidNode that → node_byte this ≡ node_byte that → this ≡ that
+bytes_apart (Member m) (Member n) one two e = ap Member e
+bytes_apart (Member m) (Coord n) one two e = absurd (omega (arith, one.1, two.0, e))
+bytes_apart (Coord m) (Member n) one two e = absurd (omega (arith, one.0, two.1, e))
+bytes_apart (Coord m) (Coord n) one two e = ap Coord (let h : m ≡ n = omega (arith, e) in h)
+
+spot_elsewhere : (this that : Node) (p q : ℕ) → IsValidNode this → IsValidNode that → that ≢ this → spot_of that p ≢ spot_of this q
+spot_elsewhere this that p q one two other e = absurd (other (bytes_apart that this two one (ap (λ (s : Spot). s.node) e)))
+
+-- the files of another node's log are none of these two
+elsewhere : (node : Node) (log : LogView) → IsValidNode node → IsValidNode log.node → log.node ≢ node → HasSpots log
+    → (log.current.spot ≢ spot_of node 0) × (log.current.spot ≢ spot_of node 1) × (log.spare.spot ≢ spot_of node 0) × (log.spare.spot ≢ spot_of node 1)
+elsewhere node log one two other spots = elim spots [
+  | inl own ↦ (λ e. spot_elsewhere node log.node 0 0 one two other (sym own.0 ∙ e), λ e. spot_elsewhere node log.node 0 1 one two other (sym own.0 ∙ e), λ e. spot_elsewhere node log.node 1 0 one two other (sym own.1 ∙ e), λ e. spot_elsewhere node log.node 1 1 one two other (sym own.1 ∙ e))
+  | inr own ↦ (λ e. spot_elsewhere node log.node 1 0 one two other (sym own.0 ∙ e), λ e. spot_elsewhere node log.node 1 1 one two other (sym own.0 ∙ e), λ e. spot_elsewhere node log.node 0 0 one two other (sym own.1 ∙ e), λ e. spot_elsewhere node log.node 0 1 one two other (sym own.1 ∙ e))
+]
+
+agrees_on : (file after : Option File) (reach further : ℕ) (bytes : List ℕ) → after ≡ file → further ≡ reach → Agrees file reach bytes → Agrees after further bytes
+agrees_on file after reach further bytes same still agrees = record { told = λ f is. agrees.told f (sym same ∙ is); room = omega (arith, agrees.room, still) }
+
+pub held_elsewhere : (node : Node) (file after : Spot → Option File) (reach further : Spot → ℕ) (log : LogView) → IsValidNode node → IsValidNode log.node → log.node ≢ node → OtherFilesStay node file after reach further → IsHeld file reach log → IsHeld after further log
+held_elsewhere node file after reach further log one two other stay held =
+    let away = elsewhere node log one two other held.spots in
+    record {
+      spots = held.spots;
+      current = agrees_on (file log.current.spot) (after log.current.spot) (reach log.current.spot) (further log.current.spot) (read_of log.current.state) (stay.files log.current.spot away.0 away.1) (stay.reaches log.current.spot away.0 away.1) held.current;
+      spare = agrees_on (file log.spare.spot) (after log.spare.spot) (reach log.spare.spot) (further log.spare.spot) (read_of log.spare.state) (stay.files log.spare.spot away.2 away.3) (stay.reaches log.spare.spot away.2 away.3) held.spare;
+    }
+
+module _ {H : Type 0} (file : H → Spot → Option File) (reach : H → Spot → ℕ) (entered : H → Option (List ℕ)) (faults : H → ℕ) (log : LogView) (spots : HasSpots log) where
+  -- a call on one of its two files leaves all other nodes
+  pub current_only : (old new : H) → RestStays file reach entered faults log.current.spot old new → OtherNodesStay file reach entered faults log.node old new
+  current_only old new rest = record {
+    others = record { files = λ s a b. rest.others.files s (not_current log s spots a b); reaches = λ s a b. rest.others.reaches s (not_current log s spots a b) };
+    directory = rest.others.directory;
+    count = rest.count;
+  }
+
+  pub spare_only : (old new : H) → RestStays file reach entered faults log.spare.spot old new → OtherNodesStay file reach entered faults log.node old new
+  spare_only old new rest = record {
+    others = record { files = λ s a b. rest.others.files s (not_spare log s spots a b); reaches = λ s a b. rest.others.reaches s (not_spare log s spots a b) };
+    directory = rest.others.directory;
+    count = rest.count;
+  }
+
+-- one call after another
+pub others_then : {H : Type 0} (file : H → Spot → Option File) (reach : H → Spot → ℕ) (entered : H → Option (List ℕ)) (faults : H → ℕ) (node : Node) (old mid new : H) → OtherNodesStay file reach entered faults node old mid → OtherNodesStay file reach entered faults node mid new → OtherNodesStay file reach entered faults node old new
+others_then file reach entered faults node old mid new first then = record {
+  others = record { files = λ s a b. then.others.files s a b ∙ first.others.files s a b; reaches = λ s a b. then.others.reaches s a b ∙ first.others.reaches s a b };
+  directory = then.directory ∙ first.directory;
+  count = omega (arith, first.count, then.count);
+}
