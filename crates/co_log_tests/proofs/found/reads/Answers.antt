@@ -4,4 +4,4 @@ use Rattle.co_log_tests.proofs.Tested.{ready_records}
 use Rattle.co_log_tests.proofs.found.reads.Goals as goal
 
 pub lends-requires : goal.lends-requires
-lends-requires c = ready_records memory_file (λ h s. length (memory_bytes h s)) c.opened.new.home c.in-Ok.log c.in-Ok.ensures
+lends-requires c = ready_records (memory_file c.opened.new.home) (λ s. length (memory_bytes c.opened.new.home s)) c.in-Ok.log c.in-Ok.ensures
