@@ -6,3 +6,4 @@ pub mod Graphs
 pub mod Entering
 pub mod Restoring
 pub mod Standing
+pub mod Readings

@@ -29,6 +29,17 @@ coord_in None = None
 coord_in (Some (Active kept asked)) = None
 coord_in (Some (Voted coord count)) = Some coord
 
+-- whether it voted
+abbrev pub voted_in_entry : Option Entry → Option Bool
+voted_in_entry None = None
+voted_in_entry (Some (Active kept asked)) = Some false
+voted_in_entry (Some (Voted coord count)) = Some true
+
+-- the coordinator that asked for a vote
+abbrev pub coord_asked : Option Vote → Option ℕ
+coord_asked None = None
+coord_asked (Some vote) = Some vote.coord
+
 -- the entry of a transaction by its operations, its vote and its mark
 abbrev pub entry_of : Option (List Operation) → Option Vote → Option AskedMark → Option Entry
 entry_of os (Some vote) asked = Some (Voted vote.coord vote.count)

@@ -1,4 +1,7 @@
 //! What is kept of an undecided transaction beside its engine and the graph.
+ghost use Rattle.std.specs.Prelude.{◌≡◌};
+ghost use Rattle.co_undecided.specs.Kept.{asked_in, coord_in, voted_in_entry};
+
 use co_plain::AskedMark;
 
 /// An undecided transaction of a member.
@@ -18,4 +21,37 @@ pub enum Entry {
         /// How many operations were answered here.
         count: u16,
     },
+}
+
+/// What asked for the vote of an active transaction, where that is held.
+pub(crate) fn asked_of(entry: Option<Entry>) -> Option<AskedMark>
+    ensures { result ≡ asked_in entry }
+{
+    match entry {
+        Some(Entry::Active { kept: _, asked }) => asked,
+        Some(Entry::Voted { coord: _, count: _ }) => None,
+        None => None,
+    }
+}
+
+/// The coordinator that asked for the vote of a voted transaction.
+pub(crate) fn coord_of(entry: Option<Entry>) -> Option<u8>
+    ensures { result ≡ coord_in entry }
+{
+    match entry {
+        Some(Entry::Active { kept: _, asked: _ }) => None,
+        Some(Entry::Voted { coord, count: _ }) => Some(coord),
+        None => None,
+    }
+}
+
+/// Whether an undecided transaction has voted.
+pub(crate) fn voted_of(entry: Option<Entry>) -> Option<bool>
+    ensures { result ≡ voted_in_entry entry }
+{
+    match entry {
+        Some(Entry::Active { kept: _, asked: _ }) => Some(false),
+        Some(Entry::Voted { coord: _, count: _ }) => Some(true),
+        None => None,
+    }
 }

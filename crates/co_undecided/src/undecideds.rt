@@ -5,20 +5,20 @@ ghost use Rattle.co_pairs.specs.declared.prepared.Prepared.{Prepared};
 ghost use Rattle.co_engine.specs.Calls.{may_operate, seen_of, votes_of, AppendsNewPairs};
 ghost use Rattle.co_plain.specs.declared.member_state.AskedMark.{AskedMark};
 ghost use Rattle.co_state.specs.declared.engine_state.EngineState.{EngineState};
-ghost use Rattle.co_state.specs.Effects.{after_operation, after_cast, after_install, after_drop, restored, records_from};
-ghost use Rattle.co_state.specs.EngineState.{is_undecided};
+ghost use Rattle.co_state.specs.Effects.{after_operation, after_cast, after_install, after_drop, restored, records_from, dumped_rows, dumped_undos};
+ghost use Rattle.co_state.specs.EngineState.{is_undecided, sets_at};
 ghost use Rattle.co_state.specs.Table.{Table, no_entries, look, put, without, holds};
 ghost use Rattle.co_state.specs.VotingRule.{kept_count, vote_of};
 ghost use Rattle.co_vote.specs.Ballots.{verdict_of};
-ghost use Rattle.co_undecided.specs.Kept.{asked_in, kept_in};
+ghost use Rattle.co_undecided.specs.Kept.{asked_in, coord_asked, kept_in, mark_at};
 ghost use Rattle.co_undecided.specs.Represented.{Represents, HaveEntered, kept_at};
 
 use crate::entries::Entries;
-use crate::entry::Entry;
+use crate::entry::{Entry, asked_of, coord_of, voted_of};
 use co_base::{Kind, Op, Rows, Txn};
-use co_engine::{Engine, Seen};
+use co_engine::{Dump, Engine, Seen};
 use co_graph::Graph;
-use co_pairs::{Pairs, Prepared};
+use co_pairs::{Pairs, Prepared, Sets};
 use co_plain::AskedMark;
 use co_vote::{Ballot, ballot};
 use std::alloc::{AllocError, Global};
@@ -130,6 +130,42 @@ impl<E: Engine> Undecideds<E> {
             Some(Entry::Voted { coord: _, count: _ }) => 0,
             None => 0,
         }
+    }
+
+    /// What asked for the vote of an active transaction, where that is held. Takes no memory.
+    pub fn mark_of(&self, t: Txn) -> Option<AskedMark>
+        ensures { (b : EngineState) (asked : Table AskedMark) → Represents E.stands_for self.now b asked → result ≡ look asked t }
+    {
+        asked_of(self.entries.get(t))
+    }
+
+    /// The coordinator that asked for the vote of a voted transaction. Takes no memory.
+    pub fn coord_of(&self, t: Txn) -> Option<u8>
+        ensures { (b : EngineState) (asked : Table AskedMark) → Represents E.stands_for self.now b asked → result ≡ coord_asked (look b.voted t) }
+    {
+        coord_of(self.entries.get(t))
+    }
+
+    /// Whether an undecided transaction has voted. Takes no memory.
+    pub fn has_voted(&self, t: Txn) -> Option<bool>
+        ensures { (b : EngineState) (asked : Table AskedMark) → Represents E.stands_for self.now b asked → result ≡ mark_at b t }
+    {
+        voted_of(self.entries.get(t))
+    }
+
+    /// What an undecided transaction read and wrote here. Takes no memory.
+    pub fn sets(&self, t: Txn) -> &Sets
+        ensures { (b : EngineState) (asked : Table AskedMark) → Represents E.stands_for self.now b asked → IsTrue (is_undecided b t) → result.now ≡ sets_at b t }
+    {
+        self.engine.sets(t)
+    }
+
+    /// The records that a checkpoint has: those of the engine, and what undoes the ones that undecided transactions wrote in place.
+    pub fn dump(&self) -> Result<Dump, AllocError>
+        ensures rows { (b : EngineState) (asked : Table AskedMark) → Represents E.stands_for self.now b asked → IfOk result (λ dump. dump.rows ≡ dumped_rows b.kind b) }
+        ensures undos { (b : EngineState) (asked : Table AskedMark) → Represents E.stands_for self.now b asked → IfOk result (λ dump. dump.undos ≡ dumped_undos b.kind b) }
+    {
+        self.engine.dump(self.alloc)
     }
 
     /// An operation of a transaction that has neither voted nor been installed; fewer than 65,535 of its operations are kept.
