@@ -7,3 +7,4 @@ pub mod Entering
 pub mod Restoring
 pub mod Standing
 pub mod Readings
+pub mod Following

@@ -1,9 +1,9 @@
 -- What is kept of each undecided transaction beside its engine and the graph.
-use Rattle.std.specs.Prelude.{ℕ, Bool, true, false, List, length, Option, None, Some}
+use Rattle.std.specs.Prelude.{ℕ, Bool, true, false, nat_lt, List, length, Option, None, Some}
 use Rattle.co_state.specs.declared.engine_state.EngineState.{EngineState}
 use Rattle.co_state.specs.declared.engine_state.Operation.{Operation}
 use Rattle.co_state.specs.declared.engine_state.Vote.{Vote}
-use Rattle.co_state.specs.Table.{Table, look, put}
+use Rattle.co_state.specs.Table.{Table, look, put, least_where, lesser}
 use Rattle.co_plain.specs.declared.member_state.AskedMark.{AskedMark}
 use Rattle.co_undecided.specs.declared.entry.Entry.{Entry}
 use Rattle.co_undecided.specs.declared.entry.Entry.TheVariants.{Active, Voted}
@@ -57,3 +57,7 @@ mark_of None None = None
 
 abbrev pub mark_at : EngineState → ℕ → Option Bool
 mark_at b t = mark_of (look b.active t) (look b.voted t)
+
+-- the least undecided transaction above a number
+abbrev pub next_open : EngineState → ℕ → Option ℕ
+next_open b after = lesser (least_where (λ u os. nat_lt after u) b.active) (least_where (λ u vote. nat_lt after u) b.voted)

@@ -1,13 +1,15 @@
 //! Entries by transaction number.
-ghost use Rattle.std.specs.Prelude.{◌≡◌, OnOk};
+ghost use Rattle.std.specs.Prelude.{◌≡◌, OnOk, filter, nat_lt};
+ghost use Rattle.std.specs.FinMap.{entries};
 ghost use Rattle.co_state.specs.Table.{no_entries, look, put, without};
 ghost use Rattle.co_undecided.specs.Kept.{changed};
 
 use crate::entry::Entry;
 use co_base::Txn;
 use std::alloc::{AllocError, Global};
-use std::collections::BTreeMap;
+use std::collections::{BTreeMap, btree_map};
 use std::marker::Model;
+use std::ops::Bound;
 
 /// The entries of the undecided transactions. A contract sees the finite map.
 #[derive(Drop)]
@@ -69,5 +71,12 @@ impl Entries {
         ensures { self.new ≡ without self.old t }
     {
         let _ = self.entries.remove(&t);
+    }
+    /// The entries above a number, in order. Takes no memory.
+    pub(crate) fn above(&self, after: Txn) -> btree_map::Range<'_, Txn, Entry>
+        ensures { result ≡ filter (λ e. nat_lt after e.0) (entries self.now) }
+    {
+        self.entries
+            .range((Bound::Excluded(&after), Bound::Unbounded))
     }
 }

@@ -10,7 +10,7 @@ ghost use Rattle.co_state.specs.EngineState.{is_undecided, sets_at};
 ghost use Rattle.co_state.specs.Table.{Table, no_entries, look, put, without, holds};
 ghost use Rattle.co_state.specs.VotingRule.{kept_count, vote_of};
 ghost use Rattle.co_vote.specs.Ballots.{verdict_of};
-ghost use Rattle.co_undecided.specs.Kept.{asked_in, coord_asked, kept_in, mark_at};
+ghost use Rattle.co_undecided.specs.Kept.{asked_in, coord_asked, kept_in, mark_at, next_open};
 ghost use Rattle.co_undecided.specs.Represented.{Represents, HaveEntered, kept_at};
 
 use crate::entries::Entries;
@@ -151,6 +151,14 @@ impl<E: Engine> Undecideds<E> {
         ensures { (b : EngineState) (asked : Table AskedMark) → Represents E.stands_for self.now b asked → result ≡ mark_at b t }
     {
         voted_of(self.entries.get(t))
+    }
+
+    /// The least undecided transaction above a number. Takes no memory.
+    pub fn open_after(&self, after: Txn) -> Option<Txn>
+        ensures { (b : EngineState) (asked : Table AskedMark) → Represents E.stands_for self.now b asked → result ≡ next_open b after }
+    {
+        let (t, _) = self.entries.above(after).next()?;
+        Some(*t)
     }
 
     /// What an undecided transaction read and wrote here. Takes no memory.

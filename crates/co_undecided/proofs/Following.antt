@@ -1,0 +1,66 @@
+-- The least undecided transaction above a number is the first entry above it.
+use Rattle.std.proofs.Common.{◌≡◌, ℕ, ◌<◌, Bool, true, false, ◌&&◌, ◌||◌, nat_lt, if◌then◌else◌, filter, List, [], ◌∷◌, Option, None, Some, ◌⊎◌, inl, inr, refl, sym, ap, ◌∙◌, arith}
+use Rattle.std.specs.Ordering.{nat_cmp, is_lt}
+use Rattle.std.specs.Cmp.{nat_cmp_is}
+use Rattle.std.specs.BTreeMap.Range.{entries_between}
+use Rattle.std.specs.declared.ops.Bound.TheVariants.{Excluded, Unbounded}
+use Rattle.std.specs.declared.cmp.Ordering.TheVariants.{Less, Equal, Greater}
+use Rattle.std.proofs.lemmas.Bool.{cases_order}
+use Rattle.std.proofs.lemmas.Bool.Decides.{nat_tests}
+use Rattle.co_state.specs.declared.engine_state.EngineState.{EngineState}
+use Rattle.co_state.specs.declared.engine_state.Operation.{Operation}
+use Rattle.co_state.specs.declared.engine_state.Vote.{Vote}
+use Rattle.co_state.specs.Table.{Table, look, first_in, least_where}
+use Rattle.co_plain.specs.declared.member_state.AskedMark.{AskedMark}
+use Rattle.co_undecided.specs.declared.entry.Entry.{Entry}
+use Rattle.co_undecided.specs.Kept.{entry_at, entry_of, next_open}
+use Rattle.co_undecided.proofs.Least.{least_once, least_of, least_of_both, passed, table_least}
+
+above_is : (a u : ℕ) → (is_lt (nat_cmp a u) && true) ≡ nat_lt a u
+above_is a u = by (cases_order a u)
+  where
+    by : (a ≡ u) ⊎ ((a < u) ⊎ (u < a)) → (is_lt (nat_cmp a u) && true) ≡ nat_lt a u
+    by (inl q) = ap (λ r. is_lt r && true) (sym (nat_cmp_is a u Equal q)) ∙ grind (arith, nat_tests)
+    by (inr (inl l)) = ap (λ r. is_lt r && true) (sym (nat_cmp_is a u Less l)) ∙ grind (arith, nat_tests)
+    by (inr (inr m)) = ap (λ r. is_lt r && true) (sym (nat_cmp_is a u Greater m)) ∙ grind (arith, nat_tests)
+
+pub between_above : (after : ℕ) (es : List (ℕ × Entry)) → entries_between nat_cmp (Excluded after) Unbounded es ≡ filter (λ e. nat_lt after e.0) es
+between_above after es = λ i. filter (λ (e : ℕ × Entry). above_is after e.0 i) es
+
+abbrev pub first_key : List (ℕ × Entry) → Option ℕ
+first_key [] = None
+first_key (e ∷ es) = Some e.0
+
+pub first_above : (after : ℕ) (es : List (ℕ × Entry)) → first_key (filter (λ e. nat_lt after e.0) es) ≡ first_in (λ u x. nat_lt after u) es
+first_above after [] = refl
+first_above after (e ∷ es) = by (nat_lt after e.0) (first_above after es)
+  where
+    by : (b : Bool) → first_key (filter (λ f. nat_lt after f.0) es) ≡ first_in (λ u x. nat_lt after u) es →
+        first_key (if b then e ∷ filter (λ f. nat_lt after f.0) es else filter (λ f. nat_lt after f.0) es) ≡ (if b then Some e.0 else first_in (λ u x. nat_lt after u) es)
+    by true more = refl
+    by false more = more
+
+pub next_is : (es : Table Entry) (b : EngineState) (asked : Table AskedMark) (after : ℕ) → ((t : ℕ) → look es t ≡ entry_at b asked t) →
+    least_where (λ u x. nat_lt after u) es ≡ next_open b after
+next_is es b asked after shown =
+    least_once (λ u. passed (λ v x. nat_lt after v) u (look es u)) _ _ (table_least (λ v x. nat_lt after v) es)
+    (least_of (λ u. passed (λ v os. nat_lt after v) u (look b.active u) || passed (λ v vote. nat_lt after v) u (look b.voted u)) (λ u. passed (λ v x. nat_lt after v) u (look es u)) (next_open b after) same
+    (least_of_both _ _ _ _ (table_least (λ v os. nat_lt after v) b.active) (table_least (λ v vote. nat_lt after v) b.voted)))
+  where
+    twice : (a : Bool) → (a || a) ≡ a
+    twice true = refl
+    twice false = refl
+
+    or_not : (a : Bool) → (a || false) ≡ a
+    or_not true = refl
+    or_not false = refl
+
+    by : (u : ℕ) (os : Option (List Operation)) (vote : Option Vote) (mark : Option AskedMark) →
+        (passed (λ v x. nat_lt after v) u os || passed (λ v x. nat_lt after v) u vote) ≡ passed (λ v x. nat_lt after v) u (entry_of os vote mark)
+    by u None None mark = refl
+    by u None (Some vote) mark = refl
+    by u (Some os) None mark = or_not (nat_lt after u)
+    by u (Some os) (Some vote) mark = twice (nat_lt after u)
+
+    same : (u : ℕ) → (passed (λ v os. nat_lt after v) u (look b.active u) || passed (λ v vote. nat_lt after v) u (look b.voted u)) ≡ passed (λ v x. nat_lt after v) u (look es u)
+    same u = by u (look b.active u) (look b.voted u) (look asked u) ∙ ap (passed (λ v x. nat_lt after v) u) (sym (shown u))
