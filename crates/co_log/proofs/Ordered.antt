@@ -213,19 +213,19 @@ ready_filled file reach log after items more true o is held = record { held = he
 ready_filled file reach log after items more false o is held = record { held = held; items = items; ordered = unfilled_ordered log after items o is }
 
 -- a log that keeps its disks, its gate and its generation
+pub ordered_same : (log after : LogView) (items : List (ℕ × Record)) → after.node ≡ log.node → after.current ≡ log.current → after.spare ≡ log.spare → after.gate ≡ log.gate → after.generation ≡ log.generation → IsOrdered log items → IsOrdered after items
+ordered_same log after items node current spare gate generation o = record {
+  valid = subst IsValidNode (sym node) o.valid;
+  live = live_moved log after items current gate o.live;
+  header = moved log after items node generation o.header;
+  still = subst (λ (d : DiskView). d.state.pending ≡ []) (sym spare) o.still;
+  older = older_moved log after after.spare.state.stable node generation (subst (λ (d : DiskView). IsOlder log.node d.state.stable log.generation) (sym spare) o.older);
+}
+
 pub ready_kept : (file further : Spot → Option File) (reach room : Spot → ℕ) (log after : LogView) → IsReady file reach log → after.node ≡ log.node → after.current ≡ log.current → after.spare ≡ log.spare → after.gate ≡ log.gate → after.generation ≡ log.generation
     → IsHeld further room after → IsReady further room after
-ready_kept file further reach room log after r node current spare gate generation held = record {
-  held = held;
-  items = r.items;
-  ordered = record {
-    valid = subst IsValidNode (sym node) r.ordered.valid;
-    live = live_moved log after r.items current gate r.ordered.live;
-    header = moved log after r.items node generation r.ordered.header;
-    still = subst (λ (d : DiskView). d.state.pending ≡ []) (sym spare) r.ordered.still;
-    older = older_moved log after after.spare.state.stable node generation (subst (λ (d : DiskView). IsOlder log.node d.state.stable log.generation) (sym spare) r.ordered.older);
-  };
-}
+ready_kept file further reach room log after r node current spare gate generation held =
+    record { held = held; items = r.items; ordered = ordered_same log after r.items node current spare gate generation r.ordered }
 
 -- and its home
 pub ready_same : (file : Spot → Option File) (reach : Spot → ℕ) (log after : LogView) → IsReady file reach log → after.node ≡ log.node → after.current ≡ log.current → after.spare ≡ log.spare → after.gate ≡ log.gate → after.generation ≡ log.generation → IsReady file reach after

@@ -13,3 +13,4 @@ pub mod Current
 pub mod Rereading
 pub mod Others
 pub mod NodeFaults
+pub mod NodeFiles

@@ -3,6 +3,7 @@ use Rattle.std.specs.Prelude.{ℕ, ◌+◌, ◌≡◌, ◌≤◌, ◌⊎◌, Boo
 use Rattle.co_base.specs.declared.leaves.Leaves.{Leaves}
 use Rattle.co_base.specs.declared.mark.Mark.{Mark}
 use Rattle.co_base.specs.declared.mark.MarkKind.TheVariants as kind
+use Rattle.co_outside.specs.declared.spot.Spot.{Spot}
 use Rattle.co_record.specs.declared.record.Record.{Record}
 use Rattle.co_record.specs.declared.record.Record.TheVariants.{Header, Prepare, Commit, Abort, End, Checkpoint}
 use Rattle.co_record.specs.Spelling.{IsWritable, AreInKeyOrder}
@@ -44,6 +45,16 @@ IsClosing log after (Err (Differs spot at kept read)) = Unit {0}
 IsClosing log after (Err (Full spot)) = Unit {0}
 IsClosing log after (Err (InUse spot)) = Unit {0}
 IsClosing log after (Err Memory) = Unit {0}
+
+-- the faults of a closing of the file of this spot: it is never too long
+abbrev pub IsOfClosing : Spot → LogFault → Type 0
+IsOfClosing spot (Device at) = at ≡ spot
+IsOfClosing spot (Stopped call stable marks) = Unit {0}
+IsOfClosing spot (Bad at place) = ⊥
+IsOfClosing spot (Differs at place kept read) = ⊥
+IsOfClosing spot (Full at) = ⊥
+IsOfClosing spot (InUse at) = ⊥
+IsOfClosing spot Memory = Unit {0}
 
 -- the records that are written into a spare: a header of the next generation, and these
 abbrev pub filling : LogView → List Record → List Record

@@ -53,10 +53,10 @@ pub(crate) fn close_unmade<H: Home>(disk: &mut Disk, home: &mut H) -> Result<(),
 impl Log {
     ghost use Rattle.co_record.specs.Gate.{begins_closed};
     ghost use Rattle.co_log.specs.Current.{IsCurrentOf, IsOrdered};
-    ghost use Rattle.co_log.specs.Forcing.{IsDone, IsOfForce};
+    ghost use Rattle.co_log.specs.Forcing.{IsDone};
     ghost use Rattle.co_log.specs.LogView.{IsHeld};
     ghost use Rattle.co_log.specs.Others.{BothWithin};
-    ghost use Rattle.co_log.specs.Spare.{IsClosing, IsSpareImage};
+    ghost use Rattle.co_log.specs.Spare.{IsClosing, IsOfClosing, IsSpareImage};
 
     /// Closes the first gate of the spare file, in two device calls: it writes `00` there and syncs. The
     /// current file is not touched, and whatever the answer is, it stays the current one.
@@ -73,7 +73,7 @@ impl Log {
         ensures told { (f : File) → H.file home.new self.old.spare.spot ≡ Some f → IsSpareImage self.old.spare.state.stable f.bytes }
         ensures current { (items : List (ℕ × Record)) → IsOrdered self.old items → (c s : File) → H.file home.new self.old.current.spot ≡ Some c → H.file home.new self.old.spare.spot ≡ Some s → IsCurrentOf self.old.node self.old.generation c.bytes s.bytes items }
         ensures short { BothWithin (H.file home.new) self.old }
-        ensures faults { IfErr result (IsOfForce self.old.spare.spot) }
+        ensures faults { IfErr result (IsOfClosing self.old.spare.spot) }
         ensures rest { RestStays H.file H.reach H.entered H.faults self.old.spare.spot home.old home.new }
         ensures device { IsErrOf result (LogFault.Device self.old.spare.spot) → HasFailed H.faults H.last_failed self.old.spare.spot home.old home.new }
         ensures quiet { (IsErrOf result (LogFault.Device self.old.spare.spot) → ⊥) → H.faults home.new ≡ H.faults home.old }

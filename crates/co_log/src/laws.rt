@@ -19,7 +19,7 @@ ghost use Rattle.co_log.specs.Current.{IsCurrentOf, IsOrdered};
 ghost use Rattle.co_log.specs.Forcing.{IsForced, IsDone, IsOfForce, counts};
 ghost use Rattle.co_log.specs.Fresh.{IsFresh, IsMade, IsOfDevice, header_alone};
 ghost use Rattle.co_log.specs.NodeFaults.{IsOfNode};
-ghost use Rattle.co_log.specs.Spare.{IsClosing, IsFilling, filling, filled_items};
+ghost use Rattle.co_log.specs.Spare.{IsClosing, IsFilling, IsOfClosing, filling, filled_items};
 ghost use Rattle.co_log.specs.LogView.{LogView, IsLive, IsHeld, HasSpots, spot_of};
 ghost use Rattle.co_log.specs.Others.{OtherFilesStay};
 ghost use Rattle.co_log.specs.BatchWrite.{closed_batch, batch_pending, gate_pending, disk_at, disk_after};
@@ -124,8 +124,9 @@ pub fn files_are_judged_once()
     ensures none { (node : Node) (g : ℕ) (a b : List ℕ) (items : List (ℕ × Record)) → IsLogText a [] → IsCurrentOf node g a b items → ⊥ }
 {}
 
-/// The faults of a log write and of making are those that a call of a node splits.
+/// The faults of a log write, of closing and of making are those that a call of a node splits.
 pub fn faults_are_split()
     ensures written { (spot : Spot) (fault : LogFault) → IsOfForce spot fault → IsOfNode fault }
+    ensures closed { (spot : Spot) (fault : LogFault) → IsOfClosing spot fault → IsOfNode fault }
     ensures made { (spot : Spot) (fault : LogFault) → IsOfDevice spot fault → IsOfNode fault }
 {}

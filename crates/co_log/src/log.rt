@@ -53,13 +53,14 @@ impl Log {
     ghost use Rattle.co_record.specs.Gate.{begins_closed};
     ghost use Rattle.co_log.specs.Forcing.{IsForced, IsDone, IsOfForce};
     ghost use Rattle.co_log.specs.LogFile.{EndsAt, OldOrBoth};
-    ghost use Rattle.co_log.specs.LogView.{IsLive, IsHeld, IsForcible, MayWait, lengths_of};
+    ghost use Rattle.co_log.specs.LogView.{IsLive, IsHeld, IsForcible, IsShort, MayWait, lengths_of};
     ghost use Rattle.co_log.specs.Current.{IsOrdered, IsCurrentForced};
     ghost use Rattle.co_log.specs.Others.{BothWithin};
 
-    /// The lengths of both files in bytes, that of part `a` first.
+    /// The lengths of both files in bytes, that of part `a` first. Each is at most 268,435,456.
     pub fn lengths(&self) -> (u32, u32)
-        ensures { result ≡ lengths_of self.now }
+        ensures lengths { result ≡ lengths_of self.now }
+        ensures within { IsShort self.now.current × IsShort self.now.spare }
     {
         let current = self.current.bytes().len() as u32;
         let spare = self.spare.bytes().len() as u32;

@@ -1,0 +1,224 @@
+-- How a log write leaves the directory.
+use Rattle.std.proofs.Common.{◌≡◌, ◌⊎◌, ℕ, Bool, true, List, refl, sym, ap, subst, ◌∙◌, inl, inr}
+use Rattle.std.specs.Prelude.{Option, Some, Result, Ok, Err, IfErr, IsErr, IsErrOf}
+use Rattle.std.specs.Result.{IsErrAnd}
+use Rattle.co_base.specs.declared.node.Node.{Node}
+use Rattle.co_outside.specs.declared.spot.Spot.{Spot}
+use Rattle.co_outside.specs.Home.{File}
+use Rattle.co_disk.specs.Homes.{IsClean, RestStays, HasFailed}
+use Rattle.co_frame.specs.LogText.{most_log_bytes}
+use Rattle.co_record.specs.declared.record.Record.{Record}
+use Rattle.co_log.specs.Attaching.{IsWithin}
+use Rattle.co_log.specs.Current.{IsCurrentOf, IsOldCurrent, IsNewCurrent, IsCurrentForced, IsCurrentAfter}
+use Rattle.co_log.specs.LogFile.{next_items}
+use Rattle.co_base.specs.declared.mark.Mark.{Mark}
+use Rattle.co_log.specs.Forcing.{IsDone, IsOfForce}
+use Rattle.co_log.specs.LogView.{LogView, HasSpots, IsHeld, spot_of}
+use Rattle.co_log.specs.NodeFiles.{Items, HasRecordsIn}
+use Rattle.co_log.specs.Spare.{IsOfClosing}
+use Rattle.co_log.specs.Others.{BothWithin, OtherNodesStay}
+use Rattle.co_log.specs.declared.fault.LogFault.{LogFault}
+use Rattle.co_log.specs.declared.fault.LogFault.TheVariants.{Device, Stopped, Bad, Differs, Full, InUse, Memory}
+use Rattle.co_log.specs.declared.fault.NodeFault.{NodeFault}
+use Rattle.co_log.specs.declared.fault.NodeFault.TheVariants as node
+use Rattle.co_log.proofs.Spots.{spots_apart, current_only, spare_only}
+use Rattle.co_node.specs.Answers.{HomeView, seen, AreTold, AreWithin, LeftAs, IsServed, IsAnswered}
+use Rattle.co_node.specs.Ended.{IsPassedOn}
+use Rattle.co_node.specs.declared.written.Written.{Written}
+
+same_file : {a b : File} {o : Option File} → o ≡ Some a → o ≡ Some b → b.bytes ≡ a.bytes
+same_file one two = ap (λ (f : File). f.bytes) (let h : _ ≡ _ = injected (sym two ∙ one) in h)
+  where
+    injected : {a b : File} → Some a ≡ Some b → a ≡ b
+    injected e = cc
+
+-- two files of a node are its parts in some order
+abbrev pub ArePartsOf : Node → Spot → Spot → Type 0
+ArePartsOf node x y = ((x ≡ spot_of node 0) × (y ≡ spot_of node 1)) ⊎ ((x ≡ spot_of node 1) × (y ≡ spot_of node 0))
+
+flipped : (node : Node) (x y : Spot) → ArePartsOf node x y → ArePartsOf node y x
+flipped node x y (inl own) = inr (own.1, own.0)
+flipped node x y (inr own) = inl (own.1, own.0)
+
+-- a node of whose told files the one is current has its records
+pub current_records : (file : Spot → Option File) (node : Node) (x y : Spot) (c s : File) (generation : ℕ) (items : Items) → ArePartsOf node x y → IsWithin most_log_bytes (file x) → IsWithin most_log_bytes (file y)
+    → file x ≡ Some c → file y ≡ Some s → IsCurrentOf node generation c.bytes s.bytes items → HasRecordsIn file node items
+current_records file node x y c s generation items parts within_x within_y is_c is_s current = elim parts [
+  | inl own ↦ (
+    0,
+    record {
+      a = c.bytes;
+      b = s.bytes;
+      told_a = λ f is. same_file (ap file (sym own.0) ∙ is_c) is;
+      told_b = λ f is. same_file (ap file (sym own.1) ∙ is_s) is;
+      within_a = subst (λ (t : Spot). IsWithin most_log_bytes (file t)) own.0 within_x;
+      within_b = subst (λ (t : Spot). IsWithin most_log_bytes (file t)) own.1 within_y;
+      current = inr (inl (refl, (generation, current)));
+    },
+  )
+  | inr own ↦ (
+    1,
+    record {
+      a = s.bytes;
+      b = c.bytes;
+      told_a = λ f is. same_file (ap file (sym own.1) ∙ is_s) is;
+      told_b = λ f is. same_file (ap file (sym own.0) ∙ is_c) is;
+      within_a = subst (λ (t : Spot). IsWithin most_log_bytes (file t)) own.1 within_y;
+      within_b = subst (λ (t : Spot). IsWithin most_log_bytes (file t)) own.0 within_x;
+      current = inr (inr (refl, (generation, current)));
+    },
+  )
+]
+
+-- the told files of a log
+pub record AreToldOf (file : Spot → Option File) (log : LogView) : Type 0 where
+  pub current : File
+  pub spare : File
+  pub is_current : file log.current.spot ≡ Some current
+  pub is_spare : file log.spare.spot ≡ Some spare
+
+pub told_of : (file : Spot → Option File) (log : LogView) → HasSpots log → AreTold file log.node → AreToldOf file log
+told_of file log (inl own) told = record { current = told.a; spare = told.b; is_current = ap file own.0 ∙ told.is_a; is_spare = ap file own.1 ∙ told.is_b }
+told_of file log (inr own) told = record { current = told.b; spare = told.a; is_current = ap file own.0 ∙ told.is_b; is_spare = ap file own.1 ∙ told.is_a }
+
+-- the old file of the log is current with these records
+pub old_records : (file : Spot → Option File) (log : LogView) (generation : ℕ) (items : Items) → HasSpots log → BothWithin file log → (told : AreToldOf file log) → IsCurrentOf log.node generation told.current.bytes told.spare.bytes items → HasRecordsIn file log.node items
+old_records file log generation items spots within told current =
+    current_records file log.node log.current.spot log.spare.spot told.current told.spare generation items spots within.0 within.1 told.is_current told.is_spare current
+
+-- and the spare is
+pub new_records : (file : Spot → Option File) (log : LogView) (generation : ℕ) (items : Items) → HasSpots log → BothWithin file log → (told : AreToldOf file log) → IsCurrentOf log.node generation told.spare.bytes told.current.bytes items → HasRecordsIn file log.node items
+new_records file log generation items spots within told current =
+    current_records file log.node log.spare.spot log.current.spot told.spare told.current generation items (flipped log.node log.current.spot log.spare.spot spots) within.1 within.0 told.is_spare told.is_current current
+
+-- both files of a log, by the parts of its node
+pub both_within : (file : Spot → Option File) (log : LogView) → HasSpots log → AreWithin file log.node → BothWithin file log
+both_within file log spots within = elim spots [
+  | inl own ↦ (subst (λ (s : Spot). IsWithin most_log_bytes (file s)) (sym own.0) within.a, subst (λ (s : Spot). IsWithin most_log_bytes (file s)) (sym own.1) within.b)
+  | inr own ↦ (subst (λ (s : Spot). IsWithin most_log_bytes (file s)) (sym own.0) within.b, subst (λ (s : Spot). IsWithin most_log_bytes (file s)) (sym own.1) within.a)
+]
+
+pub node_within : (file : Spot → Option File) (log : LogView) → HasSpots log → BothWithin file log → AreWithin file log.node
+node_within file log spots both = elim spots [
+  | inl own ↦ record { a = subst (λ (s : Spot). IsWithin most_log_bytes (file s)) own.0 both.0; b = subst (λ (s : Spot). IsWithin most_log_bytes (file s)) own.1 both.1 }
+  | inr own ↦ record { a = subst (λ (s : Spot). IsWithin most_log_bytes (file s)) own.1 both.1; b = subst (λ (s : Spot). IsWithin most_log_bytes (file s)) own.0 both.0 }
+]
+
+-- which records the current file has where the directory failed, or there was no memory
+pub forced_left : (log : LogView) (items : Items) (more : List Record) (c s : List ℕ) (fault : LogFault) (at : Spot) → IsErrOf {T = List Mark} (Err fault) (Device at) → IsCurrentForced log items more c s (Err fault)
+    → IsOldCurrent log items c s ⊎ IsOldCurrent log (next_items true log.gate items more) c s
+forced_left log items more c s fault at is current = subst (λ (r : Result (List Mark) LogFault). IsCurrentForced log items more c s r) is current
+
+pub forced_wants : (log : LogView) (items : Items) (more : List Record) (c s : List ℕ) (fault : LogFault) → IsErrOf {T = List Mark} (Err fault) Memory → IsCurrentForced log items more c s (Err fault) → IsOldCurrent log items c s
+forced_wants log items more c s fault is current = subst (λ (r : Result (List Mark) LogFault). IsCurrentForced log items more c s r) is current
+
+pub filled_left : (log : LogView) (items : Items) (more : List Record) (c s : List ℕ) (fault : LogFault) (at : Spot) → IsErrOf {T = Mark} (Err fault) (Device at) → IsCurrentAfter log items more c s (Err fault)
+    → IsOldCurrent log items c s ⊎ IsNewCurrent log more c s
+filled_left log items more c s fault at is current = subst (λ (r : Result Mark LogFault). IsCurrentAfter log items more c s r) is current
+
+pub filled_wants : (log : LogView) (items : Items) (more : List Record) (c s : List ℕ) (fault : LogFault) → IsErrOf {T = Mark} (Err fault) Memory → IsCurrentAfter log items more c s (Err fault) → IsOldCurrent log items c s
+filled_wants log items more c s fault is current = subst (λ (r : Result Mark LogFault). IsCurrentAfter log items more c s r) is current
+
+-- What is known of a log write at one file of a node when it has ended, by its answer.
+pub record Wrote {H T : Type 0} (file : H → Spot → Option File) (reach : H → Spot → ℕ) (entered : H → Option (List ℕ)) (faults : H → ℕ) (last_failed : H → Spot) (log after : LogView) (at : Spot) (long : Type 0) (this that : List Record) (old new : H) (result : Result T LogFault) : Type 0 where
+  pub spots : HasSpots log
+  pub its : (at ≡ log.current.spot) ⊎ (at ≡ log.spare.spot)
+  pub held : IsDone result → IsHeld (file new) (reach new) after
+  pub clean : IsDone result → IsClean (file new at)
+  pub full : IsErrOf result (Full at) → long
+  pub too_long : long → IsErrOf result (Full at) ⊎ IsErrOf result Memory
+  pub untouched : long → new ≡ old
+  pub broken : IsErrOf result (Device at) → LeftAs (file new) log.node this that
+  pub wanting : IsErrOf result Memory → LeftAs (file new) log.node this this
+  pub short : BothWithin (file new) log
+  pub rest : RestStays file reach entered faults at old new
+  pub device : IsErrOf result (Device at) → HasFailed faults last_failed at old new
+  pub quiet : (IsErrOf result (Device at) → ⊥) → faults new ≡ faults old
+
+module _ {H : Type 0} (file : H → Spot → Option File) (reach : H → Spot → ℕ) (entered : H → Option (List ℕ)) (faults : H → ℕ) (last_failed : H → Spot) (log after : LogView) (at : Spot) (long : Type 0) (this that : List Record) (old new : H) where
+  -- the files of the node are the one that was written and one that stays
+  clean_kept : (s : Spot) → (s ≡ log.current.spot) ⊎ (s ≡ log.spare.spot) → HasSpots log → (at ≡ log.current.spot) ⊎ (at ≡ log.spare.spot) → IsClean (file new at) → RestStays file reach entered faults at old new → IsClean (file old s) → IsClean (file new s)
+  clean_kept s (inl here) spots (inl is) clean rest was = subst (λ (t : Spot). IsClean (file new t)) (is ∙ sym here) clean
+  clean_kept s (inr here) spots (inr is) clean rest was = subst (λ (t : Spot). IsClean (file new t)) (is ∙ sym here) clean
+  clean_kept s (inl here) spots (inr is) clean rest was = subst (λ (o : Option File). IsClean o) (sym (rest.others.files s (λ e. spots_apart log spots (sym here ∙ e ∙ is)))) was
+  clean_kept s (inr here) spots (inl is) clean rest was = subst (λ (o : Option File). IsClean o) (sym (rest.others.files s (λ e. spots_apart log spots (sym is ∙ sym e ∙ here)))) was
+
+  place_a : HasSpots log → (spot_of log.node 0 ≡ log.current.spot) ⊎ (spot_of log.node 0 ≡ log.spare.spot)
+  place_a (inl own) = inl (sym own.0)
+  place_a (inr own) = inr (sym own.1)
+
+  place_b : HasSpots log → (spot_of log.node 1 ≡ log.current.spot) ⊎ (spot_of log.node 1 ≡ log.spare.spot)
+  place_b (inl own) = inr (sym own.1)
+  place_b (inr own) = inl (sym own.0)
+
+  served : {T : Type 0} (result : Result T LogFault) → Wrote file reach entered faults last_failed log after at long this that old new result → IsDone result → (IsErrOf result (Device at) → ⊥) → IsServed log.node after (seen file reach faults last_failed old) (seen file reach faults last_failed new)
+  served result w done silent = record {
+    held = w.held done;
+    clean_a = clean_kept (spot_of log.node 0) (place_a w.spots) w.spots w.its (w.clean done) w.rest;
+    clean_b = clean_kept (spot_of log.node 1) (place_b w.spots) w.spots w.its (w.clean done) w.rest;
+    within = node_within (file new) log w.spots w.short;
+    quiet = w.quiet silent;
+  }
+
+  pub fault_answered : (T : Type 0) (e : LogFault) (out : Result Written NodeFault) → IsOfForce at e → Wrote {T = T} file reach entered faults last_failed log after at long this that old new (Err e) → IsPassedOn e out → IsAnswered log.node at long this that after (seen file reach faults last_failed old) (seen file reach faults last_failed new) out
+  fault_answered T (Stopped call stable marks) out of w is =
+      subst (IsAnswered log.node at long this that after (seen file reach faults last_failed old) (seen file reach faults last_failed new)) (sym is) (λ l. none (w.too_long l), served (Err (Stopped call stable marks)) w tt (λ e. absurd cc))
+    where
+      none : (IsErrOf {T = T} (Err (Stopped call stable marks)) (Full at)) ⊎ (IsErrOf {T = T} (Err (Stopped call stable marks)) Memory) → ⊥
+      none (inl e) = absurd cc
+      none (inr e) = absurd cc
+  fault_answered T (Device spot) out of w is =
+      let it : IsErrOf {T = T} (Err (Device spot)) (Device at) = ap (λ (s : Spot). Err (Device s)) of in
+      let failed = w.device it in
+      subst (IsAnswered log.node at long this that after (seen file reach faults last_failed old) (seen file reach faults last_failed new)) (sym is)
+      (λ l. none (w.too_long l), record { spot = of; count = failed.count; last = failed.named ∙ sym of; left = w.broken it })
+    where
+      none : (IsErrOf {T = T} (Err (Device spot)) (Full at)) ⊎ (IsErrOf {T = T} (Err (Device spot)) Memory) → ⊥
+      none (inl e) = absurd cc
+      none (inr e) = absurd cc
+  fault_answered T (Full spot) out of w is =
+      let l = w.full (ap (λ (s : Spot). Err (Full s)) of) in
+      subst (IsAnswered log.node at long this that after (seen file reach faults last_failed old) (seen file reach faults last_failed new)) (sym is) (record { spot = of; long = l; untouched = ap (seen file reach faults last_failed) (w.untouched l) })
+  fault_answered T Memory out of w is =
+      subst (IsAnswered log.node at long this that after (seen file reach faults last_failed old) (seen file reach faults last_failed new)) (sym is) (record { left = w.wanting refl; quiet = w.quiet (λ e. absurd cc) })
+  fault_answered T (Bad spot place) out of w is = absurd of
+  fault_answered T (Differs spot place kept read) out of w is = absurd of
+  fault_answered T (InUse spot) out of w is = absurd of
+
+-- want of memory before anything was written
+pub memory_answered : (owner : Node) (at : Spot) (long : Type 0) (this that : List Record) (log : LogView) (home : HomeView) (out : Result Written NodeFault) → IsErr out × IsErrAnd out (λ e. e ≡ node.Memory) → LeftAs home.file owner this this
+    → IsAnswered owner at long this that log home home out
+memory_answered owner at long this that log home (Ok x) is left = absurd is.1
+memory_answered owner at long this that log home (Err e) is left = subst (λ (f : NodeFault). IsAnswered owner at long this that log home home (Err f)) (sym is.1) (record { left = left; quiet = refl })
+
+-- a stopped write was not too long
+pub not_stopped : {T : Type 0} (at : Spot) (fault : LogFault) (call : ℕ) (stable : Bool) (marks : List Mark) → fault ≡ Stopped call stable marks → (IsErrOf {T = T} (Err fault) (Full at)) ⊎ (IsErrOf {T = T} (Err fault) Memory) → ⊥
+not_stopped at fault call stable marks is (inl e) = absurd cc
+not_stopped at fault call stable marks is (inr e) = absurd cc
+
+pub not_failed : {T : Type 0} (at spot : Spot) (fault : LogFault) → IsErrOf {T = T} (Err fault) (Device spot) → (IsErrOf {T = T} (Err fault) (Full at)) ⊎ (IsErrOf {T = T} (Err fault) Memory) → ⊥
+not_failed at spot fault is (inl e) = absurd cc
+not_failed at spot fault is (inr e) = absurd cc
+
+pub not_done : {T : Type 0} (at : Spot) (x : T) → (IsErrOf (Ok x) (Full at)) ⊎ (IsErrOf (Ok x) Memory) → ⊥
+not_done at x (inl e) = absurd cc
+not_done at x (inr e) = absurd cc
+
+-- the faults of a closing are some of those of a log write
+pub of_closing : (at : Spot) (e : LogFault) → IsOfClosing at e → IsOfForce at e
+of_closing at (Device spot) of = of
+of_closing at (Stopped call stable marks) of = tt
+of_closing at (Bad spot place) of = absurd of
+of_closing at (Differs spot place kept read) of = absurd of
+of_closing at (Full spot) of = absurd of
+of_closing at (InUse spot) of = absurd of
+of_closing at Memory of = tt
+
+pub never_full : (at : Spot) (e : LogFault) → IsOfClosing at e → IsErrOf {T = Unit {0}} (Err e) (Full at) → ⊥
+never_full at e of is = subst (λ (r : Result (Unit {0}) LogFault). IfErr r (IsOfClosing at)) is of
+
+-- a call on one of its two files leaves all other nodes
+pub others_stay : {H : Type 0} (file : H → Spot → Option File) (reach : H → Spot → ℕ) (entered : H → Option (List ℕ)) (faults : H → ℕ) (log : LogView) (at : Spot) (old new : H) → HasSpots log → (at ≡ log.current.spot) ⊎ (at ≡ log.spare.spot)
+    → RestStays file reach entered faults at old new → OtherNodesStay file reach entered faults log.node old new
+others_stay file reach entered faults log at old new spots (inl is) rest = current_only file reach entered faults log spots old new (subst (λ (s : Spot). RestStays file reach entered faults s old new) is rest)
+others_stay file reach entered faults log at old new spots (inr is) rest = spare_only file reach entered faults log spots old new (subst (λ (s : Spot). RestStays file reach entered faults s old new) is rest)

@@ -1,0 +1,71 @@
+use Rattle.std.proofs.Common.{◌≡◌, ◌∷◌, [], List, length, sym, refl, subst, inl, inr, ◌∙◌, slice_set, arith, ◌+◌}
+use Rattle.std.specs.Prelude.{Err, reverse}
+use Rattle.co_base.specs.declared.mark.Mark.{Mark}
+use Rattle.co_base.specs.declared.node.Node.{Node}
+use Rattle.co_log.specs.LogFile.{placed_from}
+use Rattle.co_log.specs.Spare.{IsOverfull, filling}
+use Rattle.co_node.specs.Answers.{seen, IsAnswered}
+use Rattle.co_node.specs.Writes.{filled_with}
+use Rattle.co_node.proofs.Homes.{Wrote, fault_answered, filled_left, filled_wants, memory_answered, new_records, not_done, not_failed, not_stopped, old_records, told_of}
+use Rattle.co_node.proofs.Opened.{left_before}
+use Rattle.co_node.proofs.Spares.{fill_done, fill_ended}
+use Rattle.co_node.proofs.Standing.{filled_newest, next_is}
+use Rattle.co_node.proofs.spare.fill.Goals as goal
+
+-- the one mark is put in its place
+one_set : (marks : List Mark) (mark : Mark) → length marks ≡ 1 → slice_set marks 0 mark ≡ mark ∷ []
+one_set [] mark one = absurd (omega (arith, one))
+one_set (m ∷ []) mark one = refl
+one_set (m ∷ n ∷ marks) mark one = absurd (omega (arith, one))
+
+pub returns-in_err-marks-clause-answered : goal.returns-in_err-marks-clause-answered
+returns-in_err-marks-clause-answered g c = λ owner l s.
+    memory_answered owner c.args.log.now.spare.spot (IsOverfull c.args.log.now c.args.items.now) l.stable (filled_with owner l (reverse c.args.items.now)) c.args.log.now
+    (seen g.H.Home.file g.H.Home.reach g.H.Home.faults g.H.Home.last_failed c.args.home.now) c.from_residual.result c.from_residual.ensures
+    (left_before owner (g.H.Home.file c.args.home.now) (g.H.Home.reach c.args.home.now) c.args.log.now l s c.requires.held c.lengths.ensures.within)
+
+pub returns-in-Ok-clause-written : goal.returns-in-Ok-clause-written
+returns-in-Ok-clause-written g c = λ owner l s.
+    let closed = s.spare ∙ sym c.requires.stands.2.spare ∙ c.requires.stands.3 in
+    fill_done owner c.args.log.now c.fill_spare.new.self l c.args.items.now c.in-Ok.mark c.of.result s closed (λ last. not_done c.args.log.now.spare.spot c.in-Ok.mark (c.in-Ok.ensures.overfull (inr last)))
+    (c.of.ensures ∙ one_set c.in_ok-marks.marks.items c.in-Ok.mark c.in_ok-marks.ensures) c.in-Ok.ensures.filling
+
+pub returns-in-Err-clause-written : goal.returns-in-Err-clause-written
+returns-in-Err-clause-written g c = λ owner l s.
+    let closed = s.spare ∙ sym c.requires.stands.2.spare ∙ c.requires.stands.3 in
+    fill_ended owner c.args.log.now c.fill_spare.new.self l c.args.items.now c.in-Err.fault c.stopped.result s closed
+    (λ call stable marks is last. not_stopped c.args.log.now.spare.spot c.in-Err.fault call stable marks is (c.in-Err.ensures.overfull (inr last))) c.in-Err.ensures.filling c.stopped.ensures
+
+pub returns-in-Err-clause-answered : goal.returns-in-Err-clause-answered
+returns-in-Err-clause-answered g c = λ owner l s.
+    let log = c.args.log.now in
+    let items = c.args.items.now in
+    let file = g.H.Home.file c.fill_spare.new.home in
+    let that = filled_with owner l (reverse items) in
+    let wrote : Wrote g.H.Home.file g.H.Home.reach g.H.Home.entered g.H.Home.faults g.H.Home.last_failed log c.fill_spare.new.self log.spare.spot (IsOverfull log items) l.stable that c.args.home.now c.fill_spare.new.home (Err c.in-Err.fault) =
+    record {
+      spots = c.requires.held.spots;
+      its = inr refl;
+      held = c.in-Err.ensures.held;
+      clean = c.in-Err.ensures.clean;
+      full = c.in-Err.ensures.full;
+      too_long = c.in-Err.ensures.overfull;
+      untouched = λ long. (c.in-Err.ensures.untouched long).1;
+      broken = λ is told.
+          let files = told_of file log c.requires.held.spots told in
+          let next = next_is owner log l s (λ last. not_failed log.spare.spot log.spare.spot c.in-Err.fault is (c.in-Err.ensures.overfull (inr last))) in
+          elim (filled_left log s.items items files.current.bytes files.spare.bytes c.in-Err.fault log.spare.spot is (c.in-Err.ensures.current s.items s.ordered files.current files.spare files.is_current files.is_spare)) [
+            | inl old ↦ (s.items, old_records file log log.generation s.items c.requires.held.spots c.in-Err.ensures.short files old, inl (sym s.stable))
+            | inr new ↦ (placed_from 5 (filling log items), new_records file log (log.generation + 1) (placed_from 5 (filling log items)) c.requires.held.spots c.in-Err.ensures.short files new, inr (filled_newest owner log l items s next))
+          ];
+      wanting = λ is told.
+          let files = told_of file log c.requires.held.spots told in
+          let old = filled_wants log s.items items files.current.bytes files.spare.bytes c.in-Err.fault is (c.in-Err.ensures.current s.items s.ordered files.current files.spare files.is_current files.is_spare) in
+          (s.items, old_records file log log.generation s.items c.requires.held.spots c.in-Err.ensures.short files old, inl (sym s.stable));
+      short = c.in-Err.ensures.short;
+      rest = c.in-Err.ensures.rest;
+      device = c.in-Err.ensures.device;
+      quiet = c.in-Err.ensures.quiet;
+    } in
+    subst (λ (n : Node). IsAnswered n log.spare.spot (IsOverfull log items) l.stable that c.fill_spare.new.self (seen g.H.Home.file g.H.Home.reach g.H.Home.faults g.H.Home.last_failed c.args.home.now) (seen g.H.Home.file g.H.Home.reach g.H.Home.faults g.H.Home.last_failed c.fill_spare.new.home) c.stopped.result) s.owned
+    (fault_answered g.H.Home.file g.H.Home.reach g.H.Home.entered g.H.Home.faults g.H.Home.last_failed log c.fill_spare.new.self log.spare.spot (IsOverfull log items) l.stable that c.args.home.now c.fill_spare.new.home _ c.in-Err.fault c.stopped.result c.in-Err.ensures.faults wrote c.stopped.ensures)

@@ -1,0 +1,5 @@
+pub mod NodeLog
+pub mod Writes
+pub mod Answers
+pub mod Ended
+pub mod Rereading

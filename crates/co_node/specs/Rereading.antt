@@ -1,0 +1,19 @@
+-- How the files of a node are read again, by the answer.
+use Rattle.std.specs.Prelude.{ℕ, ◌≡◌, List, Option, Result, Ok, Err}
+use Rattle.co_outside.specs.declared.spot.Spot.{Spot}
+use Rattle.co_outside.specs.Home.{File}
+use Rattle.co_disk.specs.Homes.{HasFailed}
+use Rattle.co_log.specs.LogView.{LogView}
+use Rattle.co_log.specs.Rereading.{IsOfReattach, AreReread}
+use Rattle.co_log.specs.declared.fault.LogFault.TheVariants as log
+use Rattle.co_log.specs.declared.fault.NodeFault.{NodeFault}
+use Rattle.co_log.specs.declared.fault.NodeFault.TheVariants.{Device, Differs, Full, Memory}
+
+-- Both files gave what the log keeps of them; or the directory failed at one of them; or one of them differs, where the directory does not
+-- tell it; or there was no memory. No fault was met but where the directory failed.
+abbrev pub IsReread : {H : Type 0} → (H → Spot → ℕ → List ℕ → Type 0) → (H → Spot → Option File) → (H → Spot → ℕ) → (H → Option (List ℕ)) → (H → ℕ) → (H → Spot) → LogView → H → H → Result (Unit {0}) NodeFault → Type 0
+IsReread gives file reach entered faults last_failed l old new (Ok done) = AreReread gives file reach entered faults l old new × (faults new ≡ faults old)
+IsReread gives file reach entered faults last_failed l old new (Err (Device spot)) = IsOfReattach gives file reach entered faults l old (log.Device spot) × HasFailed faults last_failed spot old new
+IsReread gives file reach entered faults last_failed l old new (Err (Differs spot at kept read)) = IsOfReattach gives file reach entered faults l old (log.Differs spot at kept read) × (faults new ≡ faults old)
+IsReread gives file reach entered faults last_failed l old new (Err (Full spot)) = ⊥
+IsReread gives file reach entered faults last_failed l old new (Err Memory) = faults new ≡ faults old

@@ -1,0 +1,17 @@
+//! The log of a node as the plain log of the definitions, for members and coordinators alike.
+//!
+//! Each call says what it leaves of the plain log that the log stands for, and how it leaves the directory. After a fault the
+//! files of the node have the old records, or those of the completed write.
+#![tactic(auto)]
+
+mod forcing;
+mod going;
+mod laws;
+mod spare;
+mod written;
+
+pub use forcing::{force, force_both};
+pub use going::{arm, crash, disarm, keep_waiting, reread};
+pub use laws::{opened_logs_stand, standing_logs_are_told};
+pub use spare::{close, fill, spare_closed};
+pub use written::Written;
