@@ -1,0 +1,68 @@
+//! The plan of an event.
+ghost use Rattle.std.specs.Prelude.{◌≡◌, []};
+ghost use Rattle.co_coord.specs.Plans.{says, sends};
+
+use co_base::Sequence;
+use co_message::{Answer, Messages};
+use co_plain::Entry;
+use co_record::Record;
+use std::alloc::Global;
+
+/// What becomes of the entry of a transaction in the table.
+#[derive(Drop)]
+pub enum Change {
+    /// It stays, where there is one.
+    Stays,
+    /// It is this one.
+    Becomes(Entry),
+    /// There is none.
+    Leaves,
+}
+
+/// What the log is to get.
+#[derive(Drop)]
+pub enum Writes {
+    /// Nothing.
+    Nothing,
+    /// This record is forced, and the waiting ones in front of it.
+    Forces(Record),
+    /// This record waits for the next log write.
+    Keeps(Record),
+}
+
+/// What an event does.
+#[derive(Drop)]
+pub struct Plan {
+    /// What the log is to get first. Where its write is stopped, nothing else of the plan is done.
+    pub writes: Writes,
+    /// What becomes of the entry of the transaction.
+    pub change: Change,
+    /// What is answered.
+    pub answer: Answer,
+    /// What is sent, ascending by member.
+    pub sent: Messages,
+}
+
+/// An answer alone.
+pub(crate) fn says(alloc: Global, answer: Answer) -> Plan
+    ensures { result ≡ says answer }
+{
+    Plan {
+        writes: Writes::Nothing,
+        change: Change::Stays,
+        answer,
+        sent: Messages::new(alloc),
+    }
+}
+
+/// An answer and messages.
+pub(crate) fn sends(answer: Answer, sent: Messages) -> Plan
+    ensures { result ≡ sends answer sent }
+{
+    Plan {
+        writes: Writes::Nothing,
+        change: Change::Stays,
+        answer,
+        sent,
+    }
+}
