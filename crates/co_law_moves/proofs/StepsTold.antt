@@ -84,6 +84,11 @@ module _ (s : Federation) (f : Facts s) where
   begins t c false true = λ rest. refl
   begins t c false false = λ rest. refl
 
+  begins_local : (t m : ℕ) (used up : Bool) → Says (Some (event.Local t m)) (begin_moves (BeginLocal t m) used up) (local_where s t m used up)
+  begins_local t m true up = λ rest. refl
+  begins_local t m false true = λ rest. refl
+  begins_local t m false false = λ rest. refl
+
   -- an operation
   operation : (e : Event) (t m : ℕ) (o : Op) → operation_in e ≡ Some (t, m, o) → (session : Session) (up : Bool) →
       Says (Some e) (where_up up (operation_moves (s.member m) t m o (count_at session.told m))) (operated s t session m o up (member_op (s.member m) t (count_at session.told m) o))
@@ -215,6 +220,7 @@ module _ (s : Federation) (f : Facts s) where
 
   line : (e : Event) → Says (Some e) (line_moves s e) (step_line s e)
   line (event.Begin t c) = begins t c (is_used s t) (s.coord c).up
+  line (event.Local t m) = begins_local t m (is_used s t) (s.member m).up
   line (event.Read t m key) = operates (event.Read t m key) t m (op.Read key) refl
   line (event.Write t m key value) = operates (event.Write t m key value) t m (op.Write key value) refl
   line (event.Erase t m key) = operates (event.Erase t m key) t m (op.Erase key) refl
@@ -231,11 +237,6 @@ module _ (s : Federation) (f : Facts s) where
   line (event.Arm at call leaves) = arm (event.Arm at call leaves) call leaves at
   line (event.Checkpoint at) = checkpoint (event.Checkpoint at) at
 
-  begins_local : (t m : ℕ) (used up : Bool) → Says None (begin_moves (BeginLocal t m) used up) (local_where s t m used up)
-  begins_local t m true up = λ rest. refl
-  begins_local t m false true = λ rest. refl
-  begins_local t m false false = λ rest. refl
-
   hand : (t m : ℕ) (commit : Bool) → Says None (where_up (s.member m).up (decision_moves (s.member m) t m (coord_of (s.member m) t) commit)) (step s (happening.Hand t m commit))
   hand t m true =
       where_member None m (λ x. member_decide m x t (coord_of x t) true) (commit_moves (s.member m) t m (coord_of (s.member m) t) (standing_of (s.member m) t)) (nodes.commit_event_told (rest_of s) m (s.member m) (w m) t (coord_of (s.member m) t) (standing_of (s.member m) t))
@@ -245,6 +246,5 @@ module _ (s : Federation) (f : Facts s) where
 -- what a step tells, with what is told after it
 pub step_told : (s : Federation) → Facts s → (h : Happening) (rest : List ItemKind) → trace_from None (told_with h (step s h).items ++ rest) ≡ moves_trace (moves_of s h) ++ trace_from None rest
 step_told s f (happening.Line e) rest = line s f e rest
-step_told s f (happening.Local t m) rest = begins_local s f t m (is_used s t) (s.member m).up rest
 step_told s f (happening.Hand t m commit) rest = hand s f t m commit rest
 step_told s f happening.Disarm rest = refl

@@ -107,8 +107,6 @@ made_acted s moves z m = record { acts = as_acts moves; leaves = leaves_as moves
 step_acted : (s : Federation) → Facts s → (h : Happening) → IsTrueVerdict s h → ActedAs (step s h).state (moves_trace (moves_of s h)) s
 step_acted s f happening.Disarm v = record { acts = Disarms ∷ []; leaves = refl; guarded = (tt, tt); tells = refl }
 step_acted s f (happening.Line e) v = made_acted s (moves_of s (happening.Line e)) (step s (happening.Line e)).state (event_made s f (happening.Line e) (λ n. let z : happening.Line e ≡ happening.Disarm = n in cc) v)
-step_acted s f (happening.Local t m) v =
-    made_acted s (moves_of s (happening.Local t m)) (step s (happening.Local t m)).state (event_made s f (happening.Local t m) (λ n. let z : happening.Local t m ≡ happening.Disarm = n in cc) v)
 step_acted s f (happening.Hand t m commit) v =
     made_acted s (moves_of s (happening.Hand t m commit)) (step s (happening.Hand t m commit)).state (event_made s f (happening.Hand t m commit) (λ n. let z : happening.Hand t m commit ≡ happening.Disarm = n in cc) v)
 

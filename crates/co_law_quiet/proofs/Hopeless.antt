@@ -128,8 +128,6 @@ step_onward = step_leaves Onward onward_same onward_on (λ s f move g. move_onwa
 step_tells_none : (s : Federation) → Facts s → Working s → (t : ℕ) → Hopeless s t → (h : Happening) → IsTrueVerdict s h → tells_commit (moves_trace (moves_of s h)) t ≡ false
 step_tells_none s f w t hopeless (happening.Line e) v =
     moves_tell_none (moves_of s (happening.Line e)) s f w t hopeless (event_made s f (happening.Line e) (λ n. let z : happening.Line e ≡ happening.Disarm = n in cc) v).guards
-step_tells_none s f w t hopeless (happening.Local u m) v =
-    moves_tell_none (moves_of s (happening.Local u m)) s f w t hopeless (event_made s f (happening.Local u m) (λ n. let z : happening.Local u m ≡ happening.Disarm = n in cc) v).guards
 step_tells_none s f w t hopeless (happening.Hand u m commit) v =
     moves_tell_none (moves_of s (happening.Hand u m commit)) s f w t hopeless (event_made s f (happening.Hand u m commit) (λ n. let z : happening.Hand u m commit ≡ happening.Disarm = n in cc) v).guards
 step_tells_none s f w t hopeless happening.Disarm v = refl

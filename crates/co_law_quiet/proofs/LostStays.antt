@@ -257,7 +257,6 @@ event_tells_none_at s f t m g h n v = moves_tell_none_at (moves_of s h) s f t m 
 
 step_tells_none_at : (s : Federation) → Facts s → (t m : ℕ) → Gone s t m → (h : Happening) → IsTrueVerdict s h → tells_commit_at (moves_trace (moves_of s h)) (node.Member m) t ≡ false
 step_tells_none_at s f t m g (happening.Line e) v = event_tells_none_at s f t m g (happening.Line e) (λ n. let z : happening.Line e ≡ happening.Disarm = n in cc) v
-step_tells_none_at s f t m g (happening.Local u k) v = event_tells_none_at s f t m g (happening.Local u k) (λ n. let z : happening.Local u k ≡ happening.Disarm = n in cc) v
 step_tells_none_at s f t m g (happening.Hand u k commit) v = event_tells_none_at s f t m g (happening.Hand u k commit) (λ n. let z : happening.Hand u k commit ≡ happening.Disarm = n in cc) v
 step_tells_none_at s f t m g happening.Disarm v = refl
 
@@ -285,7 +284,6 @@ yes_more (item.Sent (message.Vote u k c true) ∷ xs) ys t m p q =
 
 told_yes : (h : Happening) (items : List ItemKind) (t m : ℕ) → tells_yes (told_with h items) t m ≡ tells_yes items t m
 told_yes (happening.Line e) items t m = refl
-told_yes (happening.Local u k) items t m = refl
 told_yes (happening.Hand u k commit) items t m = refl
 told_yes happening.Disarm items t m = refl
 
