@@ -18,10 +18,11 @@ use Rattle.co_plain.specs.Decisions.{asked_in}
 use Rattle.co_plain.specs.CommitmentOrder.{Trace, decided_in, trace_of, Precedes, StandsBefore, IsCommitmentOrdered}
 use Rattle.co_plain.specs.Invariants.{Memory}
 use Rattle.co_law_base.proofs.Lookups.{look_none}
-use Rattle.co_law_base.proofs.Facts.{by_coord, Facts}
+use Rattle.co_law_base.proofs.Facts.{Facts}
 use Rattle.co_law_event.specs.HandedVerdicts.{AreTrueVerdicts}
 use Rattle.co_law_moves.specs.MoveTraces.{run_items}
 use Rattle.co_law_order.proofs.Acts.{ActedAs, acted}
+use Rattle.co_law_order.proofs.Deciders.{homed}
 use Rattle.co_law_order.proofs.AtDecision.{Fresh}
 use Rattle.co_law_order.proofs.Ordered.{ordered}
 use Rattle.co_law_start.specs.OpenedLogs.{AreOpenable}
@@ -45,9 +46,9 @@ module _ (kinds : List Kind) (coords : ℕ) (fm fc : ℕ → Found) (g : AreOpen
         facts = opened_facts;
         traced = record {
           by_some = λ t by e. absurd (let z : None ≡ Some by = e in cc);
-          begun = λ t c h. absurd (let z : false ≡ true = ap (λ o. by_coord o c) (sym (look_none t)) ∙ h in cc);
-          decided = λ t c h k. absurd (let z : false ≡ true = h in cc);
-          decides = λ t c h. absurd (let z : false ≡ true = h in cc);
+          begun = λ t by h. absurd (let z : false ≡ true = ap (λ o. homed o by) (sym (look_none t)) ∙ h in cc);
+          known = λ t at h. absurd (let z : false ≡ true = h in cc);
+          order = refl;
           installed = λ t m h. absurd (let z : false ≡ true = h in cc);
           was_installed = λ t m h. inr (used t m h);
         };

@@ -11,8 +11,8 @@ ghost use Rattle.co_law_moves.specs.MoveTraces.{run_items};
 ghost use Rattle.co_law_start.specs.OpenedLogs.{AreOpenable};
 
 /// The items of every run are commitment ordered: where an operation of one decided transaction stands before a
-/// conflicting one of another, it is decided first (Raz, The principle of commitment ordering, VLDB 1992). The items tell
-/// begins by `begin` lines alone, so the order is that of the transactions of coordinators.
+/// conflicting one of another, it is decided first (Raz, The principle of commitment ordering, VLDB 1992). A transaction of
+/// a coordinator is decided there, a local one at its member.
 pub fn commitment_ordered()
     ensures { (kinds : List Kind) (coords : ℕ) (found_member found_coord : ℕ → Found) (hs : List Happening) →
         AreOpenable kinds coords found_member found_coord →

@@ -53,7 +53,7 @@ pub record AreOwnLogs (kinds : List Kind) (coords : ℕ) (found_member found_coo
 abbrev pub tells_commit : List Trace → ℕ → Bool
 tells_commit [] t = false
 tells_commit (Began u by ∷ rest) t = tells_commit rest t
-tells_commit (Operated u m o ∷ rest) t = tells_commit rest t
+tells_commit (Operated u m o reply ∷ rest) t = tells_commit rest t
 tells_commit (Committed at u ∷ rest) t = (u == t) || tells_commit rest t
 
 -- what the timer answers that ends it
