@@ -29,7 +29,7 @@ event_is_made s f h v n =
     record {
       leaves = m.same;
       guarded = m.guards;
-      tells = ap (trace_from None) (sym (no_rest (told_with h (step s h).items))) ∙ step_told s f h [] ∙ no_rest (moves_trace (moves_of s h));
+      tells = ap (trace_from None) (sym (no_rest (told_with h (step s h).items))) ∙ step_told s f h [] ∙ no_rest (moves_trace (moves_of s h) s);
     }
 
 pub every_event : (kinds : List Kind) (coords : ℕ) (fm fc : ℕ → Found) (hs : List Happening) (h : Happening) → AreOpenable kinds coords fm fc → AreTrueVerdicts hs (opened kinds coords fm fc) →

@@ -184,6 +184,7 @@ module _ (s : Federation) (f : Facts s) (named : MessagesNameHomes s) where
 
   line : (e : Event) → Named (step_line s e)
   line (event.Begin t c) = begins t c (is_used s t) (s.coord c).up
+  line (event.Local t m) = begins_local t m (is_used s t) (s.member m).up
   line (event.Read t m key) = operation t m (op.Read key) (leave_to_visit (look s.sessions t) m)
   line (event.Write t m key value) = operation t m (op.Write key value) (leave_to_visit (look s.sessions t) m)
   line (event.Erase t m key) = operation t m (op.Erase key) (leave_to_visit (look s.sessions t) m)
@@ -202,7 +203,6 @@ module _ (s : Federation) (f : Facts s) (named : MessagesNameHomes s) where
 
   step_named : (h : Happening) → Named (step s h)
   step_named (happening.Line e) = line e
-  step_named (happening.Local t m) = begins_local t m (is_used s t) (s.member m).up
   step_named (happening.Hand t m commit) =
       of_member m (s.member m).up (member_decide m (s.member m) t (coord_of (s.member m) t) commit) (names_decision s f m t (coord_of (s.member m) t) commit (handed_home s f m t))
   step_named happening.Disarm = λ note h. named note h

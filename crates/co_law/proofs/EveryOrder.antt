@@ -14,14 +14,16 @@ use Rattle.co_plain.specs.Numbers.{has_number}
 use Rattle.co_plain.specs.Opening.{Found, opened}
 use Rattle.co_plain.specs.Federation.{Federation}
 use Rattle.co_plain.specs.Runs.{run, numbered, transcript, lines}
-use Rattle.co_plain.specs.Decisions.{asked_in}
-use Rattle.co_plain.specs.CommitmentOrder.{Trace, decided_in, trace_of, Precedes, StandsBefore, IsCommitmentOrdered}
+use Rattle.co_plain.specs.Decisions.{asked_in, decided_numbers}
+use Rattle.co_plain.specs.CommitmentOrder.{Trace, decided_in, trace_of, Precedes, StandsBefore, told_decisions, IsCommitmentOrdered}
 use Rattle.co_plain.specs.Invariants.{Memory}
 use Rattle.co_law_base.proofs.Lookups.{look_none}
-use Rattle.co_law_base.proofs.Facts.{by_coord, Facts}
+use Rattle.co_law_base.proofs.Facts.{Facts}
 use Rattle.co_law_event.specs.HandedVerdicts.{AreTrueVerdicts}
 use Rattle.co_law_moves.specs.MoveTraces.{run_items}
 use Rattle.co_law_order.proofs.Acts.{ActedAs, acted}
+use Rattle.co_law_order.proofs.Deciders.{homed}
+use Rattle.co_law_order.proofs.Traced.{acts_traced}
 use Rattle.co_law_order.proofs.AtDecision.{Fresh}
 use Rattle.co_law_order.proofs.Ordered.{ordered}
 use Rattle.co_law_start.specs.OpenedLogs.{AreOpenable}
@@ -45,9 +47,9 @@ module _ (kinds : List Kind) (coords : ℕ) (fm fc : ℕ → Found) (g : AreOpen
         facts = opened_facts;
         traced = record {
           by_some = λ t by e. absurd (let z : None ≡ Some by = e in cc);
-          begun = λ t c h. absurd (let z : false ≡ true = ap (λ o. by_coord o c) (sym (look_none t)) ∙ h in cc);
-          decided = λ t c h k. absurd (let z : false ≡ true = h in cc);
-          decides = λ t c h. absurd (let z : false ≡ true = h in cc);
+          begun = λ t by h. absurd (let z : false ≡ true = ap (λ o. homed o by) (sym (look_none t)) ∙ h in cc);
+          known = λ t at h. absurd (let z : false ≡ true = h in cc);
+          order = refl;
           installed = λ t m h. absurd (let z : false ≡ true = h in cc);
           was_installed = λ t m h. inr (used t m h);
         };
@@ -80,3 +82,19 @@ pub every_transcript : (kinds : List Kind) (coords : ℕ) (fm fc : ℕ → Found
     IsCommitmentOrdered kinds (map (λ i. i.what) (transcript number events (opened kinds coords fm fc)))
 every_transcript kinds coords fm fc number events g =
     subst (λ items. InOrder kinds (trace_of items)) (sym (transcript_items number events (opened kinds coords fm fc))) (every_order kinds coords fm fc (lines events) g (lines_true events (opened kinds coords fm fc)))
+
+pub every_decision : (kinds : List Kind) (coords : ℕ) (fm fc : ℕ → Found) (hs : List Happening) → AreOpenable kinds coords fm fc → AreTrueVerdicts hs (opened kinds coords fm fc) →
+    told_decisions (run_items hs (opened kinds coords fm fc)) ≡ decided_numbers (run hs (opened kinds coords fm fc)).decided
+every_decision kinds coords fm fc hs g v = by (acted hs (opened kinds coords fm fc) (start_facts kinds coords fm fc g) v)
+  where
+    by : ActedAs (run hs (opened kinds coords fm fc)) (trace_of (run_items hs (opened kinds coords fm fc))) (opened kinds coords fm fc) →
+        told_decisions (run_items hs (opened kinds coords fm fc)) ≡ decided_numbers (run hs (opened kinds coords fm fc)).decided
+    by a =
+        let fresh = fresh_opened kinds coords fm fc g in
+        ap (λ tr. decided_in tr tr) a.tells ∙ (acts_traced a.acts (opened kinds coords fm fc) fresh.facts [] fresh.traced a.guarded).order
+        ∙ ap (λ z. decided_numbers z.decided) a.leaves
+
+pub every_line_decision : (kinds : List Kind) (coords : ℕ) (fm fc : ℕ → Found) (number : ℕ) (events : List Event) → AreOpenable kinds coords fm fc →
+    told_decisions (map (λ i. i.what) (transcript number events (opened kinds coords fm fc))) ≡ decided_numbers (run (lines events) (opened kinds coords fm fc)).decided
+every_line_decision kinds coords fm fc number events g =
+    ap told_decisions (transcript_items number events (opened kinds coords fm fc)) ∙ every_decision kinds coords fm fc (lines events) g (lines_true events (opened kinds coords fm fc))

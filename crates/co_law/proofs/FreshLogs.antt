@@ -1,10 +1,10 @@
 -- Logs without records may be opened, fresh ones among them.
-use Rattle.std.proofs.Common.{◌≡◌, ℕ, true, false, List, [], reverse, refl, sym, ap, ◌∙◌, subst}
+use Rattle.std.proofs.Common.{◌≡◌, ℕ, Bool, true, false, List, [], reverse, refl, sym, ap, ◌∙◌, subst}
 use Rattle.std.specs.Option.{is_some}
 use Rattle.co_base.specs.declared.head.Kind.{Kind}
 use Rattle.co_state.specs.declared.engine_state.Vote.{Vote}
 use Rattle.co_plain.specs.MemberView.{first_refused_at_member}
-use Rattle.co_plain.specs.Opening.{Found, fresh}
+use Rattle.co_plain.specs.Opening.{Found}
 use Rattle.co_plain.specs.Decisions.{votes_for}
 use Rattle.co_plain.specs.SoundLogs.{AreSound, log_votes_for, has_unended}
 use Rattle.co_law_base.proofs.Lookups.{is_nothing, look_none}
@@ -37,5 +37,7 @@ empty_openable kinds coords fm fc em ec =
     (record { members = λ m h. em m; coordinators = λ c h. ec c })
     (λ m. ap (λ rs. first_refused_at_member coords (reverse rs)) (em m))
 
-pub fresh_openable : (kinds : List Kind) (coords : ℕ) → AreOpenable kinds coords (λ m. fresh) (λ c. fresh)
-fresh_openable kinds coords = empty_openable kinds coords (λ m. fresh) (λ c. fresh) (λ m. refl) (λ c. refl)
+pub fresh_openable : (kinds : List Kind) (coords : ℕ) (closed_member closed_coord : ℕ → Bool) →
+    AreOpenable kinds coords (λ m. record { records = []; spare_closed = closed_member m }) (λ c. record { records = []; spare_closed = closed_coord c })
+fresh_openable kinds coords closed_member closed_coord =
+    empty_openable kinds coords (λ m. record { records = []; spare_closed = closed_member m }) (λ c. record { records = []; spare_closed = closed_coord c }) (λ m. refl) (λ c. refl)

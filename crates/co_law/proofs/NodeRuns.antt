@@ -281,6 +281,7 @@ module _ (n k : ℕ) (some : 1 ≤ k) (P : ℕ → MemberState → Type 0) (Q : 
 
   line : (e : Event) → HaveNodes P Q (step_line s e).state
   line (event.Begin t c) = begins t c (is_used s t) refl (s.coord c).up refl
+  line (event.Local t m) = begins_local t m (is_used s t) (s.member m).up
   line (event.Read t m key) = operates t m (op.Read key) (leave_to_visit (look s.sessions t) m) refl
   line (event.Write t m key value) = operates t m (op.Write key value) (leave_to_visit (look s.sessions t) m) refl
   line (event.Erase t m key) = operates t m (op.Erase key) (leave_to_visit (look s.sessions t) m) refl
@@ -299,7 +300,6 @@ module _ (n k : ℕ) (some : 1 ≤ k) (P : ℕ → MemberState → Type 0) (Q : 
 
   step_nodes : (h : Happening) → HaveNodes P Q (step s h).state
   step_nodes (happening.Line e) = line e
-  step_nodes (happening.Local t m) = begins_local t m (is_used s t) (s.member m).up
   step_nodes (happening.Hand t m commit) =
       of_member m (s.member m).up (member_decide m (s.member m) t (coord_of (s.member m) t) commit)
       (λ u. (by_m m).decision t (coord_of (s.member m) t) commit u)

@@ -130,6 +130,7 @@ module _ (s : Federation) where
 
   line : (e : Event) → Unchanged s (step_line s e)
   line (event.Begin t c) = begins t c (is_used s t) (s.coord c).up
+  line (event.Local t m) = begins_local t m (is_used s t) (s.member m).up
   line (event.Read t m key) = operation t m (op.Read key) (leave_to_visit (look s.sessions t) m)
   line (event.Write t m key value) = operation t m (op.Write key value) (leave_to_visit (look s.sessions t) m)
   line (event.Erase t m key) = operation t m (op.Erase key) (leave_to_visit (look s.sessions t) m)
@@ -149,7 +150,6 @@ module _ (s : Federation) where
 -- what a refusal leaves
 pub refused : (s : Federation) (h : Happening) → Unchanged s (step s h)
 refused s (happening.Line e) a q r = line s e a q r
-refused s (happening.Local t m) a e r = begins_local s t m (is_used s t) (s.member m).up a e r
 refused s (happening.Hand t m commit) a e r =
     of_member s m (s.member m).up (member_decide m (s.member m) t (coord_of (s.member m) t) commit)
     (admits_decision (s.member m) m t (coord_of (s.member m) t) commit) a e r

@@ -1,8 +1,8 @@
 //! What every run keeps, from logs that may be opened and with verdicts that are true where they are handed.
-ghost use Rattle.std.specs.Prelude.{ℕ, List, ◌≡◌, reverse, None};
+ghost use Rattle.std.specs.Prelude.{ℕ, Bool, List, [], ◌≡◌, reverse, None};
 ghost use Rattle.co_base.specs.declared.head.Kind.{Kind};
 ghost use Rattle.co_plain.specs.declared.happening.Happening.{Happening};
-ghost use Rattle.co_plain.specs.Opening.{Found, OnlyOwnLogs, fresh, opened};
+ghost use Rattle.co_plain.specs.Opening.{Found, OnlyOwnLogs, opened};
 ghost use Rattle.co_plain.specs.MemberView.{first_refused_at_member};
 ghost use Rattle.co_plain.specs.SoundLogs.{AreSound};
 ghost use Rattle.co_plain.specs.Runs.{run};
@@ -72,9 +72,10 @@ pub fn readable_logs()
         AreOpenable kinds coords found_member found_coord }
 {}
 
-/// Fresh logs may be opened.
+/// Logs in which nothing was written may be opened, whether their spare files are closed or not.
 pub fn fresh_logs()
-    ensures { (kinds : List Kind) (coords : ℕ) → AreOpenable kinds coords (λ m. fresh) (λ c. fresh) }
+    ensures { (kinds : List Kind) (coords : ℕ) (closed_member closed_coord : ℕ → Bool) →
+        AreOpenable kinds coords (λ m. record { records = []; spare_closed = closed_member m }) (λ c. record { records = []; spare_closed = closed_coord c }) }
 {}
 
 /// Every list of moves keeps the invariants, where each guard holds where its move is made.

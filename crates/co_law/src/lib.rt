@@ -26,7 +26,7 @@ pub use laws::{
 };
 pub use nodes::{whole_nodes, writable_nodes};
 pub use opening::{allowed_logs_are_own, empty_logs, left_logs, whole_invariants};
-pub use order::{commitment_ordered, transcripts_ordered};
+pub use order::{commitment_ordered, decisions_told, transcripts_ordered};
 pub use own::kept_by_each;
 pub use quiet::only_timers;
 pub use refused::refused_lines;

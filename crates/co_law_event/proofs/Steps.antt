@@ -179,6 +179,7 @@ module _ (s : Federation) (f : Facts s) where
 
   line : (e : Event) → Facts (step_line s e).state
   line (event.Begin t c) = begins t c (is_used s t) (s.coord c).up refl
+  line (event.Local t m) = begins_local t m (is_used s t) (s.member m).up refl
   line (event.Read t m key) = operates t m (op.Read key)
   line (event.Write t m key value) = operates t m (op.Write key value)
   line (event.Erase t m key) = operates t m (op.Erase key)
@@ -278,7 +279,6 @@ disarm_members s f =
 -- Every step keeps the facts.
 pub step_keeps : (s : Federation) → Facts s → (h : Happening) → IsTrueVerdict s h → Facts (step s h).state
 step_keeps s f (happening.Line e) v = line s f e
-step_keeps s f (happening.Local t m) v = begins_local s f t m (is_used s t) (s.member m).up refl
 step_keeps s f (happening.Hand t m commit) v = hand s f t m commit v
 step_keeps s f happening.Disarm v = disarm_members (record s { coord = λ c. with_coord_log (s.coord c) (with_stop (s.coord c).log None) }) (disarm_coords s f)
 

@@ -9,7 +9,6 @@ use Rattle.co_plain.specs.Step.{step}
 -- a commit is handed of a decided transaction, and an abort of one that is presumed aborted
 abbrev pub IsTrueVerdict : Federation → Happening → Type 0
 IsTrueVerdict s (happening.Line e) = Unit {0}
-IsTrueVerdict s (happening.Local t m) = Unit {0}
 IsTrueVerdict s (happening.Hand t m true) = IsDecided s t
 IsTrueVerdict s (happening.Hand t m false) = IsPresumedAborted s t
 IsTrueVerdict s happening.Disarm = Unit {0}

@@ -25,7 +25,6 @@ module _ (R : Federation → Federation → Type 0) (same : (s : Federation) →
 
   pub step_leaves : (s : Federation) → Facts s → (h : Happening) → IsTrueVerdict s h → R s (step s h).state
   step_leaves s f (happening.Line e) v = event_leaves s f (happening.Line e) (λ n. let z : happening.Line e ≡ happening.Disarm = n in cc) v
-  step_leaves s f (happening.Local t m) v = event_leaves s f (happening.Local t m) (λ n. let z : happening.Local t m ≡ happening.Disarm = n in cc) v
   step_leaves s f (happening.Hand t m commit) v = event_leaves s f (happening.Hand t m commit) (λ n. let z : happening.Hand t m commit ≡ happening.Disarm = n in cc) v
   step_leaves s f happening.Disarm v = by_disarm s f
 

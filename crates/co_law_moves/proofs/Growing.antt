@@ -163,6 +163,7 @@ module _ (s : Federation) where
 
   line : (e : Event) → Grows s (step_line s e).state
   line (event.Begin t c) = begins t c (is_used s t) (s.coord c).up
+  line (event.Local t m) = begins_local t m (is_used s t) (s.member m).up
   line (event.Read t m key) = operates t m (op.Read key) (leave_to_visit (look s.sessions t) m)
   line (event.Write t m key value) = operates t m (op.Write key value) (leave_to_visit (look s.sessions t) m)
   line (event.Erase t m key) = operates t m (op.Erase key) (leave_to_visit (look s.sessions t) m)
@@ -181,7 +182,6 @@ module _ (s : Federation) where
 
   pub step_grows : (h : Happening) → Grows s (step s h).state
   step_grows (happening.Line e) = line e
-  step_grows (happening.Local t m) = begins_local t m (is_used s t) (s.member m).up
   step_grows (happening.Hand t m commit) = of_member m (s.member m).up (member_decide m (s.member m) t (coord_of (s.member m) t) commit)
   step_grows happening.Disarm = record { members = refl; coords = refl; decided = λ t h. h }
 

@@ -50,7 +50,6 @@ own_event s f h n = let made = event_over AnyLogs s f h n tt in subst OwnFacts m
 
 pub own_step : (s : Federation) → OwnFacts s → (h : Happening) → OwnFacts (step s h).state
 own_step s f (happening.Line e) = own_event s f (happening.Line e) (λ n. let z : happening.Line e ≡ happening.Disarm = n in cc)
-own_step s f (happening.Local t m) = own_event s f (happening.Local t m) (λ n. let z : happening.Local t m ≡ happening.Disarm = n in cc)
 own_step s f (happening.Hand t m commit) = own_event s f (happening.Hand t m commit) (λ n. let z : happening.Hand t m commit ≡ happening.Disarm = n in cc)
 own_step s f happening.Disarm = own_disarmed s f
 

@@ -178,6 +178,7 @@ module _ (l : Logs) (s : Federation) (f : FactsOver l s) where
 
   line : (e : Event) → MadeOver l s (line_moves s e) (step_line s e).state
   line (event.Begin t c) = begins t c (is_used s t) (s.coord c).up refl
+  line (event.Local t m) = begins_local t m (is_used s t) (s.member m).up refl
   line (event.Read t m key) = operates t m (op.Read key)
   line (event.Write t m key value) = operates t m (op.Write key value)
   line (event.Erase t m key) = operates t m (op.Erase key)
@@ -204,7 +205,6 @@ module _ (l : Logs) (s : Federation) (f : FactsOver l s) where
 
 pub event_over : (l : Logs) (s : Federation) → FactsOver l s → (h : Happening) → h ≢ happening.Disarm → Where l (IsTrueVerdict s h) → MadeOver l s (moves_of s h) (step s h).state
 event_over l s f (happening.Line e) n v = line l s f e
-event_over l s f (happening.Local t m) n v = begins_local l s f t m (is_used s t) (s.member m).up refl
 event_over l s f (happening.Hand t m commit) n v = hand l s f t m commit v
 event_over l s f happening.Disarm n v = absurd (n refl)
 

@@ -306,6 +306,7 @@ checkpoint_at_moves s (node.Coord c) = where_up (s.coord c).up (coord_checkpoint
 -- the event of a schedule line
 abbrev pub line_moves : Federation → Event → List Move
 line_moves s (event.Begin t c) = begin_moves (Begin t c) (is_used s t) (s.coord c).up
+line_moves s (event.Local t m) = begin_moves (BeginLocal t m) (is_used s t) (s.member m).up
 line_moves s (event.Read t m key) = operate_moves s t m (op.Read key)
 line_moves s (event.Write t m key value) = operate_moves s t m (op.Write key value)
 line_moves s (event.Erase t m key) = operate_moves s t m (op.Erase key)
@@ -326,6 +327,5 @@ line_moves s (event.Checkpoint at) = checkpoint_at_moves s at
 -- every node at once.
 abbrev pub moves_of : Federation → Happening → List Move
 moves_of s (happening.Line e) = line_moves s e
-moves_of s (happening.Local t m) = begin_moves (BeginLocal t m) (is_used s t) (s.member m).up
 moves_of s (happening.Hand t m commit) = where_up (s.member m).up (decision_moves (s.member m) t m (coord_of (s.member m) t) commit)
 moves_of s happening.Disarm = []

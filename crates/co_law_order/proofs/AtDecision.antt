@@ -1,16 +1,21 @@
 -- What a list of guarded acts leaves, and the state before a decision.
-use Rattle.std.proofs.Common.{◌≡◌, ◌≢◌, ◌⊎◌, inl, inr, ℕ, true, false, ◌≤◌, ◌==◌, ◌+◌, if◌then◌else◌, List, [], ◌∷◌, ◌++◌, length, Option, None, Some, refl, sym, ap, ◌∙◌, subst, arith}
-use Rattle.std.proofs.lemmas.Bool.{or_cases, or_left, eq-eqb, false_from_ne_true}
+use Rattle.std.proofs.Common.{◌≡◌, ◌≢◌, ◌⊎◌, inl, inr, ℕ, true, false, ◌≤◌, ◌==◌, ◌+◌, if◌then◌else◌, Bool, List, [], ◌∷◌, ◌++◌, length, Option, None, Some, refl, sym, ap, ◌∙◌, subst, arith}
+use Rattle.std.specs.Option.{is_some}
+use Rattle.std.proofs.lemmas.Bool.{or_cases, or_left, or_right, eqb-true, eqb-false, eq-eqb, false_from_ne_true}
 use Rattle.co_base.specs.declared.head.Kind.{Kind}
 use Rattle.co_base.specs.declared.head.Kind.TheVariants.{Mv}
+use Rattle.co_base.specs.declared.node.Node.{Node}
+use Rattle.co_base.specs.declared.node.Node.TheVariants as node
 use Rattle.co_base.specs.declared.op.Op.{Op}
 use Rattle.co_base.specs.declared.written.Written.{Written}
 use Rattle.co_base.specs.Span.{Span, span_has}
 use Rattle.co_state.specs.declared.engine_state.EngineState.{EngineState}
 use Rattle.co_state.specs.declared.engine_state.Operation.{Operation}
+use Rattle.co_state.specs.declared.engine_state.Vote.{Vote}
 use Rattle.co_state.specs.Table.{look, holds}
 use Rattle.co_state.specs.Keys.{same_key, reads_key, writes_key, reads_meet, writes_meet}
-use Rattle.co_state.specs.Changes.{span_read, change_made, with_span, with_written}
+use Rattle.co_state.specs.Changes.{span_read, change_made, with_span, with_written, spans_of, sets_of}
+use Rattle.co_state.specs.VotingRule.{voted_holds}
 use Rattle.co_state.specs.EngineState.{operations_of, operations_in}
 use Rattle.co_state.specs.ReadRule.{snapshot_of, stamp_after, operation_reply}
 use Rattle.co_state.specs.Effects.{with_operation}
@@ -25,15 +30,18 @@ use Rattle.co_plain.specs.Opening.{kind_of}
 use Rattle.co_plain.specs.Sessions.{told_at, count_at, with_told}
 use Rattle.co_plain.specs.Wire.{was_sent}
 use Rattle.co_plain.specs.Federation.{Federation, with_member}
-use Rattle.co_plain.specs.Decisions.{told_of, told_in}
-use Rattle.co_plain.specs.Invariants.{Memory, view, stands, told_spans, told_changes}
-use Rattle.co_plain.specs.Moves.{Operate, Decide, Guard, effect, entered_reply, may_operate_at}
+use Rattle.co_plain.specs.CommitmentOrder.{Committed}
+use Rattle.co_plain.specs.Decisions.{told_of, told_in, asked_in, is_decided}
+use Rattle.co_plain.specs.Invariants.{Memory, view, stands, told_spans, told_changes, KeptAsTold}
+use Rattle.co_plain.specs.Moves.{Move, Operate, Decide, CommitLocally, Guard, effect, entered_reply, marked_over, may_operate_at, session_by_member, local_state}
 use Rattle.co_law_engine.proofs.SetsMade.{unread, unwritten, reads-put, writes-put}
 use Rattle.co_law_base.proofs.Lookups.{put_here, holds_found, found_holds}
-use Rattle.co_law_base.proofs.Commits.{lacks_none}
+use Rattle.co_law_base.proofs.Commits.{lacks_none, holds_new}
+use Rattle.co_law_base.proofs.ViewMoves.{each_map}
 use Rattle.co_law_base.proofs.ViewRules.{three_parts}
-use Rattle.co_law_base.proofs.Facts.{rest_of, OpenEntry, Facts, StampsIn}
-use Rattle.co_law_base.proofs.Carrying.{by_coord_begun, at_here}
+use Rattle.co_law_base.proofs.Facts.{rest_of, Begun, OpenEntry, Facts, StampsIn}
+use Rattle.co_law_base.proofs.Carrying.{LivesOn, by_coord_begun, at_here, one_lives}
+use Rattle.co_law_member.proofs.VoteMoves.{active_found}
 use Rattle.co_law_coord.proofs.CoordMoves.{one_yes}
 use Rattle.co_law_session.proofs.Sending.{told_parts, part_member}
 use Rattle.co_law_moves.proofs.MoveOnward.{move_onward}
@@ -41,11 +49,12 @@ use Rattle.co_law_moves.proofs.Onward.{Onward, onward_same, onward_on, disarm_on
 use Rattle.co_law_order.proofs.Acts.{Act, Moves, Disarms, after_act, act_guard, run_acts, ActsHold, act_keeps, acts_leave, hold_parts}
 use Rattle.co_law_order.proofs.Traced.{Traced}
 use Rattle.co_law_order.proofs.ToldOn.{ToldOn, told_same, told_on, act_told, reads_told, writes_told}
-use Rattle.co_law_order.proofs.Installs.{InstallsTold, act_installs}
-use Rattle.co_law_order.proofs.Seen.{Seen, act_seen, SeenAt, since}
+use Rattle.co_law_order.proofs.Installs.{InstallsTold, act_installs, kept_changes}
+use Rattle.co_law_order.proofs.Seen.{Seen, act_seen, SeenAt, since, fresh_lacks}
 use Rattle.co_law_order.proofs.Unread.{Unread, act_unread}
 use Rattle.co_law_order.proofs.KindStays.{SameKinds, act_kinds}
-use Rattle.co_law_engine.proofs.YesTells.{in_some}
+use Rattle.co_law_engine.proofs.YesTells.{in_some, SaysYes, yes_parts, yes_apart, no_keys}
+use Rattle.co_law_moves.specs.MoveTraces.{move_trace}
 use Rattle.co_law_session.proofs.Operating.{snapshot_in}
 
 -- what an act leaves, over a list of them
@@ -167,6 +176,141 @@ module _ (s : Federation) (f : Facts s) where
       let ra : reads_key a.0.sets.reads key ≡ true = ap (λ z. reads_key z key) (v.replay t a.0 bt a.1).reads ∙ rt in
       let wb : writes_key b.0.sets.writes key ≡ true = ap (λ z. writes_key z key) (v.replay u b.0 bu b.1).writes ∙ wu in
       let z : true ≡ false = sym ra ∙ unread a.0.sets.reads b.0.sets.writes key apart wb in cc
+
+-- the move that decides a transaction at its node, and what it tells
+abbrev pub decision : Node → ℕ → Move
+decision (node.Coord c) t = Decide t c
+decision (node.Member m) t = CommitLocally t m
+
+pub decision_tells : (s : Federation) (at : Node) (t : ℕ) → move_trace s (decision at t) ≡ Committed at t ∷ []
+decision_tells s (node.Coord c) t = refl
+decision_tells s (node.Member m) t = refl
+
+pub decision_decides : (s : Federation) (at : Node) (t : ℕ) → is_decided (effect s (decision at t)).decided t ≡ true
+decision_decides s (node.Coord c) t = or_left (t == t) _ (eq-eqb t t refl)
+decision_decides s (node.Member m) t = or_left (t == t) _ (eq-eqb t t refl)
+
+-- At its decision a transaction is begun and committed nowhere. No voted one wrote or read against it where it worked, and
+-- who is committed there wrote no key of a read of it that did not see them.
+pub record Deciding (s : Federation) (t : ℕ) : Type 0 where
+  pub begun_now : holds s.sessions t ≡ true
+  pub uncommitted : (m : ℕ) → holds (s.member m).committed t ≡ false
+  pub writes_apart : (u m : ℕ) (key : List ℕ) → t ≢ u → holds s.sessions u ≡ true → holds (s.member m).engine.voted u ≡ true → 1 ≤ count_at (told_of s t) m →
+      writes_told s t m key ≡ true → writes_told s u m key ≡ true → ⊥
+  pub reads_apart : (u m : ℕ) (key : List ℕ) → t ≢ u → holds s.sessions u ≡ true → holds (s.member m).engine.voted u ≡ true → 1 ≤ count_at (told_of s t) m →
+      reads_told s t m key ≡ true → writes_told s u m key ≡ true → ⊥
+  pub unread_by : (u m : ℕ) (key : List ℕ) → Unread t u m key s → holds (s.member m).committed u ≡ true → writes_told s u m key ≡ false
+
+-- what an active transaction read, as it was told
+kept_spans : (b : EngineState) (os : List Operation) (told : List Told) → KeptAsTold b os told → spans_of os ≡ told_spans told
+kept_spans b [] [] k = refl
+kept_spans b [] (t ∷ ts) k = absurd k
+kept_spans b (o ∷ os) [] k = absurd k
+kept_spans b (o ∷ os) (t ∷ ts) k = let rest = kept_spans b os ts k.2 in λ i. with_span (span_read (k.0 i)) (rest i)
+
+module _ (s : Federation) (f : Facts s) where
+  deciding_there : (t c : ℕ) → Guard s (Decide t c) → Deciding s t
+  deciding_there t c g =
+      record {
+        begun_now = begun_there s f t c g;
+        uncommitted = λ m. decide_uncommitted s f t c m g;
+        writes_apart = λ u m key n b v l. voted_writes s f t u m key n (begun_there s f t c g) b (decide_voted s f t c m g l) v;
+        reads_apart = λ u m key n b v l. voted_reads s f t u m key n (begun_there s f t c g) b (decide_voted s f t c m g l) v;
+        unread_by = λ u m key q h. q.voted lives (decide_voted s f t c m g q.seen.worked) h;
+      }
+    where
+      lives : LivesOn (rest_of s) t
+      lives d b = let o = opens s f t c g in one_lives (rest_of s) f.numbers t c (Begun o.begun_there) (or_left _ _ (in_table s f t c g)) d b
+
+  -- a local transaction is active at its member, which says yes to it
+  module _ (t m : ℕ) (g : Guard s (CommitLocally t m)) (session : Session) (here : look s.sessions t ≡ Some session) (by : session.by ≡ node.Member m) where
+    yes' : SaysYes (s.member m).engine t (count_at (told_of s t) m)
+    yes' = yes_parts (s.member m).engine t (count_at (told_of s t) m) g.3
+
+    active : look (s.member m).engine.active t ≡ Some (operations_of (s.member m).engine t)
+    active = active_found (s.member m).engine t (subst (λ j. 1 ≤ j) (sym yes'.count) g.2)
+
+    kept : KeptAsTold (s.member m).engine (operations_of (s.member m).engine t) (told_at (told_of s t) m)
+    kept = ((f.members m).active t (operations_of (s.member m).engine t) active).kept
+
+    -- it worked nowhere else
+    only : (k : ℕ) → 1 ≤ count_at (told_of s t) k → k ≡ m
+    only k l = now (k == m) refl
+      where
+        now : (b : Bool) → (k == m) ≡ b → k ≡ m
+        now true e = eqb-true k m e
+        now false e =
+            let none : count_at (told_of s t) k ≡ 0 = ap (λ o. count_at (told_in o) k) here ∙ f.numbers.local t m k session here by (eqb-false k m e) in
+            let z : 1 ≤ 0 = subst (λ j. 1 ≤ j) none l in
+            absurd (omega (arith, z))
+
+    voted_apart : (u : ℕ) (vote : Vote) → t ≢ u → look (s.member m).engine.voted u ≡ Some vote → voted_holds (sets_of (operations_of (s.member m).engine t)) vote.sets ≡ false
+    voted_apart u vote n e = yes_apart (s.member m).engine t (count_at (told_of s t) m) u vote yes' n e
+
+    wrote : (u : ℕ) (key : List ℕ) (vote : Vote) → holds s.sessions u ≡ true → look (s.member m).engine.voted u ≡ Some vote → writes_told s u m key ≡ true → writes_key vote.sets.writes key ≡ true
+    wrote u key vote b e h = ap (λ z. writes_key z key) ((((f.members m).views Memory).replay u vote b e).writes) ∙ h
+
+    local_writes : (u : ℕ) (key : List ℕ) → t ≢ u → holds s.sessions u ≡ true → holds (s.member m).engine.voted u ≡ true → writes_told s t m key ≡ true → writes_told s u m key ≡ true → ⊥
+    local_writes u key n b v wt wu =
+        let p = holds_found (s.member m).engine.voted u v in
+        let own = sets_of (operations_of (s.member m).engine t) in
+        let apart = (three_parts (reads_meet p.0.sets.reads own.writes) (writes_meet p.0.sets.writes own.writes) (reads_meet own.reads p.0.sets.writes) (voted_apart u p.0 n p.1)).1 in
+        let mine : writes_key own.writes key ≡ true = ap (λ z. writes_key z key) (kept_changes (s.member m).engine (operations_of (s.member m).engine t) (told_at (told_of s t) m) kept) ∙ wt in
+        let z : true ≡ false = sym (wrote u key p.0 b p.1 wu) ∙ unwritten p.0.sets.writes own.writes key apart mine in cc
+
+    local_reads : (u : ℕ) (key : List ℕ) → t ≢ u → holds s.sessions u ≡ true → holds (s.member m).engine.voted u ≡ true → reads_told s t m key ≡ true → writes_told s u m key ≡ true → ⊥
+    local_reads u key n b v rt wu =
+        let p = holds_found (s.member m).engine.voted u v in
+        let own = sets_of (operations_of (s.member m).engine t) in
+        let apart = (three_parts (reads_meet p.0.sets.reads own.writes) (writes_meet p.0.sets.writes own.writes) (reads_meet own.reads p.0.sets.writes) (voted_apart u p.0 n p.1)).2 in
+        let mine : reads_key own.reads key ≡ true = ap (λ z. reads_key z key) (kept_spans (s.member m).engine (operations_of (s.member m).engine t) (told_at (told_of s t) m) kept) ∙ rt in
+        let z : true ≡ false = sym mine ∙ unread own.reads p.0.sets.writes key apart (wrote u key p.0 b p.1 wu) in cc
+
+    local_unread : (u : ℕ) (key : List ℕ) → Unread t u m key s → holds (s.member m).committed u ≡ true → writes_told s u m key ≡ false
+    local_unread u key q h =
+        let p = q.seen.seen (operations_of (s.member m).engine t) active in
+        fresh_lacks (s.member m).engine.installed (operations_of (s.member m).engine t) key p.0 u (told_changes (told_at (told_of s u) m)) (no_keys _ yes'.fresh) p.1 (p.3 h)
+        (each_map _ (λ j. j.txn ≡ u → j.writes ≡ told_changes (told_at (told_of s u) m)) (s.member m).engine.installed
+        (λ j a x. a.1 (ap (holds s.used) x ∙ q.unused_u) ∙ ap (λ w. told_changes (told_at (told_of s w) m)) x) (q.installs m))
+
+    local_uncommitted : (k : ℕ) → holds (s.member k).committed t ≡ false
+    local_uncommitted k =
+        false_from_ne_true _ (λ h.
+        let decided = ((f.members k).views Memory).known t h (ap is_some here) in
+        let z : true ≡ false = sym (f.numbers.local_asked t m session here by decided) ∙ ap asked_in (sym here) ∙ g.1 in cc)
+
+    deciding_here : Deciding s t
+    deciding_here =
+        record {
+          begun_now = ap is_some here;
+          uncommitted = local_uncommitted;
+          writes_apart = λ u k key n b v l. subst (λ j. holds (s.member j).engine.voted u ≡ true → writes_told s t j key ≡ true → writes_told s u j key ≡ true → ⊥) (sym (only k l)) (local_writes u key n b) v;
+          reads_apart = λ u k key n b v l. subst (λ j. holds (s.member j).engine.voted u ≡ true → reads_told s t j key ≡ true → writes_told s u j key ≡ true → ⊥) (sym (only k l)) (local_reads u key n b) v;
+          unread_by = λ u k key q. subst (λ j. Unread t u j key s → holds (s.member j).committed u ≡ true → writes_told s u j key ≡ false) (sym (only k q.seen.worked)) (local_unread u key) q;
+        }
+
+    local_stands : (k : ℕ) → 1 ≤ count_at (told_of s t) k → stands (view Memory ((effect s (CommitLocally t m)).member k)) t ≡ true
+    local_stands k l =
+        let x = local_state (s.member m) t (count_at (told_of s t) m) in
+        let there : (effect s (CommitLocally t m)).member m ≡ x = at_here (marked_over s t (look s.sessions t)).member m x in
+        subst (λ j. stands (view Memory ((effect s (CommitLocally t m)).member j)) t ≡ true) (sym (only k l))
+        (ap (λ y. stands (view Memory y) t) there ∙ or_right _ _ (holds_new (s.member m).committed t))
+
+  home_of : (t m : ℕ) → session_by_member (look s.sessions t) m → (session : Session) × (look s.sessions t ≡ Some session) × (session.by ≡ node.Member m)
+  home_of t m h = now (look s.sessions t) refl h
+    where
+      now : (o : Option Session) → look s.sessions t ≡ o → session_by_member o m → (session : Session) × (look s.sessions t ≡ Some session) × (session.by ≡ node.Member m)
+      now None e k = absurd k
+      now (Some session) e k = (session, e, k)
+
+  pub deciding : (t : ℕ) (at : Node) → Guard s (decision at t) → Deciding s t
+  deciding t (node.Coord c) g = deciding_there t c g
+  deciding t (node.Member m) g = let p = home_of t m g.0 in deciding_here t m g p.0 p.1 p.2
+
+  -- after it the transaction stands where it worked
+  pub decision_stands : (t n : ℕ) (at : Node) → Guard s (decision at t) → 1 ≤ count_at (told_of s t) n → stands (view Memory ((effect s (decision at t)).member n)) t ≡ true
+  decision_stands t n (node.Coord c) g l = decide_stands s f t c n g l
+  decision_stands t n (node.Member m) g l = let p = home_of t m g.0 in local_stands t m g p.0 p.1 p.2 n l
 
 -- what is between two fronts of guarded acts
 pub record Between (acts : List Act) (s : Federation) (front back : List Act) : Type 0 where

@@ -1,4 +1,5 @@
 pub mod Acts
+pub mod Deciders
 pub mod Traced
 pub mod ToldOn
 pub mod Installs

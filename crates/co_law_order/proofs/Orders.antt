@@ -4,36 +4,23 @@ use Rattle.std.proofs.lemmas.Bool.{or_cases, or_left, or_right, and_parts, eqb-t
 use Rattle.co_base.specs.declared.node.Node.{Node}
 use Rattle.co_base.specs.declared.node.Node.TheVariants as node
 use Rattle.co_base.specs.declared.op.Op.{Op}
+use Rattle.co_base.specs.declared.reply.Reply.{Reply}
+use Rattle.co_state.specs.ReadRule.{operation_reply}
+use Rattle.co_plain.specs.Federation.{Federation}
 use Rattle.co_plain.specs.Numbers.{has_number}
 use Rattle.co_plain.specs.Sessions.{same_node}
 use Rattle.co_plain.specs.CommitmentOrder.{Trace, Began, Operated, Committed, decider_in, decides_at, decided_in, installs, before_first}
 use Rattle.co_plain.specs.Moves.{Operate, MarkAsked, Cast, DropActive, DropVoted, Install, CommitLocally, CrashMember, RestartMember, ArmMember, CloseMemberSpare, FillMemberSpare, Begin, Collect, RecordYes, Decide, Leave, RecordAck, End, CrashCoord, RestartCoord, ArmCoord, CloseCoordSpare, FillCoordSpare, BeginLocal, AskEnd, Send}
-use Rattle.co_law_order.proofs.Acts.{Act, Moves, Disarms, act_trace, acts_trace, same_head, same_tail, not_empty}
-use Rattle.co_law_order.proofs.Traced.{committed_at}
-
--- one part of a trace after another
-pub decided_more : (whole xs ys : List Trace) → decided_in whole (xs ++ ys) ≡ decided_in whole xs ++ decided_in whole ys
-decided_more whole [] ys = refl
-decided_more whole (Began u by ∷ xs) ys = decided_more whole xs ys
-decided_more whole (Operated u m o ∷ xs) ys = decided_more whole xs ys
-decided_more whole (Committed at t ∷ xs) ys = by (decided_more whole xs ys) (decides_at (decider_in whole t) at)
-  where
-    by : decided_in whole (xs ++ ys) ≡ decided_in whole xs ++ decided_in whole ys → (b : Bool) →
-        (if b then t ∷ decided_in whole (xs ++ ys) else decided_in whole (xs ++ ys)) ≡ (if b then t ∷ decided_in whole xs else decided_in whole xs) ++ decided_in whole ys
-    by rest true = ap (λ k. t ∷ k) rest
-    by rest false = rest
+use Rattle.co_law_order.proofs.Acts.{Act, Moves, Disarms, after_act, act_trace, acts_trace, same_head, same_tail, not_empty}
+use Rattle.co_law_order.proofs.Deciders.{committed_at, decided_more, same_home, same_self}
 
 -- who is in the order was decided at its node
 pub has_decided : (whole tr : List Trace) (t : ℕ) → has_number (decided_in whole tr) t ≡ true → (at : Node) × (decides_at (decider_in whole t) at ≡ true) × (committed_at tr at t ≡ true)
 has_decided whole [] t h = absurd (let z : false ≡ true = h in cc)
 has_decided whole (Began u by ∷ tr) t h = has_decided whole tr t h
-has_decided whole (Operated u m o ∷ tr) t h = has_decided whole tr t h
+has_decided whole (Operated u m o reply ∷ tr) t h = has_decided whole tr t h
 has_decided whole (Committed at u ∷ tr) t h = by (has_decided whole tr t) (decides_at (decider_in whole u) at) refl h
   where
-    same_self : (n : Node) → same_node n n ≡ true
-    same_self (node.Member m) = eq-eqb m m refl
-    same_self (node.Coord c) = eq-eqb c c refl
-
     later : ((here : Node) × (decides_at (decider_in whole t) here ≡ true) × (committed_at tr here t ≡ true)) → (here : Node) × (decides_at (decider_in whole t) here ≡ true) × (committed_at (Committed at u ∷ tr) here t ≡ true)
     later p = (p.0, p.1, or_right _ _ p.2)
 
@@ -61,79 +48,96 @@ pub record Stands' (tr : List Trace) (x : Trace) : Type 0 where
   pub rest : List Trace
   pub place : tr ≡ before ++ x ∷ rest
 
-pub committed_stands : (tr : List Trace) (c t : ℕ) → committed_at tr (node.Coord c) t ≡ true → Stands' tr (Committed (node.Coord c) t)
-committed_stands [] c t h = absurd (let z : false ≡ true = h in cc)
-committed_stands (Began u by ∷ tr) c t h = let p = committed_stands tr c t h in record { before = Began u by ∷ p.before; rest = p.rest; place = ap (λ k. Began u by ∷ k) p.place }
-committed_stands (Operated u m o ∷ tr) c t h = let p = committed_stands tr c t h in record { before = Operated u m o ∷ p.before; rest = p.rest; place = ap (λ k. Operated u m o ∷ k) p.place }
-committed_stands (Committed at u ∷ tr) c t h = by (committed_stands tr c t) at (or_cases _ _ h)
+pub committed_stands : (tr : List Trace) (at : Node) (t : ℕ) → committed_at tr at t ≡ true → Stands' tr (Committed at t)
+committed_stands [] at t h = absurd (let z : false ≡ true = h in cc)
+committed_stands (Began u by ∷ tr) at t h = let p = committed_stands tr at t h in record { before = Began u by ∷ p.before; rest = p.rest; place = ap (λ k. Began u by ∷ k) p.place }
+committed_stands (Operated u m o reply ∷ tr) at t h = let p = committed_stands tr at t h in record { before = Operated u m o reply ∷ p.before; rest = p.rest; place = ap (λ k. Operated u m o reply ∷ k) p.place }
+committed_stands (Committed here u ∷ tr) at t h = by (committed_stands tr at t) (or_cases _ _ h)
   where
-    later : (here : Node) → Stands' tr (Committed (node.Coord c) t) → Stands' (Committed here u ∷ tr) (Committed (node.Coord c) t)
-    later here p = record { before = Committed here u ∷ p.before; rest = p.rest; place = ap (λ z. Committed here u ∷ z) p.place }
+    later : Stands' tr (Committed at t) → Stands' (Committed here u ∷ tr) (Committed at t)
+    later p = record { before = Committed here u ∷ p.before; rest = p.rest; place = ap (λ z. Committed here u ∷ z) p.place }
 
-    by : (committed_at tr (node.Coord c) t ≡ true → Stands' tr (Committed (node.Coord c) t)) → (here : Node) → ((same_node here (node.Coord c) && (u == t)) ≡ true) ⊎ (committed_at tr (node.Coord c) t ≡ true) →
-        Stands' (Committed here u ∷ tr) (Committed (node.Coord c) t)
-    by rest (node.Member m) (inr k) = later (node.Member m) (rest k)
-    by rest (node.Coord d) (inr k) = later (node.Coord d) (rest k)
-    by rest (node.Member m) (inl k) = absurd (let z : false ≡ true = k in cc)
-    by rest (node.Coord d) (inl k) =
-        let p = and_parts (d == c) (u == t) k in
-        record { before = []; rest = tr; place = λ i. Committed (node.Coord (eqb-true d c p.0 i)) (eqb-true u t p.1 i) ∷ tr }
+    by : (committed_at tr at t ≡ true → Stands' tr (Committed at t)) → ((same_node here at && (u == t)) ≡ true) ⊎ (committed_at tr at t ≡ true) → Stands' (Committed here u ∷ tr) (Committed at t)
+    by rest (inr k) = later (rest k)
+    by rest (inl k) =
+        let p = and_parts (same_node here at) (u == t) k in
+        record { before = []; rest = tr; place = λ i. Committed (same_home here at p.0 i) (eqb-true u t p.1 i) ∷ tr }
 
 -- which acts tell of a decision, and of an operation
 abbrev is_committed : Trace → Bool
 is_committed (Began u by) = false
-is_committed (Operated u m o) = false
+is_committed (Operated u m o reply) = false
 is_committed (Committed at u) = true
 
 abbrev committed_node : Node → Trace → Node
 committed_node d (Began u by) = d
-committed_node d (Operated u m o) = d
+committed_node d (Operated u m o reply) = d
 committed_node d (Committed at u) = at
 
 abbrev committed_txn : ℕ → Trace → ℕ
 committed_txn d (Began u by) = d
-committed_txn d (Operated u m o) = d
+committed_txn d (Operated u m o reply) = d
 committed_txn d (Committed at u) = u
 
 abbrev is_coord : Node → Bool
 is_coord (node.Member m) = false
 is_coord (node.Coord c) = true
 
-abbrev coord_number : Node → ℕ
-coord_number (node.Member m) = 0
-coord_number (node.Coord c) = c
+abbrev node_number : Node → ℕ
+node_number (node.Member m) = m
+node_number (node.Coord c) = c
 
-pub decide_act : (a : Act) (t c : ℕ) → act_trace a ≡ Committed (node.Coord c) t ∷ [] → a ≡ Moves (Decide t c)
-decide_act Disarms t c e = not_empty _ _ e
-decide_act (Moves (Decide u d)) t c e =
+abbrev is_coord_commit : Trace → Bool
+is_coord_commit x = is_coord (committed_node (node.Member 0) x)
+
+pub decide_act : (s : Federation) (a : Act) (t c : ℕ) → act_trace s a ≡ Committed (node.Coord c) t ∷ [] → a ≡ Moves (Decide t c)
+decide_act s Disarms t c e = not_empty _ _ e
+decide_act s (Moves (Decide u d)) t c e =
     let same = same_head _ _ _ _ e in
-    λ i. Moves (Decide (committed_txn 0 (same i)) (coord_number (committed_node (node.Coord 0) (same i))))
-decide_act (Moves (Install u m)) t c e = absurd (let z : false ≡ true = ap (λ x. is_coord (committed_node (node.Coord 0) x)) (same_head _ _ _ _ e) in cc)
-decide_act (Moves (CommitLocally u m)) t c e = absurd (let z : false ≡ true = ap (λ x. is_coord (committed_node (node.Coord 0) x)) (same_head _ _ _ _ e) in cc)
-decide_act (Moves (Operate u m o)) t c e = absurd (let z : false ≡ true = ap is_committed (same_head _ _ _ _ e) in cc)
-decide_act (Moves (Begin u d)) t c e = absurd (let z : false ≡ true = ap is_committed (same_head _ _ _ _ e) in cc)
-decide_act (Moves _) t c e = not_empty _ _ e
+    λ i. Moves (Decide (committed_txn 0 (same i)) (node_number (committed_node (node.Coord 0) (same i))))
+decide_act s (Moves (Install u m)) t c e = absurd (let z : false ≡ true = ap is_coord_commit (same_head _ _ _ _ e) in cc)
+decide_act s (Moves (CommitLocally u m)) t c e = absurd (let z : false ≡ true = ap is_coord_commit (same_head _ _ _ _ e) in cc)
+decide_act s (Moves (Operate u m o)) t c e = absurd (let z : false ≡ true = ap is_committed (same_head _ _ _ _ e) in cc)
+decide_act s (Moves (Begin u d)) t c e = absurd (let z : false ≡ true = ap is_committed (same_head _ _ _ _ e) in cc)
+decide_act s (Moves (BeginLocal u k)) t c e = absurd (let z : false ≡ true = ap is_committed (same_head _ _ _ _ e) in cc)
+decide_act s (Moves _) t c e = not_empty _ _ e
+
+-- a member tells of its own decision as of an install
+pub member_act : (s : Federation) (a : Act) (t m : ℕ) → act_trace s a ≡ Committed (node.Member m) t ∷ [] → (a ≡ Moves (CommitLocally t m)) ⊎ (a ≡ Moves (Install t m))
+member_act s Disarms t m e = not_empty _ _ e
+member_act s (Moves (CommitLocally u k)) t m e =
+    let same = same_head _ _ _ _ e in
+    inl (λ i. Moves (CommitLocally (committed_txn 0 (same i)) (node_number (committed_node (node.Coord 0) (same i)))))
+member_act s (Moves (Install u k)) t m e =
+    let same = same_head _ _ _ _ e in
+    inr (λ i. Moves (Install (committed_txn 0 (same i)) (node_number (committed_node (node.Coord 0) (same i)))))
+member_act s (Moves (Decide u d)) t m e = absurd (let z : true ≡ false = ap is_coord_commit (same_head _ _ _ _ e) in cc)
+member_act s (Moves (Operate u k o)) t m e = absurd (let z : false ≡ true = ap is_committed (same_head _ _ _ _ e) in cc)
+member_act s (Moves (Begin u d)) t m e = absurd (let z : false ≡ true = ap is_committed (same_head _ _ _ _ e) in cc)
+member_act s (Moves (BeginLocal u k)) t m e = absurd (let z : false ≡ true = ap is_committed (same_head _ _ _ _ e) in cc)
+member_act s (Moves _) t m e = not_empty _ _ e
 
 abbrev is_operated : Trace → Bool
 is_operated (Began u by) = false
-is_operated (Operated u m o) = true
+is_operated (Operated u m o reply) = true
 is_operated (Committed at u) = false
 
 abbrev operated_parts : ℕ × ℕ × Op → Trace → ℕ × ℕ × Op
 operated_parts d (Began u by) = d
-operated_parts d (Operated u m o) = (u, m, o)
+operated_parts d (Operated u m o reply) = (u, m, o)
 operated_parts d (Committed at u) = d
 
-pub operate_act : (a : Act) (t m : ℕ) (o : Op) → act_trace a ≡ Operated t m o ∷ [] → a ≡ Moves (Operate t m o)
-operate_act Disarms t m o e = not_empty _ _ e
-operate_act (Moves (Operate u n x)) t m o e =
+pub operate_act : (s : Federation) (a : Act) (t m : ℕ) (o : Op) (reply : Reply) → act_trace s a ≡ Operated t m o reply ∷ [] → a ≡ Moves (Operate t m o)
+operate_act s Disarms t m o reply e = not_empty _ _ e
+operate_act s (Moves (Operate u n x)) t m o reply e =
     let same = ap (operated_parts (t, m, o)) (same_head _ _ _ _ e) in
     λ i. Moves (Operate (same i).0 (same i).1 (same i).2)
-operate_act (Moves (Decide u d)) t m o e = absurd (let z : false ≡ true = ap is_operated (same_head _ _ _ _ e) in cc)
-operate_act (Moves (Install u k)) t m o e = absurd (let z : false ≡ true = ap is_operated (same_head _ _ _ _ e) in cc)
-operate_act (Moves (CommitLocally u k)) t m o e = absurd (let z : false ≡ true = ap is_operated (same_head _ _ _ _ e) in cc)
-operate_act (Moves (Begin u d)) t m o e = absurd (let z : false ≡ true = ap is_operated (same_head _ _ _ _ e) in cc)
-operate_act (Moves _) t m o e = not_empty _ _ e
+operate_act s (Moves (Decide u d)) t m o reply e = absurd (let z : false ≡ true = ap is_operated (same_head _ _ _ _ e) in cc)
+operate_act s (Moves (Install u k)) t m o reply e = absurd (let z : false ≡ true = ap is_operated (same_head _ _ _ _ e) in cc)
+operate_act s (Moves (CommitLocally u k)) t m o reply e = absurd (let z : false ≡ true = ap is_operated (same_head _ _ _ _ e) in cc)
+operate_act s (Moves (Begin u d)) t m o reply e = absurd (let z : false ≡ true = ap is_operated (same_head _ _ _ _ e) in cc)
+operate_act s (Moves (BeginLocal u k)) t m o reply e = absurd (let z : false ≡ true = ap is_operated (same_head _ _ _ _ e) in cc)
+operate_act s (Moves _) t m o reply e = not_empty _ _ e
 
 -- two places of one list
 pub data Places {A : Type 0} (f : List A) (a : A) (g : List A) (x : A) : Type 0 where
@@ -156,44 +160,50 @@ places (z ∷ f) a b (y ∷ g) x d e = by (places f a b g x d (same_tail z y (f 
     by (Second mid k) = Second mid (λ i. same i ∷ k i)
 
 -- the part before the first operation is a front of the acts
-pub record FirstAt (acts : List Act) (m t : ℕ) : Type 0 where
+pub record FirstAt (acts : List Act) (s : Federation) (m t : ℕ) : Type 0 where
   pub front : List Act
   pub op : Op
   pub back : List Act
   pub whole : acts ≡ front ++ Moves (Operate t m op) ∷ back
-  pub first : before_first (acts_trace acts) m t ≡ acts_trace front
+  pub first : before_first (acts_trace acts s) m t ≡ acts_trace front s
 
-pub first_at : (acts : List Act) (m t : ℕ) → (before_first (acts_trace acts) m t ≡ acts_trace acts) ⊎ FirstAt acts m t
-first_at [] m t = inl refl
-first_at (a ∷ acts) m t = by a (first_at acts m t)
+abbrev FirstOr : ℕ → ℕ → List Act → Federation → Type 0
+FirstOr m t acts s = (before_first (acts_trace acts s) m t ≡ acts_trace acts s) ⊎ FirstAt acts s m t
+
+pub first_at : (acts : List Act) (s : Federation) (m t : ℕ) → FirstOr m t acts s
+first_at [] s m t = inl refl
+first_at (a ∷ acts) s m t = by a (first_at acts (after_act s a) m t)
   where
-    quiet : (a : Act) → ((tr : List Trace) → before_first (act_trace a ++ tr) m t ≡ act_trace a ++ before_first tr m t) → (before_first (acts_trace acts) m t ≡ acts_trace acts) ⊎ FirstAt acts m t →
-        (before_first (acts_trace (a ∷ acts)) m t ≡ acts_trace (a ∷ acts)) ⊎ FirstAt (a ∷ acts) m t
-    quiet a q (inl e) = inl (q (acts_trace acts) ∙ ap (λ k. act_trace a ++ k) e)
-    quiet a q (inr p) = inr (record { front = a ∷ p.front; op = p.op; back = p.back; whole = ap (λ k. a ∷ k) p.whole; first = q (acts_trace acts) ∙ ap (λ k. act_trace a ++ k) p.first })
+    quiet : (a : Act) → ((tr : List Trace) → before_first (act_trace s a ++ tr) m t ≡ act_trace s a ++ before_first tr m t) → FirstOr m t acts (after_act s a) → FirstOr m t (a ∷ acts) s
+    quiet a q (inl e) = inl (q (acts_trace acts (after_act s a)) ∙ ap (λ k. act_trace s a ++ k) e)
+    quiet a q (inr p) =
+        inr (record { front = a ∷ p.front; op = p.op; back = p.back; whole = ap (λ k. a ∷ k) p.whole; first = q (acts_trace acts (after_act s a)) ∙ ap (λ k. act_trace s a ++ k) p.first })
 
-    operates : (u n : ℕ) (o : Op) (b : Bool) → ((u == t) && (n == m)) ≡ b → (before_first (acts_trace acts) m t ≡ acts_trace acts) ⊎ FirstAt acts m t →
-        (before_first (Operated u n o ∷ acts_trace acts) m t ≡ Operated u n o ∷ acts_trace acts) ⊎ FirstAt (Moves (Operate u n o) ∷ acts) m t
+    operates : (u n : ℕ) (o : Op) (b : Bool) → ((u == t) && (n == m)) ≡ b → FirstOr m t acts (after_act s (Moves (Operate u n o))) → FirstOr m t (Moves (Operate u n o) ∷ acts) s
     operates u n o true k r =
         let p = and_parts (u == t) (n == m) k in
+        let x = Operated u n o (operation_reply (s.member n).engine u o) in
         inr (record {
           front = [];
           op = o;
           back = acts;
           whole = λ i. Moves (Operate (eqb-true u t p.0 i) (eqb-true n m p.1 i) o) ∷ acts;
-          first = ap (λ b. if b then [] else Operated u n o ∷ before_first (acts_trace acts) m t) k;
+          first = ap (λ b. if b then [] else x ∷ before_first (acts_trace acts (after_act s (Moves (Operate u n o)))) m t) k;
         })
-    operates u n o false k (inl e) = inl (ap (λ b. if b then [] else Operated u n o ∷ before_first (acts_trace acts) m t) k ∙ ap (λ z. Operated u n o ∷ z) e)
+    operates u n o false k (inl e) =
+        let x = Operated u n o (operation_reply (s.member n).engine u o) in
+        inl (ap (λ b. if b then [] else x ∷ before_first (acts_trace acts (after_act s (Moves (Operate u n o)))) m t) k ∙ ap (λ z. x ∷ z) e)
     operates u n o false k (inr p) =
+        let x = Operated u n o (operation_reply (s.member n).engine u o) in
         inr (record {
           front = Moves (Operate u n o) ∷ p.front;
           op = p.op;
           back = p.back;
           whole = ap (λ z. Moves (Operate u n o) ∷ z) p.whole;
-          first = ap (λ b. if b then [] else Operated u n o ∷ before_first (acts_trace acts) m t) k ∙ ap (λ z. Operated u n o ∷ z) p.first;
+          first = ap (λ b. if b then [] else x ∷ before_first (acts_trace acts (after_act s (Moves (Operate u n o)))) m t) k ∙ ap (λ z. x ∷ z) p.first;
         })
 
-    by : (a : Act) → (before_first (acts_trace acts) m t ≡ acts_trace acts) ⊎ FirstAt acts m t → (before_first (acts_trace (a ∷ acts)) m t ≡ acts_trace (a ∷ acts)) ⊎ FirstAt (a ∷ acts) m t
+    by : (a : Act) → FirstOr m t acts (after_act s a) → FirstOr m t (a ∷ acts) s
     by (Moves (Operate u n o)) r = operates u n o ((u == t) && (n == m)) refl r
     by (Moves (Install u k)) r = quiet (Moves (Install u k)) (λ tr. refl) r
     by (Moves (CommitLocally u k)) r = quiet (Moves (CommitLocally u k)) (λ tr. refl) r
@@ -233,8 +243,8 @@ first_installs (Committed at v ∷ tr) m t k u h = by (first_installs tr m t k u
         (same_node at (node.Member k) && (v == u) || installs tr k u) ≡ true
     by rest (inl q) = or_left _ _ q
     by rest (inr q) = or_right _ _ (rest q)
-first_installs (Operated v n o ∷ tr) m t k u h = by (first_installs tr m t k u) ((v == t) && (n == m)) h
+first_installs (Operated v n o reply ∷ tr) m t k u h = by (first_installs tr m t k u) ((v == t) && (n == m)) h
   where
-    by : (installs (before_first tr m t) k u ≡ true → installs tr k u ≡ true) → (b : Bool) → installs (if b then [] else Operated v n o ∷ before_first tr m t) k u ≡ true → installs tr k u ≡ true
+    by : (installs (before_first tr m t) k u ≡ true → installs tr k u ≡ true) → (b : Bool) → installs (if b then [] else Operated v n o reply ∷ before_first tr m t) k u ≡ true → installs tr k u ≡ true
     by rest true q = absurd (let z : false ≡ true = q in cc)
     by rest false q = rest q

@@ -223,6 +223,7 @@ module _ (n k : ℕ) (s : Federation) (q : FitSessions n k s.sessions) where
 
   line : (e : Event) → NamesOwnNode n k e → Fit n k s (step_line s e).state
   line (event.Begin t c) own = begins t c own (is_used s t) (s.coord c).up
+  line (event.Local t m) own = begins_local t m own (is_used s t) (s.member m).up
   line (event.Read t m key) own = operates t m (op.Read key) own (leave_to_visit (look s.sessions t) m) (visit_fits n k m (look s.sessions t) (λ session e. q t session e))
   line (event.Write t m key value) own = operates t m (op.Write key value) own (leave_to_visit (look s.sessions t) m) (visit_fits n k m (look s.sessions t) (λ session e. q t session e))
   line (event.Erase t m key) own = operates t m (op.Erase key) own (leave_to_visit (look s.sessions t) m) (visit_fits n k m (look s.sessions t) (λ session e. q t session e))
@@ -241,7 +242,6 @@ module _ (n k : ℕ) (s : Federation) (q : FitSessions n k s.sessions) where
 
   pub step_fits : (h : Happening) → IsOwn n k h → Fit n k s (step s h).state
   step_fits (happening.Line e) own = line e own
-  step_fits (happening.Local t m) own = begins_local t m own (is_used s t) (s.member m).up
   step_fits (happening.Hand t m commit) own = of_member m (s.member m).up (member_decide m (s.member m) t (coord_of (s.member m) t) commit)
   step_fits happening.Disarm own = record { sessions = q; kinds = refl; coordinators = refl }
 

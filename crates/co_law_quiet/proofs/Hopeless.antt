@@ -100,7 +100,7 @@ module _ (s : Federation) (f : Facts s) (w : Working s) (t : ℕ) where
               let z : 1 ≤ 0 = subst (λ k. 1 ≤ k) (ap (λ o. count_at (told_in o) n) e ∙ none) l in
               omega (arith, z)
 
-pub move_tells_none : (s : Federation) → Facts s → Working s → (t : ℕ) → Hopeless s t → (move : Move) → Guard s move → tells_commit (move_trace move) t ≡ false
+pub move_tells_none : (s : Federation) → Facts s → Working s → (t : ℕ) → Hopeless s t → (move : Move) → Guard s move → tells_commit (move_trace s move) t ≡ false
 move_tells_none s f w t h (Install u m) g =
     unless_same u t (λ e. installs_not s f w t m (subst (λ k. holds (s.member m).engine.voted k ≡ true) e g.0) (subst (settled (rest_of s)) e (as_settled s u g.1)) h)
 move_tells_none s f w t h (Decide u c) g = unless_same u t (λ e. decides_not s f w t c (subst (λ k. Guard s (Decide k c)) e g) h)
@@ -110,13 +110,13 @@ move_tells_none s f w t h _ g = refl
 pub tells_more : (xs ys : List Trace) (t : ℕ) → tells_commit xs t ≡ false → tells_commit ys t ≡ false → tells_commit (xs ++ ys) t ≡ false
 tells_more [] ys t p q = q
 tells_more (Began u by ∷ xs) ys t p q = tells_more xs ys t p q
-tells_more (Operated u m o ∷ xs) ys t p q = tells_more xs ys t p q
+tells_more (Operated u m o reply ∷ xs) ys t p q = tells_more xs ys t p q
 tells_more (Committed at u ∷ xs) ys t p q = let k = or_parts (u == t) (tells_commit xs t) p in or_from _ _ k.0 (tells_more xs ys t k.1 q)
 
-moves_tell_none : (moves : List Move) (s : Federation) → Facts s → Working s → (t : ℕ) → Hopeless s t → GuardsHold moves s → tells_commit (moves_trace moves) t ≡ false
+moves_tell_none : (moves : List Move) (s : Federation) → Facts s → Working s → (t : ℕ) → Hopeless s t → GuardsHold moves s → tells_commit (moves_trace moves s) t ≡ false
 moves_tell_none [] s f w t h g = refl
 moves_tell_none (move ∷ moves) s f w t h g =
-    tells_more (move_trace move) (moves_trace moves) t (move_tells_none s f w t h move g.0)
+    tells_more (move_trace s move) (moves_trace moves (effect s move)) t (move_tells_none s f w t h move g.0)
     (moves_tell_none moves (effect s move) (move_keeps s f move g.0) (move_works s f move g.0 w) t (hopeless_on s (effect s move) (move_onward s f move g.0) t h) g.1)
 
 pub step_works : (s : Federation) → Facts s → (h : Happening) → IsTrueVerdict s h → Working s → Working (step s h).state
@@ -125,11 +125,9 @@ step_works = step_leaves (λ s z. Working s → Working z) (λ s w. w) (λ s z w
 pub step_onward : (s : Federation) → Facts s → (h : Happening) → IsTrueVerdict s h → Onward s (step s h).state
 step_onward = step_leaves Onward onward_same onward_on (λ s f move g. move_onward s f move g) (λ s f. disarm_onward s)
 
-step_tells_none : (s : Federation) → Facts s → Working s → (t : ℕ) → Hopeless s t → (h : Happening) → IsTrueVerdict s h → tells_commit (moves_trace (moves_of s h)) t ≡ false
+step_tells_none : (s : Federation) → Facts s → Working s → (t : ℕ) → Hopeless s t → (h : Happening) → IsTrueVerdict s h → tells_commit (moves_trace (moves_of s h) s) t ≡ false
 step_tells_none s f w t hopeless (happening.Line e) v =
     moves_tell_none (moves_of s (happening.Line e)) s f w t hopeless (event_made s f (happening.Line e) (λ n. let z : happening.Line e ≡ happening.Disarm = n in cc) v).guards
-step_tells_none s f w t hopeless (happening.Local u m) v =
-    moves_tell_none (moves_of s (happening.Local u m)) s f w t hopeless (event_made s f (happening.Local u m) (λ n. let z : happening.Local u m ≡ happening.Disarm = n in cc) v).guards
 step_tells_none s f w t hopeless (happening.Hand u m commit) v =
     moves_tell_none (moves_of s (happening.Hand u m commit)) s f w t hopeless (event_made s f (happening.Hand u m commit) (λ n. let z : happening.Hand u m commit ≡ happening.Disarm = n in cc) v).guards
 step_tells_none s f w t hopeless happening.Disarm v = refl
@@ -139,5 +137,5 @@ pub run_tells_none : (hs : List Happening) (s : Federation) → Facts s → Work
 run_tells_none [] s f w t h v = refl
 run_tells_none (x ∷ hs) s f w t h v =
     ap (λ k. tells_commit k t) (step_told s f x (run_items hs (step s x).state))
-    ∙ tells_more (moves_trace (moves_of s x)) (trace_of (run_items hs (step s x).state)) t (step_tells_none s f w t h x v.0)
+    ∙ tells_more (moves_trace (moves_of s x) s) (trace_of (run_items hs (step s x).state)) t (step_tells_none s f w t h x v.0)
     (run_tells_none hs (step s x).state (step_keeps s f x v.0) (step_works s f x v.0 w) t (hopeless_on s (step s x).state (step_onward s f x v.0) t h) v.1)

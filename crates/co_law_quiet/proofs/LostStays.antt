@@ -234,7 +234,7 @@ unless_both true true h = absurd (h refl refl)
 unless_both true false h = refl
 unless_both false b h = refl
 
-move_tells_none_at : (s : Federation) → Facts s → (t m : ℕ) → Gone s t m → (move : Move) → Guard s move → tells_commit_at (move_trace move) (node.Member m) t ≡ false
+move_tells_none_at : (s : Federation) → Facts s → (t m : ℕ) → Gone s t m → (move : Move) → Guard s move → tells_commit_at (move_trace s move) (node.Member m) t ≡ false
 move_tells_none_at s f t m g (Install u k) h = unless_both (k == m) (u == t) (λ a b. installs_not s f t m g u k h (eqb-true k m a) (eqb-true u t b))
 move_tells_none_at s f t m g (CommitLocally u k) h = unless_both (k == m) (u == t) (λ a b. locally_not s f t m g u k h (eqb-true k m a) (eqb-true u t b))
 move_tells_none_at s f t m g _ h = refl
@@ -242,22 +242,21 @@ move_tells_none_at s f t m g _ h = refl
 more_at : (xs ys : List Trace) (at : Node) (t : ℕ) → tells_commit_at xs at t ≡ false → tells_commit_at ys at t ≡ false → tells_commit_at (xs ++ ys) at t ≡ false
 more_at [] ys at t p q = q
 more_at (Began u by ∷ xs) ys at t p q = more_at xs ys at t p q
-more_at (Operated u m o ∷ xs) ys at t p q = more_at xs ys at t p q
+more_at (Operated u m o reply ∷ xs) ys at t p q = more_at xs ys at t p q
 more_at (Committed by u ∷ xs) ys at t p q =
     let k = or_parts (same_node by at && (u == t)) (tells_commit_at xs at t) p in or_from _ _ k.0 (more_at xs ys at t k.1 q)
 
-moves_tell_none_at : (moves : List Move) (s : Federation) → Facts s → (t m : ℕ) → Gone s t m → GuardsHold moves s → tells_commit_at (moves_trace moves) (node.Member m) t ≡ false
+moves_tell_none_at : (moves : List Move) (s : Federation) → Facts s → (t m : ℕ) → Gone s t m → GuardsHold moves s → tells_commit_at (moves_trace moves s) (node.Member m) t ≡ false
 moves_tell_none_at [] s f t m g h = refl
 moves_tell_none_at (move ∷ moves) s f t m g h =
-    more_at (move_trace move) (moves_trace moves) (node.Member m) t (move_tells_none_at s f t m g move h.0)
+    more_at (move_trace s move) (moves_trace moves (effect s move)) (node.Member m) t (move_tells_none_at s f t m g move h.0)
     (moves_tell_none_at moves (effect s move) (move_keeps s f move h.0) t m (move_gone s f t m g move h.0) h.1)
 
-event_tells_none_at : (s : Federation) → Facts s → (t m : ℕ) → Gone s t m → (h : Happening) → h ≢ happening.Disarm → IsTrueVerdict s h → tells_commit_at (moves_trace (moves_of s h)) (node.Member m) t ≡ false
+event_tells_none_at : (s : Federation) → Facts s → (t m : ℕ) → Gone s t m → (h : Happening) → h ≢ happening.Disarm → IsTrueVerdict s h → tells_commit_at (moves_trace (moves_of s h) s) (node.Member m) t ≡ false
 event_tells_none_at s f t m g h n v = moves_tell_none_at (moves_of s h) s f t m g (event_made s f h n v).guards
 
-step_tells_none_at : (s : Federation) → Facts s → (t m : ℕ) → Gone s t m → (h : Happening) → IsTrueVerdict s h → tells_commit_at (moves_trace (moves_of s h)) (node.Member m) t ≡ false
+step_tells_none_at : (s : Federation) → Facts s → (t m : ℕ) → Gone s t m → (h : Happening) → IsTrueVerdict s h → tells_commit_at (moves_trace (moves_of s h) s) (node.Member m) t ≡ false
 step_tells_none_at s f t m g (happening.Line e) v = event_tells_none_at s f t m g (happening.Line e) (λ n. let z : happening.Line e ≡ happening.Disarm = n in cc) v
-step_tells_none_at s f t m g (happening.Local u k) v = event_tells_none_at s f t m g (happening.Local u k) (λ n. let z : happening.Local u k ≡ happening.Disarm = n in cc) v
 step_tells_none_at s f t m g (happening.Hand u k commit) v = event_tells_none_at s f t m g (happening.Hand u k commit) (λ n. let z : happening.Hand u k commit ≡ happening.Disarm = n in cc) v
 step_tells_none_at s f t m g happening.Disarm v = refl
 
@@ -265,7 +264,7 @@ run_tells_none_at : (hs : List Happening) (s : Federation) → Facts s → (t m 
 run_tells_none_at [] s f t m g v = refl
 run_tells_none_at (h ∷ hs) s f t m g v =
     ap (λ k. tells_commit_at k (node.Member m) t) (step_told s f h (run_items hs (step s h).state))
-    ∙ more_at (moves_trace (moves_of s h)) (trace_of (run_items hs (step s h).state)) (node.Member m) t (step_tells_none_at s f t m g h v.0)
+    ∙ more_at (moves_trace (moves_of s h) s) (trace_of (run_items hs (step s h).state)) (node.Member m) t (step_tells_none_at s f t m g h v.0)
     (run_tells_none_at hs (step s h).state (step_keeps s f h v.0) t m (step_gone s f h v.0 t m g) v.1)
 
 -- ---- yeses
@@ -285,7 +284,6 @@ yes_more (item.Sent (message.Vote u k c true) ∷ xs) ys t m p q =
 
 told_yes : (h : Happening) (items : List ItemKind) (t m : ℕ) → tells_yes (told_with h items) t m ≡ tells_yes items t m
 told_yes (happening.Line e) items t m = refl
-told_yes (happening.Local u k) items t m = refl
 told_yes (happening.Hand u k commit) items t m = refl
 told_yes happening.Disarm items t m = refl
 

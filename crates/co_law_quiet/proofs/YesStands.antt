@@ -170,6 +170,7 @@ module _ (s : Federation) where
 
   line : (e : Event) → IsSilent (step_line s e)
   line (event.Begin t c) = begins t c (is_used s t) (s.coord c).up
+  line (event.Local t k) = begins_local t k (is_used s t) (s.member k).up
   line (event.Read t k key) = operation t k (op.Read key) (leave_to_visit (look s.sessions t) k)
   line (event.Write t k key value) = operation t k (op.Write key value) (leave_to_visit (look s.sessions t) k)
   line (event.Erase t k key) = operation t k (op.Erase key) (leave_to_visit (look s.sessions t) k)
@@ -188,7 +189,6 @@ module _ (s : Federation) where
 
   pub step_silent : (h : Happening) → IsSilent (step s h)
   step_silent (happening.Line e) = line e
-  step_silent (happening.Local t k) = begins_local t k (is_used s t) (s.member k).up
   step_silent (happening.Hand t k commit) =
       member_up k (s.member k).up (member_decide k (s.member k) t (coord_of (s.member k) t) commit) (decides k (s.member k) t (coord_of (s.member k) t) commit)
   step_silent happening.Disarm = λ t m h. refl

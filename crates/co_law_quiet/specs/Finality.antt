@@ -52,7 +52,7 @@ tells_yes (_ ∷ is) t m = tells_yes is t m
 abbrev pub tells_commit_at : List Trace → Node → ℕ → Bool
 tells_commit_at [] at t = false
 tells_commit_at (Began u by ∷ rest) at t = tells_commit_at rest at t
-tells_commit_at (Operated u m o ∷ rest) at t = tells_commit_at rest at t
+tells_commit_at (Operated u m o reply ∷ rest) at t = tells_commit_at rest at t
 tells_commit_at (Committed by u ∷ rest) at t = (same_node by at && (u == t)) || tells_commit_at rest at t
 
 -- In a run from a state in which a member lost the transaction, it stays lost there, and the member neither votes yes on it

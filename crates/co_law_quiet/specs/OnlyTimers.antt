@@ -29,6 +29,7 @@ IsBetween n most = (1 ≤ n) × (n ≤ most)
 -- Begins and operations name nodes of the federation; what else happens may name any.
 abbrev pub NamesOwnNode : ℕ → ℕ → Event → Type 0
 NamesOwnNode members coords (event.Begin t c) = IsBetween c coords
+NamesOwnNode members coords (event.Local t m) = IsBetween m members
 NamesOwnNode members coords (event.Read t m key) = IsBetween m members
 NamesOwnNode members coords (event.Write t m key value) = IsBetween m members
 NamesOwnNode members coords (event.Erase t m key) = IsBetween m members
@@ -37,7 +38,6 @@ NamesOwnNode members coords _ = Unit {0}
 
 abbrev pub IsOwn : ℕ → ℕ → Happening → Type 0
 IsOwn members coords (happening.Line e) = NamesOwnNode members coords e
-IsOwn members coords (happening.Local t m) = IsBetween m members
 IsOwn members coords _ = Unit {0}
 
 abbrev pub AreOwn : ℕ → ℕ → List Happening → Type 0
@@ -53,7 +53,7 @@ pub record AreOwnLogs (kinds : List Kind) (coords : ℕ) (found_member found_coo
 abbrev pub tells_commit : List Trace → ℕ → Bool
 tells_commit [] t = false
 tells_commit (Began u by ∷ rest) t = tells_commit rest t
-tells_commit (Operated u m o ∷ rest) t = tells_commit rest t
+tells_commit (Operated u m o reply ∷ rest) t = tells_commit rest t
 tells_commit (Committed at u ∷ rest) t = (u == t) || tells_commit rest t
 
 -- what the timer answers that ends it

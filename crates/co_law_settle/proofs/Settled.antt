@@ -205,6 +205,7 @@ answered s (event.Deliver note) p = deliver_is s note p.0 ∙ by note p.1
     by (message.Ask t m c) u = ap (λ b. up_coord s c b (coord_deliver c (s.coord c) (message.Ask t m c))) u
     by (message.Ack t m c) u = ap (λ b. up_coord s c b (coord_deliver c (s.coord c) (message.Ack t m c))) u
 answered s (event.Begin t c) u = absurd u
+answered s (event.Local t m) u = absurd u
 answered s (event.Read t m key) u = absurd u
 answered s (event.Write t m key value) u = absurd u
 answered s (event.Erase t m key) u = absurd u

@@ -10,6 +10,11 @@ pub enum Event {
         txn: Txn,
         coord: u8,
     },
+    /// A client begins the transaction at a member, which decides it alone.
+    Local {
+        txn: Txn,
+        member: u8,
+    },
     /// A read of one record.
     Read {
         txn: Txn,

@@ -10,6 +10,7 @@ use Rattle.co_base.specs.declared.node.Node.TheVariants as node
 use Rattle.co_base.specs.declared.op.Op.{Op}
 use Rattle.co_base.specs.declared.op.Op.TheVariants as op
 use Rattle.co_base.specs.Span.{Span, span_has}
+use Rattle.co_base.specs.declared.reply.Reply.{Reply}
 use Rattle.co_base.specs.declared.written.Written.{Written}
 use Rattle.co_message.specs.declared.answer.Answer.{Answer}
 use Rattle.co_message.specs.declared.answer.Answer.TheVariants as answer
@@ -27,8 +28,8 @@ use Rattle.co_plain.specs.Sessions.{same_node}
 pub data Trace : Type 0 where
   -- a transaction was begun, and this node decides it
   Began : ℕ → Node → Trace
-  -- an operation was answered at a member
-  Operated : ℕ → ℕ → Op → Trace
+  -- an operation was answered at a member, with this reply
+  Operated : ℕ → ℕ → Op → Reply → Trace
   -- a commit record became stable at a node
   Committed : Node → ℕ → Trace
 
@@ -43,17 +44,18 @@ operation_in (event.Erase t m key) = Some (t, m, op.Erase key)
 operation_in (event.Scan t m span) = Some (t, m, op.Scan span)
 operation_in _ = None
 
-abbrev pub operated_by : Option (ℕ × ℕ × Op) → List Trace
-operated_by None = []
-operated_by (Some o) = Operated o.0 o.1 o.2 ∷ []
+abbrev pub operated_by : Option (ℕ × ℕ × Op) → Reply → List Trace
+operated_by None reply = []
+operated_by (Some o) reply = Operated o.0 o.1 o.2 reply ∷ []
 
 abbrev pub begun_in : Event → List Trace
 begun_in (event.Begin t c) = Began t (node.Coord c) ∷ []
+begun_in (event.Local t m) = Began t (node.Member m) ∷ []
 begun_in _ = []
 
 -- an event whose answer follows it at once
 abbrev pub traced_answer : Event → Answer → List Trace
-traced_answer e (answer.Replied reply) = operated_by (operation_in e)
+traced_answer e (answer.Replied reply) = operated_by (operation_in e) reply
 traced_answer e answer.Begun = begun_in e
 traced_answer e _ = []
 
@@ -73,7 +75,7 @@ trace_of items = trace_from None items
 abbrev pub decider_in : List Trace → ℕ → Option Node
 decider_in [] t = None
 decider_in (Began u by ∷ rest) t = if u == t then Some by else decider_in rest t
-decider_in (Operated u m o ∷ rest) t = decider_in rest t
+decider_in (Operated u m o reply ∷ rest) t = decider_in rest t
 decider_in (Committed at u ∷ rest) t = decider_in rest t
 
 abbrev pub decides_at : Option Node → Node → Bool
@@ -84,7 +86,7 @@ decides_at (Some by) at = same_node by at
 abbrev pub decided_in : List Trace → List Trace → List ℕ
 decided_in whole [] = []
 decided_in whole (Began u by ∷ rest) = decided_in whole rest
-decided_in whole (Operated u m o ∷ rest) = decided_in whole rest
+decided_in whole (Operated u m o reply ∷ rest) = decided_in whole rest
 decided_in whole (Committed at t ∷ rest) =
     if decides_at (decider_in whole t) at then t ∷ decided_in whole rest else decided_in whole rest
 
@@ -92,7 +94,7 @@ decided_in whole (Committed at t ∷ rest) =
 abbrev pub installs : List Trace → ℕ → ℕ → Bool
 installs [] m t = false
 installs (Began u by ∷ rest) m t = installs rest m t
-installs (Operated u n o ∷ rest) m t = installs rest m t
+installs (Operated u n o reply ∷ rest) m t = installs rest m t
 installs (Committed at u ∷ rest) m t = same_node at (node.Member m) && (u == t) || installs rest m t
 
 -- the part before the transaction's first operation at the member
@@ -100,7 +102,7 @@ abbrev pub before_first : List Trace → ℕ → ℕ → List Trace
 before_first [] m t = []
 before_first (Began u by ∷ rest) m t = Began u by ∷ before_first rest m t
 before_first (Committed at u ∷ rest) m t = Committed at u ∷ before_first rest m t
-before_first (Operated u n o ∷ rest) m t = if (u == t) && (n == m) then [] else Operated u n o ∷ before_first rest m t
+before_first (Operated u n o reply ∷ rest) m t = if (u == t) && (n == m) then [] else Operated u n o reply ∷ before_first rest m t
 
 -- the part that an operation behind this one sees
 abbrev pub part_seen : Kind → List Trace → ℕ → ℕ → List Trace
@@ -110,8 +112,9 @@ part_seen Mv before m t = before_first before m t
 
 -- an operation of a transaction at a member, answered before its decision, and the trace before it
 pub record OperatedIn (trace : List Trace) (t m : ℕ) (o : Op) (before : List Trace) : Type 0 where
+  pub reply : Reply
   pub rest : List Trace
-  pub place : trace ≡ before ++ Operated t m o ∷ rest
+  pub place : trace ≡ before ++ Operated t m o reply ∷ rest
   pub undecided : has_number (decided_in trace before) t ≡ false
 
 -- a read of the key, and whether it sees the other one's install
@@ -147,8 +150,11 @@ pub data Precedes (kinds : List Kind) (trace : List Trace) (t u m : ℕ) : Type 
 pub data StandsBefore (order : List ℕ) (t u : ℕ) : Type 0 where
   Stands : (before rest : List ℕ) → order ≡ before ++ u ∷ rest → has_number before t ≡ true → StandsBefore order t u
 
+-- the decisions that items tell, in order: each commit record at the node that decides
+abbrev pub told_decisions : List ItemKind → List ℕ
+told_decisions items = decided_in (trace_of items) (trace_of items)
+
 abbrev pub IsCommitmentOrdered : List Kind → List ItemKind → Type 0
 IsCommitmentOrdered kinds items =
-    (t u m : ℕ) → t ≢ u → has_number (decided_in (trace_of items) (trace_of items)) t ≡ true →
-    has_number (decided_in (trace_of items) (trace_of items)) u ≡ true → Precedes kinds (trace_of items) t u m →
-    StandsBefore (decided_in (trace_of items) (trace_of items)) t u
+    (t u m : ℕ) → t ≢ u → has_number (told_decisions items) t ≡ true → has_number (told_decisions items) u ≡ true →
+    Precedes kinds (trace_of items) t u m → StandsBefore (told_decisions items) t u

@@ -29,6 +29,10 @@ is_decided (d ∷ ds) t = (d.txn == t) || is_decided ds t
 abbrev pub decision_order : Federation → List (List Site)
 decision_order s = reverse (map (λ d. sites_of d.told) s.decided)
 
+-- their numbers, in the same order
+abbrev pub decided_numbers : List Decided → List ℕ
+decided_numbers decided = reverse (map (λ d. d.txn) decided)
+
 -- the operations that a client was told of, and whether it asked to end
 abbrev pub told_in : Option Session → List Told
 told_in None = []

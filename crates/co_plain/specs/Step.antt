@@ -165,6 +165,7 @@ checkpoint_at s (node.Coord c) = coord_step s c (coord_checkpoint c)
 -- the event of a schedule line
 abbrev pub step_line : Federation → Event → Stepped
 step_line s (event.Begin t c) = begin_where s t c (is_used s t) (s.coord c).up
+step_line s (event.Local t m) = local_where s t m (is_used s t) (s.member m).up
 step_line s (event.Read t m key) = operate s t m (op.Read key)
 step_line s (event.Write t m key value) = operate s t m (op.Write key value)
 step_line s (event.Erase t m key) = operate s t m (op.Erase key)
@@ -199,6 +200,5 @@ disarmed s =
 
 abbrev pub step : Federation → Happening → Stepped
 step s (happening.Line e) = step_line s e
-step s (happening.Local t m) = local_where s t m (is_used s t) (s.member m).up
 step s (happening.Hand t m commit) = member_step s m (λ x. member_decide m x t (coord_of x t) commit)
 step s happening.Disarm = record { state = disarmed s; items = [] }

@@ -7,8 +7,6 @@ use co_message::Event;
 pub enum Happening {
     /// The event of a schedule line.
     Line(Event),
-    /// A client begins a transaction at a member, which decides it alone.
-    Local { txn: Txn, member: u8 },
     /// A member in doubt is told the verdict by another one.
     Hand { txn: Txn, member: u8, commit: bool },
     /// Every armed stop is taken away.

@@ -57,7 +57,7 @@ pub fn begins(alloc: Global, w: PlainFederation, t: Txn, coord: u8) -> Result<Pl
 }
 
 /// A client begins a transaction at a member, which decides it alone.
-pub fn plain_local(
+pub fn begins_locally(
     alloc: Global,
     w: PlainFederation,
     t: Txn,

@@ -27,6 +27,10 @@ pub fn copy_event(alloc: Global, event: &Event) -> Result<Event, AllocError>
             txn: *txn,
             coord: *coord,
         }),
+        Event::Local { txn, member } => Ok(Event::Local {
+            txn: *txn,
+            member: *member,
+        }),
         Event::Read { txn, member, key } => Ok(Event::Read {
             txn: *txn,
             member: *member,

@@ -16,7 +16,6 @@ mod running;
 mod stepping;
 mod told;
 
-pub use client_step::plain_local;
 pub use nodes::Nodes;
 pub use opening::plain_open;
 pub use plain_federation::{PlainFederation, PlainStep};

@@ -6,7 +6,7 @@ ghost use Rattle.co_plain.specs.Step.{step_line, member_step, arrives, deliver, 
 ghost use Rattle.co_plain.specs.Member.{coord_of, member_decide};
 
 use crate::call::{CoordCall, Ending, MemberCall};
-use crate::client_step::{begins, ends, operates};
+use crate::client_step::{begins, begins_locally, ends, operates};
 use crate::lone_step::{answers, coord_calls, member_calls, restarts};
 use crate::plain_federation::{PlainFederation, PlainStep};
 use co_base::{Leaves, Node, Op, Txn};
@@ -111,6 +111,7 @@ pub fn plain_step(alloc: Global, w: PlainFederation, event: Event) -> Result<Pla
 {
     match event {
         Event::Begin { txn, coord } => begins(alloc, w, txn, coord),
+        Event::Local { txn, member } => begins_locally(alloc, w, txn, member),
         Event::Read { txn, member, key } => operates(alloc, w, txn, member, Op::Read(key)),
         Event::Write {
             txn,

@@ -1,7 +1,8 @@
-//! Tests of the plain federation where no line of a schedule reaches it yet. There is nothing here but tests.
+//! Tests of the plain federation where no line of a schedule reaches it: verdicts that are handed over. There is nothing
+//! here but tests.
 #![tactic(auto)]
 
 #[cfg(test)]
-mod alone;
+mod handed;
 #[cfg(test)]
 mod scripts;

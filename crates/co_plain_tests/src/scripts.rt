@@ -1,8 +1,7 @@
-//! Scripts: a head and lines of a schedule, beside them `local 1 m1` for a transaction that begins at a member, and
-//! `hand 1 m1 commit` for a verdict that is handed over.
+//! Scripts: a head and lines of a schedule, beside them `hand 1 m1 commit` for a verdict that is handed over.
 use co_base::{Head, Kinds, Txn};
 use co_message::{Item, ItemKind};
-use co_plain_run::{PlainFederation, PlainStep, plain_hand, plain_local, plain_open, plain_step};
+use co_plain_run::{PlainFederation, PlainStep, plain_hand, plain_open, plain_step};
 use co_schedule::{read_head, read_line};
 use co_transcript::put_item;
 use std::alloc::{AllocError, Global};
@@ -79,9 +78,6 @@ fn step(
     head: &Head,
     line: &[u8],
 ) -> Result<PlainStep, AllocError> {
-    if let Some(rest) = line.strip_prefix(b"local ") {
-        return local(alloc, w, rest);
-    }
     if let Some(rest) = line.strip_prefix(b"hand ") {
         return hand(alloc, w, rest);
     }
@@ -91,14 +87,6 @@ fn step(
             plain_step(alloc, w, event)
         }
         Err(_) => Ok(nothing(alloc, w)),
-    }
-}
-
-/// `1 m1`: the transaction of this number begins at this member.
-fn local(alloc: Global, w: PlainFederation, rest: &[u8]) -> Result<PlainStep, AllocError> {
-    match rest {
-        [t, b' ', b'm', m] => plain_local(alloc, w, txn_of(*t), number_of(*m)),
-        _ => Ok(nothing(alloc, w)),
     }
 }
 

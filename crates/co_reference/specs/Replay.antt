@@ -4,6 +4,7 @@ use Rattle.co_base.specs.declared.head.Head.{Head}
 use Rattle.co_message.specs.declared.event.Event.{Event}
 use Rattle.co_schedule.specs.declared.fault.LineFault.{LineFault}
 use Rattle.co_schedule.specs.declared.fault.LineFault.TheVariants as line_fault
+use Rattle.co_plain.specs.Opening.{fresh}
 use Rattle.co_replay.specs.Schedule.{lines_of, AreRead, IsHeadLine, StopsWith}
 use Rattle.co_replay.specs.Transcript.{items_text, run_items}
 use Rattle.co_reference.specs.declared.fault.ReplayFault.{ReplayFault}
@@ -18,7 +19,7 @@ refused_behind count (Some why) = Some (fault.Line (count + 2) why)
 abbrev pub BehindReplayed : Head → List (List ℕ) → List ℕ → Option ReplayFault → Type 0
 BehindReplayed head lines transcript refused =
     (events : List Event) × (why : Option LineFault) × AreRead head lines events × StopsWith head lines (length events) why
-    × (transcript ≡ items_text (run_items head events)) × (refused ≡ refused_behind (length events) why)
+    × (transcript ≡ items_text (run_items head (λ m. fresh) (λ c. fresh) events)) × (refused ≡ refused_behind (length events) why)
 
 -- without a head nothing is done
 abbrev pub LinesReplayed : List (List ℕ) → List ℕ → Option ReplayFault → Type 0

@@ -1,5 +1,6 @@
 //! A schedule as a run of the plain federation.
 ghost use Rattle.std.specs.Prelude.{◌≡◌, ◌<◌, ◌≤◌, ◌+◌, ◌^◌, ◌∷◌, ◌⊎◌, ◌↔◌, [], Some, length, IfOk, IfErr, IsErrOf};
+ghost use Rattle.co_plain.specs.Opening.{fresh};
 ghost use Rattle.co_replay.specs.Schedule.{texts_of};
 ghost use Rattle.co_replay.specs.Transcript.{items_text, run_items};
 ghost use Rattle.co_reference.specs.Replay.{IsReplay, LinesReplayed, BehindReplayed, refused_behind};
@@ -37,7 +38,7 @@ fn without_head(alloc: Global, fault: LineFault) -> Replayed
 /// The text of the run of these events over fresh logs.
 fn text_of(alloc: Global, head: Head, events: Vec<Event>) -> Result<Vec<u8>, AllocError>
     requires { 2 + length events.items < 2 ^ 32 }
-    ensures { IfOk result (λ text. text.items ≡ items_text (run_items head events.items)) }
+    ensures { IfOk result (λ text. text.items ≡ items_text (run_items head (λ m. fresh) (λ c. fresh) events.items)) }
 {
     let kinds = Vec::from_slice(alloc, head.kinds.as_slice())?;
     let PlainStep { state, items } = plain_open(alloc, Kinds::of(kinds), head.coords)?;

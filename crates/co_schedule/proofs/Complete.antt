@@ -28,6 +28,7 @@ message_fits m c (message.Ack t n k) p q it = (record { wanted = refl; whole = r
 
 pub event_fits : (m c : ℕ) (e : Event) → m ≤ 255 → c ≤ 255 → IsEventFor m c e → Fits (event_places m c) (event_words e)
 event_fits m c (event.Begin t k) p q it = (record { wanted = refl; whole = refl }, (txn_taken t it.0, (coord_taken c k it.1 q, tt)))
+event_fits m c (event.Local t n) p q it = (record { wanted = refl; whole = refl }, (txn_taken t it.0, (member_taken m n it.1 p, tt)))
 event_fits m c (event.Read t n key) p q it = (record { wanted = refl; whole = refl }, (txn_taken t it.0, (member_taken m n it.1 p, (key_taken key it.2, tt))))
 event_fits m c (event.Write t n key value) p q it = (record { wanted = refl; whole = refl }, (txn_taken t it.0, (member_taken m n it.1 p, (key_taken key it.2, (value_taken value it.3, tt)))))
 event_fits m c (event.Erase t n key) p q it = (record { wanted = refl; whole = refl }, (txn_taken t it.0, (member_taken m n it.1 p, (key_taken key it.2, tt))))

@@ -44,6 +44,7 @@ HasTexts-for m c (event.Write t n key value) it = (it.2, it.3)
 HasTexts-for m c (event.Erase t n key) it = it.2
 HasTexts-for m c (event.Scan t n range) it = (it.2, it.3, it.4)
 HasTexts-for m c (event.Begin t k) it = tt
+HasTexts-for m c (event.Local t n) it = tt
 HasTexts-for m c (event.Commit t) it = tt
 HasTexts-for m c (event.Abort t) it = tt
 HasTexts-for m c (event.Deliver x) it = tt

@@ -59,6 +59,7 @@ delivered (Some message) = Some (event.Deliver message)
 abbrev event_from : Option Form → List Word → Option Event
 event_from None words = None
 event_from (Some form.Begin) words = Some (event.Begin (amount (at words 0)) (named (at words 1)))
+event_from (Some form.Local) words = Some (event.Local (amount (at words 0)) (named (at words 1)))
 event_from (Some form.Read) words = Some (event.Read (amount (at words 0)) (named (at words 1)) (at words 2))
 event_from (Some form.Write) words = Some (event.Write (amount (at words 0)) (named (at words 1)) (at words 2) (at words 3))
 event_from (Some form.Erase) words = Some (event.Erase (amount (at words 0)) (named (at words 1)) (at words 2))
@@ -109,6 +110,7 @@ message_back-words m c (message.Ack t n k) p q it = rw (value_of-decimal t (omeg
 
 pub event_back-words : (m c : ℕ) (e : Event) → m ≤ 255 → c ≤ 255 → IsEventFor m c e → event_back (event_words e) ≡ Some e
 event_back-words m c (event.Begin t k) p q it = rw (value_of-decimal t (omega (arith, it.0)), value_of-decimal k (small_within c k it.1 q)) refl
+event_back-words m c (event.Local t n) p q it = rw (value_of-decimal t (omega (arith, it.0)), value_of-decimal n (small_within m n it.1 p)) refl
 event_back-words m c (event.Read t n key) p q it = rw (value_of-decimal t (omega (arith, it.0)), value_of-decimal n (small_within m n it.1 p)) refl
 event_back-words m c (event.Write t n key value) p q it = rw (value_of-decimal t (omega (arith, it.0)), value_of-decimal n (small_within m n it.1 p)) refl
 event_back-words m c (event.Erase t n key) p q it = rw (value_of-decimal t (omega (arith, it.0)), value_of-decimal n (small_within m n it.1 p)) refl

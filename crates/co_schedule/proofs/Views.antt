@@ -27,6 +27,7 @@ IsLeaves-view (lent.Digits digits) it = IsBytes-decoded digits.now it
 pub view_words-event : (members coords : ℕ) (v : LineView) → IsViewFor members coords v → view_words v ≡ event_words (event_of v)
 view_words-event members coords (view.Arm node call leaves) it = ap (λ (w : Word). codes "arm" ∷ node_word node ∷ decimal call ∷ w ∷ []) (view_word-leaves leaves it.2)
 view_words-event members coords (view.Begin txn coord) it = refl
+view_words-event members coords (view.Local txn member) it = refl
 view_words-event members coords (view.Read txn member key) it = refl
 view_words-event members coords (view.Write txn member key value) it = refl
 view_words-event members coords (view.Erase txn member key) it = refl
@@ -46,6 +47,7 @@ view_words-event members coords (view.Checkpoint node) it = refl
 pub IsEventFor-view : (members coords : ℕ) (v : LineView) → IsViewFor members coords v → IsEventFor members coords (event_of v)
 IsEventFor-view members coords (view.Arm node call leaves) it = (it.0, it.1, IsLeaves-view leaves it.2)
 IsEventFor-view members coords (view.Begin txn coord) it = it
+IsEventFor-view members coords (view.Local txn member) it = it
 IsEventFor-view members coords (view.Read txn member key) it = (it.0, it.1, IsText-is_text most_key_bytes key.now it.2)
 IsEventFor-view members coords (view.Write txn member key value) it = (it.0, it.1, IsText-is_text most_key_bytes key.now it.2, IsText-is_text most_value_bytes value.now it.3)
 IsEventFor-view members coords (view.Erase txn member key) it = (it.0, it.1, IsText-is_text most_key_bytes key.now it.2)

@@ -13,6 +13,7 @@ use Rattle.co_schedule.specs.declared.form.MessageForm.TheVariants as message
 
 abbrev pub form_word : Form → Word
 form_word form.Begin = codes "begin"
+form_word form.Local = codes "local"
 form_word form.Read = codes "read"
 form_word form.Write = codes "write"
 form_word form.Erase = codes "erase"
@@ -30,7 +31,7 @@ form_word form.Arm = codes "arm"
 form_word form.Checkpoint = codes "checkpoint"
 
 abbrev pub all_forms : List Form
-all_forms = form.Begin ∷ form.Read ∷ form.Write ∷ form.Erase ∷ form.Scan ∷ form.Commit ∷ form.Abort ∷ form.Deliver ∷ form.Vote ∷ form.Timer ∷ form.Ask ∷ form.Resend ∷ form.Crash ∷ form.Restart ∷ form.Arm ∷ form.Checkpoint ∷ []
+all_forms = form.Begin ∷ form.Local ∷ form.Read ∷ form.Write ∷ form.Erase ∷ form.Scan ∷ form.Commit ∷ form.Abort ∷ form.Deliver ∷ form.Vote ∷ form.Timer ∷ form.Ask ∷ form.Resend ∷ form.Crash ∷ form.Restart ∷ form.Arm ∷ form.Checkpoint ∷ []
 
 -- the form of this word
 abbrev pub form_named : Word → Option Form
@@ -90,6 +91,7 @@ message_places members coords = place (one_of (map message_word all_messages)) (
 -- the places behind the word of an event
 abbrev pub event_fields : ℕ → ℕ → Form → Places
 event_fields members coords form.Begin = txn ▸ coord coords ▸ nothing
+event_fields members coords form.Local = txn ▸ member members ▸ nothing
 event_fields members coords form.Read = txn ▸ member members ▸ key ▸ nothing
 event_fields members coords form.Write = txn ▸ member members ▸ key ▸ value ▸ nothing
 event_fields members coords form.Erase = txn ▸ member members ▸ key ▸ nothing

@@ -54,6 +54,7 @@ message_words (message.Ack txn member coord) = codes "ack" ∷ decimal txn ∷ m
 -- an event: its form, and its fields in order
 abbrev pub event_words : Event → List Word
 event_words (event.Begin txn coord) = codes "begin" ∷ decimal txn ∷ coord_word coord ∷ []
+event_words (event.Local txn member) = codes "local" ∷ decimal txn ∷ member_word member ∷ []
 event_words (event.Read txn member key) = codes "read" ∷ decimal txn ∷ member_word member ∷ key ∷ []
 event_words (event.Write txn member key value) = codes "write" ∷ decimal txn ∷ member_word member ∷ key ∷ value ∷ []
 event_words (event.Erase txn member key) = codes "erase" ∷ decimal txn ∷ member_word member ∷ key ∷ []

@@ -33,6 +33,7 @@ leaves_of (lent.Digits digits) = leaves.Filled (decoded digits.now)
 -- the event of a view
 abbrev pub event_of : LineView → Event
 event_of (view.Begin txn coord) = event.Begin txn coord
+event_of (view.Local txn member) = event.Local txn member
 event_of (view.Read txn member key) = event.Read txn member key.now
 event_of (view.Write txn member key value) = event.Write txn member key.now value.now
 event_of (view.Erase txn member key) = event.Erase txn member key.now
@@ -82,6 +83,7 @@ IsMessageFor members coords (message.Ack txn member coord) = IsTxn txn × IsWith
 -- the fields of an event are in their sets
 abbrev pub IsEventFor : ℕ → ℕ → Event → Type 0
 IsEventFor members coords (event.Begin txn coord) = IsTxn txn × IsWithin 1 coords coord
+IsEventFor members coords (event.Local txn member) = IsTxn txn × IsWithin 1 members member
 IsEventFor members coords (event.Read txn member key) = IsTxn txn × IsWithin 1 members member × IsKey key
 IsEventFor members coords (event.Write txn member key value) = IsTxn txn × IsWithin 1 members member × IsKey key × IsText most_value_bytes value
 IsEventFor members coords (event.Erase txn member key) = IsTxn txn × IsWithin 1 members member × IsKey key
@@ -112,6 +114,7 @@ IsSpelledLeaves (lent.Digits digits) = is_hex digits.now ≡ true
 -- the words that a view was lent from
 abbrev pub view_words : LineView → List Word
 view_words (view.Begin txn coord) = codes "begin" ∷ decimal txn ∷ coord_word coord ∷ []
+view_words (view.Local txn member) = codes "local" ∷ decimal txn ∷ member_word member ∷ []
 view_words (view.Read txn member key) = codes "read" ∷ decimal txn ∷ member_word member ∷ key.now ∷ []
 view_words (view.Write txn member key value) = codes "write" ∷ decimal txn ∷ member_word member ∷ key.now ∷ value.now ∷ []
 view_words (view.Erase txn member key) = codes "erase" ∷ decimal txn ∷ member_word member ∷ key.now ∷ []
@@ -131,6 +134,7 @@ view_words (view.Checkpoint node) = codes "checkpoint" ∷ node_word node ∷ []
 -- what was lent is in its sets
 abbrev pub IsViewFor : ℕ → ℕ → LineView → Type 0
 IsViewFor members coords (view.Begin txn coord) = IsTxn txn × IsWithin 1 coords coord
+IsViewFor members coords (view.Local txn member) = IsTxn txn × IsWithin 1 members member
 IsViewFor members coords (view.Read txn member key) = IsTxn txn × IsWithin 1 members member × (is_text most_key_bytes key.now ≡ true)
 IsViewFor members coords (view.Write txn member key value) = IsTxn txn × IsWithin 1 members member × (is_text most_key_bytes key.now ≡ true) × (is_text most_value_bytes value.now ≡ true)
 IsViewFor members coords (view.Erase txn member key) = IsTxn txn × IsWithin 1 members member × (is_text most_key_bytes key.now ≡ true)

@@ -7,6 +7,7 @@ ghost use Rattle.co_schedule.specs.Grammar.{form_word, form_named, all_forms, me
 #[derive(Clone, Copy, PartialEq, Eq)]
 pub enum Form {
     Begin,
+    Local,
     Read,
     Write,
     Erase,
@@ -24,8 +25,9 @@ pub enum Form {
     Checkpoint,
 }
 
-const FORMS: [Form; 16] = [
+const FORMS: [Form; 17] = [
     Form::Begin,
+    Form::Local,
     Form::Read,
     Form::Write,
     Form::Erase,
@@ -48,6 +50,7 @@ fn word_of(form: Form) -> &'static [u8]
 {
     match form {
         Form::Begin => b"begin",
+        Form::Local => b"local",
         Form::Read => b"read",
         Form::Write => b"write",
         Form::Erase => b"erase",

@@ -255,6 +255,10 @@ fn view_of<'a>(
             let (txn, coord) = txn_and_coord(words, nodes)?;
             Ok(LineView::Begin { txn, coord })
         }
+        Form::Local => {
+            let (txn, member) = txn_and_member(words, nodes)?;
+            Ok(LineView::Local { txn, member })
+        }
         Form::Read => read(words, nodes),
         Form::Write => write(words, nodes),
         Form::Erase => erase(words, nodes),

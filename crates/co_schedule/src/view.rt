@@ -28,6 +28,11 @@ pub enum LineView<'a> {
         txn: Txn,
         coord: u8,
     },
+    /// A client begins the transaction at a member, which decides it alone.
+    Local {
+        txn: Txn,
+        member: u8,
+    },
     /// A read of one record.
     Read {
         txn: Txn,
@@ -160,6 +165,10 @@ impl<'a> LineView<'a> {
             LineView::Begin { txn, coord } => Event::Begin {
                 txn: *txn,
                 coord: *coord,
+            },
+            LineView::Local { txn, member } => Event::Local {
+                txn: *txn,
+                member: *member,
             },
             LineView::Read { txn, member, key } => Event::Read {
                 txn: *txn,

@@ -171,6 +171,7 @@ pub fn append_event(out: &mut Vec<u8>, event: &Event) -> Result<(), AllocError>
 {
     match event {
         Event::Begin { txn, coord } => append_at_coord(out, b"begin", *txn, *coord),
+        Event::Local { txn, member } => append_at_member(out, b"local", *txn, *member),
         Event::Read { txn, member, key } => {
             append_at_member(out, b"read", *txn, *member)?;
             append_word(out, key.text())

@@ -1,6 +1,6 @@
 use Rattle.std.proofs.lemmas.Result.{IfOk-weaker}
 use Rattle.co_plain_run.proofs.Acting.{begun_at_home}
-use Rattle.co_plain_run.proofs.client_step.plain_local.Goals as goal
+use Rattle.co_plain_run.proofs.client_step.begins_locally.Goals as goal
 
 pub returns : goal.returns
 returns c = λ m n. IfOk-weaker _ _ _
