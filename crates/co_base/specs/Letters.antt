@@ -17,4 +17,4 @@ abbrev pub most_key_bytes : ℕ
 most_key_bytes = 32
 
 abbrev pub most_value_bytes : ℕ
-most_value_bytes = 256
+most_value_bytes = 4096

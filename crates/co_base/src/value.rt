@@ -13,7 +13,7 @@ use std::alloc::{AllocError, Global};
 use std::cmp::Ordering;
 use std::marker::Model;
 
-/// What a record holds: 1 to 256 visible characters of ASCII. A contract sees its bytes.
+/// What a record holds: 1 to 4,096 visible characters of ASCII. A contract sees its bytes.
 ///
 /// Values are ordered by their bytes.
 #[derive(Drop)]
@@ -34,9 +34,9 @@ impl Model for Value {
 
 impl Value {
     /// The most bytes that a value has.
-    pub const MOST: usize = 256;
+    pub const MOST: usize = 4096;
 
-    /// Makes a value of these bytes. `Length` comes where their count is outside 1 to 256, else
+    /// Makes a value of these bytes. `Length` comes where their count is outside 1 to 4,096, else
     /// `Letter` where a byte is outside `21` to `7e` hex.
     pub fn new(alloc: Global, bytes: &[u8]) -> Result<Value, BaseFault>
         ensures ok { IfOk result (λ v. v ≡ bytes.now) }

@@ -36,11 +36,11 @@ fn keys_have_1_to_32_letters(rt: HostRuntime) {
 }
 
 #[test]
-fn values_have_1_to_256_letters(rt: HostRuntime) {
+fn values_have_1_to_4096_letters(rt: HostRuntime) {
     let alloc = rt.alloc();
     value_is(&rt, alloc, b"", "length");
-    value_is(&rt, alloc, &[b'v'; 256], "ok");
-    value_is(&rt, alloc, &[b'v'; 257], "length");
+    value_is(&rt, alloc, &[b'v'; 4096], "ok");
+    value_is(&rt, alloc, &[b'v'; 4097], "length");
     value_is(&rt, alloc, b"\x20", "letter");
 }
 

@@ -7,6 +7,7 @@ use Rattle.co_base.specs.declared.row.Row.{Row}
 use Rattle.co_base.specs.declared.written.Written.{Written}
 use Rattle.co_record.specs.declared.record.Record.{Record}
 use Rattle.co_record.specs.declared.record.Record.TheVariants.{Checkpoint}
+use Rattle.co_record.specs.Format.{newest}
 use Rattle.co_record.specs.Spelling.{row_text, change_text, txn_text, key_text, value_text, held_text, listed, spelling}
 use Rattle.co_log.specs.LogFile.{spelled}
 
@@ -28,7 +29,7 @@ txn_long : (t : ℕ) → 1 ≤ length (txn_text t)
 txn_long t = omega arith
 
 pub checkpoint_long : (rows : List Row) (undos : List Written) (committed : List ℕ)
-    → (length rows ≤ length (spelling (Checkpoint rows undos committed))) × (length undos ≤ length (spelling (Checkpoint rows undos committed))) × (length committed ≤ length (spelling (Checkpoint rows undos committed)))
+    → (length rows ≤ length (spelling newest (Checkpoint rows undos committed))) × (length undos ≤ length (spelling newest (Checkpoint rows undos committed))) × (length committed ≤ length (spelling newest (Checkpoint rows undos committed)))
 checkpoint_long rows undos committed =
     let r = listed w32 row_text rows in
     let u = listed w32 change_text undos in
@@ -38,7 +39,7 @@ checkpoint_long rows undos committed =
     (omega (arith, whole, listed_long row_text row_long rows), omega (arith, whole, back, listed_long change_text change_long undos), omega (arith, whole, back, listed_long txn_text txn_long committed))
 
 -- a record of a list is no longer than all of them
-pub one_spelled : (items : List Record) (i : ℕ) (item d : Record) → i < length items → item ≡ get_or items i d → length (spelling item) ≤ length (spelled items)
+pub one_spelled : (items : List Record) (i : ℕ) (item d : Record) → i < length items → item ≡ get_or items i d → length (spelling newest item) ≤ length (spelled items)
 one_spelled [] i item d lt is = absurd (omega (arith, lt))
-one_spelled (x ∷ items) zero item d lt is = omega (arith, ap (λ (r : Record). length (spelling r)) is, length-append (spelling x) (spelled items))
-one_spelled (x ∷ items) (suc i) item d lt is = omega (arith, one_spelled items i item d (omega (arith, lt)) is, length-append (spelling x) (spelled items))
+one_spelled (x ∷ items) zero item d lt is = omega (arith, ap (λ (r : Record). length (spelling newest r)) is, length-append (spelling newest x) (spelled items))
+one_spelled (x ∷ items) (suc i) item d lt is = omega (arith, one_spelled items i item d (omega (arith, lt)) is, length-append (spelling newest x) (spelled items))

@@ -12,17 +12,19 @@ use Rattle.co_record.specs.Gate.{begins_closed}
 use Rattle.co_record.specs.declared.record.Record.{Record}
 use Rattle.co_log.specs.declared.fault.LogFault.{LogFault}
 use Rattle.co_log.specs.declared.fault.LogFault.TheVariants.{Device, Stopped, Bad, Differs, Full, InUse, Memory}
+use Rattle.co_record.specs.Format.{IsVersion, newest}
 use Rattle.co_log.specs.Appending.{IsOfAppend}
 use Rattle.co_log.specs.Attaching.{IsOlder}
 use Rattle.co_log.specs.Current.{BeginsWith, IsOrdered, IsOldCurrent, IsNewCurrent, IsCurrentIf, IsCurrentAfter, IsCurrentForced, IsCurrentMade}
-use Rattle.co_log.specs.LogFile.{next_gate, next_items, placed_from, EndsAt, EndsAfter, OldOrBoth}
+use Rattle.co_log.specs.LogFile.{next_gate, next_items, placed_from, EndsIn, EndsAt, EndsAfter, OldOrBoth}
 use Rattle.co_log.specs.Fresh.{IsFresh}
 use Rattle.co_frame.specs.LogText.{IsLogText}
 use Rattle.co_record.specs.declared.record.Record.TheVariants.{Header}
 use Rattle.co_log.specs.LogView.{LogView, IsHeld}
-use Rattle.co_log.specs.Scanning.{IsLogFile}
+use Rattle.co_log.specs.Scanning.{IsLogFileIn, IsLogFile}
 use Rattle.co_log.specs.Spare.{IsSpareImage, filling}
 use Rattle.co_log.proofs.Spots.{spots_apart}
+use Rattle.co_log.proofs.Versions.{newest_known, ends_newest}
 use Rattle.co_log.proofs.Unmade.{ends_at_front, ends_at_once, read_stable, closed_file}
 
 begins_more : (node : Node) (generation : ℕ) (items more : List (ℕ × Record)) → BeginsWith node generation items → BeginsWith node generation (items ++ more)
@@ -34,9 +36,12 @@ begins_next true node generation gate items more begins = begins_more node gener
 begins_next false node generation gate items more begins = begins
 
 -- a file that begins with a header is a log file of its generation
-pub log_file : (node : Node) (generation : ℕ) (bytes : List ℕ) (gate : ℕ) (items : List (ℕ × Record)) → EndsAt bytes gate items → BeginsWith node generation items → IsLogFile node bytes gate (Some generation)
-log_file node generation bytes gate [] ends begins = absurd begins
-log_file node generation bytes gate (x ∷ items) ends begins = (items, subst (λ (y : ℕ × Record). EndsAt bytes gate (y ∷ items)) begins ends)
+pub log_file_in : (node : Node) (generation version : ℕ) → IsVersion version → (bytes : List ℕ) (gate : ℕ) (items : List (ℕ × Record)) → EndsIn version bytes gate items → BeginsWith node generation items → IsLogFileIn version node bytes gate (Some generation)
+log_file_in node generation version known bytes gate [] ends begins = absurd begins
+log_file_in node generation version known bytes gate (x ∷ items) ends begins = (items, known, subst (λ (y : ℕ × Record). EndsIn version bytes gate (y ∷ items)) begins ends)
+
+pub log_file : (node : Node) (generation version : ℕ) → IsVersion version → (bytes : List ℕ) (gate : ℕ) (items : List (ℕ × Record)) → EndsIn version bytes gate items → BeginsWith node generation items → IsLogFile node bytes gate (Some generation)
+log_file node generation version known bytes gate items ends begins = (version, log_file_in node generation version known bytes gate items ends begins)
 
 -- a file without a batch is older than any other
 pub none_older : (node : Node) (bytes : List ℕ) (generation : ℕ) → EndsAt bytes 0 [] → IsOlder node bytes generation
@@ -55,15 +60,16 @@ image_older node old image generation older image' = elim image'.0 [
 -- the old file is still current where the other one is older
 pub old_current : (log : LogView) (items : List (ℕ × Record)) (current spare : List ℕ) → IsOrdered log items → current ≡ log.current.state.stable → IsOlder log.node spare log.generation → IsOldCurrent log items current spare
 old_current log items current spare o same older =
-    record { gate = log.gate; ends = subst (λ (b : List ℕ). EndsAt b log.gate items) (sym same) o.live.ends; header = o.header; older = older }
+    record { gate = log.gate; known = o.live.known; ends = subst (λ (b : List ℕ). EndsIn log.version b log.gate items) (sym same) o.live.ends; header = o.header; older = older }
 
 -- a filled file is current
 pub new_current : (log : LogView) (items : List (ℕ × Record)) (more : List Record) (current spare : List ℕ) → IsOrdered log items → current ≡ log.current.state.stable → EndsAfter true spare 0 [] (filling log more) → IsNewCurrent log more current spare
 new_current log items more current spare o same ends = record {
   gate = next_gate true 0 (filling log more);
+  known = newest_known;
   ends = ends;
   header = refl;
-  older = inr (log.gate, log.generation, log_file log.node log.generation current log.gate items (subst (λ (b : List ℕ). EndsAt b log.gate items) (sym same) o.live.ends) o.header, omega arith);
+  older = inr (log.gate, log.generation, log_file log.node log.generation log.version o.live.known current log.gate items (subst (λ (b : List ℕ). EndsIn log.version b log.gate items) (sym same) o.live.ends) o.header, omega arith);
 }
 
 pub current_if : (stable : Bool) (log : LogView) (items : List (ℕ × Record)) (more : List Record) (current spare : List ℕ) → IsOrdered log items → current ≡ log.current.state.stable → EndsAfter stable spare 0 [] (filling log more) → IsCurrentIf stable log items more current spare
@@ -138,29 +144,29 @@ faulted_current {H = H} file reach entered faults old new log more e held still 
 -- ---- after a log write on the current file
 
 -- the current file has these records
-pub now_current : (log : LogView) (items : List (ℕ × Record)) (stable : Bool) (gate : ℕ) (more : List Record) (current spare : List ℕ) → BeginsWith log.node log.generation items → IsOlder log.node spare log.generation → EndsAfter stable current gate items more
+pub now_current : (log : LogView) → log.version ≡ newest → (items : List (ℕ × Record)) (stable : Bool) (gate : ℕ) (more : List Record) (current spare : List ℕ) → BeginsWith log.node log.generation items → IsOlder log.node spare log.generation → EndsAfter stable current gate items more
     → IsOldCurrent log (next_items stable gate items more) current spare
-now_current log items stable gate more current spare begins older ends = record { gate = next_gate stable gate more; ends = ends; header = begins_next stable log.node log.generation gate items more begins; older = older }
+now_current log latest items stable gate more current spare begins older ends = record { gate = next_gate stable gate more; known = subst IsVersion (sym latest) newest_known; ends = subst (λ (v : ℕ). EndsIn v current (next_gate stable gate more) (next_items stable gate items more)) (sym latest) ends; header = begins_next stable log.node log.generation gate items more begins; older = older }
 
 -- after a fault
-pub force_fault : (log : LogView) (items : List (ℕ × Record)) (more : List Record) (current spare : List ℕ) (at : Spot) (e : LogFault) → IsOfAppend at e → BeginsWith log.node log.generation items → IsOlder log.node spare log.generation → OldOrBoth current log.gate items more
+pub force_fault : (log : LogView) → log.version ≡ newest → (items : List (ℕ × Record)) (more : List Record) (current spare : List ℕ) (at : Spot) (e : LogFault) → IsOfAppend at e → BeginsWith log.node log.generation items → IsOlder log.node spare log.generation → OldOrBoth current log.gate items more
     → (e ≡ Full at → EndsAt current log.gate items) → (e ≡ Memory → EndsAt current log.gate items) → IsCurrentForced log items more current spare (Err e)
-force_fault log items more current spare at (Device spot) of begins older either full memory = elim either [
-  | inl old ↦ inl (now_current log items false log.gate more current spare begins older old)
-  | inr both ↦ inr (now_current log items true log.gate more current spare begins older both)
+force_fault log latest items more current spare at (Device spot) of begins older either full memory = elim either [
+  | inl old ↦ inl (now_current log latest items false log.gate more current spare begins older old)
+  | inr both ↦ inr (now_current log latest items true log.gate more current spare begins older both)
 ]
-force_fault log items more current spare at (Stopped call stable marks) of begins older either full memory = absurd of
-force_fault log items more current spare at (Bad spot place) of begins older either full memory = absurd of
-force_fault log items more current spare at (Differs spot place kept read) of begins older either full memory = absurd of
-force_fault log items more current spare at (Full spot) of begins older either full memory = now_current log items false log.gate more current spare begins older (full (ap Full of))
-force_fault log items more current spare at (InUse spot) of begins older either full memory = absurd of
-force_fault log items more current spare at Memory of begins older either full memory = now_current log items false log.gate more current spare begins older (memory refl)
+force_fault log latest items more current spare at (Stopped call stable marks) of begins older either full memory = absurd of
+force_fault log latest items more current spare at (Bad spot place) of begins older either full memory = absurd of
+force_fault log latest items more current spare at (Differs spot place kept read) of begins older either full memory = absurd of
+force_fault log latest items more current spare at (Full spot) of begins older either full memory = now_current log latest items false log.gate more current spare begins older (full (ap Full of))
+force_fault log latest items more current spare at (InUse spot) of begins older either full memory = absurd of
+force_fault log latest items more current spare at Memory of begins older either full memory = now_current log latest items false log.gate more current spare begins older (memory refl)
 
 -- the told spare is what the log keeps of it, after calls on the current file alone, and so it is older
 pub spare_older : (file after : Spot → Option File) (reach : Spot → ℕ) (log : LogView) (items : List (ℕ × Record)) (f : File) → IsHeld file reach log → IsOrdered log items → after log.spare.spot ≡ file log.spare.spot → after log.spare.spot ≡ Some f → IsOlder log.node f.bytes log.generation
 spare_older file after reach log items f held o kept told = subst (λ (b : List ℕ). IsOlder log.node b log.generation) (sym (held.spare.told f (sym kept ∙ told) ∙ read_stable log.spare.state o.still)) o.older
 
-module _ {H : Type 0} (file : H → Spot → Option File) (reach : H → Spot → ℕ) (entered : H → Option (List ℕ)) (faults : H → ℕ) (old new : H) (log : LogView) (held : IsHeld (file old) (reach old) log) (rest : RestStays file reach entered faults log.current.spot old new) where
+module _ {H : Type 0} (file : H → Spot → Option File) (reach : H → Spot → ℕ) (entered : H → Option (List ℕ)) (faults : H → ℕ) (old new : H) (log : LogView) (held : IsHeld (file old) (reach old) log) (rest : RestStays file reach entered faults log.current.spot old new) (latest : log.version ≡ newest) where
   spare_kept : file new log.spare.spot ≡ file old log.spare.spot
   spare_kept = rest.others.files log.spare.spot (λ e. spots_apart log held.spots (sym e))
 
@@ -169,17 +175,17 @@ module _ {H : Type 0} (file : H → Spot → Option File) (reach : H → Spot �
       → (c s : File) → file new log.current.spot ≡ Some c → file new log.spare.spot ≡ Some s → IsOldCurrent log (next_items stable log.gate items more) c.bytes s.bytes
   forced_current disk items more stable agrees still ends o c s told_c told_s =
       let whole : c.bytes ≡ disk.state.stable = agrees.told c told_c ∙ read_stable disk.state still in
-      now_current log items stable log.gate more c.bytes s.bytes o.header (spare_older (file old) (file new) (reach old) log items s held o spare_kept told_s) (subst (λ (b : List ℕ). EndsAfter stable b log.gate items more) (sym whole) ends)
+      now_current log latest items stable log.gate more c.bytes s.bytes o.header (spare_older (file old) (file new) (reach old) log items s held o spare_kept told_s) (subst (λ (b : List ℕ). EndsAfter stable b log.gate items more) (sym whole) ends)
 
   -- and where it met one
   pub force_faulted : (items : List (ℕ × Record)) (more : List Record) (e : LogFault) → IsOfAppend log.current.spot e → ((f : File) → file new log.current.spot ≡ Some f → OldOrBoth f.bytes log.gate items more) → (e ≡ Full log.current.spot → new ≡ old)
       → (e ≡ Memory → (f : File) → file new log.current.spot ≡ Some f → EndsAt f.bytes log.gate items) → IsOrdered log items
       → (c s : File) → file new log.current.spot ≡ Some c → file new log.spare.spot ≡ Some s → IsCurrentForced log items more c.bytes s.bytes (Err e)
   force_faulted items more e of either full early o c s told_c told_s =
-      force_fault log items more c.bytes s.bytes log.current.spot e of o.header (spare_older (file old) (file new) (reach old) log items s held o spare_kept told_s) (either c told_c)
+      force_fault log latest items more c.bytes s.bytes log.current.spot e of o.header (spare_older (file old) (file new) (reach old) log items s held o spare_kept told_s) (either c told_c)
       (λ is.
       let before : file old log.current.spot ≡ Some c = subst (λ (h : H). file h log.current.spot ≡ Some c) (full is) told_c in
-      subst (λ (b : List ℕ). EndsAt b log.gate items) (sym (held.current.told c before ∙ read_stable log.current.state o.live.still)) o.live.ends)
+      subst (λ (b : List ℕ). EndsAt b log.gate items) (sym (held.current.told c before ∙ read_stable log.current.state o.live.still)) (ends_newest log items latest o.live))
       (λ is. early is c told_c)
 
 -- ---- after a making
@@ -187,7 +193,7 @@ module _ {H : Type 0} (file : H → Spot → Option File) (reach : H → Spot �
 pub made_fault : (log : LogView) (current spare : List ℕ) (at : Spot) (e : LogFault) → IsOfAppend at e → (e ≡ Full at → ⊥) → OldOrBoth current 0 [] (Header log.node 1 ∷ []) → (e ≡ Memory → EndsAt current 0 []) → IsLogText spare [] → IsCurrentMade log current spare (Err e)
 made_fault log current spare at (Device spot) of not_full either memory none = elim either [
   | inl old ↦ inl (ends_at_front current [] old, none)
-  | inr both ↦ inr record { gate = next_gate true 0 (Header log.node 1 ∷ []); ends = both; header = refl; older = inl none }
+  | inr both ↦ inr record { gate = next_gate true 0 (Header log.node 1 ∷ []); known = newest_known; ends = both; header = refl; older = inl none }
 ]
 made_fault log current spare at (Stopped call stable marks) of not_full either memory none = absurd of
 made_fault log current spare at (Bad spot place) of not_full either memory none = absurd of

@@ -4,35 +4,32 @@ use Rattle.std.specs.Prelude.{Some, slice_get}
 use Rattle.std.specs.List.{AllByRecursion}
 use Rattle.std.proofs.lemmas.List.{append-nil, take_at, length-append, length-take, take-append-drop}
 use Rattle.co_disk.proofs.Gets.{get_take, same_to, same_everywhere}
-use Rattle.co_frame.specs.LogText.{IsBatch, IsLogText, gated, batch_text, open_gate, closed_gate}
-use Rattle.co_frame.proofs.Texts.{hides, gated_more, each_more}
+use Rattle.co_frame.specs.LogText.{IsBatch, gated, batch_text, open_gate, closed_gate}
+use Rattle.co_frame.proofs.Texts.{gated_more, each_more}
 use Rattle.co_record.specs.declared.record.Record.{Record}
+use Rattle.co_record.specs.Format.{newest}
 use Rattle.co_record.specs.Spelling.{spelling, IsSpelled}
-use Rattle.co_record.specs.Stored.{AreRecords, HoldRecords, HasRecords}
+use Rattle.co_record.specs.Stored.{AreRecords, HoldRecords}
 use Rattle.co_log.specs.LogFile.{placed_from, spelled, EndsAt}
 
 -- ---- records
 
 -- spelled records are the records from their place on
-pub are_placed : (at : ℕ) (items : List Record) → AllByRecursion IsSpelled items → AreRecords at (spelled items) (placed_from at items)
+pub are_placed : (at : ℕ) (items : List Record) → AllByRecursion IsSpelled items → AreRecords newest at (spelled items) (placed_from at items)
 are_placed at [] each = refl
-are_placed at (item ∷ items) each = (refl, each.0, (spelled items, refl, are_placed (at + length (spelling item)) items each.1))
+are_placed at (item ∷ items) each = (refl, each.0, (spelled items, refl, are_placed (at + length (spelling newest item)) items each.1))
 
 -- a batch more, behind those that are there
-pub hold_more : (gate from : ℕ) (batches : List (List ℕ)) (batch : List ℕ) (items more : List (ℕ × Record)) → HoldRecords gate batches items → gate + length (gated batches) + 5 ≡ from → AreRecords from batch more
-    → HoldRecords gate (batches ++ batch ∷ []) (items ++ more)
-hold_more gate from [] batch items more held e are =
-    let first : AreRecords (gate + 5) batch more = subst (λ (n : ℕ). AreRecords n batch more) (omega (arith, e)) are in
+pub hold_more : (version gate from : ℕ) (batches : List (List ℕ)) (batch : List ℕ) (items more : List (ℕ × Record)) → HoldRecords version gate batches items → gate + length (gated batches) + 5 ≡ from → AreRecords version from batch more
+    → HoldRecords version gate (batches ++ batch ∷ []) (items ++ more)
+hold_more version gate from [] batch items more held e are =
+    let first : AreRecords version (gate + 5) batch more = subst (λ (n : ℕ). AreRecords version n batch more) (omega (arith, e)) are in
     (more, [], ap (λ (xs : List (ℕ × Record)). xs ++ more) held ∙ sym (append-nil more), first, refl)
-hold_more gate from (b ∷ bs) batch items more held e are =
+hold_more version gate from (b ∷ bs) batch items more held e are =
     let behind : gate + 5 + length b + length (gated bs) + 5 ≡ from = omega (arith, e, length-append (batch_text b) (gated bs)) in
-    (held.0, held.1 ++ more, ap (λ (xs : List (ℕ × Record)). xs ++ more) held.2 ∙ append_assoc held.0 held.1 more, held.3, hold_more (gate + 5 + length b) from bs batch held.1 more held.4 behind are)
+    (held.0, held.1 ++ more, ap (λ (xs : List (ℕ × Record)). xs ++ more) held.2 ∙ append_assoc held.0 held.1 more, held.3, hold_more version (gate + 5 + length b) from bs batch held.1 more held.4 behind are)
 
 -- ---- files
-
--- a file that ends at a gate that is not open has its records
-pub has_records : (bytes : List ℕ) (gate : ℕ) (items : List (ℕ × Record)) → EndsAt bytes gate items → HasRecords bytes items
-has_records bytes gate items e = (e.batches, subst (λ (b : List ℕ). IsLogText b e.batches) (sym e.text.text) (hides e.batches e.text.gate e.text.rest e.text.each e.text.closed), e.holds)
 
 -- the gate lies within the file
 pub gate_within : (bytes : List ℕ) (gate : ℕ) (items : List (ℕ × Record)) → EndsAt bytes gate items → gate < length bytes
@@ -70,7 +67,7 @@ one_byte (f ∷ front) rest (y ∷ image) g long same =
     (more.0, ap (λ (b : ℕ). b ∷ image) head ∙ ap (λ (t : List ℕ). f ∷ t) more.1)
 
 -- the gate in front of a batch: open it adds the records of the batch, and else the file is as before
-pub gate_opens : (batches : List (List ℕ)) (gate : ℕ) (items : List (ℕ × Record)) (more : List Record) (rest image : List ℕ) → AllByRecursion IsBatch batches → HoldRecords 0 batches items → gate ≡ length (gated batches)
+pub gate_opens : (batches : List (List ℕ)) (gate : ℕ) (items : List (ℕ × Record)) (more : List Record) (rest image : List ℕ) → AllByRecursion IsBatch batches → HoldRecords newest 0 batches items → gate ≡ length (gated batches)
     → AllByRecursion IsSpelled more → IsBatch (spelled more) → image ≡ gated batches ++ open_gate ∷ (batch_text (spelled more) ++ closed_gate ∷ rest)
     → EndsAt image (gate + 5 + length (spelled more)) (items ++ placed_from (gate + 5) more)
 gate_opens batches gate items more rest image each held place these one is =
@@ -84,10 +81,10 @@ gate_opens batches gate items more rest image each held place these one is =
         text = is ∙ sym (gated_more batches (spelled more) (closed_gate ∷ rest));
       };
       place = omega (arith, place, ap (λ (t : List ℕ). length t) (gated_more batches (spelled more) []), length-append (gated (batches ++ spelled more ∷ [])) [], length-append (gated batches) (open_gate ∷ (batch_text (spelled more) ++ [])), length-append (batch_text (spelled more)) []);
-      holds = hold_more 0 (gate + 5) batches (spelled more) items (placed_from (gate + 5) more) held (omega (arith, place)) (are_placed (gate + 5) more these);
+      holds = hold_more newest 0 (gate + 5) batches (spelled more) items (placed_from (gate + 5) more) held (omega (arith, place)) (are_placed (gate + 5) more these);
     }
 
-pub gate_stays : (batches : List (List ℕ)) (gate x : ℕ) (items : List (ℕ × Record)) (rest image : List ℕ) → AllByRecursion IsBatch batches → HoldRecords 0 batches items → gate ≡ length (gated batches) → x ≢ open_gate → image ≡ gated batches ++ x ∷ rest
+pub gate_stays : (batches : List (List ℕ)) (gate x : ℕ) (items : List (ℕ × Record)) (rest image : List ℕ) → AllByRecursion IsBatch batches → HoldRecords newest 0 batches items → gate ≡ length (gated batches) → x ≢ open_gate → image ≡ gated batches ++ x ∷ rest
     → EndsAt image gate items
 gate_stays batches gate x items rest image each held place closed is =
     record { batches = batches; text = record { each = each; gate = x; rest = rest; closed = closed; text = is }; place = place; holds = held }

@@ -14,6 +14,7 @@ use Rattle.co_disk.proofs.Gets.{get_right, get_past, length_overlaid, length_tak
 use Rattle.co_frame.specs.LogText.{IsBatch, gated, batch_text, open_gate, closed_gate}
 use Rattle.co_record.specs.declared.record.Record.{Record}
 use Rattle.co_record.specs.declared.record.Record.TheVariants.{Header, Prepare, Commit, Abort, End, Checkpoint}
+use Rattle.co_record.specs.Format.{newest}
 use Rattle.co_record.specs.Spelling.{spelling, IsSpelled}
 use Rattle.co_log.specs.LogFile.{spelled, EndsAt, EndsAfter, OldOrBoth, opened}
 use Rattle.co_log.specs.BatchWrite.{closed_batch, batch_pending, gate_pending, disk_at}
@@ -204,9 +205,9 @@ written_whole bytes gate items more e these one = (chosen_gate bytes (read_of (g
 -- a record has a spelling of at least one byte
 pub some_bytes : (items : List Record) → 0 < length items → 1 ≤ length (spelled items)
 some_bytes [] some = absurd (omega arith)
-some_bytes (item ∷ items) some = omega (arith, some_spelling item, length-append (spelling item) (spelled items))
+some_bytes (item ∷ items) some = omega (arith, some_spelling item, length-append (spelling newest item) (spelled items))
   where
-    some_spelling : (item : Record) → 1 ≤ length (spelling item)
+    some_spelling : (item : Record) → 1 ≤ length (spelling newest item)
     some_spelling (Header node generation) = omega arith
     some_spelling (Prepare txn coord count reads writes) = omega arith
     some_spelling (Commit txn members) = omega arith

@@ -1,3 +1,4 @@
+pub mod Versions
 pub mod Files
 pub mod Stops
 pub mod Images

@@ -2,6 +2,7 @@
 use Rattle.std.proofs.Common.{◌≡◌, ◌⊎◌, ℕ, ◌+◌, ◌<◌, Bool, true, false, List, [], ◌∷◌, ◌++◌, refl, sym, ap, subst, ◌∙◌, arith, inl, inr}
 use Rattle.std.specs.Prelude.{◌==◌, Option, Some, None, Result, Ok, Err, length, map, if◌then◌else◌}
 use Rattle.std.proofs.lemmas.List.{map-append}
+use Rattle.co_record.specs.Format.{IsVersion, newest}
 use Rattle.co_record.specs.Spelling.{spelling}
 use Rattle.co_base.specs.Nodes.{IsValidNode}
 use Rattle.co_base.specs.declared.mark.Mark.{Mark}
@@ -21,7 +22,7 @@ use Rattle.co_log.specs.Attaching.{built, IsToldAs, IsOlder, IsAttached, IsCurre
 use Rattle.co_log.specs.Current.{BeginsWith, IsCurrentOf, IsOrdered, IsReady}
 use Rattle.co_log.specs.Forcing.{IsWritten, IsForced, IsDone, counts}
 use Rattle.co_log.specs.Fresh.{IsFresh, IsMade, header_alone}
-use Rattle.co_log.specs.LogFile.{next_items, placed_from, records_of, EndsAt}
+use Rattle.co_log.specs.LogFile.{next_items, placed_from, records_of, EndsIn}
 use Rattle.co_log.specs.LogView.{LogView, IsLive, IsHeld, spot_of}
 use Rattle.co_log.specs.Spare.{IsClosed, IsClosing, IsFilled, IsUnfilled, IsFilledIf, IsFilling, filling, filled_items}
 use Rattle.co_log.proofs.Attached.{behind_front}
@@ -56,17 +57,19 @@ written_ordered stable log after items more o w = record {
   older = older_moved log after after.spare.state.stable w.node w.generation (subst (λ (d : DiskView). IsOlder log.node d.state.stable log.generation) (sym w.spare) o.older);
 }
 
-live_moved : (log after : LogView) (items : List (ℕ × Record)) → after.current ≡ log.current → after.gate ≡ log.gate → IsLive log items → IsLive after items
-live_moved log after items current gate live = record {
+live_moved : (log after : LogView) (items : List (ℕ × Record)) → after.version ≡ log.version → after.current ≡ log.current → after.gate ≡ log.gate → IsLive log items → IsLive after items
+live_moved log after items version current gate live = record {
+  known = subst IsVersion (sym version) live.known;
   made = subst (λ (n : ℕ). 0 < n) (sym gate) live.made;
   still = subst (λ (d : DiskView). d.state.pending ≡ []) (sym current) live.still;
-  ends = subst (λ (n : ℕ). EndsAt after.current.state.stable n items) (sym gate) (subst (λ (d : DiskView). EndsAt d.state.stable log.gate items) (sym current) live.ends);
+  ends = subst (λ (v : ℕ). EndsIn v after.current.state.stable after.gate items) (sym version)
+      (subst (λ (n : ℕ). EndsIn log.version after.current.state.stable n items) (sym gate) (subst (λ (d : DiskView). EndsIn log.version d.state.stable log.gate items) (sym current) live.ends));
 }
 
 pub closed_ordered : (closed : Bool) (log after : LogView) (items : List (ℕ × Record)) → IsOrdered log items → IsClosed closed log after → IsOrdered after items
 closed_ordered closed log after items o c = record {
   valid = subst IsValidNode (sym c.node) o.valid;
-  live = live_moved log after items c.current c.gate o.live;
+  live = live_moved log after items c.version c.current c.gate o.live;
   header = moved log after items c.node c.generation o.header;
   still = c.still;
   older = older_moved log after after.spare.state.stable c.node c.generation (image_older log.node log.spare.state.stable after.spare.state.stable log.generation o.older c.image);
@@ -75,7 +78,7 @@ closed_ordered closed log after items o c = record {
 pub filled_ordered : (log after : LogView) (items : List (ℕ × Record)) (more : List Record) → IsOrdered log items → IsFilled log after more → IsOrdered after (placed_from 5 (filling log more))
 filled_ordered log after items more o f =
     let begins : BeginsWith log.node (log.generation + 1) (placed_from 5 (filling log more)) = refl in
-    let older : IsOlder log.node log.current.state.stable (log.generation + 1) = inr (log.gate, log.generation, log_file log.node log.generation log.current.state.stable log.gate items o.live.ends o.header, omega arith) in
+    let older : IsOlder log.node log.current.state.stable (log.generation + 1) = inr (log.gate, log.generation, log_file log.node log.generation log.version o.live.known log.current.state.stable log.gate items o.live.ends o.header, omega arith) in
     record {
       valid = subst IsValidNode (sym f.node) o.valid;
       live = f.live;
@@ -88,7 +91,7 @@ filled_ordered log after items more o f =
 pub unfilled_ordered : (log after : LogView) (items : List (ℕ × Record)) → IsOrdered log items → IsUnfilled log after → IsOrdered after items
 unfilled_ordered log after items o u = record {
   valid = subst IsValidNode (sym u.node) o.valid;
-  live = live_moved log after items u.current u.gate o.live;
+  live = live_moved log after items u.version u.current u.gate o.live;
   header = moved log after items u.node u.generation o.header;
   still = u.still;
   older = none_older after.node after.spare.state.stable after.generation (ends_at_once after.spare.state.stable u.closed);
@@ -130,10 +133,54 @@ filling_ordered log after items more (Err (Full spot)) o f done = absurd done
 filling_ordered log after items more (Err (InUse spot)) o f done = absurd done
 filling_ordered log after items more (Err Memory) o f done = absurd done
 
+-- ---- versions
+
+pub forced_version : (log after : LogView) (items : List (ℕ × Record)) (more : List Record) (result : Result (List Mark) LogFault) → IsForced log items more after result → IsDone result → after.version ≡ log.version
+forced_version log after items more (Ok marks) f done = f.2.version
+forced_version log after items more (Err (Stopped call stable marks)) f done = f.4.version
+forced_version log after items more (Err (Device spot)) f done = absurd done
+forced_version log after items more (Err (Bad spot at)) f done = absurd done
+forced_version log after items more (Err (Differs spot at kept read)) f done = absurd done
+forced_version log after items more (Err (Full spot)) f done = absurd done
+forced_version log after items more (Err (InUse spot)) f done = absurd done
+forced_version log after items more (Err Memory) f done = absurd done
+
+pub closing_version : (log after : LogView) (result : Result (Unit {0}) LogFault) → IsClosing log after result → IsDone result → after.version ≡ log.version
+closing_version log after (Ok x) f done = f.0.version
+closing_version log after (Err (Stopped call stable marks)) f done = f.5.version
+closing_version log after (Err (Device spot)) f done = absurd done
+closing_version log after (Err (Bad spot at)) f done = absurd done
+closing_version log after (Err (Differs spot at kept read)) f done = absurd done
+closing_version log after (Err (Full spot)) f done = absurd done
+closing_version log after (Err (InUse spot)) f done = absurd done
+closing_version log after (Err Memory) f done = absurd done
+
+pub filling_version : (log after : LogView) (more : List Record) (result : Result Mark LogFault) → IsFilling log more after result → IsDone result → after.version ≡ (if counts result then newest else log.version)
+filling_version log after more (Ok mark) f done = f.2.version
+filling_version log after more (Err (Stopped call stable marks)) f done = by_image stable f.4
+  where
+    by_image : (b : Bool) → IsFilledIf b log after more → after.version ≡ (if b then newest else log.version)
+    by_image true is = is.version
+    by_image false is = is.version
+filling_version log after more (Err (Device spot)) f done = absurd done
+filling_version log after more (Err (Bad spot at)) f done = absurd done
+filling_version log after more (Err (Differs spot at kept read)) f done = absurd done
+filling_version log after more (Err (Full spot)) f done = absurd done
+filling_version log after more (Err (InUse spot)) f done = absurd done
+filling_version log after more (Err Memory) f done = absurd done
+
+-- a log of the newest version is so after a filling
+pub newest_filled : (log after : LogView) (more : List Record) (result : Result Mark LogFault) → log.version ≡ newest → IsFilling log more after result → IsDone result → after.version ≡ newest
+newest_filled log after more result latest f done = filling_version log after more result f done ∙ either (counts result)
+  where
+    either : (b : Bool) → (if b then newest else log.version) ≡ newest
+    either true = refl
+    either false = latest
+
 -- the records alone, oldest first
 placed_records : (at : ℕ) (more : List Record) → map (λ p. p.1) (placed_from at more) ≡ more
 placed_records at [] = refl
-placed_records at (item ∷ more) = ap (λ (rs : List Record). item ∷ rs) (placed_records (at + length (spelling item)) more)
+placed_records at (item ∷ more) = ap (λ (rs : List Record). item ∷ rs) (placed_records (at + length (spelling newest item)) more)
 
 pub next_records : (stable : Bool) (gate : ℕ) (items : List (ℕ × Record)) (more : List Record) → records_of (next_items stable gate items more) ≡ (if stable then records_of items ++ more else records_of items)
 next_records true gate items more = map-append _ items (placed_from (gate + 5) more) ∙ ap (λ (rs : List Record). records_of items ++ rs) (placed_records (gate + 5) more)
@@ -158,13 +205,13 @@ attached_unarmed node a b log attached = elim attached [
 current_ordered : (node : Node) (current spare : DiskView) (log : LogView) → IsValidNode node → current.state.pending ≡ [] → spare.state.pending ≡ [] → IsCurrent node current spare log → (items : List (ℕ × Record)) × IsOrdered log items
 current_ordered node current spare log valid still spare_still c =
     let first : ℕ × Record = (5, Header node c.generation) in
-    let here : LogView = built node current spare c.gate c.generation in
+    let here : LogView = built node c.version current spare c.gate c.generation in
     let begins : BeginsWith node c.generation (first ∷ c.file.0) = refl in
     subst (λ (l : LogView). (items : List (ℕ × Record)) × IsOrdered l items) (sym c.is) (
       first ∷ c.file.0,
       record {
         valid = valid;
-        live = record { made = behind_front current.state.stable c.gate first c.file.0 c.file.1; still = still; ends = c.file.1 };
+        live = record { made = behind_front c.version current.state.stable c.gate first c.file.0 c.file.2; known = c.file.1; still = still; ends = c.file.2 };
         header = begins;
         still = spare_still;
         older = c.older;
@@ -173,7 +220,7 @@ current_ordered node current spare log valid still spare_still c =
 
 pub attached_ordered : (node : Node) (a b : DiskView) (log : LogView) → IsValidNode node → a.state.pending ≡ [] → b.state.pending ≡ [] → IsAttached node a b log → (IsFresh log × IsValidNode log.node) ⊎ ((items : List (ℕ × Record)) × IsOrdered log items)
 attached_ordered node a b log valid still_a still_b attached = elim attached [
-  | inl fresh ↦ inl (subst (λ (l : LogView). IsFresh l × IsValidNode l.node) (sym fresh.0) (record { unmade = refl; still = still_a; spare_still = still_b; none = fresh.1; spare_none = fresh.2 }, valid))
+  | inl fresh ↦ inl (subst (λ (l : LogView). IsFresh l × IsValidNode l.node) (sym fresh.0) (record { unmade = refl; version = refl; still = still_a; spare_still = still_b; none = fresh.1; spare_none = fresh.2 }, valid))
   | inr live ↦ inr (elim live [ inl one ↦ current_ordered node a b log valid still_a still_b one | inr other ↦ current_ordered node b a log valid still_b still_a other ])
 ]
 
@@ -200,50 +247,50 @@ found_ordered log is some = elim is [
 ]
 
 pub ready_made : (file : Spot → Option File) (reach : Spot → ℕ) (log after : LogView) → IsFresh log × IsValidNode log.node → IsMade log after → IsHeld file reach after → IsReady file reach after
-ready_made file reach log after fresh made held = record { held = held; items = header_alone log.node; ordered = made_ordered log after fresh.0 fresh.1 made }
+ready_made file reach log after fresh made held = record { held = held; latest = made.version; items = header_alone log.node; ordered = made_ordered log after fresh.0 fresh.1 made }
 
-pub ready_written : (file : Spot → Option File) (reach : Spot → ℕ) (log after : LogView) (items : List (ℕ × Record)) (more : List Record) (stable : Bool) → IsOrdered log items → IsWritten stable log items more after → IsHeld file reach after → IsReady file reach after
-ready_written file reach log after items more stable o w held = record { held = held; items = next_items stable log.gate items more; ordered = written_ordered stable log after items more o w }
+pub ready_written : (file : Spot → Option File) (reach : Spot → ℕ) (log after : LogView) (items : List (ℕ × Record)) (more : List Record) (stable : Bool) → log.version ≡ newest → IsOrdered log items → IsWritten stable log items more after → IsHeld file reach after → IsReady file reach after
+ready_written file reach log after items more stable latest o w held = record { held = held; latest = w.version ∙ latest; items = next_items stable log.gate items more; ordered = written_ordered stable log after items more o w }
 
-pub ready_closed : (file : Spot → Option File) (reach : Spot → ℕ) (log after : LogView) (items : List (ℕ × Record)) (closed : Bool) → IsOrdered log items → IsClosed closed log after → IsHeld file reach after → IsReady file reach after
-ready_closed file reach log after items closed o is held = record { held = held; items = items; ordered = closed_ordered closed log after items o is }
+pub ready_closed : (file : Spot → Option File) (reach : Spot → ℕ) (log after : LogView) (items : List (ℕ × Record)) (closed : Bool) → log.version ≡ newest → IsOrdered log items → IsClosed closed log after → IsHeld file reach after → IsReady file reach after
+ready_closed file reach log after items closed latest o is held = record { held = held; latest = is.version ∙ latest; items = items; ordered = closed_ordered closed log after items o is }
 
-pub ready_filled : (file : Spot → Option File) (reach : Spot → ℕ) (log after : LogView) (items : List (ℕ × Record)) (more : List Record) (stable : Bool) → IsOrdered log items → IsFilledIf stable log after more → IsHeld file reach after → IsReady file reach after
-ready_filled file reach log after items more true o is held = record { held = held; items = placed_from 5 (filling log more); ordered = filled_ordered log after items more o is }
-ready_filled file reach log after items more false o is held = record { held = held; items = items; ordered = unfilled_ordered log after items o is }
+pub ready_filled : (file : Spot → Option File) (reach : Spot → ℕ) (log after : LogView) (items : List (ℕ × Record)) (more : List Record) (stable : Bool) → log.version ≡ newest → IsOrdered log items → IsFilledIf stable log after more → IsHeld file reach after → IsReady file reach after
+ready_filled file reach log after items more true latest o is held = record { held = held; latest = is.version; items = placed_from 5 (filling log more); ordered = filled_ordered log after items more o is }
+ready_filled file reach log after items more false latest o is held = record { held = held; latest = is.version ∙ latest; items = items; ordered = unfilled_ordered log after items o is }
 
 -- a log that keeps its disks, its gate and its generation
-pub ordered_same : (log after : LogView) (items : List (ℕ × Record)) → after.node ≡ log.node → after.current ≡ log.current → after.spare ≡ log.spare → after.gate ≡ log.gate → after.generation ≡ log.generation → IsOrdered log items → IsOrdered after items
-ordered_same log after items node current spare gate generation o = record {
+pub ordered_same : (log after : LogView) (items : List (ℕ × Record)) → after.node ≡ log.node → after.version ≡ log.version → after.current ≡ log.current → after.spare ≡ log.spare → after.gate ≡ log.gate → after.generation ≡ log.generation → IsOrdered log items → IsOrdered after items
+ordered_same log after items node version current spare gate generation o = record {
   valid = subst IsValidNode (sym node) o.valid;
-  live = live_moved log after items current gate o.live;
+  live = live_moved log after items version current gate o.live;
   header = moved log after items node generation o.header;
   still = subst (λ (d : DiskView). d.state.pending ≡ []) (sym spare) o.still;
   older = older_moved log after after.spare.state.stable node generation (subst (λ (d : DiskView). IsOlder log.node d.state.stable log.generation) (sym spare) o.older);
 }
 
-pub ready_kept : (file further : Spot → Option File) (reach room : Spot → ℕ) (log after : LogView) → IsReady file reach log → after.node ≡ log.node → after.current ≡ log.current → after.spare ≡ log.spare → after.gate ≡ log.gate → after.generation ≡ log.generation
+pub ready_kept : (file further : Spot → Option File) (reach room : Spot → ℕ) (log after : LogView) → IsReady file reach log → after.node ≡ log.node → after.version ≡ log.version → after.current ≡ log.current → after.spare ≡ log.spare → after.gate ≡ log.gate → after.generation ≡ log.generation
     → IsHeld further room after → IsReady further room after
-ready_kept file further reach room log after r node current spare gate generation held =
-    record { held = held; items = r.items; ordered = ordered_same log after r.items node current spare gate generation r.ordered }
+ready_kept file further reach room log after r node version current spare gate generation held =
+    record { held = held; latest = version ∙ r.latest; items = r.items; ordered = ordered_same log after r.items node version current spare gate generation r.ordered }
 
 -- and its home
-pub ready_same : (file : Spot → Option File) (reach : Spot → ℕ) (log after : LogView) → IsReady file reach log → after.node ≡ log.node → after.current ≡ log.current → after.spare ≡ log.spare → after.gate ≡ log.gate → after.generation ≡ log.generation → IsReady file reach after
-ready_same file reach log after r node current spare gate generation = ready_kept file file reach reach log after r node current spare gate generation record {
+pub ready_same : (file : Spot → Option File) (reach : Spot → ℕ) (log after : LogView) → IsReady file reach log → after.node ≡ log.node → after.version ≡ log.version → after.current ≡ log.current → after.spare ≡ log.spare → after.gate ≡ log.gate → after.generation ≡ log.generation → IsReady file reach after
+ready_same file reach log after r node version current spare gate generation = ready_kept file file reach reach log after r node version current spare gate generation record {
   spots = spots_moved log after node (ap (λ (d : DiskView). d.spot) current) (ap (λ (d : DiskView). d.spot) spare) r.held.spots;
   current = subst (λ (d : DiskView). Agrees (file d.spot) (reach d.spot) (read_of d.state)) (sym current) r.held.current;
   spare = subst (λ (d : DiskView). Agrees (file d.spot) (reach d.spot) (read_of d.state)) (sym spare) r.held.spare;
 }
 
 -- the told files of a log in order are current as it has them
-pub held_current : (file : Spot → Option File) (reach : Spot → ℕ) (log : LogView) (items : List (ℕ × Record)) (c s : File) → IsHeld file reach log → IsOrdered log items → file log.current.spot ≡ Some c → file log.spare.spot ≡ Some s → IsCurrentOf log.node log.generation c.bytes s.bytes items
+pub held_current : (file : Spot → Option File) (reach : Spot → ℕ) (log : LogView) (items : List (ℕ × Record)) (c s : File) → IsHeld file reach log → IsOrdered log items → file log.current.spot ≡ Some c → file log.spare.spot ≡ Some s → IsCurrentOf log.node log.version log.generation c.bytes s.bytes items
 held_current file reach log items c s held o told_c told_s =
     let older = subst (λ (b : List ℕ). IsOlder log.node b log.generation) (sym (held.spare.told s told_s ∙ read_stable log.spare.state o.still)) o.older in
     old_current log items c.bytes s.bytes o (held.current.told c told_c ∙ read_stable log.current.state o.live.still) older
 
 -- a file with a batch begins with an open gate
-pub live_open : (bytes : List ℕ) (gate : ℕ) (items : List (ℕ × Record)) → 0 < gate → EndsAt bytes gate items → begins_closed bytes ≡ false
-live_open bytes gate items made e = ap begins_closed e.text.text ∙ by_batches e.batches e.place
+pub live_open : (version : ℕ) (bytes : List ℕ) (gate : ℕ) (items : List (ℕ × Record)) → 0 < gate → EndsIn version bytes gate items → begins_closed bytes ≡ false
+live_open version bytes gate items made e = ap begins_closed e.text.text ∙ by_batches e.batches e.place
   where
     by_batches : (batches : List (List ℕ)) → gate ≡ length (gated batches) → begins_closed (gated batches ++ e.text.gate ∷ e.text.rest) ≡ false
     by_batches [] at = absurd (omega (arith, at, made))

@@ -58,7 +58,7 @@ held_attached node a b log file reach at_a at_b agrees_a agrees_b attached =
       ]
     ]
   where
-    here : {gate generation : ℕ} (l : LogView) (current spare : DiskView) → l ≡ built node current spare gate generation → Agrees (file current.spot) (reach current.spot) (read_of current.state) → Agrees (file spare.spot) (reach spare.spot) (read_of spare.state) → HasSpots l → IsHeld file reach l
+    here : {version gate generation : ℕ} (l : LogView) (current spare : DiskView) → l ≡ built node version current spare gate generation → Agrees (file current.spot) (reach current.spot) (read_of current.state) → Agrees (file spare.spot) (reach spare.spot) (read_of spare.state) → HasSpots l → IsHeld file reach l
     here l current spare is this that own = record {
       spots = own;
       current = subst (λ (k : LogView). Agrees (file k.current.spot) (reach k.current.spot) (read_of k.current.state)) (sym is) this;

@@ -6,15 +6,16 @@ use Rattle.co_outside.specs.Home.{File}
 use Rattle.co_disk.specs.DiskModel.{read_of}
 use Rattle.co_disk.specs.DiskView.{DiskView}
 use Rattle.co_frame.specs.LogText.{IsLogText}
+use Rattle.co_record.specs.Format.{newest}
 use Rattle.co_log.specs.declared.fault.LogFault.{LogFault}
 use Rattle.co_log.specs.declared.fault.LogFault.TheVariants.{Device, Stopped, Bad, Differs, Full, InUse, Memory}
 use Rattle.co_log.specs.LogView.{LogView, spot_of}
-use Rattle.co_log.specs.Scanning.{IsLogFile, IsBadAt}
+use Rattle.co_log.specs.Scanning.{IsLogFileIn, IsLogFile, IsBadAt}
 
 -- a log without waiting records and without an armed stop
-abbrev pub built : Node → DiskView → DiskView → ℕ → ℕ → LogView
-built node current spare gate generation =
-    record { node = node; current = current; spare = spare; gate = gate; generation = generation; waiting = []; stop = None }
+abbrev pub built : Node → ℕ → DiskView → DiskView → ℕ → ℕ → LogView
+built node version current spare gate generation =
+    record { node = node; version = version; current = current; spare = spare; gate = gate; generation = generation; waiting = []; stop = None }
 
 -- the file has no batch, or a smaller generation
 abbrev pub IsOlder : Node → List ℕ → ℕ → Type 0
@@ -22,16 +23,17 @@ IsOlder node bytes generation = IsLogText bytes [] ⊎ ((gate : ℕ) × (older :
 
 -- of two files the one is current: it has the greater generation, or is the only one with a batch
 pub record IsCurrent (node : Node) (current spare : DiskView) (log : LogView) : Type 0 where
+  pub version : ℕ
   pub gate : ℕ
   pub generation : ℕ
-  pub is : log ≡ built node current spare gate generation
-  pub file : IsLogFile node current.state.stable gate (Some generation)
+  pub is : log ≡ built node version current spare gate generation
+  pub file : IsLogFileIn version node current.state.stable gate (Some generation)
   pub older : IsOlder node spare.state.stable generation
 
 -- neither file has a batch, and part a is current; or the one or the other file is
 abbrev pub IsAttached : Node → DiskView → DiskView → LogView → Type 0
 IsAttached node a b log =
-    ((log ≡ built node a b 0 0) × IsLogText a.state.stable [] × IsLogText b.state.stable []) ⊎ (IsCurrent node a b log ⊎ IsCurrent node b a log)
+    ((log ≡ built node newest a b 0 0) × IsLogText a.state.stable [] × IsLogText b.state.stable []) ⊎ (IsCurrent node a b log ⊎ IsCurrent node b a log)
 
 -- two files have one generation
 abbrev pub AreTwins : Node → List ℕ → List ℕ → Type 0

@@ -9,10 +9,11 @@ use Rattle.co_record.specs.declared.record.Record.{Record}
 use Rattle.co_record.specs.declared.record.Record.TheVariants.{Header}
 use Rattle.co_log.specs.declared.fault.LogFault.{LogFault}
 use Rattle.co_log.specs.declared.fault.LogFault.TheVariants.{Device, Stopped, Bad, Differs, Full, InUse, Memory}
+use Rattle.co_record.specs.Format.{IsVersion, newest}
 use Rattle.co_log.specs.Attaching.{IsOlder}
 use Rattle.co_frame.specs.LogText.{IsLogText}
 use Rattle.co_log.specs.Fresh.{header_alone}
-use Rattle.co_log.specs.LogFile.{placed_from, next_items, EndsAt}
+use Rattle.co_log.specs.LogFile.{placed_from, next_items, EndsIn}
 use Rattle.co_log.specs.LogView.{LogView, IsLive, IsHeld}
 use Rattle.co_log.specs.Spare.{filling}
 
@@ -21,11 +22,12 @@ abbrev pub BeginsWith : Node → ℕ → List (ℕ × Record) → Type 0
 BeginsWith node generation [] = ⊥
 BeginsWith node generation (first ∷ items) = first ≡ (5, Header node generation)
 
--- Of these two files of a node the first one is current: it has these records, of this generation, and the other
+-- Of these two files of a node the first one is current: it has these records, of this version and generation, and the other
 -- one has no batch or a smaller generation.
-pub record IsCurrentOf (node : Node) (generation : ℕ) (current spare : List ℕ) (items : List (ℕ × Record)) : Type 0 where
+pub record IsCurrentOf (node : Node) (version generation : ℕ) (current spare : List ℕ) (items : List (ℕ × Record)) : Type 0 where
   pub gate : ℕ
-  pub ends : EndsAt current gate items
+  pub known : IsVersion version
+  pub ends : EndsIn version current gate items
   pub header : BeginsWith node generation items
   pub older : IsOlder node spare generation
 
@@ -37,15 +39,16 @@ pub record IsOrdered (log : LogView) (items : List (ℕ × Record)) : Type 0 whe
   pub still : log.spare.state.pending ≡ []
   pub older : IsOlder log.node log.spare.state.stable log.generation
 
--- The log is in order with some records, and the home's files are its files.
+-- The log is of the newest version and in order with some records, and the home's files are its files.
 pub record IsReady (file : Spot → Option File) (reach : Spot → ℕ) (log : LogView) : Type 0 where
   pub held : IsHeld file reach log
+  pub latest : log.version ≡ newest
   pub items : List (ℕ × Record)
   pub ordered : IsOrdered log items
 
 -- the old file is still the current one, with its records
 abbrev pub IsOldCurrent : LogView → List (ℕ × Record) → List ℕ → List ℕ → Type 0
-IsOldCurrent log items current spare = IsCurrentOf log.node log.generation current spare items
+IsOldCurrent log items current spare = IsCurrentOf log.node log.version log.generation current spare items
 
 -- Which records the current file has after a log write on it: after Ok these with the new ones; after a stop with the
 -- new ones exactly where the image has its gate open; where the directory failed without the new ones or with them; and
@@ -62,7 +65,7 @@ IsCurrentForced log items more current spare (Err Memory) = IsOldCurrent log ite
 
 -- the filled one is the current one, with these records in place of all others
 abbrev pub IsNewCurrent : LogView → List Record → List ℕ → List ℕ → Type 0
-IsNewCurrent log more current spare = IsCurrentOf log.node (log.generation + 1) spare current (placed_from 5 (filling log more))
+IsNewCurrent log more current spare = IsCurrentOf log.node newest (log.generation + 1) spare current (placed_from 5 (filling log more))
 
 -- the filled file is the current one, or the old one still is
 abbrev pub IsCurrentIf : Bool → LogView → List (ℕ × Record) → List Record → List ℕ → List ℕ → Type 0
@@ -88,7 +91,7 @@ HaveNoBatch current spare = IsLogText current [] × IsLogText spare []
 
 -- the file is current with the header of generation 1 alone
 abbrev pub IsMadeCurrent : LogView → List ℕ → List ℕ → Type 0
-IsMadeCurrent log current spare = IsCurrentOf log.node 1 current spare (header_alone log.node)
+IsMadeCurrent log current spare = IsCurrentOf log.node newest 1 current spare (header_alone log.node)
 
 -- Which file is current after a log was made: after Ok its current file, with its header alone; where the directory
 -- failed that one or none; and none where memory was wanted.

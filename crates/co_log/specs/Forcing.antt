@@ -14,6 +14,7 @@ use Rattle.co_log.specs.Marks.{marks_of}
 -- The log after a log write on its current file that added these records, or did not.
 pub record IsWritten (stable : Bool) (log : LogView) (items : List (ℕ × Record)) (more : List Record) (after : LogView) : Type 0 where
   pub node : after.node ≡ log.node
+  pub version : after.version ≡ log.version
   pub spot : after.current.spot ≡ log.current.spot
   pub spare : after.spare ≡ log.spare
   pub generation : after.generation ≡ log.generation

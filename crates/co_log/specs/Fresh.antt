@@ -5,6 +5,7 @@ use Rattle.co_outside.specs.declared.spot.Spot.{Spot}
 use Rattle.co_frame.specs.LogText.{IsLogText}
 use Rattle.co_record.specs.declared.record.Record.{Record}
 use Rattle.co_record.specs.declared.record.Record.TheVariants.{Header}
+use Rattle.co_record.specs.Format.{newest}
 use Rattle.co_log.specs.declared.fault.LogFault.{LogFault}
 use Rattle.co_log.specs.declared.fault.LogFault.TheVariants as faults
 use Rattle.co_record.specs.Gate.{begins_closed}
@@ -14,6 +15,7 @@ use Rattle.co_log.specs.LogView.{LogView, IsLive}
 -- neither file has a batch, and nothing pends
 pub record IsFresh (log : LogView) : Type 0 where
   pub unmade : log.gate ≡ 0
+  pub version : log.version ≡ newest
   pub still : log.current.state.pending ≡ []
   pub spare_still : log.spare.state.pending ≡ []
   pub none : IsLogText log.current.state.stable []
@@ -26,6 +28,7 @@ header_alone node = (5, Header node 1) ∷ []
 -- the log after it was made
 pub record IsMade (log after : LogView) : Type 0 where
   pub node : after.node ≡ log.node
+  pub version : after.version ≡ newest
   pub spot : after.current.spot ≡ log.current.spot
   pub spare : after.spare ≡ log.spare
   pub generation : after.generation ≡ 1

@@ -3,28 +3,33 @@ use Rattle.std.specs.Prelude.{◌≡◌, ℕ, ◌+◌, ◌==◌, ◌⊎◌, Bool
 use Rattle.std.specs.List.{flat_map}
 use Rattle.co_frame.specs.LogText.{IsGated, gated, open_gate}
 use Rattle.co_record.specs.declared.record.Record.{Record}
+use Rattle.co_record.specs.Format.{newest}
 use Rattle.co_record.specs.Spelling.{spelling}
 use Rattle.co_record.specs.Stored.{HoldRecords}
 
--- records that stand one after another from a place on, each with its place
+-- records of the newest version that stand one after another from a place on, each with its place
 abbrev pub placed_from : ℕ → List Record → List (ℕ × Record)
 placed_from at [] = []
-placed_from at (item ∷ items) = (at, item) ∷ placed_from (at + length (spelling item)) items
+placed_from at (item ∷ items) = (at, item) ∷ placed_from (at + length (spelling newest item)) items
 
 -- the records alone, oldest first
 abbrev pub records_of : List (ℕ × Record) → List Record
 records_of items = map (λ p. p.1) items
 
--- the bytes of records, one after another
+-- the bytes of records as they are written, one after another
 abbrev pub spelled : List Record → List ℕ
-spelled items = flat_map spelling items
+spelled items = flat_map (spelling newest) items
 
--- The file has these records in front of the gate at this place, which is not open.
-pub record EndsAt (bytes : List ℕ) (gate : ℕ) (items : List (ℕ × Record)) : Type 0 where
+-- The file has these records of a version in front of the gate at this place, which is not open.
+pub record EndsIn (version : ℕ) (bytes : List ℕ) (gate : ℕ) (items : List (ℕ × Record)) : Type 0 where
   pub batches : List (List ℕ)
   pub text : IsGated bytes batches
   pub place : gate ≡ length (gated batches)
-  pub holds : HoldRecords 0 batches items
+  pub holds : HoldRecords version 0 batches items
+
+-- so it has records of the newest version
+abbrev pub EndsAt : List ℕ → ℕ → List (ℕ × Record) → Type 0
+EndsAt = EndsIn newest
 
 -- whether a byte is there and is that of an open gate
 abbrev pub opened : Option ℕ → Bool

@@ -10,14 +10,16 @@ use Rattle.co_disk.specs.DiskView.{DiskView}
 use Rattle.co_disk.specs.Homes.{Agrees}
 use Rattle.co_record.specs.declared.record.Record.{Record}
 use Rattle.co_record.specs.declared.record.Record.TheVariants as log
+use Rattle.co_record.specs.Format.{IsVersion}
 use Rattle.co_log.specs.declared.stop.Stop.{Stop}
-use Rattle.co_log.specs.LogFile.{EndsAt}
+use Rattle.co_log.specs.LogFile.{EndsIn}
 
--- Its node; the disks of its current file and of the spare one; the place of the first gate of the current
+-- Its node; the version of its current file, which is the newest for a fresh log; the disks of its current file and of the spare one; the place of the first gate of the current
 -- file that is not open, and its generation, both 0 for a fresh log; the waiting records, oldest first; and
 -- the stop of the next log write.
 pub record LogView : Type 0 where
   pub node : Node
+  pub version : ℕ
   pub current : DiskView
   pub spare : DiskView
   pub gate : ℕ
@@ -28,8 +30,9 @@ pub record LogView : Type 0 where
 -- The log stands for these stable records of its current file, and nothing pends there. It is not fresh.
 pub record IsLive (log : LogView) (items : List (ℕ × Record)) : Type 0 where
   pub made : 0 < log.gate
+  pub known : IsVersion log.version
   pub still : log.current.state.pending ≡ []
-  pub ends : EndsAt log.current.state.stable log.gate items
+  pub ends : EndsIn log.version log.current.state.stable log.gate items
 
 -- what reads of a disk give is within the most bytes of a file
 abbrev pub IsShort : DiskView → Type 0

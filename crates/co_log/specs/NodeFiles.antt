@@ -23,7 +23,7 @@ newest_first items = reverse (records_of items)
 abbrev pub HasCurrent : Node → List ℕ → List ℕ → ℕ → Items → Type 0
 HasCurrent node a b part items =
     ((part ≡ 0) × (items ≡ []) × IsLogText a [] × IsLogText b [])
-    ⊎ (((part ≡ 0) × ((generation : ℕ) × IsCurrentOf node generation a b items)) ⊎ ((part ≡ 1) × ((generation : ℕ) × IsCurrentOf node generation b a items)))
+    ⊎ (((part ≡ 0) × ((version : ℕ) × (generation : ℕ) × IsCurrentOf node version generation a b items)) ⊎ ((part ≡ 1) × ((version : ℕ) × (generation : ℕ) × IsCurrentOf node version generation b a items)))
 
 -- the current file of a node and its records, by the bytes of its files, where the home tells them; neither file is
 -- too long

@@ -6,6 +6,7 @@ use Rattle.co_base.specs.declared.mark.MarkKind.TheVariants as kind
 use Rattle.co_outside.specs.declared.spot.Spot.{Spot}
 use Rattle.co_record.specs.declared.record.Record.{Record}
 use Rattle.co_record.specs.declared.record.Record.TheVariants.{Header, Prepare, Commit, Abort, End, Checkpoint}
+use Rattle.co_record.specs.Format.{newest}
 use Rattle.co_record.specs.Spelling.{IsWritable, AreInKeyOrder}
 use Rattle.co_log.specs.declared.fault.LogFault.{LogFault}
 use Rattle.co_log.specs.declared.fault.LogFault.TheVariants.{Device, Stopped, Bad, Differs, Full, InUse, Memory}
@@ -23,6 +24,7 @@ IsSpareImage old bytes = ((bytes ≡ old) ⊎ ((begins_closed bytes ≡ true) �
 -- The log after its spare file was closed, or was not: all else is as it was but what a log write clears.
 pub record IsClosed (closed : Bool) (log after : LogView) : Type 0 where
   pub node : after.node ≡ log.node
+  pub version : after.version ≡ log.version
   pub current : after.current ≡ log.current
   pub gate : after.gate ≡ log.gate
   pub generation : after.generation ≡ log.generation
@@ -77,15 +79,16 @@ IsFillable (Checkpoint rows undos committed) = AreInKeyOrder undos
 abbrev pub filling_mark : LogView → Mark
 filling_mark log = record { node = log.node; kind = kind.Checkpoint; number = log.generation + 1 }
 
--- the log with its files exchanged
+-- the log with its files exchanged, of which the current one is of the newest version
 abbrev pub turned : LogView → ℕ → ℕ → LogView
 turned log gate generation =
-    record { node = log.node; current = log.spare; spare = log.current; gate = gate; generation = generation; waiting = log.waiting; stop = log.stop }
+    record { node = log.node; version = newest; current = log.spare; spare = log.current; gate = gate; generation = generation; waiting = log.waiting; stop = log.stop }
 
 -- The log after its spare became the current file, with these records in place of all others; the file that
 -- was current is the spare.
 pub record IsFilled (log after : LogView) (items : List Record) : Type 0 where
   pub node : after.node ≡ log.node
+  pub version : after.version ≡ newest
   pub spot : after.current.spot ≡ log.spare.spot
   pub spare : after.spare ≡ log.current
   pub generation : after.generation ≡ log.generation + 1
@@ -102,6 +105,7 @@ filled_items false log items more = items
 -- The log after a stopped filling that does not count: the current file is the old one.
 pub record IsUnfilled (log after : LogView) : Type 0 where
   pub node : after.node ≡ log.node
+  pub version : after.version ≡ log.version
   pub current : after.current ≡ log.current
   pub gate : after.gate ≡ log.gate
   pub generation : after.generation ≡ log.generation

@@ -7,7 +7,7 @@ ghost use Rattle.co_disk.specs.Homes.{Agrees, RestStays, HasFailed};
 ghost use Rattle.co_log.specs.Fresh.{IsOfDevice};
 ghost use Rattle.co_log.specs.Attaching.{built, used_of, IsAttached, AreTwins, IsBadPair, IsLonger, IsWithin, IsToldAs, IsOfAttach};
 ghost use Rattle.co_log.specs.LogView.{IsShort};
-ghost use Rattle.co_log.specs.Scanning.{IsLogFile};
+ghost use Rattle.co_log.specs.Scanning.{IsLogFileIn};
 
 use crate::fault::LogFault;
 use crate::log::Log;
@@ -15,6 +15,7 @@ use crate::scanning::{Found, scan};
 use co_base::Node;
 use co_disk::{Disk, DiskFault};
 use co_outside::{Home, Spot};
+use co_record::NEWEST_VERSION;
 use std::alloc::Global;
 
 /// Attaches the disk of a file. None is a file with more than 268,435,456 bytes.
@@ -44,13 +45,22 @@ fn open_file<H: Home>(alloc: Global, home: &mut H, spot: Spot) -> Result<Option<
 }
 
 /// The log of a node over two files.
-fn build(alloc: Global, node: Node, current: Disk, spare: Disk, gate: u32, generation: u32) -> Log
+fn build(
+    alloc: Global,
+    node: Node,
+    version: u8,
+    current: Disk,
+    spare: Disk,
+    gate: u32,
+    generation: u32,
+) -> Log
     requires { IsShort current × IsShort spare }
-    ensures { result ≡ built node current spare gate generation }
+    ensures { result ≡ built node version current spare gate generation }
 {
     Log {
         alloc,
         node,
+        version,
         current,
         spare,
         gate,
@@ -71,15 +81,31 @@ fn choose(
 ) -> Result<Log, LogFault>
     requires stable { (a.state.pending ≡ []) × (b.state.pending ≡ []) }
     requires short { IsShort a × IsShort b }
-    requires a { IsLogFile node a.state.stable in_a.gate in_a.generation }
-    requires b { IsLogFile node b.state.stable in_b.gate in_b.generation }
+    requires a { IsLogFileIn in_a.version node a.state.stable in_a.gate in_a.generation }
+    requires b { IsLogFileIn in_b.version node b.state.stable in_b.gate in_b.generation }
     ensures chosen { IfOk result (IsAttached node a b) }
     ensures twins { IfErr result (λ e. (e ≡ LogFault.Bad b.spot 0) × AreTwins node a.state.stable b.state.stable) }
 {
     match (in_a.generation, in_b.generation) {
-        (None, None) => Ok(build(alloc, node, a, b, 0, 0)),
-        (Some(generation), None) => Ok(build(alloc, node, a, b, in_a.gate, generation)),
-        (None, Some(generation)) => Ok(build(alloc, node, b, a, in_b.gate, generation)),
+        (None, None) => Ok(build(alloc, node, NEWEST_VERSION, a, b, 0, 0)),
+        (Some(generation), None) => Ok(build(
+            alloc,
+            node,
+            in_a.version,
+            a,
+            b,
+            in_a.gate,
+            generation,
+        )),
+        (None, Some(generation)) => Ok(build(
+            alloc,
+            node,
+            in_b.version,
+            b,
+            a,
+            in_b.gate,
+            generation,
+        )),
         (Some(this), Some(that)) => {
             if this == that {
                 return Err(LogFault::Bad {
@@ -88,9 +114,9 @@ fn choose(
                 });
             }
             if this < that {
-                Ok(build(alloc, node, b, a, in_b.gate, that))
+                Ok(build(alloc, node, in_b.version, b, a, in_b.gate, that))
             } else {
-                Ok(build(alloc, node, a, b, in_a.gate, this))
+                Ok(build(alloc, node, in_a.version, a, b, in_a.gate, this))
             }
         }
     }
@@ -186,7 +212,7 @@ impl Log {
             return Err(LogFault::InUse { spot: spot_b });
         }
         match (a, b) {
-            (Some(a), Some(b)) => Ok(build(alloc, node, a, b, 0, 0)),
+            (Some(a), Some(b)) => Ok(build(alloc, node, NEWEST_VERSION, a, b, 0, 0)),
             (None, _) => unreachable!(),
             (Some(_), None) => unreachable!(),
         }

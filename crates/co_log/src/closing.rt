@@ -71,7 +71,7 @@ impl Log {
         ensures held { IsDone result → IsHeld (H.file home.new) (H.reach home.new) self.new }
         ensures clean { IsDone result → IsClean (H.file home.new self.old.spare.spot) }
         ensures told { (f : File) → H.file home.new self.old.spare.spot ≡ Some f → IsSpareImage self.old.spare.state.stable f.bytes }
-        ensures current { (items : List (ℕ × Record)) → IsOrdered self.old items → (c s : File) → H.file home.new self.old.current.spot ≡ Some c → H.file home.new self.old.spare.spot ≡ Some s → IsCurrentOf self.old.node self.old.generation c.bytes s.bytes items }
+        ensures current { (items : List (ℕ × Record)) → IsOrdered self.old items → (c s : File) → H.file home.new self.old.current.spot ≡ Some c → H.file home.new self.old.spare.spot ≡ Some s → IsCurrentOf self.old.node self.old.version self.old.generation c.bytes s.bytes items }
         ensures short { BothWithin (H.file home.new) self.old }
         ensures faults { IfErr result (IsOfClosing self.old.spare.spot) }
         ensures rest { RestStays H.file H.reach H.entered H.faults self.old.spare.spot home.old home.new }

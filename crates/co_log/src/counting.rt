@@ -1,6 +1,7 @@
 //! Lists that are too long for their records.
 ghost use Rattle.std.specs.Prelude.{◌≡◌, ◌<◌, true, false, length};
 ghost use Rattle.std.specs.List.{AllByRecursion};
+ghost use Rattle.co_record.specs.Format.{newest};
 ghost use Rattle.co_record.specs.Spelling.{IsWritable, spelling};
 ghost use Rattle.co_log.specs.LogFile.{spelled};
 ghost use Rattle.co_log.specs.Spare.{IsFillable};
@@ -12,7 +13,7 @@ use co_record::Record;
 fn is_counted(item: &Record) -> bool
     requires { IsFillable item.now }
     ensures yes { result ≡ true → IsWritable item.now }
-    ensures no { result ≡ false → 268435456 < length (spelling item.now) }
+    ensures no { result ≡ false → 268435456 < length (spelling newest item.now) }
 {
     match item {
         Record::Checkpoint {

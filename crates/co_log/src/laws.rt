@@ -7,6 +7,7 @@ ghost use Rattle.co_base.specs.declared.leaves.Leaves.{Leaves};
 ghost use Rattle.co_disk.specs.DiskModel.{IsImage, IsChosen, stable_disk, after_write};
 ghost use Rattle.co_frame.specs.LogText.{IsBatch, IsLogText, closed_gate};
 ghost use Rattle.co_record.specs.declared.record.Record.{Record};
+ghost use Rattle.co_record.specs.Format.{IsVersion, newest};
 ghost use Rattle.co_record.specs.Spelling.{IsSpelled};
 ghost use Rattle.co_record.specs.Stored.{HasRecords};
 ghost use Rattle.co_base.specs.declared.node.Node.{Node};
@@ -15,7 +16,7 @@ ghost use Rattle.co_log.specs.Attaching.{built, IsAttached, IsBadPair};
 ghost use Rattle.co_base.specs.Nodes.{IsValidNode};
 ghost use Rattle.co_base.specs.declared.mark.Mark.{Mark};
 ghost use Rattle.co_log.specs.declared.fault.LogFault.{LogFault};
-ghost use Rattle.co_log.specs.Current.{IsCurrentOf, IsOrdered};
+ghost use Rattle.co_log.specs.Current.{BeginsWith, IsCurrentOf, IsOrdered};
 ghost use Rattle.co_log.specs.Forcing.{IsForced, IsDone, IsOfForce, counts};
 ghost use Rattle.co_log.specs.Fresh.{IsFresh, IsMade, IsOfDevice, header_alone};
 ghost use Rattle.co_log.specs.NodeFaults.{IsOfNode};
@@ -24,19 +25,20 @@ ghost use Rattle.co_log.specs.LogView.{LogView, IsLive, IsHeld, HasSpots, spot_o
 ghost use Rattle.co_log.specs.Others.{OtherFilesStay};
 ghost use Rattle.co_log.specs.BatchWrite.{closed_batch, batch_pending, gate_pending, disk_at, disk_after};
 ghost use Rattle.co_record.specs.Gate.{batch_is_stable, begins_closed};
-ghost use Rattle.co_log.specs.LogFile.{spelled, records_of, next_items, EndsAt, EndsAfter, OldOrBoth};
+ghost use Rattle.co_log.specs.LogFile.{spelled, records_of, next_items, EndsIn, EndsAt, EndsAfter, OldOrBoth};
 ghost use Rattle.co_log.specs.Scanning.{IsLogFile, IsBadAt};
 
-/// A file that ends at a gate that is not open has the records in front of it; and it has no batch where
-/// that gate is its first byte.
+/// A file of either version that begins with a header and ends at a gate that is not open has the records in front of
+/// it; and it has no batch where that gate is its first byte.
 pub fn gates_end_files()
-    ensures records { (bytes : List ℕ) (gate : ℕ) (items : List (ℕ × Record)) → EndsAt bytes gate items → HasRecords bytes items }
+    ensures records { (version : ℕ) (node : Node) (generation : ℕ) (bytes : List ℕ) (gate : ℕ) (items : List (ℕ × Record)) → IsVersion version → BeginsWith node generation items →
+        EndsIn version bytes gate items → HasRecords bytes items }
     ensures front { (bytes : List ℕ) (items : List (ℕ × Record)) → EndsAt bytes 0 items → IsLogText bytes [] }
 {}
 
 /// While the first gate of a file of at most one byte is closed, every image has at most one byte.
 ///
-/// At each device call of a log write every image of the disk has the old records, or with them the new
+/// At each device call of a log write, which is of version 2, every image of the disk has the old records, or with them the new
 /// ones, and before the third call the old ones alone; a chosen image has the new ones exactly where it is
 /// that of a call from the third on and has the gate open; and after the last call the file has them.
 pub fn images_are_old_or_new()
@@ -75,6 +77,16 @@ pub fn files_stay_in_order()
     ensures unarmed { (node : Node) (a b : DiskView) (log : LogView) → IsAttached node a b log → (log.node ≡ node) × (log.waiting ≡ []) × (log.stop ≡ None) }
 {}
 
+/// A log write leaves the version of the current file, as the closing of a spare does, and a filling that counts makes it
+/// version 2.
+pub fn versions_stay()
+    ensures forced { (log after : LogView) (items : List (ℕ × Record)) (more : List Record) (result : Result (List Mark) LogFault) →
+        IsForced log items more after result → IsDone result → after.version ≡ log.version }
+    ensures closed { (log after : LogView) (result : Result (Unit {0}) LogFault) → IsClosing log after result → IsDone result → after.version ≡ log.version }
+    ensures filled { (log after : LogView) (more : List Record) (result : Result Mark LogFault) → IsFilling log more after result → IsDone result →
+        after.version ≡ (if counts result then newest else log.version) }
+{}
+
 /// The records after a log write, oldest first: where it counts, those before it and the new ones, or after a
 /// filling a header and the new ones; and else those before it.
 pub fn records_are_added()
@@ -88,7 +100,7 @@ pub fn records_are_added()
 /// open gate.
 pub fn held_files_are_current()
     ensures current { (file : Spot → Option File) (reach : Spot → ℕ) (log : LogView) (items : List (ℕ × Record)) (c s : File) → IsHeld file reach log → IsOrdered log items →
-        file log.current.spot ≡ Some c → file log.spare.spot ≡ Some s → IsCurrentOf log.node log.generation c.bytes s.bytes items }
+        file log.current.spot ≡ Some c → file log.spare.spot ≡ Some s → IsCurrentOf log.node log.version log.generation c.bytes s.bytes items }
     ensures opens { (log : LogView) (items : List (ℕ × Record)) → IsLive log items → begins_closed log.current.state.stable ≡ false }
 {}
 
@@ -101,27 +113,27 @@ pub fn logs_leave_each_other()
         OtherFilesStay node file after reach further → IsHeld file reach log → IsHeld after further log }
 {}
 
-/// A start over two files of which one is current attaches that one as the current file, with its generation
-/// and its records.
+/// A start over two files of which one is current attaches that one as the current file, with its version, its
+/// generation and its records.
 pub fn starts_find_the_current_file()
-    ensures part_a { (node : Node) (a b : DiskView) (log : LogView) (generation : ℕ) (items : List (ℕ × Record)) (current : IsCurrentOf node generation a.state.stable b.state.stable items) →
-        IsAttached node a b log → log ≡ built node a b current.gate generation }
-    ensures part_b { (node : Node) (a b : DiskView) (log : LogView) (generation : ℕ) (items : List (ℕ × Record)) (current : IsCurrentOf node generation b.state.stable a.state.stable items) →
-        IsAttached node a b log → log ≡ built node b a current.gate generation }
+    ensures part_a { (node : Node) (a b : DiskView) (log : LogView) (version generation : ℕ) (items : List (ℕ × Record)) (current : IsCurrentOf node version generation a.state.stable b.state.stable items) →
+        IsAttached node a b log → log ≡ built node version a b current.gate generation }
+    ensures part_b { (node : Node) (a b : DiskView) (log : LogView) (version generation : ℕ) (items : List (ℕ × Record)) (current : IsCurrentOf node version generation b.state.stable a.state.stable items) →
+        IsAttached node a b log → log ≡ built node version b a current.gate generation }
 {}
 
 /// A file is a log of its node, with one gate and one generation, or bad at one place, and not both. Over the two
 /// files of a node a log is attached, or one of them is bad at one place, and not both. At most one of the two is
-/// current, with one list of records; a file without a batch is not.
+/// current, with one version and one list of records; a file without a batch is not.
 pub fn files_are_judged_once()
     ensures log { (node : Node) (bytes : List ℕ) (this that : ℕ) (g h : Option ℕ) → IsLogFile node bytes this g → IsLogFile node bytes that h → (this ≡ that) × (g ≡ h) }
     ensures place { (node : Node) (bytes : List ℕ) (this that : ℕ) → IsBadAt node bytes this → IsBadAt node bytes that → this ≡ that }
     ensures either { (node : Node) (bytes : List ℕ) (gate at : ℕ) (g : Option ℕ) → IsLogFile node bytes gate g → IsBadAt node bytes at → ⊥ }
     ensures pair { (node : Node) (a b : DiskView) (this that : LogFault) → IsBadPair node a b this → IsBadPair node a b that → this ≡ that }
     ensures attached { (node : Node) (a b : DiskView) (log : LogView) (fault : LogFault) → IsAttached node a b log → IsBadPair node a b fault → ⊥ }
-    ensures records { (node : Node) (g h : ℕ) (a b : List ℕ) (items more : List (ℕ × Record)) → IsCurrentOf node g a b items → IsCurrentOf node h a b more → items ≡ more }
-    ensures current { (node : Node) (g h : ℕ) (a b : List ℕ) (items more : List (ℕ × Record)) → IsCurrentOf node g a b items → IsCurrentOf node h b a more → ⊥ }
-    ensures none { (node : Node) (g : ℕ) (a b : List ℕ) (items : List (ℕ × Record)) → IsLogText a [] → IsCurrentOf node g a b items → ⊥ }
+    ensures records { (node : Node) (v w g h : ℕ) (a b : List ℕ) (items more : List (ℕ × Record)) → IsCurrentOf node v g a b items → IsCurrentOf node w h a b more → (v ≡ w) × (items ≡ more) }
+    ensures current { (node : Node) (v w g h : ℕ) (a b : List ℕ) (items more : List (ℕ × Record)) → IsCurrentOf node v g a b items → IsCurrentOf node w h b a more → ⊥ }
+    ensures none { (node : Node) (v g : ℕ) (a b : List ℕ) (items : List (ℕ × Record)) → IsLogText a [] → IsCurrentOf node v g a b items → ⊥ }
 {}
 
 /// The faults of a log write, of closing and of making are those that a call of a node splits.

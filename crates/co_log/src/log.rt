@@ -3,6 +3,7 @@ ghost use Rattle.std.specs.Prelude.{◌≡◌, ◌≤◌, ◌<◌, ◌+◌, ◌+
 ghost use Rattle.co_outside.specs.Home.{File};
 ghost use Rattle.co_disk.specs.DiskModel.{read_of};
 ghost use Rattle.co_record.specs.declared.record.Record.{Record};
+ghost use Rattle.co_record.specs.Format.{newest};
 ghost use Rattle.co_record.specs.Spelling.{IsWritable};
 ghost use Rattle.co_record.specs.Stored.{HasRecords, HasLeft};
 
@@ -26,6 +27,7 @@ use std::marker::Model;
 pub struct Log {
     pub(crate) alloc: Global,
     pub(crate) node: Node,
+    pub(crate) version: u8,
     pub(crate) current: Disk,
     pub(crate) spare: Disk,
     pub(crate) gate: u32,
@@ -42,7 +44,7 @@ impl Model for Log {
 
     ghost Value = { LogView };
 
-    ghost view = { λ l. record { node = l.node; current = l.current; spare = l.spare; gate = l.gate; generation = l.generation; waiting = l.waiting.items; stop = l.stop } };
+    ghost view = { λ l. record { node = l.node; version = l.version; current = l.current; spare = l.spare; gate = l.gate; generation = l.generation; waiting = l.waiting.items; stop = l.stop } };
 
     ghost invariant = { λ l. AllByRecursion IsWritable l.waiting.items × IfSome l.stop (λ s. (1 ≤ s.call) × (s.call ≤ 4)) × IsShort l.current × IsShort l.spare };
 }
@@ -83,6 +85,13 @@ impl Log {
         ensures { result ≡ (self.now.gate == 0) }
     {
         self.gate == 0
+    }
+
+    /// The version of the current file, 1 or 2, and 2 for a fresh log. Takes no memory.
+    pub fn version(&self) -> u8
+        ensures { result ≡ self.now.version }
+    {
+        self.version
     }
 
     /// Lends the records of the current file in order, each with its place in it. Takes no memory.
@@ -129,7 +138,7 @@ impl Log {
     }
 
     /// Appends one batch in one log write: the waiting records in order, and then this one, which is a prepare, a
-    /// commit, an abort or an end. Its four device calls are: write the batch with a closed gate behind it, sync, write the open gate before it, sync.
+    /// commit, an abort or an end. The current file is of version 2, as the records that are written are. The four device calls are: write the batch with a closed gate behind it, sync, write the open gate before it, sync.
     ///
     /// `Full` comes where the file would have more than 268,435,456 bytes, and changes nothing; `Stopped` at
     /// the armed device call; `Device` where the home failed, and only there; `Memory` before or in the first
@@ -137,6 +146,7 @@ impl Log {
     /// one, and both are within 268,435,456 bytes.
     pub fn force<H: Home>(&mut self, home: &mut H, item: Record) -> Result<Marks, LogFault>
         requires held { IsHeld (H.file home.old) (H.reach home.old) self.old }
+        requires newest { self.old.version ≡ newest }
         requires live { (items : List (ℕ × Record)) × IsLive self.old items }
         requires writable { IsWritable item }
         requires kind { IsForcible item }

@@ -2,17 +2,19 @@
 ghost use Rattle.std.specs.Prelude.{◌≡◌, ◌≤◌, ◌<◌, ◌+◌, ◌∷◌, ◌++◌, [], ℕ, List, length, OnOk, IfOk, IfErr, IfSome, IfNone, None, Some};
 ghost use Rattle.co_frame.specs.LogText.{most_log_bytes, IsLogText, IsBrokenAt};
 ghost use Rattle.co_record.specs.declared.record.Record.TheVariants.{Header};
+ghost use Rattle.co_record.specs.Format.{IsVersion};
 ghost use Rattle.co_record.specs.Lent.{record_of};
-ghost use Rattle.co_log.specs.Scanning.{IsFound, IsReadTo, IsUnreadable, IsLogFile, IsBadAt};
+ghost use Rattle.co_log.specs.Scanning.{IsFound, IsReadTo, IsUnreadable, IsLogFileIn, IsBadAt};
 
 use co_base::Node;
 use co_frame::{Batches, FrameFault};
-use co_record::{RecordView, read_record};
+use co_record::{RecordView, read_record, text_version};
 
-/// A file as it was read: the place of its first gate that is not open, and its generation, where it has
+/// A file as it was read: its version, the place of its first gate that is not open, and its generation, where it has
 /// a batch.
 #[derive(Clone, Copy)]
 pub(crate) struct Found {
+    pub(crate) version: u8,
     pub(crate) gate: u32,
     pub(crate) generation: Option<u32>,
 }
@@ -34,18 +36,25 @@ fn found_with(node: Node, found: Option<u32>, view: &RecordView<'_>) -> Option<u
     }
 }
 
-/// Reads the records of a batch at a place, and gives the generation of the file. A fault is the place of
+/// Reads the records of a batch at a place in a version, and gives the generation of the file. A fault is the place of
 /// the first thing that is no record, or of a first record that is no header of the node.
-fn read_batch(node: Node, at: u32, batch: &[u8], before: Option<u32>) -> Result<Option<u32>, u32>
-    requires { at + length batch.now ≤ most_log_bytes }
-    ensures read { IfOk result (λ found. IsReadTo node at batch.now before [] (at + length batch.now) found) }
-    ensures bad { IfErr result (λ place. IsUnreadable node at batch.now before place) }
+fn read_batch(
+    version: u8,
+    node: Node,
+    at: u32,
+    batch: &[u8],
+    before: Option<u32>,
+) -> Result<Option<u32>, u32>
+    requires version { IsVersion version }
+    requires most { at + length batch.now ≤ most_log_bytes }
+    ensures read { IfOk result (λ found. IsReadTo version node at batch.now before [] (at + length batch.now) found) }
+    ensures bad { IfErr result (λ place. IsUnreadable version node at batch.now before place) }
 {
     let mut rest = batch;
     let mut place = at;
     let mut found = before;
     while rest.len() > 0 {
-        match read_record(rest) {
+        match read_record(rest, version) {
             Ok((view, length)) => match found_with(node, found, &view) {
                 Some(generation) => {
                     found = Some(generation);
@@ -81,22 +90,24 @@ fn check_text(bytes: &[u8]) -> Result<(), u32>
 /// is not whole, or else the first thing that is no record or no header of the node in front of all others.
 pub(crate) fn scan(node: Node, bytes: &[u8]) -> Result<Found, u32>
     requires { length bytes.now ≤ most_log_bytes }
-    ensures found { IfOk result (λ f. IsLogFile node bytes.now f.gate f.generation) }
+    ensures found { IfOk result (λ f. IsLogFileIn f.version node bytes.now f.gate f.generation) }
     ensures bad { IfErr result (IsBadAt node bytes.now) }
 {
     check_text(bytes)?;
+    let version = text_version(bytes);
     let mut batches = Batches::new(bytes);
     let mut generation = None;
     for _turn in 0..=bytes.len() {
         match batches.next() {
             None => {
                 return Ok(Found {
+                    version,
                     gate: batches.gate(),
                     generation,
                 });
             }
             Some(Ok(batch)) => {
-                match read_batch(node, batch.at, batch.records, generation) {
+                match read_batch(version, node, batch.at, batch.records, generation) {
                     Ok(found) => generation = found,
                     Err(place) => return Err(place),
                 }

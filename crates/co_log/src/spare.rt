@@ -14,7 +14,7 @@ use crate::log::Log;
 use crate::marks::{marks_if, one_mark};
 use co_base::{Mark, MarkKind};
 use co_outside::Home;
-use co_record::Record;
+use co_record::{NEWEST_VERSION, Record};
 
 impl Log {
     ghost use Rattle.co_disk.specs.Homes.{IsClean, RestStays, HasFailed};
@@ -28,7 +28,7 @@ impl Log {
 
     /// Makes the spare file the current one: writes a header of the next generation and these records there
     /// as one batch, in one log write. The file that was current is the spare then, and the waiting records
-    /// are dropped.
+    /// are dropped. The filled file is of version 2, whatever the old one was.
     ///
     /// Whatever the answer is, the old file is current with its records, or the filled one with the new ones:
     /// after Ok the filled one, and after a stop exactly where the image has its gate open.
@@ -107,11 +107,12 @@ impl Log {
         }
     }
 
-    /// Makes the spare file the current one, and the current one the spare.
+    /// Makes the spare file, which was filled in version 2, the current one, and the current one the spare.
     fn turn(&mut self, gate: u32, generation: u32)
         ensures { self.new ≡ turned self.old gate generation }
     {
         std::mem::swap(&mut self.current, &mut self.spare);
+        self.version = NEWEST_VERSION;
         self.gate = gate;
         self.generation = generation;
     }

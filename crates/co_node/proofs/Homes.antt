@@ -41,9 +41,9 @@ flipped node x y (inl own) = inr (own.1, own.0)
 flipped node x y (inr own) = inl (own.1, own.0)
 
 -- a node of whose told files the one is current has its records
-pub current_records : (file : Spot → Option File) (node : Node) (x y : Spot) (c s : File) (generation : ℕ) (items : Items) → ArePartsOf node x y → IsWithin most_log_bytes (file x) → IsWithin most_log_bytes (file y)
-    → file x ≡ Some c → file y ≡ Some s → IsCurrentOf node generation c.bytes s.bytes items → HasRecordsIn file node items
-current_records file node x y c s generation items parts within_x within_y is_c is_s current = elim parts [
+pub current_records : (file : Spot → Option File) (node : Node) (x y : Spot) (c s : File) (version generation : ℕ) (items : Items) → ArePartsOf node x y → IsWithin most_log_bytes (file x) → IsWithin most_log_bytes (file y)
+    → file x ≡ Some c → file y ≡ Some s → IsCurrentOf node version generation c.bytes s.bytes items → HasRecordsIn file node items
+current_records file node x y c s version generation items parts within_x within_y is_c is_s current = elim parts [
   | inl own ↦ (
     0,
     record {
@@ -53,7 +53,7 @@ current_records file node x y c s generation items parts within_x within_y is_c 
       told_b = λ f is. same_file (ap file (sym own.1) ∙ is_s) is;
       within_a = subst (λ (t : Spot). IsWithin most_log_bytes (file t)) own.0 within_x;
       within_b = subst (λ (t : Spot). IsWithin most_log_bytes (file t)) own.1 within_y;
-      current = inr (inl (refl, (generation, current)));
+      current = inr (inl (refl, (version, (generation, current))));
     },
   )
   | inr own ↦ (
@@ -65,7 +65,7 @@ current_records file node x y c s generation items parts within_x within_y is_c 
       told_b = λ f is. same_file (ap file (sym own.0) ∙ is_c) is;
       within_a = subst (λ (t : Spot). IsWithin most_log_bytes (file t)) own.1 within_y;
       within_b = subst (λ (t : Spot). IsWithin most_log_bytes (file t)) own.0 within_x;
-      current = inr (inr (refl, (generation, current)));
+      current = inr (inr (refl, (version, (generation, current))));
     },
   )
 ]
@@ -82,14 +82,14 @@ told_of file log (inl own) told = record { current = told.a; spare = told.b; is_
 told_of file log (inr own) told = record { current = told.b; spare = told.a; is_current = ap file own.0 ∙ told.is_b; is_spare = ap file own.1 ∙ told.is_a }
 
 -- the old file of the log is current with these records
-pub old_records : (file : Spot → Option File) (log : LogView) (generation : ℕ) (items : Items) → HasSpots log → BothWithin file log → (told : AreToldOf file log) → IsCurrentOf log.node generation told.current.bytes told.spare.bytes items → HasRecordsIn file log.node items
-old_records file log generation items spots within told current =
-    current_records file log.node log.current.spot log.spare.spot told.current told.spare generation items spots within.0 within.1 told.is_current told.is_spare current
+pub old_records : (file : Spot → Option File) (log : LogView) (version generation : ℕ) (items : Items) → HasSpots log → BothWithin file log → (told : AreToldOf file log) → IsCurrentOf log.node version generation told.current.bytes told.spare.bytes items → HasRecordsIn file log.node items
+old_records file log version generation items spots within told current =
+    current_records file log.node log.current.spot log.spare.spot told.current told.spare version generation items spots within.0 within.1 told.is_current told.is_spare current
 
 -- and the spare is
-pub new_records : (file : Spot → Option File) (log : LogView) (generation : ℕ) (items : Items) → HasSpots log → BothWithin file log → (told : AreToldOf file log) → IsCurrentOf log.node generation told.spare.bytes told.current.bytes items → HasRecordsIn file log.node items
-new_records file log generation items spots within told current =
-    current_records file log.node log.spare.spot log.current.spot told.spare told.current generation items (flipped log.node log.current.spot log.spare.spot spots) within.1 within.0 told.is_spare told.is_current current
+pub new_records : (file : Spot → Option File) (log : LogView) (version generation : ℕ) (items : Items) → HasSpots log → BothWithin file log → (told : AreToldOf file log) → IsCurrentOf log.node version generation told.spare.bytes told.current.bytes items → HasRecordsIn file log.node items
+new_records file log version generation items spots within told current =
+    current_records file log.node log.spare.spot log.current.spot told.spare told.current version generation items (flipped log.node log.current.spot log.spare.spot spots) within.1 within.0 told.is_spare told.is_current current
 
 -- both files of a log, by the parts of its node
 pub both_within : (file : Spot → Option File) (log : LogView) → HasSpots log → AreWithin file log.node → BothWithin file log

@@ -10,6 +10,7 @@ use Rattle.co_disk.specs.Homes.{Agrees}
 use Rattle.co_outside.specs.Home.{File}
 use Rattle.co_outside.specs.declared.spot.Spot.{Spot}
 use Rattle.co_frame.specs.LogText.{most_log_bytes}
+use Rattle.co_record.specs.Format.{newest}
 use Rattle.co_record.specs.Gate.{begins_closed}
 use Rattle.co_record.specs.declared.record.Record.{Record}
 use Rattle.co_log.specs.Attaching.{IsAttached, IsWithin}
@@ -39,9 +40,9 @@ has_some owner generation (x ∷ items) begins none = empty (sym (reverse-revers
     empty : {r : Record} {rs : List Record} → r ∷ rs ≡ [] → ⊥
     empty e = absurd cc
 
-pub attached_stands : (owner : Node) (a b : DiskView) (log : LogView) → IsValidNode owner → a.state.pending ≡ [] → b.state.pending ≡ [] → IsAttached owner a b log
+pub attached_stands : (owner : Node) (a b : DiskView) (log : LogView) → IsValidNode owner → a.state.pending ≡ [] → b.state.pending ≡ [] → IsAttached owner a b log → log.version ≡ newest
     → IsFresh log ⊎ ((items : Items) × LogStands owner log (opened_log owner (record { records = newest_first items; spare_closed = begins_closed log.spare.state.stable })))
-attached_stands owner a b log valid still_a still_b attached =
+attached_stands owner a b log valid still_a still_b attached latest =
     let unarmed = attached_unarmed owner a b log attached in
     elim (attached_ordered owner a b log valid still_a still_b attached) [
       | inl none ↦ inl none.0
@@ -49,6 +50,7 @@ attached_stands owner a b log valid still_a still_b attached =
         some.0,
         record {
           owned = unarmed.0;
+          latest = latest;
           items = some.0;
           ordered = some.1;
           stable = made_none owner (newest_first some.0) (has_some log.node log.generation some.0 some.1.header);
@@ -66,6 +68,7 @@ made_stands owner a b log after valid attached none m =
     let unarmed = attached_unarmed owner a b log attached in
     record {
       owned = m.node ∙ unarmed.0;
+      latest = m.version;
       items = header_alone log.node;
       ordered = made_ordered log after none (subst IsValidNode (sym unarmed.0) valid) m;
       stable = ap (λ (n : Node). newest_first (header_alone n)) (sym unarmed.0);
@@ -82,7 +85,7 @@ told_records owner file reach log l s held within told =
     let own = subst (AreWithin file) (sym s.owned) within in
     let files = told_of file log held.spots (subst (AreTold file) (sym s.owned) told) in
     let is = held_current file reach log s.items files.current files.spare held s.ordered files.is_current files.is_spare in
-    let here = old_records file log log.generation s.items held.spots (both_within file log held.spots own) files is in
+    let here = old_records file log log.version log.generation s.items held.spots (both_within file log held.spots own) files is in
     (s.items, subst (λ (n : Node). HasRecordsIn file n s.items) s.owned here, sym s.stable)
 
 -- a told file is as long as what its disk gives

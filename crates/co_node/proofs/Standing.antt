@@ -7,7 +7,7 @@ use Rattle.co_disk.specs.DiskView.{DiskView}
 use Rattle.co_record.specs.declared.record.Record.{Record}
 use Rattle.co_record.specs.declared.record.Record.TheVariants.{Header}
 use Rattle.co_record.specs.Gate.{begins_closed}
-use Rattle.co_record.specs.Spelling.{IsSpelled}
+use Rattle.co_record.specs.Spelling.{IsSpelledIn}
 use Rattle.co_record.specs.Stored.{HoldRecords}
 use Rattle.co_log.specs.Current.{BeginsWith}
 use Rattle.co_log.specs.Forcing.{IsWritten}
@@ -44,6 +44,7 @@ written_stands true owner log after l item s w =
     let more = log.waiting ++ item ∷ [] in
     record {
       owned = w.node ∙ s.owned;
+      latest = w.version ∙ s.latest;
       items = next_items true log.gate s.items more;
       ordered = written_ordered true log after s.items more s.ordered w;
       stable = sym (next_newest owner log l item s);
@@ -55,6 +56,7 @@ written_stands true owner log after l item s w =
 written_stands false owner log after l item s w =
     record {
       owned = w.node ∙ s.owned;
+      latest = w.version ∙ s.latest;
       items = s.items;
       ordered = written_ordered false log after s.items (log.waiting ++ item ∷ []) s.ordered w;
       stable = s.stable;
@@ -70,6 +72,7 @@ pub closed_stands : (closed : Bool) (owner : Node) (log after : LogView) (l : Lo
 closed_stands closed owner log after l kept s c waiting =
     record {
       owned = c.node ∙ s.owned;
+      latest = c.version ∙ s.latest;
       items = s.items;
       ordered = closed_ordered closed log after s.items s.ordered c;
       stable = s.stable;
@@ -82,10 +85,10 @@ closed_stands closed owner log after l kept s c waiting =
 -- ---- generations
 
 -- the first of the records that a log text holds is one that is spelled
-first_spelled : (gate : ℕ) (batches : List (List ℕ)) (x : ℕ × Record) (items : Items) → HoldRecords gate batches (x ∷ items) → IsSpelled x.1
-first_spelled gate [] x items none = absurd cc
-first_spelled gate (batch ∷ batches) x items ([], back, both, here, behind) = first_spelled (gate + 5 + length batch) batches x items (subst (HoldRecords (gate + 5 + length batch) batches) (sym both) behind)
-first_spelled gate (batch ∷ batches) x items (y ∷ front, back, both, here, behind) = subst (λ (z : ℕ × Record). IsSpelled z.1) (sym (same both)) here.1
+first_spelled : (version gate : ℕ) (batches : List (List ℕ)) (x : ℕ × Record) (items : Items) → HoldRecords version gate batches (x ∷ items) → IsSpelledIn version x.1
+first_spelled version gate [] x items none = absurd cc
+first_spelled version gate (batch ∷ batches) x items ([], back, both, here, behind) = first_spelled version (gate + 5 + length batch) batches x items (subst (HoldRecords version (gate + 5 + length batch) batches) (sym both) behind)
+first_spelled version gate (batch ∷ batches) x items (y ∷ front, back, both, here, behind) = subst (λ (z : ℕ × Record). IsSpelledIn version z.1) (sym (same both)) here.1
   where
     same : {xs ys : Items} {a b : ℕ × Record} → a ∷ xs ≡ b ∷ ys → a ≡ b
     same e = cc
@@ -101,14 +104,14 @@ generation_is owner log l s =
     let whole = ap (λ (xs : List Record). generation_in (slice_get xs 0)) (reverse-reverse (records_of s.items)) in
     back ∙ whole ∙ first_generation log.node log.generation s.items s.ordered.header
 
-generation_within : (owner : Node) (generation gate : ℕ) (batches : List (List ℕ)) (items : Items) → BeginsWith owner generation items → HoldRecords gate batches items → generation < 4294967296
-generation_within owner generation gate batches [] begins holds = absurd begins
-generation_within owner generation gate batches (x ∷ items) begins holds = (subst (λ (y : ℕ × Record). IsSpelled y.1) begins (first_spelled gate batches x items holds)).1
+generation_within : (owner : Node) (version generation gate : ℕ) (batches : List (List ℕ)) (items : Items) → BeginsWith owner generation items → HoldRecords version gate batches items → generation < 4294967296
+generation_within owner version generation gate batches [] begins holds = absurd begins
+generation_within owner version generation gate batches (x ∷ items) begins holds = (subst (λ (y : ℕ × Record). IsSpelledIn version y.1) begins (first_spelled version gate batches x items holds)).1
 
 -- the next generation does not stand still where there is one
 pub next_is : (owner : Node) (log : LogView) (l : LogState) → LogStands owner log l → (log.generation ≡ 4294967295 → ⊥) → next_generation (generation_of l.stable) ≡ log.generation + 1
 next_is owner log l s below =
-    let bound = generation_within log.node log.generation 0 s.ordered.live.ends.batches s.items s.ordered.header s.ordered.live.ends.holds in
+    let bound = generation_within log.node log.version log.generation 0 s.ordered.live.ends.batches s.items s.ordered.header s.ordered.live.ends.holds in
     ap next_generation (generation_is owner log l s) ∙ omega (arith, bound, below)
 
 -- ---- filling
@@ -129,6 +132,7 @@ pub filled_stands : (stable : Bool) (owner : Node) (log after : LogView) (l : Lo
 filled_stands true owner log after l records s next f closed =
     record {
       owned = f.node ∙ s.owned;
+      latest = f.version;
       items = placed_from 5 (filling log records);
       ordered = filled_ordered log after s.items records s.ordered f;
       stable = sym (filled_newest owner log l records s next);
@@ -140,6 +144,7 @@ filled_stands true owner log after l records s next f closed =
 filled_stands false owner log after l records s next u closed =
     record {
       owned = u.node ∙ s.owned;
+      latest = u.version ∙ s.latest;
       items = s.items;
       ordered = unfilled_ordered log after s.items s.ordered u;
       stable = s.stable;
@@ -152,14 +157,15 @@ filled_stands false owner log after l records s next u closed =
 -- ---- no log write
 
 -- a log that keeps its files, with what waits and the armed stop changed as the plain log has them changed
-pub same_stands : (owner : Node) (log after : LogView) (l m : LogState) → LogStands owner log l → after.node ≡ log.node → after.current ≡ log.current → after.spare ≡ log.spare → after.gate ≡ log.gate → after.generation ≡ log.generation
+pub same_stands : (owner : Node) (log after : LogView) (l m : LogState) → LogStands owner log l → after.node ≡ log.node → after.version ≡ log.version → after.current ≡ log.current → after.spare ≡ log.spare → after.gate ≡ log.gate → after.generation ≡ log.generation
     → m.stable ≡ l.stable → m.spare_closed ≡ l.spare_closed → m.waiting ≡ reverse after.waiting → m.armed ≡ option_map plain_stop after.stop
     → IfSome after.stop (λ stop. stop.call ≤ 4) → LogStands owner after m
-same_stands owner log after l m s node current spare gate generation stable closed waiting armed bound =
+same_stands owner log after l m s node version current spare gate generation stable closed waiting armed bound =
     record {
       owned = node ∙ s.owned;
+      latest = version ∙ s.latest;
       items = s.items;
-      ordered = ordered_same log after s.items node current spare gate generation s.ordered;
+      ordered = ordered_same log after s.items node version current spare gate generation s.ordered;
       stable = stable ∙ s.stable;
       waiting = waiting;
       armed = armed;

@@ -1,6 +1,7 @@
 -- For which plain log the log of a node stands.
 use Rattle.std.specs.Prelude.{◌≡◌, ◌≤◌, reverse, option_map, IfSome}
 use Rattle.co_base.specs.declared.node.Node.{Node}
+use Rattle.co_record.specs.Format.{newest}
 use Rattle.co_record.specs.Gate.{begins_closed}
 use Rattle.co_log.specs.Current.{IsOrdered}
 use Rattle.co_log.specs.LogView.{LogView}
@@ -12,10 +13,11 @@ use Rattle.co_plain.specs.declared.log_state.Stop.{Stop}
 abbrev pub plain_stop : LogStop → Stop
 plain_stop stop = record { call = stop.call; leaves = stop.leaves }
 
--- The log is that of this node, its files are in order, and the plain log has the same records, newest first: those of
+-- The log is that of this node, of the version that is written, its files are in order, and the plain log has the same records, newest first: those of
 -- the current file and those that wait, the same armed stop, in one of four device calls, and whether the spare file is closed.
 pub record LogStands (owner : Node) (log : LogView) (l : LogState) : Type 0 where
   pub owned : log.node ≡ owner
+  pub latest : log.version ≡ newest
   pub items : Items
   pub ordered : IsOrdered log items
   pub stable : l.stable ≡ newest_first items

@@ -5,6 +5,7 @@ ghost use Rattle.co_base.specs.declared.node.Node.{Node};
 ghost use Rattle.co_disk.specs.DiskView.{DiskView};
 ghost use Rattle.co_outside.specs.Home.{File};
 ghost use Rattle.co_outside.specs.declared.spot.Spot.{Spot};
+ghost use Rattle.co_record.specs.Format.{newest};
 ghost use Rattle.co_record.specs.Gate.{begins_closed};
 ghost use Rattle.co_log.specs.Attaching.{IsAttached};
 ghost use Rattle.co_log.specs.Fresh.{IsFresh, IsMade};
@@ -15,10 +16,10 @@ ghost use Rattle.co_plain.specs.declared.log_state.LogState.{LogState};
 ghost use Rattle.co_node.specs.Answers.{AreTold, AreWithin};
 ghost use Rattle.co_node.specs.NodeLog.{LogStands};
 
-/// A log that was attached is fresh, or stands for the plain log that is opened over the records that were found; and a fresh one stands, once it
+/// A log of version 2 that was attached is fresh, or stands for the plain log that is opened over the records that were found; and a fresh one stands, once it
 /// was made, for the plain log that is opened over none.
 pub fn opened_logs_stand()
-    ensures attached { (owner : Node) (a b : DiskView) (log : LogView) → IsValidNode owner → a.state.pending ≡ [] → b.state.pending ≡ [] → IsAttached owner a b log →
+    ensures attached { (owner : Node) (a b : DiskView) (log : LogView) → IsValidNode owner → a.state.pending ≡ [] → b.state.pending ≡ [] → IsAttached owner a b log → log.version ≡ newest →
         IsFresh log ⊎ ((items : Items) × LogStands owner log (opened_log owner (record { records = newest_first items; spare_closed = begins_closed log.spare.state.stable }))) }
     ensures made { (owner : Node) (a b : DiskView) (log after : LogView) → IsValidNode owner → IsAttached owner a b log → IsFresh log → IsMade log after →
         LogStands owner after (opened_log owner (record { records = []; spare_closed = begins_closed log.spare.state.stable })) }

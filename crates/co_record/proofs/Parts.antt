@@ -1,5 +1,5 @@
 -- Keys, values and elements: read as they are spelled, and spelled as they are read.
-use Rattle.std.proofs.Common.{◌≡◌, ◌≢◌, ℕ, zero, suc, ◌+◌, ◌-◌, ◌^◌, ◌<◌, ◌≤◌, Bool, true, false, cond, List, [], ◌∷◌, ◌++◌, length, map, Option, Some, None, Result, Ok, Err, refl, sym, ap, subst, ◌∙◌, append_assoc, arith, inl, inr, ◌⊎◌}
+use Rattle.std.proofs.Common.{◌≡◌, ◌≢◌, ℕ, zero, suc, ◌+◌, ◌-◌, ◌^◌, ◌<◌, ◌≤◌, Bool, true, false, cond, eqb, List, [], ◌∷◌, ◌++◌, length, map, Option, Some, None, Result, Ok, Err, refl, sym, ap, subst, ◌∙◌, append_assoc, arith, inl, inr, ◌⊎◌}
 use Rattle.std.specs.Prelude.{IfSome, ◌||◌, not}
 use Rattle.std.specs.List.{flat_map, AllByRecursion}
 use Rattle.std.specs.List.Sorted.{IsStrictlySortedBy}
@@ -24,8 +24,8 @@ use Rattle.co_base.specs.declared.row.Row.{Row}
 use Rattle.co_base.specs.declared.written.Written.{Written}
 use Rattle.co_record.specs.declared.miss.Miss.{Miss}
 use Rattle.co_record.specs.declared.miss.Miss.TheVariants.{Outside}
-use Rattle.co_record.specs.Format.{most_key, most_value, most_operations, most_members}
-use Rattle.co_record.specs.Spelling.{key_text, value_text, held_text, change_text, range_text, row_text, txn_text, listed, IsKey, IsValue, IsRange, IsRow, IsChange, IsTxn, IsMember, AreInKeyOrder}
+use Rattle.co_record.specs.Format.{oldest, most_key, most_value, most_operations, most_members}
+use Rattle.co_record.specs.Spelling.{key_text, value_text, held_text, change_text, range_text, row_text, txn_text, listed, IsKey, IsValueIn, IsRange, IsRowIn, IsChangeIn, IsTxn, IsMember, AreInKeyOrder}
 use Rattle.co_record.specs.Reading.{◌>>=◌, Reader, then_at, where_at, counted_at, byte_at, number_at, within, byte_within, number_within, letters_at, key_at, value_at, bounds_at, entry_at, span_of, row_of, written_of, range_at, row_at, held_at, change_at, member_at, txn_at, follows, items_at, row_cmp, change_cmp, ranges_at, writes_at, members_at, rows_at, undos_at, txns_at, is_node_byte, node_of, node_at}
 use Rattle.co_record.proofs.Codec.{IsBytes, IsBytes-rest, IsCodec, Takes, Takes-then, bind_ok, ok_is, one_byte, as_takes, as_again, codec-then, codec-as, codec-where, codec-fits, codec-counted, codec-byte, codec-byte_within, codec-number, codec-number_within, codec-letters, codec-items, wide16, wide32, within_is, is_within, Ascends}
 
@@ -35,11 +35,19 @@ codec-key = codec-fits key_at (λ xs. one_byte (length xs) ++ xs) key_text (λ x
     (λ xs. refl) (λ xs h. (h.0, All-from_recursion IsLetter xs h.1)) (λ xs h. (h.0, recursion_from_All IsLetter xs h.1))
     (codec-counted (byte_within 1 most_key) letters_at one_byte (λ xs. xs) (λ n. (1 ≤ n) × (n ≤ 32)) (AllByRecursion IsLetter) (codec-byte_within 1 most_key (omega arith)) codec-letters)
 
-pub codec-value : IsCodec value_at value_text IsValue
+small_value : (version : ℕ) → most_value version < 2 ^ 16
+small_value version = by_test (eqb version oldest)
+  where
+    by_test : (t : Bool) → cond t 256 4096 < 2 ^ 16
+    by_test true = omega arith
+    by_test false = omega arith
+
+pub codec-value : (version : ℕ) → IsCodec (value_at version) value_text (IsValueIn version)
 unfolding value_at
-codec-value = codec-fits value_at value_text value_text (λ xs. ((1 ≤ length xs) × (length xs ≤ 256)) × AllByRecursion IsLetter xs) IsValue
+codec-value version = codec-fits (value_at version) value_text value_text (λ xs. ((1 ≤ length xs) × (length xs ≤ most_value version)) × AllByRecursion IsLetter xs) (IsValueIn version)
     (λ xs. refl) (λ xs h. (h.0, All-from_recursion IsLetter xs h.1)) (λ xs h. (h.0, recursion_from_All IsLetter xs h.1))
-    (codec-counted (number_within w16 1 most_value) letters_at (to_be_bytes w16) (λ xs. xs) (λ n. (1 ≤ n) × (n ≤ 256)) (AllByRecursion IsLetter) (codec-number_within w16 (2 ^ 16) 1 most_value wide16 (omega arith)) codec-letters)
+    (codec-counted (number_within w16 1 (most_value version)) letters_at (to_be_bytes w16) (λ xs. xs) (λ n. (1 ≤ n) × (n ≤ most_value version)) (AllByRecursion IsLetter)
+    (codec-number_within w16 (2 ^ 16) 1 (most_value version) wide16 (small_value version)) codec-letters)
 
 -- ---- elements
 
@@ -82,39 +90,39 @@ codec-bounds = record {
 pub codec-range : IsCodec range_at range_text IsRange
 codec-range = codec-as span_of pair_of_span bounds_at (λ p. key_text p.0 ++ key_text p.1) IsBounds (λ p h. refl) (λ s h. refl) codec-bounds
 
-codec-entry : IsCodec entry_at (λ p. key_text p.0 ++ value_text p.1) (λ p. IsKey p.0 × IsValue p.1)
+codec-entry : (version : ℕ) → IsCodec (entry_at version) (λ p. key_text p.0 ++ value_text p.1) (λ p. IsKey p.0 × IsValueIn version p.1)
 unfolding entry_at
-codec-entry = codec-then key_at value_at key_text value_text IsKey IsValue codec-key codec-value
+codec-entry version = codec-then key_at (value_at version) key_text value_text IsKey (IsValueIn version) codec-key (codec-value version)
 
-pub codec-row : IsCodec row_at row_text IsRow
-codec-row = codec-as row_of pair_of_row entry_at (λ p. key_text p.0 ++ value_text p.1) (λ p. IsKey p.0 × IsValue p.1) (λ p h. refl) (λ r h. refl) codec-entry
+pub codec-row : (version : ℕ) → IsCodec (row_at version) row_text (IsRowIn version)
+codec-row version = codec-as row_of pair_of_row (entry_at version) (λ p. key_text p.0 ++ value_text p.1) (λ p. IsKey p.0 × IsValueIn version p.1) (λ p h. refl) (λ r h. refl) (codec-entry version)
 
-held_takes : (bytes : List ℕ) (o : Option (List ℕ)) (rest : List ℕ) → IsBytes bytes → held_at bytes ≡ Ok (o, rest) → Takes bytes (held_text o) rest × IfSome o IsValue
+held_takes : (version : ℕ) (bytes : List ℕ) (o : Option (List ℕ)) (rest : List ℕ) → IsBytes bytes → held_at version bytes ≡ Ok (o, rest) → Takes bytes (held_text o) rest × IfSome o (IsValueIn version)
 unfolding held_at
-held_takes [] o rest fits e = absurd cc
-held_takes (zero ∷ bytes) o rest fits e =
-    subst (λ (x : Option (List ℕ) × List ℕ). Takes (0 ∷ bytes) (held_text x.0) x.1 × IfSome x.0 IsValue) (ok_is (None, bytes) (o, rest) e) (record { parts = refl; rest_fits = IsBytes-rest 0 bytes fits }, tt)
-held_takes (suc zero ∷ bytes) o rest fits e =
-    let t = as_takes Some value_at value_text IsValue codec-value bytes o rest (IsBytes-rest 1 bytes fits) e in
-    subst (λ (x : Option (List ℕ)). Takes (1 ∷ bytes) (held_text x) rest × IfSome x IsValue) t.1
+held_takes version [] o rest fits e = absurd cc
+held_takes version (zero ∷ bytes) o rest fits e =
+    subst (λ (x : Option (List ℕ) × List ℕ). Takes (0 ∷ bytes) (held_text x.0) x.1 × IfSome x.0 (IsValueIn version)) (ok_is (None, bytes) (o, rest) e) (record { parts = refl; rest_fits = IsBytes-rest 0 bytes fits }, tt)
+held_takes version (suc zero ∷ bytes) o rest fits e =
+    let t = as_takes Some (value_at version) value_text (IsValueIn version) (codec-value version) bytes o rest (IsBytes-rest 1 bytes fits) e in
+    subst (λ (x : Option (List ℕ)). Takes (1 ∷ bytes) (held_text x) rest × IfSome x (IsValueIn version)) t.1
     (record { parts = ap (λ (w : List ℕ). 1 ∷ w) t.2.parts; rest_fits = t.2.rest_fits }, t.3)
-held_takes (suc (suc b) ∷ bytes) o rest fits e = absurd cc
+held_takes version (suc (suc b) ∷ bytes) o rest fits e = absurd cc
 
-held_again : (o : Option (List ℕ)) (rest : List ℕ) → IfSome o IsValue → held_at (held_text o ++ rest) ≡ Ok (o, rest)
+held_again : (version : ℕ) (o : Option (List ℕ)) (rest : List ℕ) → IfSome o (IsValueIn version) → held_at version (held_text o ++ rest) ≡ Ok (o, rest)
 unfolding held_at
-held_again None rest h = refl
-held_again (Some v) rest h = as_again Some value_at value_text IsValue codec-value v rest h
+held_again version None rest h = refl
+held_again version (Some v) rest h = as_again Some (value_at version) value_text (IsValueIn version) (codec-value version) v rest h
 
-codec-held : IsCodec held_at held_text (λ o. IfSome o IsValue)
-codec-held = record { takes = held_takes; again = held_again }
+codec-held : (version : ℕ) → IsCodec (held_at version) held_text (λ o. IfSome o (IsValueIn version))
+codec-held version = record { takes = held_takes version; again = held_again version }
 
 abbrev pub pair_of_change : Written → List ℕ × Option (List ℕ)
 pair_of_change w = (w.key, w.value)
 
-pub codec-change : IsCodec change_at change_text IsChange
+pub codec-change : (version : ℕ) → IsCodec (change_at version) change_text (IsChangeIn version)
 unfolding change_at
-codec-change = codec-as written_of pair_of_change (then_at key_at held_at) (λ p. key_text p.0 ++ held_text p.1) (λ p. IsKey p.0 × IfSome p.1 IsValue) (λ p h. refl) (λ w h. refl)
-    (codec-then key_at held_at key_text held_text IsKey (λ o. IfSome o IsValue) codec-key codec-held)
+codec-change version = codec-as written_of pair_of_change (then_at key_at (held_at version)) (λ p. key_text p.0 ++ held_text p.1) (λ p. IsKey p.0 × IfSome p.1 (IsValueIn version)) (λ p h. refl) (λ w h. refl)
+    (codec-then key_at (held_at version) key_text held_text IsKey (λ o. IfSome o (IsValueIn version)) codec-key (codec-held version))
 
 pub codec-txn : IsCodec txn_at txn_text IsTxn
 codec-txn = codec-number w32 (2 ^ 32) wide32
@@ -186,17 +194,17 @@ in_order xs up = sorted (λ w. w.key) key_cmp nat_list_cmp_total None xs up
 order_in : (xs : List Written) → AreInKeyOrder xs → Ascends change_cmp None xs
 order_in xs up = ascends (λ w. w.key) key_cmp nat_list_cmp_total xs up
 
-pub codec-writes : IsCodec writes_at (listed w16 change_text) (λ xs. IsUpTo most_operations (length xs) × (AllByRecursion IsChange xs × AreInKeyOrder xs))
+pub codec-writes : (version : ℕ) → IsCodec (writes_at version) (listed w16 change_text) (λ xs. IsUpTo most_operations (length xs) × (AllByRecursion (IsChangeIn version) xs × AreInKeyOrder xs))
 unfolding writes_at
-codec-writes = codec-list (number_within w16 0 most_operations) (to_be_bytes w16) (IsUpTo most_operations) (counts16 most_operations (omega arith)) change_at change_cmp change_text IsChange codec-change AreInKeyOrder in_order order_in
+codec-writes version = codec-list (number_within w16 0 most_operations) (to_be_bytes w16) (IsUpTo most_operations) (counts16 most_operations (omega arith)) (change_at version) change_cmp change_text (IsChangeIn version) (codec-change version) AreInKeyOrder in_order order_in
 
-pub codec-undos : IsCodec undos_at (listed w32 change_text) (λ xs. (length xs < 2 ^ 32) × (AllByRecursion IsChange xs × AreInKeyOrder xs))
+pub codec-undos : (version : ℕ) → IsCodec (undos_at version) (listed w32 change_text) (λ xs. (length xs < 2 ^ 32) × (AllByRecursion (IsChangeIn version) xs × AreInKeyOrder xs))
 unfolding undos_at
-codec-undos = codec-list (number_at w32) (to_be_bytes w32) (λ n. n < 2 ^ 32) counts32 change_at change_cmp change_text IsChange codec-change AreInKeyOrder in_order order_in
+codec-undos version = codec-list (number_at w32) (to_be_bytes w32) (λ n. n < 2 ^ 32) counts32 (change_at version) change_cmp change_text (IsChangeIn version) (codec-change version) AreInKeyOrder in_order order_in
 
-pub codec-rows : IsCodec rows_at (listed w32 row_text) (λ xs. (length xs < 2 ^ 32) × (AllByRecursion IsRow xs × IsInKeyOrder xs))
+pub codec-rows : (version : ℕ) → IsCodec (rows_at version) (listed w32 row_text) (λ xs. (length xs < 2 ^ 32) × (AllByRecursion (IsRowIn version) xs × IsInKeyOrder xs))
 unfolding rows_at
-codec-rows = codec-list (number_at w32) (to_be_bytes w32) (λ n. n < 2 ^ 32) counts32 row_at row_cmp row_text IsRow codec-row IsInKeyOrder
+codec-rows version = codec-list (number_at w32) (to_be_bytes w32) (λ n. n < 2 ^ 32) counts32 (row_at version) row_cmp row_text (IsRowIn version) (codec-row version) IsInKeyOrder
     (λ xs up. sorted (λ r. r.key) key_cmp nat_list_cmp_total None xs up) (λ xs up. ascends (λ r. r.key) key_cmp nat_list_cmp_total xs up)
 
 pub codec-txns : IsCodec txns_at (listed w32 txn_text) (λ xs. (length xs < 2 ^ 32) × (AllByRecursion IsTxn xs × IsAscending xs))

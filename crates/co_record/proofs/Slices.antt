@@ -98,16 +98,16 @@ checkpoint_stands source more rows undos s =
     let changes = right_in source (5 + many) (9 + many) (to_be_bytes w32 (length undos)) (flat_map change_text undos) (left_in source (5 + many) (listed w32 change_text undos) more second) (omega arith) in
     all_both _ (entries_from 5 rows) (changes_from (9 + many) undos) (entries_stand source 5 rows first) (changes_stand source (9 + many) undos changes)
 
-record_stands : (source : List ℕ) (item : Record) → StandsIn source 0 (spelling item) → AreSlicesOf source (keys_and_values item)
-record_stands source (Header node generation) s = tt
-record_stands source (Prepare txn coord count reads writes) s =
+record_stands : (version : ℕ) (source : List ℕ) (item : Record) → StandsIn source 0 (spelling version item) → AreSlicesOf source (keys_and_values item)
+record_stands version source (Header node generation) s = tt
+record_stands version source (Prepare txn coord count reads writes) s =
     prepare_stands source (2 ∷ (txn_text txn ++ (coord ∷ to_be_bytes w16 count))) reads writes refl
     record { front = s.front; behind = s.behind; both = s.both; place = s.place }
-record_stands source (Commit txn members) s = tt
-record_stands source (Abort txn) s = tt
-record_stands source (End txn) s = tt
-record_stands source (Checkpoint rows undos committed) s = checkpoint_stands source (listed w32 txn_text committed) rows undos s
+record_stands version source (Commit txn members) s = tt
+record_stands version source (Abort txn) s = tt
+record_stands version source (End txn) s = tt
+record_stands version source (Checkpoint rows undos committed) s = checkpoint_stands source (listed w32 txn_text committed) rows undos s
 
 -- what stands at the front
-pub are_slices : (source : List ℕ) (item : Record) (behind : List ℕ) → source ≡ spelling item ++ behind → AreSlicesOf source (keys_and_values item)
-are_slices source item behind e = record_stands source item record { front = []; behind = behind; both = e; place = refl }
+pub are_slices : (version : ℕ) (source : List ℕ) (item : Record) (behind : List ℕ) → source ≡ spelling version item ++ behind → AreSlicesOf source (keys_and_values item)
+are_slices version source item behind e = record_stands version source item record { front = []; behind = behind; both = e; place = refl }

@@ -9,7 +9,7 @@ use Rattle.co_record.specs.declared.fault.RecordFault.TheVariants as faults
 use Rattle.co_record.specs.declared.miss.Miss.{Miss}
 use Rattle.co_record.specs.declared.miss.Miss.TheVariants as misses
 use Rattle.co_record.specs.Reading.{span_of, row_of, record_at}
-use Rattle.co_record.specs.Spelling.{spelling, IsSpelled}
+use Rattle.co_record.specs.Spelling.{spelling, IsSpelledIn}
 
 -- the record that a view shows
 abbrev pub record_of : RecordView → Record
@@ -32,19 +32,19 @@ placed whole (Ok read) = Ok (read.0, whole - length read.1)
 placed whole (Err miss) = Err (fault_of whole miss)
 
 -- the record at the front and its length, or the first fault from the left
-abbrev pub reading : List ℕ → Result (Record × ℕ) RecordFault
-reading bytes = placed (length bytes) (record_at bytes)
+abbrev pub reading : ℕ → List ℕ → Result (Record × ℕ) RecordFault
+reading version bytes = placed (length bytes) (record_at version bytes)
 
 -- what was answered shows what reading gives
 abbrev pub Shows : Result (RecordView × ℕ) RecordFault → Result (Record × ℕ) RecordFault → Type 0
 Shows (Ok shown) read = read ≡ Ok (record_of shown.0, shown.1)
 Shows (Err fault) read = read ≡ Err fault
 
--- the record stands at the front, and takes so many bytes
-pub record StandsAt (bytes : List ℕ) (item : Record) (count : ℕ) : Type 0 where
-  pub spelled : IsSpelled item
-  pub text : bytes ≡ spelling item ++ drop count bytes
-  pub length_is : count ≡ length (spelling item)
+-- the record stands at the front in this version, and takes so many bytes
+pub record StandsAt (version : ℕ) (bytes : List ℕ) (item : Record) (count : ℕ) : Type 0 where
+  pub spelled : IsSpelledIn version item
+  pub text : bytes ≡ spelling version item ++ drop count bytes
+  pub length_is : count ≡ length (spelling version item)
 
 -- the new bytes begin with the old ones
 abbrev pub Begins : List ℕ → List ℕ → Type 0

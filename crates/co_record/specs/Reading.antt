@@ -16,7 +16,7 @@ use Rattle.co_record.specs.declared.miss.Miss.{Miss}
 use Rattle.co_record.specs.declared.miss.Miss.TheVariants.{Short, Kind, Outside}
 use Rattle.co_record.specs.declared.record.Record.{Record}
 use Rattle.co_record.specs.declared.record.Record.TheVariants.{Header, Prepare, Commit, Abort, End, Checkpoint}
-use Rattle.co_record.specs.Format.{version, most_key, most_value, most_operations, most_members, most_coordinators}
+use Rattle.co_record.specs.Format.{most_key, most_value, most_operations, most_members, most_coordinators}
 
 infixl 10 ◌>>=◌
 abbrev pub ◌>>=◌ : {A B : Type 0} → Result A Miss → (A → Result B Miss) → Result B Miss
@@ -82,8 +82,8 @@ letters_at n bytes = steps past_letter n bytes >>= λ rest. Ok (take n bytes, re
 unfoldable pub key_at : Reader (List ℕ)
 key_at = counted_at (byte_within 1 most_key) letters_at
 
-unfoldable pub value_at : Reader (List ℕ)
-value_at = counted_at (number_within w16 1 most_value) letters_at
+unfoldable pub value_at : ℕ → Reader (List ℕ)
+value_at version = counted_at (number_within w16 1 (most_value version)) letters_at
 
 -- ---- elements
 
@@ -91,8 +91,8 @@ value_at = counted_at (number_within w16 1 most_value) letters_at
 unfoldable pub bounds_at : Reader (List ℕ × List ℕ)
 bounds_at bytes = key_at bytes >>= λ lo. where_at (λ hi. not (is_gt (key_cmp lo.0 hi))) key_at lo.1 >>= λ hi. Ok ((lo.0, hi.0), hi.1)
 
-unfoldable pub entry_at : Reader (List ℕ × List ℕ)
-entry_at = then_at key_at value_at
+unfoldable pub entry_at : ℕ → Reader (List ℕ × List ℕ)
+entry_at version = then_at key_at (value_at version)
 
 abbrev pub span_of : List ℕ × List ℕ → Span
 span_of pair = record { lo = pair.0; hi = pair.1 }
@@ -103,21 +103,21 @@ row_of pair = record { key = pair.0; value = pair.1 }
 abbrev pub range_at : Reader Span
 range_at = as_at span_of bounds_at
 
-abbrev pub row_at : Reader Row
-row_at = as_at row_of entry_at
+abbrev pub row_at : ℕ → Reader Row
+row_at version = as_at row_of (entry_at version)
 
 -- a tag of 0 for none, or of 1 and a value
-unfoldable pub held_at : Reader (Option (List ℕ))
-held_at [] = Err Short
-held_at (zero ∷ rest) = Ok (None, rest)
-held_at (suc zero ∷ rest) = as_at Some value_at rest
-held_at (suc (suc tag) ∷ rest) = Err (Outside (length (suc (suc tag) ∷ rest)))
+unfoldable pub held_at : ℕ → Reader (Option (List ℕ))
+held_at version [] = Err Short
+held_at version (zero ∷ rest) = Ok (None, rest)
+held_at version (suc zero ∷ rest) = as_at Some (value_at version) rest
+held_at version (suc (suc tag) ∷ rest) = Err (Outside (length (suc (suc tag) ∷ rest)))
 
 abbrev pub written_of : List ℕ × Option (List ℕ) → Written
 written_of pair = record { key = pair.0; value = pair.1 }
 
-unfoldable pub change_at : Reader Written
-change_at = as_at written_of (then_at key_at held_at)
+unfoldable pub change_at : ℕ → Reader Written
+change_at version = as_at written_of (then_at key_at (held_at version))
 
 abbrev pub member_at : Reader ℕ
 member_at = byte_within 1 most_members
@@ -150,7 +150,7 @@ items_at read cmp n bytes = items_end read cmp n bytes >>= λ rest. Ok (elements
 -- the pairs of a list of ranges, or of rows
 abbrev pub pair_at : PairKind → Reader (List ℕ × List ℕ)
 pair_at Bounds = bounds_at
-pair_at Entry = entry_at
+pair_at (Entry version) = entry_at version
 
 abbrev pub row_cmp : Row → Row → Ordering
 row_cmp = on (λ r. r.key) key_cmp
@@ -161,17 +161,17 @@ change_cmp = on (λ w. w.key) key_cmp
 unfoldable pub ranges_at : Reader (List Span)
 ranges_at = counted_at (number_within w16 0 most_operations) (items_at range_at span_cmp)
 
-unfoldable pub writes_at : Reader (List Written)
-writes_at = counted_at (number_within w16 0 most_operations) (items_at change_at change_cmp)
+unfoldable pub writes_at : ℕ → Reader (List Written)
+writes_at version = counted_at (number_within w16 0 most_operations) (items_at (change_at version) change_cmp)
 
 unfoldable pub members_at : Reader (List ℕ)
 members_at = counted_at (byte_within 0 most_members) (items_at member_at nat_cmp)
 
-unfoldable pub rows_at : Reader (List Row)
-rows_at = counted_at (number_at w32) (items_at row_at row_cmp)
+unfoldable pub rows_at : ℕ → Reader (List Row)
+rows_at version = counted_at (number_at w32) (items_at (row_at version) row_cmp)
 
-unfoldable pub undos_at : Reader (List Written)
-undos_at = counted_at (number_at w32) (items_at change_at change_cmp)
+unfoldable pub undos_at : ℕ → Reader (List Written)
+undos_at version = counted_at (number_at w32) (items_at (change_at version) change_cmp)
 
 unfoldable pub txns_at : Reader (List ℕ)
 txns_at = counted_at (number_at w32) (items_at txn_at nat_cmp)
@@ -187,12 +187,12 @@ node_of b = if nat_lt b 128 then Member b else Coord (b - 128)
 unfoldable pub node_at : Reader Node
 node_at = as_at node_of (where_at is_node_byte byte_at)
 
-unfoldable pub header_at : Reader Record
-header_at = as_at (λ p. Header p.1.0 p.1.1) (then_at (byte_within version version) (then_at node_at (number_at w32)))
+unfoldable pub header_at : ℕ → Reader Record
+header_at version = as_at (λ p. Header p.1.0 p.1.1) (then_at (byte_within version version) (then_at node_at (number_at w32)))
 
-unfoldable pub prepare_at : Reader Record
-prepare_at = as_at (λ p. Prepare p.0 p.1.0 p.1.1.0 p.1.1.1.0 p.1.1.1.1)
-    (then_at txn_at (then_at (byte_within 1 most_coordinators) (then_at (number_within w16 1 most_operations) (then_at ranges_at writes_at))))
+unfoldable pub prepare_at : ℕ → Reader Record
+prepare_at version = as_at (λ p. Prepare p.0 p.1.0 p.1.1.0 p.1.1.1.0 p.1.1.1.1)
+    (then_at txn_at (then_at (byte_within 1 most_coordinators) (then_at (number_within w16 1 most_operations) (then_at ranges_at (writes_at version)))))
 
 unfoldable pub commit_at : Reader Record
 commit_at = as_at (λ p. Commit p.0 p.1) (then_at txn_at members_at)
@@ -203,17 +203,17 @@ abort_at = as_at Abort txn_at
 unfoldable pub end_at : Reader Record
 end_at = as_at End txn_at
 
-unfoldable pub checkpoint_at : Reader Record
-checkpoint_at = as_at (λ p. Checkpoint p.0 p.1.0 p.1.1) (then_at rows_at (then_at undos_at txns_at))
+unfoldable pub checkpoint_at : ℕ → Reader Record
+checkpoint_at version = as_at (λ p. Checkpoint p.0 p.1.0 p.1.1) (then_at (rows_at version) (then_at (undos_at version) txns_at))
 
 -- a kind byte, and the fields of its kind
-unfoldable pub record_at : Reader Record
-record_at [] = Err Short
-record_at (kind ∷ fields) =
-    if kind == 1 then header_at fields
-    else if kind == 2 then prepare_at fields
+unfoldable pub record_at : ℕ → Reader Record
+record_at version [] = Err Short
+record_at version (kind ∷ fields) =
+    if kind == 1 then header_at version fields
+    else if kind == 2 then prepare_at version fields
     else if kind == 3 then commit_at fields
     else if kind == 4 then abort_at fields
     else if kind == 5 then end_at fields
-    else if kind == 6 then checkpoint_at fields
+    else if kind == 6 then checkpoint_at version fields
     else Err Kind

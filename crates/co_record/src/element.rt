@@ -18,8 +18,8 @@ pub type Change<'a> = (&'a [u8], Option<&'a [u8]>);
 pub enum PairKind {
     /// The bounds of a range.
     Bounds,
-    /// The key and the value of a row.
-    Entry,
+    /// The key and the value of a row, of a version.
+    Entry { version: u8 },
 }
 
 /// The bounds of a range. An upper bound below the lower one is a fault at the upper one.
@@ -37,13 +37,13 @@ pub fn read_bounds(bytes: &[u8]) -> Result<(Pair<'_>, &[u8]), Miss>
     Ok(((lo, hi), rest))
 }
 
-/// The key and the value of a row.
+/// The key and the value of a row of a version.
 #[tactic(auto, unfolding(crate::specs::Reading::entry_at))]
-pub fn read_entry(bytes: &[u8]) -> Result<(Pair<'_>, &[u8]), Miss>
-    ensures { Gives (λ x. ((x.0.0.now, x.0.1.now), x.1.now)) result (entry_at bytes.now) }
+pub fn read_entry(version: u8, bytes: &[u8]) -> Result<(Pair<'_>, &[u8]), Miss>
+    ensures { Gives (λ x. ((x.0.0.now, x.0.1.now), x.1.now)) result (entry_at version bytes.now) }
 {
     let (key, rest) = read_key(bytes)?;
-    let (value, rest) = read_value(rest)?;
+    let (value, rest) = read_value(version, rest)?;
     Ok(((key, value), rest))
 }
 
@@ -53,33 +53,33 @@ pub fn read_pair(kind: PairKind, bytes: &[u8]) -> Result<(Pair<'_>, &[u8]), Miss
 {
     match kind {
         PairKind::Bounds => read_bounds(bytes),
-        PairKind::Entry => read_entry(bytes),
+        PairKind::Entry { version } => read_entry(version, bytes),
     }
 }
 
 /// A tag of 0 for no value, or of 1 and a value.
 #[tactic(auto, unfolding(crate::specs::Reading::held_at))]
-fn read_held(bytes: &[u8]) -> Result<(Option<&[u8]>, &[u8]), Miss>
-    ensures { Gives (λ x. (option_copied x.0, x.1.now)) result (held_at bytes.now) }
+fn read_held(version: u8, bytes: &[u8]) -> Result<(Option<&[u8]>, &[u8]), Miss>
+    ensures { Gives (λ x. (option_copied x.0, x.1.now)) result (held_at version bytes.now) }
 {
     match bytes {
         [] => Err(Miss::Short),
         [0, rest @ ..] => Ok((None, rest)),
         [1, rest @ ..] => {
-            let (value, rest) = read_value(rest)?;
+            let (value, rest) = read_value(version, rest)?;
             Ok((Some(value), rest))
         }
         [_, ..] => Err(Miss::Outside { left: bytes.len() }),
     }
 }
 
-/// A change: its key, then none or a value.
+/// A change of a version: its key, then none or a value.
 #[tactic(auto, unfolding(crate::specs::Reading::change_at))]
-pub fn read_change(bytes: &[u8]) -> Result<(Change<'_>, &[u8]), Miss>
-    ensures { Gives (λ x. (record { key = x.0.0.now; value = option_copied x.0.1 }, x.1.now)) result (change_at bytes.now) }
+pub fn read_change(version: u8, bytes: &[u8]) -> Result<(Change<'_>, &[u8]), Miss>
+    ensures { Gives (λ x. (record { key = x.0.0.now; value = option_copied x.0.1 }, x.1.now)) result (change_at version bytes.now) }
 {
     let (key, rest) = read_key(bytes)?;
-    let (value, rest) = read_held(rest)?;
+    let (value, rest) = read_held(version, rest)?;
     Ok(((key, value), rest))
 }
 

@@ -3,7 +3,7 @@ ghost use Rattle.std.specs.Prelude.{◌≡◌, length};
 ghost use Rattle.std.specs.Int.{w16, w32};
 ghost use Rattle.co_record.specs.Reading.{Gives, byte_at, number_at, byte_within, number_within, past_letter, steps, letters_at, key_at, value_at};
 
-use crate::format::{MOST_KEY, MOST_VALUE};
+use crate::format::{MOST_KEY, most_value};
 use crate::miss::Miss;
 
 /// The byte at the front, and the bytes behind it.
@@ -97,11 +97,11 @@ pub fn read_key(bytes: &[u8]) -> Result<(&[u8], &[u8]), Miss>
     read_letters(count as usize, rest)
 }
 
-/// A value.
+/// A value of a version.
 #[tactic(auto, unfolding(crate::specs::Reading::value_at))]
-pub fn read_value(bytes: &[u8]) -> Result<(&[u8], &[u8]), Miss>
-    ensures { Gives (λ x. (x.0.now, x.1.now)) result (value_at bytes.now) }
+pub fn read_value(version: u8, bytes: &[u8]) -> Result<(&[u8], &[u8]), Miss>
+    ensures { Gives (λ x. (x.0.now, x.1.now)) result (value_at version bytes.now) }
 {
-    let (count, rest) = read_u16_within(1, MOST_VALUE, bytes)?;
+    let (count, rest) = read_u16_within(1, most_value(version), bytes)?;
     read_letters(count as usize, rest)
 }

@@ -1,12 +1,17 @@
-//! What the version of the format fixes: the one place where a later version differs.
-/// The version byte of a header.
-pub const VERSION: u8 = 1;
+//! The limits of records, and what the two versions of their format differ in.
+ghost use Rattle.std.specs.Prelude.{◌≡◌};
+ghost use Rattle.co_record.specs.Format.{most_value};
+
+use co_base::{Key, Value};
+
+/// The version of a log that is still read.
+pub const OLDEST_VERSION: u8 = 1;
+
+/// The version of a log that is written.
+pub const NEWEST_VERSION: u8 = 2;
 
 /// The most letters of a key.
-pub const MOST_KEY: u8 = 32;
-
-/// The most letters of a value.
-pub const MOST_VALUE: u16 = 256;
+pub const MOST_KEY: u8 = Key::MOST as u8;
 
 /// The most operations of a transaction at one member.
 pub const MOST_OPERATIONS: u16 = 1024;
@@ -16,3 +21,14 @@ pub const MOST_MEMBERS: u8 = 16;
 
 /// The most coordinators of a federation.
 pub const MOST_COORDINATORS: u8 = 8;
+
+/// The most letters of a value in a version.
+pub fn most_value(version: u8) -> u16
+    ensures { result ≡ most_value version }
+{
+    if version == OLDEST_VERSION {
+        256
+    } else {
+        Value::MOST as u16
+    }
+}

@@ -20,7 +20,7 @@ mod views;
 mod walk;
 
 pub use fault::RecordFault;
-pub use format::VERSION;
+pub use format::{NEWEST_VERSION, OLDEST_VERSION};
 pub use gate::{batch_is_stable, begins_closed, closes_spare};
 pub use laws::one_spelling;
 pub use marks::mark_of;
@@ -28,5 +28,5 @@ pub use put::put_record;
 pub use read::read_record;
 pub use record::Record;
 pub use view::RecordView;
-pub use views::Views;
+pub use views::{Views, text_version};
 pub use walk::{ChangeWalk, MemberWalk, PairWalk, TxnWalk};

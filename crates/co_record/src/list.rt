@@ -39,10 +39,14 @@ fn skip_ranges(count: u16, bytes: &[u8]) -> Result<&[u8], Miss>
 }
 
 /// The next of a list of rows, each with a key above the one before it.
-fn next_row<'a>(before: Option<Pair<'a>>, bytes: &'a [u8]) -> Result<(Pair<'a>, &'a [u8]), Miss>
-    ensures { Gives (λ x. (Some (row_of (x.0.0.now, x.0.1.now)), x.1.now)) result (next_at row_at row_cmp (option_map (λ p. row_of (p.0.now, p.1.now)) before.entry, bytes.now)) }
+fn next_row<'a>(
+    version: u8,
+    before: Option<Pair<'a>>,
+    bytes: &'a [u8],
+) -> Result<(Pair<'a>, &'a [u8]), Miss>
+    ensures { Gives (λ x. (Some (row_of (x.0.0.now, x.0.1.now)), x.1.now)) result (next_at (row_at version) row_cmp (option_map (λ p. row_of (p.0.now, p.1.now)) before.entry, bytes.now)) }
 {
-    let (item, rest) = read_entry(bytes)?;
+    let (item, rest) = read_entry(version, bytes)?;
     if let Some(last) = before {
         if !(is_key_below(last.0, item.0)) {
             return Err(Miss::Outside { left: bytes.len() });
@@ -52,13 +56,13 @@ fn next_row<'a>(before: Option<Pair<'a>>, bytes: &'a [u8]) -> Result<(Pair<'a>, 
 }
 
 /// What stands behind so many rows, each with a key above the one before it.
-fn skip_rows(count: u32, bytes: &[u8]) -> Result<&[u8], Miss>
-    ensures { Gives (λ rest. rest.now) result (items_end row_at row_cmp count bytes.now) }
+fn skip_rows(version: u8, count: u32, bytes: &[u8]) -> Result<&[u8], Miss>
+    ensures { Gives (λ rest. rest.now) result (items_end (row_at version) row_cmp count bytes.now) }
 {
     let mut before = None;
     let mut rest = bytes;
     for _ in 0..count {
-        let (item, behind) = next_row(before, rest)?;
+        let (item, behind) = next_row(version, before, rest)?;
         before = Some(item);
         rest = behind;
     }
@@ -67,12 +71,13 @@ fn skip_rows(count: u32, bytes: &[u8]) -> Result<&[u8], Miss>
 
 /// The next of a list of changes, each with a key above the one before it.
 fn next_change<'a>(
+    version: u8,
     before: Option<Change<'a>>,
     bytes: &'a [u8],
 ) -> Result<(Change<'a>, &'a [u8]), Miss>
-    ensures { Gives (λ x. (Some (record { key = x.0.0.now; value = option_copied x.0.1 }), x.1.now)) result (next_at change_at change_cmp (option_map (λ p. record { key = p.0.now; value = option_copied p.1 }) before.entry, bytes.now)) }
+    ensures { Gives (λ x. (Some (record { key = x.0.0.now; value = option_copied x.0.1 }), x.1.now)) result (next_at (change_at version) change_cmp (option_map (λ p. record { key = p.0.now; value = option_copied p.1 }) before.entry, bytes.now)) }
 {
-    let (item, rest) = read_change(bytes)?;
+    let (item, rest) = read_change(version, bytes)?;
     if let Some(last) = before {
         if !(is_key_below(last.0, item.0)) {
             return Err(Miss::Outside { left: bytes.len() });
@@ -82,13 +87,13 @@ fn next_change<'a>(
 }
 
 /// What stands behind so many changes, each with a key above the one before it.
-fn skip_changes(count: u32, bytes: &[u8]) -> Result<&[u8], Miss>
-    ensures { Gives (λ rest. rest.now) result (items_end change_at change_cmp count bytes.now) }
+fn skip_changes(version: u8, count: u32, bytes: &[u8]) -> Result<&[u8], Miss>
+    ensures { Gives (λ rest. rest.now) result (items_end (change_at version) change_cmp count bytes.now) }
 {
     let mut before = None;
     let mut rest = bytes;
     for _ in 0..count {
-        let (item, behind) = next_change(before, rest)?;
+        let (item, behind) = next_change(version, before, rest)?;
         before = Some(item);
         rest = behind;
     }
@@ -162,14 +167,14 @@ pub fn read_ranges(bytes: &[u8]) -> Result<(PairWalk<'_>, &[u8]), Miss>
     ))
 }
 
-/// The writes of a transaction.
+/// The writes of a transaction, in a version.
 #[tactic(auto, unfolding(crate::specs::Reading::writes_at))]
-pub fn read_writes(bytes: &[u8]) -> Result<(ChangeWalk<'_>, &[u8]), Miss>
-    ensures { Gives (λ x. (x.0, x.1.now)) result (writes_at bytes.now) }
+pub fn read_writes(version: u8, bytes: &[u8]) -> Result<(ChangeWalk<'_>, &[u8]), Miss>
+    ensures { Gives (λ x. (x.0, x.1.now)) result (writes_at version bytes.now) }
 {
     let (count, first) = read_u16_within(0, MOST_OPERATIONS, bytes)?;
-    let rest = skip_changes(u32::from(count), first)?;
-    Ok((ChangeWalk::new(u32::from(count), first), rest))
+    let rest = skip_changes(version, u32::from(count), first)?;
+    Ok((ChangeWalk::new(version, u32::from(count), first), rest))
 }
 
 /// The participants of a transaction.
@@ -182,24 +187,27 @@ pub fn read_members(bytes: &[u8]) -> Result<(MemberWalk<'_>, &[u8]), Miss>
     Ok((MemberWalk::new(count, first), rest))
 }
 
-/// The rows of a checkpoint.
+/// The rows of a checkpoint, in a version.
 #[tactic(auto, unfolding(crate::specs::Reading::rows_at))]
-pub fn read_rows(bytes: &[u8]) -> Result<(PairWalk<'_>, &[u8]), Miss>
-    ensures { Gives (λ x. (map row_of x.0, x.1.now)) result (rows_at bytes.now) }
+pub fn read_rows(version: u8, bytes: &[u8]) -> Result<(PairWalk<'_>, &[u8]), Miss>
+    ensures { Gives (λ x. (map row_of x.0, x.1.now)) result (rows_at version bytes.now) }
 {
     let (count, first) = read_u32(bytes)?;
-    let rest = skip_rows(count, first)?;
-    Ok((PairWalk::new(PairKind::Entry, count, first), rest))
+    let rest = skip_rows(version, count, first)?;
+    Ok((
+        PairWalk::new(PairKind::Entry { version }, count, first),
+        rest,
+    ))
 }
 
-/// The undos of a checkpoint.
+/// The undos of a checkpoint, in a version.
 #[tactic(auto, unfolding(crate::specs::Reading::undos_at))]
-pub fn read_undos(bytes: &[u8]) -> Result<(ChangeWalk<'_>, &[u8]), Miss>
-    ensures { Gives (λ x. (x.0, x.1.now)) result (undos_at bytes.now) }
+pub fn read_undos(version: u8, bytes: &[u8]) -> Result<(ChangeWalk<'_>, &[u8]), Miss>
+    ensures { Gives (λ x. (x.0, x.1.now)) result (undos_at version bytes.now) }
 {
     let (count, first) = read_u32(bytes)?;
-    let rest = skip_changes(count, first)?;
-    Ok((ChangeWalk::new(count, first), rest))
+    let rest = skip_changes(version, count, first)?;
+    Ok((ChangeWalk::new(version, count, first), rest))
 }
 
 /// The committed transactions of a checkpoint.

@@ -4,7 +4,7 @@ ghost use Rattle.co_record.specs.Lent.{record_of};
 ghost use Rattle.co_record.specs.Reading.{Gives, node_at, header_at, prepare_at, commit_at, abort_at, end_at, checkpoint_at, record_at};
 
 use crate::field::{read_byte, read_byte_within, read_u16_within, read_u32};
-use crate::format::{MOST_COORDINATORS, MOST_OPERATIONS, VERSION};
+use crate::format::{MOST_COORDINATORS, MOST_OPERATIONS};
 use crate::list::{read_members, read_ranges, read_rows, read_txns, read_undos, read_writes};
 use crate::miss::Miss;
 use crate::view::RecordView;
@@ -23,24 +23,24 @@ fn read_node(bytes: &[u8]) -> Result<(Node, &[u8]), Miss>
 }
 
 #[tactic(auto, unfolding(crate::specs::Reading::header_at))]
-fn read_header(bytes: &[u8]) -> Result<(RecordView<'_>, &[u8]), Miss>
-    ensures { Gives (λ x. (record_of x.0, x.1.now)) result (header_at bytes.now) }
+fn read_header(version: u8, bytes: &[u8]) -> Result<(RecordView<'_>, &[u8]), Miss>
+    ensures { Gives (λ x. (record_of x.0, x.1.now)) result (header_at version bytes.now) }
 {
-    let (_, rest) = read_byte_within(VERSION, VERSION, bytes)?;
+    let (_, rest) = read_byte_within(version, version, bytes)?;
     let (node, rest) = read_node(rest)?;
     let (generation, rest) = read_u32(rest)?;
     Ok((RecordView::Header { node, generation }, rest))
 }
 
 #[tactic(auto, unfolding(crate::specs::Reading::prepare_at))]
-fn read_prepare(bytes: &[u8]) -> Result<(RecordView<'_>, &[u8]), Miss>
-    ensures { Gives (λ x. (record_of x.0, x.1.now)) result (prepare_at bytes.now) }
+fn read_prepare(version: u8, bytes: &[u8]) -> Result<(RecordView<'_>, &[u8]), Miss>
+    ensures { Gives (λ x. (record_of x.0, x.1.now)) result (prepare_at version bytes.now) }
 {
     let (txn, rest) = read_u32(bytes)?;
     let (coord, rest) = read_byte_within(1, MOST_COORDINATORS, rest)?;
     let (count, rest) = read_u16_within(1, MOST_OPERATIONS, rest)?;
     let (reads, rest) = read_ranges(rest)?;
-    let (writes, rest) = read_writes(rest)?;
+    let (writes, rest) = read_writes(version, rest)?;
     Ok((
         RecordView::Prepare {
             txn: Txn(txn),
@@ -69,11 +69,11 @@ fn read_commit(bytes: &[u8]) -> Result<(RecordView<'_>, &[u8]), Miss>
 }
 
 #[tactic(auto, unfolding(crate::specs::Reading::checkpoint_at))]
-fn read_checkpoint(bytes: &[u8]) -> Result<(RecordView<'_>, &[u8]), Miss>
-    ensures { Gives (λ x. (record_of x.0, x.1.now)) result (checkpoint_at bytes.now) }
+fn read_checkpoint(version: u8, bytes: &[u8]) -> Result<(RecordView<'_>, &[u8]), Miss>
+    ensures { Gives (λ x. (record_of x.0, x.1.now)) result (checkpoint_at version bytes.now) }
 {
-    let (rows, rest) = read_rows(bytes)?;
-    let (undos, rest) = read_undos(rest)?;
+    let (rows, rest) = read_rows(version, bytes)?;
+    let (undos, rest) = read_undos(version, rest)?;
     let (committed, rest) = read_txns(rest)?;
     Ok((
         RecordView::Checkpoint {
@@ -101,19 +101,19 @@ fn read_end(bytes: &[u8]) -> Result<(RecordView<'_>, &[u8]), Miss>
     Ok((RecordView::End { txn: Txn(txn) }, rest))
 }
 
-/// The record at the front, and the bytes behind it.
+/// The record of a version at the front, and the bytes behind it.
 #[tactic(auto, unfolding(crate::specs::Reading::record_at))]
-pub fn read_any(bytes: &[u8]) -> Result<(RecordView<'_>, &[u8]), Miss>
-    ensures { Gives (λ x. (record_of x.0, x.1.now)) result (record_at bytes.now) }
+pub fn read_any(version: u8, bytes: &[u8]) -> Result<(RecordView<'_>, &[u8]), Miss>
+    ensures { Gives (λ x. (record_of x.0, x.1.now)) result (record_at version bytes.now) }
 {
     match bytes {
         [] => Err(Miss::Short),
-        [1, fields @ ..] => read_header(fields),
-        [2, fields @ ..] => read_prepare(fields),
+        [1, fields @ ..] => read_header(version, fields),
+        [2, fields @ ..] => read_prepare(version, fields),
         [3, fields @ ..] => read_commit(fields),
         [4, fields @ ..] => read_abort(fields),
         [5, fields @ ..] => read_end(fields),
-        [6, fields @ ..] => read_checkpoint(fields),
+        [6, fields @ ..] => read_checkpoint(version, fields),
         [_, ..] => Err(Miss::Kind),
     }
 }

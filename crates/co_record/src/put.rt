@@ -6,10 +6,10 @@ ghost use Rattle.co_base.specs.Nodes.{IsValidNode};
 ghost use Rattle.co_base.specs.Order.{IsAscending};
 ghost use Rattle.co_base.specs.RowOrder.{IsInKeyOrder};
 ghost use Rattle.co_record.specs.Lent.{Begins};
-ghost use Rattle.co_record.specs.Format.{most_operations, most_members};
+ghost use Rattle.co_record.specs.Format.{newest, most_operations, most_members};
 ghost use Rattle.co_record.specs.Spelling.{spelling, IsWritable, IsSpelled, HasParts, key_text, value_text, held_text, change_text, range_text, row_text, txn_text, listed, IsKey, IsValue, IsRange, IsRow, IsChange, IsTxn};
 
-use crate::format::VERSION;
+use crate::format::NEWEST_VERSION;
 use crate::record::Record;
 use co_base::{Bytes, Key, Node, Range, Ranges, Row, Rows, Txn, Txns, Value, Writes, Written};
 use std::alloc::AllocError;
@@ -169,12 +169,12 @@ fn put_long_count(count: usize, into: &mut Vec<u8>) -> Result<(), AllocError>
 /// Appends a header.
 fn put_header(node: Node, generation: u32, into: &mut Vec<u8>) -> Result<(), AllocError>
     requires { IsValidNode node }
-    ensures ok { OnOk result (into.new.items ≡ into.old.items ++ spelling (Record.Header node generation)) }
+    ensures ok { OnOk result (into.new.items ≡ into.old.items ++ spelling newest (Record.Header node generation)) }
     ensures err { OnErr result (Begins into.old.items into.new.items) }
     ensures parts { HasParts (Record.Header node generation) }
 {
     into.push(1)?;
-    into.push(VERSION)?;
+    into.push(NEWEST_VERSION)?;
     into.push(node.byte())?;
     into.extend_from_slice(&generation.to_be_bytes())?;
     Ok(())
@@ -220,7 +220,7 @@ fn put_vote(txn: Txn, coord: u8, count: u16, into: &mut Vec<u8>) -> Result<(), A
 /// Appends a commit.
 fn put_commit(txn: Txn, members: &Bytes, into: &mut Vec<u8>) -> Result<(), AllocError>
     requires { length members.now ≤ most_members }
-    ensures ok { OnOk result (into.new.items ≡ into.old.items ++ spelling (Record.Commit txn members.now)) }
+    ensures ok { OnOk result (into.new.items ≡ into.old.items ++ spelling newest (Record.Commit txn members.now)) }
     ensures err { OnErr result (Begins into.old.items into.new.items) }
     ensures parts { OnOk result (HasParts (Record.Commit txn members.now)) }
 {
@@ -280,14 +280,14 @@ fn put_committed(committed: &Txns, into: &mut Vec<u8>) -> Result<(), AllocError>
     Ok(())
 }
 
-/// Appends the one spelling of a record. Its node is valid; a coordinator's number is 1 to 8, a count of
+/// Appends the one spelling of a record in version 2. Its node is valid; a coordinator's number is 1 to 8, a count of
 /// operations 1 to 1,024, and there are at most 1,024 reads, ascending by lower and then by upper bound,
 /// and as many writes, ascending by key; members are 1 to 16, ascending; undos ascend by key; and each list
 /// of a checkpoint has fewer than 2 ^ 32 elements. The types of the parts promise the rest. After want of
 /// memory the list begins with what it held.
 pub fn put_record(item: &Record, into: &mut Vec<u8>) -> Result<(), AllocError>
     requires { IsWritable item.now }
-    ensures ok { OnOk result (into.new.items ≡ into.old.items ++ spelling item.now) }
+    ensures ok { OnOk result (into.new.items ≡ into.old.items ++ spelling newest item.now) }
     ensures spelled { OnOk result (IsSpelled item.now) }
     ensures err { OnErr result (Begins into.old.items into.new.items) }
 {

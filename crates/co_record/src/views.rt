@@ -1,20 +1,47 @@
 //! The walk over the records of a log text.
-ghost use Rattle.std.specs.Prelude.{◌≡◌, ℕ, ◌+◌, ◌<◌, ◌≤◌, List, [], length, IfSome, MatchOption};
-ghost use Rattle.co_frame.specs.LogText.{most_log_bytes};
+ghost use Rattle.std.specs.Prelude.{◌≡◌, ℕ, ◌+◌, ◌-◌, ◌<◌, ◌≤◌, List, [], length, IfSome, MatchOption};
+ghost use Rattle.co_frame.specs.LogText.{IsLogText, most_log_bytes};
 ghost use Rattle.co_record.specs.declared.record.Record.{Record};
 ghost use Rattle.co_record.specs.Lent.{record_of};
 ghost use Rattle.co_record.specs.Spelling.{IsSpelled};
-ghost use Rattle.co_record.specs.Stored.{RecordWalk, HasRecords, HasLeft, Lends, unread};
+ghost use Rattle.co_record.specs.Format.{IsVersion};
+ghost use Rattle.co_record.specs.Stored.{RecordWalk, HasRecords, HasLeft, Lends, unread, version_of, version_in};
 
+use crate::format::{NEWEST_VERSION, OLDEST_VERSION};
 use crate::read::read_record;
 use crate::view::RecordView;
 use co_frame::Batches;
 use std::marker::Model;
 
-/// A walk over the records of a log text, each lent with its place. A contract sees the walk over the
-/// batches, and the place and the bytes that are left of the batch at hand.
+/// The version of the file that begins with this batch: the byte behind the kind of its first record says it.
+fn version_of(batch: &[u8]) -> u8
+    ensures { result ≡ version_of batch.now }
+{
+    match batch {
+        [_, version, ..] if *version == NEWEST_VERSION => NEWEST_VERSION,
+        _ => OLDEST_VERSION,
+    }
+}
+
+/// The version in which all records of a log text are read, of at most 268,435,456 bytes: 2 where the second byte
+/// of its first record is `02`, or where it has no batch, and else 1.
+pub fn text_version(bytes: &[u8]) -> u8
+    requires { length bytes.now ≤ most_log_bytes }
+    ensures version { IsVersion result }
+    ensures text { (batches : List (List ℕ)) → IsLogText bytes.now batches → result ≡ version_in batches }
+{
+    match Batches::new(bytes).next() {
+        Some(Ok(batch)) => version_of(batch.records),
+        Some(Err(_)) => NEWEST_VERSION,
+        None => NEWEST_VERSION,
+    }
+}
+
+/// A walk over the records of a log text, each lent with its place. A contract sees the version of the records, the
+/// walk over the batches, and the place and the bytes that are left of the batch at hand.
 #[derive(Drop)]
 pub struct Views<'a> {
+    version: u8,
     batches: Batches<'a>,
     at: usize,
     rest: &'a [u8],
@@ -23,13 +50,14 @@ pub struct Views<'a> {
 impl<'a> Model for Views<'a> {
     ghost use Rattle.std.specs.Prelude.{◌≤◌, ◌+◌, length};
     ghost use Rattle.co_frame.specs.LogText.{most_log_bytes};
+    ghost use Rattle.co_record.specs.Format.{IsVersion};
     ghost use Rattle.co_record.specs.Stored.{RecordWalk};
 
     ghost Value = { RecordWalk };
 
-    ghost view = { λ v. record { gates = v.batches; at = v.at; rest = v.rest.now } };
+    ghost view = { λ v. record { version = v.version; gates = v.batches; at = v.at; rest = v.rest.now } };
 
-    ghost invariant = { λ v. (length v.batches.source ≤ most_log_bytes) × (v.at + length v.rest.now ≤ most_log_bytes) };
+    ghost invariant = { λ v. IsVersion v.version × (length v.batches.source ≤ most_log_bytes) × (v.at + length v.rest.now ≤ most_log_bytes) };
 }
 
 /// The place and the bytes where the next record stands: what is left of the batch at hand, or the next
@@ -39,9 +67,9 @@ fn next_bytes<'a>(batches: &mut Batches<'a>, at: usize, rest: &'a [u8]) -> Optio
     requires size { at + length rest.now ≤ most_log_bytes }
     ensures source { batches.new.source ≡ batches.old.source }
     ensures size { IfSome result (λ found. found.0 + length found.1.now ≤ most_log_bytes) }
-    ensures shorter { IfSome result (λ found. (0 < length found.1.now) × (unread (record { gates = batches.new; at = found.0; rest = found.1.now }) ≤ unread (record { gates = batches.old; at = at; rest = rest.now }))) }
-    ensures left { (items : List (ℕ × Record)) → HasLeft (record { gates = batches.old; at = at; rest = rest.now }) items →
-        MatchOption result (items ≡ []) (λ found. HasLeft (record { gates = batches.new; at = found.0; rest = found.1.now }) items × (0 < length found.1.now)) }
+    ensures shorter { IfSome result (λ found. (0 < length found.1.now) × ((length batches.new.source - batches.new.at) + length found.1.now ≤ (length batches.old.source - batches.old.at) + length rest.now)) }
+    ensures left { (version : ℕ) (items : List (ℕ × Record)) → HasLeft (record { version = version; gates = batches.old; at = at; rest = rest.now }) items →
+        MatchOption result (items ≡ []) (λ found. HasLeft (record { version = version; gates = batches.new; at = found.0; rest = found.1.now }) items × (0 < length found.1.now)) }
 {
     if rest.len() > 0 {
         return Some((at, rest));
@@ -61,6 +89,7 @@ impl<'a> Views<'a> {
         ensures { (items : List (ℕ × Record)) → HasRecords bytes.now items → HasLeft result items }
     {
         Views {
+            version: text_version(bytes),
             batches: Batches::new(bytes),
             at: 0,
             rest: &bytes[..0],
@@ -76,7 +105,7 @@ impl<'a> Views<'a> {
     {
         match next_bytes(&mut self.batches, self.at, self.rest) {
             None => None,
-            Some((at, rest)) => match read_record(rest) {
+            Some((at, rest)) => match read_record(rest, self.version) {
                 Ok((view, length)) => {
                     self.at = at + length as usize;
                     self.rest = &rest[length as usize..];

@@ -58,6 +58,7 @@ impl<'a> PairWalk<'a> {
 /// The writes or undos of a lent record. A contract sees the list of changes that are left.
 #[derive(Drop)]
 pub struct ChangeWalk<'a> {
+    version: u8,
     left: u32,
     bytes: &'a [u8],
 }
@@ -69,22 +70,26 @@ impl<'a> Model for ChangeWalk<'a> {
 
     ghost Value = { List Written };
 
-    ghost view = { λ w. elements change_at w.left w.bytes.now };
+    ghost view = { λ w. elements (change_at w.version) w.left w.bytes.now };
 }
 
 impl<'a> ChangeWalk<'a> {
-    /// The first `left` changes at the front of these bytes, or those up to the first that cannot be read.
-    pub(crate) fn new(left: u32, bytes: &'a [u8]) -> ChangeWalk<'a>
-        ensures { result ≡ elements change_at left bytes.now }
+    /// The first `left` changes of a version at the front of these bytes, or those up to the first that cannot be read.
+    pub(crate) fn new(version: u8, left: u32, bytes: &'a [u8]) -> ChangeWalk<'a>
+        ensures { result ≡ elements (change_at version) left bytes.now }
     {
-        ChangeWalk { left, bytes }
+        ChangeWalk {
+            version,
+            left,
+            bytes,
+        }
     }
 
     /// Another walk over what is left. Takes no memory.
     pub fn again(&self) -> ChangeWalk<'a>
         ensures { result ≡ self.now }
     {
-        ChangeWalk::new(self.left, self.bytes)
+        ChangeWalk::new(self.version, self.left, self.bytes)
     }
 
     /// Lends the key and the value of the next change; no value is an erased or absent record. Takes no
@@ -97,7 +102,7 @@ impl<'a> ChangeWalk<'a> {
         if self.left == 0 {
             return None;
         }
-        let (change, rest) = read_change(self.bytes).ok()?;
+        let (change, rest) = read_change(self.version, self.bytes).ok()?;
         self.left -= 1;
         self.bytes = rest;
         Some(change)

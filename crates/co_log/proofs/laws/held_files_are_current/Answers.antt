@@ -5,4 +5,4 @@ pub returns-clause-current : goal.returns-clause-current
 returns-clause-current c = held_current
 
 pub returns-clause-opens : goal.returns-clause-opens
-returns-clause-opens c = λ log items live. live_open log.current.state.stable log.gate items live.made live.ends
+returns-clause-opens c = λ log items live. live_open log.version log.current.state.stable log.gate items live.made live.ends

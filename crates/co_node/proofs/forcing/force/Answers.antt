@@ -36,13 +36,13 @@ returns-in-Err-clause-answered g c = λ owner l s.
       broken = λ is told.
           let files = told_of file log c.requires.held.spots told in
           elim (forced_left log s.items more files.current.bytes files.spare.bytes c.in-Err.fault log.current.spot is (c.in-Err.ensures.current s.items s.ordered files.current files.spare files.is_current files.is_spare)) [
-            | inl old ↦ (s.items, old_records file log log.generation s.items c.requires.held.spots c.in-Err.ensures.short files old, inl (sym s.stable))
-            | inr new ↦ (next_items true log.gate s.items more, old_records file log log.generation (next_items true log.gate s.items more) c.requires.held.spots c.in-Err.ensures.short files new, inr both)
+            | inl old ↦ (s.items, old_records file log log.version log.generation s.items c.requires.held.spots c.in-Err.ensures.short files old, inl (sym s.stable))
+            | inr new ↦ (next_items true log.gate s.items more, old_records file log log.version log.generation (next_items true log.gate s.items more) c.requires.held.spots c.in-Err.ensures.short files new, inr both)
           ];
       wanting = λ is told.
           let files = told_of file log c.requires.held.spots told in
           let old = forced_wants log s.items more files.current.bytes files.spare.bytes c.in-Err.fault is (c.in-Err.ensures.current s.items s.ordered files.current files.spare files.is_current files.is_spare) in
-          (s.items, old_records file log log.generation s.items c.requires.held.spots c.in-Err.ensures.short files old, inl (sym s.stable));
+          (s.items, old_records file log log.version log.generation s.items c.requires.held.spots c.in-Err.ensures.short files old, inl (sym s.stable));
       short = c.in-Err.ensures.short;
       rest = c.in-Err.ensures.rest;
       device = c.in-Err.ensures.device;

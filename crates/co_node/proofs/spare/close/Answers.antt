@@ -19,7 +19,7 @@ returns-in-Err-clause-answered g c = λ owner l s.
     let left : LeftAs file log.node l.stable l.stable = λ told.
     let files = told_of file log c.requires.held.spots told in
     let old = c.in-Err.ensures.current s.items s.ordered files.current files.spare files.is_current files.is_spare in
-    (s.items, old_records file log log.generation s.items c.requires.held.spots c.in-Err.ensures.short files old, inl (sym s.stable)) in
+    (s.items, old_records file log log.version log.generation s.items c.requires.held.spots c.in-Err.ensures.short files old, inl (sym s.stable)) in
     let wrote : Wrote g.H.Home.file g.H.Home.reach g.H.Home.entered g.H.Home.faults g.H.Home.last_failed log c.close_spare.new.self log.spare.spot ⊥ l.stable l.stable c.args.home.now c.close_spare.new.home (Err c.in-Err.fault) =
     record {
       spots = c.requires.held.spots;

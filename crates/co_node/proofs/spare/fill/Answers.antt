@@ -2,6 +2,7 @@ use Rattle.std.proofs.Common.{◌≡◌, ◌∷◌, [], List, length, sym, refl,
 use Rattle.std.specs.Prelude.{Err, reverse}
 use Rattle.co_base.specs.declared.mark.Mark.{Mark}
 use Rattle.co_base.specs.declared.node.Node.{Node}
+use Rattle.co_record.specs.Format.{newest}
 use Rattle.co_log.specs.LogFile.{placed_from}
 use Rattle.co_log.specs.Spare.{IsOverfull, filling}
 use Rattle.co_node.specs.Answers.{seen, IsAnswered}
@@ -55,13 +56,13 @@ returns-in-Err-clause-answered g c = λ owner l s.
           let files = told_of file log c.requires.held.spots told in
           let next = next_is owner log l s (λ last. not_failed log.spare.spot log.spare.spot c.in-Err.fault is (c.in-Err.ensures.overfull (inr last))) in
           elim (filled_left log s.items items files.current.bytes files.spare.bytes c.in-Err.fault log.spare.spot is (c.in-Err.ensures.current s.items s.ordered files.current files.spare files.is_current files.is_spare)) [
-            | inl old ↦ (s.items, old_records file log log.generation s.items c.requires.held.spots c.in-Err.ensures.short files old, inl (sym s.stable))
-            | inr new ↦ (placed_from 5 (filling log items), new_records file log (log.generation + 1) (placed_from 5 (filling log items)) c.requires.held.spots c.in-Err.ensures.short files new, inr (filled_newest owner log l items s next))
+            | inl old ↦ (s.items, old_records file log log.version log.generation s.items c.requires.held.spots c.in-Err.ensures.short files old, inl (sym s.stable))
+            | inr new ↦ (placed_from 5 (filling log items), new_records file log newest (log.generation + 1) (placed_from 5 (filling log items)) c.requires.held.spots c.in-Err.ensures.short files new, inr (filled_newest owner log l items s next))
           ];
       wanting = λ is told.
           let files = told_of file log c.requires.held.spots told in
           let old = filled_wants log s.items items files.current.bytes files.spare.bytes c.in-Err.fault is (c.in-Err.ensures.current s.items s.ordered files.current files.spare files.is_current files.is_spare) in
-          (s.items, old_records file log log.generation s.items c.requires.held.spots c.in-Err.ensures.short files old, inl (sym s.stable));
+          (s.items, old_records file log log.version log.generation s.items c.requires.held.spots c.in-Err.ensures.short files old, inl (sym s.stable));
       short = c.in-Err.ensures.short;
       rest = c.in-Err.ensures.rest;
       device = c.in-Err.ensures.device;

@@ -8,5 +8,5 @@ use Rattle.co_record.proofs.list.read_rows.Goals as goal
 pub returns : goal.returns
 unfolding rows_at
 returns c =
-    list_read (number_at w32) row_at row_cmp _ _ _ _ c.in_ok-count.ensures c.in_ok-rest.ensures
-    ∙ ap (λ (xs : List Row). Ok (xs, c.in_ok-rest.rest.now)) (elements_as row_of entry_at _ _ ∙ ap (map row_of) (sym c.new.ensures))
+    list_read (number_at w32) (row_at c.args.version) row_cmp _ _ _ _ c.in_ok-count.ensures c.in_ok-rest.ensures
+    ∙ ap (λ (xs : List Row). Ok (xs, c.in_ok-rest.rest.now)) (elements_as row_of (entry_at c.args.version) _ _ ∙ ap (map row_of) (sym c.new.ensures))

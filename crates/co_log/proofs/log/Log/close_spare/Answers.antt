@@ -22,7 +22,7 @@ returns-in-Err-Stopped-clause-closing g c =
     let mid = ap (λ (d : DiskState). after_write d 0 (0 ∷ [])) (c.arm_for.ensures.state ∙ all_stable old still) in
     let e = stopped_early c.take-stop.result c.arm_for.new.disk.armed c.in-Err-Stopped.call (after_write c.arm_for.new.disk.state 0 (0 ∷ [])) c.write_through.new.disk c.arm_for.ensures.armed (c.in-Err-Stopped.ensures.stopped c.in-Err-Stopped.call (search rules)) in
     let chosen = subst (λ (d : DiskState). IsChosen d e.0.leaves c.write_through.new.disk.state.stable) mid e.0.left.chosen in
-    let after : LogView = record { node = c.self.inside.node; current = c.self.inside.current; spare = c.write_through.new.disk; gate = c.self.inside.gate; generation = c.self.inside.generation; waiting = c.clear.new.self.items; stop = c.take-stop.new.self } in
+    let after : LogView = record { node = c.self.inside.node; version = c.self.inside.version; current = c.self.inside.current; spare = c.write_through.new.disk; gate = c.self.inside.gate; generation = c.self.inside.generation; waiting = c.clear.new.self.items; stop = c.take-stop.new.self } in
     subst (λ (l : LogView). IsClosing l after (Err (faults.Stopped c.in-Err-Stopped.call false c.new-marks.result))) c.self.view_is (
       e.0.leaves,
       sym c.take-stop.ensures.value ∙ e.0.is,
@@ -31,6 +31,7 @@ returns-in-Err-Stopped-clause-closing g c =
       c.new-marks.ensures,
       record {
         node = refl;
+        version = refl;
         current = refl;
         gate = refl;
         generation = refl;
@@ -82,10 +83,11 @@ returns-in-Ok-clause-closing g c =
     let still = subst (λ (l : LogView). l.spare.state.pending ≡ []) (sym c.self.view_is) c.requires.still in
     let done = ap (λ (d : DiskView). d.state) c.disarm.ensures ∙ c.in-Ok.ensures.done ∙ ap (λ (d : DiskState). after_sync (after_write d 0 (0 ∷ []))) c.arm_for.ensures.state in
     let it = closed_spare old c.disarm.new.self.state still done in
-    let after : LogView = record { node = c.self.inside.node; current = c.self.inside.current; spare = c.disarm.new.self; gate = c.self.inside.gate; generation = c.self.inside.generation; waiting = c.self.inside.waiting.items; stop = c.take-stop.new.self } in
+    let after : LogView = record { node = c.self.inside.node; version = c.self.inside.version; current = c.self.inside.current; spare = c.disarm.new.self; gate = c.self.inside.gate; generation = c.self.inside.generation; waiting = c.self.inside.waiting.items; stop = c.take-stop.new.self } in
     subst (λ (l : LogView). IsClosing l after (Ok tt)) c.self.view_is (
       record {
         node = refl;
+        version = refl;
         current = refl;
         gate = refl;
         generation = refl;

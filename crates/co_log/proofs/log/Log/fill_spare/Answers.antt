@@ -36,23 +36,23 @@ returns-in_err-ending-clause-told g c = inr (λ f told.
 
 pub returns-in-Whole-clause-filling : goal.returns-in-Whole-clause-filling
 returns-in-Whole-clause-filling g c =
-    let log : LogView = record { node = c.self.inside.node; current = c.self.inside.current; spare = c.self.inside.spare; gate = c.self.inside.gate; generation = c.self.inside.generation; waiting = c.self.inside.waiting.items; stop = c.self.inside.stop } in
+    let log : LogView = record { node = c.self.inside.node; version = c.self.inside.version; current = c.self.inside.current; spare = c.self.inside.spare; gate = c.self.inside.gate; generation = c.self.inside.generation; waiting = c.self.inside.waiting.items; stop = c.self.inside.stop } in
     let items = c.args.items.now in
     let ends = ends_at_once c.self.inside.spare.state.stable (subst (λ (l : LogView). begins_closed l.spare.state.stable ≡ true) (sym c.self.view_is) c.requires.closed) in
     let ended = subst (λ (e : Ending). IsEnding e c.self.inside.stop c.append.new.disk 0 [] (filling log items)) c.in-Whole.is (c.in_ok-ending.ensures.ended [] ends) in
     let mark : Mark = filling_mark log in
-    let open' = live_open log.current.state.stable log.gate _ (subst (λ (l : LogView). IsLive l c.requires.live.0) (sym c.self.view_is) c.requires.live.1).made (subst (λ (l : LogView). IsLive l c.requires.live.0) (sym c.self.view_is) c.requires.live.1).ends in
+    let open' = live_open log.version log.current.state.stable log.gate _ (subst (λ (l : LogView). IsLive l c.requires.live.0) (sym c.self.view_is) c.requires.live.1).made (subst (λ (l : LogView). IsLive l c.requires.live.0) (sym c.self.view_is) c.requires.live.1).ends in
     let done = filled log open' c.append.new.disk c.clear.new.self.items c.append.new.stop items c.in-Whole.next c.append.ensures.spot c.clear.ensures.items c.in_ok-ending.ensures.disarmed c.in_ok-ending.ensures.stable ended.1 ended.2 in
     subst (λ (l : LogView). IsFilling l items c.turn.new.self (Ok mark)) c.self.view_is
     (subst (λ (a : LogView). IsFilling log items a (Ok mark)) (sym c.turn.ensures) (ended.0, refl, done))
 
 pub returns-clause-filling : goal.returns-clause-filling
 returns-clause-filling g c =
-    let log : LogView = record { node = c.self.inside.node; current = c.self.inside.current; spare = c.self.inside.spare; gate = c.self.inside.gate; generation = c.self.inside.generation; waiting = c.self.inside.waiting.items; stop = c.self.inside.stop } in
+    let log : LogView = record { node = c.self.inside.node; version = c.self.inside.version; current = c.self.inside.current; spare = c.self.inside.spare; gate = c.self.inside.gate; generation = c.self.inside.generation; waiting = c.self.inside.waiting.items; stop = c.self.inside.stop } in
     let items = c.args.items.now in
     let ends = ends_at_once c.self.inside.spare.state.stable (subst (λ (l : LogView). begins_closed l.spare.state.stable ≡ true) (sym c.self.view_is) c.requires.closed) in
     let ended = subst (λ (e : Ending). IsEnding e c.self.inside.stop c.append.new.disk 0 [] (filling log items)) c.in-Stopped.is (c.in_ok-ending.ensures.ended [] ends) in
-    let open' = live_open log.current.state.stable log.gate _ (subst (λ (l : LogView). IsLive l c.requires.live.0) (sym c.self.view_is) c.requires.live.1).made (subst (λ (l : LogView). IsLive l c.requires.live.0) (sym c.self.view_is) c.requires.live.1).ends in
+    let open' = live_open log.version log.current.state.stable log.gate _ (subst (λ (l : LogView). IsLive l c.requires.live.0) (sym c.self.view_is) c.requires.live.1).made (subst (λ (l : LogView). IsLive l c.requires.live.0) (sym c.self.view_is) c.requires.live.1).ends in
     let done = filled_if c.in-Stopped.stable log open' c.append.new.disk c.clear.new.self.items c.append.new.stop items c.in-Stopped.next c.append.ensures.spot c.clear.ensures.items c.in_ok-ending.ensures.disarmed c.in_ok-ending.ensures.stable ended.3 ended.4 in
     subst (λ (l : LogView). IsFilling l items c.turn_if.new.self (Err (faults.Stopped c.in-Stopped.call c.in-Stopped.stable c.marks_if-marks.result))) c.self.view_is
     (subst (λ (a : LogView). IsFilling log items a (Err (faults.Stopped c.in-Stopped.call c.in-Stopped.stable c.marks_if-marks.result))) (sym c.turn_if.ensures)
@@ -69,7 +69,7 @@ returns-in_err-told-clause-current g c =
 
 pub returns-in_err-ending-clause-current : goal.returns-in_err-ending-clause-current
 returns-in_err-ending-clause-current g c =
-    let log : LogView = record { node = c.self.inside.node; current = c.self.inside.current; spare = c.self.inside.spare; gate = c.self.inside.gate; generation = c.self.inside.generation; waiting = c.self.inside.waiting.items; stop = c.self.inside.stop } in
+    let log : LogView = record { node = c.self.inside.node; version = c.self.inside.version; current = c.self.inside.current; spare = c.self.inside.spare; gate = c.self.inside.gate; generation = c.self.inside.generation; waiting = c.self.inside.waiting.items; stop = c.self.inside.stop } in
     let items = c.args.items.now in
     let closed = subst (λ (l : LogView). begins_closed l.spare.state.stable ≡ true) (sym c.self.view_is) c.requires.closed in
     let ends = ends_at_once c.self.inside.spare.state.stable closed in
@@ -94,7 +94,7 @@ invariant_of-self g c = (c.self.invariant.0, c.append.ensures.stop, c.self.invar
 
 pub returns-in-Whole-clause-current : goal.returns-in-Whole-clause-current
 returns-in-Whole-clause-current g c =
-    let log : LogView = record { node = c.self.inside.node; current = c.self.inside.current; spare = c.self.inside.spare; gate = c.self.inside.gate; generation = c.self.inside.generation; waiting = c.self.inside.waiting.items; stop = c.self.inside.stop } in
+    let log : LogView = record { node = c.self.inside.node; version = c.self.inside.version; current = c.self.inside.current; spare = c.self.inside.spare; gate = c.self.inside.gate; generation = c.self.inside.generation; waiting = c.self.inside.waiting.items; stop = c.self.inside.stop } in
     let items = c.args.items.now in
     let ends = ends_at_once c.self.inside.spare.state.stable (subst (λ (l : LogView). begins_closed l.spare.state.stable ≡ true) (sym c.self.view_is) c.requires.closed) in
     let ended = subst (λ (e : Ending). IsEnding e c.self.inside.stop c.append.new.disk 0 [] (filling log items)) c.in-Whole.is (c.in_ok-ending.ensures.ended [] ends) in
@@ -104,7 +104,7 @@ returns-in-Whole-clause-current g c =
 
 pub returns-clause-current : goal.returns-clause-current
 returns-clause-current g c =
-    let log : LogView = record { node = c.self.inside.node; current = c.self.inside.current; spare = c.self.inside.spare; gate = c.self.inside.gate; generation = c.self.inside.generation; waiting = c.self.inside.waiting.items; stop = c.self.inside.stop } in
+    let log : LogView = record { node = c.self.inside.node; version = c.self.inside.version; current = c.self.inside.current; spare = c.self.inside.spare; gate = c.self.inside.gate; generation = c.self.inside.generation; waiting = c.self.inside.waiting.items; stop = c.self.inside.stop } in
     let items = c.args.items.now in
     let ends = ends_at_once c.self.inside.spare.state.stable (subst (λ (l : LogView). begins_closed l.spare.state.stable ≡ true) (sym c.self.view_is) c.requires.closed) in
     let ended = subst (λ (e : Ending). IsEnding e c.self.inside.stop c.append.new.disk 0 [] (filling log items)) c.in-Stopped.is (c.in_ok-ending.ensures.ended [] ends) in
