@@ -53,7 +53,7 @@ current_records file node x y c s version generation items parts within_x within
       told_b = λ f is. same_file (ap file (sym own.1) ∙ is_s) is;
       within_a = subst (λ (t : Spot). IsWithin most_log_bytes (file t)) own.0 within_x;
       within_b = subst (λ (t : Spot). IsWithin most_log_bytes (file t)) own.1 within_y;
-      current = inr (inl (refl, (version, (generation, current))));
+      current = inr (inl (refl, (version, generation, current)));
     },
   )
   | inr own ↦ (
@@ -65,7 +65,7 @@ current_records file node x y c s version generation items parts within_x within
       told_b = λ f is. same_file (ap file (sym own.0) ∙ is_c) is;
       within_a = subst (λ (t : Spot). IsWithin most_log_bytes (file t)) own.1 within_y;
       within_b = subst (λ (t : Spot). IsWithin most_log_bytes (file t)) own.0 within_x;
-      current = inr (inr (refl, (version, (generation, current))));
+      current = inr (inr (refl, (version, generation, current)));
     },
   )
 ]
