@@ -13,7 +13,7 @@ use Rattle.co_state.specs.EngineState.{operations_of}
 use Rattle.co_state.specs.ReadRule.{snapshot_of}
 use Rattle.co_plain.specs.Numbers.{has_number}
 use Rattle.co_plain.specs.Opening.{kind_of}
-use Rattle.co_plain.specs.Sessions.{count_at, same_node}
+use Rattle.co_plain.specs.Sessions.{count_at}
 use Rattle.co_plain.specs.Federation.{Federation}
 use Rattle.co_plain.specs.Decisions.{told_of, is_decided}
 use Rattle.co_plain.specs.CommitmentOrder.{Trace, Operated, Committed, decider_in, decides_at, decided_in, installs, before_first, part_seen, OperatedIn, ReadsKey, WritesKey, InstalledFirst, Before, Precedes, ReadAfter, ReadBefore, WroteBefore, StandsBefore, Stands}

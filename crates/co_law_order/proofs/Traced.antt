@@ -23,10 +23,10 @@ use Rattle.co_plain.specs.Decisions.{told_of, decided_numbers}
 use Rattle.co_plain.specs.Invariants.{Memory}
 use Rattle.co_plain.specs.CommitmentOrder.{Trace, Began, Operated, Committed, decider_in, decides_at, decided_in, installs}
 use Rattle.co_plain.specs.Moves.{Move, Operate, MarkAsked, Cast, DropActive, DropVoted, Install, CommitLocally, CrashMember, RestartMember, ArmMember, CloseMemberSpare, FillMemberSpare, Begin, Collect, RecordYes, Decide, Leave, RecordAck, End, CrashCoord, RestartCoord, ArmCoord, CloseCoordSpare, FillCoordSpare, BeginLocal, AskEnd, Send, Guard, effect, entered_reply, marked_over, record_yes, record_ack, session_by_member, may_operate_at, install_state, local_state, with_decision}
-use Rattle.co_law_base.proofs.Lookups.{put_here, put_there, found_holds}
+use Rattle.co_law_base.proofs.Lookups.{put_here, put_there}
 use Rattle.co_law_base.proofs.Commits.{holds_more, holds_new, holds_cases}
 use Rattle.co_law_base.proofs.Facts.{rest_of, by_coord, belongs, Begun, Voted, Facts}
-use Rattle.co_law_base.proofs.Carrying.{at_each, at_here, by_coord_begun, over_seen, votes_stand}
+use Rattle.co_law_base.proofs.Carrying.{at_each, at_here, over_seen, votes_stand}
 use Rattle.co_law_base.proofs.TwoViews.{committed_both}
 use Rattle.co_law_member.proofs.LogMoves.{not_held}
 use Rattle.co_law_session.proofs.Asking.{same_reading}
