@@ -90,7 +90,7 @@ fn lines_are_lent_one_byte_at_a_time(rt: HostRuntime) -> Result<(), Fail> {
         bytes: Vec::from_slice(rt.alloc(), b"members lock coords 1\n\nread 1 m1 a")?,
         at: 0,
     };
-    let mut reader = Lines::new(rt.alloc(), 1024, 262144)?;
+    let mut reader = Lines::new(rt.alloc(), 8192, 262144)?;
     is_next(&rt, &mut reader, &mut source, b"members lock coords 1");
     is_next(&rt, &mut reader, &mut source, b"");
     is_next(&rt, &mut reader, &mut source, b"read 1 m1 a");
@@ -104,7 +104,7 @@ fn a_fault_comes_behind_the_lines_taken_before_it(rt: HostRuntime) -> Result<(),
         calls: 0,
         faults: 0,
     };
-    let mut reader = Lines::new(rt.alloc(), 1024, 262144)?;
+    let mut reader = Lines::new(rt.alloc(), 8192, 262144)?;
     is_next(&rt, &mut reader, &mut source, b"members lock coords 1");
     is_next(&rt, &mut reader, &mut source, b"begin 1 c1");
     assert!(rt; matches!(reader.next(&mut source), Err(LinesFault::Read)));
@@ -146,7 +146,7 @@ fn a_byte_behind_the_last_line_is_too_many(rt: HostRuntime) -> Result<(), Fail> 
 #[test]
 fn a_skipped_line_leaves_the_next_one(rt: HostRuntime) -> Result<(), Fail> {
     let mut source = memory(rt.alloc(), b"first\nsecond")?;
-    let mut reader = Lines::new(rt.alloc(), 1024, 262144)?;
+    let mut reader = Lines::new(rt.alloc(), 8192, 262144)?;
     assert!(rt; skip_line(&mut reader, &mut source)?);
     is_next(&rt, &mut reader, &mut source, b"second");
     assert!(rt; !skip_line(&mut reader, &mut source)?);

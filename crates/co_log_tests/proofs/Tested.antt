@@ -9,7 +9,7 @@ use Rattle.co_record.specs.Stored.{HasRecords}
 use Rattle.co_log.specs.declared.stop.Stop.{Stop}
 use Rattle.co_log.specs.Current.{IsReady}
 use Rattle.co_log.specs.LogView.{LogView}
-use Rattle.co_log.proofs.Files.{has_records}
+use Rattle.co_log.proofs.Versions.{begun_records}
 use Rattle.co_log.proofs.Ordered.{ready_same}
 use Rattle.co_log.proofs.Unmade.{read_stable}
 
@@ -17,9 +17,9 @@ use Rattle.co_log.proofs.Unmade.{read_stable}
 pub ready_waiting : (file : Spot → Option File) (reach : Spot → ℕ) (log after : LogView) (waiting : List Record) (stop : Option Stop) → after ≡ record log { waiting = waiting; stop = stop }
     → IsReady file reach log → IsReady file reach after
 ready_waiting file reach log after waiting stop is ready =
-    ready_same file reach log after ready (ap (λ (l : LogView). l.node) is) (ap (λ (l : LogView). l.current) is) (ap (λ (l : LogView). l.spare) is) (ap (λ (l : LogView). l.gate) is) (ap (λ (l : LogView). l.generation) is)
+    ready_same file reach log after ready (ap (λ (l : LogView). l.node) is) (ap (λ (l : LogView). l.version) is) (ap (λ (l : LogView). l.current) is) (ap (λ (l : LogView). l.spare) is) (ap (λ (l : LogView). l.gate) is) (ap (λ (l : LogView). l.generation) is)
 
 -- its current file has records
 pub ready_records : (file : Spot → Option File) (reach : Spot → ℕ) (log : LogView) → IsReady file reach log → (items : List (ℕ × Record)) × HasRecords (read_of log.current.state) items
 ready_records file reach log ready =
-    (ready.items, subst (λ (b : List ℕ). HasRecords b ready.items) (sym (read_stable log.current.state ready.ordered.live.still)) (has_records log.current.state.stable log.gate ready.items ready.ordered.live.ends))
+    (ready.items, subst (λ (b : List ℕ). HasRecords b ready.items) (sym (read_stable log.current.state ready.ordered.live.still)) (begun_records log.version log.node log.generation log.current.state.stable log.gate ready.items ready.ordered.live.known ready.ordered.header ready.ordered.live.ends))

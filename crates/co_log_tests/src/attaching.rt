@@ -4,8 +4,11 @@ use co_log::{Log, LogFault};
 use co_outside::{HomeTwist, Spot};
 use std::alloc::Global;
 
-/// The log of member 1 with a header alone.
-const HEADER: [u8; 13] = *b"\xa5\x00\x00\x00\x07\x01\x01\x01\x00\x00\x00\x01\x00";
+/// The log of member 1 with a header alone, in version 1.
+const OLDEST: [u8; 13] = *b"\xa5\x00\x00\x00\x07\x01\x01\x01\x00\x00\x00\x01\x00";
+
+/// The same in version 2.
+const HEADER: [u8; 13] = *b"\xa5\x00\x00\x00\x07\x01\x02\x01\x00\x00\x00\x01\x00";
 
 /// Two files of member 1, whether its run is resumed, and how attaching its log ends.
 #[derive(Drop)]
@@ -17,9 +20,9 @@ struct Row {
     numbers: [u32; 3],
 }
 
-/// A file of more than one byte is in use, the first fault of a file is told, and two files of one generation are
-/// no log.
-static ROWS: [Row; 5] = [
+/// A file of more than one byte is in use, a log tells the version of its current file, the first fault of a file is told,
+/// and two files of one generation are no log.
+static ROWS: [Row; 7] = [
     Row {
         a: b"\x00\x00",
         b: b"",
@@ -32,24 +35,38 @@ static ROWS: [Row; 5] = [
         b: b"",
         resume: true,
         word: "fresh",
-        numbers: [2, 0, 0],
+        numbers: [2, 0, 2],
     },
     Row {
-        a: b"\xa5\x00\x00\x00\x07\x01\x01\x01",
+        a: &OLDEST,
+        b: b"",
+        resume: true,
+        word: "made",
+        numbers: [13, 0, 1],
+    },
+    Row {
+        a: b"",
+        b: &HEADER,
+        resume: true,
+        word: "made",
+        numbers: [0, 13, 2],
+    },
+    Row {
+        a: b"\xa5\x00\x00\x00\x07\x01\x02\x01",
         b: b"",
         resume: true,
         word: "bad",
         numbers: [1, 0, 0],
     },
     Row {
-        a: b"\xa5\x00\x00\x00\x07\x01\x01\x02\x00\x00\x00\x01\x00",
+        a: b"\xa5\x00\x00\x00\x07\x01\x02\x02\x00\x00\x00\x01\x00",
         b: b"",
         resume: true,
         word: "bad",
         numbers: [1, 0, 5],
     },
     Row {
-        a: &HEADER,
+        a: &OLDEST,
         b: &HEADER,
         resume: true,
         word: "bad",
@@ -57,14 +74,14 @@ static ROWS: [Row; 5] = [
     },
 ];
 
-/// How attaching a log ended, in a word, with the lengths of its files, or with the spot that is told and the place
-/// there.
+/// How attaching a log ended, in a word, with the lengths of its files and its version, or with the spot that is told and
+/// the place there.
 fn ended(attached: Result<Log, LogFault>) -> (&'static str, [u32; 3]) {
     match attached {
         Ok(log) => {
             let (a, b) = log.lengths();
             let word = if log.fresh() { "fresh" } else { "made" };
-            (word, [a, b, 0])
+            (word, [a, b, log.version() as u32])
         }
         Err(LogFault::InUse { spot }) => ("in use", numbers(spot, 0)),
         Err(LogFault::Bad { spot, at }) => ("bad", numbers(spot, at)),

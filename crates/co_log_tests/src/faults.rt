@@ -11,7 +11,7 @@ use co_outside::{FailAt, HomeCall, HomeMemory, Spot};
 use std::alloc::Global;
 
 /// A log of the last generation, with a header alone.
-static LAST: [u8; 13] = *b"\xa5\x00\x00\x00\x07\x01\x01\x01\xff\xff\xff\xff\x00";
+static LAST: [u8; 13] = *b"\xa5\x00\x00\x00\x07\x01\x02\x01\xff\xff\xff\xff\x00";
 
 /// The calls of each kind that the whole way of a log makes on each of its files.
 static CALLS: [(Spot, HomeCall, u32); 6] = [

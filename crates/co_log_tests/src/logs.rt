@@ -11,7 +11,7 @@ ghost use Rattle.co_log_tests.specs.Ready.{IsReadyIn};
 use co_base::{Leaves, Mark, Marks, Node, Txn};
 use co_log::{Log, LogFault};
 use co_outside::{HomeMemory, Spot};
-use co_record::Record;
+use co_record::{NEWEST_VERSION, Record};
 use std::alloc::{AllocError, Global};
 
 /// The node whose logs are tried.
@@ -38,7 +38,7 @@ pub(crate) fn put(
     home.put(spot, bytes.to_vec(alloc)?)
 }
 
-/// The log of a node as a start finds it, made where it is fresh.
+/// The log of a node as a start finds it, made where it is fresh. One of version 1 is said to be in use.
 pub(crate) fn opened(
     alloc: Global,
     home: &mut HomeMemory,
@@ -53,7 +53,10 @@ pub(crate) fn opened(
         log.make(home)?;
         return Ok(log);
     }
-    Ok(log)
+    if log.version() == NEWEST_VERSION {
+        return Ok(log);
+    }
+    Err(LogFault::InUse { spot: log.spot() })
 }
 
 /// Keeps an abort record waiting.

@@ -145,7 +145,7 @@ fn front_again(alloc: Global, bytes: &[u8], batch: &mut Vec<u8>) -> Result<u32, 
     requires { length bytes.now ≤ 4096 }
     ensures { IfOk result (λ count. count ≤ length bytes.now) }
 {
-    match read_record(bytes) {
+    match read_record(bytes, 2) {
         Ok((view, count)) => {
             spell(batch, record_again(alloc, view)?)?;
             Ok(count)

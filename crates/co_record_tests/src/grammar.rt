@@ -1,12 +1,16 @@
 //! What reading the record at the front of some bytes gives.
+ghost use Rattle.std.specs.Prelude.{◌≤◌};
+
 use co_record::{RecordFault, read_record};
 
-/// What reading gives, in a word, and how many bytes are read, or the place of the field outside its set.
-fn judged(bytes: &[u8]) -> (&'static str, u32) {
-    if bytes.len() > 4096 {
+/// What reading in a version gives, in a word, and how many bytes are read, or the place of the field outside its set.
+fn judged(bytes: &[u8], version: u8) -> (&'static str, u32)
+    requires { (1 ≤ version) × (version ≤ 2) }
+{
+    if bytes.len() > 8192 {
         return ("long", 0);
     }
-    match read_record(bytes) {
+    match read_record(bytes, version) {
         Ok((_, length)) => ("read", length),
         Err(RecordFault::Short) => ("short", 0),
         Err(RecordFault::Kind) => ("kind", 0),
@@ -14,10 +18,12 @@ fn judged(bytes: &[u8]) -> (&'static str, u32) {
     }
 }
 
-/// The number of the first row whose bytes are judged otherwise, counted from 0.
-fn wrong_row(rows: &[(&[u8], &str, u32)]) -> Option<usize> {
+/// The number of the first row whose bytes are judged otherwise in a version, counted from 0.
+fn wrong_row(version: u8, rows: &[(&[u8], &str, u32)]) -> Option<usize>
+    requires { (1 ≤ version) × (version ≤ 2) }
+{
     for (number, (bytes, word, count)) in rows.iter().enumerate() {
-        let (told, counted) = judged(bytes);
+        let (told, counted) = judged(bytes, version);
         if told != *word || counted != *count {
             return Some(number);
         }
@@ -53,10 +59,10 @@ static RECORDS: [(&[u8], &str, u32); 22] = [
     (b"\x03\x00\x00\x00\x01\x00", "read", 6),
     (b"\x03\xff\xff\xff\xff\x00", "read", 6),
     (b"\x03\xff\xff\x01\xff\x00", "read", 6),
-    (b"\x01\x01\x10\x00\x00\x00\x10", "read", 7),
-    (b"\x01\x01\x88\xff\xff\x61\xff", "read", 7),
-    (b"\x01\x01\x10\x00\x00\x00\x00", "read", 7),
-    (b"\x01\x01\x01\x00\x00\x00\x00", "read", 7),
+    (b"\x01\x02\x10\x00\x00\x00\x10", "read", 7),
+    (b"\x01\x02\x88\xff\xff\x61\xff", "read", 7),
+    (b"\x01\x02\x10\x00\x00\x00\x00", "read", 7),
+    (b"\x01\x02\x01\x00\x00\x00\x00", "read", 7),
     (
         b"\x02\x00\x00\x00\x00\x01\x00\x01\x00\x00\x00\x00",
         "read",
@@ -102,7 +108,7 @@ static RECORDS: [(&[u8], &str, u32); 22] = [
 /// Bytes with a whole field outside its set, and its place.
 static FAULTS: [(&[u8], &str, u32); 27] = [
     (b"\x01\x88\xff\xff\xff", "field", 1),
-    (b"\x01\x01\x00\x00\x7e\x00", "field", 2),
+    (b"\x01\x02\x00\x00\x7e\x00", "field", 2),
     (b"\x03\x00\x00\x00\x01\x01\x00", "field", 6),
     (b"\x03\xff\xff\xff\x02\x03\x08\xd5", "field", 7),
     (b"\x03\xff\xff\x7f\xff\xff\x02\x0d\x0f", "field", 5),
@@ -237,22 +243,66 @@ static SHORT: [(&[u8], &str, u32); 11] = [
     (b"\x7b\x11\x00", "kind", 0),
 ];
 
+/// Headers and lengths of values in version 1.
+static OLDEST: [(&[u8], &str, u32); 4] = [
+    (b"\x01\x01\x88\xff\xff\x61\xff", "read", 7),
+    (b"\x01\x02\x88\xff\xff\x61\xff", "field", 1),
+    (
+        b"\x06\x00\x00\x00\x01\x01\x7e\x01\x00",
+        "short",
+        0,
+    ),
+    (
+        b"\x06\x00\x00\x00\x01\x01\x7e\x01\x01",
+        "field",
+        7,
+    ),
+];
+
+/// The same in version 2.
+static NEWEST: [(&[u8], &str, u32); 5] = [
+    (b"\x01\x01\x88\xff\xff\x61\xff", "field", 1),
+    (b"\x01\x02\x88\xff\xff\x61\xff", "read", 7),
+    (
+        b"\x06\x00\x00\x00\x01\x01\x7e\x01\x01",
+        "short",
+        0,
+    ),
+    (
+        b"\x06\x00\x00\x00\x01\x01\x7e\x10\x00",
+        "short",
+        0,
+    ),
+    (
+        b"\x06\x00\x00\x00\x01\x01\x7e\x10\x01",
+        "field",
+        7,
+    ),
+];
+
+#[test]
+fn versions_differ_in_headers_and_lengths_of_values(rt: HostRuntime) {
+    assert_eq!(rt; wrong_row(1, &OLDEST), None);
+    assert_eq!(rt; wrong_row(2, &NEWEST), None);
+}
+
 #[test]
 fn the_first_fault_from_the_left_is_answered(rt: HostRuntime) {
-    assert_eq!(rt; wrong_row(&ANSWERS), None);
+    assert_eq!(rt; wrong_row(1, &ANSWERS), None);
+    assert_eq!(rt; wrong_row(2, &ANSWERS), None);
 }
 
 #[test]
 fn records_of_each_kind_are_read(rt: HostRuntime) {
-    assert_eq!(rt; wrong_row(&RECORDS), None);
+    assert_eq!(rt; wrong_row(2, &RECORDS), None);
 }
 
 #[test]
 fn a_field_outside_its_set_is_found_at_its_place(rt: HostRuntime) {
-    assert_eq!(rt; wrong_row(&FAULTS), None);
+    assert_eq!(rt; wrong_row(2, &FAULTS), None);
 }
 
 #[test]
 fn bytes_that_end_early_are_short(rt: HostRuntime) {
-    assert_eq!(rt; wrong_row(&SHORT), None);
+    assert_eq!(rt; wrong_row(2, &SHORT), None);
 }

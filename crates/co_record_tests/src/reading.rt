@@ -8,7 +8,7 @@ use co_record::{ChangeWalk, MemberWalk, PairWalk, RecordView, TxnWalk, read_reco
 fn is_header(bytes: &[u8], byte: u8, number: u32) -> bool
     requires { length bytes.now ≤ 4096 }
 {
-    match read_record(bytes) {
+    match read_record(bytes, 2) {
         Ok((RecordView::Header { node, generation }, _)) => {
             node.byte() == byte && generation == number
         }
@@ -54,7 +54,7 @@ fn has_members(mut walk: MemberWalk<'_>, wanted: &[u8]) -> bool {
 fn is_vote(bytes: &[u8]) -> bool
     requires { length bytes.now ≤ 4096 }
 {
-    match read_record(bytes) {
+    match read_record(bytes, 2) {
         Ok(
             (
                 RecordView::Prepare {
@@ -77,7 +77,7 @@ fn is_vote(bytes: &[u8]) -> bool
 fn is_commit(bytes: &[u8], wanted: &[u8]) -> bool
     requires { length bytes.now ≤ 4096 }
 {
-    match read_record(bytes) {
+    match read_record(bytes, 2) {
         Ok((RecordView::Commit { members, .. }, _)) => has_members(members, wanted),
         _ => false,
     }
@@ -87,7 +87,7 @@ fn is_commit(bytes: &[u8], wanted: &[u8]) -> bool
 fn is_checkpoint(bytes: &[u8]) -> bool
     requires { length bytes.now ≤ 4096 }
 {
-    match read_record(bytes) {
+    match read_record(bytes, 2) {
         Ok(
             (
                 RecordView::Checkpoint {

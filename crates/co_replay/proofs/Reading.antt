@@ -10,6 +10,7 @@ use Rattle.std.proofs.lemmas.Option.{slice_get-map, slice_get-get_or, slice_get_
 use denote.Ref.{Bor}
 use Rattle.co_base.specs.declared.head.Head.{Head}
 use Rattle.co_message.specs.declared.event.Event.{Event}
+use Rattle.co_schedule.specs.Limits.{longest_line}
 use Rattle.co_schedule.specs.Spelling.{line_text}
 use Rattle.co_schedule.specs.View.{IsEventFor}
 use Rattle.co_schedule.specs.declared.fault.LineFault.{LineFault}
@@ -38,7 +39,7 @@ pub record HasPushed (head : Head) (text : List (List ℕ)) (done : List Event) 
   pub lines : map line_text done ≡ take (i + 1) text
   pub events : All (HasLine head) done
 
-pub not_more : (n : ℕ) → (1024 < n → ⊥) → n ≤ 1024
+pub not_more : (n : ℕ) → (longest_line < n → ⊥) → n ≤ longest_line
 not_more n h = grind (arith, h)
 
 length_push : (events : List Event) (e : Event) → length (events ++ e ∷ []) ≡ length events + 1
@@ -47,12 +48,12 @@ length_push (d ∷ ds) e = let k = length_push ds e in omega (arith, k)
 
 pub pushed : (head : Head) (lines : List (List ℕ)) (events : List Event) (i : ℕ) (line : List ℕ) (e : Event) → length events ≡ i
     → map line_text events ≡ take i lines → All (HasLine head) events → slice_get lines i ≡ Some line
-    → IsEventFor (length head.kinds) head.coords e → line ≡ line_text e → length line ≤ 1024 → HasPushed head lines (events ++ e ∷ []) i
+    → IsEventFor (length head.kinds) head.coords e → line ≡ line_text e → length line ≤ longest_line → HasPushed head lines (events ++ e ∷ []) i
 pushed head lines events i line e n m all at is t few =
     let a : suc i ≡ i + 1 = omega arith in
     let l = length_push events e in
     record {
       count = omega (arith, l, n);
       lines = map-append line_text events (e ∷ []) ∙ ap (λ xs. xs ++ line_text e ∷ []) m ∙ ap (λ x. take i lines ++ x ∷ []) (sym t) ∙ sym (take_one lines i line at) ∙ ap (λ k. take k lines) a;
-      events = All-push (HasLine head) events e all (is, subst (λ text. length text ≤ 1024) t few);
+      events = All-push (HasLine head) events e all (is, subst (λ text. length text ≤ longest_line) t few);
     }

@@ -4,6 +4,7 @@ use Rattle.std.specs.List.{slice_split, All}
 use denote.Ref.{Bor}
 use Rattle.co_base.specs.declared.head.Head.{Head}
 use Rattle.co_message.specs.declared.event.Event.{Event}
+use Rattle.co_schedule.specs.Limits.{longest_line}
 use Rattle.co_schedule.specs.Faults.{fault_in}
 use Rattle.co_schedule.specs.Grammar.{event_places}
 use Rattle.co_schedule.specs.LineText.{is_newline}
@@ -33,7 +34,7 @@ lines_of text = without_empty_end (slice_split is_newline text)
 
 -- an event that has a line in a schedule of this head
 abbrev pub HasLine : Head → Event → Type 0
-HasLine head event = IsEventFor (length head.kinds) head.coords event × (length (line_text event) ≤ 1024)
+HasLine head event = IsEventFor (length head.kinds) head.coords event × (length (line_text event) ≤ longest_line)
 
 -- the line of no event
 abbrev pub IsOutside : Head → List ℕ → Type 0
@@ -41,13 +42,13 @@ IsOutside head line = (event : Event) → HasLine head event → line ≡ line_t
 
 -- the line of a head
 abbrev pub IsHeadLine : Head → List ℕ → Type 0
-IsHeadLine head line = (line ≡ head_text head) × (length line ≤ 1024)
+IsHeadLine head line = (line ≡ head_text head) × (length line ≤ longest_line)
 
 -- what is wrong with a line: it is long, or else the first fault from the left
 abbrev pub IsFaultOf : Head → List ℕ → LineFault → Type 0
 IsFaultOf head line why =
-    ((why ≡ fault.Long) ↔ (1024 < length line))
-    × (length line ≤ 1024 → fault_in (event_places (length head.kinds) head.coords) line ≡ Some why)
+    ((why ≡ fault.Long) ↔ (longest_line < length line))
+    × (length line ≤ longest_line → fault_in (event_places (length head.kinds) head.coords) line ≡ Some why)
 
 -- the line, if there is one, is the line of no event
 abbrev pub StopsAt : Head → Option (List ℕ) → Type 0

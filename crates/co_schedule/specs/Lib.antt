@@ -9,3 +9,4 @@ pub mod Lines
 pub mod LineText
 pub mod Filling
 pub mod Next
+pub mod Limits

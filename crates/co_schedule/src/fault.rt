@@ -36,7 +36,7 @@ pub enum LineFault {
     /// Something stands behind the last word.
     #[error("something stands behind the last word")]
     Extra,
-    /// The line has more than 1,024 bytes.
+    /// The line has more than 8,192 bytes.
     #[error("the line is long")]
     Long,
     /// The first line is no head.

@@ -1,5 +1,6 @@
 //! The first line of a schedule.
 ghost use Rattle.std.specs.Prelude.{◌≡◌, ◌<◌, ◌≤◌, ◌+◌, ◌++◌, ◌↔◌, ◌⊎◌, [], ◌∷◌, length, map, codes, decimal, is_some, Ok, Err, Some, None, IfOk, IfErr, IfSome, OnOk, IsErrOf, option_map};
+ghost use Rattle.co_schedule.specs.Limits.{longest_line};
 ghost use Rattle.co_schedule.specs.Words.{Word, words_of};
 ghost use Rattle.co_schedule.specs.Spelling.{kind_word, head_words, head_text};
 ghost use Rattle.co_schedule.specs.Places.{step, one_of, is_in, first_fault, ◌▸◌};
@@ -130,12 +131,12 @@ fn read_head_words(alloc: Global, words: &mut Words<'_>) -> Result<Head, ReadFau
 
 /// Reads the first line of a schedule, without its newline.
 ///
-/// `Long` comes exactly where the line has more than 1,024 bytes, and `Head` exactly where it has
+/// `Long` comes exactly where the line has more than 8,192 bytes, and `Head` exactly where it has
 /// not and is the line of no head.
 pub fn read_head(alloc: Global, line: &[u8]) -> Result<Head, LineFault>
     ensures found { IfOk result (λ head. line.now ≡ head_text head) }
     ensures only { IsErrOf result LineFault.Head → (head : Head) → line.now ≡ head_text head → ⊥ }
-    ensures long { IsErrOf result LineFault.Long ↔ (1024 < length line.now) }
+    ensures long { IsErrOf result LineFault.Long ↔ (longest_line < length line.now) }
     ensures faults { IfErr result (λ fault. (fault ≡ LineFault.Long) ⊎ ((fault ≡ LineFault.Head) ⊎ (fault ≡ LineFault.Memory))) }
 {
     if line.len() > LONGEST_LINE {

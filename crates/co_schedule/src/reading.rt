@@ -3,6 +3,7 @@ ghost use Rattle.std.specs.Prelude.{◌≡◌, ◌<◌, ◌≤◌, ◌↔◌, []
 ghost use Rattle.std.specs.Ordering.{is_gt};
 ghost use Rattle.co_base.specs.Letters.{most_key_bytes, most_value_bytes};
 ghost use Rattle.co_base.specs.Order.{key_cmp};
+ghost use Rattle.co_schedule.specs.Limits.{longest_line};
 ghost use Rattle.co_schedule.specs.Words.{words_of};
 ghost use Rattle.co_schedule.specs.Spelling.{member_word, coord_word, node_word, message_words, event_words, line_text};
 ghost use Rattle.co_schedule.specs.Faults.{fault_of_kind, fault_in, IsFirstFault};
@@ -355,10 +356,10 @@ fn event_in(line: &[u8], nodes: NodeCounts) -> Result<LineView<'_>, Mistake>
 fn read_for(line: &[u8], nodes: NodeCounts) -> Result<LineView<'_>, LineFault>
     requires { (nodes.members ≤ 16) × (nodes.coords ≤ 8) }
     ensures found { IfOk result (λ view. IsEventFor nodes.members nodes.coords (event_of view) × (line.now ≡ line_text (event_of view))) }
-    ensures only { (event : Event) → IsEventFor nodes.members nodes.coords event → line.now ≡ line_text event → length line.now ≤ 1024 → IsOkAnd result (λ view. event_of view ≡ event) }
+    ensures only { (event : Event) → IsEventFor nodes.members nodes.coords event → line.now ≡ line_text event → length line.now ≤ longest_line → IsOkAnd result (λ view. event_of view ≡ event) }
     ensures texts { IfOk result (λ view. HasTexts (event_of view)) }
-    ensures long { (result ≡ Err LineFault.Long) ↔ (1024 < length line.now) }
-    ensures fault { length line.now ≤ 1024 → IfErr result (λ fault. fault_in (event_places nodes.members nodes.coords) line.now ≡ Some fault) }
+    ensures long { (result ≡ Err LineFault.Long) ↔ (longest_line < length line.now) }
+    ensures fault { length line.now ≤ longest_line → IfErr result (λ fault. fault_in (event_places nodes.members nodes.coords) line.now ≡ Some fault) }
 {
     if line.len() > LONGEST_LINE {
         return Err(LineFault::Long);
@@ -372,14 +373,14 @@ fn read_for(line: &[u8], nodes: NodeCounts) -> Result<LineView<'_>, LineFault>
 /// Reads a line, without its newline, as an event of a federation with this head. The view lends
 /// keys, values and digits out of the line.
 ///
-/// `Long` comes exactly where the line has more than 1,024 bytes. Otherwise the fault is the first
+/// `Long` comes exactly where the line has more than 8,192 bytes. Otherwise the fault is the first
 /// one from the left. No memory is taken.
 pub fn read_line<'a>(line: &'a [u8], head: &Head) -> Result<LineView<'a>, LineFault>
     ensures found { IfOk result (λ view. IsEventFor (length head.now.kinds) head.now.coords (event_of view) × (line.now ≡ line_text (event_of view))) }
-    ensures only { (event : Event) → IsEventFor (length head.now.kinds) head.now.coords event → line.now ≡ line_text event → length line.now ≤ 1024 → IsOkAnd result (λ view. event_of view ≡ event) }
+    ensures only { (event : Event) → IsEventFor (length head.now.kinds) head.now.coords event → line.now ≡ line_text event → length line.now ≤ longest_line → IsOkAnd result (λ view. event_of view ≡ event) }
     ensures texts { IfOk result (λ view. HasTexts (event_of view)) }
-    ensures long { (result ≡ Err LineFault.Long) ↔ (1024 < length line.now) }
-    ensures fault { length line.now ≤ 1024 → IfErr result (λ fault. fault_in (event_places (length head.now.kinds) head.now.coords) line.now ≡ Some fault) }
+    ensures long { (result ≡ Err LineFault.Long) ↔ (longest_line < length line.now) }
+    ensures fault { length line.now ≤ longest_line → IfErr result (λ fault. fault_in (event_places (length head.now.kinds) head.now.coords) line.now ≡ Some fault) }
 {
     read_for(line, NodeCounts::of(head))
 }

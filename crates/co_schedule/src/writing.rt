@@ -1,5 +1,6 @@
 //! Events as lines.
 ghost use Rattle.std.specs.Prelude.{◌≡◌, ◌<◌, ◌≤◌, [], ◌∷◌, map, ◌++◌, ◌⊎◌, length, OnOk, OnErr, IfErr, IsErrOf, decimal, codes};
+ghost use Rattle.co_schedule.specs.Limits.{longest_line};
 ghost use Rattle.co_schedule.specs.Words.{space, behind, spaced};
 ghost use Rattle.co_schedule.specs.Spelling.{member_word, coord_word, node_word, leaves_word, message_words, event_words, line_text, head_text, kind_word};
 
@@ -250,10 +251,10 @@ pub fn append_head(out: &mut Vec<u8>, head: &Head) -> Result<(), AllocError>
 }
 
 /// Appends the one line of the event, without a newline. `Long` comes exactly where the line has
-/// more than 1,024 bytes, unless memory ran out before. After a fault nothing is appended.
+/// more than 8,192 bytes, unless memory ran out before. After a fault nothing is appended.
 pub fn put_line(event: &Event, into: &mut Vec<u8>) -> Result<(), LineFault>
-    ensures ok { OnOk result ((into.new.items ≡ into.old.items ++ line_text event.now) × (length (line_text event.now) ≤ 1024)) }
-    ensures long { IsErrOf result LineFault.Long → 1024 < length (line_text event.now) }
+    ensures ok { OnOk result ((into.new.items ≡ into.old.items ++ line_text event.now) × (length (line_text event.now) ≤ longest_line)) }
+    ensures long { IsErrOf result LineFault.Long → longest_line < length (line_text event.now) }
     ensures faults { IfErr result (λ fault. (fault ≡ LineFault.Long) ⊎ (fault ≡ LineFault.Memory)) }
     ensures err { OnErr result (into.new.items ≡ into.old.items) }
 {
@@ -267,4 +268,4 @@ pub fn put_line(event: &Event, into: &mut Vec<u8>) -> Result<(), LineFault>
 }
 
 /// The most bytes of a line, without its newline.
-pub const LONGEST_LINE: usize = 1024;
+pub const LONGEST_LINE: usize = 8192;

@@ -9,13 +9,13 @@ const FOLDER: &str = "records_of_real_files";
 /// The logs of a transfer: transaction 1 wrote `a 5` at member 1 and `b 6` at member 2, and its
 /// coordinator decided to commit. Member 1 has installed it, member 2 has voted.
 const M1_A: &[u8] =
-    b"\xa5\0\0\0\x07\x01\x01\x01\0\0\0\x01\xa5\0\0\0\x16\x02\0\0\0\x01\x01\0\x02\0\x01\x01a\x01a\0\x01\x01a\x01\0\x015\xa5\0\0\0\x06\x03\0\0\0\x01\0\0";
+    b"\xa5\0\0\0\x07\x01\x02\x01\0\0\0\x01\xa5\0\0\0\x16\x02\0\0\0\x01\x01\0\x02\0\x01\x01a\x01a\0\x01\x01a\x01\0\x015\xa5\0\0\0\x06\x03\0\0\0\x01\0\0";
 
 const M2_A: &[u8] =
-    b"\xa5\0\0\0\x07\x01\x01\x02\0\0\0\x01\xa5\0\0\0\x16\x02\0\0\0\x01\x01\0\x02\0\x01\x01b\x01b\0\x01\x01b\x01\0\x016\0";
+    b"\xa5\0\0\0\x07\x01\x02\x02\0\0\0\x01\xa5\0\0\0\x16\x02\0\0\0\x01\x01\0\x02\0\x01\x01b\x01b\0\x01\x01b\x01\0\x016\0";
 
 const C1_A: &[u8] =
-    b"\xa5\0\0\0\x07\x01\x01\x81\0\0\0\x01\xa5\0\0\0\x08\x03\0\0\0\x01\x02\x01\x02\0";
+    b"\xa5\0\0\0\x07\x01\x02\x81\0\0\0\x01\xa5\0\0\0\x08\x03\0\0\0\x01\x02\x01\x02\0";
 
 /// Writes the logs.
 fn write_logs(rt: &HostRuntime) -> io::Result<()> {

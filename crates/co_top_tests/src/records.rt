@@ -10,12 +10,12 @@ const M2_B: Spot = Spot { node: 2, part: 1 };
 
 const C1_A: Spot = Spot { node: 129, part: 0 };
 
-/// A log of member 1: transaction 1 wrote `a 5`, and is committed.
+/// A log of member 1 in version 1: transaction 1 wrote `a 5`, and is committed.
 const COMMITTED: &[u8] =
     b"\xa5\0\0\0\x07\x01\x01\x01\0\0\0\x01\xa5\0\0\0\x16\x02\0\0\0\x01\x01\0\x02\0\x01\x01a\x01a\0\x01\x01a\x01\0\x015\xa5\0\0\0\x06\x03\0\0\0\x01\0\0";
 
 /// A log of coordinator 1 with an end of what has no commit.
-const ENDED: &[u8] = b"\xa5\0\0\0\x07\x01\x01\x81\0\0\0\x01\xa5\0\0\0\x05\x05\0\0\0\x01\0";
+const ENDED: &[u8] = b"\xa5\0\0\0\x07\x01\x02\x81\0\0\0\x01\xa5\0\0\0\x05\x05\0\0\0\x01\0";
 
 /// These files, and what fails. The schedule is not read.
 fn case<'a>(files: &'a [LogFile<'a>], failing: Failing) -> Case<'a> {

@@ -26,6 +26,7 @@ use Rattle.co_message.specs.declared.event.Event.TheVariants as event
 use Rattle.co_message.specs.declared.item.Item.{Item}
 use Rattle.co_message.specs.declared.item.ItemKind.{ItemKind}
 use Rattle.co_message.specs.declared.item.ItemKind.TheVariants as item
+use Rattle.co_schedule.specs.Limits.{longest_line}
 use Rattle.co_schedule.specs.Words.{Word, behind}
 use Rattle.co_schedule.specs.Spelling.{kind_word, event_words, line_text, head_text}
 use Rattle.co_schedule.specs.Places.{Want, key, key_above, value, one_of, is_in, is_text, Places}
@@ -106,12 +107,12 @@ kinds_short (Occ ∷ kinds) words = omega (arith, kinds_short kinds words)
 kinds_short (Mv ∷ kinds) words = omega (arith, kinds_short kinds words)
 
 -- a head is no longer than a line
-pub head_short : (head : Head) → length (head_text head) ≤ 1024
+pub head_short : (head : Head) → length (head_text head) ≤ longest_line
 head_short head =
     let digits : length (decimal head.coords) ≤ 9 = omega (arith, length-decimal-le_succ head.coords (omega (arith, head.coordinators)), head.coordinators) in
     omega (arith, kinds_short head.kinds (codes "coords" ∷ decimal head.coords ∷ []), head.members, digits, length-append (decimal head.coords) [])
 
-line_fits : (e : Event) → IsEventFor 16 8 e → length (line_text e) ≤ 1024 → Fits line_places (event_words e)
+line_fits : (e : Event) → IsEventFor 16 8 e → length (line_text e) ≤ longest_line → Fits line_places (event_words e)
 line_fits (event.Begin t k) it short = (short, (word_taken refl refl, (event_fits 16 8 (event.Begin t k) (omega arith) (omega arith) it).1))
 line_fits e it short = (short, (word_taken refl refl, (event_fits 16 8 e (omega arith) (omega arith) it).1))
 

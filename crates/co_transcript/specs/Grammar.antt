@@ -6,6 +6,7 @@ use Rattle.co_base.specs.declared.mark.MarkKind.{MarkKind}
 use Rattle.co_base.specs.declared.mark.MarkKind.TheVariants as mark
 use Rattle.co_message.specs.declared.answer.Cause.{Cause}
 use Rattle.co_message.specs.declared.answer.Cause.TheVariants as cause
+use Rattle.co_schedule.specs.Limits.{longest_line}
 use Rattle.co_schedule.specs.Words.{Word}
 use Rattle.co_schedule.specs.Spelling.{kind_word}
 use Rattle.co_schedule.specs.Places.{Want, number, member, node, key, key_above, value, one_of, Places, nothing, place, within, ◌▸◌}
@@ -132,7 +133,7 @@ line_chosen word = if bytes_eq (codes "members") word then kinds_of_head else li
 
 -- a head or an event, of at most as many bytes as a line
 abbrev pub line_places : Places
-line_places = within 1024 (place (one_of (codes "members" ∷ map line.form_word line.all_forms)) line_chosen)
+line_places = within longest_line (place (one_of (codes "members" ∷ map line.form_word line.all_forms)) line_chosen)
 
 abbrev pub told_word : ToldForm → Word
 told_word told.Event = codes "event"

@@ -11,6 +11,7 @@ use Rattle.co_message.specs.declared.answer.Answer.TheVariants as answer
 use Rattle.co_message.specs.declared.item.Item.{Item}
 use Rattle.co_message.specs.declared.item.ItemKind.{ItemKind}
 use Rattle.co_message.specs.declared.item.ItemKind.TheVariants as item
+use Rattle.co_schedule.specs.Limits.{longest_line}
 use Rattle.co_schedule.specs.Spelling.{line_text}
 use Rattle.co_schedule.specs.View.{IsWithin, IsNode, IsTxn, IsCount, IsKey, IsMessageFor, IsEventFor}
 
@@ -42,10 +43,10 @@ IsAnswer _ = Unit {0}
 abbrev pub IsMark : Mark → Type 0
 IsMark mark = IsNode 16 8 mark.node × (mark.number ≤ 4294967295)
 
--- what an item tells is in its sets; an event has a line of at most 1,024 bytes
+-- what an item tells is in its sets; an event has a line of at most 8,192 bytes
 abbrev pub IsTold : ItemKind → Type 0
 IsTold (item.Head head) = Unit {0}
-IsTold (item.Event event) = IsEventFor 16 8 event × (length (line_text event) ≤ 1024)
+IsTold (item.Event event) = IsEventFor 16 8 event × (length (line_text event) ≤ longest_line)
 IsTold (item.Log mark) = IsMark mark
 IsTold (item.Sent message) = IsMessageFor 16 8 message
 IsTold (item.Answered answer) = IsAnswer answer

@@ -7,11 +7,12 @@ use Rattle.co_outside.specs.Home.{File}
 use Rattle.co_disk.specs.DiskView.{DiskView}
 use Rattle.co_frame.specs.LogText.{IsLogText}
 use Rattle.co_record.specs.declared.record.Record.TheVariants.{Header}
+use Rattle.co_record.specs.Format.{newest}
 use Rattle.co_record.specs.Stored.{HasRecords}
 use Rattle.co_log.specs.Attaching.{built, IsCurrent}
 use Rattle.co_log.specs.Current.{IsCurrentOf}
 use Rattle.co_log.specs.LogView.{spot_of, LogView}
-use Rattle.co_log.proofs.Files.{has_records}
+use Rattle.co_log.proofs.Versions.{has_records}
 use Rattle.co_log.proofs.Unmade.{read_stable}
 use Rattle.co_world.specs.Durable.{HasCurrent, IsCurrentIn, IsLogIn, Stands, Falls}
 use Rattle.co_world.specs.declared.fault.WorldFault.TheVariants.{Bad}
@@ -40,40 +41,40 @@ module _ (file : Spot → Option File) (node : Node) (log : LogView) (is : IsLog
     current = current;
   }
 
-  has_items : (disk spare : DiskView) (gate generation : ℕ) (items : Items) → disk.state.pending ≡ [] → log ≡ built node disk spare gate generation → HasRecords disk.state.stable items → HasItems log items
-  has_items disk spare gate generation items still built_is has =
+  has_items : (version : ℕ) (disk spare : DiskView) (gate generation : ℕ) (items : Items) → disk.state.pending ≡ [] → log ≡ built node version disk spare gate generation → HasRecords disk.state.stable items → HasItems log items
+  has_items version disk spare gate generation items still built_is has =
       subst (λ (l : LogView). HasItems l items) (sym built_is) (subst (λ (bytes : List ℕ). HasRecords bytes items) (sym (read_stable disk.state still)) has)
 
-  fresh_open : (log ≡ built node is.a is.b 0 0) × IsLogText is.a.state.stable [] × IsLogText is.b.state.stable [] → IsOpen file node log
+  fresh_open : (log ≡ built node newest is.a is.b 0 0) × IsLogText is.a.state.stable [] × IsLogText is.b.state.stable [] → IsOpen file node log
   fresh_open f = record {
     part = 0;
     items = [];
     current = in_file 0 [] (inl (refl, refl, f.1, f.2));
-    has = has_items is.a is.b 0 0 [] is.file_a.still f.0 ([], f.1, refl);
+    has = has_items newest is.a is.b 0 0 [] is.file_a.still f.0 ([], f.1, refl);
     spot = ap (λ (l : LogView). l.current.spot) f.0 ∙ is.file_a.at;
   }
 
   current_a : IsCurrent node is.a is.b log → IsOpen file node log
   current_a c =
       let items : Items = (5, Header node c.generation) ∷ c.file.0 in
-      let current : IsCurrentOf node c.generation is.a.state.stable is.b.state.stable items = record { gate = c.gate; ends = c.file.1; header = refl; older = c.older } in
+      let current : IsCurrentOf node c.version c.generation is.a.state.stable is.b.state.stable items = record { gate = c.gate; known = c.file.1; ends = c.file.2; header = refl; older = c.older } in
       record {
         part = 0;
         items = items;
-        current = in_file 0 items (inr (inl (refl, (c.generation, current))));
-        has = has_items is.a is.b c.gate c.generation items is.file_a.still c.is (has_records is.a.state.stable c.gate items c.file.1);
+        current = in_file 0 items (inr (inl (refl, (c.version, c.generation, current))));
+        has = has_items c.version is.a is.b c.gate c.generation items is.file_a.still c.is (has_records c.version c.file.1 node c.generation is.a.state.stable c.gate c.file.0 c.file.2);
         spot = ap (λ (l : LogView). l.current.spot) c.is ∙ is.file_a.at;
       }
 
   current_b : IsCurrent node is.b is.a log → IsOpen file node log
   current_b c =
       let items : Items = (5, Header node c.generation) ∷ c.file.0 in
-      let current : IsCurrentOf node c.generation is.b.state.stable is.a.state.stable items = record { gate = c.gate; ends = c.file.1; header = refl; older = c.older } in
+      let current : IsCurrentOf node c.version c.generation is.b.state.stable is.a.state.stable items = record { gate = c.gate; known = c.file.1; ends = c.file.2; header = refl; older = c.older } in
       record {
         part = 1;
         items = items;
-        current = in_file 1 items (inr (inr (refl, (c.generation, current))));
-        has = has_items is.b is.a c.gate c.generation items is.file_b.still c.is (has_records is.b.state.stable c.gate items c.file.1);
+        current = in_file 1 items (inr (inr (refl, (c.version, c.generation, current))));
+        has = has_items c.version is.b is.a c.gate c.generation items is.file_b.still c.is (has_records c.version c.file.1 node c.generation is.b.state.stable c.gate c.file.0 c.file.2);
         spot = ap (λ (l : LogView). l.current.spot) c.is ∙ is.file_b.at;
       }
 

@@ -6,11 +6,12 @@ use Rattle.co_base.specs.declared.node.Node.{Node}
 use Rattle.co_outside.specs.declared.spot.Spot.{Spot}
 use Rattle.co_outside.specs.Home.{File}
 use Rattle.co_disk.specs.DiskView.{DiskView}
+use Rattle.co_record.specs.Format.{newest}
 use Rattle.co_log.specs.Attaching.{built, IsAttached, IsBadPair, IsGood, AreTwins}
 use Rattle.co_log.specs.LogView.{spot_of, LogView}
 use Rattle.co_log.specs.Scanning.{IsBadAt}
 use Rattle.co_log.specs.declared.fault.LogFault.TheVariants as log
-use Rattle.co_log.proofs.Judged.{pair_once, attached_not_bad, current_file, current_once, one_current, none_current}
+use Rattle.co_log.proofs.Judged.{pair_once, attached_not_bad, current_file_in, current_once, one_current, none_current}
 use Rattle.co_recover.specs.Recovered.{IsRefusedAt}
 use Rattle.co_plain.specs.DurableRecords.{durable_records}
 use Rattle.co_world.specs.declared.durable.DurableRow.{DurableRow}
@@ -31,16 +32,16 @@ has_current_once : (node : Node) (a b : List ℕ) (part other : ℕ) (items more
 has_current_once node a b part other items more one two = elim one [
   | inl none ↦ elim two [
     | inl again ↦ (none.0 ∙ sym again.0, none.1 ∙ sym again.1)
-    | inr l ↦ elim l [ inl d ↦ absurd (none_current node d.1.0 a b more none.2 d.1.1) | inr d ↦ absurd (none_current node d.1.0 b a more none.3 d.1.1) ]
+    | inr l ↦ elim l [ inl d ↦ absurd (none_current node d.1.0 d.1.1 a b more none.2 d.1.2) | inr d ↦ absurd (none_current node d.1.0 d.1.1 b a more none.3 d.1.2) ]
   ]
   | inr k ↦ elim k [
     | inl c ↦ elim two [
-      | inl none ↦ absurd (none_current node c.1.0 a b items none.2 c.1.1)
-      | inr l ↦ elim l [ inl d ↦ (c.0 ∙ sym d.0, current_once node c.1.0 d.1.0 a b items more c.1.1 d.1.1) | inr d ↦ absurd (one_current node c.1.0 d.1.0 a b items more c.1.1 d.1.1) ]
+      | inl none ↦ absurd (none_current node c.1.0 c.1.1 a b items none.2 c.1.2)
+      | inr l ↦ elim l [ inl d ↦ (c.0 ∙ sym d.0, (current_once node c.1.0 d.1.0 c.1.1 d.1.1 a b items more c.1.2 d.1.2).1) | inr d ↦ absurd (one_current node c.1.0 d.1.0 c.1.1 d.1.1 a b items more c.1.2 d.1.2) ]
     ]
     | inr c ↦ elim two [
-      | inl none ↦ absurd (none_current node c.1.0 b a items none.3 c.1.1)
-      | inr l ↦ elim l [ inl d ↦ absurd (one_current node c.1.0 d.1.0 b a items more c.1.1 d.1.1) | inr d ↦ (c.0 ∙ sym d.0, current_once node c.1.0 d.1.0 b a items more c.1.1 d.1.1) ]
+      | inl none ↦ absurd (none_current node c.1.0 c.1.1 b a items none.3 c.1.2)
+      | inr l ↦ elim l [ inl d ↦ absurd (one_current node c.1.0 d.1.0 c.1.1 d.1.1 b a items more c.1.2 d.1.2) | inr d ↦ (c.0 ∙ sym d.0, (current_once node c.1.0 d.1.0 c.1.1 d.1.1 b a items more c.1.2 d.1.2).1) ]
     ]
   ]
 ]
@@ -64,15 +65,15 @@ records_once file node items more told these those = (current_in_once file node 
 -- a log is attached over two files of which one is current
 attachable : (node : Node) (a b : DiskView) (part : ℕ) (items : Items) → HasCurrent node a.state.stable b.state.stable part items → (opened : LogView) × IsAttached node a b opened
 attachable node a b part items has = elim has [
-  | inl none ↦ (built node a b 0 0, inl (refl, none.2, none.3))
+  | inl none ↦ (built node newest a b 0 0, inl (refl, none.2, none.3))
   | inr l ↦ elim l [
     | inl c ↦ (
-      built node a b c.1.1.gate c.1.0,
-      inr (inl record { gate = c.1.1.gate; generation = c.1.0; is = refl; file = current_file node c.1.0 a.state.stable b.state.stable items c.1.1; older = c.1.1.older }),
+      built node c.1.0 a b c.1.2.gate c.1.1,
+      inr (inl record { version = c.1.0; gate = c.1.2.gate; generation = c.1.1; is = refl; file = current_file_in node c.1.0 c.1.1 a.state.stable b.state.stable items c.1.2; older = c.1.2.older }),
     )
     | inr c ↦ (
-      built node b a c.1.1.gate c.1.0,
-      inr (inr record { gate = c.1.1.gate; generation = c.1.0; is = refl; file = current_file node c.1.0 b.state.stable a.state.stable items c.1.1; older = c.1.1.older }),
+      built node c.1.0 b a c.1.2.gate c.1.1,
+      inr (inr record { version = c.1.0; gate = c.1.2.gate; generation = c.1.1; is = refl; file = current_file_in node c.1.0 c.1.1 b.state.stable a.state.stable items c.1.2; older = c.1.2.older }),
     )
   ]
 ]

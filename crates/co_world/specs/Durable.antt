@@ -22,12 +22,12 @@ use Rattle.co_world.specs.Pairs.{EachPair, FirstWhere}
 use Rattle.co_world.specs.Reading.{IsUnread}
 use Rattle.co_world.specs.Recovering.{Items, member_refuses, coord_refuses, newest_first}
 
--- The current one of the two files of a node, by its part, and its records. Where neither file has a batch it is
+-- The current one of the two files of a node, by its part, and its records, in either version. Where neither file has a batch it is
 -- part a, without records; else it is the one that has the greater generation, or the only one with a batch.
 abbrev pub HasCurrent : Node → List ℕ → List ℕ → ℕ → Items → Type 0
 HasCurrent node a b part items =
     ((part ≡ 0) × (items ≡ []) × IsLogText a [] × IsLogText b [])
-    ⊎ (((part ≡ 0) × ((generation : ℕ) × IsCurrentOf node generation a b items)) ⊎ ((part ≡ 1) × ((generation : ℕ) × IsCurrentOf node generation b a items)))
+    ⊎ (((part ≡ 0) × ((version : ℕ) × (generation : ℕ) × IsCurrentOf node version generation a b items)) ⊎ ((part ≡ 1) × ((version : ℕ) × (generation : ℕ) × IsCurrentOf node version generation b a items)))
 
 -- the current file of a node and its records, by the bytes of its files, where the home tells them; neither file is
 -- too long

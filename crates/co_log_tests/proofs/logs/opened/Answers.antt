@@ -16,4 +16,4 @@ returns-then-fresh c =
 pub returns : goal.returns
 returns c =
     let one = found_ordered c.in_ok-log.log (found c.args.node _ _ c.in_ok-log.log c.requires c.in_ok-log.ensures.attached) (sym c.fresh.ensures ∙ c.if-fresh.false) in
-    record { held = c.in_ok-log.ensures.held; items = one.0; ordered = one.1 }
+    record { held = c.in_ok-log.ensures.held; latest = sym c.version.ensures ∙ c.if-version.true; items = one.0; ordered = one.1 }
