@@ -1,10 +1,10 @@
 //! What a coordinator's log tells.
-ghost use Rattle.std.specs.Prelude.{◌≡◌, ℕ, List, IfOk};
+ghost use Rattle.std.specs.Prelude.{◌≡◌, ℕ, List, OnOk, IfOk, Some, None, if◌then◌else◌};
 ghost use Rattle.std.specs.FinMap.{keys};
 ghost use Rattle.co_record.specs.declared.record.Record.{Record};
 ghost use Rattle.co_record.specs.Lent.{record_of};
 ghost use Rattle.co_record.specs.Stored.{HasLeft};
-ghost use Rattle.co_plain.specs.CoordView.{all_up_to};
+ghost use Rattle.co_plain.specs.CoordView.{all_up_to, coord_told_by};
 ghost use Rattle.co_recover.specs.Recovered.{coord_next, commits_of, past_of_coord, IsCoordRecovery};
 
 use crate::fault::RecoverFault;
@@ -38,19 +38,54 @@ fn all_up_to(most: u8, members: &[u8]) -> bool
     true
 }
 
-/// The view with one more commit; one without participants counts as ended at once.
-fn with_commit(view: CoordView, t: Txn, members: Bytes) -> Result<CoordView, AllocError>
-    ensures { IfOk result (λ after. after ≡ Rattle.co_plain.specs.CoordView.coord_told_by view (Record.Commit t members)) }
+/// Takes one more commit into the view; one without participants counts as ended at once.
+fn commit_in(view: &mut CoordView, t: Txn, members: Bytes) -> Result<(), AllocError>
+    ensures { OnOk result (view.new ≡ coord_told_by view.old (Record.Commit t members)) }
 {
-    let CoordView {
-        mut unended,
-        mut seen,
-    } = view;
     if !members.is_empty() {
-        unended.insert(t, members)?;
+        view.unended.insert(t, members)?;
     }
-    seen.insert(t, ())?;
-    Ok(CoordView { unended, seen })
+    view.seen.insert(t, ())
+}
+
+/// Takes one more record into the view, where it is allowed behind so many others.
+fn take_in(
+    alloc: Global,
+    members: u8,
+    place: u32,
+    view: &mut CoordView,
+    item: RecordView<'_>,
+) -> Result<bool, AllocError>
+    ensures { IfOk result (λ is_allowed. (if is_allowed then Some view.new else None) ≡ coord_next members place view.old (record_of item.entry)) }
+{
+    match item {
+        RecordView::Header {
+            node: _,
+            generation: _,
+        } => Ok(place == 0),
+        RecordView::Commit { txn, members: walk } => {
+            let list = members_of(alloc, walk)?;
+            if place < 1 || view.seen.contains(txn) || !all_up_to(members, list.as_slice()) {
+                return Ok(false);
+            }
+            commit_in(view, txn, list)?;
+            Ok(true)
+        }
+        RecordView::End { txn } => Ok(view.unended.remove(txn).is_some()),
+        RecordView::Prepare {
+            txn: _,
+            coord: _,
+            count: _,
+            reads: _,
+            writes: _,
+        } => Ok(false),
+        RecordView::Abort { txn: _ } => Ok(false),
+        RecordView::Checkpoint {
+            rows: _,
+            undos: _,
+            committed: _,
+        } => Ok(false),
+    }
 }
 
 /// The view after one more record, or none where it is not allowed behind so many others.
@@ -58,43 +93,15 @@ fn next_view(
     alloc: Global,
     members: u8,
     place: u32,
-    view: CoordView,
+    mut view: CoordView,
     item: RecordView<'_>,
 ) -> Result<Option<CoordView>, AllocError>
     ensures { IfOk result (λ next. next ≡ coord_next members place view (record_of item.entry)) }
 {
-    match item {
-        RecordView::Header {
-            node: _,
-            generation: _,
-        } => { if place == 0 { Ok(Some(view)) } else { Ok(None) } }
-        RecordView::Commit { txn, members: walk } => {
-            let list = members_of(alloc, walk)?;
-            if place < 1 || view.seen.contains(txn) || !all_up_to(members, list.as_slice()) {
-                return Ok(None);
-            }
-            Ok(Some(with_commit(view, txn, list)?))
-        }
-        RecordView::End { txn } => {
-            let CoordView { mut unended, seen } = view;
-            if unended.remove(txn).is_none() {
-                return Ok(None);
-            }
-            Ok(Some(CoordView { unended, seen }))
-        }
-        RecordView::Prepare {
-            txn: _,
-            coord: _,
-            count: _,
-            reads: _,
-            writes: _,
-        } => Ok(None),
-        RecordView::Abort { txn: _ } => Ok(None),
-        RecordView::Checkpoint {
-            rows: _,
-            undos: _,
-            committed: _,
-        } => Ok(None),
+    match take_in(alloc, members, place, &mut view, item) {
+        Ok(true) => Ok(Some(view)),
+        Ok(false) => Ok(None),
+        Err(fault) => Err(fault),
     }
 }
 
@@ -124,8 +131,8 @@ pub(crate) fn numbers_in(alloc: Global, numbers: &Table<()>) -> Result<Txns, All
 }
 
 /// What a view of a coordinator's log says.
-fn past_of(alloc: Global, view: CoordView) -> Result<CoordPast, AllocError>
-    ensures { IfOk result (λ past. past ≡ past_of_coord view) }
+fn past_of(alloc: Global, view: &CoordView) -> Result<CoordPast, AllocError>
+    ensures { IfOk result (λ past. past ≡ past_of_coord view.now) }
 {
     Ok(CoordPast {
         committed: commits_of(alloc, &view.unended)?,
@@ -151,7 +158,7 @@ pub fn recover_coord(
     let mut place = 0;
     'records: loop {
         match views.next() {
-            None => return Ok(past_of(alloc, view)?),
+            None => return Ok(past_of(alloc, &view)?),
             Some((at, item)) => match next_view(alloc, members, place, view, item)? {
                 None => return Err(RecoverFault::Inconsistent { at }),
                 Some(after) => {

@@ -210,8 +210,8 @@ fn prepared_in(alloc: Global, voted: &Table<LentVote<'_>>) -> Result<PreparedLis
 }
 
 /// What a view of a member's log says.
-fn past_of(alloc: Global, view: LentView<'_>) -> Result<MemberPast, AllocError>
-    ensures { IfOk result (λ past. past ≡ past_of_member view.entry) }
+fn past_of(alloc: Global, view: &LentView<'_>) -> Result<MemberPast, AllocError>
+    ensures { IfOk result (λ past. past ≡ past_of_member view.now) }
 {
     Ok(MemberPast {
         rows: view.records.rows(alloc)?,
@@ -242,7 +242,7 @@ pub fn recover_member(
     'records: loop {
         match views.next() {
             None => {
-                let past = past_of(alloc, view)?;
+                let past = past_of(alloc, &view)?;
                 return Ok(past);
             }
             Some((at, item)) => match next_view(alloc, coords, place, view, item) {
