@@ -124,8 +124,8 @@ acted (h ∷ hs) s f v = by (step_acted s f h v.0) (acted hs (step s h).state (s
           leaves = acts_more a.acts b.acts s ∙ ap (run_acts b.acts) a.leaves ∙ b.leaves;
           guarded = hold_more a.acts b.acts s a.guarded (subst (ActsHold b.acts) (sym a.leaves) b.guarded);
           tells =
-            step_told s f h (run_items hs (step s h).state) ∙ (λ i. a.tells i ++ b.tells i)
-            ∙ ap (λ z. acts_trace a.acts s ++ acts_trace b.acts z) (sym a.leaves) ∙ sym (trace_more a.acts b.acts s);
+              step_told s f h (run_items hs (step s h).state) ∙ (λ i. a.tells i ++ b.tells i)
+              ∙ ap (λ z. acts_trace a.acts s ++ acts_trace b.acts z) (sym a.leaves) ∙ sym (trace_more a.acts b.acts s);
         }
 
 -- An act tells of nothing or of one thing.

@@ -18,7 +18,7 @@ use Rattle.co_plain.specs.declared.log_state.LogState.{LogState}
 use Rattle.co_plain.specs.declared.log_state.Stop.{Stop}
 use Rattle.co_plain.specs.declared.outcome.Outcome.TheVariants.{Completes, StopsAt}
 use Rattle.co_plain.specs.LogWrite.{outcome_of, with_batch, with_waiting, crashed_log, marks_of}
-use Rattle.co_node.specs.NodeLog.{LogStands, plain_stop}
+use Rattle.co_node.specs.NodeLog.{RepresentsLog, plain_stop}
 use Rattle.co_node.specs.Ended.{IsPassedOn}
 use Rattle.co_node.specs.Writes.{forcing, HasWritten}
 use Rattle.co_node.specs.declared.written.Written.{Written}
@@ -26,37 +26,37 @@ use Rattle.co_node.specs.declared.written.Written.TheVariants as written
 use Rattle.co_node.proofs.Standing.{written_stands}
 
 -- with no armed stop a write completes
-pub unarmed : (owner : Node) (log : LogView) (l : LogState) (calls : ℕ) → LogStands owner log l → log.stop ≡ None → outcome_of l.armed calls ≡ Completes
+pub unarmed : (owner : Node) (log : LogView) (l : LogState) (calls : ℕ) → RepresentsLog owner log l → log.stop ≡ None → outcome_of l.armed calls ≡ Completes
 unarmed owner log l calls s none = ap (λ (o : Option Stop). outcome_of o calls) (s.armed ∙ ap (option_map plain_stop) none)
 
 -- an armed stop within the device calls of a write is its outcome
-pub armed_at : (owner : Node) (log : LogView) (l : LogState) (calls call : ℕ) (leaves : Leaves) → LogStands owner log l → log.stop ≡ Some (record { call = call; leaves = leaves }) → nat_le call calls ≡ true
+pub armed_at : (owner : Node) (log : LogView) (l : LogState) (calls call : ℕ) (leaves : Leaves) → RepresentsLog owner log l → log.stop ≡ Some (record { call = call; leaves = leaves }) → nat_le call calls ≡ true
     → outcome_of l.armed calls ≡ StopsAt call leaves
 armed_at owner log l calls call leaves s is within =
     ap (λ (o : Option Stop). outcome_of o calls) (s.armed ∙ ap (option_map plain_stop) is)
     ∙ ap (λ (b : Bool). if b then StopsAt call leaves else Completes) within
 
 -- an armed stop is in one of the four device calls
-pub within_four : (owner : Node) (log : LogView) (l : LogState) (call : ℕ) (leaves : Leaves) → LogStands owner log l → log.stop ≡ Some (record { call = call; leaves = leaves }) → nat_le call 4 ≡ true
+pub within_four : (owner : Node) (log : LogView) (l : LogState) (call : ℕ) (leaves : Leaves) → RepresentsLog owner log l → log.stop ≡ Some (record { call = call; leaves = leaves }) → nat_le call 4 ≡ true
 within_four owner log l call leaves s is =
     let bound : call ≤ 4 = subst (λ (o : Option LogStop). IfSome o (λ stop. stop.call ≤ 4)) is s.bound in
     grind (arith, bound)
 
 -- what a transcript is told of the waiting records and one more
-told_marks : (owner : Node) (log : LogView) (l : LogState) (item : Record) → LogStands owner log l → told_of log.node (log.waiting ++ item ∷ []) ≡ marks_of owner ((item ∷ []) ++ l.waiting)
+told_marks : (owner : Node) (log : LogView) (l : LogState) (item : Record) → RepresentsLog owner log l → told_of log.node (log.waiting ++ item ∷ []) ≡ marks_of owner ((item ∷ []) ++ l.waiting)
 told_marks owner log l item s =
     let back : reverse (item ∷ l.waiting) ≡ log.waiting ++ item ∷ [] = reverse-append (item ∷ []) l.waiting ∙ ap (λ (xs : List Record). xs ++ item ∷ []) (ap reverse s.waiting ∙ reverse-reverse log.waiting) in
     ap (λ (n : Node). told_of n (log.waiting ++ item ∷ [])) s.owned ∙ ap (told_of owner) (sym back)
 
-pub force_done : (owner : Node) (log after : LogView) (l : LogState) (item : Record) (marks : List Mark) (s : LogStands owner log l) → IsForced log s.items (log.waiting ++ item ∷ []) after (Ok marks)
+pub force_done : (owner : Node) (log after : LogView) (l : LogState) (item : Record) (marks : List Mark) (s : RepresentsLog owner log l) → IsForced log s.items (log.waiting ++ item ∷ []) after (Ok marks)
     → HasWritten (forcing owner l (item ∷ [])) owner l after (Ok (written.Done marks))
 force_done owner log after l item marks s f = (unarmed owner log l 4 s f.0, f.1 ∙ told_marks owner log l item s, written_stands true owner log after l item s f.2)
 
-pub force_ended : (owner : Node) (log after : LogView) (l : LogState) (item : Record) (fault : LogFault) (out : Result Written NodeFault) (s : LogStands owner log l) → IsForced log s.items (log.waiting ++ item ∷ []) after (Err fault) → IsPassedOn fault out → HasWritten (forcing owner l (item ∷ [])) owner l after out
+pub force_ended : (owner : Node) (log after : LogView) (l : LogState) (item : Record) (fault : LogFault) (out : Result Written NodeFault) (s : RepresentsLog owner log l) → IsForced log s.items (log.waiting ++ item ∷ []) after (Err fault) → IsPassedOn fault out → HasWritten (forcing owner l (item ∷ [])) owner l after out
 force_ended owner log after l item (Stopped call stable marks) out s f is =
     let leaves = f.0 in
     let told = ap (λ (b : Bool). if b then told_of log.node (log.waiting ++ item ∷ []) else []) f.2 ∙ ap (λ (ms : List Mark). if batch_is_stable call leaves then ms else []) (told_marks owner log l item s) in
-    let stands = subst (λ (b : Bool). LogStands owner after (crashed_log (if b then with_batch l (item ∷ []) else l))) f.2 (written_stands stable owner log after l item s f.4) in
+    let stands = subst (λ (b : Bool). RepresentsLog owner after (crashed_log (if b then with_batch l (item ∷ []) else l))) f.2 (written_stands stable owner log after l item s f.4) in
     subst (HasWritten (forcing owner l (item ∷ [])) owner l after) (sym is) (leaves, armed_at owner log l 4 call leaves s f.1 (within_four owner log l call leaves s f.1), f.3 ∙ told, stands)
 force_ended owner log after l item (Device spot) out s f is = subst (HasWritten (forcing owner l (item ∷ [])) owner l after) (sym is) tt
 force_ended owner log after l item (Full spot) out s f is = subst (HasWritten (forcing owner l (item ∷ [])) owner l after) (sym is) tt
@@ -71,7 +71,7 @@ pub both_written : (owner : Node) (l : LogState) (first item : Record) (after : 
 both_written owner l first item after (Ok (written.Done marks)) h = h
 both_written owner l first item after (Ok (written.Stopped call marks)) h = (h.0, h.1, h.2, stopped_same (batch_is_stable call h.0) h.3)
   where
-    stopped_same : (b : Bool) → LogStands owner after (crashed_log (if b then with_batch (with_waiting l first) (item ∷ []) else with_waiting l first)) → LogStands owner after (crashed_log (if b then with_batch l (item ∷ first ∷ []) else l))
+    stopped_same : (b : Bool) → RepresentsLog owner after (crashed_log (if b then with_batch (with_waiting l first) (item ∷ []) else with_waiting l first)) → RepresentsLog owner after (crashed_log (if b then with_batch l (item ∷ first ∷ []) else l))
     stopped_same true k = k
     stopped_same false k = k
 both_written owner l first item after (Err e) h = tt

@@ -24,7 +24,7 @@ use Rattle.co_log.proofs.Ordered.{attached_ordered, attached_unarmed, held_curre
 use Rattle.co_plain.specs.Opening.{made, opened_log}
 use Rattle.co_plain.specs.declared.log_state.LogState.{LogState}
 use Rattle.co_node.specs.Answers.{AreTold, AreWithin, LeftAs}
-use Rattle.co_node.specs.NodeLog.{LogStands, plain_stop}
+use Rattle.co_node.specs.NodeLog.{RepresentsLog, plain_stop}
 use Rattle.co_node.proofs.Homes.{both_within, node_within, old_records, told_of}
 use Rattle.co_node.proofs.Standing.{none_armed}
 
@@ -41,7 +41,7 @@ has_some owner generation (x ∷ items) begins none = empty (sym (reverse-revers
     empty e = absurd cc
 
 pub attached_stands : (owner : Node) (a b : DiskView) (log : LogView) → IsValidNode owner → a.state.pending ≡ [] → b.state.pending ≡ [] → IsAttached owner a b log → log.version ≡ newest
-    → IsFresh log ⊎ ((items : Items) × LogStands owner log (opened_log owner (record { records = newest_first items; spare_closed = begins_closed log.spare.state.stable })))
+    → IsFresh log ⊎ ((items : Items) × RepresentsLog owner log (opened_log owner (record { records = newest_first items; spare_closed = begins_closed log.spare.state.stable })))
 attached_stands owner a b log valid still_a still_b attached latest =
     let unarmed = attached_unarmed owner a b log attached in
     elim (attached_ordered owner a b log valid still_a still_b attached) [
@@ -63,7 +63,7 @@ attached_stands owner a b log valid still_a still_b attached latest =
     ]
 
 pub made_stands : (owner : Node) (a b : DiskView) (log after : LogView) → IsValidNode owner → IsAttached owner a b log → IsFresh log → IsMade log after
-    → LogStands owner after (opened_log owner (record { records = []; spare_closed = begins_closed log.spare.state.stable }))
+    → RepresentsLog owner after (opened_log owner (record { records = []; spare_closed = begins_closed log.spare.state.stable }))
 made_stands owner a b log after valid attached none m =
     let unarmed = attached_unarmed owner a b log attached in
     record {
@@ -79,7 +79,7 @@ made_stands owner a b log after valid attached none m =
     }
 
 -- the files of the node have the records of the current one
-pub told_records : (owner : Node) (file : Spot → Option File) (reach : Spot → ℕ) (log : LogView) (l : LogState) → LogStands owner log l → IsHeld file reach log → AreWithin file owner
+pub told_records : (owner : Node) (file : Spot → Option File) (reach : Spot → ℕ) (log : LogView) (l : LogState) → RepresentsLog owner log l → IsHeld file reach log → AreWithin file owner
     → AreTold file owner → (items : Items) × HasRecordsIn file owner items × (newest_first items ≡ l.stable)
 told_records owner file reach log l s held within told =
     let own = subst (AreWithin file) (sym s.owned) within in
@@ -93,7 +93,7 @@ told_within : (file : Option File) (reach : ℕ) (d : DiskView) → Agrees file 
 told_within file reach d agrees short f is = subst (λ (bytes : List ℕ). length bytes ≤ most_log_bytes) (sym (agrees.told f is)) short
 
 -- before a log write the files have the records of the log
-pub left_before : (owner : Node) (file : Spot → Option File) (reach : Spot → ℕ) (log : LogView) (l : LogState) → LogStands owner log l → IsHeld file reach log → IsShort log.current × IsShort log.spare → LeftAs file owner l.stable l.stable
+pub left_before : (owner : Node) (file : Spot → Option File) (reach : Spot → ℕ) (log : LogView) (l : LogState) → RepresentsLog owner log l → IsHeld file reach log → IsShort log.current × IsShort log.spare → LeftAs file owner l.stable l.stable
 left_before owner file reach log l s held short told =
     let both : BothWithin file log = (told_within (file log.current.spot) (reach log.current.spot) log.current held.current short.0, told_within (file log.spare.spot) (reach log.spare.spot) log.spare held.spare short.1) in
     let own = subst (AreWithin file) s.owned (node_within file log held.spots both) in

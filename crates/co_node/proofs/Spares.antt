@@ -18,7 +18,7 @@ use Rattle.co_plain.specs.declared.log_state.Stop.{Stop}
 use Rattle.co_plain.specs.declared.outcome.Outcome.TheVariants.{Completes, StopsAt}
 use Rattle.co_plain.specs.LogWrite.{outcome_of, with_filled_spare, crashed_log, checkpoint_marks, generation_of}
 use Rattle.co_plain.specs.Numbers.{next_generation}
-use Rattle.co_node.specs.NodeLog.{LogStands, plain_stop}
+use Rattle.co_node.specs.NodeLog.{RepresentsLog, plain_stop}
 use Rattle.co_node.specs.Ended.{IsPassedOn}
 use Rattle.co_node.specs.Writes.{closing, filling, filled_with, HasWritten}
 use Rattle.co_node.specs.declared.written.Written.{Written}
@@ -31,20 +31,20 @@ past_of : (o : Option LogStop) (calls : ℕ) → IsPast calls o → outcome_of (
 past_of None calls past = refl
 past_of (Some stop) calls past = ap (λ (b : Bool). if b then StopsAt stop.call stop.leaves else Completes) (let h : nat_le stop.call calls ≡ false = grind (arith, past stop refl) in h)
 
-passed : (owner : Node) (log : LogView) (l : LogState) (calls : ℕ) → LogStands owner log l → IsPast calls log.stop → outcome_of l.armed calls ≡ Completes
+passed : (owner : Node) (log : LogView) (l : LogState) (calls : ℕ) → RepresentsLog owner log l → IsPast calls log.stop → outcome_of l.armed calls ≡ Completes
 passed owner log l calls s past = ap (λ (o : Option Stop). outcome_of o calls) s.armed ∙ past_of log.stop calls past
 
 within : (n m : ℕ) → n ≤ m → nat_le n m ≡ true
 within n m le = grind (arith, le)
 
-pub close_done : (owner : Node) (log after : LogView) (l : LogState) (marks : List Mark) (s : LogStands owner log l) → marks ≡ [] → IsClosing log after (Ok tt) → HasWritten (closing l) owner l after (Ok (written.Done marks))
+pub close_done : (owner : Node) (log after : LogView) (l : LogState) (marks : List Mark) (s : RepresentsLog owner log l) → marks ≡ [] → IsClosing log after (Ok tt) → HasWritten (closing l) owner l after (Ok (written.Done marks))
 close_done owner log after l marks s none c = (
   passed owner log l 2 s c.2,
   none,
   closed_stands true owner log after l l.waiting s c.0 (c.1 ∙ sym (reverse-reverse log.waiting) ∙ ap reverse (sym s.waiting)),
 )
 
-pub close_ended : (owner : Node) (log after : LogView) (l : LogState) (fault : LogFault) (out : Result Written NodeFault) (s : LogStands owner log l) → IsClosing log after (Err fault) → IsPassedOn fault out → HasWritten (closing l) owner l after out
+pub close_ended : (owner : Node) (log after : LogView) (l : LogState) (fault : LogFault) (out : Result Written NodeFault) (s : RepresentsLog owner log l) → IsClosing log after (Err fault) → IsPassedOn fault out → HasWritten (closing l) owner l after out
 close_ended owner log after l (Stopped call stable marks) out s c is =
     let leaves = c.0 in
     subst (HasWritten (closing l) owner l after) (sym is) (
@@ -61,23 +61,23 @@ close_ended owner log after l (Bad spot at) out s c is = absurd is
 close_ended owner log after l (InUse spot) out s c is = absurd is
 
 -- the mark of the checkpoint
-mark_is : (owner : Node) (log : LogView) (l : LogState) → LogStands owner log l → next_generation (generation_of l.stable) ≡ log.generation + 1 → filling_mark log ∷ [] ≡ checkpoint_marks owner (next_generation (generation_of l.stable))
+mark_is : (owner : Node) (log : LogView) (l : LogState) → RepresentsLog owner log l → next_generation (generation_of l.stable) ≡ log.generation + 1 → filling_mark log ∷ [] ≡ checkpoint_marks owner (next_generation (generation_of l.stable))
 mark_is owner log l s next = ap (λ (n : Node). checkpoint_marks n (log.generation + 1)) s.owned ∙ ap (checkpoint_marks owner) (sym next)
 
-pub fill_done : (owner : Node) (log after : LogView) (l : LogState) (items : List Record) (mark : Mark) (marks : List Mark) (s : LogStands owner log l) → l.spare_closed ≡ true → (log.generation ≡ 4294967295 → ⊥) → marks ≡ mark ∷ []
+pub fill_done : (owner : Node) (log after : LogView) (l : LogState) (items : List Record) (mark : Mark) (marks : List Mark) (s : RepresentsLog owner log l) → l.spare_closed ≡ true → (log.generation ≡ 4294967295 → ⊥) → marks ≡ mark ∷ []
     → IsFilling log items after (Ok mark) → HasWritten (filling owner l (reverse items)) owner l after (Ok (written.Done marks))
 fill_done owner log after l items mark marks s closed below is f =
     let next = next_is owner log l s below in
     (unarmed owner log l 4 s f.0, is ∙ ap (λ (m : Mark). m ∷ []) f.1 ∙ mark_is owner log l s next, filled_stands true owner log after l items s next f.2 closed)
 
-pub fill_ended : (owner : Node) (log after : LogView) (l : LogState) (items : List Record) (fault : LogFault) (out : Result Written NodeFault) (s : LogStands owner log l) → l.spare_closed ≡ true
+pub fill_ended : (owner : Node) (log after : LogView) (l : LogState) (items : List Record) (fault : LogFault) (out : Result Written NodeFault) (s : RepresentsLog owner log l) → l.spare_closed ≡ true
     → ((call : ℕ) (stable : Bool) (marks : List Mark) → fault ≡ Stopped call stable marks → log.generation ≡ 4294967295 → ⊥)
     → IsFilling log items after (Err fault) → IsPassedOn fault out → HasWritten (filling owner l (reverse items)) owner l after out
 fill_ended owner log after l items (Stopped call stable marks) out s closed below f is =
     let leaves = f.0 in
     let next = next_is owner log l s (below call stable marks refl) in
     let told = ap (λ (b : Bool). if b then filling_mark log ∷ [] else []) f.2 ∙ ap (λ (ms : List Mark). if batch_is_stable call leaves then ms else []) (mark_is owner log l s next) in
-    let stands = subst (λ (b : Bool). LogStands owner after (crashed_log (if b then with_filled_spare l (filled_with owner l (reverse items)) else l))) f.2 (filled_stands stable owner log after l items s next f.4 closed) in
+    let stands = subst (λ (b : Bool). RepresentsLog owner after (crashed_log (if b then with_filled_spare l (filled_with owner l (reverse items)) else l))) f.2 (filled_stands stable owner log after l items s next f.4 closed) in
     subst (HasWritten (filling owner l (reverse items)) owner l after) (sym is) (leaves, armed_at owner log l 4 call leaves s f.1 (within_four owner log l call leaves s f.1), f.3 ∙ told, stands)
 fill_ended owner log after l items (Device spot) out s closed below f is = subst (HasWritten (filling owner l (reverse items)) owner l after) (sym is) tt
 fill_ended owner log after l items (Full spot) out s closed below f is = subst (HasWritten (filling owner l (reverse items)) owner l after) (sym is) tt

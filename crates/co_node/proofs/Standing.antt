@@ -20,7 +20,7 @@ use Rattle.co_log.proofs.Ordered.{ordered_same, written_ordered, closed_ordered,
 use Rattle.co_plain.specs.declared.log_state.LogState.{LogState}
 use Rattle.co_plain.specs.LogWrite.{with_batch, with_filled_spare, crashed_log, generation_of, generation_in}
 use Rattle.co_plain.specs.Numbers.{next_generation}
-use Rattle.co_node.specs.NodeLog.{LogStands, plain_stop}
+use Rattle.co_node.specs.NodeLog.{RepresentsLog, plain_stop}
 use Rattle.co_node.specs.Writes.{filled_with}
 
 -- no stop is armed, so none out of bounds
@@ -32,14 +32,14 @@ onto : (old waiting : List Record) (item : Record) → reverse (old ++ (waiting 
 onto old waiting item = reverse-append old (waiting ++ item ∷ []) ∙ ap (λ (xs : List Record). xs ++ reverse old) (reverse-append waiting (item ∷ []))
 
 -- the records, newest first, after a write that added the waiting ones and one more
-pub next_newest : (owner : Node) (log : LogView) (l : LogState) (item : Record) (s : LogStands owner log l) → newest_first (next_items true log.gate s.items (log.waiting ++ item ∷ [])) ≡ (with_batch l (item ∷ [])).stable
+pub next_newest : (owner : Node) (log : LogView) (l : LogState) (item : Record) (s : RepresentsLog owner log l) → newest_first (next_items true log.gate s.items (log.waiting ++ item ∷ [])) ≡ (with_batch l (item ∷ [])).stable
 next_newest owner log l item s =
     let all = ap reverse (next_records true log.gate s.items (log.waiting ++ item ∷ [])) ∙ onto (records_of s.items) log.waiting item in
     all ∙ ap (λ (xs : List Record). item ∷ (xs ++ newest_first s.items)) (sym s.waiting) ∙ ap (λ (xs : List Record). item ∷ (l.waiting ++ xs)) (sym s.stable)
 
 -- a log write that added the waiting records and one more, or did not and took the waiting ones away
-pub written_stands : (stable : Bool) (owner : Node) (log after : LogView) (l : LogState) (item : Record) (s : LogStands owner log l)
-    → IsWritten stable log s.items (log.waiting ++ item ∷ []) after → LogStands owner after (crashed_log (if stable then with_batch l (item ∷ []) else l))
+pub written_stands : (stable : Bool) (owner : Node) (log after : LogView) (l : LogState) (item : Record) (s : RepresentsLog owner log l)
+    → IsWritten stable log s.items (log.waiting ++ item ∷ []) after → RepresentsLog owner after (crashed_log (if stable then with_batch l (item ∷ []) else l))
 written_stands true owner log after l item s w =
     let more = log.waiting ++ item ∷ [] in
     record {
@@ -67,8 +67,8 @@ written_stands false owner log after l item s w =
     }
 
 -- a spare that was closed, or was not: with the waiting records kept, or lost
-pub closed_stands : (closed : Bool) (owner : Node) (log after : LogView) (l : LogState) (kept : List Record) (s : LogStands owner log l)
-    → IsClosed closed log after → after.waiting ≡ reverse kept → LogStands owner after (record { stable = l.stable; waiting = kept; armed = None; spare_closed = closed })
+pub closed_stands : (closed : Bool) (owner : Node) (log after : LogView) (l : LogState) (kept : List Record) (s : RepresentsLog owner log l)
+    → IsClosed closed log after → after.waiting ≡ reverse kept → RepresentsLog owner after (record { stable = l.stable; waiting = kept; armed = None; spare_closed = closed })
 closed_stands closed owner log after l kept s c waiting =
     record {
       owned = c.node ∙ s.owned;
@@ -98,7 +98,7 @@ first_generation owner generation [] begins = absurd begins
 first_generation owner generation (x ∷ items) begins = ap (λ (y : ℕ × Record). generation_in (Some y.1)) begins
 
 -- the generation that the records tell is that of the log
-pub generation_is : (owner : Node) (log : LogView) (l : LogState) → LogStands owner log l → generation_of l.stable ≡ log.generation
+pub generation_is : (owner : Node) (log : LogView) (l : LogState) → RepresentsLog owner log l → generation_of l.stable ≡ log.generation
 generation_is owner log l s =
     let back = ap (λ (xs : List Record). generation_in (slice_get (reverse xs) 0)) s.stable in
     let whole = ap (λ (xs : List Record). generation_in (slice_get xs 0)) (reverse-reverse (records_of s.items)) in
@@ -109,7 +109,7 @@ generation_within owner version generation gate batches [] begins holds = absurd
 generation_within owner version generation gate batches (x ∷ items) begins holds = (subst (λ (y : ℕ × Record). IsSpelledIn version y.1) begins (first_spelled version gate batches x items holds)).1
 
 -- the next generation does not stand still where there is one
-pub next_is : (owner : Node) (log : LogView) (l : LogState) → LogStands owner log l → (log.generation ≡ 4294967295 → ⊥) → next_generation (generation_of l.stable) ≡ log.generation + 1
+pub next_is : (owner : Node) (log : LogView) (l : LogState) → RepresentsLog owner log l → (log.generation ≡ 4294967295 → ⊥) → next_generation (generation_of l.stable) ≡ log.generation + 1
 next_is owner log l s below =
     let bound = generation_within log.node log.version log.generation 0 s.ordered.live.ends.batches s.items s.ordered.header s.ordered.live.ends.holds in
     ap next_generation (generation_is owner log l s) ∙ omega (arith, bound, below)
@@ -117,7 +117,7 @@ next_is owner log l s below =
 -- ---- filling
 
 -- the records of a filled spare, newest first
-pub filled_newest : (owner : Node) (log : LogView) (l : LogState) (records : List Record) (s : LogStands owner log l) → next_generation (generation_of l.stable) ≡ log.generation + 1
+pub filled_newest : (owner : Node) (log : LogView) (l : LogState) (records : List Record) (s : RepresentsLog owner log l) → next_generation (generation_of l.stable) ≡ log.generation + 1
     → newest_first (placed_from 5 (filling log records)) ≡ filled_with owner l (reverse records)
 filled_newest owner log l records s next =
     let placed = ap reverse (filled_records true log s.items records) in
@@ -127,8 +127,8 @@ filled_newest owner log l records s next =
     placed ∙ header ∙ owned ∙ named
 
 -- a spare that was filled, or was not
-pub filled_stands : (stable : Bool) (owner : Node) (log after : LogView) (l : LogState) (records : List Record) (s : LogStands owner log l) → next_generation (generation_of l.stable) ≡ log.generation + 1
-    → IsFilledIf stable log after records → l.spare_closed ≡ true → LogStands owner after (crashed_log (if stable then with_filled_spare l (filled_with owner l (reverse records)) else l))
+pub filled_stands : (stable : Bool) (owner : Node) (log after : LogView) (l : LogState) (records : List Record) (s : RepresentsLog owner log l) → next_generation (generation_of l.stable) ≡ log.generation + 1
+    → IsFilledIf stable log after records → l.spare_closed ≡ true → RepresentsLog owner after (crashed_log (if stable then with_filled_spare l (filled_with owner l (reverse records)) else l))
 filled_stands true owner log after l records s next f closed =
     record {
       owned = f.node ∙ s.owned;
@@ -157,9 +157,9 @@ filled_stands false owner log after l records s next u closed =
 -- ---- no log write
 
 -- a log that keeps its files, with what waits and the armed stop changed as the plain log has them changed
-pub same_stands : (owner : Node) (log after : LogView) (l m : LogState) → LogStands owner log l → after.node ≡ log.node → after.version ≡ log.version → after.current ≡ log.current → after.spare ≡ log.spare → after.gate ≡ log.gate → after.generation ≡ log.generation
+pub same_stands : (owner : Node) (log after : LogView) (l m : LogState) → RepresentsLog owner log l → after.node ≡ log.node → after.version ≡ log.version → after.current ≡ log.current → after.spare ≡ log.spare → after.gate ≡ log.gate → after.generation ≡ log.generation
     → m.stable ≡ l.stable → m.spare_closed ≡ l.spare_closed → m.waiting ≡ reverse after.waiting → m.armed ≡ option_map plain_stop after.stop
-    → IfSome after.stop (λ stop. stop.call ≤ 4) → LogStands owner after m
+    → IfSome after.stop (λ stop. stop.call ≤ 4) → RepresentsLog owner after m
 same_stands owner log after l m s node version current spare gate generation stable closed waiting armed bound =
     record {
       owned = node ∙ s.owned;

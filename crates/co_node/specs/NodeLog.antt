@@ -15,7 +15,7 @@ plain_stop stop = record { call = stop.call; leaves = stop.leaves }
 
 -- The log is that of this node, of the version that is written, its files are in order, and the plain log has the same records, newest first: those of
 -- the current file and those that wait, the same armed stop, in one of four device calls, and whether the spare file is closed.
-pub record LogStands (owner : Node) (log : LogView) (l : LogState) : Type 0 where
+pub record RepresentsLog (owner : Node) (log : LogView) (l : LogState) : Type 0 where
   pub owned : log.node ≡ owner
   pub latest : log.version ≡ newest
   pub items : Items

@@ -12,7 +12,7 @@ use Rattle.co_plain.specs.declared.log_state.LogState.{LogState}
 use Rattle.co_plain.specs.declared.outcome.Outcome.TheVariants.{Completes, StopsAt}
 use Rattle.co_plain.specs.LogWrite.{outcome_of, with_batch, with_spare, with_filled_spare, crashed_log, marks_of, checkpoint_marks, generation_of}
 use Rattle.co_plain.specs.Numbers.{next_generation}
-use Rattle.co_node.specs.NodeLog.{LogStands}
+use Rattle.co_node.specs.NodeLog.{RepresentsLog}
 use Rattle.co_node.specs.declared.written.Written.{Written}
 use Rattle.co_node.specs.declared.written.Written.TheVariants.{Done, Stopped}
 
@@ -65,8 +65,8 @@ filling owner l records =
 -- A log write ended as the armed stop says: it was done, or stopped in the armed device call, and the log stands for
 -- what that leaves of the plain log. After a fault of the node nothing is said of the log, which is only dropped.
 abbrev pub HasWritten : LogWrite → Node → LogState → LogView → Result Written NodeFault → Type 0
-HasWritten w owner l after (Ok (Done marks)) = (outcome_of l.armed w.calls ≡ Completes) × (marks ≡ w.marks) × LogStands owner after w.done
+HasWritten w owner l after (Ok (Done marks)) = (outcome_of l.armed w.calls ≡ Completes) × (marks ≡ w.marks) × RepresentsLog owner after w.done
 HasWritten w owner l after (Ok (Stopped call marks)) =
     (leaves : Leaves) × (outcome_of l.armed w.calls ≡ StopsAt call leaves) × (marks ≡ w.told call leaves)
-    × LogStands owner after (crashed_log (w.stopped call leaves))
+    × RepresentsLog owner after (crashed_log (w.stopped call leaves))
 HasWritten w owner l after (Err e) = Unit {0}

@@ -8,7 +8,7 @@ ghost use Rattle.co_log.specs.Others.{OtherNodesStay};
 ghost use Rattle.co_plain.specs.LogWrite.{with_batch};
 ghost use Rattle.co_plain.specs.declared.log_state.LogState.{LogState};
 ghost use Rattle.co_node.specs.Answers.{seen, IsAnswered};
-ghost use Rattle.co_node.specs.NodeLog.{LogStands};
+ghost use Rattle.co_node.specs.NodeLog.{RepresentsLog};
 ghost use Rattle.co_node.specs.Writes.{forcing, HasWritten};
 
 use crate::going::keep_waiting;
@@ -24,10 +24,10 @@ use co_record::Record;
 /// the old records.
 pub fn force<H: Home>(log: &mut Log, home: &mut H, item: Record) -> Result<Written, NodeFault>
     requires held { IsHeld (H.file home.old) (H.reach home.old) log.old }
-    requires stands { (owner : Node) × (l : LogState) × LogStands owner log.old l }
+    requires stands { (owner : Node) × (l : LogState) × RepresentsLog owner log.old l }
     requires item { IsWritable item × IsForcible item }
-    ensures written { (owner : Node) (l : LogState) → LogStands owner log.old l → HasWritten (forcing owner l (item ∷ [])) owner l log.new result }
-    ensures answered { (owner : Node) (l : LogState) → LogStands owner log.old l →
+    ensures written { (owner : Node) (l : LogState) → RepresentsLog owner log.old l → HasWritten (forcing owner l (item ∷ [])) owner l log.new result }
+    ensures answered { (owner : Node) (l : LogState) → RepresentsLog owner log.old l →
         IsAnswered owner log.old.current.spot (IsTooLong log.old.gate (log.old.waiting ++ item ∷ [])) l.stable (with_batch l (item ∷ [])).stable log.new
         (seen H.file H.reach H.faults H.last_failed home.old) (seen H.file H.reach H.faults H.last_failed home.new) result }
     ensures rest { OtherNodesStay H.file H.reach H.entered H.faults log.old.node home.old home.new }
@@ -48,11 +48,11 @@ pub fn force_both<H: Home>(
     item: Record,
 ) -> Result<Written, NodeFault>
     requires held { IsHeld (H.file home.old) (H.reach home.old) log.old }
-    requires stands { (owner : Node) × (l : LogState) × LogStands owner log.old l }
+    requires stands { (owner : Node) × (l : LogState) × RepresentsLog owner log.old l }
     requires first { IsWritable first × MayWait first }
     requires item { IsWritable item × IsForcible item }
-    ensures written { (owner : Node) (l : LogState) → LogStands owner log.old l → HasWritten (forcing owner l (item ∷ first ∷ [])) owner l log.new result }
-    ensures answered { (owner : Node) (l : LogState) → LogStands owner log.old l →
+    ensures written { (owner : Node) (l : LogState) → RepresentsLog owner log.old l → HasWritten (forcing owner l (item ∷ first ∷ [])) owner l log.new result }
+    ensures answered { (owner : Node) (l : LogState) → RepresentsLog owner log.old l →
         IsAnswered owner log.old.current.spot (IsTooLong log.old.gate (log.old.waiting ++ first ∷ item ∷ [])) l.stable (with_batch l (item ∷ first ∷ [])).stable log.new
         (seen H.file H.reach H.faults H.last_failed home.old) (seen H.file H.reach H.faults H.last_failed home.new) result }
     ensures rest { OtherNodesStay H.file H.reach H.entered H.faults log.old.node home.old home.new }

@@ -8,7 +8,7 @@ ghost use Rattle.co_log.specs.LogView.{IsHeld, MayWait};
 ghost use Rattle.co_log.specs.Others.{OtherNodesStay};
 ghost use Rattle.co_plain.specs.LogWrite.{crashed_log, with_stop, with_waiting};
 ghost use Rattle.co_plain.specs.declared.log_state.LogState.{LogState};
-ghost use Rattle.co_node.specs.NodeLog.{LogStands};
+ghost use Rattle.co_node.specs.NodeLog.{RepresentsLog};
 ghost use Rattle.co_node.specs.Rereading.{IsReread};
 
 use co_base::Leaves;
@@ -20,7 +20,7 @@ use std::alloc::AllocError;
 /// Keeps a record waiting for the next log write. Want of memory leaves the log as it was.
 pub fn keep_waiting(log: &mut Log, item: Record) -> Result<(), AllocError>
     requires item { IsWritable item × MayWait item }
-    ensures stands { (owner : Node) (l : LogState) → LogStands owner log.old l → OnOk result (LogStands owner log.new (with_waiting l item)) }
+    ensures stands { (owner : Node) (l : LogState) → RepresentsLog owner log.old l → OnOk result (RepresentsLog owner log.new (with_waiting l item)) }
     ensures ok { OnOk result (log.new ≡ record log.old { waiting = log.old.waiting ++ item ∷ [] }) }
     ensures held { (file : Spot → Option File) (reach : Spot → ℕ) → IsHeld file reach log.old → IsHeld file reach log.new }
     ensures err { OnErr result (log.new ≡ log.old) }
@@ -31,7 +31,7 @@ pub fn keep_waiting(log: &mut Log, item: Record) -> Result<(), AllocError>
 /// Arms the next log write of the node: its device call with this number, counted from 1, stops and leaves this image.
 pub fn arm(log: &mut Log, stop: u8, leaves: Leaves)
     requires { (1 ≤ stop) × (stop ≤ 4) }
-    ensures stands { (owner : Node) (l : LogState) → LogStands owner log.old l → LogStands owner log.new (with_stop l (Some (record { call = stop; leaves = leaves }))) }
+    ensures stands { (owner : Node) (l : LogState) → RepresentsLog owner log.old l → RepresentsLog owner log.new (with_stop l (Some (record { call = stop; leaves = leaves }))) }
     ensures held { (file : Spot → Option File) (reach : Spot → ℕ) → IsHeld file reach log.old → IsHeld file reach log.new }
 {
     log.arm(stop, leaves);
@@ -39,7 +39,7 @@ pub fn arm(log: &mut Log, stop: u8, leaves: Leaves)
 
 /// Takes the armed stop away.
 pub fn disarm(log: &mut Log)
-    ensures stands { (owner : Node) (l : LogState) → LogStands owner log.old l → LogStands owner log.new (with_stop l None) }
+    ensures stands { (owner : Node) (l : LogState) → RepresentsLog owner log.old l → RepresentsLog owner log.new (with_stop l None) }
     ensures held { (file : Spot → Option File) (reach : Spot → ℕ) → IsHeld file reach log.old → IsHeld file reach log.new }
 {
     log.disarm();
@@ -48,8 +48,8 @@ pub fn disarm(log: &mut Log)
 /// A crash between two log writes: the waiting records and the armed stop are lost. It makes no call of the directory.
 pub fn crash<H: Home>(log: &mut Log, home: &mut H)
     requires held { IsHeld (H.file home.old) (H.reach home.old) log.old }
-    requires stands { (owner : Node) × (l : LogState) × LogStands owner log.old l }
-    ensures stands { (owner : Node) (l : LogState) → LogStands owner log.old l → LogStands owner log.new (crashed_log l) }
+    requires stands { (owner : Node) × (l : LogState) × RepresentsLog owner log.old l }
+    ensures stands { (owner : Node) (l : LogState) → RepresentsLog owner log.old l → RepresentsLog owner log.new (crashed_log l) }
     ensures held { IsHeld (H.file home.new) (H.reach home.new) log.new }
     ensures home { home.new ≡ home.old }
 {

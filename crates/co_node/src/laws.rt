@@ -14,19 +14,19 @@ ghost use Rattle.co_log.specs.NodeFiles.{Items, newest_first, HasRecordsIn};
 ghost use Rattle.co_plain.specs.Opening.{fresh, opened_log};
 ghost use Rattle.co_plain.specs.declared.log_state.LogState.{LogState};
 ghost use Rattle.co_node.specs.Answers.{AreTold, AreWithin};
-ghost use Rattle.co_node.specs.NodeLog.{LogStands};
+ghost use Rattle.co_node.specs.NodeLog.{RepresentsLog};
 
 /// A log of version 2 that was attached is fresh, or stands for the plain log that is opened over the records that were found; and a fresh one stands, once it
 /// was made, for the plain log that is opened over none.
 pub fn opened_logs_stand()
     ensures attached { (owner : Node) (a b : DiskView) (log : LogView) → IsValidNode owner → a.state.pending ≡ [] → b.state.pending ≡ [] → IsAttached owner a b log → log.version ≡ newest →
-        IsFresh log ⊎ ((items : Items) × LogStands owner log (opened_log owner (record { records = newest_first items; spare_closed = begins_closed log.spare.state.stable }))) }
+        IsFresh log ⊎ ((items : Items) × RepresentsLog owner log (opened_log owner (record { records = newest_first items; spare_closed = begins_closed log.spare.state.stable }))) }
     ensures made { (owner : Node) (a b : DiskView) (log after : LogView) → IsValidNode owner → IsAttached owner a b log → IsFresh log → IsMade log after →
-        LogStands owner after (opened_log owner (record { records = []; spare_closed = begins_closed log.spare.state.stable })) }
+        RepresentsLog owner after (opened_log owner (record { records = []; spare_closed = begins_closed log.spare.state.stable })) }
 {}
 
 /// The files of a node have exactly the stable records of the plain log that its log stands for, where the directory tells both.
 pub fn standing_logs_are_told()
-    ensures { (owner : Node) (file : Spot → Option File) (reach : Spot → ℕ) (log : LogView) (l : LogState) → LogStands owner log l → IsHeld file reach log → AreWithin file owner →
+    ensures { (owner : Node) (file : Spot → Option File) (reach : Spot → ℕ) (log : LogView) (l : LogState) → RepresentsLog owner log l → IsHeld file reach log → AreWithin file owner →
         AreTold file owner → (items : Items) × HasRecordsIn file owner items × (newest_first items ≡ l.stable) }
 {}

@@ -7,7 +7,7 @@ ghost use Rattle.co_log.specs.Others.{OtherNodesStay};
 ghost use Rattle.co_log.specs.Spare.{IsFillable, IsOverfull};
 ghost use Rattle.co_plain.specs.declared.log_state.LogState.{LogState};
 ghost use Rattle.co_node.specs.Answers.{seen, IsAnswered};
-ghost use Rattle.co_node.specs.NodeLog.{LogStands};
+ghost use Rattle.co_node.specs.NodeLog.{RepresentsLog};
 ghost use Rattle.co_node.specs.Writes.{closing, filling, filled_with, HasWritten};
 
 use crate::written::{Written, stopped};
@@ -19,8 +19,8 @@ use std::alloc::{AllocError, Global};
 
 /// Whether the spare file is closed, so that it may be filled.
 pub fn spare_closed(log: &Log) -> bool
-    requires { (owner : Node) × (l : LogState) × LogStands owner log.now l }
-    ensures { (owner : Node) (l : LogState) → LogStands owner log.now l → result ≡ l.spare_closed }
+    requires { (owner : Node) × (l : LogState) × RepresentsLog owner log.now l }
+    ensures { (owner : Node) (l : LogState) → RepresentsLog owner log.now l → result ≡ l.spare_closed }
 {
     log.spare_closed()
 }
@@ -31,9 +31,9 @@ pub fn spare_closed(log: &Log) -> bool
 /// directory failed, and only there; `Memory` leaves the old records; no other fault comes.
 pub fn close<H: Home>(alloc: Global, log: &mut Log, home: &mut H) -> Result<Written, NodeFault>
     requires held { IsHeld (H.file home.old) (H.reach home.old) log.old }
-    requires stands { (owner : Node) × (l : LogState) × LogStands owner log.old l × (l.spare_closed ≡ false) }
-    ensures written { (owner : Node) (l : LogState) → LogStands owner log.old l → HasWritten (closing l) owner l log.new result }
-    ensures answered { (owner : Node) (l : LogState) → LogStands owner log.old l →
+    requires stands { (owner : Node) × (l : LogState) × RepresentsLog owner log.old l × (l.spare_closed ≡ false) }
+    ensures written { (owner : Node) (l : LogState) → RepresentsLog owner log.old l → HasWritten (closing l) owner l log.new result }
+    ensures answered { (owner : Node) (l : LogState) → RepresentsLog owner log.old l →
         IsAnswered owner log.old.spare.spot ⊥ l.stable l.stable log.new
         (seen H.file H.reach H.faults H.last_failed home.old) (seen H.file H.reach H.faults H.last_failed home.new) result }
     ensures rest { OtherNodesStay H.file H.reach H.entered H.faults log.old.node home.old home.new }
@@ -72,10 +72,10 @@ pub fn fill<H: Home>(
     items: &[Record],
 ) -> Result<Written, NodeFault>
     requires held { IsHeld (H.file home.old) (H.reach home.old) log.old }
-    requires stands { (owner : Node) × (l : LogState) × LogStands owner log.old l × (l.spare_closed ≡ true) }
+    requires stands { (owner : Node) × (l : LogState) × RepresentsLog owner log.old l × (l.spare_closed ≡ true) }
     requires items { AllByRecursion IsFillable items.now }
-    ensures written { (owner : Node) (l : LogState) → LogStands owner log.old l → HasWritten (filling owner l (reverse items.now)) owner l log.new result }
-    ensures answered { (owner : Node) (l : LogState) → LogStands owner log.old l →
+    ensures written { (owner : Node) (l : LogState) → RepresentsLog owner log.old l → HasWritten (filling owner l (reverse items.now)) owner l log.new result }
+    ensures answered { (owner : Node) (l : LogState) → RepresentsLog owner log.old l →
         IsAnswered owner log.old.spare.spot (IsOverfull log.old items.now) l.stable (filled_with owner l (reverse items.now)) log.new
         (seen H.file H.reach H.faults H.last_failed home.old) (seen H.file H.reach H.faults H.last_failed home.new) result }
     ensures rest { OtherNodesStay H.file H.reach H.entered H.faults log.old.node home.old home.new }

@@ -247,37 +247,17 @@ static SHORT: [(&[u8], &str, u32); 11] = [
 static OLDEST: [(&[u8], &str, u32); 4] = [
     (b"\x01\x01\x88\xff\xff\x61\xff", "read", 7),
     (b"\x01\x02\x88\xff\xff\x61\xff", "field", 1),
-    (
-        b"\x06\x00\x00\x00\x01\x01\x7e\x01\x00",
-        "short",
-        0,
-    ),
-    (
-        b"\x06\x00\x00\x00\x01\x01\x7e\x01\x01",
-        "field",
-        7,
-    ),
+    (b"\x06\x00\x00\x00\x01\x01\x7e\x01\x00", "short", 0),
+    (b"\x06\x00\x00\x00\x01\x01\x7e\x01\x01", "field", 7),
 ];
 
 /// The same in version 2.
 static NEWEST: [(&[u8], &str, u32); 5] = [
     (b"\x01\x01\x88\xff\xff\x61\xff", "field", 1),
     (b"\x01\x02\x88\xff\xff\x61\xff", "read", 7),
-    (
-        b"\x06\x00\x00\x00\x01\x01\x7e\x01\x01",
-        "short",
-        0,
-    ),
-    (
-        b"\x06\x00\x00\x00\x01\x01\x7e\x10\x00",
-        "short",
-        0,
-    ),
-    (
-        b"\x06\x00\x00\x00\x01\x01\x7e\x10\x01",
-        "field",
-        7,
-    ),
+    (b"\x06\x00\x00\x00\x01\x01\x7e\x01\x01", "short", 0),
+    (b"\x06\x00\x00\x00\x01\x01\x7e\x10\x00", "short", 0),
+    (b"\x06\x00\x00\x00\x01\x01\x7e\x10\x01", "field", 7),
 ];
 
 #[test]

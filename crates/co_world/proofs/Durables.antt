@@ -22,12 +22,14 @@ use Rattle.co_recover.specs.Recovered.{prepared_of, past_of_member, IsMemberReco
 use Rattle.co_world.specs.declared.durable.DurableRow.{DurableRow}
 use Rattle.co_world.specs.declared.fault.WorldFault.{WorldFault}
 use Rattle.co_world.specs.declared.fault.WorldFault.TheVariants.{Device, Differs, InUse, Bad, Full, Count, Memory}
-use Rattle.co_world.specs.Durable.{HasRecordsIn, IsLogIn, log_of, numbered_rows, IsAllowedBy, IsDurable, Stands, Falls, IsUndurable}
+use Rattle.co_world.specs.Durable.{IsLogIn, log_of, numbered_rows, IsAllowedBy, IsDurable, Stands, Falls, IsUndurable}
+use Rattle.co_log.specs.NodeFiles.{HasRecordsIn}
 use Rattle.co_world.specs.Laying.{seen_by, with_decided_votes, durable_of_past, member_rows, rows_from, durable_of_pasts}
 use Rattle.co_world.specs.Nodes.{member_nodes, coord_nodes}
 use Rattle.co_world.specs.Pairs.{EachPair, FirstWhere}
 use Rattle.co_world.specs.Reading.{IsLogOf, HasLog, IsUnread, IsFirstUnread}
-use Rattle.co_world.specs.Recovering.{Items, HasItems, member_refuses, coord_refuses, newest_first, IsPastOf, AreSeen, IsSeenIn, LogStands, LogFalls, IsFirstToFall}
+use Rattle.co_world.specs.Recovering.{HasItems, member_refuses, coord_refuses, IsPastOf, AreSeen, IsSeenIn, LogStands, LogFalls, IsFirstToFall}
+use Rattle.co_log.specs.NodeFiles.{Items, newest_first}
 use Rattle.co_world.proofs.Numbered.{so_many}
 use Rattle.co_world.proofs.Opened.{opened, log_in, stands, falls}
 use Rattle.co_world.proofs.Pairs.{left_all, all_over, all_append, first_left, first_right, first_map, first_over, pairs_length}

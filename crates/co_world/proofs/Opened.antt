@@ -14,11 +14,13 @@ use Rattle.co_log.specs.Current.{IsCurrentOf}
 use Rattle.co_log.specs.LogView.{spot_of, LogView}
 use Rattle.co_log.proofs.Versions.{has_records}
 use Rattle.co_log.proofs.Unmade.{read_stable}
-use Rattle.co_world.specs.Durable.{HasCurrent, IsCurrentIn, IsLogIn, Stands, Falls}
+use Rattle.co_world.specs.Durable.{IsLogIn, Stands, Falls}
+use Rattle.co_log.specs.NodeFiles.{HasCurrent, IsCurrentIn}
 use Rattle.co_world.specs.declared.fault.WorldFault.TheVariants.{Bad}
 use Rattle.co_world.specs.Pairs.{EachPair}
 use Rattle.co_world.specs.Reading.{IsLogOf, HasLog}
-use Rattle.co_world.specs.Recovering.{Items, HasItems, IsReadable, LogStands, LogFalls}
+use Rattle.co_world.specs.Recovering.{HasItems, IsReadable, LogStands, LogFalls}
+use Rattle.co_log.specs.NodeFiles.{Items}
 use Rattle.co_world.proofs.Pairs.{right_all}
 
 -- the current file of the node, as the log has it

@@ -17,11 +17,13 @@ use Rattle.co_plain.specs.DurableRecords.{durable_records}
 use Rattle.co_world.specs.declared.durable.DurableRow.{DurableRow}
 use Rattle.co_world.specs.declared.fault.WorldFault.{WorldFault}
 use Rattle.co_world.specs.declared.fault.WorldFault.TheVariants.{Device, Differs, InUse, Bad, Full, Count, Memory}
-use Rattle.co_world.specs.Durable.{HasCurrent, IsCurrentIn, HasRecordsIn, IsLogIn, log_of, numbered_rows, IsAllowedBy, IsDurable, Stands, Falls, IsFirstFallen, IsUndurable}
+use Rattle.co_world.specs.Durable.{IsLogIn, log_of, numbered_rows, IsAllowedBy, IsDurable, Stands, Falls, IsFirstFallen, IsUndurable}
+use Rattle.co_log.specs.NodeFiles.{HasCurrent, IsCurrentIn, HasRecordsIn}
 use Rattle.co_world.specs.Nodes.{member_nodes, coord_nodes, nodes_of}
 use Rattle.co_world.specs.Pairs.{EachPair, FirstWhere}
 use Rattle.co_world.specs.Reading.{IsUnread}
-use Rattle.co_world.specs.Recovering.{Items, member_refuses, coord_refuses}
+use Rattle.co_world.specs.Recovering.{member_refuses, coord_refuses}
+use Rattle.co_log.specs.NodeFiles.{Items}
 use Rattle.co_world.specs.Told.{IsTold, AreTold, IsOfFiles}
 use Rattle.co_world.proofs.Firsts.{all_front, all_back, both_first, all_good, pairs_once}
 use Rattle.co_world.proofs.Pairs.{left_all, all_append, all_over}

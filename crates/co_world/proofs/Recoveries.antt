@@ -7,7 +7,8 @@ use Rattle.co_recover.specs.Recovered.{IsMemberRecovery, IsCoordRecovery}
 use Rattle.co_world.specs.declared.fault.WorldFault.{WorldFault}
 use Rattle.co_world.specs.declared.fault.WorldFault.TheVariants.{Device, Differs, InUse, Bad, Full, Count, Memory}
 use Rattle.co_world.specs.Pairs.{EachPair}
-use Rattle.co_world.specs.Recovering.{Items, HasItems, member_refuses, coord_refuses, fallen, LogStands, LogFalls, IsFirstToFall}
+use Rattle.co_world.specs.Recovering.{HasItems, member_refuses, coord_refuses, fallen, LogStands, LogFalls, IsFirstToFall}
+use Rattle.co_log.specs.NodeFiles.{Items}
 use Rattle.co_world.proofs.Pairs.{left_all, first_at}
 
 -- the log at a place is the first that falls, where all before it stand

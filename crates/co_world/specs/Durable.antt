@@ -20,28 +20,8 @@ use Rattle.co_world.specs.Laying.{member_rows}
 use Rattle.co_world.specs.Nodes.{member_nodes, coord_nodes, nodes_of}
 use Rattle.co_world.specs.Pairs.{EachPair, FirstWhere}
 use Rattle.co_world.specs.Reading.{IsUnread}
-use Rattle.co_world.specs.Recovering.{Items, member_refuses, coord_refuses, newest_first}
-
--- The current one of the two files of a node, by its part, and its records, in either version. Where neither file has a batch it is
--- part a, without records; else it is the one that has the greater generation, or the only one with a batch.
-abbrev pub HasCurrent : Node → List ℕ → List ℕ → ℕ → Items → Type 0
-HasCurrent node a b part items =
-    ((part ≡ 0) × (items ≡ []) × IsLogText a [] × IsLogText b [])
-    ⊎ (((part ≡ 0) × ((version : ℕ) × (generation : ℕ) × IsCurrentOf node version generation a b items)) ⊎ ((part ≡ 1) × ((version : ℕ) × (generation : ℕ) × IsCurrentOf node version generation b a items)))
-
--- the current file of a node and its records, by the bytes of its files, where the home tells them; neither file is
--- too long
-pub record IsCurrentIn (file : Spot → Option File) (node : Node) (part : ℕ) (items : Items) : Type 0 where
-  pub a : List ℕ
-  pub b : List ℕ
-  pub told_a : (f : File) → file (spot_of node 0) ≡ Some f → f.bytes ≡ a
-  pub told_b : (f : File) → file (spot_of node 1) ≡ Some f → f.bytes ≡ b
-  pub within_a : IsWithin most_log_bytes (file (spot_of node 0))
-  pub within_b : IsWithin most_log_bytes (file (spot_of node 1))
-  pub current : HasCurrent node a b part items
-
-abbrev pub HasRecordsIn : (Spot → Option File) → Node → Items → Type 0
-HasRecordsIn file node items = (part : ℕ) × IsCurrentIn file node part items
+use Rattle.co_log.specs.NodeFiles.{Items, newest_first, IsCurrentIn, HasRecordsIn}
+use Rattle.co_world.specs.Recovering.{member_refuses, coord_refuses}
 
 -- the files of the node are a log
 abbrev pub IsLogIn : (Spot → Option File) → Node → Type 0

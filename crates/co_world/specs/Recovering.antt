@@ -2,6 +2,7 @@
 use Rattle.std.specs.Prelude.{ℕ, ◌≡◌, List, reverse, Option, None, Ok}
 use Rattle.co_disk.specs.DiskModel.{read_of}
 use Rattle.co_log.specs.LogView.{LogView}
+use Rattle.co_log.specs.NodeFiles.{Items, newest_first}
 use Rattle.co_outside.specs.declared.spot.Spot.{Spot}
 use Rattle.co_record.specs.declared.record.Record.{Record}
 use Rattle.co_record.specs.Stored.{HasRecords}
@@ -15,19 +16,12 @@ use Rattle.co_world.specs.declared.fault.WorldFault.{WorldFault}
 use Rattle.co_world.specs.declared.fault.WorldFault.TheVariants.{Device, Differs, InUse, Bad, Full, Count, Memory}
 use Rattle.co_world.specs.Pairs.{FirstWhere}
 
--- records with their places in a file, the oldest first
-abbrev pub Items : Type 0
-Items = List (ℕ × Record)
-
 -- which record is the first that is not allowed behind so many others, in the log of a member or of a coordinator
 abbrev pub member_refuses : ℕ → Items → Option ℕ
 member_refuses coords items = first_refused_at_member coords (records_of items)
 
 abbrev pub coord_refuses : ℕ → Items → Option ℕ
 coord_refuses members items = first_refused_at_coord members (records_of items)
-
-abbrev pub newest_first : Items → List Record
-newest_first items = reverse (records_of items)
 
 -- the current file of the log has these records
 abbrev pub HasItems : LogView → Items → Type 0

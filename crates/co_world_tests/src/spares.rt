@@ -1,6 +1,7 @@
 //! Filled spares: the rows and the decisions that they restate.
 use crate::logs::{
-    C1_BOTH, C1_HEADER, CLOSED, DECIDED_1, M1_BOTH, M1_HEADER, M1_OLDEST, M1_VOTED, OPEN, OTHER, VOTE_ON_A,
+    C1_BOTH, C1_HEADER, CLOSED, DECIDED_1, M1_BOTH, M1_HEADER, M1_OLDEST, M1_VOTED, OPEN, OTHER,
+    VOTE_ON_A,
 };
 use crate::telling::{C1_A, C1_B, Case, M1_A, M1_B, Told, wrong_case};
 
