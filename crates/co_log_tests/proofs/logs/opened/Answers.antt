@@ -13,7 +13,7 @@ returns-then-fresh c =
     (found_fresh c.in_ok-log.log (found c.args.node _ _ c.in_ok-log.log c.requires c.in_ok-log.ensures.attached) (sym c.fresh.ensures ∙ c.if-fresh.true))
     c.in_ok-make.ensures.made c.in_ok-make.ensures.held
 
-pub returns : goal.returns
-returns c =
+pub returns-then-version-eq-NEWEST_VERSION : goal.returns-then-version-eq-NEWEST_VERSION
+returns-then-version-eq-NEWEST_VERSION c =
     let one = found_ordered c.in_ok-log.log (found c.args.node _ _ c.in_ok-log.log c.requires c.in_ok-log.ensures.attached) (sym c.fresh.ensures ∙ c.if-fresh.false) in
-    record { held = c.in_ok-log.ensures.held; latest = sym c.version.ensures ∙ c.if-version.true; items = one.0; ordered = one.1 }
+    record { held = c.in_ok-log.ensures.held; latest = sym c.version.ensures ∙ c.if-version-eq-NEWEST_VERSION.true; items = one.0; ordered = one.1 }
