@@ -13,15 +13,15 @@ use Rattle.co_plain.specs.Runs.{run}
 use Rattle.co_plain.specs.Step.{step}
 use Rattle.co_law_base.proofs.Carrying.{at_here}
 use Rattle.co_law_base.proofs.Facts.{Facts}
-use Rattle.co_law_event.specs.HandedVerdicts.{AreTrueVerdicts, IsTrueVerdict}
-use Rattle.co_law_event.proofs.Steps.{run_keeps}
+use Rattle.co_law_moves.specs.HandedVerdicts.{AreTrueVerdicts, IsTrueVerdict}
+use Rattle.co_law_moves.proofs.Steps.{run_keeps}
 use Rattle.co_law_moves.specs.EventMoves.{moves_of}
 use Rattle.co_law_moves.specs.MoveTraces.{IsItsMoves, IsDisarmedEverywhere, told_with, moves_trace}
 use Rattle.co_law_moves.proofs.NodesTold.{no_rest}
 use Rattle.co_law_moves.proofs.StepsMade.{event_made}
 use Rattle.co_law_moves.proofs.StepsTold.{step_told}
-use Rattle.co_law_start.specs.OpenedLogs.{AreOpenable}
-use Rattle.co_law_start.proofs.Start.{start_facts}
+use Rattle.co_law_moves.specs.OpenedLogs.{AreOpenable}
+use Rattle.co_law_moves.proofs.Start.{start_facts}
 
 event_is_made : (s : Federation) → Facts s → (h : Happening) → IsTrueVerdict s h → h ≢ happening.Disarm → IsItsMoves s h
 event_is_made s f h v n =

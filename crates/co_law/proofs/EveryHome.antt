@@ -34,15 +34,15 @@ use Rattle.co_plain.specs.Federation.{Federation, Stepped, answers, at_member, a
 use Rattle.co_plain.specs.Step.{up_member, up_coord, is_used, begin_where, local_where, entered, operated, operate_with, marked_asked, coord_answers, local_answers, commit_at, commit_with, abort_at, abort_with, arrives, timer_at, crash_at, restart_at, arm_at, checkpoint_at, reply_in, is_stopped, is_held, step_line, step}
 use Rattle.co_plain.specs.SoundLogs.{unended_in}
 use Rattle.co_law_base.proofs.Facts.{Facts}
-use Rattle.co_law_member.proofs.LogMoves.{as_belongs}
-use Rattle.co_law_session.proofs.Sending.{send_cases}
-use Rattle.co_law_event.specs.HandedVerdicts.{AreTrueVerdicts}
-use Rattle.co_law_event.proofs.Steps.{step_keeps}
+use Rattle.co_law_base.proofs.LogMoves.{as_belongs}
+use Rattle.co_law_base.proofs.Sending.{send_cases}
+use Rattle.co_law_moves.specs.HandedVerdicts.{AreTrueVerdicts}
+use Rattle.co_law_moves.proofs.Steps.{step_keeps}
 use Rattle.co_law_moves.proofs.Growing.{step_grows}
 use Rattle.co_law_moves.proofs.KeptFrom.{belongs_is}
-use Rattle.co_law_quiet.proofs.Hopeless.{step_onward}
-use Rattle.co_law_start.specs.OpenedLogs.{AreOpenable}
-use Rattle.co_law_start.proofs.Start.{start_facts}
+use Rattle.co_law_runs.proofs.Hopeless.{step_onward}
+use Rattle.co_law_moves.specs.OpenedLogs.{AreOpenable}
+use Rattle.co_law_moves.proofs.Start.{start_facts}
 use Rattle.co_law.specs.MessageHomes.{IsHome, Belongs, CommittedBefore, NamesHome, MessagesNameHomes}
 use Rattle.co_law.proofs.MemberNames.{MemberNames, quiet, names_prepare, names_decision, handed_home, names_vote, names_question, quiet_timer, quiet_operation, quiet_commit, quiet_abort, quiet_restart, quiet_checkpoint}
 use Rattle.co_law.proofs.CoordNames.{CoordNames, names_commit, names_abort, names_counted, names_answer, names_acknowledged, names_timer, names_resent, names_restart, names_checkpoint}

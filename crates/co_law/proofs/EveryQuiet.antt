@@ -15,15 +15,15 @@ use Rattle.co_plain.specs.SoundLogs.{unended_in, log_has_voted, log_has_committe
 use Rattle.co_plain.specs.Quiet.{IsOpen, IsQuiet}
 use Rattle.co_law_base.proofs.Lookups.{look_none}
 use Rattle.co_law_base.proofs.Facts.{Facts}
-use Rattle.co_law_event.specs.HandedVerdicts.{AreTrueVerdicts}
-use Rattle.co_law_event.proofs.Steps.{run_keeps}
+use Rattle.co_law_moves.specs.HandedVerdicts.{AreTrueVerdicts}
+use Rattle.co_law_moves.proofs.Steps.{run_keeps}
 use Rattle.co_law_moves.proofs.Growing.{run_grows}
-use Rattle.co_law_agree.proofs.Agreement.{run_works, opened_works}
-use Rattle.co_law_quiet.specs.OnlyTimers.{IsBetween, AreOwn, AreOwnLogs, SomeTimerEnds}
-use Rattle.co_law_quiet.proofs.Fitting.{Fit, FitSessions, run_fits}
-use Rattle.co_law_quiet.proofs.InQuiet.{OpenedFit, timer_there, ends_for_good}
-use Rattle.co_law_start.specs.OpenedLogs.{AreOpenable}
-use Rattle.co_law_start.proofs.Start.{start_facts}
+use Rattle.co_law_runs.proofs.Agreement.{run_works, opened_works}
+use Rattle.co_law_runs.specs.OnlyTimers.{IsBetween, AreOwn, AreOwnLogs, SomeTimerEnds}
+use Rattle.co_law_runs.proofs.Fitting.{Fit, FitSessions, run_fits}
+use Rattle.co_law_runs.proofs.InQuiet.{OpenedFit, timer_there, ends_for_good}
+use Rattle.co_law_moves.specs.OpenedLogs.{AreOpenable}
+use Rattle.co_law_moves.proofs.Start.{start_facts}
 
 -- whose log tells something is a member of the federation
 member_is : (kinds : List Kind) (coords : ℕ) (fm fc : ℕ → Found) → OnlyOwnLogs kinds coords fm fc → (m t : ℕ) → (log_has_voted (fm m).records t || log_has_committed (fm m).records t) ≡ true → IsBetween m (length kinds)

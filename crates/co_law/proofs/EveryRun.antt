@@ -8,14 +8,14 @@ use Rattle.co_plain.specs.Runs.{run}
 use Rattle.co_plain.specs.Decisions.{sites_of}
 use Rattle.co_plain.specs.Promises.{SerialReads, LogsAlone, LogsStaySound, Acknowledged, MembersAgree}
 use Rattle.co_plain.specs.Invariants.{Kept}
-use Rattle.co_law_event.specs.HandedVerdicts.{AreTrueVerdicts}
-use Rattle.co_law_start.specs.OpenedLogs.{AreOpenable}
+use Rattle.co_law_moves.specs.HandedVerdicts.{AreTrueVerdicts}
+use Rattle.co_law_moves.specs.OpenedLogs.{AreOpenable}
 use Rattle.co_law_base.proofs.Facts.{rest_of, serial_start, ReadSerially, Facts}
-use Rattle.co_law_event.proofs.Steps.{run_keeps}
-use Rattle.co_law_start.proofs.Start.{start_facts}
+use Rattle.co_law_moves.proofs.Steps.{run_keeps}
+use Rattle.co_law_moves.proofs.Start.{start_facts}
 use Rattle.co_law_moves.proofs.Growing.{Grows, run_grows}
 use Rattle.co_law_moves.proofs.Derived.{reads_at, logs_give, files_sound}
-use Rattle.co_law_agree.proofs.Agreement.{members_agree, opened_works}
+use Rattle.co_law_runs.proofs.Agreement.{members_agree, opened_works}
 use Rattle.co_law.proofs.Acknowledging.{run_ack}
 use Rattle.co_law_moves.proofs.KeptFrom.{kept, same_serial}
 

@@ -8,7 +8,7 @@ use Rattle.co_plain.specs.Opening.{Found}
 use Rattle.co_plain.specs.Decisions.{votes_for}
 use Rattle.co_plain.specs.SoundLogs.{AreSound, log_votes_for, has_unended}
 use Rattle.co_law_base.proofs.Lookups.{is_nothing, look_none}
-use Rattle.co_law_start.specs.OpenedLogs.{AreOpenable}
+use Rattle.co_law_moves.specs.OpenedLogs.{AreOpenable}
 use Rattle.co_law.proofs.Readable.{readable}
 
 no_vote : {A : Type 0} (t c : ℕ) → log_votes_for [] t c ≡ true → A

@@ -18,11 +18,11 @@ use Rattle.co_plain.specs.Opening.{Found, OnlyOwnLogs, opened}
 use Rattle.co_plain.specs.Runs.{run}
 use Rattle.co_plain.specs.SoundLogs.{AreSound, log_votes_for, log_has_voted, log_has_committed, unended_in, has_unended}
 use Rattle.co_law_base.proofs.Lookups.{is_nothing, look_none}
-use Rattle.co_law_event.specs.HandedVerdicts.{AreTrueVerdicts}
+use Rattle.co_law_moves.specs.HandedVerdicts.{AreTrueVerdicts}
 use Rattle.co_law_node.specs.WholeNodes.{AreWhole}
 use Rattle.co_law_node.proofs.Allowed.{tells, allowed_from}
 use Rattle.co_law_node.proofs.AllowedCommits.{commits_from, unended_up}
-use Rattle.co_law_quiet.specs.OnlyTimers.{IsBetween, AreOwn, AreOwnLogs}
+use Rattle.co_law_runs.specs.OnlyTimers.{IsBetween, AreOwn, AreOwnLogs}
 use Rattle.co_law.specs.LeftLogs.{records_left, left, MayBeOpened}
 use Rattle.co_law.proofs.EveryRun.{every_sound}
 use Rattle.co_law.proofs.FreshLogs.{empty_openable}

@@ -14,10 +14,10 @@ use Rattle.co_plain.specs.Runs.{run}
 use Rattle.co_plain.specs.Decisions.{asked_in}
 use Rattle.co_plain.specs.Invariants.{Side, Memory, Stable, view}
 use Rattle.co_law_base.proofs.Lookups.{is_nothing, look_none}
-use Rattle.co_law_own.specs.OwnFacts.{KeptByEach}
-use Rattle.co_law_own.proofs.Own.{OwnView, OwnMember, OwnFacts}
-use Rattle.co_law_own.proofs.KeptBySelf.{kept_by_each}
-use Rattle.co_law_start.proofs.Start.{made_view, coord_facts}
+use Rattle.co_law_moves.specs.OwnFacts.{KeptByEach}
+use Rattle.co_law_moves.proofs.Own.{OwnView, OwnMember, OwnFacts}
+use Rattle.co_law_moves.proofs.KeptBySelf.{kept_by_each}
+use Rattle.co_law_moves.proofs.Start.{made_view, coord_facts}
 use Rattle.co_law_moves.proofs.OwnRuns.{own_run}
 use Rattle.co_law.proofs.Readable.{votes_free, votes_apart, members_used, coords_used}
 

@@ -27,7 +27,7 @@ use Rattle.co_law_base.proofs.Lookups.{is_nothing, look_none, same_number}
 use Rattle.co_law_base.proofs.Commits.{holds_more, holds_new, holds_cases}
 use Rattle.co_law_base.proofs.ViewRules.{three_parts, cast_free, forget_free, install_free}
 use Rattle.co_law_base.proofs.ViewMoves.{put_holds, holds_without}
-use Rattle.co_law_start.specs.OpenedLogs.{AreOpenable}
+use Rattle.co_law_moves.specs.OpenedLogs.{AreOpenable}
 
 -- numbers laid into a set
 more_has : (n : Numbers) (ts : List ℕ) (t : ℕ) → holds n t ≡ true → holds (with_numbers n ts) t ≡ true

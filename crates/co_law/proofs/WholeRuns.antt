@@ -14,10 +14,10 @@ use Rattle.co_plain.specs.Opening.{Found, OnlyOwnLogs, opened}
 use Rattle.co_plain.specs.Runs.{run}
 use Rattle.co_state.specs.Table.{look}
 use Rattle.co_law_base.proofs.Lookups.{is_nothing, look_none}
-use Rattle.co_law_own.proofs.Own.{OwnFacts}
+use Rattle.co_law_moves.proofs.Own.{OwnFacts}
 use Rattle.co_law_moves.proofs.OwnRuns.{own_run}
-use Rattle.co_law_quiet.specs.OnlyTimers.{AreOwn}
-use Rattle.co_law_quiet.proofs.Fitting.{run_fits}
+use Rattle.co_law_runs.specs.OnlyTimers.{AreOwn}
+use Rattle.co_law_runs.proofs.Fitting.{run_fits}
 use Rattle.co_law_node.specs.WholeNodes.{AreWhole}
 use Rattle.co_law_node.proofs.MemberLaws.{as_told, keeps_whole}
 use Rattle.co_law_node.proofs.CoordLaws.{coord_as_told, coord_keeps_whole, coord_stays_as}

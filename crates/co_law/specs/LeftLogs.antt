@@ -5,8 +5,8 @@ use Rattle.co_record.specs.declared.record.Record.{Record}
 use Rattle.co_plain.specs.CoordView.{first_refused_at_coord}
 use Rattle.co_plain.specs.MemberView.{first_refused_at_member}
 use Rattle.co_plain.specs.Opening.{Found}
-use Rattle.co_law_quiet.specs.OnlyTimers.{AreOwnLogs}
-use Rattle.co_law_start.specs.OpenedLogs.{AreOpenable}
+use Rattle.co_law_runs.specs.OnlyTimers.{AreOwnLogs}
+use Rattle.co_law_moves.specs.OpenedLogs.{AreOpenable}
 
 -- of the first so many nodes; no other node has a file
 abbrev pub records_left : ℕ → (ℕ → List Record) → ℕ → List Record

@@ -1,7 +1,7 @@
 -- Lines that are refused: by the session, by the wire, by a node that is down, or by a member that cannot do an operation.
 use Rattle.co_message.specs.declared.answer.Answer.{Answer}
 use Rattle.co_message.specs.declared.answer.Answer.TheVariants as answer
-pub use Rattle.co_law_quiet.specs.Finality.{reply_told}
+pub use Rattle.co_law_runs.specs.Finality.{reply_told}
 
 abbrev pub IsRefusal : Answer → Type 0
 IsRefusal answer.Used = Unit {0}

@@ -4,7 +4,7 @@ use Rattle.co_base.specs.declared.head.Kind.{Kind}
 use Rattle.co_plain.specs.Federation.{Federation}
 use Rattle.co_plain.specs.Invariants.{Kept}
 use Rattle.co_law_node.specs.WholeNodes.{AreWhole}
-use Rattle.co_law_own.specs.OwnFacts.{KeptByEach}
+use Rattle.co_law_moves.specs.OwnFacts.{KeptByEach}
 use Rattle.co_law.specs.HeldOnes.{AskedAreHeld}
 use Rattle.co_law.specs.MessageHomes.{MessagesNameHomes}
 

@@ -6,8 +6,8 @@ ghost use Rattle.co_plain.specs.declared.happening.Happening.{Happening};
 ghost use Rattle.co_plain.specs.MemberView.{first_refused_at_member};
 ghost use Rattle.co_plain.specs.Opening.{Found, OnlyOwnLogs, opened};
 ghost use Rattle.co_plain.specs.Runs.{run};
-ghost use Rattle.co_law_event.specs.HandedVerdicts.{AreTrueVerdicts};
-ghost use Rattle.co_law_quiet.specs.OnlyTimers.{AreOwn, AreOwnLogs};
+ghost use Rattle.co_law_moves.specs.HandedVerdicts.{AreTrueVerdicts};
+ghost use Rattle.co_law_runs.specs.OnlyTimers.{AreOwn, AreOwnLogs};
 ghost use Rattle.co_law.specs.LeftLogs.{MayBeOpened, left};
 ghost use Rattle.co_law.specs.WholeInvariants.{AreKeptWhole};
 

@@ -5,7 +5,7 @@ ghost use Rattle.co_plain.specs.declared.happening.Happening.{Happening};
 ghost use Rattle.co_plain.specs.Opening.{Found, OnlyOwnLogs, opened};
 ghost use Rattle.co_plain.specs.MemberView.{first_refused_at_member};
 ghost use Rattle.co_plain.specs.Runs.{run};
-ghost use Rattle.co_law_own.specs.OwnFacts.{KeptByEach};
+ghost use Rattle.co_law_moves.specs.OwnFacts.{KeptByEach};
 
 /// Over any opened logs of the federation's own nodes, sound or not, each member's as its grammar allows it, and with
 /// whatever verdicts are handed: every state has the facts that each node keeps by itself. Votes at a member do not

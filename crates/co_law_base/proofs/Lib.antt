@@ -8,3 +8,17 @@ pub mod Commits
 pub mod TwoViews
 pub mod ViewMoves
 pub mod MemberFrame
+pub mod Tabled
+pub mod CoordFrame
+pub mod CoordMoves
+pub mod KeptTold
+pub mod LogMoves
+pub mod VoteMoves
+pub mod Filling
+pub mod Beginning
+pub mod Asking
+pub mod Operating
+pub mod Sending
+pub mod Deciding
+pub mod AtCoord
+pub mod Locally

@@ -7,8 +7,8 @@ use Rattle.co_plain.specs.Step.{step, disarmed}
 use Rattle.co_plain.specs.Runs.{run}
 use Rattle.co_plain.specs.Moves.{Move, Guard, GuardsHold, effect, all_effects}
 use Rattle.co_law_base.proofs.Facts.{Facts}
-use Rattle.co_law_event.specs.HandedVerdicts.{IsTrueVerdict, AreTrueVerdicts}
-use Rattle.co_law_event.proofs.Steps.{step_keeps}
+use Rattle.co_law_moves.specs.HandedVerdicts.{IsTrueVerdict, AreTrueVerdicts}
+use Rattle.co_law_moves.proofs.Steps.{step_keeps}
 use Rattle.co_law_moves.specs.EventMoves.{moves_of}
 use Rattle.co_law_moves.proofs.MoveByMove.{move_keeps}
 use Rattle.co_law_moves.proofs.StepsMade.{event_made}

@@ -30,12 +30,12 @@ use Rattle.co_plain.specs.Decisions.{told_of, told_in, asked_in}
 use Rattle.co_plain.specs.Moves.{Move, AskEnd, Collect, Decide, CrashCoord, effect, marked_over, with_decision, decide_entry, session_by_coord, entered_reply, may_operate_at}
 use Rattle.co_law_base.proofs.Lookups.{put_here, found_holds}
 use Rattle.co_law_base.proofs.Carrying.{at_here}
-use Rattle.co_law_event.proofs.CoordNotes.{prepares_allowed}
-use Rattle.co_law_event.proofs.ClientEvents as clients
+use Rattle.co_law_moves.proofs.CoordNotes.{prepares_allowed}
+use Rattle.co_law_moves.proofs.ClientEvents as clients
 use Rattle.co_law_moves.specs.EventMoves.{sends, stopped_moves, decided_at_once, ask_commit_moves, commit_entry_moves, leave_moves, abort_entry_moves, unless_lock, operation_moves, where_up}
 use Rattle.co_law_moves.proofs.Made.{all_prepares, MadeOver, no_move, one_more, made_from, coord_still, member_still, sends_made}
 use Rattle.co_law_moves.proofs.CoordMade.{deciding_made, leave_made}
-use Rattle.co_law_own.specs.OwnGuards.{Logs}
+use Rattle.co_law_moves.specs.OwnGuards.{Logs}
 use Rattle.co_law_moves.proofs.FactsOver.{FactsOver, coords_over, asks_over}
 
 -- the client asked, and then

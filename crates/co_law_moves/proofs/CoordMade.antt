@@ -34,14 +34,14 @@ use Rattle.co_law_base.proofs.Lookups.{found_holds, without_here}
 use Rattle.co_law_base.proofs.Facts.{rest_of, over, asked, told, Here, ByTold, settled_at, by_coord, belongs, Begun, OpenEntry, Facts}
 use Rattle.co_law_base.proofs.Carrying.{at_here}
 use Rattle.co_law_base.proofs.MemberFrame.{unended_settled}
-use Rattle.co_law_coord.proofs.CoordMoves.{open_unsettled}
-use Rattle.co_law_session.proofs.Sending.{parts_told, part_member}
-use Rattle.co_law_event.proofs.Marks.{ends_quiet, commit_marks}
-use Rattle.co_law_event.proofs.CoordNotes.{each_filter, lacking_among, prepares_allowed}
-use Rattle.co_law_event.proofs.CoordEvents.{decides_there, unknown_aborts}
+use Rattle.co_law_base.proofs.CoordMoves.{open_unsettled}
+use Rattle.co_law_base.proofs.Sending.{parts_told, part_member}
+use Rattle.co_law_moves.proofs.Marks.{ends_quiet, commit_marks}
+use Rattle.co_law_moves.proofs.CoordNotes.{each_filter, lacking_among, prepares_allowed}
+use Rattle.co_law_moves.proofs.CoordEvents.{decides_there, unknown_aborts}
 use Rattle.co_law_moves.specs.EventMoves.{sends, written_moves, stopped_moves, leave_moves, yes_counted_moves, yes_moves, no_moves, ask_moves, ack_counted_moves, ack_moves, coord_timer_moves, resend_moves, closing_moves, coord_checkpoint_moves, restart_moves}
 use Rattle.co_law_moves.proofs.Made.{all_commits, all_aborts, all_prepares, always, AllowedOver, AllAllowedOver, MadeOver, one_more, made_to, made_from, coord_first, coord_still, coord_then, sends_made, coord_crash_made}
-use Rattle.co_law_own.specs.OwnGuards.{Logs}
+use Rattle.co_law_moves.specs.OwnGuards.{Logs}
 use Rattle.co_law_moves.proofs.FactsOver.{FactsOver, where_sound, coords_over, sent_over}
 
 -- A decision is forced: the move, or the move and a crash, or the crash alone.

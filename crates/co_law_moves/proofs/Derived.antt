@@ -20,7 +20,7 @@ use Rattle.co_law_base.proofs.Commits.{unended_seen}
 use Rattle.co_law_base.proofs.Facts.{rest_of, settled, Here, Before, by_coord, belongs, Begun, Voted, serial, serial_of, ReadSerially, ViewFacts, Facts}
 use Rattle.co_law_base.proofs.Carrying.{one_belongs, settled_alive, settled_from, by_coord_begun, same_coord}
 use Rattle.co_law_base.proofs.MemberFrame.{unended_settled}
-use Rattle.co_law_member.proofs.VoteMoves.{unsettled}
+use Rattle.co_law_base.proofs.VoteMoves.{unsettled}
 
 -- each place of the decision order read serially
 pub reads_at : (start : AllRecords) (later earlier : List Decided) (d : Decided) → ReadSerially start (later ++ d ∷ earlier) → replies_of d.told ≡ run_whole (serial_of start earlier) (sites_of d.told)

@@ -17,14 +17,14 @@ use Rattle.co_plain.specs.Wire.{was_sent}
 use Rattle.co_plain.specs.Federation.{Federation, with_session, decided_where}
 use Rattle.co_plain.specs.Invariants.{Memory, txn_of}
 use Rattle.co_law_base.proofs.Facts.{rest_of, over, by_coord, CoordHas, Facts}
-use Rattle.co_law_own.specs.OwnFacts.{OwnAborts}
-use Rattle.co_law_own.specs.OwnGuards.{Logs, SoundLogs, AnyLogs, Where}
-use Rattle.co_law_own.proofs.Own.{OwnFacts}
-use Rattle.co_law_own.proofs.OwnClients.{asks_own}
-use Rattle.co_law_event.proofs.Marks.{AllQuiet, aborts_quiet}
-use Rattle.co_law_event.proofs.MemberEvents.{voted_quiet}
-use Rattle.co_law_event.proofs.ClientEvents.{asked_state}
-use Rattle.co_law_event.proofs.LocalEvents as locals
+use Rattle.co_law_moves.specs.OwnFacts.{OwnAborts}
+use Rattle.co_law_moves.specs.OwnGuards.{Logs, SoundLogs, AnyLogs, Where}
+use Rattle.co_law_moves.proofs.Own.{OwnFacts}
+use Rattle.co_law_moves.proofs.OwnClients.{asks_own}
+use Rattle.co_law_moves.proofs.Marks.{AllQuiet, aborts_quiet}
+use Rattle.co_law_moves.proofs.MemberEvents.{voted_quiet}
+use Rattle.co_law_moves.proofs.ClientEvents.{asked_state}
+use Rattle.co_law_moves.proofs.LocalEvents as locals
 
 abbrev pub FactsOver : Logs → Federation → Type 0
 FactsOver SoundLogs s = Facts s

@@ -29,8 +29,8 @@ use Rattle.co_law_base.proofs.Facts.{rest_of, settled, Here, Before, settled_at,
 use Rattle.co_law_base.proofs.Carrying.{one_belongs, settled_alive, by_coord_begun, held_on}
 use Rattle.co_law_base.proofs.TwoViews.{committed_both}
 use Rattle.co_law_base.proofs.Commits.{unended_seen}
-use Rattle.co_law_member.proofs.VoteMoves.{as_settled}
-use Rattle.co_law_member.proofs.LogMoves.{as_belongs}
+use Rattle.co_law_base.proofs.VoteMoves.{as_settled}
+use Rattle.co_law_base.proofs.LogMoves.{as_belongs}
 use Rattle.co_law_moves.proofs.Growing.{Grows}
 use Rattle.co_law_moves.proofs.Derived.{files_sound}
 

@@ -23,13 +23,13 @@ use Rattle.co_plain.specs.Federation.{Federation, with_session, with_member, at_
 use Rattle.co_plain.specs.Step.{marked_asked, is_held}
 use Rattle.co_plain.specs.Decisions.{told_of, told_in, asked_in}
 use Rattle.co_plain.specs.Moves.{Move, CommitLocally, CrashMember, AskEnd, DropActive, Guard, effect, marked_over, with_decision, local_state, session_by_member}
-use Rattle.co_law_event.proofs.MemberEvents.{active_is, install_kind}
-use Rattle.co_law_event.proofs.LocalEvents as locals
+use Rattle.co_law_moves.proofs.MemberEvents.{active_is, install_kind}
+use Rattle.co_law_moves.proofs.LocalEvents as locals
 use Rattle.co_law_moves.specs.EventMoves.{drop_moves, local_decision_moves, local_verdict_moves, local_commit_moves, local_abort_moves}
 use Rattle.co_law_moves.proofs.Made.{MadeOver, no_move, one_more, made_to, made_from, member_first, member_still, crash_made}
 use Rattle.co_law_moves.proofs.MemberMade.{absent_same}
 use Rattle.co_law_moves.proofs.ClientMade.{ask_first}
-use Rattle.co_law_own.specs.OwnGuards.{Logs}
+use Rattle.co_law_moves.specs.OwnGuards.{Logs}
 use Rattle.co_law_moves.proofs.FactsOver.{FactsOver, waiting_quiet, asks_over, local_unvoted}
 
 module _ (l : Logs) (s : Federation) (f : FactsOver l s) (t m : ℕ) (session : Session) (e : look s.sessions t ≡ Some session) (mine : session.by ≡ node.Member m) (unasked : session.asked ≡ false) where

@@ -23,10 +23,10 @@ use Rattle.co_plain.specs.Invariants.{Stable, view}
 use Rattle.co_plain.specs.Moves.{Move, Operate, MarkAsked, Cast, DropActive, DropVoted, Install, CommitLocally, CrashMember, RestartMember, ArmMember, CloseMemberSpare, FillMemberSpare, Begin, Collect, RecordYes, Decide, Leave, RecordAck, End, CrashCoord, RestartCoord, ArmCoord, CloseCoordSpare, FillCoordSpare, BeginLocal, AskEnd, Send, Guard, effect, all_effects, GuardsHold}
 use Rattle.co_law_base.proofs.Facts.{rest_of, over, settled, takes, alive, belongs}
 use Rattle.co_law_base.proofs.Carrying.{at_here}
-use Rattle.co_law_session.proofs.Sending.{Allowed}
-use Rattle.co_law_own.specs.OwnGuards.{Logs, SoundLogs, AnyLogs, Where, may_say, GuardOver, GuardsOver}
-use Rattle.co_law_event.proofs.CoordNotes.{EachPart}
-use Rattle.co_law_event.proofs.Nodes.{same_family, twice_family}
+use Rattle.co_law_base.proofs.Sending.{Allowed}
+use Rattle.co_law_moves.specs.OwnGuards.{Logs, SoundLogs, AnyLogs, Where, may_say, GuardOver, GuardsOver}
+use Rattle.co_law_moves.proofs.CoordNotes.{EachPart}
+use Rattle.co_law_moves.proofs.Nodes.{same_family, twice_family}
 use Rattle.co_law_moves.specs.EventMoves.{sends}
 use Rattle.co_law_moves.proofs.KeptFrom.{settled_is, takes_is, dead_is, belongs_is}
 

@@ -12,16 +12,16 @@ use Rattle.co_plain.specs.Invariants.{TakesPart, HeldOperations, NamedBefore, St
 use Rattle.co_plain.specs.Moves.{Move, Operate, MarkAsked, Cast, DropActive, DropVoted, Install, CommitLocally, CrashMember, RestartMember, ArmMember, CloseMemberSpare, FillMemberSpare, Begin, Collect, RecordYes, Decide, Leave, RecordAck, End, CrashCoord, RestartCoord, ArmCoord, CloseCoordSpare, FillCoordSpare, BeginLocal, AskEnd, Send, Guard, effect, may_send}
 use Rattle.co_law_base.proofs.Lookups.{holds_found}
 use Rattle.co_law_base.proofs.Facts.{rest_of, takes, ByTold, Named, alive, belongs, Facts}
-use Rattle.co_law_coord.proofs.CoordMoves.{keeps_record_yes, keeps_record_ack, keeps_collect, keeps_leave, keeps_end, keeps_coord_crash, keeps_coord_restart, keeps_coord_arm, keeps_coord_close, keeps_coord_fill}
-use Rattle.co_law_member.proofs.LogMoves.{as_belongs, dead_there, keeps_mark, keeps_drop_active, keeps_drop_voted, keeps_member_crash, keeps_member_restart, keeps_member_arm, keeps_member_close}
-use Rattle.co_law_member.proofs.VoteMoves.{as_settled, keeps_cast, keeps_install}
-use Rattle.co_law_member.proofs.Filling.{keeps_member_fill}
-use Rattle.co_law_session.proofs.Beginning.{keeps_begin, keeps_begin_local}
-use Rattle.co_law_session.proofs.Asking.{keeps_ask}
-use Rattle.co_law_session.proofs.Operating.{keeps_operate}
-use Rattle.co_law_session.proofs.Sending.{Allowed, keeps_send}
-use Rattle.co_law_decide.proofs.AtCoord.{keeps_decide}
-use Rattle.co_law_decide.proofs.Locally.{keeps_local}
+use Rattle.co_law_base.proofs.CoordMoves.{keeps_record_yes, keeps_record_ack, keeps_collect, keeps_leave, keeps_end, keeps_coord_crash, keeps_coord_restart, keeps_coord_arm, keeps_coord_close, keeps_coord_fill}
+use Rattle.co_law_base.proofs.LogMoves.{as_belongs, dead_there, keeps_mark, keeps_drop_active, keeps_drop_voted, keeps_member_crash, keeps_member_restart, keeps_member_arm, keeps_member_close}
+use Rattle.co_law_base.proofs.VoteMoves.{as_settled, keeps_cast, keeps_install}
+use Rattle.co_law_base.proofs.Filling.{keeps_member_fill}
+use Rattle.co_law_base.proofs.Beginning.{keeps_begin, keeps_begin_local}
+use Rattle.co_law_base.proofs.Asking.{keeps_ask}
+use Rattle.co_law_base.proofs.Operating.{keeps_operate}
+use Rattle.co_law_base.proofs.Sending.{Allowed, keeps_send}
+use Rattle.co_law_base.proofs.AtCoord.{keeps_decide}
+use Rattle.co_law_base.proofs.Locally.{keeps_local}
 
 as_takes : (s : Federation) (t m : ℕ) → TakesPart s t m → takes (rest_of s) t m
 as_takes s t m (HeldOperations h) = ByTold h

@@ -34,9 +34,9 @@ use Rattle.co_law_base.proofs.Lookups.{put_here, put_there, holds_found, found_h
 use Rattle.co_law_base.proofs.Commits.{holds_more, holds_new, from_cases, unended_seen}
 use Rattle.co_law_base.proofs.Facts.{rest_of, alive, belongs, Begun, Voted, settled_at, by_coord, OpenEntry, Facts}
 use Rattle.co_law_base.proofs.Carrying.{at_each, one_belongs, belongs_seen}
-use Rattle.co_law_member.proofs.LogMoves.{not_held, local_apart}
-use Rattle.co_law_session.proofs.Asking.{same_reading}
-use Rattle.co_law_coord.proofs.CoordMoves.{holds_put}
+use Rattle.co_law_base.proofs.LogMoves.{not_held, local_apart}
+use Rattle.co_law_base.proofs.Asking.{same_reading}
+use Rattle.co_law_base.proofs.CoordMoves.{holds_put}
 use Rattle.co_law_moves.proofs.Onward.{entry_onward, Onward, absent_votes, back_without, coord_onward, holds_put_off, holds_without_off, member_alike, none_without, nothing_kept, onward_same, present}
 use Rattle.co_law_moves.proofs.MemberOnward as members
 

@@ -21,8 +21,8 @@ use Rattle.co_law_engine.proofs.YesTells.{yes_parts}
 use Rattle.co_law_base.proofs.Lookups.{put_here, put_there, without_here, without_there, without_cases, holds_found, found_holds}
 use Rattle.co_law_base.proofs.Facts.{rest_of, alive, belongs, settled_at}
 use Rattle.co_law_base.proofs.Carrying.{LivesOn, at_each}
-use Rattle.co_law_member.proofs.LogMoves.{not_held}
-use Rattle.co_law_coord.proofs.CoordMoves.{holds_put}
+use Rattle.co_law_base.proofs.LogMoves.{not_held}
+use Rattle.co_law_base.proofs.CoordMoves.{holds_put}
 
 -- somewhere at a member
 abbrev pub present : MemberState → ℕ → Bool

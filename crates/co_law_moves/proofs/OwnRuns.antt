@@ -12,10 +12,10 @@ use Rattle.co_plain.specs.Runs.{run}
 use Rattle.co_plain.specs.Invariants.{Side, Memory, Stable, view}
 use Rattle.co_law_base.proofs.Facts.{rest_of}
 use Rattle.co_law_base.proofs.Carrying.{clients_coord}
-use Rattle.co_law_own.specs.OwnGuards.{AnyLogs}
-use Rattle.co_law_own.proofs.Own.{OwnView, OwnMember, OwnFacts}
-use Rattle.co_law_own.proofs.OwnCoords.{clients_stay}
-use Rattle.co_law_own.proofs.OwnMoves.{own_moves}
+use Rattle.co_law_moves.specs.OwnGuards.{AnyLogs}
+use Rattle.co_law_moves.proofs.Own.{OwnView, OwnMember, OwnFacts}
+use Rattle.co_law_moves.proofs.OwnCoords.{clients_stay}
+use Rattle.co_law_moves.proofs.OwnMoves.{own_moves}
 use Rattle.co_law_moves.specs.EventMoves.{moves_of}
 use Rattle.co_law_moves.proofs.StepsMade.{event_over}
 

@@ -30,16 +30,16 @@ use Rattle.co_plain.specs.Federation.{Federation, answers, at_member, at_coord}
 use Rattle.co_plain.specs.Step.{up_member, member_step, up_coord, coord_step, coord_answers, local_answers, is_used, begin_where, local_where, operate, operate_with, commit_at, commit_with, abort_at, abort_with, arrives, deliver, timer_at, crash_at, restart_at, arm_at, checkpoint_at, step_line, step}
 use Rattle.co_plain.specs.Moves.{Move, Begin, BeginLocal, CrashMember, CrashCoord, ArmMember, ArmCoord}
 use Rattle.co_law_base.proofs.Facts.{Facts}
-use Rattle.co_law_member.proofs.VoteMoves.{as_settled}
-use Rattle.co_law_event.specs.HandedVerdicts.{IsTrueVerdict}
-use Rattle.co_law_event.proofs.Steps.{visits_there}
+use Rattle.co_law_base.proofs.VoteMoves.{as_settled}
+use Rattle.co_law_moves.specs.HandedVerdicts.{IsTrueVerdict}
+use Rattle.co_law_moves.proofs.Steps.{visits_there}
 use Rattle.co_law_moves.specs.EventMoves.{where_up, begin_moves, operate_moves, operate_with_moves, commit_entry_moves, local_commit_moves, commit_at_moves, commit_with_moves, abort_entry_moves, local_abort_moves, abort_at_moves, abort_with_moves, prepare_moves, commit_moves, abort_moves, decision_moves, yes_moves, no_moves, ask_moves, ack_moves, arrival_moves, timer_moves, coord_timer_moves, timer_at_moves, crash_at_moves, restart_at_moves, arm_at_moves, member_checkpoint_moves, coord_checkpoint_moves, checkpoint_at_moves, again_moves, question_moves, resend_moves, line_moves, moves_of}
 use Rattle.co_law_moves.proofs.Made.{where_map, Made, MadeOver, sound_made, no_move}
 use Rattle.co_law_moves.proofs.MemberMade as members
 use Rattle.co_law_moves.proofs.CoordMade as coords
 use Rattle.co_law_moves.proofs.ClientMade as clients
 use Rattle.co_law_moves.proofs.LocalMade as locals
-use Rattle.co_law_own.specs.OwnGuards.{Logs, SoundLogs, Where}
+use Rattle.co_law_moves.specs.OwnGuards.{Logs, SoundLogs, Where}
 use Rattle.co_law_moves.proofs.FactsOver.{FactsOver, where_sound}
 
 module _ (l : Logs) (s : Federation) (f : FactsOver l s) where

@@ -1,2 +1,3 @@
-//! Each event of the federation as its list of moves, and what a move leaves of the facts.
+//! Each event of the federation is a list of moves, so it keeps the facts; what each node keeps by itself, over any opened logs; and what a
+//! federation over sound opened logs begins with.
 #![tactic(auto)]

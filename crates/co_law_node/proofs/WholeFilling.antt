@@ -26,7 +26,7 @@ use Rattle.co_law_base.proofs.Lookups.{is_nothing, look_none, put_cases, found_h
 use Rattle.co_law_base.proofs.Commits.{both_T}
 use Rattle.co_law_base.proofs.ImageRules.{EachEntry, each_entry, entry_has, below_found}
 use Rattle.co_law_base.proofs.ViewMoves.{put_holds}
-use Rattle.co_law_member.proofs.Filling.{spare_tells}
+use Rattle.co_law_base.proofs.Filling.{spare_tells}
 use Rattle.co_law_node.specs.WholeMembers.{IsAmong}
 use Rattle.co_law_node.proofs.Allowed.{Allowed, Tells, may_vote}
 use Rattle.co_law_node.proofs.WholeMoves.{Whole, whole_down, memory_tells, stable_allowed, alike, runs}

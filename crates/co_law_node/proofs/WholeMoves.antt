@@ -23,7 +23,7 @@ use Rattle.co_plain.specs.Member.{with_mark, most_operations}
 use Rattle.co_plain.specs.Invariants.{Memory, view, stands}
 use Rattle.co_law_base.proofs.Lookups.{is_nothing, look_none, put_cases, without_cases}
 use Rattle.co_law_base.proofs.ViewMoves.{neither_stands, holds_without, still_holds}
-use Rattle.co_law_member.proofs.LogMoves.{without_absent, not_held}
+use Rattle.co_law_base.proofs.LogMoves.{without_absent, not_held}
 use Rattle.co_law_node.specs.WholeMembers.{AbortsAlone, was_installed, IsAmong}
 use Rattle.co_law_node.proofs.Allowed.{Allowed, Tells, tells, older}
 

@@ -25,7 +25,7 @@ use Rattle.co_law_base.proofs.Lookups.{put_here, put_there, without_here, withou
 use Rattle.co_law_base.proofs.Commits.{lacks_none}
 use Rattle.co_law_base.proofs.Facts.{Facts, rest_of, CollectingEntry}
 use Rattle.co_law_base.proofs.Carrying.{by_coord_begun}
-use Rattle.co_law_coord.proofs.CoordMoves.{one_yes}
+use Rattle.co_law_base.proofs.CoordMoves.{one_yes}
 use Rattle.co_law_settle.proofs.Falling.{CoordFalls}
 
 pub coord_same : (s : Federation) (t : ℕ) (x : CoordState) → x.log.armed ≡ None → CoordFalls s t x x

@@ -14,8 +14,8 @@ use Rattle.co_plain.specs.Quiet.{IsMember, IsCoordinator, lacks_yes, lacks_ack}
 use Rattle.co_plain.specs.Settling.{is_idle}
 use Rattle.co_law_base.proofs.Facts.{Facts}
 use Rattle.co_law_base.proofs.Carrying.{at_each}
-use Rattle.co_law_quiet.proofs.Fitting.{FitSessions}
-use Rattle.co_law_quiet.proofs.InQuiet.{OpenedFit}
+use Rattle.co_law_runs.proofs.Fitting.{FitSessions}
+use Rattle.co_law_runs.proofs.InQuiet.{OpenedFit}
 use Rattle.co_law_settle.specs.SettlingTurns.{AllUp}
 use Rattle.co_law_settle.specs.SettlingMeasure.{any_to, yes_lacking, ack_lacking, weight, weight_at, left_between, left_idle}
 

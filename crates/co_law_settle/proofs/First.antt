@@ -15,8 +15,8 @@ use Rattle.co_plain.specs.Quiet.{IsMember, IsNode, node_up, IsOpen, InTable, Act
 use Rattle.co_plain.specs.Settling.{NodeBefore, IsFirstDown, IsFirstExchange, IsFirstTimer, ExchangeBefore, exchange_txn, exchange_rank, exchange_member, timer_ends, is_idle, SettlesBy, ByRestart, ByExchange, ByTimer}
 use Rattle.co_law_base.proofs.Facts.{Facts}
 use Rattle.co_law_base.proofs.Carrying.{votes_held}
-use Rattle.co_law_quiet.proofs.Fitting.{FitSessions}
-use Rattle.co_law_quiet.proofs.InQuiet.{OpenedFit, TimerThere, timer_there}
+use Rattle.co_law_runs.proofs.Fitting.{FitSessions}
+use Rattle.co_law_runs.proofs.InQuiet.{OpenedFit, TimerThere, timer_there}
 use Rattle.co_law_settle.specs.SettlingTurns.{AllUp}
 use Rattle.co_law_settle.specs.SettlingMeasure.{any_to, numbers_in_state}
 use Rattle.co_law_settle.proofs.Falling.{any_found, found_any}

@@ -13,7 +13,7 @@ use Rattle.co_plain.specs.Wire.{was_sent, send_one, send_all}
 use Rattle.co_plain.specs.Federation.{Federation, Stepped, items_of}
 use Rattle.co_plain.specs.Step.{step_line}
 use Rattle.co_plain.specs.Runs.{run, lines}
-use Rattle.co_law_session.proofs.Sending.{sent_still}
+use Rattle.co_law_base.proofs.Sending.{sent_still}
 use Rattle.co_law_settle.specs.SettlingMeasure.{RaisesNothing, RaiseNothing}
 use Rattle.co_law_settle.specs.SettlingTurns.{note_in, delivers, deliveries, IsServed, AreServed}
 

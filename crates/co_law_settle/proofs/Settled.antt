@@ -28,16 +28,16 @@ use Rattle.co_plain.specs.Quiet.{node_up, IsMember, IsOpen, VotedAt, IsQuiet, Is
 use Rattle.co_plain.specs.Settling.{SettlesBy}
 use Rattle.co_law_base.proofs.Lookups.{look_none, found_holds}
 use Rattle.co_law_base.proofs.Facts.{Facts}
-use Rattle.co_law_event.specs.HandedVerdicts.{AreTrueVerdicts}
-use Rattle.co_law_event.proofs.Steps.{run_keeps, step_keeps}
+use Rattle.co_law_moves.specs.HandedVerdicts.{AreTrueVerdicts}
+use Rattle.co_law_moves.proofs.Steps.{run_keeps, step_keeps}
 use Rattle.co_law_moves.proofs.Growing.{Grows, grows_on, run_grows}
 use Rattle.co_law_moves.proofs.Derived.{logs_give}
 use Rattle.co_law_moves.proofs.KeptFrom.{same_serial}
-use Rattle.co_law_quiet.specs.OnlyTimers.{IsBetween, AreOwn, AreOwnLogs}
-use Rattle.co_law_quiet.proofs.Fitting.{Fit, FitSessions, run_fits}
-use Rattle.co_law_quiet.proofs.InQuiet.{OpenedFit}
-use Rattle.co_law_start.specs.OpenedLogs.{AreOpenable}
-use Rattle.co_law_start.proofs.Start.{start_facts}
+use Rattle.co_law_runs.specs.OnlyTimers.{IsBetween, AreOwn, AreOwnLogs}
+use Rattle.co_law_runs.proofs.Fitting.{Fit, FitSessions, run_fits}
+use Rattle.co_law_runs.proofs.InQuiet.{OpenedFit}
+use Rattle.co_law_moves.specs.OpenedLogs.{AreOpenable}
+use Rattle.co_law_moves.proofs.Start.{start_facts}
 use Rattle.co_law_settle.specs.SettlingTurns.{AllUp, Turn, Exchanges, turn_events, AreServed, IsServed, IsAnswered, goes_to, node_arrives, CanTurn, IsUnarmed, IsNext, SomethingOpen, NothingOpen, AreTurns, turns_events, IsSettling, Settles}
 use Rattle.co_law_settle.specs.SettlingMeasure.{AreCounted, TurnLowers, pairs_in, numbers_in_state, events_left}
 use Rattle.co_law_settle.specs.SettledRecords.{HoldsSerially}

@@ -21,7 +21,7 @@ use Rattle.co_plain.specs.Settling.{is_idle}
 use Rattle.co_law_base.proofs.Facts.{Facts}
 use Rattle.co_law_base.proofs.Carrying.{at_here}
 use Rattle.co_law_base.proofs.Lookups.{without_here}
-use Rattle.co_law_event.proofs.Steps.{step_keeps}
+use Rattle.co_law_moves.proofs.Steps.{step_keeps}
 use Rattle.co_law_settle.specs.SettlingTurns.{AllUp}
 use Rattle.co_law_settle.specs.SettlingMeasure.{any_to, weight, left_between, left_idle, yes_lacking, ack_lacking, weight_at}
 use Rattle.co_law_settle.proofs.Falling.{Calm, Falls, any_found, found_any, MemberFalls, member_calm, member_falls, CoordFalls, coord_calm, coord_falls}

@@ -8,9 +8,9 @@ ghost use Rattle.co_plain.specs.Opening.{Found, opened};
 ghost use Rattle.co_plain.specs.Quiet.{IsOpen, IsEnabled, Exchange, open_pairs, open_count};
 ghost use Rattle.co_plain.specs.Runs.{run};
 ghost use Rattle.co_plain.specs.Settling.{SettlesBy};
-ghost use Rattle.co_law_event.specs.HandedVerdicts.{AreTrueVerdicts};
-ghost use Rattle.co_law_quiet.specs.OnlyTimers.{AreOwn, AreOwnLogs};
-ghost use Rattle.co_law_start.specs.OpenedLogs.{AreOpenable};
+ghost use Rattle.co_law_moves.specs.HandedVerdicts.{AreTrueVerdicts};
+ghost use Rattle.co_law_runs.specs.OnlyTimers.{AreOwn, AreOwnLogs};
+ghost use Rattle.co_law_moves.specs.OpenedLogs.{AreOpenable};
 ghost use Rattle.co_law_settle.specs.SettlingTurns.{Turn, Exchanges, turn_events, AllUp, CanTurn, IsUnarmed, IsServed, IsAnswered, AreServed};
 ghost use Rattle.co_law_settle.specs.SettlingMeasure.{AreCounted, TurnLowers, left_of, pairs_in, numbers_in_state};
 

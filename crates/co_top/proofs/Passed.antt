@@ -8,7 +8,7 @@ use Rattle.co_plain.specs.Opening.{fresh}
 use Rattle.co_plain.specs.Promises.{SerialReads, Acknowledged, asks_for, is_acknowledged, says_committed, AreDecidedOnce}
 use Rattle.co_plain.specs.Runs.{lines, run}
 use Rattle.co_plain.specs.Step.{step_line}
-use Rattle.co_law_event.specs.HandedVerdicts.{AreTrueVerdicts}
+use Rattle.co_law_moves.specs.HandedVerdicts.{AreTrueVerdicts}
 use Rattle.co_law.proofs.EveryRun.{every_read, every_acknowledged}
 use Rattle.co_law.proofs.FreshLogs.{fresh_openable}
 use Rattle.co_top.specs.FirstPath.{fresh_of, is_committed, rigorous_run, ReadSerially, AreAcknowledged}

@@ -1,4 +1,4 @@
-use Rattle.co_law_agree.proofs.Agreement.{run_more}
+use Rattle.co_law_runs.proofs.Agreement.{run_more}
 use Rattle.co_law.proofs.runs.runs_go_on.Goals as goal
 
 pub returns : goal.returns

@@ -1,2 +1,0 @@
-//! No two members decide a transaction differently.
-#![tactic(auto)]

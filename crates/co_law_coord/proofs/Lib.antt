@@ -1,3 +1,0 @@
-pub mod Tabled
-pub mod CoordFrame
-pub mod CoordMoves

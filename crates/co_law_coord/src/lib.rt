@@ -1,2 +1,0 @@
-//! The moves of coordinators keep the facts.
-#![tactic(auto)]

@@ -1,4 +1,0 @@
-pub mod KeptTold
-pub mod LogMoves
-pub mod VoteMoves
-pub mod Filling

@@ -1,2 +1,0 @@
-//! The moves of members keep the facts.
-#![tactic(auto)]

@@ -1,2 +1,0 @@
-//! The run is commitment ordered (Raz, VLDB 1992).
-#![tactic(auto)]

@@ -1,2 +1,0 @@
-pub mod OwnFacts
-pub mod OwnGuards

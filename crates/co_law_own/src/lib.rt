@@ -1,2 +1,0 @@
-//! What each node keeps by itself, over any opened logs.
-#![tactic(auto)]

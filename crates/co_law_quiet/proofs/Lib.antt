@@ -1,9 +1,0 @@
-pub mod Hopeless
-pub mod Fitting
-pub mod InQuiet
-pub mod DeadStays
-pub mod Final
-pub mod MemberYes
-pub mod CoordSends
-pub mod YesStands
-pub mod LostStays

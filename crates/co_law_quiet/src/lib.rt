@@ -1,2 +1,0 @@
-//! Where nothing but timers is enabled, a timer ends an open transaction for good.
-#![tactic(auto)]

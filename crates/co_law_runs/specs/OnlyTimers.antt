@@ -1,0 +1,77 @@
+-- What is said of quiet states: a timer ends an open transaction for good.
+use Rattle.std.specs.Prelude.{ℕ, Bool, true, false, ◌||◌, ◌==◌, ◌≡◌, ◌≤◌, List, [], ◌∷◌}
+use Rattle.co_base.specs.declared.head.Kind.{Kind}
+use Rattle.co_base.specs.declared.node.Node.{Node}
+use Rattle.co_base.specs.declared.node.Node.TheVariants as node
+use Rattle.co_message.specs.declared.answer.Answer.{Answer}
+use Rattle.co_message.specs.declared.answer.Answer.TheVariants as answer
+use Rattle.co_message.specs.declared.answer.Cause.TheVariants as cause
+use Rattle.co_message.specs.declared.event.Event.{Event}
+use Rattle.co_message.specs.declared.event.Event.TheVariants as event
+use Rattle.co_message.specs.declared.item.ItemKind.TheVariants as item
+use Rattle.co_state.specs.Table.{look}
+use Rattle.co_plain.specs.declared.happening.Happening.{Happening}
+use Rattle.co_plain.specs.declared.happening.Happening.TheVariants as happening
+use Rattle.co_plain.specs.MemberView.{recovered_view}
+use Rattle.co_plain.specs.Decisions.{votes_for}
+use Rattle.co_plain.specs.Opening.{Found, OnlyOwnLogs}
+use Rattle.co_plain.specs.Federation.{Federation}
+use Rattle.co_plain.specs.Step.{step}
+use Rattle.co_plain.specs.CommitmentOrder.{Trace, Began, Operated, Committed, trace_of}
+use Rattle.co_plain.specs.Quiet.{IsNode}
+use Rattle.co_plain.specs.Settling.{timer_ends}
+use Rattle.co_law_moves.specs.HandedVerdicts.{AreTrueVerdicts}
+use Rattle.co_law_moves.specs.MoveTraces.{run_items}
+
+abbrev pub IsBetween : ℕ → ℕ → Type 0
+IsBetween n most = (1 ≤ n) × (n ≤ most)
+
+-- Begins and operations name nodes of the federation; what else happens may name any.
+abbrev pub NamesOwnNode : ℕ → ℕ → Event → Type 0
+NamesOwnNode members coords (event.Begin t c) = IsBetween c coords
+NamesOwnNode members coords (event.Local t m) = IsBetween m members
+NamesOwnNode members coords (event.Read t m key) = IsBetween m members
+NamesOwnNode members coords (event.Write t m key value) = IsBetween m members
+NamesOwnNode members coords (event.Erase t m key) = IsBetween m members
+NamesOwnNode members coords (event.Scan t m span) = IsBetween m members
+NamesOwnNode members coords _ = Unit {0}
+
+abbrev pub IsOwn : ℕ → ℕ → Happening → Type 0
+IsOwn members coords (happening.Line e) = NamesOwnNode members coords e
+IsOwn members coords _ = Unit {0}
+
+abbrev pub AreOwn : ℕ → ℕ → List Happening → Type 0
+AreOwn members coords [] = Unit {0}
+AreOwn members coords (h ∷ hs) = IsOwn members coords h × AreOwn members coords hs
+
+-- the opened logs are those of the federation's own nodes, and their votes name its coordinators
+pub record AreOwnLogs (kinds : List Kind) (coords : ℕ) (found_member found_coord : ℕ → Found) : Type 0 where
+  pub own : OnlyOwnLogs kinds coords found_member found_coord
+  pub votes : (m t c : ℕ) → votes_for (look (recovered_view (found_member m).records).voted t) c ≡ true → IsBetween c coords
+
+-- whether a commit record of the transaction becomes stable in a trace
+abbrev pub tells_commit : List Trace → ℕ → Bool
+tells_commit [] t = false
+tells_commit (Began u by ∷ rest) t = tells_commit rest t
+tells_commit (Operated u m o reply ∷ rest) t = tells_commit rest t
+tells_commit (Committed at u ∷ rest) t = (u == t) || tells_commit rest t
+
+-- what the timer answers that ends it
+abbrev pub ending_answer : Node → Answer
+ending_answer (node.Member m) = answer.Dropped
+ending_answer (node.Coord c) = answer.Aborted cause.Timer
+
+-- The timer of the transaction at this node ends it: it answers so, and in no continuation a commit record of the
+-- transaction becomes stable.
+pub record EndsForGood (s : Federation) (t : ℕ) (at : Node) : Type 0 where
+  pub is_node : IsNode s at
+  pub ends : timer_ends s t at ≡ true
+  pub answers : (step s (happening.Line (event.Timer t at))).items ≡ item.Answered (ending_answer at) ∷ []
+  pub never : (hs : List Happening) → AreTrueVerdicts hs (step s (happening.Line (event.Timer t at))).state →
+      tells_commit (trace_of (run_items hs (step s (happening.Line (event.Timer t at))).state)) t ≡ false
+
+-- some timer does so
+pub record SomeTimerEnds (s : Federation) : Type 0 where
+  pub txn : ℕ
+  pub at : Node
+  pub for_good : EndsForGood s txn at

@@ -1,4 +1,0 @@
-pub mod Beginning
-pub mod Asking
-pub mod Operating
-pub mod Sending

@@ -1,2 +1,0 @@
-//! The moves of clients and of the network keep the facts.
-#![tactic(auto)]

@@ -1,2 +1,0 @@
-//! A federation over sound opened logs has the facts.
-#![tactic(auto)]
