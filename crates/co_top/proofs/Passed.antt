@@ -48,10 +48,10 @@ committed_of_passed (e ∷ es) s t =
 
 module _ (head : Head) (events : List Event) where
   reads : SerialReads (fresh_of head) (lines (passed events (fresh_of head)))
-  reads = every_read head.kinds head.coords (λ m. fresh) (λ c. fresh) (lines (passed events (fresh_of head))) (fresh_openable head.kinds head.coords) (no_handed (passed events (fresh_of head)) (fresh_of head))
+  reads = every_read head.kinds head.coords (λ m. fresh) (λ c. fresh) (lines (passed events (fresh_of head))) (fresh_openable head.kinds head.coords (λ m. false) (λ c. false)) (no_handed (passed events (fresh_of head)) (fresh_of head))
 
   acks : Acknowledged (fresh_of head) (lines (passed events (fresh_of head)))
-  acks = every_acknowledged head.kinds head.coords (λ m. fresh) (λ c. fresh) (lines (passed events (fresh_of head))) (fresh_openable head.kinds head.coords) (no_handed (passed events (fresh_of head)) (fresh_of head))
+  acks = every_acknowledged head.kinds head.coords (λ m. fresh) (λ c. fresh) (lines (passed events (fresh_of head))) (fresh_openable head.kinds head.coords (λ m. false) (λ c. false)) (no_handed (passed events (fresh_of head)) (fresh_of head))
 
   same_decided : (rigorous_run events (fresh_of head)).decided ≡ (run (lines (passed events (fresh_of head))) (fresh_of head)).decided
   same_decided = ap (λ s. s.decided) (run_of_passed events (fresh_of head))
