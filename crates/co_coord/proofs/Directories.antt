@@ -1,5 +1,5 @@
 -- How a call that makes no call of the directory leaves it.
-use Rattle.std.proofs.Common.{◌≡◌, ℕ, List, length, ◌≤◌, refl, sym, subst, arith}
+use Rattle.std.proofs.Common.{◌≡◌, ℕ, List, length, ◌≤◌, refl, sym, subst}
 use Rattle.std.specs.Prelude.{Option, Result, Ok, Err, IsErr}
 use Rattle.std.specs.Result.{IsErrAnd}
 use Rattle.co_base.specs.declared.node.Node.{Node}
@@ -11,7 +11,7 @@ use Rattle.co_outside.specs.declared.spot.Spot.{Spot}
 use Rattle.co_outside.specs.Home.{File}
 use Rattle.co_log.specs.Attaching.{IsWithin}
 use Rattle.co_log.specs.LogView.{LogView, IsHeld, IsShort}
-use Rattle.co_log.specs.Others.{BothWithin, OtherNodesStay}
+use Rattle.co_log.specs.Others.{BothWithin}
 use Rattle.co_log.specs.declared.fault.NodeFault.{NodeFault}
 use Rattle.co_log.specs.declared.fault.NodeFault.TheVariants.{Memory}
 use Rattle.co_node.proofs.Homes.{memory_answered, node_within}
@@ -20,9 +20,8 @@ use Rattle.co_node.specs.Answers.{HomeView, AreWithin, IsServed}
 use Rattle.co_node.specs.NodeLog.{RepresentsLog}
 use Rattle.co_plain.specs.declared.log_state.LogState.{LogState}
 use Rattle.co_coord.specs.Standing.{written_by}
-use Rattle.co_coord.specs.Writing.{HasWrittenFor, IsAnsweredFor, IsTooLongFor, stable_after}
+use Rattle.co_coord.specs.Writing.{IsAnsweredFor, IsTooLongFor, stable_after}
 use Rattle.co_coord.specs.declared.plan.Writes.{Writes}
-use Rattle.co_coord.specs.declared.plan.Writes.TheVariants.{Nothing, Forces, Keeps}
 use Rattle.co_coord.specs.declared.step.CoordStep.{CoordStep}
 
 -- a told file is as long as what its disk gives
@@ -46,28 +45,12 @@ still_served owner home log after l s held short now =
       quiet = refl;
     }
 
-pub others_as_they_were : {H : Type 0} (file : H → Spot → Option File) (reach : H → Spot → ℕ) (entered : H → Option (List ℕ)) (faults : H → ℕ) (node : Node) (home : H) → OtherNodesStay file reach entered faults node home home
-others_as_they_were file reach entered faults node home =
-    record {
-      others = record { files = λ s one two. refl; reaches = λ s one two. refl };
-      directory = refl;
-      count = omega arith;
-    }
-
 -- there was no memory before anything was written
 pub wants_memory : (owner : Node) (w : Writes) (l : LogState) (log : LogView) (home : HomeView) (out : Result CoordStep NodeFault) → IsErr out × IsErrAnd out (λ e. e ≡ Memory) → RepresentsLog owner log l → IsHeld home.file home.reach log
     → IsShort log.current × IsShort log.spare → IsAnsweredFor w owner l log log home home (written_by out)
 wants_memory owner w l log home (Ok d) is s held short = absurd is.1
 wants_memory owner w l log home (Err e) is s held short =
     memory_answered owner log.current.spot (IsTooLongFor w log) l.stable (stable_after w l) log home (Err e) is (left_before owner home.file home.reach log l s held short)
-
--- ---- what a plan writes
-
--- after a fault nothing is said of the log
-pub unwritten : (w : Writes) (owner : Node) (l : LogState) (after : LogView) (e : NodeFault) → HasWrittenFor w owner l after (Err e)
-unwritten Nothing owner l after e = tt
-unwritten (Forces r) owner l after e = tt
-unwritten (Keeps r) owner l after e = tt
 
 -- a fault that is passed on
 pub passed_on : (owner : Node) (w : Writes) (l : LogState) (log after : LogView) (old new : HomeView) (e : NodeFault) (out : Result CoordStep NodeFault) → IsErr out × IsErrAnd out (λ f. f ≡ e) → IsAnsweredFor w owner l log after old new (Err e)

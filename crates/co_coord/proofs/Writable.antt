@@ -11,7 +11,7 @@ use Rattle.co_plain.specs.declared.coord_state.Entry.{Entry}
 use Rattle.co_plain.specs.declared.coord_state.Entry.TheVariants as entry
 use Rattle.co_record.specs.Spelling.{IsWritable}
 use Rattle.co_record.specs.declared.record.Record.TheVariants as log
-use Rattle.co_coord.specs.Plans.{ask_plan_of, commit_plan, decides, yes_plan, no_plan, vote_plan, ask_plan, ends, acknowledged_plan, ack_plan, deliver_plan, txn_of, waits, says, aborts}
+use Rattle.co_coord.specs.Plans.{ask_plan_of, commit_plan, decides, vote_plan, ask_plan, ends, ack_plan, deliver_plan, txn_of, waits, says, aborts}
 use Rattle.co_message.specs.declared.answer.Answer.TheVariants as answer
 use Rattle.co_message.specs.declared.answer.Cause.TheVariants as cause
 use Rattle.co_coord.specs.Writing.{MayWrite}

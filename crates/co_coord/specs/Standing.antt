@@ -1,5 +1,5 @@
 -- For which plain coordinator a coordinator stands, and what a call of it does.
-use Rattle.std.specs.Prelude.{ℕ, Bool, ◌≡◌, List, Option, None, Some, is_some, Result, Ok, Err}
+use Rattle.std.specs.Prelude.{ℕ, Bool, ◌≡◌, List, None, Some, is_some, Result, Ok, Err}
 use Rattle.co_base.specs.declared.node.Node.TheVariants as node
 use Rattle.co_base.specs.declared.part.Part.{Part}
 use Rattle.co_log.specs.declared.fault.NodeFault.{NodeFault}

@@ -1,13 +1,10 @@
-use Rattle.std.proofs.Common.{◌≡◌, sym, ap, subst, ◌∙◌}
+use Rattle.std.proofs.Common.{sym, subst, ◌∙◌}
 use Rattle.std.specs.Prelude.{Ok, Err}
-use Rattle.co_base.specs.declared.node.Node.{Node}
 use Rattle.co_base.specs.declared.node.Node.TheVariants as node
 use Rattle.co_log.specs.LogView.{LogView, IsHeld, IsShort}
-use Rattle.co_log.specs.Others.{OtherNodesStay}
 use Rattle.co_node.specs.Answers.{seen}
 use Rattle.co_node.specs.NodeLog.{RepresentsLog}
 use Rattle.co_node.specs.declared.written.Written.{Written}
-use Rattle.co_plain.specs.CoordStep.{with_table}
 use Rattle.co_coord.specs.Plans.{carried_out}
 use Rattle.co_coord.specs.Standing.{HasDone, written_by}
 use Rattle.co_coord.specs.Writing.{HasWrittenFor, IsAnsweredFor}
