@@ -277,3 +277,16 @@ pub fn deliver_plan(
         Message::Prepare { .. } | Message::Decide { .. } => Ok(says(alloc, Answer::Unknown)),
     }
 }
+
+/// The transaction that a message is about.
+pub(crate) fn txn_of(message: &Message) -> Txn
+    ensures { result ≡ txn_of message.now }
+{
+    match message {
+        Message::Prepare { txn, .. }
+        | Message::Vote { txn, .. }
+        | Message::Decide { txn, .. }
+        | Message::Ask { txn, .. }
+        | Message::Ack { txn, .. } => *txn,
+    }
+}
