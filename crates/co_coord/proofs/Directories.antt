@@ -1,37 +1,20 @@
 -- How a call that makes no call of the directory leaves it.
-use Rattle.std.proofs.Common.{◌≡◌, ℕ, List, length, ◌≤◌, refl, sym, subst}
-use Rattle.std.specs.Prelude.{Option, Result, Ok, Err, IsErr}
+use Rattle.std.proofs.Common.{◌≡◌, refl, sym, subst}
+use Rattle.std.specs.Prelude.{Result, Ok, Err, IsErr}
 use Rattle.std.specs.Result.{IsErrAnd}
 use Rattle.co_base.specs.declared.node.Node.{Node}
-use Rattle.co_disk.specs.DiskModel.{read_of}
-use Rattle.co_disk.specs.DiskView.{DiskView}
-use Rattle.co_disk.specs.Homes.{Agrees}
-use Rattle.co_frame.specs.LogText.{most_log_bytes}
-use Rattle.co_outside.specs.declared.spot.Spot.{Spot}
-use Rattle.co_outside.specs.Home.{File}
-use Rattle.co_log.specs.Attaching.{IsWithin}
 use Rattle.co_log.specs.LogView.{LogView, IsHeld, IsShort}
-use Rattle.co_log.specs.Others.{BothWithin}
 use Rattle.co_log.specs.declared.fault.NodeFault.{NodeFault}
 use Rattle.co_log.specs.declared.fault.NodeFault.TheVariants.{Memory}
-use Rattle.co_node.proofs.Homes.{memory_answered, node_within}
-use Rattle.co_node.proofs.Opened.{left_before}
-use Rattle.co_node.specs.Answers.{HomeView, AreWithin, IsServed}
+use Rattle.co_node.proofs.Homes.{memory_answered}
+use Rattle.co_node.proofs.Opened.{files_within, left_before}
+use Rattle.co_node.specs.Answers.{HomeView, IsServed}
 use Rattle.co_node.specs.NodeLog.{RepresentsLog}
 use Rattle.co_plain.specs.declared.log_state.LogState.{LogState}
 use Rattle.co_coord.specs.Standing.{written_by}
 use Rattle.co_coord.specs.Writing.{IsAnsweredFor, IsTooLongFor, stable_after}
 use Rattle.co_coord.specs.declared.plan.Writes.{Writes}
 use Rattle.co_coord.specs.declared.step.CoordStep.{CoordStep}
-
--- a told file is as long as what its disk gives
-told_within : (file : Option File) (reach : ℕ) (d : DiskView) → Agrees file reach (read_of d.state) → IsShort d → IsWithin most_log_bytes file
-told_within file reach d agrees short f is = subst (λ (bytes : List ℕ). length bytes ≤ most_log_bytes) (sym (agrees.told f is)) short
-
-files_within : (owner : Node) (file : Spot → Option File) (reach : Spot → ℕ) (log : LogView) (l : LogState) → RepresentsLog owner log l → IsHeld file reach log → IsShort log.current × IsShort log.spare → AreWithin file owner
-files_within owner file reach log l s held short =
-    let both : BothWithin file log = (told_within (file log.current.spot) (reach log.current.spot) log.current held.current short.0, told_within (file log.spare.spot) (reach log.spare.spot) log.spare held.spare short.1) in
-    subst (AreWithin file) s.owned (node_within file log held.spots both)
 
 -- the directory stays as it is
 pub still_served : (owner : Node) (home : HomeView) (log after : LogView) (l : LogState) → RepresentsLog owner log l → IsHeld home.file home.reach log → IsShort log.current × IsShort log.spare → IsHeld home.file home.reach after

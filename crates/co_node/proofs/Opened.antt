@@ -92,10 +92,14 @@ told_records owner file reach log l s held within told =
 told_within : (file : Option File) (reach : ℕ) (d : DiskView) → Agrees file reach (read_of d.state) → IsShort d → IsWithin most_log_bytes file
 told_within file reach d agrees short f is = subst (λ (bytes : List ℕ). length bytes ≤ most_log_bytes) (sym (agrees.told f is)) short
 
+-- so the files of a log that stands are not too long
+pub files_within : (owner : Node) (file : Spot → Option File) (reach : Spot → ℕ) (log : LogView) (l : LogState) → RepresentsLog owner log l → IsHeld file reach log → IsShort log.current × IsShort log.spare → AreWithin file owner
+files_within owner file reach log l s held short =
+    let both : BothWithin file log = (told_within (file log.current.spot) (reach log.current.spot) log.current held.current short.0, told_within (file log.spare.spot) (reach log.spare.spot) log.spare held.spare short.1) in
+    subst (AreWithin file) s.owned (node_within file log held.spots both)
+
 -- before a log write the files have the records of the log
 pub left_before : (owner : Node) (file : Spot → Option File) (reach : Spot → ℕ) (log : LogView) (l : LogState) → RepresentsLog owner log l → IsHeld file reach log → IsShort log.current × IsShort log.spare → LeftAs file owner l.stable l.stable
 left_before owner file reach log l s held short told =
-    let both : BothWithin file log = (told_within (file log.current.spot) (reach log.current.spot) log.current held.current short.0, told_within (file log.spare.spot) (reach log.spare.spot) log.spare held.spare short.1) in
-    let own = subst (AreWithin file) s.owned (node_within file log held.spots both) in
-    let here = told_records owner file reach log l s held own told in
+    let here = told_records owner file reach log l s held (files_within owner file reach log l s held short) told in
     (here.0, here.1, inl here.2)
