@@ -73,33 +73,49 @@ fn operation(
     txn: Txn,
 ) -> Result<Command, BaseFault> {
     let place = picks.below(load.keys);
-    let lo = key(alloc, place)?;
     match picks.below(10) {
-        0 => {
-            let last = load.keys.saturating_sub(1);
-            let hi = key(
-                alloc,
-                place.saturating_add(load.span.saturating_sub(1)).min(last),
-            )?;
-            let range = Range::new(lo, hi)?;
-            Ok(Command::Scan { txn, range })
-        }
-        1..=5 => Ok(Command::Read { txn, key: lo }),
-        _ => Ok(Command::Write {
-            txn,
-            key: lo,
-            value: Some(value(alloc, picks.below(100))?),
-        }),
+        0 => scan(alloc, load, txn, place),
+        1..=5 => read(alloc, txn, place),
+        _ => write(alloc, txn, place, picks.below(100)),
     }
+}
+
+/// A scan from the key of a number on.
+fn scan(alloc: Global, load: &Load, txn: Txn, place: u32) -> Result<Command, BaseFault> {
+    let last = load.keys.saturating_sub(1);
+    let end = place.saturating_add(load.span.saturating_sub(1)).min(last);
+    let lo = key(alloc, place)?;
+    let range = Range::new(lo, key(alloc, end)?)?;
+    Ok(Command::Scan { txn, range })
+}
+
+/// A read of the key of a number.
+fn read(alloc: Global, txn: Txn, place: u32) -> Result<Command, BaseFault> {
+    let key = key(alloc, place)?;
+    Ok(Command::Read { txn, key })
+}
+
+/// A write of the key of a number.
+fn write(alloc: Global, txn: Txn, place: u32, number: u32) -> Result<Command, BaseFault> {
+    let key = key(alloc, place)?;
+    let value = Some(value(alloc, number)?);
+    Ok(Command::Write { txn, key, value })
 }
 
 /// A record for each key.
 pub fn rows(alloc: Global, load: &Load) -> Result<Rows, BaseFault> {
     let mut records = RecordMap::new(alloc);
     for number in 0..load.keys {
-        records.set(key(alloc, number)?, value(alloc, 0)?)?;
+        set(alloc, number, &mut records)?;
     }
     Ok(records.rows(alloc)?)
+}
+
+/// Sets the record of the key of a number.
+fn set(alloc: Global, number: u32, records: &mut RecordMap) -> Result<(), BaseFault> {
+    let key = key(alloc, number)?;
+    let value = value(alloc, 0)?;
+    Ok(records.set(key, value)?)
 }
 
 /// The operations of some transactions, in turn, and then their votes and installs.

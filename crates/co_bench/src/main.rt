@@ -46,10 +46,20 @@ fn played(
 /// Plays a load on an engine and writes what it came to.
 fn measure<R: AllocGlobal + Print + Clock>(rt: &R, which: Which, load: &Load) -> Result<()> {
     let alloc = rt.alloc();
-    let rows = rows(alloc, load)?;
     let commands = commands(alloc, load)?;
+    let rows = rows(alloc, load)?;
+    time(rt, which, rows, commands.as_slice())
+}
+
+/// Plays commands on an engine and writes what they came to, and how long it took.
+fn time<R: AllocGlobal + Print + Clock>(
+    rt: &R,
+    which: Which,
+    rows: Rows,
+    commands: &[Command],
+) -> Result<()> {
     let start = Instant::now(rt)?;
-    let answers = played(alloc, which, rows, commands.as_slice())?;
+    let answers = played(rt.alloc(), which, rows, commands)?;
     let took = start.elapsed(rt)?;
     report(rt, &outcome_of(answers.as_slice()), took)
 }
@@ -77,16 +87,27 @@ fn report<R: Print>(rt: &R, outcome: &Outcome, took: Duration) -> Result<()> {
     Ok(())
 }
 
-fn main(rt: HostRuntime) -> Result<()> {
+/// The words behind the program's name.
+fn spoken_words(rt: &HostRuntime) -> Result<Vec<String>> {
     let mut words = Vec::new(rt.alloc());
-    for word in env::args(&rt)?.skip(1) {
+    for word in env::args(rt)?.skip(1) {
         words.push(word)?;
     }
-    match words.as_slice() {
+    Ok(words)
+}
+
+/// Plays the load that the words name, or writes which words there are.
+fn bench(rt: &HostRuntime, words: &[String]) -> Result<()> {
+    match words {
         [engine, numbers @ ..] => match (which_of(engine.as_str()), load_of(numbers)) {
-            (Some(which), Some(load)) => measure(&rt, which, &load),
-            _ => usage(&rt),
+            (Some(which), Some(load)) => measure(rt, which, &load),
+            _ => usage(rt),
         },
-        [] => usage(&rt),
+        [] => usage(rt),
     }
+}
+
+fn main(rt: HostRuntime) -> Result<()> {
+    let words = spoken_words(&rt)?;
+    bench(&rt, words.as_slice())
 }

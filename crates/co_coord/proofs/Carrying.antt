@@ -55,6 +55,10 @@ stands_on x after y next t r up number is stays table log =
       down = λ none. absurd (none_here is none);
     }
 
+-- a coordinator that runs with this table over a log
+pub up_over : (x : Coord) (t : Table Entry) (l : LogState) → x.table ≡ Some t → RepresentsLog (node.Coord x.number) x.log l → RepresentsCoord x (record { up = true; table = t; log = l })
+up_over x t l is log = record { log = log; up = sym (ap is_some is); table = λ u other. same_here is other; down = λ none. absurd (none_here is none) }
+
 -- a coordinator that went down over this plain log
 pub stands_down : (x after : Coord) (l : LogState) → after.number ≡ x.number → after.table ≡ None → RepresentsLog (node.Coord x.number) after.log (crashed_log l) → RepresentsCoord after (coord_down l)
 stands_down x after l number none log =

@@ -1,16 +1,18 @@
 -- How a call that makes no call of the directory leaves it.
-use Rattle.std.proofs.Common.{◌≡◌, refl, sym, subst}
+use Rattle.std.proofs.Common.{◌≡◌, List, refl, sym, subst}
 use Rattle.std.specs.Prelude.{Result, Ok, Err, IsErr}
 use Rattle.std.specs.Result.{IsErrAnd}
 use Rattle.co_base.specs.declared.node.Node.{Node}
+use Rattle.co_outside.specs.declared.spot.Spot.{Spot}
 use Rattle.co_log.specs.LogView.{LogView, IsHeld, IsShort}
 use Rattle.co_log.specs.declared.fault.NodeFault.{NodeFault}
 use Rattle.co_log.specs.declared.fault.NodeFault.TheVariants.{Memory}
 use Rattle.co_node.proofs.Homes.{memory_answered}
 use Rattle.co_node.proofs.Opened.{files_within, left_before}
-use Rattle.co_node.specs.Answers.{HomeView, IsServed}
+use Rattle.co_node.specs.Answers.{HomeView, IsAnswered, IsServed}
 use Rattle.co_node.specs.NodeLog.{RepresentsLog}
 use Rattle.co_plain.specs.declared.log_state.LogState.{LogState}
+use Rattle.co_record.specs.declared.record.Record.{Record}
 use Rattle.co_coord.specs.Standing.{written_by}
 use Rattle.co_coord.specs.Writing.{IsAnsweredFor, IsTooLongFor, stable_after}
 use Rattle.co_coord.specs.declared.plan.Writes.{Writes}
@@ -28,12 +30,15 @@ still_served owner home log after l s held short now =
       quiet = refl;
     }
 
--- there was no memory before anything was written
+-- there was no memory before anything was written at this file
+pub wanting : (owner : Node) (at : Spot) (long : Type 0) (that : List Record) (l : LogState) (log : LogView) (home : HomeView) (out : Result CoordStep NodeFault) → IsErr out × IsErrAnd out (λ e. e ≡ Memory) → RepresentsLog owner log l → IsHeld home.file home.reach log
+    → IsShort log.current × IsShort log.spare → IsAnswered owner at long l.stable that log home home (written_by out)
+wanting owner at long that l log home (Ok d) is s held short = absurd is.1
+wanting owner at long that l log home (Err e) is s held short = memory_answered owner at long l.stable that log home (Err e) is (left_before owner home.file home.reach log l s held short)
+
 pub wants_memory : (owner : Node) (w : Writes) (l : LogState) (log : LogView) (home : HomeView) (out : Result CoordStep NodeFault) → IsErr out × IsErrAnd out (λ e. e ≡ Memory) → RepresentsLog owner log l → IsHeld home.file home.reach log
     → IsShort log.current × IsShort log.spare → IsAnsweredFor w owner l log log home home (written_by out)
-wants_memory owner w l log home (Ok d) is s held short = absurd is.1
-wants_memory owner w l log home (Err e) is s held short =
-    memory_answered owner log.current.spot (IsTooLongFor w log) l.stable (stable_after w l) log home (Err e) is (left_before owner home.file home.reach log l s held short)
+wants_memory owner w l log home out is s held short = wanting owner log.current.spot (IsTooLongFor w log) (stable_after w l) l log home out is s held short
 
 -- a fault that is passed on
 pub passed_on : (owner : Node) (w : Writes) (l : LogState) (log after : LogView) (old new : HomeView) (e : NodeFault) (out : Result CoordStep NodeFault) → IsErr out × IsErrAnd out (λ f. f ≡ e) → IsAnsweredFor w owner l log after old new (Err e)

@@ -13,7 +13,7 @@ use co_state::Table;
 use std::alloc::{AllocError, Global};
 
 /// A client begins: an idle entry.
-pub fn begin_plan(alloc: Global) -> Plan
+pub(crate) fn begin_plan(alloc: Global) -> Plan
     ensures { result ≡ begin_plan }
 {
     Plan {
@@ -51,7 +51,7 @@ fn ask_plan_of(alloc: Global, coord: u8, txn: Txn, parts: &[Part]) -> Result<Pla
 }
 
 /// The client asks for the commit, with the participants of its session.
-pub fn commit_plan(
+pub(crate) fn commit_plan(
     alloc: Global,
     coord: u8,
     txn: Txn,
@@ -76,7 +76,7 @@ pub fn commit_plan(
 }
 
 /// The client asks for the abort, with the participants of its session.
-pub fn abort_plan(
+pub(crate) fn abort_plan(
     alloc: Global,
     coord: u8,
     txn: Txn,

@@ -79,7 +79,7 @@ impl Coord {
     }
 
     /// A log write was stopped: what was in memory is lost, and the coordinator is down.
-    fn stopped(&mut self, call: u8, marks: Marks) -> CoordStep
+    pub(crate) fn stopped(&mut self, call: u8, marks: Marks) -> CoordStep
         ensures step { result ≡ record { answer = answer.Stopped call; sent = []; marks = marks } }
         ensures down { self.new.table ≡ None }
         ensures log { self.new.log ≡ self.old.log }

@@ -97,7 +97,7 @@ fn no_plan(
 }
 
 /// A vote comes.
-pub fn vote_plan(
+fn vote_plan(
     alloc: Global,
     coord: u8,
     txn: Txn,
@@ -162,7 +162,7 @@ fn tells(
 }
 
 /// A member in doubt asks. Who is not in the table is aborted.
-pub fn ask_plan(
+fn ask_plan(
     alloc: Global,
     coord: u8,
     txn: Txn,
@@ -228,12 +228,7 @@ fn acknowledged_plan(
 }
 
 /// An acknowledgement comes.
-pub fn ack_plan(
-    alloc: Global,
-    txn: Txn,
-    member: u8,
-    table: &Table<Entry>,
-) -> Result<Plan, AllocError>
+fn ack_plan(alloc: Global, txn: Txn, member: u8, table: &Table<Entry>) -> Result<Plan, AllocError>
     ensures { IfOk result (λ plan. plan ≡ ack_plan txn member (look table.now txn)) }
 {
     match table.get(txn) {
@@ -249,7 +244,7 @@ pub fn ack_plan(
 }
 
 /// A message comes, with the entry of its transaction. No coordinator is sent a prepare or a decision.
-pub fn deliver_plan(
+pub(crate) fn deliver_plan(
     alloc: Global,
     coord: u8,
     message: &Message,

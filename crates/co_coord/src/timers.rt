@@ -12,7 +12,7 @@ use co_state::Table;
 use std::alloc::{AllocError, Global};
 
 /// The timer of a transaction fires: only what is not decided may end.
-pub fn timer_plan(
+pub(crate) fn timer_plan(
     alloc: Global,
     coord: u8,
     txn: Txn,
@@ -41,7 +41,7 @@ pub fn timer_plan(
 }
 
 /// What was not answered is sent again.
-pub fn resend_plan(
+pub(crate) fn resend_plan(
     alloc: Global,
     coord: u8,
     txn: Txn,

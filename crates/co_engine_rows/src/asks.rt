@@ -5,12 +5,40 @@ ghost use Rattle.co_pairs.specs.Free.{are_free};
 use crate::acts::{Act, act_of, command};
 use crate::kept::Keeps;
 use crate::rows::{RowFault, cut, number_of, txn_of};
-use crate::setups::{Setup, is_setup};
-use crate::texts::{dump_text, put_key, put_number, put_played};
-use co_base::{Kind, Txn};
+use crate::setups::is_setup;
+use crate::texts::{put_dumped, put_key, put_number, put_played};
+use co_base::{Kind, Rows, Txn};
 use co_engine::{Command, Engine, Played, Seen};
-use co_pairs::{Pairs, Sets};
+use co_pairs::{Pairs, Prepared, Sets};
 use std::alloc::{AllocError, Global};
+
+/// Makes the call of a command. Gives what an operation came to.
+fn seen<E: Engine>(
+    alloc: Global,
+    engine: &mut E,
+    command: &Command,
+    pairs: &mut Pairs,
+) -> Result<Option<Seen>, AllocError> {
+    match command {
+        Command::Read { txn, key } => Ok(Some(engine.read(alloc, *txn, key, pairs)?)),
+        Command::Scan { txn, range } => Ok(Some(engine.scan(alloc, *txn, range, pairs)?)),
+        Command::Write { txn, key, value } => {
+            Ok(Some(engine.write(alloc, *txn, key, value.as_ref(), pairs)?))
+        }
+        Command::Cast(txn) => {
+            engine.cast(*txn);
+            Ok(None)
+        }
+        Command::Install(txn) => {
+            engine.install(alloc, *txn)?;
+            Ok(None)
+        }
+        Command::Drop(txn) => {
+            engine.drop_txn(*txn);
+            Ok(None)
+        }
+    }
+}
 
 /// Makes the call of a command.
 pub fn call<E: Engine>(
@@ -19,31 +47,10 @@ pub fn call<E: Engine>(
     command: &Command,
 ) -> Result<Played, AllocError> {
     let mut pairs = Pairs::new(alloc);
-    match command {
-        Command::Read { txn, key } => {
-            let seen = engine.read(alloc, *txn, key, &mut pairs)?;
-            Ok(Played::Seen(seen, pairs))
-        }
-        Command::Scan { txn, range } => {
-            let seen = engine.scan(alloc, *txn, range, &mut pairs)?;
-            Ok(Played::Seen(seen, pairs))
-        }
-        Command::Write { txn, key, value } => {
-            let seen = engine.write(alloc, *txn, key, value.as_ref(), &mut pairs)?;
-            Ok(Played::Seen(seen, pairs))
-        }
-        Command::Cast(txn) => {
-            engine.cast(*txn);
-            Ok(Played::Done)
-        }
-        Command::Install(txn) => {
-            engine.install(alloc, *txn)?;
-            Ok(Played::Done)
-        }
-        Command::Drop(txn) => {
-            engine.drop_txn(*txn);
-            Ok(Played::Done)
-        }
+    match seen(alloc, engine, command, &mut pairs) {
+        Ok(Some(seen)) => Ok(Played::Seen(seen, pairs)),
+        Ok(None) => Ok(Played::Done),
+        Err(fault) => Err(fault),
     }
 }
 
@@ -59,6 +66,11 @@ fn put_call<E: Engine>(
     Ok(put_played(&played, into)?)
 }
 
+/// Whether an operation was answered.
+fn is_answered(played: &Played) -> bool {
+    matches!(played, Played::Seen(Seen::Answer(_), _))
+}
+
 /// Whether a transaction wrote `x` with this value. It is installed.
 fn commits<E: Engine>(
     alloc: Global,
@@ -67,10 +79,10 @@ fn commits<E: Engine>(
     value: &[u8],
 ) -> Result<bool, RowFault> {
     let write = command(alloc, Act::Write(t, b"x", value))?;
-    let played = call(alloc, engine, &write)?;
+    let is_answered = is_answered(&call(alloc, engine, &write)?);
     engine.cast(Txn(t));
     engine.install(alloc, Txn(t))?;
-    Ok(matches!(played, Played::Seen(Seen::Answer(_), _)))
+    Ok(is_answered)
 }
 
 /// How many of a thousand transactions wrote `x` with this value. They are installed.
@@ -111,8 +123,8 @@ fn put_sets(sets: &Sets, into: &mut Vec<u8>) -> Result<(), AllocError> {
 }
 
 fn put_dump<E: Engine>(alloc: Global, engine: &E, into: &mut Vec<u8>) -> Result<(), RowFault> {
-    let text = dump_text(alloc, &engine.dump(alloc)?)?;
-    Ok(into.extend_from_slice(&text)?)
+    let dump = engine.dump(alloc)?;
+    Ok(put_dumped(&dump, into)?)
 }
 
 /// Appends what a row tells. It is a call, or one of these questions: `stale NUMBER` asks for the least key that was overwritten
@@ -144,24 +156,34 @@ fn put_told<E: Engine + Keeps>(
     put_call(alloc, engine, row, into)
 }
 
-/// What calls and questions tell, a line each.
-pub fn told_by_asks<E: Engine + Keeps + Drop>(
+/// Appends what calls and questions tell, a line each.
+fn put_lines<E: Engine + Keeps>(
     alloc: Global,
-    kind: Kind,
-    setup: Setup,
+    engine: &mut E,
     lines: &[&[u8]],
-) -> Result<Vec<u8>, RowFault>
-    requires taken { E.takes kind }
-    requires free { IsTrue (are_free setup.voted) }
-{
-    let Setup { rows, voted } = setup;
-    let mut engine = E::restore(alloc, kind, rows, voted.as_slice())?;
-    let mut text = Vec::new(alloc);
+    into: &mut Vec<u8>,
+) -> Result<(), RowFault> {
     for line in lines {
         if !line.is_empty() && !is_setup(line) {
-            put_told(alloc, &mut engine, line, &mut text)?;
-            text.push(b'\n')?;
+            put_told(alloc, engine, line, into)?;
+            into.push(b'\n')?;
         }
     }
-    Ok(text)
+    Ok(())
+}
+
+/// Appends what calls and questions tell of an engine that begins so, a line each.
+pub fn put_told_by_asks<E: Engine + Keeps + Drop>(
+    alloc: Global,
+    kind: Kind,
+    rows: Rows,
+    voted: &[Prepared],
+    lines: &[&[u8]],
+    into: &mut Vec<u8>,
+) -> Result<(), RowFault>
+    requires taken { E.takes kind }
+    requires free { IsTrue (are_free voted.now) }
+{
+    let mut engine = E::restore(alloc, kind, rows, voted)?;
+    put_lines(alloc, &mut engine, lines, into)
 }

@@ -1,12 +1,12 @@
 //! Blocks of rows, and what they come to on each engine of their kind.
 ghost use Rattle.std.specs.Prelude.{IsTrue};
 
-use crate::asks::told_by_asks;
+use crate::asks::put_told_by_asks;
 use crate::kept::Keeps;
-use crate::plays::told_by_play;
+use crate::plays::put_told_by_play;
 use crate::random::put_random;
 use crate::rows::{RowFault, cut, kind_of};
-use crate::setups::{is_setup, setup_of};
+use crate::setups::{is_setup, rows_of, voted_of};
 use co_any::AnyEngine;
 use co_base::Kind;
 use co_engine::{Engine, PlainEngine};
@@ -58,23 +58,91 @@ fn put_played_block(
     lines: &[&[u8]],
     out: &mut Vec<u8>,
 ) -> Result<(), RowFault> {
-    let by_kind = match kind {
-        Kind::Lock => told::<LockEngine>(alloc, mode, Kind::Lock, lines)?,
-        Kind::Occ => told::<OccEngine>(alloc, mode, Kind::Occ, lines)?,
-        Kind::Mv => told::<MvEngine>(alloc, mode, Kind::Mv, lines)?,
-    };
-    let plainly = told::<PlainEngine>(alloc, mode, kind, lines)?;
-    let by_any = told::<AnyEngine>(alloc, mode, kind, lines)?;
+    let by_kind = told_by_kind(alloc, mode, kind, lines)?;
     put_rows(lines, &by_kind, out)?;
-    if !agree(&by_kind, &plainly) {
-        put_line(b"the plain engine answers otherwise", out)?;
-        out.extend_from_slice(&plainly)?;
+    put_plainly(alloc, mode, kind, lines, &by_kind, out)?;
+    put_by_any(alloc, mode, kind, lines, &by_kind, out)
+}
+
+/// What rows come to on the engine of the kind, a line each.
+fn told_by_kind(
+    alloc: Global,
+    mode: Mode,
+    kind: Kind,
+    lines: &[&[u8]],
+) -> Result<Vec<u8>, RowFault> {
+    match kind {
+        Kind::Lock => told::<LockEngine>(alloc, mode, Kind::Lock, lines),
+        Kind::Occ => told::<OccEngine>(alloc, mode, Kind::Occ, lines),
+        Kind::Mv => told::<MvEngine>(alloc, mode, Kind::Mv, lines),
     }
-    if !agree(&by_kind, &by_any) {
-        put_line(b"the engine of any kind answers otherwise", out)?;
-        out.extend_from_slice(&by_any)?;
+}
+
+/// Appends what rows come to on the plain engine, where it answers otherwise.
+fn put_plainly(
+    alloc: Global,
+    mode: Mode,
+    kind: Kind,
+    lines: &[&[u8]],
+    by_kind: &[u8],
+    out: &mut Vec<u8>,
+) -> Result<(), RowFault> {
+    let plainly = told::<PlainEngine>(alloc, mode, kind, lines)?;
+    put_other(
+        b"the plain engine answers otherwise",
+        by_kind,
+        &plainly,
+        out,
+    )
+}
+
+/// Appends what rows come to on the engine of any kind, where it answers otherwise.
+fn put_by_any(
+    alloc: Global,
+    mode: Mode,
+    kind: Kind,
+    lines: &[&[u8]],
+    by_kind: &[u8],
+    out: &mut Vec<u8>,
+) -> Result<(), RowFault> {
+    let by_any = told::<AnyEngine>(alloc, mode, kind, lines)?;
+    put_other(
+        b"the engine of any kind answers otherwise",
+        by_kind,
+        &by_any,
+        out,
+    )
+}
+
+/// Appends what another engine tells, where that is not the same.
+fn put_other(note: &[u8], by_kind: &[u8], other: &[u8], out: &mut Vec<u8>) -> Result<(), RowFault> {
+    if agree(by_kind, other) {
+        return Ok(());
     }
-    Ok(())
+    put_line(note, out)?;
+    Ok(out.extend_from_slice(other)?)
+}
+
+/// Appends what rows come to on an engine, a line each.
+fn put_told<E: Engine + Keeps + Drop>(
+    alloc: Global,
+    mode: Mode,
+    kind: Kind,
+    lines: &[&[u8]],
+    into: &mut Vec<u8>,
+) -> Result<(), RowFault>
+    requires { E.takes kind }
+{
+    let voted = voted_of(alloc, lines)?;
+    let voted = voted.as_slice();
+    if !are_free(voted) {
+        return Err(RowFault::Word);
+    }
+    let rows = rows_of(alloc, lines)?;
+    match mode {
+        Mode::Play => put_told_by_play::<E>(alloc, kind, rows, voted, lines, into),
+        Mode::Ask => put_told_by_asks::<E>(alloc, kind, rows, voted, lines, into),
+    }
 }
 
 /// What rows come to on an engine, a line each.
@@ -86,14 +154,9 @@ fn told<E: Engine + Keeps + Drop>(
 ) -> Result<Vec<u8>, RowFault>
     requires { E.takes kind }
 {
-    let setup = setup_of(alloc, lines)?;
-    if !are_free(setup.voted.as_slice()) {
-        return Err(RowFault::Word);
-    }
-    match mode {
-        Mode::Play => told_by_play::<E>(alloc, kind, setup, lines),
-        Mode::Ask => told_by_asks::<E>(alloc, kind, setup, lines),
-    }
+    let mut text = Vec::new(alloc);
+    put_told::<E>(alloc, mode, kind, lines, &mut text)?;
+    Ok(text)
 }
 
 /// Whether two engines tell the same; one that keeps nothing to be asked for tells nothing of it.

@@ -33,18 +33,23 @@ use std::process::ExitCode;
 /// The most bytes of the rows.
 const MOST_BYTES: u32 = 0x10_0000;
 
-/// What the rows of a text come to.
-fn told(alloc: Global, text: &[u8]) -> Result<Vec<u8>, RowFault> {
-    let mut out = Vec::new(alloc);
+/// Appends what the rows of a text come to.
+fn put_told(alloc: Global, text: &[u8], out: &mut Vec<u8>) -> Result<(), RowFault> {
     let mut block = Vec::new(alloc);
     for line in text.split(|b| *b == b'\n') {
         if line.starts_with(b"#") {
-            put_block(alloc, &block, &mut out)?;
-            block = Vec::new(alloc);
+            put_block(alloc, &block, out)?;
+            block.clear();
         }
         block.push(line)?;
     }
-    put_block(alloc, &block, &mut out)?;
+    put_block(alloc, &block, out)
+}
+
+/// What the rows of a text come to.
+fn told(alloc: Global, text: &[u8]) -> Result<Vec<u8>, RowFault> {
+    let mut out = Vec::new(alloc);
+    put_told(alloc, text, &mut out)?;
     Ok(out)
 }
 

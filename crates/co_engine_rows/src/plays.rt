@@ -4,10 +4,11 @@ ghost use Rattle.co_pairs.specs.Free.{are_free};
 
 use crate::acts::{act_of, command};
 use crate::rows::RowFault;
-use crate::setups::{Setup, is_setup};
-use crate::texts::played_text;
-use co_base::{Kind, Sequence};
+use crate::setups::is_setup;
+use crate::texts::put_all_played;
+use co_base::{Kind, Rows, Sequence};
 use co_engine::{Command, Engine, play};
+use co_pairs::Prepared;
 use std::alloc::Global;
 
 /// The commands of the rows.
@@ -21,18 +22,34 @@ fn commands(alloc: Global, lines: &[&[u8]]) -> Result<Sequence<Command>, RowFaul
     Ok(commands)
 }
 
-/// What the rows come to, a line each.
-pub fn told_by_play<E: Engine + Drop>(
+/// Appends what the rows come to on an engine that begins so, a line each.
+pub fn put_told_by_play<E: Engine + Drop>(
     alloc: Global,
     kind: Kind,
-    setup: Setup,
+    rows: Rows,
+    voted: &[Prepared],
     lines: &[&[u8]],
-) -> Result<Vec<u8>, RowFault>
+    into: &mut Vec<u8>,
+) -> Result<(), RowFault>
     requires taken { E.takes kind }
-    requires free { IsTrue (are_free setup.voted) }
+    requires free { IsTrue (are_free voted.now) }
 {
     let commands = commands(alloc, lines)?;
-    let Setup { rows, voted } = setup;
-    let answers = play::<E>(alloc, kind, rows, voted.as_slice(), commands.as_slice())?;
-    Ok(played_text(alloc, answers.as_slice())?)
+    put_answers::<E>(alloc, kind, rows, voted, commands.as_slice(), into)
+}
+
+/// Appends what commands come to, a line each.
+pub fn put_answers<E: Engine + Drop>(
+    alloc: Global,
+    kind: Kind,
+    rows: Rows,
+    voted: &[Prepared],
+    commands: &[Command],
+    into: &mut Vec<u8>,
+) -> Result<(), RowFault>
+    requires taken { E.takes kind }
+    requires free { IsTrue (are_free voted.now) }
+{
+    let answers = play::<E>(alloc, kind, rows, voted, commands)?;
+    Ok(put_all_played(answers.as_slice(), into)?)
 }

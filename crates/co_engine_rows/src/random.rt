@@ -5,8 +5,8 @@ ghost use Rattle.co_pairs.specs.Free.{are_free};
 use crate::asks::call;
 use crate::random_commands::{locking_commands, multiversion_commands, validating_commands};
 use crate::rows::{RowFault, number_of};
-use crate::setups::{Setup, setup_of};
-use crate::texts::{dump_text, played_text};
+use crate::setups::{rows_of, voted_of};
+use crate::texts::{put_all_played, put_dumped};
 use co_base::{BaseFault, Kind, Rows, Sequence};
 use co_engine::{Answers, Command, Engine, PlainEngine, Played, play};
 use co_lock::LockEngine;
@@ -30,21 +30,53 @@ fn drive<E: Engine>(
     Ok(())
 }
 
-/// What an engine dumps after those commands that were not refused.
-fn dumped<E: Engine + Drop>(
+/// Appends what an engine dumps after those commands that were not refused.
+fn put_driven<E: Engine>(
+    alloc: Global,
+    engine: &mut E,
+    commands: &[Command],
+    answers: &Answers,
+    into: &mut Vec<u8>,
+) -> Result<(), RowFault> {
+    drive(alloc, engine, commands, answers)?;
+    let dump = engine.dump(alloc)?;
+    Ok(put_dumped(&dump, into)?)
+}
+
+/// Appends what commands came to and what an engine that begins so dumps after those that were not refused.
+fn put_played_and_driven<E: Engine + Drop>(
     alloc: Global,
     kind: Kind,
     rows: Rows,
     voted: &[Prepared],
     commands: &[Command],
     answers: &Answers,
-) -> Result<Vec<u8>, RowFault>
+    into: &mut Vec<u8>,
+) -> Result<(), RowFault>
     requires taken { E.takes kind }
     requires free { IsTrue (are_free voted.now) }
 {
+    put_all_played(answers.as_slice(), into)?;
     let mut engine = E::restore(alloc, kind, rows, voted)?;
-    drive(alloc, &mut engine, commands, answers)?;
-    Ok(dump_text(alloc, &engine.dump(alloc)?)?)
+    put_driven(alloc, &mut engine, commands, answers, into)
+}
+
+/// Appends what commands come to on an engine, and at last what it dumps.
+fn put_told<E: Engine + Drop>(
+    alloc: Global,
+    kind: Kind,
+    lines: &[&[u8]],
+    voted: &[Prepared],
+    commands: &[Command],
+    into: &mut Vec<u8>,
+) -> Result<(), RowFault>
+    requires taken { E.takes kind }
+    requires free { IsTrue (are_free voted.now) }
+{
+    let rows = rows_of(alloc, lines)?;
+    let answers = play::<E>(alloc, kind, rows, voted, commands)?;
+    let rows = rows_of(alloc, lines)?;
+    put_played_and_driven::<E>(alloc, kind, rows, voted, commands, &answers, into)
 }
 
 /// What commands come to on an engine, and at last what it dumps.
@@ -56,15 +88,12 @@ fn told<E: Engine + Drop>(
 ) -> Result<Vec<u8>, RowFault>
     requires { E.takes kind }
 {
-    let Setup { rows, voted } = setup_of(alloc, lines)?;
+    let voted = voted_of(alloc, lines)?;
     if !are_free(voted.as_slice()) {
         return Err(RowFault::Word);
     }
-    let answers = play::<E>(alloc, kind, rows, voted.as_slice(), commands)?;
-    let rows = setup_of(alloc, lines)?.rows;
-    let dump = dumped::<E>(alloc, kind, rows, voted.as_slice(), commands, &answers)?;
-    let mut text = played_text(alloc, answers.as_slice())?;
-    text.extend_from_slice(&dump)?;
+    let mut text = Vec::new(alloc);
+    put_told::<E>(alloc, kind, lines, voted.as_slice(), commands, &mut text)?;
     Ok(text)
 }
 
@@ -77,17 +106,36 @@ fn commands_of(alloc: Global, kind: Kind, seed: u32) -> Result<Sequence<Command>
     }
 }
 
+/// What commands come to on the engine of a kind.
+fn told_by_kind(
+    alloc: Global,
+    kind: Kind,
+    lines: &[&[u8]],
+    commands: &[Command],
+) -> Result<Vec<u8>, RowFault> {
+    match kind {
+        Kind::Lock => told::<LockEngine>(alloc, Kind::Lock, lines, commands),
+        Kind::Occ => told::<OccEngine>(alloc, Kind::Occ, lines, commands),
+        Kind::Mv => told::<MvEngine>(alloc, Kind::Mv, lines, commands),
+    }
+}
+
 /// Whether commands come to the same on the engine of a kind and on the plain one.
+fn are_same(
+    alloc: Global,
+    kind: Kind,
+    lines: &[&[u8]],
+    commands: &[Command],
+) -> Result<bool, RowFault> {
+    let here = told_by_kind(alloc, kind, lines, commands)?;
+    let plainly = told::<PlainEngine>(alloc, kind, lines, commands)?;
+    Ok(here.as_slice() == plainly.as_slice())
+}
+
+/// The same of the commands of a seed.
 fn is_same(alloc: Global, kind: Kind, seed: u32, lines: &[&[u8]]) -> Result<bool, RowFault> {
     let commands = commands_of(alloc, kind, seed)?;
-    let commands = commands.as_slice();
-    let told_here = match kind {
-        Kind::Lock => told::<LockEngine>(alloc, Kind::Lock, lines, commands)?,
-        Kind::Occ => told::<OccEngine>(alloc, Kind::Occ, lines, commands)?,
-        Kind::Mv => told::<MvEngine>(alloc, Kind::Mv, lines, commands)?,
-    };
-    let plainly = told::<PlainEngine>(alloc, kind, lines, commands)?;
-    Ok(told_here.as_slice() == plainly.as_slice())
+    are_same(alloc, kind, lines, commands.as_slice())
 }
 
 /// Appends each seed, and whether its commands come to the same.

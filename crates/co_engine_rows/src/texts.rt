@@ -3,7 +3,7 @@ use co_base::{Key, Reply, Row, Txn, Value, Written};
 use co_engine::{Dump, Played, Seen};
 use co_pairs::{Pair, PairKind};
 use itoa::Buffer;
-use std::alloc::{AllocError, Global};
+use std::alloc::AllocError;
 
 /// Appends a space and a number.
 pub fn put_number(number: usize, into: &mut Vec<u8>) -> Result<(), AllocError> {
@@ -103,14 +103,13 @@ pub fn put_played(played: &Played, into: &mut Vec<u8>) -> Result<(), AllocError>
     }
 }
 
-/// What commands came to, a line each.
-pub fn played_text(alloc: Global, answers: &[Played]) -> Result<Vec<u8>, AllocError> {
-    let mut text = Vec::new(alloc);
+/// Appends what commands came to, a line each.
+pub fn put_all_played(answers: &[Played], into: &mut Vec<u8>) -> Result<(), AllocError> {
     for played in answers {
-        put_played(played, &mut text)?;
-        text.push(b'\n')?;
+        put_played(played, into)?;
+        into.extend_from_slice(b"\n")?;
     }
-    Ok(text)
+    Ok(())
 }
 
 /// Appends what leads back: the key of each change, and its value or that there is none.
@@ -124,11 +123,9 @@ fn put_undos(undos: &[Written], into: &mut Vec<u8>) -> Result<(), AllocError> {
     Ok(())
 }
 
-/// What an engine dumps.
-pub fn dump_text(alloc: Global, dump: &Dump) -> Result<Vec<u8>, AllocError> {
-    let mut text = Vec::new(alloc);
-    put_rows(dump.rows.as_slice(), &mut text)?;
-    text.push(b' ')?;
-    put_undos(dump.undos.as_slice(), &mut text)?;
-    Ok(text)
+/// Appends what an engine dumps.
+pub fn put_dumped(dump: &Dump, into: &mut Vec<u8>) -> Result<(), AllocError> {
+    put_rows(dump.rows.as_slice(), into)?;
+    into.extend_from_slice(b" ")?;
+    put_undos(dump.undos.as_slice(), into)
 }

@@ -3,9 +3,8 @@ ghost use Rattle.std.specs.Prelude.{◌≤◌};
 
 use co_outside::{Source, SourceFault, SourceMemory, SourceStd, Taken, read_all};
 use std::alloc::{AllocError, Global};
-use std::fs;
 use std::fs::File;
-use std::test::Fail;
+use std::{fs, io};
 
 /// A source of these bytes, which fails at these calls.
 fn source_of(alloc: Global, bytes: &[u8], fail: &[u32]) -> Result<SourceMemory, AllocError> {
@@ -41,59 +40,110 @@ fn read<S: Source>(
     }
 }
 
-#[test]
-fn a_source_gives_its_bytes_and_fails_at_its_second_call(rt: HostRuntime) -> Result<(), Fail> {
-    let alloc = rt.alloc();
-    let mut source = source_of(alloc, b"abcde", &[2])?;
-    let told = [
-        taken(alloc, &mut source, 3, b"abc"),
-        taken(alloc, &mut source, 3, b""),
-        taken(alloc, &mut source, 9, b"de"),
-        taken(alloc, &mut source, 1, b""),
-    ];
-    assert_eq!(rt; told, ["these", "failed", "these", "end"]);
-    Ok(())
+/// The answers of four calls of a source of five bytes that fails at its second call.
+fn four_calls(alloc: Global, source: &mut SourceMemory) -> [&'static str; 4] {
+    [
+        taken(alloc, source, 3, b"abc"),
+        taken(alloc, source, 3, b""),
+        taken(alloc, source, 9, b"de"),
+        taken(alloc, source, 1, b""),
+    ]
+}
+
+/// Whether they are as they are wanted.
+fn fails_once(alloc: Global) -> bool {
+    match source_of(alloc, b"abcde", &[2]) {
+        Ok(source) => {
+            let mut source = source;
+            four_calls(alloc, &mut source) == ["these", "failed", "these", "end"]
+        }
+        Err(_) => false,
+    }
 }
 
 #[test]
-fn a_whole_source_is_read_in_pieces_up_to_a_limit(rt: HostRuntime) -> Result<(), Fail> {
-    let alloc = rt.alloc();
+fn a_source_gives_its_bytes_and_fails_at_its_second_call(rt: HostRuntime) {
+    assert!(rt; fails_once(rt.alloc()));
+}
+
+/// The answers where a text of 70,000 bytes is read whole, up to a limit.
+fn whole_reads(alloc: Global, source: &mut SourceMemory) -> [&'static str; 4] {
+    [
+        read(alloc, source, 0, 0, b""),
+        read(alloc, source, 69_998, 69_998, b""),
+        read(alloc, source, 9, 2, b"xx"),
+        read(alloc, source, 9, 0, b""),
+    ]
+}
+
+/// A source of so many bytes.
+fn long_source(alloc: Global) -> Result<SourceMemory, AllocError> {
     let text = vec![in alloc; b'x'; 70_000]?;
-    let mut source = SourceMemory::new(text, Vec::new(alloc));
-    let told = [
-        read(alloc, &mut source, 0, 0, b""),
-        read(alloc, &mut source, 69_998, 69_998, b""),
-        read(alloc, &mut source, 9, 2, b"xx"),
-        read(alloc, &mut source, 9, 0, b""),
-    ];
-    assert_eq!(rt; told, ["these"; 4]);
-    Ok(())
+    Ok(SourceMemory::new(text, Vec::new(alloc)))
+}
+
+/// Whether each read gives the bytes that are left, up to its limit.
+fn is_read_in_pieces(alloc: Global) -> bool {
+    match long_source(alloc) {
+        Ok(source) => {
+            let mut source = source;
+            whole_reads(alloc, &mut source) == ["these"; 4]
+        }
+        Err(_) => false,
+    }
 }
 
 #[test]
-fn a_source_that_fails_at_its_second_call_is_not_read_whole(rt: HostRuntime) -> Result<(), Fail> {
-    let mut source = source_of(rt.alloc(), b"abc", &[2])?;
-    assert_eq!(rt; read(rt.alloc(), &mut source, 9, 0, b""), "failed");
-    Ok(())
+fn a_whole_source_is_read_in_pieces_up_to_a_limit(rt: HostRuntime) {
+    assert!(rt; is_read_in_pieces(rt.alloc()));
+}
+
+/// What reading a source whole that fails at its second call answers.
+fn failed_read(alloc: Global) -> &'static str {
+    match source_of(alloc, b"abc", &[2]) {
+        Ok(source) => {
+            let mut source = source;
+            read(alloc, &mut source, 9, 0, b"")
+        }
+        Err(_) => "memory",
+    }
+}
+
+#[test]
+fn a_source_that_fails_at_its_second_call_is_not_read_whole(rt: HostRuntime) {
+    assert!(rt; failed_read(rt.alloc()) == "failed");
+}
+
+/// What a source over memory of std answers.
+fn read_from_memory(alloc: Global) -> &'static str {
+    let mut source = SourceStd::new(b"abc".as_slice());
+    read(alloc, &mut source, 9, 3, b"abc")
 }
 
 #[test]
 fn a_source_reads_memory_of_std(rt: HostRuntime) {
-    let mut source = SourceStd::new(b"abc".as_slice());
-    assert_eq!(rt; read(rt.alloc(), &mut source, 9, 3, b"abc"), "these");
+    assert!(rt; read_from_memory(rt.alloc()) == "these");
 }
 
-#[test]
-fn a_source_reads_a_real_file(rt: HostRuntime) -> Result<(), Fail> {
-    let alloc = rt.alloc();
-    fs::write(&rt, "source_std_file", b"abc".as_slice())?;
-    let mut source = SourceStd::new(File::open(&rt, "source_std_file")?);
-    let told = [
+/// What a source over a real file answers.
+fn read_from_file(alloc: Global, file: File) -> [&'static str; 3] {
+    let mut source = SourceStd::new(file);
+    [
         taken(alloc, &mut source, 2, b"ab"),
         taken(alloc, &mut source, 2, b"c"),
         taken(alloc, &mut source, 2, b""),
-    ];
-    assert_eq!(rt; told, ["these", "these", "end"]);
-    fs::remove_file(&rt, "source_std_file")?;
-    Ok(())
+    ]
+}
+
+/// Whether it gives all three bytes and then the end.
+fn reads_a_file(rt: &HostRuntime) -> io::Result<bool> {
+    fs::write(rt, "source_std_file", b"abc".as_slice())?;
+    let answers = read_from_file(rt.alloc(), File::open(rt, "source_std_file")?);
+    fs::remove_file(rt, "source_std_file")?;
+    Ok(answers == ["these", "these", "end"])
+}
+
+#[test]
+fn a_source_reads_a_real_file(rt: HostRuntime) {
+    assert!(rt; matches!(reads_a_file(&rt), Ok(true)));
 }

@@ -5,11 +5,11 @@ ghost use Rattle.co_disk.specs.DiskModel.{read_of};
 ghost use Rattle.co_disk.specs.Homes.{Agrees};
 
 use crate::disks::{Choice, Piece, attached, holds, leaves_of, write};
-use crate::words::{M1_A, home_of, put};
+use crate::words::{M1_A, no_files, put};
 use co_base::Leaves;
 use co_disk::{Disk, DiskFault};
 use co_outside::{HomeMemory, HomeTwist};
-use std::test::Fail;
+use std::alloc::Global;
 
 /// Writes twice, the second time over the end.
 fn write_twice(disk: &mut Disk, home: &mut HomeMemory) -> Result<(), DiskFault>
@@ -73,58 +73,92 @@ fn write_disarmed(disk: &mut Disk, home: &mut HomeMemory) -> Result<(), DiskFaul
     disk.sync(home)
 }
 
-#[test]
-fn a_disk_writes_through_and_reads_back(rt: HostRuntime) -> Result<(), Fail> {
-    let mut home = home_of(rt.alloc(), &[])?;
-    let Ok(mut disk) = attached(rt.alloc(), &mut home, b"abc") else {
-        return Err("no disk".into());
-    };
-    assert!(rt; holds(&disk, &home, b"abc"));
-    assert!(rt; is_written_through(&mut disk, &mut home));
-    Ok(())
+/// Whether a disk over a file has its bytes, writes through and reads back.
+fn writes_through(alloc: Global) -> bool {
+    let mut home = no_files(alloc);
+    match attached(alloc, &mut home, b"abc") {
+        Ok(disk) => {
+            let mut disk = disk;
+            holds(&disk, &home, b"abc") && is_written_through(&mut disk, &mut home)
+        }
+        Err(_) => false,
+    }
 }
 
 #[test]
-fn an_armed_call_stops_and_leaves_its_image(rt: HostRuntime) -> Result<(), Fail> {
-    let leaves = leaves_of(rt.alloc(), &Choice::Filled(b"P"))?;
-    let mut home = home_of(rt.alloc(), &[])?;
-    let Ok(mut disk) = attached(rt.alloc(), &mut home, b"abc") else {
-        return Err("no disk".into());
-    };
-    assert_eq!(rt; stopped_sync(&mut disk, &mut home, leaves), 2);
-    assert!(rt; holds(&disk, &home, b"aPc"));
-    Ok(())
+fn a_disk_writes_through_and_reads_back(rt: HostRuntime) {
+    assert!(rt; writes_through(rt.alloc()));
+}
+
+/// Whether the sync of a disk stops at its call and leaves this image.
+fn stops_at_its_call(alloc: Global, leaves: Leaves) -> bool {
+    let mut home = no_files(alloc);
+    match attached(alloc, &mut home, b"abc") {
+        Ok(disk) => {
+            let mut disk = disk;
+            stopped_sync(&mut disk, &mut home, leaves) == 2 && holds(&disk, &home, b"aPc")
+        }
+        Err(_) => false,
+    }
+}
+
+/// The same with an image of one byte.
+fn leaves_its_image(alloc: Global) -> bool {
+    match leaves_of(alloc, &Choice::Filled(b"P")) {
+        Ok(leaves) => stops_at_its_call(alloc, leaves),
+        Err(_) => false,
+    }
 }
 
 #[test]
-fn a_disarmed_disk_does_not_stop(rt: HostRuntime) -> Result<(), Fail> {
-    let mut home = home_of(rt.alloc(), &[])?;
-    let Ok(mut disk) = Disk::attach(rt.alloc(), &mut home, M1_A) else {
-        return Err("no disk".into());
-    };
-    assert!(rt; write_disarmed(&mut disk, &mut home).is_ok());
-    assert!(rt; home.bytes(M1_A) == b"X".as_slice());
-    Ok(())
+fn an_armed_call_stops_and_leaves_its_image(rt: HostRuntime) {
+    assert!(rt; leaves_its_image(rt.alloc()));
+}
+
+/// Whether a disk whose stop is taken away writes.
+fn writes_disarmed(alloc: Global) -> bool {
+    let mut home = no_files(alloc);
+    match Disk::attach(alloc, &mut home, M1_A) {
+        Ok(disk) => {
+            let mut disk = disk;
+            write_disarmed(&mut disk, &mut home).is_ok() && home.bytes(M1_A) == b"X".as_slice()
+        }
+        Err(_) => false,
+    }
 }
 
 #[test]
-fn a_changed_byte_is_named(rt: HostRuntime) -> Result<(), Fail> {
-    let mut inner = home_of(rt.alloc(), &[])?;
-    put(rt.alloc(), &mut inner, M1_A, b"abc")?;
+fn a_disarmed_disk_does_not_stop(rt: HostRuntime) {
+    assert!(rt; writes_disarmed(rt.alloc()));
+}
+
+/// Attaches a disk and reads its file again.
+fn reread(alloc: Global, home: &mut HomeTwist) -> Result<(), DiskFault> {
+    let mut disk = Disk::attach(alloc, home, M1_A)?;
+    disk.reread(home)
+}
+
+/// What a disk tells of a file of which the last byte has changed.
+fn told_of_change(alloc: Global) -> Result<(), DiskFault> {
+    let mut inner = no_files(alloc);
+    put(alloc, &mut inner, M1_A, b"abc")?;
     let mut home = HomeTwist::new(inner, M1_A, 2, b'?', 2);
-    let Ok(mut disk) = Disk::attach(rt.alloc(), &mut home, M1_A) else {
-        return Err("no disk".into());
-    };
-    let read = disk.reread(&mut home);
-    assert!(rt;
-        matches!(
-            read,
-            Err(DiskFault::Differs {
-                at: 2,
-                kept: Some(b'c'),
-                read: Some(b'?')
-            })
-        )
-    );
-    Ok(())
+    reread(alloc, &mut home)
+}
+
+/// Whether it names the byte.
+fn names_the_byte(alloc: Global) -> bool {
+    matches!(
+        told_of_change(alloc),
+        Err(DiskFault::Differs {
+            at: 2,
+            kept: Some(b'c'),
+            read: Some(b'?')
+        })
+    )
+}
+
+#[test]
+fn a_changed_byte_is_named(rt: HostRuntime) {
+    assert!(rt; names_the_byte(rt.alloc()));
 }

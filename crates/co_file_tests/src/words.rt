@@ -26,6 +26,11 @@ pub(crate) fn home_of(alloc: Global, fail: &[FailAt]) -> Result<HomeMemory, Allo
     Ok(HomeMemory::new(alloc, fail.to_vec(alloc)?))
 }
 
+/// A home in memory without files.
+pub(crate) fn no_files(alloc: Global) -> HomeMemory {
+    HomeMemory::new(alloc, Vec::new(alloc))
+}
+
 /// Puts a file into a home in memory.
 pub(crate) fn put(
     alloc: Global,

@@ -164,7 +164,7 @@ module _ (n k : ℕ) (some : 1 ≤ k) (P : ℕ → MemberState → Type 0) (Q : 
           by (inr p) = let e = f.numbers.commit_used c t p in let z : true ≡ false = sym e ∙ parts.1 in cc
 
   -- a prepare that was sent is of an own coordinator
-  asks_own : (t c m count : ℕ) → was_sent s.sent (message.Prepare t c m count) ≡ true → IsBetween c k
+  pub asks_own : (t c m count : ℕ) → was_sent s.sent (message.Prepare t c m count) ≡ true → IsBetween c k
   asks_own t c m count h = by (look s.sessions t) refl (f.sent.prepares t c m count h).0
     where
       home : (session : Session) → look s.sessions t ≡ Some session → (at : Node) → session.by ≡ at → same_node at (node.Coord c) ≡ true → IsBetween c k

@@ -17,7 +17,7 @@ use Rattle.co_law_base.proofs.Lookups.{is_nothing, look_none}
 use Rattle.co_law_moves.proofs.Own.{OwnFacts}
 use Rattle.co_law_moves.proofs.OwnRuns.{own_run}
 use Rattle.co_law_runs.specs.OnlyTimers.{AreOwn}
-use Rattle.co_law_runs.proofs.Fitting.{run_fits}
+use Rattle.co_law_runs.proofs.Fitting.{FitSessions, run_fits}
 use Rattle.co_law_node.specs.WholeNodes.{AreWhole}
 use Rattle.co_law_node.proofs.MemberLaws.{as_told, keeps_whole}
 use Rattle.co_law_node.proofs.CoordLaws.{coord_as_told, coord_keeps_whole, coord_stays_as}
@@ -25,7 +25,7 @@ use Rattle.co_law_node.proofs.WholeMoves.{Whole}
 use Rattle.co_law_node.proofs.MemberEvents.{whole_opened}
 use Rattle.co_law_node.proofs.WholeTables.{WholeTable}
 use Rattle.co_law_node.proofs.CoordEvents.{whole_coord_opened}
-use Rattle.co_law.proofs.NodeRuns.{HaveNodes, MayName, KeepAlways, visit_acts, end_acts, acts_nowhere, run_nodes}
+use Rattle.co_law.proofs.NodeRuns.{HaveNodes, MayName, KeepAlways, asks_own, visit_acts, end_acts, acts_nowhere, run_nodes}
 use Rattle.co_law.proofs.OwnStart.{start_own}
 
 -- whole nodes of a federation with so many members and coordinators
@@ -64,6 +64,10 @@ are_whole kinds coords fm fc hs some own members_allowed coords_allowed are_own 
       visited = λ t m session e. acts_nowhere s kept t m session (visit_acts (look s.sessions t) m session e);
       ended = λ t m session e. acts_nowhere s kept t m session (end_acts (look s.sessions t) session e);
       few = λ t m. few t m (look s.sessions t) refl;
+      prepares = λ t c m count sent. (
+        asks_own (length kinds) coords some (λ m x. Whole coords x) (λ c y. WholeTable (length kinds) y) (always_whole (length kinds) coords) s kept fits nodes t c m count sent,
+        (kept.sent.prepares t c m count sent).2,
+      );
     }
   where
     s : Federation
@@ -75,7 +79,9 @@ are_whole kinds coords fm fc hs some own members_allowed coords_allowed are_own 
     kept : OwnFacts s
     kept = own_run hs (opened kinds coords fm fc) (start_own kinds coords fm fc own members_allowed)
 
+    fits : FitSessions (length kinds) coords s.sessions
+    fits = (run_fits (length kinds) coords hs (opened kinds coords fm fc) (λ u other h. is_nothing (sym (look_none u) ∙ h)) are_own).sessions
+
     few : (t m : ℕ) (o : Option Session) → look s.sessions t ≡ o → count_at (told_in o) m ≤ most_operations
     few t m None e = omega arith
-    few t m (Some session) e =
-        ((run_fits (length kinds) coords hs (opened kinds coords fm fc) (λ u other h. is_nothing (sym (look_none u) ∙ h)) are_own).sessions t session e).few m
+    few t m (Some session) e = (fits t session e).few m

@@ -17,7 +17,8 @@ ghost use Rattle.co_law_node.specs.Writable.{IsWithinBounds};
 /// verdicts are handed, and where begins and operations name own nodes: every state has whole nodes. So every
 /// restart finds a log that is allowed, what a run leaves may be opened again, a node that is down is what its
 /// records tell, and an operation finds its transaction neither voted nor installed. No client is told of more than
-/// 1,024 operations of a transaction at a member.
+/// 1,024 operations of a transaction at a member, and each prepare that was sent names a coordinator of the federation and is about
+/// some operations.
 pub fn whole_nodes()
     ensures { (kinds : List Kind) (coords : ℕ) (found_member found_coord : ℕ → Found) (hs : List Happening) →
         1 ≤ coords → OnlyOwnLogs kinds coords found_member found_coord →

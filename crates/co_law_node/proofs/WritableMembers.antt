@@ -192,6 +192,9 @@ module _ (coords m : ℕ) (few : coords ≤ most_coordinators) (own : (1 ≤ m) 
       (each_entry (λ u vote. P (prepare_record u vote.coord vote.count vote.sets)) (entries x.engine.voted) (entries_sorted x.engine.voted)
       (λ u vote g. of (prepare_record u vote.coord vote.count vote.sets) (voted_bounded u vote (get-entries x.engine.voted u ∙ g))))
 
+  spare_bounded : (generation : ℕ) → AllByRecursion IsWithinBounds (member_spare m x generation)
+  spare_bounded generation = spare_of IsWithinBounds in_bounds generation (ordered-dumped_undos x.engine.kind x.engine)
+
   pub member_writable : IsWritableMember coords m x
   member_writable =
       record {
@@ -199,6 +202,7 @@ module _ (coords m : ℕ) (few : coords ≤ most_coordinators) (own : (1 ≤ m) 
         vote = yes_writable;
         alone = λ t carried some granted. (alone_writable t, (alone_may t carried some granted, tt));
         spare = λ generation fits. spare_of IsWritable (λ r h. h) generation (fits.rows, fits.undos, ordered-dumped_undos x.engine.kind x.engine, fits.committed);
+        spare_within = spare_bounded;
       }
 
   bounded_operation : (t carried : ℕ) (op : Op) → Bounded (member_op x t carried op).state
@@ -305,9 +309,6 @@ module _ (coords m : ℕ) (few : coords ≤ most_coordinators) (own : (1 ≤ m) 
       by : (c : Bool) → Bounded (restart_by x c).state
       by true = b
       by false = b
-
-  spare_bounded : (generation : ℕ) → AllByRecursion IsWithinBounds (member_spare m x generation)
-  spare_bounded generation = spare_of IsWithinBounds in_bounds generation (ordered-dumped_undos x.engine.kind x.engine)
 
   bounded_checkpoint : Bounded (member_checkpoint m x).state
   bounded_checkpoint = by x.log.spare_closed

@@ -56,6 +56,8 @@ pub record IsWritableMember (coords m : ℕ) (x : MemberState) : Type 0 where
       AllByRecursion IsWritable (log.Commit t [] ∷ prepare_record t local_coord (counted carried) (sets_of (operations_of x.engine t)) ∷ [])
   -- a filled spare: the checkpoint, and the votes that are told again
   pub spare : (generation : ℕ) → FitsCheckpoint x → AllByRecursion IsWritable (member_spare m x generation)
+  -- whatever the lists of its checkpoint count, all else of it is within its bounds
+  pub spare_within : (generation : ℕ) → AllByRecursion IsWithinBounds (member_spare m x generation)
 
 -- coordinator c
 pub record IsWritableCoord (c : ℕ) (y : CoordState) : Type 0 where

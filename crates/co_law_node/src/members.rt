@@ -24,7 +24,8 @@ pub fn opened_members_are_whole()
 
 /// What a whole member writes can be written, and stays so with each event: its records are within their bounds and in
 /// order, and so is the record of each vote that the rule grants, whatever its count was asked to be; the two records of
-/// a local commit; and a filled spare, where its lists are as short as a count of 32 bits tells.
+/// a local commit; and a filled spare, where its lists are as short as a count of 32 bits tells. Whatever they count, the undos of its
+/// checkpoint are in order, and the votes that it tells again can be written.
 pub fn members_stay_writable()
     ensures { (coords m : ℕ) (x : MemberState) → coords ≤ most_coordinators → IsAmong most_members m →
         IsWholeMember coords x → IsWritableMember coords m x → MemberStaysWritable coords m x }

@@ -1,5 +1,5 @@
 //! Parts of lent records, copied to be kept.
-ghost use Rattle.std.specs.Prelude.{◌≡◌, map, IfOk, IfSome, option_copied};
+ghost use Rattle.std.specs.Prelude.{◌≡◌, map, IfOk, IfSome, OnOk, option_copied};
 ghost use Rattle.std.specs.List.{AllByRecursion};
 ghost use Rattle.std.specs.Ordering.{is_gt};
 ghost use Rattle.std.specs.Prelude.{false};
@@ -159,15 +159,15 @@ pub(crate) fn numbers_of(alloc: Global, mut walk: TxnWalk<'_>) -> Result<Table<(
 /// Lays the changes of a lent record over the records.
 pub(crate) fn lay(
     alloc: Global,
-    records: RecordMap,
+    records: &mut RecordMap,
     mut walk: ChangeWalk<'_>,
-) -> Result<RecordMap, AllocError>
+) -> Result<(), AllocError>
     requires { AllByRecursion IsChange walk }
-    ensures { IfOk result (λ after. after ≡ with_changes records walk.entry) }
+    ensures { OnOk result (records.new ≡ with_changes records.old walk.entry) }
 {
-    let mut after = records;
     while let Some((key, value)) = walk.next() {
-        after.change(key_of(alloc, key)?, held_of(alloc, value)?)?;
+        let key = key_of(alloc, key)?;
+        records.change(key, held_of(alloc, value)?)?;
     }
-    Ok(after)
+    Ok(())
 }

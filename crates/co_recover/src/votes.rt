@@ -1,14 +1,14 @@
 //! The votes that stand, with their locks.
 ghost use Rattle.std.specs.Prelude.{◌≡◌, IfOk, false};
-ghost use Rattle.co_state.specs.Table.{no_entries, look, without, holds};
-ghost use Rattle.co_recover.specs.Locked.{with_vote};
+ghost use Rattle.co_state.specs.Table.{no_entries, look, put, without, holds};
+ghost use Rattle.co_recover.specs.Locked.{with_vote, without_values};
 
 use crate::locks::{hold, vote_against};
 use crate::owned::touched_of;
 use crate::vote::LentVote;
 use co_base::Txn;
 use co_locktab::LockTable;
-use co_state::Table;
+use co_state::{Sets, Table};
 use std::alloc::{AllocError, Global};
 use std::marker::Model;
 
@@ -72,17 +72,29 @@ impl<'a> LockedVotes<'a> {
         requires { holds self t ≡ false }
         ensures { IfOk result (λ after. after ≡ with_vote self.entry t vote.entry) }
     {
+        let sets = touched_of(alloc, &vote.sets)?;
+        if vote_against(&self.locks, t, &sets).is_some() {
+            return Ok(None);
+        }
+        match self.add(t, vote, &sets) {
+            Ok(after) => Ok(Some(after)),
+            Err(fault) => Err(fault),
+        }
+    }
+
+    /// One vote more, of a transaction that has none, which read and wrote what these sets say.
+    fn add(self, t: Txn, vote: LentVote<'a>, sets: &Sets) -> Result<LockedVotes<'a>, AllocError>
+        requires none { holds self t ≡ false }
+        requires sets { sets.now ≡ without_values vote.sets }
+        ensures { IfOk result (λ after. after ≡ put self.entry t vote.entry) }
+    {
         let LockedVotes {
             mut voted,
             mut locks,
         } = self;
-        let sets = touched_of(alloc, &vote.sets)?;
-        if vote_against(&locks, t, &sets).is_some() {
-            return Ok(None);
-        }
-        hold(&mut locks, t, &sets)?;
+        hold(&mut locks, t, sets)?;
         voted.insert(t, vote)?;
-        Ok(Some(LockedVotes { voted, locks }))
+        Ok(LockedVotes { voted, locks })
     }
 
     /// Takes out a vote with its locks; none where the transaction has no vote. Takes no memory.

@@ -1,8 +1,10 @@
+//! Walks of the graph of undecided transactions.
+ghost use Rattle.std.specs.Prelude.{◌≤◌};
+
 use co_base::Txn;
 use co_graph::Graph;
 use co_pairs::{Pair, PairKind};
-use std::alloc::Global;
-use std::test::Fail;
+use std::alloc::{AllocError, Global};
 
 fn pair(by: PairKind, first: u32, second: u32) -> Pair {
     Pair {
@@ -12,10 +14,8 @@ fn pair(by: PairKind, first: u32, second: u32) -> Pair {
     }
 }
 
-#[test]
-fn walks_go_in_ascending_order(rt: HostRuntime) -> Result<(), Fail> {
-    let alloc = rt.alloc();
-    let mut graph = Graph::new(alloc);
+/// Five transactions, the second of which is in conflict with each other one. The fourth has voted.
+fn add_conflicts(graph: &mut Graph) -> Result<(), AllocError> {
     for t in 1..6u32 {
         graph.note(Txn(t))?;
     }
@@ -28,53 +28,128 @@ fn walks_go_in_ascending_order(rt: HostRuntime) -> Result<(), Fail> {
         pair(PairKind::Reads, 2, 5),
     ])?;
     graph.voted(Txn(4));
-    let before: Vec<Txn> = graph.before(Txn(2)).collect(alloc)?;
-    assert_eq!(rt; before, [Txn(1), Txn(4), Txn(5)].to_vec(alloc)?);
-    let after: Vec<Txn> = graph.voted_after(Txn(2)).collect(alloc)?;
-    assert_eq!(rt; after, [Txn(4)].to_vec(alloc)?);
+    Ok(())
+}
+
+/// Whether the second one waits for these, in this order, and for no others.
+fn waits_for(graph: &Graph, wanted: &[u32]) -> bool {
+    let mut walk = graph.before(Txn(2));
+    for t in wanted {
+        if walk.next() != Some(Txn(*t)) {
+            return false;
+        }
+    }
+    walk.next().is_none()
+}
+
+/// Whether these voted ones wait for it, in this order, and no others.
+fn is_waited_for(graph: &Graph, wanted: &[u32]) -> bool {
+    let mut walk = graph.voted_after(Txn(2));
+    for t in wanted {
+        if walk.next() != Some(Txn(*t)) {
+            return false;
+        }
+    }
+    walk.next().is_none()
+}
+
+/// Whether that is so while it is active, once it has voted, and without two others.
+fn walks_ascend(graph: &mut Graph) -> bool {
+    if add_conflicts(graph).is_err()
+        || !waits_for(graph, &[1, 4, 5])
+        || !is_waited_for(graph, &[4])
+    {
+        return false;
+    }
     graph.voted(Txn(2));
-    let before: Vec<Txn> = graph.before(Txn(2)).collect(alloc)?;
-    assert_eq!(rt; before, [Txn(1), Txn(5)].to_vec(alloc)?);
+    if !waits_for(graph, &[1, 5]) {
+        return false;
+    }
     graph.remove(Txn(1));
     graph.remove(Txn(4));
-    assert_eq!(rt; graph.before(Txn(2)).next(), Some(Txn(5)));
-    assert_eq!(rt; graph.voted_after(Txn(2)).next(), None);
-    Ok(())
+    waits_for(graph, &[5]) && is_waited_for(graph, &[])
+}
+
+/// The same of a new graph.
+fn is_walked(alloc: Global) -> bool {
+    let mut graph = Graph::new(alloc);
+    walks_ascend(&mut graph)
+}
+
+#[test]
+fn walks_go_in_ascending_order(rt: HostRuntime) {
+    assert!(rt; is_walked(rt.alloc()));
 }
 
 /// How many transactions the long chain has.
 const MANY: u32 = 524_288;
 
-/// Each transaction of the chain read what the next one wrote, and every even one has voted.
-fn long_chain(alloc: Global) -> Result<Graph, Fail> {
-    let mut graph = Graph::new(alloc);
+/// A pair for each transaction of the chain: it read what the next one wrote.
+fn chain(alloc: Global) -> Result<Vec<Pair>, AllocError> {
     let mut pairs = Vec::new(alloc);
     for t in 1..MANY {
-        graph.note(Txn(t))?;
-        pairs.push(pair(PairKind::Reads, t, t + 1))?;
+        pairs.extend_from_slice(&[pair(PairKind::Reads, t, t + 1)])?;
     }
-    graph.note(Txn(MANY))?;
-    graph.add(pairs.as_slice())?;
+    Ok(pairs)
+}
+
+/// Adds the chain. Every even transaction has voted.
+fn add_chain(graph: &mut Graph, pairs: &[Pair]) -> Result<(), AllocError> {
+    for t in 1..MANY + 1 {
+        graph.note(Txn(t))?;
+    }
+    graph.add(pairs)?;
     for t in 1..MANY + 1 {
         if t % 2 == 0 {
             graph.voted(Txn(t));
         }
     }
-    Ok(graph)
+    Ok(())
 }
 
-#[test]
-fn a_long_chain_is_walked_in_time(rt: HostRuntime) -> Result<(), Fail> {
-    let mut graph = long_chain(rt.alloc())?;
+/// Whether the walks of a transaction of the chain begin with its neighbours.
+fn is_linked(graph: &Graph, t: u32) -> bool
+    requires { (1 ≤ t) × (t ≤ 524288) }
+{
+    let reader = if t == 1 { None } else { Some(Txn(t - 1)) };
+    let writer = if t % 2 == 0 { None } else { Some(Txn(t + 1)) };
+    graph.before(Txn(t)).next() == reader && graph.voted_after(Txn(t)).next() == writer
+}
+
+/// The first transaction whose walks do not, or 0 where nothing is left once all are taken out.
+fn first_unlinked(graph: &mut Graph) -> u32 {
     for t in 1..MANY + 1 {
-        let reader = if t == 1 { None } else { Some(Txn(t - 1)) };
-        assert_eq!(rt; graph.before(Txn(t)).next(), reader);
-        let writer = if t % 2 == 0 { None } else { Some(Txn(t + 1)) };
-        assert_eq!(rt; graph.voted_after(Txn(t)).next(), writer);
+        if !is_linked(graph, t) {
+            return t;
+        }
     }
     for t in 1..MANY + 1 {
         graph.remove(Txn(t));
     }
-    assert_eq!(rt; graph.before(Txn(2)).next(), None);
-    Ok(())
+    match graph.before(Txn(2)).next() {
+        Some(_) => MANY,
+        None => 0,
+    }
+}
+
+/// The same of the chain; the last one where there is no memory.
+fn first_unlinked_of(alloc: Global, pairs: &[Pair]) -> u32 {
+    let mut graph = Graph::new(alloc);
+    match add_chain(&mut graph, pairs) {
+        Ok(()) => first_unlinked(&mut graph),
+        Err(_) => MANY,
+    }
+}
+
+/// Whether each is linked.
+fn is_chain_walked(alloc: Global) -> bool {
+    match chain(alloc) {
+        Ok(pairs) => first_unlinked_of(alloc, &pairs) == 0,
+        Err(_) => false,
+    }
+}
+
+#[test]
+fn a_long_chain_is_walked_in_time(rt: HostRuntime) {
+    assert!(rt; is_chain_walked(rt.alloc()));
 }

@@ -1,5 +1,5 @@
 //! Who may begin and act.
-use co_base::{Key, Op, Parts, Reply, Txn, Txns, Value};
+use co_base::{Key, Node, Op, Parts, Reply, Txn, Txns, Value};
 use co_serial::Site;
 use co_session::{SessionFault, Sessions};
 use std::alloc::Global;
@@ -16,7 +16,14 @@ fn a_write(alloc: Global) -> Option<Op> {
 
 fn begin(sessions: &mut Sessions, t: Txn) -> bool {
     match sessions.may_begin(t) {
-        Ok(()) => sessions.begin(t, 2).is_ok(),
+        Ok(()) => sessions.begin(t, Node::Coord(2)).is_ok(),
+        Err(_) => false,
+    }
+}
+
+fn begin_local(sessions: &mut Sessions, t: Txn) -> bool {
+    match sessions.may_begin(t) {
+        Ok(()) => sessions.begin(t, Node::Member(1)).is_ok(),
         Err(_) => false,
     }
 }
@@ -34,7 +41,7 @@ fn write_at(alloc: Global, sessions: &mut Sessions, t: Txn, member: u8) -> bool 
     if sessions.carried(t, member) >= 1024 {
         return false;
     }
-    match sessions.may_act(t) {
+    match sessions.may_act(t, None) {
         Ok(_) => sessions
             .answered(t, Site { member, op }, Reply::Done)
             .is_ok(),
@@ -43,14 +50,14 @@ fn write_at(alloc: Global, sessions: &mut Sessions, t: Txn, member: u8) -> bool 
 }
 
 fn parts_of(sessions: &Sessions, t: Txn) -> Option<Parts> {
-    match sessions.may_act(t) {
+    match sessions.may_act(t, None) {
         Ok(_) => sessions.parts(t).ok(),
         Err(_) => None,
     }
 }
 
 fn ask(sessions: &mut Sessions, t: Txn) -> bool {
-    match sessions.may_act(t) {
+    match sessions.may_act(t, None) {
         Ok(_) => {
             sessions.asked(t);
             true
@@ -66,12 +73,29 @@ fn a_number_is_begun_once_and_acts_until_it_is_asked(rt: HostRuntime) {
         assert!(rt; false);
         return;
     };
-    assert!(rt; matches!(sessions.may_act(Txn(3)), Err(SessionFault::NotBegun)));
+    assert!(rt; matches!(sessions.may_act(Txn(3), None), Err(SessionFault::NotBegun)));
     assert!(rt; begin(&mut sessions, Txn(7)));
     assert!(rt; matches!(sessions.may_begin(Txn(7)), Err(SessionFault::Used)));
-    assert!(rt; matches!(sessions.may_act(Txn(7)), Ok(2)));
+    assert!(rt; matches!(sessions.may_act(Txn(7), None), Ok(Node::Coord(2))));
     assert!(rt; ask(&mut sessions, Txn(7)));
-    assert!(rt; matches!(sessions.may_act(Txn(7)), Err(SessionFault::Asked)));
+    assert!(rt; matches!(sessions.may_act(Txn(7), None), Err(SessionFault::Asked)));
+}
+
+#[test]
+fn a_local_transaction_stays_at_its_member(rt: HostRuntime) {
+    let alloc = rt.alloc();
+    let Some(mut sessions) = fresh(alloc) else {
+        assert!(rt; false);
+        return;
+    };
+    assert!(rt; matches!(sessions.may_begin(Txn(7)), Ok(())));
+    assert!(rt; begin_local(&mut sessions, Txn(7)));
+    assert!(rt; matches!(sessions.may_act(Txn(7), Some(1)), Ok(Node::Member(1))));
+    assert!(rt; matches!(sessions.may_act(Txn(7), Some(2)), Err(SessionFault::NotBegun)));
+    assert!(rt; matches!(sessions.may_act(Txn(7), None), Ok(Node::Member(1))));
+    assert!(rt; ask(&mut sessions, Txn(7)));
+    assert!(rt; matches!(sessions.may_act(Txn(7), Some(2)), Err(SessionFault::NotBegun)));
+    assert!(rt; matches!(sessions.may_act(Txn(7), Some(1)), Err(SessionFault::Asked)));
 }
 
 #[test]

@@ -1,10 +1,10 @@
 -- A list of entries read as a table.
 use Rattle.std.proofs.Common.{◌≡◌, ℕ, Bool, true, false, ◌||◌, cond, is_some, true≢false, ◌++◌, List, [], ◌∷◌, Option, None, Some, nat_eq, refl, sym, ap, ◌∙◌}
-use Rattle.std.specs.FinMap.{from_entries, get, get-from_entries, get-insert, same_map, nat_cmp-IsAntisymmetric, find}
+use Rattle.std.specs.FinMap.{from_entries, get-from_entries, get-insert, same_map, nat_cmp-IsAntisymmetric, find}
 use Rattle.std.specs.Ordering.{nat_cmp, eq_by_cmp}
 use Rattle.std.specs.Map.{lookup, keys_of}
 use Rattle.std.proofs.lemmas.Cmp.{nat_cmp_total}
-use Rattle.co_state.specs.Table.{Table, look, put}
+use Rattle.co_state.specs.Table.{look, put}
 use Rattle.co_state.proofs.Tables.{same_test, swap_test}
 
 module _ {X : Type 0} where

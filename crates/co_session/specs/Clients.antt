@@ -1,7 +1,6 @@
 -- What the clients did, as plain data.
-use Rattle.std.specs.Prelude.{ℕ, Bool, true, false, ◌≡◌, ◌==◌, ◌||◌, ◌+◌, ◌++◌, List, [], ◌∷◌, length, nat_le, if◌then◌else◌, Option, None, Some}
+use Rattle.std.specs.Prelude.{ℕ, Bool, ◌||◌, ◌+◌, ◌++◌, List, [], ◌∷◌, length, nat_le, Option, None, Some}
 use Rattle.co_base.specs.declared.node.Node.{Node}
-use Rattle.co_base.specs.declared.node.Node.TheVariants as node
 use Rattle.co_base.specs.declared.part.Part.{Part}
 use Rattle.co_state.specs.Table.{Table, look, put, holds, no_entries}
 use Rattle.co_plain.specs.declared.session.Session.{Session}
@@ -64,17 +63,10 @@ parts_at (Some session) = parts_of session.told
 abbrev pub parts_in : Clients → ℕ → List Part
 parts_in x t = parts_at (look x.sessions t)
 
--- whether the transaction was begun and asked to end
-abbrev pub is_asked_at : Option Session → Bool
-is_asked_at None = false
-is_asked_at (Some session) = session.asked
+-- the answered operations, newest first; none where the transaction was not begun
+abbrev pub told_of : Option Session → List Told
+told_of None = []
+told_of (Some session) = session.told
 
-abbrev pub is_asked_in : Clients → ℕ → Bool
-is_asked_in x t = is_asked_at (look x.sessions t)
-
--- the transaction was begun at this coordinator, and not asked to end
-pub record IsGranted (x : Clients) (t c : ℕ) : Type 0 where
-  pub session : Session
-  pub begun : look x.sessions t ≡ Some session
-  pub coordinator : session.by ≡ node.Coord c
-  pub unasked : session.asked ≡ false
+abbrev pub told_in : Clients → ℕ → List Told
+told_in x t = told_of (look x.sessions t)

@@ -1,8 +1,9 @@
 //! The client's side of one transaction.
-ghost use Rattle.std.specs.Prelude.{◌≡◌, ◌+◌, ◌<◌, ◌^◌, OnOk, OnErr, IfOk};
-ghost use Rattle.co_base.specs.declared.node.Node.TheVariants as node;
+ghost use Rattle.std.specs.Prelude.{◌≡◌, ◌+◌, ◌<◌, ◌^◌, reverse, OnOk, OnErr, IfOk};
 ghost use Rattle.co_plain.specs.Sessions.{count_at, parts_of, begun_by, with_told, asked_to_end};
+ghost use Rattle.co_session.specs.Leaves.{IsLeave, leave_of, may_be_at};
 
+use crate::fault::SessionFault;
 use co_base::{Node, Part, Parts};
 use co_plain::{Told, count_among, count_one};
 use std::alloc::{AllocError, Global};
@@ -21,8 +22,7 @@ pub struct Client {
 }
 
 impl Model for Client {
-    ghost use Rattle.std.specs.Prelude.{reverse, ◌≡◌, ℕ};
-    ghost use Rattle.co_base.specs.declared.node.Node.TheVariants as node;
+    ghost use Rattle.std.specs.Prelude.{reverse, ◌≡◌};
     ghost use Rattle.co_plain.specs.declared.session.Session.{Session};
     ghost use Rattle.co_plain.specs.Sessions.{parts_of};
 
@@ -30,37 +30,57 @@ impl Model for Client {
 
     ghost view = { λ c. record { by = c.by; told = reverse c.told.items; asked = c.asked } };
 
-    ghost invariant = { λ c. (c.counts.items ≡ parts_of (reverse c.told.items)) × ((number : ℕ) × (c.by ≡ node.Coord number)) };
+    ghost invariant = { λ c. c.counts.items ≡ parts_of (reverse c.told.items) };
+}
+
+/// Whether a transaction that this node decides may act at a member, or may end: a local one stays at its own member.
+fn may_be_at(by: Node, at: Option<u8>) -> bool
+    ensures { result ≡ may_be_at by at }
+{
+    match (by, at) {
+        (Node::Member(own), Some(member)) => own == member,
+        _ => true,
+    }
 }
 
 impl Client {
-    /// A transaction that was just begun at the coordinator of this number. Takes no memory.
-    pub(crate) fn begun(alloc: Global, coord: u8) -> Client
-        ensures { result ≡ begun_by (node.Coord coord) }
+    /// A transaction that was just begun, and that this node decides. Takes no memory.
+    pub(crate) fn begun(alloc: Global, by: Node) -> Client
+        ensures { result ≡ begun_by by }
     {
         Client {
-            by: Node::Coord(coord),
+            by,
             told: Vec::new(alloc),
             counts: Vec::new(alloc),
             asked: false,
         }
     }
 
-    /// The number of the coordinator.
-    pub(crate) fn coord(&self) -> u8
-        ensures { self.now.by ≡ node.Coord result }
+    /// The node that decides the transaction.
+    pub(crate) fn by(&self) -> Node
+        ensures { result ≡ self.now.by }
     {
-        match self.by {
-            Node::Coord(number) => number,
-            Node::Member(_) => unreachable!(),
-        }
+        self.by
     }
 
-    /// Whether the transaction was asked to end.
-    pub(crate) fn is_asked(&self) -> bool
-        ensures { result ≡ self.now.asked }
+    /// The answered operations, the first one first.
+    pub(crate) fn told(&self) -> &[Told]
+        ensures { result.now ≡ reverse self.now.told }
     {
-        self.asked
+        self.told.as_slice()
+    }
+
+    /// Whether its client may act at this member, or may ask for its end, and which node decides it.
+    pub(crate) fn may_act(&self, at: Option<u8>) -> Result<Node, SessionFault>
+        ensures { IsLeave (leave_of self.now at) result }
+    {
+        if !may_be_at(self.by, at) {
+            return Err(SessionFault::NotBegun);
+        }
+        if self.asked {
+            return Err(SessionFault::Asked);
+        }
+        Ok(self.by)
     }
 
     /// How many operations were answered at the member.

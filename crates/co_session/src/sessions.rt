@@ -1,13 +1,12 @@
 //! The sessions of this run.
-ghost use Rattle.std.specs.Prelude.{◌≡◌, ◌≢◌, ◌↔◌, ◌<◌, ◌≤◌, ℕ, true, false, Some, None, OnOk, OnErr, IfOk, IsOk, IsErrOf, is_some};
-ghost use Rattle.co_base.specs.declared.node.Node.TheVariants as node;
-ghost use Rattle.co_state.specs.Table.{look, holds};
-ghost use Rattle.co_plain.specs.Sessions.{count_at, parts_of};
-ghost use Rattle.co_session.specs.Clients.{Clients, is_used, is_full, none_begun, with_begun, with_answered, with_asked, carried_in, parts_in, IsGranted, is_asked_in};
+ghost use Rattle.std.specs.Prelude.{◌≡◌, ◌↔◌, ◌<◌, ◌≤◌, true, false, reverse, OnOk, OnErr, IfOk, IsOk, IsErrOf};
+ghost use Rattle.co_state.specs.Table.{holds};
+ghost use Rattle.co_session.specs.Clients.{is_used, is_full, none_begun, with_begun, with_answered, with_asked, carried_in, parts_in, told_in};
+ghost use Rattle.co_session.specs.Leaves.{IsLeave, leave_in};
 
 use crate::client::Client;
 use crate::fault::SessionFault;
-use co_base::{Parts, Reply, Txn, Txns};
+use co_base::{Node, Parts, Reply, Txn, Txns};
 use co_plain::Told;
 use co_serial::Site;
 use indexmap::IndexMap;
@@ -94,33 +93,38 @@ impl Sessions {
         self.begun.len() + used >= Sessions::MOST
     }
 
-    /// A client begins the transaction at a coordinator. `may_begin` said yes. Want of memory leaves the
-    /// sessions as they were.
-    pub fn begin(&mut self, t: Txn, coord: u8) -> Result<(), AllocError>
+    /// A client begins the transaction at the node that is to decide it: a coordinator, or the only member that it visits. `may_begin`
+    /// said yes. Want of memory leaves the sessions as they were.
+    pub fn begin(&mut self, t: Txn, by: Node) -> Result<(), AllocError>
         requires unused { is_used self.old t ≡ false }
         requires room { is_full self.old ≡ false }
-        ensures ok { OnOk result (self.new ≡ with_begun self.old t (node.Coord coord)) }
+        ensures ok { OnOk result (self.new ≡ with_begun self.old t by) }
         ensures err { OnErr result (self.new ≡ self.old) }
     {
-        self.begun.insert(t, Client::begun(self.alloc, coord))?;
+        self.begun.insert(t, Client::begun(self.alloc, by))?;
         Ok(())
     }
 
-    /// Whether a client may act in the transaction, and at which coordinator it was begun: `NotBegun` exactly
-    /// where it was not begun in this run, else `Asked` exactly where it was asked to end.
-    pub fn may_act(&self, t: Txn) -> Result<u8, SessionFault>
-        ensures ok { IfOk result (IsGranted self.now t) }
-        ensures not_begun { IsErrOf result SessionFault.NotBegun ↔ (holds self.now.sessions t ≡ false) }
-        ensures asked { IsErrOf result SessionFault.Asked ↔ (is_asked_in self.now t ≡ true) }
+    /// Whether a client may act in the transaction, at this member or to end it, and which node decides it: `NotBegun` exactly where it was not
+    /// begun in this run, or is local and the member is another one; else `Asked` exactly where it was asked to end.
+    pub fn may_act(&self, t: Txn, at: Option<u8>) -> Result<Node, SessionFault>
+        ensures leave { IsLeave (leave_in self.now t at) result }
+        ensures begun { OnOk result (holds self.now.sessions t ≡ true) }
     {
         match self.begun.get(&t) {
             None => Err(SessionFault::NotBegun),
-            Some(client) => {
-                if client.is_asked() {
-                    return Err(SessionFault::Asked);
-                }
-                Ok(client.coord())
-            }
+            Some(client) => client.may_act(at),
+        }
+    }
+
+    /// The operations of the transaction that were answered, each with its reply, the first one first; none where it was not begun in this
+    /// run. Takes no memory.
+    pub fn told(&self, t: Txn) -> &[Told]
+        ensures { result.now ≡ reverse (told_in self.now t) }
+    {
+        match self.begun.get(&t) {
+            None => &[],
+            Some(client) => client.told(),
         }
     }
 
@@ -160,7 +164,7 @@ impl Sessions {
         }
     }
 
-    /// The transaction was asked to end, and its coordinator answered. Takes no memory.
+    /// The transaction was asked to end, and its deciding node answered. Takes no memory.
     pub fn asked(&mut self, t: Txn)
         requires begun { holds self.old.sessions t ≡ true }
         ensures { self.new ≡ with_asked self.old t }

@@ -8,3 +8,4 @@ pub mod Restoring
 pub mod Standing
 pub mod Readings
 pub mod Following
+pub mod Voting

@@ -1,7 +1,9 @@
 -- What is kept of each undecided transaction beside its engine and the graph.
-use Rattle.std.specs.Prelude.{ℕ, Bool, true, false, nat_lt, List, length, Option, None, Some}
+use Rattle.std.specs.Prelude.{ℕ, Bool, true, false, nat_lt, List, [], ◌∷◌, ◌++◌, length, Option, None, Some}
 use Rattle.co_state.specs.declared.engine_state.EngineState.{EngineState}
+use Rattle.co_pairs.specs.declared.prepared.Prepared.{Prepared}
 use Rattle.co_state.specs.declared.engine_state.Operation.{Operation}
+use Rattle.co_state.specs.declared.engine_state.Sets.{Sets}
 use Rattle.co_state.specs.declared.engine_state.Vote.{Vote}
 use Rattle.co_state.specs.Table.{Table, look, put, least_where, lesser}
 use Rattle.co_plain.specs.declared.member_state.AskedMark.{AskedMark}
@@ -61,3 +63,12 @@ mark_at b t = mark_of (look b.active t) (look b.voted t)
 -- the least undecided transaction above a number
 abbrev pub next_open : EngineState → ℕ → Option ℕ
 next_open b after = lesser (least_where (λ u os. nat_lt after u) b.active) (least_where (λ u vote. nat_lt after u) b.voted)
+
+-- the vote of an entry, where it has one, and of each of these, with what they read and wrote
+abbrev pub vote_told : (ℕ → Sets) → ℕ → Entry → List Prepared
+vote_told sets t (Active kept asked) = []
+vote_told sets t (Voted coord count) = record { txn = t; coord = coord; count = count; sets = sets t } ∷ []
+
+abbrev pub votes_told : (ℕ → Sets) → List (ℕ × Entry) → List Prepared
+votes_told sets [] = []
+votes_told sets (e ∷ es) = vote_told sets e.0 e.1 ++ votes_told sets es

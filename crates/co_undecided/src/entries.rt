@@ -72,6 +72,14 @@ impl Entries {
     {
         let _ = self.entries.remove(&t);
     }
+
+    /// The entries in order. Takes no memory.
+    pub(crate) fn iter(&self) -> btree_map::Iter<'_, Txn, Entry>
+        ensures { result ≡ entries self.now }
+    {
+        self.entries.iter()
+    }
+
     /// The entries above a number, in order. Takes no memory.
     pub(crate) fn above(&self, after: Txn) -> btree_map::Range<'_, Txn, Entry>
         ensures { result ≡ filter (λ e. nat_lt after e.0) (entries self.now) }

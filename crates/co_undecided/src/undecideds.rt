@@ -1,6 +1,7 @@
 //! The undecided transactions.
-ghost use Rattle.std.specs.Prelude.{◌≡◌, ◌<◌, ◌+◌, IsTrue, false, List, ◌∷◌, IfOk, OnOk};
+ghost use Rattle.std.specs.Prelude.{◌≡◌, ◌<◌, ◌+◌, IsTrue, false, List, ◌∷◌, ◌++◌, Some, IfOk, OnOk};
 ghost use Rattle.co_pairs.specs.Free.{are_free};
+ghost use Rattle.co_pairs.specs.Votes.{voted_of};
 ghost use Rattle.co_pairs.specs.declared.prepared.Prepared.{Prepared};
 ghost use Rattle.co_engine.specs.Calls.{may_operate, seen_of, votes_of, AppendsNewPairs};
 ghost use Rattle.co_plain.specs.declared.member_state.AskedMark.{AskedMark};
@@ -10,7 +11,7 @@ ghost use Rattle.co_state.specs.EngineState.{is_undecided, sets_at};
 ghost use Rattle.co_state.specs.Table.{Table, no_entries, look, put, without, holds};
 ghost use Rattle.co_state.specs.VotingRule.{kept_count, vote_of};
 ghost use Rattle.co_vote.specs.Ballots.{verdict_of};
-ghost use Rattle.co_undecided.specs.Kept.{asked_in, coord_asked, kept_in, mark_at, next_open};
+ghost use Rattle.co_undecided.specs.Kept.{asked_in, coord_asked, kept_in, mark_at, next_open, vote_told};
 ghost use Rattle.co_undecided.specs.Represented.{Represents, HaveEntered, kept_at};
 
 use crate::entries::Entries;
@@ -18,7 +19,7 @@ use crate::entry::{Entry, asked_of, coord_of, voted_of};
 use co_base::{Kind, Op, Rows, Txn};
 use co_engine::{Dump, Engine, Seen};
 use co_graph::Graph;
-use co_pairs::{Pairs, Prepared, Sets};
+use co_pairs::{Pairs, Prepared, PreparedList, Sets};
 use co_plain::AskedMark;
 use co_vote::{Ballot, ballot};
 use std::alloc::{AllocError, Global};
@@ -174,6 +175,33 @@ impl<E: Engine> Undecideds<E> {
         ensures undos { (b : EngineState) (asked : Table AskedMark) → Represents E.stands_for self.now b asked → IfOk result (λ dump. dump.undos ≡ dumped_undos b.kind b) }
     {
         self.engine.dump(self.alloc)
+    }
+
+    /// Adds the vote of an entry, where it has one.
+    fn add_vote(&self, votes: &mut PreparedList, t: Txn, entry: &Entry) -> Result<(), AllocError>
+        ensures { (b : EngineState) (asked : Table AskedMark) → Represents E.stands_for self.now b asked → look self.now.entries t ≡ Some entry.now →
+            OnOk result (votes.new ≡ votes.old ++ vote_told (sets_at b) t entry.now) }
+    {
+        match entry {
+            Entry::Active { kept: _, asked: _ } => Ok(()),
+            Entry::Voted { coord, count } => votes.push(Prepared {
+                txn: t,
+                coord: *coord,
+                count: *count,
+                sets: self.sets(t).copy(self.alloc)?,
+            }),
+        }
+    }
+
+    /// The voted transactions, ascending by number, each with what it read and wrote here.
+    pub fn voted(&self) -> Result<PreparedList, AllocError>
+        ensures { (b : EngineState) (asked : Table AskedMark) → Represents E.stands_for self.now b asked → IfOk result (λ votes. votes ≡ voted_of b.voted) }
+    {
+        let mut votes = PreparedList::new(self.alloc);
+        for (t, entry) in self.entries.iter() {
+            self.add_vote(&mut votes, *t, entry)?;
+        }
+        Ok(votes)
     }
 
     /// An operation of a transaction that has neither voted nor been installed; fewer than 65,535 of its operations are kept.

@@ -1,4 +1,4 @@
-use Rattle.std.proofs.Common.{◌≡◌, ◌<◌, ◌+◌, ◌∙◌, ap, sym, subst, arith, reverse}
+use Rattle.std.proofs.Common.{◌≡◌, ◌∙◌, ap, arith, reverse}
 use Rattle.co_plain.specs.Sessions.{count_at}
 use Rattle.co_plain.specs.Sessions.{count_among}
 use Rattle.co_plain.proofs.Counts.{counts_told}
@@ -8,7 +8,7 @@ pub count_one-requires : goal.count_one-requires
 count_one-requires c =
     let m = c.args.told.site.member in
     let same : count_among c.self.inside.counts.items m ≡ count_at c.args.self.now.told m =
-    ap (λ ps. count_among ps m) c.self.invariant.0
+    ap (λ ps. count_among ps m) c.self.invariant
     ∙ counts_told (reverse c.self.inside.told.items) m
     ∙ ap (λ session. count_at session.told m) c.self.view_is in
     omega (arith, same, c.requires)

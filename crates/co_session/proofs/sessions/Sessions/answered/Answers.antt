@@ -1,10 +1,10 @@
-use Rattle.std.proofs.Common.{◌≡◌, ◌∙◌, ap, sym, refl, is_some, is_ok, None, Option, Some, Result, Ok, Err, OnOk, OnErr, true, false, ◌||◌, true≢false, nat_eq, arith}
+use Rattle.std.proofs.Common.{◌≡◌, ◌∙◌, ap, sym, is_some, Some, Result, Ok, Err, OnOk, OnErr, true≢false, nat_eq, arith}
 use Rattle.std.specs.FinMap.{from_entries}
 use Rattle.std.specs.Map.{keys_of, set_value}
-use Rattle.co_state.specs.Table.{look, put, holds}
+use Rattle.co_state.specs.Table.{look, put}
 use Rattle.co_plain.specs.declared.session.Told.{Told}
-use Rattle.co_plain.specs.Sessions.{with_told, asked_to_end}
-use Rattle.co_session.specs.Clients.{Clients, changed, with_asked, with_answered, carried_of}
+use Rattle.co_plain.specs.Sessions.{with_told}
+use Rattle.co_session.specs.Clients.{Clients, changed, with_answered, carried_of}
 use Rattle.co_session.proofs.Tables.{looked, rewritten}
 use Rattle.std.proofs.lemmas.Map.Steps.{set_value_same}
 use Rattle.co_session.proofs.sessions.Sessions.answered.Goals as goal

@@ -1,20 +1,17 @@
-use Rattle.std.proofs.Common.{◌≡◌, ◌∙◌, ◌++◌, ◌∷◌, [], ap, sym, refl, Bool, true, false, ◌||◌, is_some, None, Option, Some, true≢false, nat_eq}
+use Rattle.std.proofs.Common.{◌≡◌, ◌∙◌, ◌++◌, ◌∷◌, [], ap, sym, None, nat_eq}
 use Rattle.std.specs.FinMap.{from_entries}
 use Rattle.std.specs.Map.{keys_of, lookup}
-use Rattle.indexmap.specs.IndexMap.{get, keys}
 use Rattle.indexmap.proofs.CallerLemmas.{insert_entry-new}
-use Rattle.co_base.specs.declared.node.Node.TheVariants as node
-use Rattle.co_state.specs.Table.{look, put, holds}
-use Rattle.co_plain.specs.Numbers.{has_number}
+use Rattle.co_state.specs.Table.{put}
 use Rattle.co_plain.specs.Sessions.{begun_by}
-use Rattle.co_session.specs.Clients.{Clients, is_used, with_begun}
+use Rattle.co_session.specs.Clients.{is_used, with_begun}
 use Rattle.co_session.proofs.Tables.{looked, rewritten, none_from, keys_more, unused_absent}
 use Rattle.co_session.proofs.sessions.Sessions.begin.Goals as goal
 
 pub returns-clause-ok : goal.returns-clause-ok
 returns-clause-ok c =
     let es = c.self.inside.begun.entries in
-    let client = begun_by (node.Coord c.args.coord) in
+    let client = begun_by c.args.by in
     let absent : lookup (nat_eq c.args.t) es ≡ None =
     sym (looked es c.args.t) ∙ none_from (unused_absent _ _ (ap (λ x. is_used x c.args.t) c.self.view_is ∙ c.requires.unused)) in
     let table = rewritten es c.insert.new.self.entries c.args.t c.begun.result c.in_ok-insert.ensures.updates.0 in
@@ -26,4 +23,4 @@ returns-clause-ok c =
       begun = order i;
       used = c.self.inside.used;
     })
-    ∙ ap (λ x. with_begun x c.args.t (node.Coord c.args.coord)) c.self.view_is
+    ∙ ap (λ x. with_begun x c.args.t c.args.by) c.self.view_is

@@ -1,6 +1,6 @@
-use Rattle.std.proofs.Common.{◌≡◌, ◌∙◌, ap, sym, refl, Option, None, Some, Bool, true, false, is_some, true≢false}
+use Rattle.std.proofs.Common.{◌∙◌, ap, sym}
 use Rattle.co_state.specs.Table.{look}
-use Rattle.co_session.proofs.Tables.{looked, rewritten}
+use Rattle.co_session.proofs.Tables.{looked}
 use Rattle.co_session.specs.Clients.{carried_of}
 use Rattle.co_session.proofs.sessions.Sessions.carried.Goals as goal
 

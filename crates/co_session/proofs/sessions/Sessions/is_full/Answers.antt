@@ -1,4 +1,4 @@
-use Rattle.std.proofs.Common.{◌≡◌, ◌∙◌, ◌+◌, ap, sym, length, nat_le}
+use Rattle.std.proofs.Common.{◌∙◌, ◌+◌, ap, sym, length, nat_le}
 use Rattle.std.proofs.lemmas.List.{length-map}
 use Rattle.std.specs.Map.{keys_of}
 use Rattle.co_session.specs.Clients.{is_full}

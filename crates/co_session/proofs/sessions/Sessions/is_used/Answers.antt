@@ -1,4 +1,4 @@
-use Rattle.std.proofs.Common.{◌≡◌, ◌∙◌, ap, sym, is_some, Bool, ◌||◌}
+use Rattle.std.proofs.Common.{◌∙◌, ap, sym, is_some, ◌||◌}
 use Rattle.co_plain.specs.Numbers.{has_number}
 use Rattle.co_session.specs.Clients.{is_used}
 use Rattle.co_session.proofs.Tables.{looked}

@@ -1,46 +1,34 @@
-use Rattle.std.proofs.Common.{◌≡◌, ◌∙◌, ap, sym, refl, Option, None, Some, Bool, true, false, is_some, true≢false}
+use Rattle.std.proofs.Common.{ℕ, ◌≡◌, ◌∙◌, ap, sym, subst, refl, is_some, Option, None, Some, Result, Ok, Err, OnOk}
+use Rattle.co_plain.specs.Sessions.{leave_to_end, leave_to_visit}
+use Rattle.co_plain.specs.declared.session.Session.{Session}
 use Rattle.co_state.specs.Table.{look}
 use Rattle.co_session.proofs.Tables.{looked}
-use Rattle.co_state.specs.Table.{holds}
-use Rattle.co_session.specs.Clients.{is_asked_at}
-use Rattle.co_plain.specs.declared.session.Session.{Session}
+use Rattle.co_session.specs.Leaves.{IsLeave, leave_by}
+use Rattle.co_session.specs.declared.fault.SessionFault.TheVariants.{NotBegun}
 use Rattle.co_session.proofs.sessions.Sessions.may_act.Goals as goal
 
-module _ (c : goal.In-None) where
-  none : look c.args.self.now.sessions c.args.t ≡ None
-  none = ap (λ x. look x.sessions c.args.t) (sym c.self.view_is) ∙ looked c.self.inside.begun.entries c.args.t ∙ sym c.in-None.ensures.value
+-- who was not begun may not act anywhere
+absent : (session : Option Session) (at : Option ℕ) → session ≡ None → IsLeave (leave_by session at) (Err NotBegun)
+absent session None e = subst (λ s. IsLeave (leave_to_end s) (Err NotBegun)) (sym e) refl
+absent session (Some m) e = subst (λ s. IsLeave (leave_to_visit s m) (Err NotBegun)) (sym e) refl
 
-module _ (c : goal.Then-is_asked) where
-  was_asked : look c.args.self.now.sessions c.args.t ≡ Some c.in-Some.client.now
-  was_asked = ap (λ x. look x.sessions c.args.t) (sym c.self.view_is) ∙ looked c.self.inside.begun.entries c.args.t ∙ sym c.in-Some.ensures.value
+pub returns-in-None-clause-leave : goal.returns-in-None-clause-leave
+returns-in-None-clause-leave c =
+    absent (look c.args.self.now.sessions c.args.t) c.args.at
+    (ap (λ x. look x.sessions c.args.t) (sym c.self.view_is) ∙ looked c.self.inside.begun.entries c.args.t ∙ sym c.in-None.ensures.value)
 
-pub returns-in-None-clause-not_begun : goal.returns-in-None-clause-not_begun
-returns-in-None-clause-not_begun c = (λ _. ap is_some (none c), λ _. refl)
+pub returns-in-Some-clause-leave : goal.returns-in-Some-clause-leave
+returns-in-Some-clause-leave c =
+    let was : look c.args.self.now.sessions c.args.t ≡ Some c.in-Some.client.now =
+    ap (λ x. look x.sessions c.args.t) (sym c.self.view_is) ∙ looked c.self.inside.begun.entries c.args.t ∙ sym c.in-Some.ensures.value in
+    subst (λ session. IsLeave (leave_by session c.args.at) c.may_act.result) (sym was) c.may_act.ensures
 
-pub returns-in-None-clause-asked : goal.returns-in-None-clause-asked
-returns-in-None-clause-asked c = (λ e. absurd (cc), λ e. absurd (true≢false (sym e ∙ ap is_asked_at (none c))))
+on_any : {T E A : Type 0} (r : Result T E) → A → OnOk r A
+on_any (Ok x) a = a
+on_any (Err e) a = tt
 
-pub returns-then-is_asked-clause-not_begun : goal.returns-then-is_asked-clause-not_begun
-returns-then-is_asked-clause-not_begun c = (λ e. absurd (cc), λ e. absurd (true≢false (sym (ap is_some (was_asked c)) ∙ e)))
-
-pub returns-then-is_asked-clause-asked : goal.returns-then-is_asked-clause-asked
-returns-then-is_asked-clause-asked c = (λ _. ap is_asked_at (was_asked c) ∙ sym c.is_asked.ensures ∙ c.if-is_asked.true, λ _. refl)
-
-pub returns-else-is_asked-clause-ok : goal.returns-else-is_asked-clause-ok
-returns-else-is_asked-clause-ok c =
-    record {
-      session = c.in-Some.client.now;
-      begun = ap (λ x. look x.sessions c.args.t) (sym c.self.view_is) ∙ looked c.self.inside.begun.entries c.args.t ∙ sym c.in-Some.ensures.value;
-      coordinator = c.coord.ensures;
-      unasked = sym c.is_asked.ensures ∙ c.if-is_asked.false;
-    }
-
-pub returns-else-is_asked-clause-not_begun : goal.returns-else-is_asked-clause-not_begun
-returns-else-is_asked-clause-not_begun c =
-    let was = ap (λ x. look x.sessions c.args.t) (sym c.self.view_is) ∙ looked c.self.inside.begun.entries c.args.t ∙ sym c.in-Some.ensures.value in
-    (λ e. absurd (cc), λ e. absurd (true≢false (sym (ap is_some was) ∙ e)))
-
-pub returns-else-is_asked-clause-asked : goal.returns-else-is_asked-clause-asked
-returns-else-is_asked-clause-asked c =
-    let was = ap (λ x. look x.sessions c.args.t) (sym c.self.view_is) ∙ looked c.self.inside.begun.entries c.args.t ∙ sym c.in-Some.ensures.value in
-    (λ e. absurd (cc), λ e. absurd (true≢false (sym e ∙ ap is_asked_at was ∙ sym c.is_asked.ensures ∙ c.if-is_asked.false)))
+pub returns-in-Some-clause-begun : goal.returns-in-Some-clause-begun
+returns-in-Some-clause-begun c =
+    let was : look c.args.self.now.sessions c.args.t ≡ Some c.in-Some.client.now =
+    ap (λ x. look x.sessions c.args.t) (sym c.self.view_is) ∙ looked c.self.inside.begun.entries c.args.t ∙ sym c.in-Some.ensures.value in
+    on_any c.may_act.result (ap is_some was)

@@ -1,4 +1,4 @@
-use Rattle.std.proofs.Common.{◌≡◌, ◌∙◌, ap, sym}
+use Rattle.std.proofs.Common.{◌∙◌, ap, sym}
 use Rattle.co_state.specs.Table.{look}
 use Rattle.co_session.proofs.Tables.{looked}
 use Rattle.co_session.specs.Clients.{parts_at}

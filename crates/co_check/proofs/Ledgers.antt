@@ -1,0 +1,87 @@
+-- What a ledger keeps.
+use Rattle.std.proofs.Common.{◌≡◌, ℕ, ◌+◌, true, false, List, [], ◌∷◌, length, Option, None, Some, is_some, refl, sym, ap, ◌∙◌, subst, arith}
+use Rattle.co_base.specs.declared.node.Node.{Node}
+use Rattle.co_state.specs.Table.{look, put, without}
+use Rattle.co_state.proofs.Tables.{put-without}
+use Rattle.co_check.specs.declared.client.Answered.{Answered}
+use Rattle.co_check.specs.declared.client.Client.{Client}
+use Rattle.co_check.specs.declared.ledger.Ledger.{Ledger}
+use Rattle.co_check.specs.declared.place.Place.{Place}
+use Rattle.co_check.specs.Account.{Account, Committed, client_in, client_of, with_client, begun, begun_by, told, told_to, commits_at, committed_at, is_by}
+use Rattle.co_check.specs.Kept.{Keeps, IsChange, IsJudged, IsNext, Follows}
+use Rattle.co_check.specs.Shape.{Read}
+
+-- what is known of one transaction is another
+changed : (l mid new : Ledger) (a : Account) (t : ℕ) (client other : Client) → Keeps l a → mid ≡ record l { clients = without l.clients t } →
+    new ≡ record mid { clients = put mid.clients t client } → client ≡ other → Keeps new (with_client a t other)
+changed l mid new a t client other k m n e =
+    subst (λ z. Keeps z (with_client a t other)) (sym (n ∙ ap {A = Ledger} (λ z. record z { clients = put z.clients t client }) m))
+    (record { clients = put-without l.clients t client ∙ (λ i. put (k.clients i) t (e i)); count = k.count; judged = k.judged })
+
+known : (l : Ledger) (a : Account) (t : ℕ) → Keeps l a → client_in (look l.clients t) ≡ client_of a t
+known l a t k = ap (λ m. client_in (look m t)) k.clients
+
+pub begins_kept : (l mid new : Ledger) (a : Account) (t : ℕ) (by : Node) (client after : Client) → Keeps l a → is_some (client_in (look l.clients t)).by ≡ false →
+    client ≡ client_in (look l.clients t) → after ≡ record client { by = Some by } → mid ≡ record l { clients = without l.clients t } →
+    new ≡ record mid { clients = put mid.clients t after } → IsChange (begun a t by) true new
+begins_kept l mid new a t by client after k none c f m n = of (client_of a t).by refl
+  where
+    same : client ≡ client_of a t
+    same = c ∙ known l a t k
+
+    of : (o : Option Node) → (client_of a t).by ≡ o → IsChange (begun_by a t by (client_of a t) o) true new
+    of None e = (refl, changed l mid new a t after (record (client_of a t) { by = Some by }) k m n (f ∙ ap {A = Client} (λ z. record z { by = Some by }) same))
+    of (Some other) e = absurd (let z : true ≡ false = sym (ap is_some e) ∙ sym (ap {A = Client} (λ z. is_some z.by) (known l a t k)) ∙ none in cc)
+
+pub tells_kept : (l mid new : Ledger) (a : Account) (t : ℕ) (o : Answered) (client after : Client) → Keeps l a → (client_in (look l.clients t)).decided ≡ false →
+    client ≡ client_in (look l.clients t) → after ≡ record client { told = o ∷ client.told } → mid ≡ record l { clients = without l.clients t } →
+    new ≡ record mid { clients = put mid.clients t after } → Keeps new (told a t o)
+tells_kept l mid new a t o client after k undecided c f m n =
+    subst (λ b. Keeps new (told_to a t o (client_of a t) b)) (sym (ap {A = Client} (λ z. z.decided) (sym (known l a t k)) ∙ undecided))
+    (changed l mid new a t after (record (client_of a t) { told = o ∷ (client_of a t).told }) k m n (f ∙ ap {A = Client} (λ z. record z { told = o ∷ z.told }) (c ∙ known l a t k)))
+
+pub decided_stays : (l : Ledger) (a : Account) (t : ℕ) (o : Answered) → Keeps l a → (client_in (look l.clients t)).decided ≡ true → Keeps l (told a t o)
+decided_stays l a t o k e = subst (λ b. Keeps l (told_to a t o (client_of a t) b)) (sym (ap {A = Client} (λ z. z.decided) (sym (known l a t k)) ∙ e)) k
+
+pub commits_kept : (l mid ran new : Ledger) (a : Account) (t : ℕ) (at : Node) (client after : Client) → Keeps l a → is_by (client_in (look l.clients t)).by at ≡ true →
+    (client_in (look l.clients t)).decided ≡ false → client ≡ client_in (look l.clients t) → mid ≡ record l { clients = without l.clients t } →
+    ((committed : List Committed) → IsJudged mid.differs mid.map committed → IsJudged ran.differs ran.map (record { txn = t; told = client.told } ∷ committed)) →
+    ran.clients ≡ mid.clients → ran.transactions ≡ mid.transactions → after ≡ record { by = client.by; told = []; decided = true } →
+    new.clients ≡ put ran.clients t after → new.transactions ≡ ran.transactions + 1 → new.map ≡ ran.map → new.differs ≡ ran.differs →
+    IsChange (commits_at a t (client_of a t) (is_by (client_of a t).by at)) true new
+commits_kept l mid ran new a t at client after k decides undecided c m judged rc rt f nc nt nm nd =
+    subst (λ b. IsChange (commits_at a t (client_of a t) b) true new) (sym (ap {A = Client} (λ z. is_by z.by at) (sym same) ∙ decides))
+    (subst (λ b. IsChange (committed_at a t (client_of a t) b) true new) (sym (ap {A = Client} (λ z. z.decided) (sym same) ∙ undecided)) (refl, kept))
+  where
+    same : client_in (look l.clients t) ≡ client_of a t
+    same = known l a t k
+
+    is : client ≡ client_of a t
+    is = c ∙ same
+
+    newest : Committed
+    newest = record { txn = t; told = (client_of a t).told }
+
+    kept : Keeps new (record { clients = put a.clients t (record { by = (client_of a t).by; told = []; decided = true }); committed = newest ∷ a.committed })
+    kept =
+        record {
+          clients =
+              nc ∙ ap (λ z. put z t after) (rc ∙ ap {A = Ledger} (λ z. z.clients) m) ∙ put-without l.clients t after
+              ∙ (λ i. put (k.clients i) t ((f ∙ ap {A = Client} (λ z. record { by = z.by; told = []; decided = true }) is) i));
+          count = let e : ran.transactions ≡ length a.committed = rt ∙ ap {A = Ledger} (λ z. z.transactions) m ∙ k.count in omega (arith, nt, e);
+          judged =
+              subst (λ o. IsJudged o new.map (newest ∷ a.committed)) (sym nd)
+              (subst (λ z. IsJudged ran.differs z (newest ∷ a.committed)) (sym nm)
+              (subst (λ z. IsJudged ran.differs ran.map (record { txn = t; told = z } ∷ a.committed)) (ap {A = Client} (λ z. z.told) is)
+              (judged a.committed (subst {A = Ledger} (λ z. IsJudged z.differs z.map a.committed) (sym m) k.judged))));
+        }
+
+-- ---- lines
+
+pub taken : (o : Option Read) (place : Place) (l : Ledger) → IsNext o (Some place) l → (x : Read) × (o ≡ Some x) × Follows (record { place = place; ledger = l }) x
+taken None place l n = absurd n
+taken (Some x) place l n = (x, refl, record { place = n.0; account = n.1 })
+
+pub broken : (o : Option Read) (l : Ledger) → IsNext o None l → o ≡ None
+broken None l n = refl
+broken (Some x) l n = absurd n

@@ -1,0 +1,4 @@
+pub mod Serially
+pub mod Ledgers
+pub mod Running
+pub mod Reading

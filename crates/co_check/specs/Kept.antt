@@ -1,0 +1,37 @@
+-- For which account a ledger stands, and what one more line leaves of it.
+use Rattle.std.specs.Prelude.{Bool, true, false, ◌≡◌, List, length, Option, None, Some}
+use Rattle.co_serial.specs.Records.{Records}
+use Rattle.co_serial.specs.Family.{family_of}
+use Rattle.co_check.specs.declared.checker.Checker.{Checker}
+use Rattle.co_check.specs.declared.ledger.Difference.{Difference}
+use Rattle.co_check.specs.declared.ledger.Ledger.{Ledger}
+use Rattle.co_check.specs.declared.place.Place.{Place}
+use Rattle.co_check.specs.Account.{Account, Committed}
+use Rattle.co_check.specs.Serial.{IsSerial, IsFirstToDiffer, serial_after}
+use Rattle.co_check.specs.Shape.{Read}
+
+-- As long as no transaction differs, the records are those of the serial run; then the first that differs is kept.
+abbrev pub IsJudged : Option Difference → List Records → List Committed → Type 0
+IsJudged None map committed = IsSerial committed × (family_of map ≡ serial_after committed)
+IsJudged (Some d) map committed = IsFirstToDiffer committed d.txn d.at.number d.at.told d.at.serial
+
+pub record Keeps (l : Ledger) (a : Account) : Type 0 where
+  pub clients : l.clients ≡ a.clients
+  pub count : l.transactions ≡ length a.committed
+  pub judged : IsJudged l.differs l.map a.committed
+
+-- a change of the account that may break the shape: it is told whether it did not
+abbrev pub IsChange : Option Account → Bool → Ledger → Type 0
+IsChange None kept after = kept ≡ false
+IsChange (Some a) kept after = (kept ≡ true) × Keeps after a
+
+-- where the transcript stands behind one more line, or nothing where the line breaks its shape
+abbrev pub IsNext : Option Read → Option Place → Ledger → Type 0
+IsNext None None after = Unit {0}
+IsNext None (Some place) after = ⊥
+IsNext (Some r) None after = ⊥
+IsNext (Some r) (Some place) after = (place ≡ r.place) × Keeps after r.account
+
+pub record Follows (c : Checker) (r : Read) : Type 0 where
+  pub place : c.place ≡ r.place
+  pub account : Keeps c.ledger r.account

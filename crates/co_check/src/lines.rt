@@ -1,0 +1,96 @@
+//! The lines of a transcript.
+ghost use Rattle.std.specs.Prelude.{◌≡◌, ◌<◌, ◌≤◌, ◌+◌, ◌^◌, ℕ, List, Some, IsErrOf};
+ghost use Rattle.co_outside.specs.Faults.{HasRisen};
+ghost use Rattle.co_check.specs.Checked.{IsCheck};
+ghost use Rattle.co_check.specs.Taking.{HasTaken, IsWithin, IsStep, IsFurther, told_as, further_of, judged_of};
+
+use crate::checker::Checker;
+use crate::fault::CheckFault;
+use crate::verdict::Verdict;
+use co_outside::Source;
+use co_schedule::{Lines, LinesFault};
+use std::alloc::Global;
+
+/// The most bytes of a line, and the most lines.
+const MOST: u32 = 16_777_216;
+
+/// The fault of a reader of lines that gave none.
+fn of_lines(fault: LinesFault) -> CheckFault
+    ensures { result ≡ told_as fault }
+{
+    match fault {
+        LinesFault::Read => CheckFault::Read,
+        LinesFault::Long { line } => CheckFault::Long { line },
+        LinesFault::Many => CheckFault::Many,
+        LinesFault::Memory => CheckFault::Memory,
+    }
+}
+
+/// What one more line comes to.
+enum Step {
+    /// It is an item that keeps the shape.
+    Further(Checker),
+    /// There is none, and the transcript is whole.
+    Judged(Verdict),
+}
+
+/// The step of a line that was taken so.
+fn further(taken: Result<Checker, CheckFault>) -> Result<Step, CheckFault>
+    ensures { result ≡ further_of taken }
+{
+    Ok(Step::Further(taken?))
+}
+
+/// The step at the end.
+fn judged(verdict: Result<Verdict, CheckFault>) -> Result<Step, CheckFault>
+    ensures { result ≡ judged_of verdict }
+{
+    Ok(Step::Judged(verdict?))
+}
+
+/// Takes the next line, which has this number; where there is none, the transcript is judged.
+fn take_line<S: Source>(
+    alloc: Global,
+    lines: &mut Lines,
+    source: &mut S,
+    checker: Checker,
+    number: u32,
+) -> Result<Step, CheckFault>
+    requires few { checker.ledger.transactions + 1 < 2 ^ 32 }
+    requires within { IsWithin number lines.old }
+    ensures checked { (text : List ℕ) → HasTaken text lines.old (S.left source.old) checker → IsStep text lines.new (S.left source.new) result }
+    ensures further { IsFurther number checker lines.new result }
+    ensures counts { S.faults source.old ≤ S.faults source.new }
+    ensures read { IsErrOf result CheckFault.Read → HasRisen (S.faults source.old) (S.faults source.new) }
+    ensures quiet { (IsErrOf result CheckFault.Read → ⊥) → S.faults source.new ≡ S.faults source.old }
+{
+    match lines.next(source) {
+        Ok(Some(line)) => further(checker.line(alloc, number, line)),
+        Ok(None) => judged(checker.end(number)),
+        Err(fault) => Err(of_lines(fault)),
+    }
+}
+
+/// Reads a transcript from the source and tells whether its committed transactions read what the serial run reads.
+///
+/// `Serial` comes only where the transcript is well shaped and each committed transaction was answered, before its decision, as when run
+/// whole behind the earlier decisions; `Differs` names the first one, in the order of decisions, that was not, and its first such operation.
+/// `Text` names the first line that is no item or breaks the shape, or the line past the end where the last group is cut; `Long` names
+/// the first line of more than 16,777,216 bytes, and `Many` comes behind as many lines. `Read` comes where the source failed, and only there;
+/// `Memory` where there was none.
+pub fn check_items<S: Source>(alloc: Global, source: &mut S) -> Result<Verdict, CheckFault>
+    ensures checked { (text : List ℕ) → S.left source.old ≡ Some text → IsCheck text result }
+    ensures counts { S.faults source.old ≤ S.faults source.new }
+    ensures read { IsErrOf result CheckFault.Read → HasRisen (S.faults source.old) (S.faults source.new) }
+    ensures quiet { (IsErrOf result CheckFault.Read → ⊥) → S.faults source.new ≡ S.faults source.old }
+{
+    let mut lines = Lines::new(alloc, MOST, MOST)?;
+    let mut checker = Checker::new(alloc);
+    for number in 1..MOST + 2 {
+        match take_line(alloc, &mut lines, source, checker, number)? {
+            Step::Further(after) => checker = after,
+            Step::Judged(verdict) => return Ok(verdict),
+        }
+    }
+    unreachable!()
+}

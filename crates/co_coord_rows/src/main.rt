@@ -1,0 +1,74 @@
+//! Plays rows on a coordinator on its log and writes what each comes to: `co_coord_rows < rows`.
+//!
+//! A line that begins with `#` is a title, and a block begins behind it: a coordinator of three members over an empty directory in
+//! memory. Its rows are lines of a schedule under the head `members lock lock lock coords 1`, written as the items of a
+//! transcript. Only the coordinator is played: an operation makes its member a participant of its transaction, and what else is done at
+//! members comes to nothing. A message is brought whether it was sent or not.
+//!
+//! Other rows are `file a` and `file b` for the digits of a file of the coordinator, `random SEED COUNT` for so many random events, with
+//! how often the answers came, and `load COUNT ROUNDS`.
+//!
+//! Each event is played on the plain coordinator of the definitions too, and a block ends with whether it told the same.
+//!
+//! The stored input has the worked rows, and the stored output what is to come of them.
+#![tactic(auto)]
+
+mod blocks;
+mod calls;
+mod fault;
+mod fits;
+mod happening;
+mod load;
+mod opened;
+mod played;
+mod random;
+mod rows;
+mod session;
+mod texts;
+mod writes;
+
+use crate::blocks::put_block;
+use crate::fault::RowFault;
+use crate::texts::put_line;
+use co_outside::{SinkStd, SourceStd, put_all, read_all};
+use std::alloc::Global;
+use std::io;
+use std::process::ExitCode;
+
+/// The most bytes of the rows.
+const MOST_BYTES: u32 = 0x10_0000;
+
+/// What the rows of a text come to.
+fn told(alloc: Global, text: &[u8]) -> Result<Vec<u8>, RowFault> {
+    let mut out = Vec::new(alloc);
+    let mut rows = Vec::new(alloc);
+    for line in text.split(|b| *b == b'\n') {
+        if line.starts_with(b"#") {
+            if !rows.is_empty() {
+                put_block(alloc, &rows, &mut out)?;
+                rows = Vec::new(alloc);
+            }
+            put_line(line, &mut out)?;
+        } else if !line.is_empty() {
+            rows.push(line)?;
+        }
+    }
+    put_block(alloc, &rows, &mut out)?;
+    Ok(out)
+}
+
+fn main(rt: HostRuntime) -> io::Result<ExitCode> {
+    let alloc = rt.alloc();
+    let mut source = SourceStd::new(rt.stdin());
+    let Ok(text) = read_all(alloc, &mut source, MOST_BYTES) else {
+        return Ok(ExitCode::FAILURE);
+    };
+    let Ok(told) = told(alloc, &text) else {
+        return Ok(ExitCode::FAILURE);
+    };
+    let mut out = SinkStd::new(rt.stdout());
+    match put_all(alloc, &mut out, &told) {
+        Ok(()) => Ok(ExitCode::SUCCESS),
+        Err(_) => Ok(ExitCode::FAILURE),
+    }
+}

@@ -1,0 +1,77 @@
+//! What events came to, as items of a transcript, and files as digits.
+use crate::random::Counts;
+use co_base::Node;
+use co_coord::CoordStep;
+use co_message::{Item, ItemKind};
+use co_outside::{HomeMemory, Spot};
+use co_transcript::put_item;
+use std::alloc::{AllocError, Global};
+
+/// Appends a line.
+pub fn put_line(line: &[u8], out: &mut Vec<u8>) -> Result<(), AllocError> {
+    out.extend_from_slice(line)?;
+    Ok(out.push(b'\n')?)
+}
+
+/// Appends the event of a row.
+pub fn put_event(
+    alloc: Global,
+    number: u32,
+    row: &[u8],
+    out: &mut Vec<u8>,
+) -> Result<(), AllocError> {
+    let front = format!(in alloc; "{number} event ")?;
+    out.extend_from_slice(front.as_bytes())?;
+    put_line(row, out)
+}
+
+/// Appends what an event came to: what became stable, what was sent, and the answer.
+pub fn put_told(number: u32, told: CoordStep, out: &mut Vec<u8>) -> Result<(), AllocError> {
+    for mark in told.marks.as_slice() {
+        let what = ItemKind::Log(*mark);
+        put_item(&Item { number, what }, out)?;
+    }
+    for message in told.sent.as_slice() {
+        let what = ItemKind::Sent(*message);
+        put_item(&Item { number, what }, out)?;
+    }
+    let what = ItemKind::Answered(told.answer);
+    put_item(&Item { number, what }, out)
+}
+
+/// Appends the digits of a file of the coordinator.
+pub fn put_file(
+    alloc: Global,
+    home: &HomeMemory,
+    part: u8,
+    out: &mut Vec<u8>,
+) -> Result<(), AllocError> {
+    let node = Node::Coord(1).byte();
+    let digits = hex::encode(alloc, home.bytes(Spot { node, part }))?;
+    put_line(digits.as_bytes(), out)
+}
+
+/// Appends how often each answer came in random events.
+pub fn put_counts(alloc: Global, counts: Counts, out: &mut Vec<u8>) -> Result<(), AllocError> {
+    let Counts {
+        begun,
+        committed,
+        ended,
+        stopped,
+        up,
+        filled,
+        differs,
+    } = counts;
+    let first = format!(in alloc; "begun {begun}, committed {committed}, ended {ended}, ")?;
+    out.extend_from_slice(first.as_bytes())?;
+    let second = format!(in alloc;
+        "stopped {stopped}, up {up}, filled {filled}, differs {differs}"
+    )?;
+    put_line(second.as_bytes(), out)
+}
+
+/// Appends how many transactions ended beside open ones.
+pub fn put_ended(alloc: Global, ended: u32, out: &mut Vec<u8>) -> Result<(), AllocError> {
+    let text = format!(in alloc; "ended {ended}")?;
+    put_line(text.as_bytes(), out)
+}

@@ -1,0 +1,19 @@
+use Rattle.std.proofs.Common.{length, sym, ◌∙◌}
+use Rattle.co_outside.specs.HomeMemory.{memory_file, memory_bytes}
+use Rattle.co_log.proofs.Ordered.{found, found_fresh, found_ordered, ready_made}
+use Rattle.co_log_rows.proofs.logs.opened.Goals as goal
+
+pub make-requires-clause-fresh : goal.make-requires-clause-fresh
+make-requires-clause-fresh c =
+    (found_fresh c.in_ok-log.log (found c.args.node _ _ c.in_ok-log.log c.requires c.in_ok-log.ensures.attached) (sym c.fresh.ensures ∙ c.if-fresh.true)).0
+
+pub returns-then-fresh : goal.returns-then-fresh
+returns-then-fresh c =
+    ready_made (memory_file c.make.new.home) (λ s. length (memory_bytes c.make.new.home s)) c.in_ok-log.log c.make.new.self
+    (found_fresh c.in_ok-log.log (found c.args.node _ _ c.in_ok-log.log c.requires c.in_ok-log.ensures.attached) (sym c.fresh.ensures ∙ c.if-fresh.true))
+    c.in_ok-make.ensures.made c.in_ok-make.ensures.held
+
+pub returns-then-version-eq-NEWEST_VERSION : goal.returns-then-version-eq-NEWEST_VERSION
+returns-then-version-eq-NEWEST_VERSION c =
+    let one = found_ordered c.in_ok-log.log (found c.args.node _ _ c.in_ok-log.log c.requires c.in_ok-log.ensures.attached) (sym c.fresh.ensures ∙ c.if-fresh.false) in
+    record { held = c.in_ok-log.ensures.held; latest = sym c.version.ensures ∙ c.if-version-eq-NEWEST_VERSION.true; items = one.0; ordered = one.1 }

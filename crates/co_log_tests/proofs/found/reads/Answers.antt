@@ -1,7 +1,0 @@
-use Rattle.std.proofs.Common.{length}
-use Rattle.co_outside.specs.HomeMemory.{memory_file, memory_bytes}
-use Rattle.co_log_tests.proofs.Tested.{ready_records}
-use Rattle.co_log_tests.proofs.found.reads.Goals as goal
-
-pub lends-requires : goal.lends-requires
-lends-requires c = ready_records (memory_file c.opened.new.home) (λ s. length (memory_bytes c.opened.new.home s)) c.in-Ok.log c.in-Ok.ensures

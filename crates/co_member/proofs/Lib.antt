@@ -1,0 +1,12 @@
+pub mod Steps
+pub mod Standings
+pub mod Changing
+pub mod Carrying
+pub mod Directories
+pub mod Quiet
+pub mod Writable
+pub mod Least
+pub mod Operating
+pub mod Filling
+pub mod Restoring
+pub mod Checkpointing

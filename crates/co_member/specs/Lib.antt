@@ -1,0 +1,7 @@
+pub mod Plans
+pub mod Writing
+pub mod Standing
+pub mod Conditions
+pub mod Checkpoint
+pub mod Attaching
+pub mod Reading

@@ -1,0 +1,31 @@
+//! One member on its log, and what it does in each event.
+//!
+//! What it does is data first: a plan, by where the transaction stands and by the ballot on it. A plan says what the log is to get, what
+//! becomes of the transaction, what is answered and what is sent. It is made whole before anything is written, and carried out with its change
+//! in memory first, so that all memory that an event wants is taken before its log write; a stopped write leaves the member down. The rules
+//! are those of commitment ordering (Raz, *The principle of commitment ordering*, VLDB 1992) and of two-phase commit with presumed abort (Mohan, Lindsay
+//! and Obermarck, *Transaction Management in the R\* Distributed Database Management System*, TODS 1986).
+#![tactic(auto)]
+
+mod ballots;
+mod calls;
+mod checkpoint;
+mod deciding;
+mod delivery;
+mod laws;
+mod local;
+mod member;
+mod operation;
+mod plan;
+mod reading;
+mod restart;
+mod running;
+mod step;
+mod timers;
+mod writing;
+
+pub use laws::plans_are_steps;
+pub use member::Member;
+pub use plan::{Change, Plan, Writes};
+pub use running::Running;
+pub use step::MemberStep;

@@ -1,0 +1,145 @@
+//! The member on its log.
+ghost use Rattle.std.specs.Prelude.{◌≡◌, true, None, Some, IfOk, IfErr, OnOk};
+ghost use Rattle.co_base.specs.declared.head.Kind.{Kind};
+ghost use Rattle.co_base.specs.declared.node.Node.TheVariants as node;
+ghost use Rattle.co_log.specs.LogView.{IsHeld, IsShort};
+ghost use Rattle.co_log.specs.Others.{OtherNodesStay};
+ghost use Rattle.co_log.specs.declared.fault.NodeFault.TheVariants.{Memory};
+ghost use Rattle.co_message.specs.declared.answer.Answer.TheVariants as answer;
+ghost use Rattle.co_node.specs.Answers.{seen};
+ghost use Rattle.co_plain.specs.declared.member_state.MemberState.{MemberState};
+ghost use Rattle.co_member.specs.Plans.{changed, carried_out};
+ghost use Rattle.co_member.specs.Standing.{is_up, RepresentsMember, RepresentsRunning, HasDone, IsSame, Suits, written_by};
+ghost use Rattle.co_member.specs.Writing.{MayWrite, IsAnsweredFor};
+ghost use Rattle.co_member.specs.declared.plan.Writes.TheVariants.{Nothing};
+ghost use Rattle.co_member.specs.declared.running.Running.{Running};
+
+use crate::plan::{Change, Plan};
+use crate::running::Running;
+use crate::step::MemberStep;
+use crate::writing::write;
+use co_base::{Kind, Marks, Txn};
+use co_engine::Engine;
+use co_log::{Log, NodeFault};
+use co_message::Answer;
+use co_node::Written;
+use co_outside::Home;
+use std::alloc::{AllocError, Global};
+
+/// One member on its log.
+///
+/// `RepresentsMember` says for which plain members it stands, and each clause holds for every such one. After a fault it is only dropped.
+#[derive(Drop)]
+pub struct Member<E> {
+    pub(crate) alloc: Global,
+    pub(crate) number: u8,
+    pub(crate) kind: Kind,
+    pub(crate) coords: u8,
+    pub(crate) log: Log,
+    /// What it has in memory, while it is up.
+    pub(crate) running: Option<Running<E>>,
+}
+
+impl<E: Engine + Drop> Member<E> {
+    /// What a member that is up has in memory.
+    pub(crate) fn running(&self) -> &Running<E>
+        requires { is_up self.now ≡ true }
+        ensures { self.now.running ≡ Some result.now }
+    {
+        match &self.running {
+            Some(running) => running,
+            None => unreachable!(),
+        }
+    }
+
+    /// Changes a transaction as a plan says, while the member is up.
+    fn change(&mut self, t: Txn, change: Change) -> Result<(), AllocError>
+        requires { is_up self.old ≡ true }
+        ensures running { (x : MemberState) → RepresentsMember E.stands_for self.old x → Suits x t change →
+            OnOk result ((r : Running E) × (self.new.running ≡ Some r) × RepresentsRunning E.stands_for self.old.kind r (changed x t change)) }
+        ensures log { self.new.log ≡ self.old.log }
+        ensures same { IsSame self.old self.new }
+    {
+        match &mut self.running {
+            Some(running) => running.change(t, change),
+            None => unreachable!(),
+        }
+    }
+
+    /// A log write was stopped: what was in memory is lost, and the member is down.
+    pub(crate) fn stopped(&mut self, call: u8, marks: Marks) -> MemberStep
+        ensures step { result ≡ record { answer = answer.Stopped call; sent = None; marks = marks } }
+        ensures down { self.new.running ≡ None }
+        ensures log { self.new.log ≡ self.old.log }
+        ensures same { IsSame self.old self.new }
+    {
+        self.running = None;
+        MemberStep {
+            answer: Answer::Stopped(call),
+            sent: None,
+            marks,
+        }
+    }
+
+    /// Carries a plan out: its change in memory, for which there may be none, and then its log write. What a stopped write leaves is
+    /// what the log tells.
+    pub(crate) fn carry_out<H: Home>(
+        &mut self,
+        home: &mut H,
+        t: Txn,
+        plan: Plan,
+    ) -> Result<MemberStep, NodeFault>
+        requires up { is_up self.old ≡ true }
+        requires short { IsShort self.old.log.current × IsShort self.old.log.spare }
+        requires held { IsHeld (H.file home.old) (H.reach home.old) self.old.log }
+        requires stands { (x : MemberState) × RepresentsMember E.stands_for self.old x }
+        requires writes { MayWrite plan.writes }
+        ensures did { (x : MemberState) → RepresentsMember E.stands_for self.old x → Suits x t plan.change →
+            IfOk result (λ d. HasDone E.stands_for (carried_out self.old.number x t plan) d self.new) }
+        ensures answered { (x : MemberState) → RepresentsMember E.stands_for self.old x →
+            IsAnsweredFor plan.writes (node.Member self.old.number) x.log self.old.log self.new.log
+            (seen H.file H.reach H.faults H.last_failed home.old) (seen H.file H.reach H.faults H.last_failed home.new) (written_by result) }
+        ensures rest { OtherNodesStay H.file H.reach H.entered H.faults self.old.log.node home.old home.new }
+        ensures same { IsSame self.old self.new }
+    {
+        let Plan {
+            writes,
+            change,
+            answer,
+            sent,
+        } = plan;
+        self.change(t, change)?;
+        match write(self.alloc, &mut self.log, home, writes)? {
+            Written::Done { marks } => Ok(MemberStep {
+                answer,
+                sent,
+                marks,
+            }),
+            Written::Stopped { call, marks } => Ok(self.stopped(call, marks)),
+        }
+    }
+
+    /// Carries a plan out that writes nothing.
+    pub(crate) fn settle(&mut self, t: Txn, plan: Plan) -> Result<MemberStep, NodeFault>
+        requires up { is_up self.old ≡ true }
+        requires quiet { plan.writes ≡ Nothing }
+        ensures did { (x : MemberState) → RepresentsMember E.stands_for self.old x → Suits x t plan.change →
+            IfOk result (λ d. HasDone E.stands_for (carried_out self.old.number x t plan) d self.new) }
+        ensures memory { IfErr result (λ e. e ≡ Memory) }
+        ensures log { self.new.log ≡ self.old.log }
+        ensures same { IsSame self.old self.new }
+    {
+        let Plan {
+            writes: _,
+            change,
+            answer,
+            sent,
+        } = plan;
+        self.change(t, change)?;
+        Ok(MemberStep {
+            answer,
+            sent,
+            marks: Marks::new(self.alloc),
+        })
+    }
+}

@@ -1,0 +1,93 @@
+//! The plan of an event.
+ghost use Rattle.std.specs.Prelude.{◌≡◌};
+ghost use Rattle.co_member.specs.Plans.{says, sends, drops};
+
+use co_message::{Answer, Message};
+use co_record::Record;
+
+/// What becomes of a transaction.
+#[derive(Clone, Copy)]
+pub enum Change {
+    /// It stays what it is.
+    Stays,
+    /// It votes yes, as this coordinator asked, with so many operations.
+    Casts {
+        /// The coordinator that asked.
+        coord: u8,
+        /// How many operations were answered here.
+        count: u16,
+    },
+    /// It is dropped, where it is undecided.
+    Drops,
+    /// A voted one is committed.
+    Installs,
+    /// It votes yes and is committed at once.
+    CastsAndInstalls {
+        /// The coordinator that its record names.
+        coord: u8,
+        /// How many operations were answered here.
+        count: u16,
+    },
+}
+
+/// What the log is to get.
+#[derive(Drop)]
+pub enum Writes {
+    /// Nothing.
+    Nothing,
+    /// This record waits for the next log write.
+    Keeps(Record),
+    /// This record is forced, and the waiting ones in front of it.
+    Forces(Record),
+    /// These two records are forced in one log write, and the waiting ones in front of them.
+    ForcesBoth(Record, Record),
+}
+
+/// What an event does.
+#[derive(Drop)]
+pub struct Plan {
+    /// What the log is to get. Where its write is stopped, nothing else of the plan is left.
+    pub writes: Writes,
+    /// What becomes of the transaction.
+    pub change: Change,
+    /// What is answered.
+    pub answer: Answer,
+    /// What is sent.
+    pub sent: Option<Message>,
+}
+
+/// An answer alone.
+pub(crate) fn says(answer: Answer) -> Plan
+    ensures { result ≡ says answer }
+{
+    Plan {
+        writes: Writes::Nothing,
+        change: Change::Stays,
+        answer,
+        sent: None,
+    }
+}
+
+/// An answer and a message.
+pub(crate) fn sends(answer: Answer, message: Message) -> Plan
+    ensures { result ≡ sends answer message }
+{
+    Plan {
+        writes: Writes::Nothing,
+        change: Change::Stays,
+        answer,
+        sent: Some(message),
+    }
+}
+
+/// A transaction is dropped, and this is answered and sent.
+pub(crate) fn drops(answer: Answer, sent: Option<Message>) -> Plan
+    ensures { result ≡ drops answer sent }
+{
+    Plan {
+        writes: Writes::Nothing,
+        change: Change::Drops,
+        answer,
+        sent,
+    }
+}

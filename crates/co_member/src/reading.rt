@@ -1,0 +1,85 @@
+//! What a member tells of its transactions.
+ghost use Rattle.std.specs.Prelude.{◌≡◌, true, option_map};
+ghost use Rattle.co_plain.specs.MemberStep.{standing_of};
+ghost use Rattle.co_plain.specs.declared.member_state.MemberState.{MemberState};
+ghost use Rattle.co_state.specs.Table.{look};
+ghost use Rattle.co_undecided.specs.Kept.{coord_asked};
+ghost use Rattle.co_vote.specs.Ballots.{verdict_of};
+ghost use Rattle.co_member.specs.Reading.{phase_of, open_after, verdict_where};
+ghost use Rattle.co_member.specs.Standing.{is_up, RepresentsMember};
+
+use crate::member::Member;
+use co_base::Txn;
+use co_engine::Engine;
+use co_log::Log;
+use co_plain::Standing;
+use co_vote::{Ballot, Phase};
+
+/// Where a transaction stands, as its phase.
+fn phase_of(standing: Standing) -> Phase
+    ensures { result ≡ phase_of standing }
+{
+    match standing {
+        Standing::IsActive => Phase::Active,
+        Standing::IsVoted => Phase::Voted,
+        Standing::IsInstalled => Phase::Installed,
+        Standing::IsAbsent => Phase::Absent,
+    }
+}
+
+impl<E: Engine + Drop> Member<E> {
+    /// Whether the member runs.
+    pub fn up(&self) -> bool
+        ensures { result ≡ is_up self.now }
+    {
+        self.running.is_some()
+    }
+
+    /// The log.
+    pub fn log(&self) -> &Log
+        ensures { result.now ≡ self.now.log }
+    {
+        &self.log
+    }
+
+    /// Where a transaction stands here. Takes no memory.
+    pub fn knows(&self, t: Txn) -> Phase
+        requires up { is_up self.now ≡ true }
+        ensures { (x : MemberState) → RepresentsMember E.stands_for self.now x → result ≡ phase_of (standing_of x t) }
+    {
+        phase_of(self.running().standing(t))
+    }
+
+    /// The least undecided transaction above a number, or the least of all. Takes no memory.
+    pub fn open_after(&self, after: Option<Txn>) -> Option<Txn>
+        requires up { is_up self.now ≡ true }
+        ensures { (x : MemberState) → RepresentsMember E.stands_for self.now x → result ≡ open_after x.engine after }
+    {
+        let undecided = &self.running().undecided;
+        match after {
+            Some(t) => undecided.open_after(t),
+            None => match undecided.has_voted(Txn(0)) {
+                Some(_) => Some(Txn(0)),
+                None => undecided.open_after(Txn(0)),
+            },
+        }
+    }
+
+    /// The ballot on an active transaction whose vote was asked for and is held; none on another one. Takes no memory.
+    pub fn ballot_of(&self, t: Txn) -> Option<Ballot<'_>>
+        requires up { is_up self.now ≡ true }
+        ensures { (x : MemberState) → RepresentsMember E.stands_for self.now x → option_map verdict_of result ≡ verdict_where x.engine t (look x.asked t) }
+    {
+        let undecided = &self.running().undecided;
+        let mark = undecided.mark_of(t)?;
+        Some(undecided.ballot(t, mark.count))
+    }
+
+    /// The coordinator that asked for the vote of a voted transaction; none of another one. Takes no memory.
+    pub fn coord_of(&self, t: Txn) -> Option<u8>
+        requires up { is_up self.now ≡ true }
+        ensures { (x : MemberState) → RepresentsMember E.stands_for self.now x → result ≡ coord_asked (look x.engine.voted t) }
+    {
+        self.running().undecided.coord_of(t)
+    }
+}
