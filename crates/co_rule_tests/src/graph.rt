@@ -88,7 +88,7 @@ const MANY: u32 = 524_288;
 fn chain(alloc: Global) -> Result<Vec<Pair>, AllocError> {
     let mut pairs = Vec::new(alloc);
     for t in 1..MANY {
-        pairs.extend_from_slice(&[pair(PairKind::Reads, t, t + 1)])?;
+        pairs.push(pair(PairKind::Reads, t, t + 1))?;
     }
     Ok(pairs)
 }
