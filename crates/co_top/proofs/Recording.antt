@@ -3,14 +3,14 @@ use Rattle.std.proofs.Common.{◌≡◌, ◌⊎◌, inl, inr, ℕ, List, refl, a
 use Rattle.std.specs.Prelude.{OnOk, IfErr}
 use Rattle.co_outside.specs.declared.spot.Spot.{Spot}
 use Rattle.co_outside.specs.Home.{File}
-use Rattle.co_world.specs.declared.writing.RecordsFault.{RecordsFault}
-use Rattle.co_world.specs.declared.writing.RecordsFault.TheVariants as records
-use Rattle.co_world.specs.declared.durable.DurableRow.{DurableRow}
-use Rattle.co_world.specs.declared.fault.WorldFault.TheVariants as world
-use Rattle.co_world.specs.Durable.{IsDurable, IsUndurable}
-use Rattle.co_world.specs.Told.{AreTold}
-use Rattle.co_world.specs.Written.{HasDurable, IsRefusal}
-use Rattle.co_world.proofs.ReadOnce.{undurable_once, durable_or_not}
+use Rattle.co_durable.specs.declared.writing.RecordsFault.{RecordsFault}
+use Rattle.co_durable.specs.declared.writing.RecordsFault.TheVariants as records
+use Rattle.co_durable.specs.declared.durable.DurableRow.{DurableRow}
+use Rattle.co_durable.specs.declared.fault.WorldFault.TheVariants as world
+use Rattle.co_durable.specs.Durable.{IsDurable, IsUndurable}
+use Rattle.co_durable.specs.Told.{AreTold}
+use Rattle.co_durable.specs.Written.{HasDurable, IsRefusal}
+use Rattle.co_durable.proofs.ReadOnce.{undurable_once, durable_or_not}
 use Rattle.co_top.specs.declared.status.LimitKind.TheVariants as limit
 use Rattle.co_top.specs.declared.status.Status.{Status}
 use Rattle.co_top.specs.declared.status.Status.TheVariants as status

@@ -2,13 +2,13 @@
 use Rattle.std.specs.Prelude.{ℕ, ◌≡◌, ◌⊎◌, List, ◌++◌, Option, Some, Result, Ok, Err}
 use Rattle.co_outside.specs.declared.spot.Spot.{Spot}
 use Rattle.co_outside.specs.Home.{File}
-use Rattle.co_world.specs.declared.durable.DurableRow.{DurableRow}
-use Rattle.co_world.specs.declared.fault.WorldFault.TheVariants as world
-use Rattle.co_world.specs.declared.writing.RecordsFault.{RecordsFault}
-use Rattle.co_world.specs.declared.writing.RecordsFault.TheVariants as records
-use Rattle.co_world.specs.Durable.{IsDurable, IsUndurable}
-use Rattle.co_world.specs.Text.{records_text}
-use Rattle.co_world.specs.Written.{HasDurable, TookFront}
+use Rattle.co_durable.specs.declared.durable.DurableRow.{DurableRow}
+use Rattle.co_durable.specs.declared.fault.WorldFault.TheVariants as world
+use Rattle.co_durable.specs.declared.writing.RecordsFault.{RecordsFault}
+use Rattle.co_durable.specs.declared.writing.RecordsFault.TheVariants as records
+use Rattle.co_durable.specs.Durable.{IsDurable, IsUndurable}
+use Rattle.co_durable.specs.Text.{records_text}
+use Rattle.co_durable.specs.Written.{HasDurable, TookFront}
 use Rattle.co_top.specs.declared.status.LimitKind.TheVariants as limit
 use Rattle.co_top.specs.declared.status.Status.{Status}
 use Rattle.co_top.specs.declared.status.Status.TheVariants as status

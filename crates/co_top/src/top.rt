@@ -11,7 +11,7 @@ ghost use Rattle.co_top.specs.Ends.{Replays, HasEnd, IsEnd, IsPut, IsNoted, IsRe
 ghost use Rattle.co_top.specs.FirstPath.{ReadSerially, AreAcknowledged};
 ghost use Rattle.co_top.specs.Forms.{built_front, is_built_head};
 ghost use Rattle.co_top.specs.Input.{lines_within, within};
-ghost use Rattle.co_world.specs.Told.{AreTold};
+ghost use Rattle.co_durable.specs.Told.{AreTold};
 ghost use Rattle.co_top.specs.Records.{HasCause, IsExact, HoldsRecords};
 
 use crate::input::MOST_BYTES;

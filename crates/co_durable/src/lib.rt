@@ -1,0 +1,19 @@
+//! What the logs of a whole federation tell: its durable records, read and written as text.
+#![tactic(auto)]
+
+mod durable;
+mod fault;
+mod laws;
+mod laying;
+mod nodes;
+mod reading;
+mod records;
+mod recovering;
+mod text;
+mod writing;
+
+pub use durable::{Durable, DurableRow};
+pub use fault::WorldFault;
+pub use laws::directories_are_read_once;
+pub use records::read_durable;
+pub use writing::{RecordsFault, write_records};

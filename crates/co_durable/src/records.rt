@@ -1,0 +1,60 @@
+//! The durable records of a directory of logs.
+ghost use Rattle.std.specs.Prelude.{◌≡◌, ◌≤◌, IfOk, IfErr, IsErrOf, length};
+ghost use Rattle.co_outside.specs.declared.spot.Spot.{Spot};
+ghost use Rattle.co_disk.specs.Homes.{HasFailed};
+ghost use Rattle.co_durable.specs.Durable.{IsDurable, IsUndurable};
+ghost use Rattle.co_durable.specs.Reading.{OnlyReads};
+
+use crate::durable::Durable;
+use crate::fault::WorldFault;
+use crate::laying::durable_rows;
+use crate::reading::{read_coords, read_members};
+use crate::recovering::{recover_coords, recover_members};
+use co_base::Head;
+use co_outside::Home;
+use std::alloc::Global;
+
+/// The durable records of so many members and coordinators, by their logs.
+pub(crate) fn read_rows<H: Home>(
+    alloc: Global,
+    home: &mut H,
+    members: u8,
+    coords: u8,
+) -> Result<Durable, WorldFault>
+    requires members { members ≤ 16 }
+    requires coords { coords ≤ 8 }
+    ensures durable { IfOk result (IsDurable (H.file home.old) members coords) }
+    ensures undurable { IfErr result (IsUndurable (H.file home.old) members coords) }
+    ensures reads { OnlyReads H.file H.entered H.faults home.old home.new }
+    ensures device { (spot : Spot) → IsErrOf result (WorldFault.Device spot) → HasFailed H.faults H.last_failed spot home.old home.new }
+    ensures quiet { ((spot : Spot) → IsErrOf result (WorldFault.Device spot) → ⊥) → H.faults home.new ≡ H.faults home.old }
+{
+    let member_logs = read_members(alloc, home, members)?;
+    let coord_logs = read_coords(alloc, home, coords)?;
+    let pasts = recover_members(alloc, member_logs.as_slice(), coords)?;
+    let seen = recover_coords(alloc, coord_logs.as_slice(), members)?;
+    Ok(durable_rows(alloc, pasts.as_slice(), seen.as_slice())?)
+}
+
+/// The durable records of a federation with this head, by its logs in the directory that was entered. Writes
+/// no file.
+///
+/// The files are read in the order of nodes, members before coordinators, and of each node part `a` before
+/// part `b`. Then the records of every current file are told, in the same order. `Device` comes where the home
+/// failed, and only there; `Full` where a file has more than 268,435,456 bytes; `Bad` where the files of a node are no
+/// log, at the place of the first fault, and where all are logs but a record is not allowed at its place;
+/// `Memory` where there was none. `Differs`, `InUse`, `Count` and `Old` never come.
+pub fn read_durable<H: Home>(
+    alloc: Global,
+    home: &mut H,
+    head: &Head,
+) -> Result<Durable, WorldFault>
+    ensures durable { IfOk result (IsDurable (H.file home.old) (length head.now.kinds) head.now.coords) }
+    ensures undurable { IfErr result (IsUndurable (H.file home.old) (length head.now.kinds) head.now.coords) }
+    ensures reads { OnlyReads H.file H.entered H.faults home.old home.new }
+    ensures device { (spot : Spot) → IsErrOf result (WorldFault.Device spot) → HasFailed H.faults H.last_failed spot home.old home.new }
+    ensures quiet { ((spot : Spot) → IsErrOf result (WorldFault.Device spot) → ⊥) → H.faults home.new ≡ H.faults home.old }
+{
+    let members = head.kinds.len() as u8;
+    read_rows(alloc, home, members, head.coords)
+}

@@ -1,0 +1,124 @@
+//! The text of the durable records of a whole directory, written to a sink.
+ghost use Rattle.std.specs.Prelude.{◌≡◌, ◌≤◌, ◌++◌, ◌⊎◌, ℕ, List, Some, take, OnOk, OnErr, IfOk, IfErr, IsErrOf};
+ghost use Rattle.co_outside.specs.declared.spot.Spot.{Spot};
+ghost use Rattle.co_disk.specs.Homes.{HasFailed};
+ghost use Rattle.co_outside.specs.Faults.{HasRisen};
+ghost use Rattle.co_durable.specs.declared.durable.DurableRow.{DurableRow};
+ghost use Rattle.co_durable.specs.Durable.{IsDurable, IsUndurable};
+ghost use Rattle.co_durable.specs.Text.{records_text};
+ghost use Rattle.co_durable.specs.Written.{refusal_of, IsOfReading, HasDurable, IsRefusal, IsFront};
+
+use crate::durable::Durable;
+use crate::fault::WorldFault;
+use crate::records::read_rows;
+use crate::text::put_records;
+use co_outside::{Home, HomeFault, Sink, SinkFault, Spot};
+use std::alloc::Global;
+use thiserror::Error;
+
+/// How many members a directory of logs may have.
+const MEMBERS: u8 = 16;
+
+/// How many coordinators a directory of logs may have.
+const COORDS: u8 = 8;
+
+/// Why the durable records of a directory were not written whole.
+#[derive(Debug, Drop, Error)]
+pub enum RecordsFault {
+    /// The sink failed.
+    #[error("the sink failed")]
+    Write,
+    /// The directory failed at this file; where it was not entered this is `m1.a`.
+    #[error("the directory of logs failed at {spot}")]
+    Device {
+        spot: Spot,
+    },
+    /// The file is no log.
+    #[error("{spot} is no log: place {at}")]
+    Bad {
+        spot: Spot,
+        /// The place of the first fault, in bytes from the front.
+        at: u32,
+    },
+    /// The file has more than 268,435,456 bytes.
+    #[error("{spot} is too long")]
+    Full {
+        spot: Spot,
+    },
+    /// There was no memory.
+    #[error("out of memory")]
+    Memory,
+}
+
+/// Why there are no records to be written.
+fn refusal(fault: WorldFault) -> RecordsFault
+    requires { IsOfReading fault }
+    ensures { result ≡ refusal_of fault }
+{
+    match fault {
+        WorldFault::Device { spot } => RecordsFault::Device { spot },
+        WorldFault::Bad { spot, at } => RecordsFault::Bad { spot, at },
+        WorldFault::Full { spot } => RecordsFault::Full { spot },
+        WorldFault::Memory => RecordsFault::Memory,
+        WorldFault::Differs { .. }
+        | WorldFault::InUse { .. }
+        | WorldFault::Count
+        | WorldFault::Old { .. } => unreachable!(),
+    }
+}
+
+/// The durable records of all logs in a directory.
+fn read_directory<H: Home>(alloc: Global, home: &mut H, dir: &str) -> Result<Durable, RecordsFault>
+    ensures durable { IfOk result (IsDurable (H.file home.old) 16 8) }
+    ensures refused { IfErr result (IsRefusal (H.file home.old)) }
+    ensures write { IsErrOf result RecordsFault.Write → ⊥ }
+    ensures files { (s : Spot) → H.file home.new s ≡ H.file home.old s }
+    ensures entered { OnOk result (H.entered home.new ≡ Some dir.now) }
+    ensures device { (spot : Spot) → IsErrOf result (RecordsFault.Device spot) → HasFailed H.faults H.last_failed spot home.old home.new }
+    ensures quiet { ((spot : Spot) → IsErrOf result (RecordsFault.Device spot) → ⊥) → H.faults home.new ≡ H.faults home.old }
+{
+    match home.enter(alloc, dir) {
+        Ok(()) => match read_rows(alloc, home, MEMBERS, COORDS) {
+            Ok(rows) => Ok(rows),
+            Err(fault) => Err(refusal(fault)),
+        },
+        Err(HomeFault::Failed) => Err(RecordsFault::Device { spot: Spot::FIRST }),
+        Err(HomeFault::Memory) => Err(RecordsFault::Memory),
+    }
+}
+
+/// Writes the durable records of all logs in a directory, of 16 members and 8 coordinators: one line
+/// `NODE KEY VALUE` for each, members ascending and the keys of each member ascending. The directory is
+/// entered, and made where it is missing; no file is written.
+///
+/// `Write` comes where the sink failed and its count of faults rose, and only there. `Device`, `Bad`, `Full` and
+/// `Memory` come as `read_durable` says, and `Device` with `m1.a` where the directory could not be entered;
+/// with these nothing is written, but for `Memory`, which may come with a front of the text.
+pub fn write_records<H: Home, K: Sink>(
+    alloc: Global,
+    home: &mut H,
+    dir: &str,
+    out: &mut K,
+) -> Result<(), RecordsFault>
+    ensures read { OnOk result (HasDurable (H.file home.old)) }
+    ensures written { (held : List ℕ) → K.told out.old ≡ Some held →
+        OnOk result ((rows : List DurableRow) × IsDurable (H.file home.old) 16 8 rows × (K.told out.new ≡ Some (held ++ records_text rows))) }
+    ensures front { (held : List ℕ) → K.told out.old ≡ Some held → IfErr result (IsFront (H.file home.old) held (K.told out.new)) }
+    ensures refused { IfErr result (IsRefusal (H.file home.old)) }
+    ensures files { (s : Spot) → H.file home.new s ≡ H.file home.old s }
+    ensures entered { OnOk result (H.entered home.new ≡ Some dir.now) }
+    ensures device { (spot : Spot) → IsErrOf result (RecordsFault.Device spot) → HasFailed H.faults H.last_failed spot home.old home.new }
+    ensures quiet { ((spot : Spot) → IsErrOf result (RecordsFault.Device spot) → ⊥) → H.faults home.new ≡ H.faults home.old }
+    ensures counts { K.faults out.old ≤ K.faults out.new }
+    ensures write { IsErrOf result RecordsFault.Write → HasRisen (K.faults out.old) (K.faults out.new) }
+    ensures silent { (IsErrOf result RecordsFault.Write → ⊥) → K.faults out.new ≡ K.faults out.old }
+{
+    match read_directory(alloc, home, dir) {
+        Ok(rows) => match put_records(alloc, out, rows.as_slice()) {
+            Ok(()) => Ok(()),
+            Err(SinkFault::Failed) => Err(RecordsFault::Write),
+            Err(SinkFault::Memory) => Err(RecordsFault::Memory),
+        },
+        Err(fault) => Err(fault),
+    }
+}

@@ -1,5 +1,0 @@
-use Rattle.std.proofs.Common.{refl}
-use Rattle.co_world.proofs.reading.read_log.Goals as goal
-
-pub returns-in-Err-Device-clause-quiet : goal.returns-in-Err-Device-clause-quiet
-returns-in-Err-Device-clause-quiet g c = λ quiet. absurd (quiet c.in-Err-Device.spot refl)

@@ -1,7 +1,0 @@
-use Rattle.std.proofs.Common.{take}
-use Rattle.co_world.specs.Pairs.{EachPair}
-use Rattle.co_world.specs.Recovering.{IsPastOf}
-use Rattle.co_world.proofs.recovering.recover_members.Given as goal
-
-abbrev pub invariant-loop-log : goal.invariant-loop-log
-invariant-loop-log l = EachPair (IsPastOf l.coords) (take l.log-index l.logs) l.pasts.items
