@@ -1,0 +1,3 @@
+pub mod Nodes
+pub mod Found
+pub mod Opened

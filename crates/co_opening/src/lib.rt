@@ -1,0 +1,10 @@
+//! The nodes of a federation, opened over a directory of logs: what was found there is what they stand for.
+//!
+//! All logs are read before any is judged by its records, and all are judged before any file is written.
+#![tactic(auto)]
+
+mod nodes;
+mod opening;
+
+pub use nodes::Nodes;
+pub use opening::open_nodes;

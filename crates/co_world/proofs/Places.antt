@@ -1,0 +1,52 @@
+-- A list of nodes beside a family by number: the node at each place goes with the entry of the next number.
+use Rattle.std.proofs.Common.{◌≡◌, T, ℕ, zero, suc, ◌<◌, ◌≢◌, eqb→eq, eq-eqb, Bool, true, false, if◌then◌else◌, List, [], ◌∷◌, length, set, slice_get, get_or, Option, None, Some, refl, sym, ap, ◌∙◌, subst, arith, pred}
+use Rattle.std.specs.Prelude.{◌==◌}
+use Rattle.co_serial.specs.SerialRun.{with_at}
+
+module _ {M X : Type 0} (R : ℕ → M → X → Type 0) where
+  abbrev pub Each : List M → (ℕ → X) → Type 0
+  Each ms f = (p : ℕ) (m : M) → slice_get ms p ≡ Some m → R p m (f (suc p))
+
+some_is : {A : Type 0} {a b : A} → Some a ≡ Some b → a ≡ b
+some_is e = grind (arith, e)
+
+set_same : {M : Type 0} (ms : List M) (p : ℕ) (m q : M) → slice_get (set ms p m) p ≡ Some q → m ≡ q
+set_same [] zero m q e = absurd (let w : None ≡ Some q = e in cc)
+set_same [] (suc p) m q e = absurd (let w : None ≡ Some q = e in cc)
+set_same (x ∷ ms) zero m q e = some_is e
+set_same (x ∷ ms) (suc p) m q e = set_same ms p m q e
+
+set_other : {M : Type 0} (ms : List M) (p i : ℕ) (m : M) → p ≢ i → slice_get (set ms p m) i ≡ slice_get ms i
+set_other [] p i m h = refl
+set_other (x ∷ ms) zero zero m h = absurd (h refl)
+set_other (x ∷ ms) zero (suc i) m h = refl
+set_other (x ∷ ms) (suc p) zero m h = refl
+set_other (x ∷ ms) (suc p) (suc i) m h = set_other ms p i m (λ e. h (ap suc e))
+
+at_same : {X : Type 0} (f : ℕ → X) (k : ℕ) (x : X) → with_at f k x k ≡ x
+at_same f k x = by (k == k) refl
+  where
+    by : (b : Bool) → (k == k) ≡ b → (if b then x else f k) ≡ x
+    by true e = refl
+    by false e = absurd (let w : (k == k) ≡ true = eq-eqb k k refl in cc)
+
+at_other : {X : Type 0} (f : ℕ → X) (k i : ℕ) (x : X) → k ≢ i → with_at f k x i ≡ f i
+at_other f k i x h = by (k == i) refl
+  where
+    by : (b : Bool) → (k == i) ≡ b → (if b then x else f i) ≡ f i
+    by true e = absurd (h (eqb→eq k i (subst T (sym e) tt)))
+    by false e = refl
+
+module _ {M X : Type 0} (R : ℕ → M → X → Type 0) where
+  -- one node is another one, and so is the entry of its number
+  pub each_changed : (ms : List M) (f : ℕ → X) (p : ℕ) (m : M) (x : X) → Each R ms f → R p m x → Each R (set ms p m) (with_at f (suc p) x)
+  each_changed ms f p m x each at i q is = by (p == i) refl
+    where
+      by : (b : Bool) → (p == i) ≡ b → R i q (with_at f (suc p) x (suc i))
+      by true e =
+          let same : p ≡ i = eqb→eq p i (subst T (sym e) tt) in
+          subst (λ j. slice_get (set ms p m) j ≡ Some q → R j q (with_at f (suc p) x (suc j))) same
+          (λ found. subst (λ n. R p n (with_at f (suc p) x (suc p))) (set_same ms p m q found) (subst (λ y. R p m y) (sym (at_same f (suc p) x)) at)) is
+      by false e =
+          let other : p ≢ i = λ same. let w : (p == i) ≡ true = eq-eqb p i same in absurd (let z : false ≡ true = sym e ∙ w in cc) in
+          subst (λ y. R i q y) (sym (at_other f (suc p) (suc i) x (λ same. other (ap pred same)))) (each i q (sym (set_other ms p i m other) ∙ is))

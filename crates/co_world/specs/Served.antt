@@ -1,0 +1,51 @@
+-- How a call leaves the directory, by its answer.
+use Rattle.std.specs.Prelude.{◌≡◌, Result, Ok, Err}
+use Rattle.co_outside.specs.declared.spot.Spot.{Spot}
+use Rattle.co_outside.specs.Faults.{HasRisen}
+use Rattle.co_base.specs.declared.node.Node.{Node}
+use Rattle.co_disk.specs.Homes.{IsClean}
+use Rattle.co_log.specs.LogView.{LogView}
+use Rattle.co_log.specs.declared.fault.NodeFault.{NodeFault}
+use Rattle.co_log.specs.declared.fault.NodeFault.TheVariants as log
+use Rattle.co_node.specs.Answers.{HomeView}
+use Rattle.co_durable.specs.declared.fault.WorldFault.{WorldFault}
+use Rattle.co_durable.specs.declared.fault.WorldFault.TheVariants as world
+use Rattle.co_opening.specs.Nodes.{IsKept, AreKept}
+use Rattle.co_world.specs.declared.world.World.{World}
+
+-- The log of the node is held, no file that was clean is not, and no fault was met.
+pub record IsServed (node : Node) (log : LogView) (old new : HomeView) : Type 0 where
+  pub kept : IsKept new.file new.reach node log
+  pub clean : (s : Spot) → IsClean (old.file s) → IsClean (new.file s)
+  pub quiet : new.faults ≡ old.faults
+
+-- so are the logs of all nodes
+pub record AreServed {E : Type 0} (w : World E) (old new : HomeView) : Type 0 where
+  pub kept : AreKept new.file new.reach w.members.items w.coords.items
+  pub clean : (s : Spot) → IsClean (old.file s) → IsClean (new.file s)
+  pub quiet : new.faults ≡ old.faults
+
+-- the directory failed at this file, or no fault was met
+abbrev pub HasFailedAs : NodeFault → HomeView → HomeView → Type 0
+HasFailedAs (log.Device spot) old new = HasRisen old.faults new.faults × (new.last_failed ≡ spot)
+HasFailedAs (log.Differs spot at kept read) old new = new.faults ≡ old.faults
+HasFailedAs (log.Full spot) old new = new.faults ≡ old.faults
+HasFailedAs log.Memory old new = new.faults ≡ old.faults
+
+-- The fault of a node is that of its federation.
+abbrev pub of_node : NodeFault → WorldFault
+of_node (log.Device spot) = world.Device spot
+of_node (log.Differs spot at kept read) = world.Differs spot at kept read
+of_node (log.Full spot) = world.Full spot
+of_node log.Memory = world.Memory
+
+-- So is how the directory failed then. An event is refused for none of the faults of opening; the limit on numbers is met where no call of the directory was made.
+abbrev pub HasEndedAs : WorldFault → HomeView → HomeView → Type 0
+HasEndedAs (world.Device spot) old new = HasRisen old.faults new.faults × (new.last_failed ≡ spot)
+HasEndedAs (world.Differs spot at kept read) old new = new.faults ≡ old.faults
+HasEndedAs (world.InUse spot) old new = ⊥
+HasEndedAs (world.Bad spot at) old new = ⊥
+HasEndedAs (world.Full spot) old new = new.faults ≡ old.faults
+HasEndedAs world.Count old new = new ≡ old
+HasEndedAs (world.Old spot) old new = ⊥
+HasEndedAs world.Memory old new = new.faults ≡ old.faults

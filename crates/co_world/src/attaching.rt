@@ -1,0 +1,62 @@
+//! A federation is opened over a directory of logs.
+ghost use Rattle.std.specs.Prelude.{◌≡◌, length, IfOk, IfErr, IsErrOf};
+ghost use Rattle.std.specs.List.{AllByRecursion};
+ghost use Rattle.co_outside.specs.declared.spot.Spot.{Spot};
+ghost use Rattle.co_disk.specs.Homes.{HasFailed, IsClean};
+ghost use Rattle.co_opening.specs.Opened.{IsUnopened, IsOfFound};
+ghost use Rattle.co_world.specs.Attached.{IsAttachedOver};
+ghost use Rattle.co_world.specs.Standing.{AreHeld};
+
+use crate::telling::items_of;
+use crate::world::World;
+use co_base::Head;
+use co_durable::WorldFault;
+use co_engine::Engine;
+use co_message::{Answer, Items, Wire};
+use co_opening::{Nodes, open_nodes};
+use co_outside::Home;
+use co_session::Sessions;
+use std::alloc::Global;
+
+impl<E: Engine + Drop> World<E> {
+    /// Opens the federation of a head over the logs in the directory that was entered: over fresh ones, or, where it is resumed, over those that a run left. Gives the
+    /// headers that were made, and the answer `open`, as items of the first line.
+    ///
+    /// `InUse` comes exactly where a file has more than one byte and the run is not resumed. Where it is resumed, `Bad` and `Full` come as `read_durable`
+    /// says, `Old` where a current file is of version 1, and `Count` where more than 65,536 numbers stand in the logs; with these nothing is
+    /// written. `Device` comes where the directory failed, and only there. `Differs` never comes.
+    pub fn attach<H: Home>(
+        alloc: Global,
+        home: &mut H,
+        head: &Head,
+        resume: bool,
+    ) -> Result<(World<E>, Items), WorldFault>
+        requires kinds { AllByRecursion E.takes head.now.kinds }
+        ensures opened { IfOk result (λ r. IsAttachedOver E.takes E.stands_for (H.file home.old) head.now resume r.0 r.1) }
+        ensures held { IfOk result (λ r. AreHeld (H.file home.new) (H.reach home.new) r.0) }
+        ensures clean { IfOk result (λ r. (s : Spot) → IsClean (H.file home.old s) → IsClean (H.file home.new s)) }
+        ensures head { IfOk result (λ r. (length r.0.members.items ≡ length head.now.kinds) × (length r.0.coords.items ≡ head.now.coords)) }
+        ensures refused { IfErr result (IsUnopened (H.file home.old) head.now resume) }
+        ensures untouched { IfErr result (λ fault. IsOfFound fault → (s : Spot) → H.file home.new s ≡ H.file home.old s) }
+        ensures entered { H.entered home.new ≡ H.entered home.old }
+        ensures device { (spot : Spot) → IsErrOf result (WorldFault.Device spot) → HasFailed H.faults H.last_failed spot home.old home.new }
+        ensures quiet { ((spot : Spot) → IsErrOf result (WorldFault.Device spot) → ⊥) → H.faults home.new ≡ H.faults home.old }
+    {
+        let Nodes {
+            members,
+            coords,
+            used,
+            marks,
+        } = open_nodes(alloc, home, head, resume)?;
+        let items = items_of(alloc, 1, marks.as_slice(), &[], Answer::Opened)?;
+        let sessions = Sessions::attach(alloc, used)?;
+        let world = World {
+            alloc,
+            members,
+            coords,
+            sessions,
+            wire: Wire::new(alloc),
+        };
+        Ok((world, items))
+    }
+}

@@ -1,0 +1,302 @@
+//! What clients ask: to begin, to operate and to end.
+ghost use Rattle.std.specs.Prelude.{◌≡◌, ◌≤◌, ℕ, Option, true, false, Some, length, IfOk, IfErr, IsErrOf, OnOk, ◌↔◌};
+ghost use Rattle.co_durable.specs.declared.fault.WorldFault.TheVariants as world;
+ghost use Rattle.co_message.specs.declared.answer.Answer.{Answer};
+ghost use Rattle.co_message.specs.declared.event.Event.TheVariants as event;
+ghost use Rattle.co_outside.specs.Home.{File};
+ghost use Rattle.co_outside.specs.declared.spot.Spot.{Spot};
+ghost use Rattle.co_plain.specs.Federation.{Federation};
+ghost use Rattle.co_plain.specs.Runs.{numbered};
+ghost use Rattle.co_plain.specs.Sessions.{Grants, leave_to_visit, count_at, parts_of};
+ghost use Rattle.co_plain.specs.Step.{is_stopped, is_held, reply_in, operate, coord_answers, local_answers, step_line};
+ghost use Rattle.co_plain.specs.declared.session.Session.{Session};
+ghost use Rattle.co_session.specs.Clients.{is_used, is_full};
+ghost use Rattle.co_session.specs.Leaves.{refusal_of};
+ghost use Rattle.co_state.specs.Table.{look};
+ghost use Rattle.co_world.specs.Calls.{coord_asked, coord_does, member_asked, member_does, ended};
+ghost use Rattle.co_world.specs.Conditions.{IsReady};
+ghost use Rattle.co_world.specs.Counting.{IsOneMore};
+ghost use Rattle.co_node.specs.Answers.{seen, HomeView};
+ghost use Rattle.co_world.specs.Served.{AreServed, HasEndedAs};
+ghost use Rattle.co_world.specs.Standing.{RepresentsWorld, AreHeld};
+
+use crate::calls::{CoordCall, MemberCall};
+use crate::faults::of_node;
+use crate::world::World;
+use co_base::{Node, Op, Parts, Reply, Rows, Txn};
+use co_durable::WorldFault;
+use co_engine::Engine;
+use co_message::{Answer, Items};
+use co_outside::Home;
+use co_plain::copy_rows;
+use co_serial::Site;
+use co_session::SessionFault;
+use std::alloc::{AllocError, Global};
+
+/// How a client ends a transaction.
+#[derive(Clone, Copy)]
+pub(crate) enum Ending {
+    Commit,
+    Abort,
+}
+
+/// What a coordinator is asked for where a client ends a transaction.
+fn coord_call(ending: Ending, txn: Txn, parts: Parts) -> CoordCall
+    ensures { result ≡ coord_asked ending txn parts }
+{
+    match ending {
+        Ending::Commit => CoordCall::Commit { txn, parts },
+        Ending::Abort => CoordCall::Abort { txn, parts },
+    }
+}
+
+/// What a member is asked for where a client ends a local transaction.
+fn member_call(ending: Ending, txn: Txn, carried: u16) -> MemberCall
+    ensures { result ≡ member_asked ending txn carried }
+{
+    match ending {
+        Ending::Commit => MemberCall::LocalCommit { txn, carried },
+        Ending::Abort => MemberCall::LocalAbort(txn),
+    }
+}
+
+/// Whether the node was stopped.
+fn is_stopped(answer: &Answer) -> bool
+    ensures { result ≡ is_stopped answer.now }
+{
+    matches!(answer, Answer::Stopped(_))
+}
+
+/// Whether the answer is that the vote is held.
+fn is_held(answer: &Answer) -> bool
+    ensures { result ≡ is_held answer.now }
+{
+    matches!(answer, Answer::Held(_))
+}
+
+/// The answer to a client that may not act.
+fn refusal(fault: SessionFault) -> Answer
+    requires { (a : Answer) × (refusal_of fault ≡ Some a) }
+    ensures { refusal_of fault ≡ Some result }
+{
+    match fault {
+        SessionFault::Used => Answer::Used,
+        SessionFault::NotBegun => Answer::NotBegun,
+        SessionFault::Asked => Answer::Asked,
+        SessionFault::Count => unreachable!(),
+    }
+}
+
+/// The reply of an answer, where it has one.
+fn reply_in(alloc: Global, answer: &Answer) -> Result<Option<Reply>, AllocError>
+    ensures { IfOk result (λ reply. reply ≡ reply_in answer.now) }
+{
+    match answer {
+        Answer::Replied(Reply::Got(None)) => Ok(Some(Reply::Got(None))),
+        Answer::Replied(Reply::Got(Some(value))) => Ok(Some(Reply::Got(Some(value.copy()?)))),
+        Answer::Replied(Reply::Rows(rows)) => {
+            Ok(Some(Reply::Rows(Rows::of(copy_rows(alloc, rows.as_slice())?))))
+        }
+        Answer::Replied(Reply::Done) => Ok(Some(Reply::Done)),
+        _ => Ok(None),
+    }
+}
+
+impl<E: Engine + Drop> World<E> {
+    /// Why a number may not be begun, where it may not.
+    fn used(&self, t: Txn) -> Result<bool, WorldFault>
+        ensures used { IfOk result (λ used. used ≡ is_used self.now.sessions t) }
+        ensures room { IfOk result (λ used. used ≡ false → is_full self.now.sessions ≡ false) }
+        ensures count { IfErr result (λ fault. (fault ≡ world.Count) × (is_used self.now.sessions t ≡ false) × (is_full self.now.sessions ≡ true)) }
+    {
+        match self.sessions.may_begin(t) {
+            Ok(()) => Ok(false),
+            Err(SessionFault::Used) => Ok(true),
+            Err(_) => Err(WorldFault::Count),
+        }
+    }
+
+    /// A client begins at a coordinator. The number is used up only where the coordinator is up.
+    pub(crate) fn begin<H: Home>(
+        &mut self,
+        home: &mut H,
+        number: u32,
+        t: Txn,
+        coord: u8,
+    ) -> Result<Items, WorldFault>
+        requires in_head { (1 ≤ coord) × (coord ≤ length self.old.coords.items) }
+        requires held { AreHeld (H.file home.old) (H.reach home.old) self.old }
+        requires stands { (s : Federation) × RepresentsWorld E.takes E.stands_for self.old s }
+        ensures count { IsErrOf result WorldFault.Count ↔ IsOneMore self.old.sessions t }
+        ensures items { (s : Federation) → RepresentsWorld E.takes E.stands_for self.old s → IfOk result (λ items. items ≡ numbered number (step_line s (event.Begin t coord)).items) }
+        ensures stands { (s : Federation) → RepresentsWorld E.takes E.stands_for self.old s → OnOk result (RepresentsWorld E.takes E.stands_for self.new (step_line s (event.Begin t coord)).state) }
+        ensures served { OnOk result (AreServed self.new (seen H.file H.reach H.faults H.last_failed home.old) (seen H.file H.reach H.faults H.last_failed home.new)) }
+        ensures ended { IfErr result (λ fault. HasEndedAs fault (seen H.file H.reach H.faults H.last_failed home.old) (seen H.file H.reach H.faults H.last_failed home.new)) }
+        ensures entered { H.entered home.new ≡ H.entered home.old }
+    {
+        if self.used(t)? {
+            return self.answers(number, Answer::Used);
+        }
+        if !self.coord_up(coord) {
+            return self.answers(number, Answer::Down(Node::Coord(coord)));
+        }
+        let did = self.coord_does(home, coord, CoordCall::Begin(t))?;
+        self.sessions.begin(t, Node::Coord(coord))?;
+        self.tells_of_coord(number, did)
+    }
+
+    /// A client begins a transaction at a member, which decides it alone.
+    pub(crate) fn begin_local(
+        &mut self,
+        number: u32,
+        t: Txn,
+        member: u8,
+    ) -> Result<Items, WorldFault>
+        requires in_head { (1 ≤ member) × (member ≤ length self.old.members.items) }
+        ensures count { IsErrOf result WorldFault.Count ↔ IsOneMore self.old.sessions t }
+        ensures items { (s : Federation) → RepresentsWorld E.takes E.stands_for self.old s → IfOk result (λ items. items ≡ numbered number (step_line s (event.Local t member)).items) }
+        ensures stands { (s : Federation) → RepresentsWorld E.takes E.stands_for self.old s → OnOk result (RepresentsWorld E.takes E.stands_for self.new (step_line s (event.Local t member)).state) }
+        ensures held { (file : Spot → Option File) (reach : Spot → ℕ) → AreHeld file reach self.old → OnOk result (AreHeld file reach self.new) }
+        ensures ended { (v : HomeView) → IfErr result (λ fault. HasEndedAs fault v v) }
+    {
+        if self.used(t)? {
+            return self.answers(number, Answer::Used);
+        }
+        if !self.member_up(member) {
+            return self.answers(number, Answer::Down(Node::Member(member)));
+        }
+        self.sessions.begin(t, Node::Member(member))?;
+        self.answers(number, Answer::Begun)
+    }
+
+    /// A client asks for an operation.
+    pub(crate) fn operate(
+        &mut self,
+        number: u32,
+        t: Txn,
+        member: u8,
+        op: Op,
+    ) -> Result<Items, WorldFault>
+        requires in_head { (1 ≤ member) × (member ≤ length self.old.members.items) }
+        requires stands { (s : Federation) × RepresentsWorld E.takes E.stands_for self.old s × IsReady s }
+        ensures count { IsErrOf result WorldFault.Count → ⊥ }
+        ensures items { (s : Federation) → RepresentsWorld E.takes E.stands_for self.old s → IsReady s → IfOk result (λ items. items ≡ numbered number (operate s t member op).items) }
+        ensures stands { (s : Federation) → RepresentsWorld E.takes E.stands_for self.old s → IsReady s → OnOk result (RepresentsWorld E.takes E.stands_for self.new (operate s t member op).state) }
+        ensures held { (file : Spot → Option File) (reach : Spot → ℕ) → AreHeld file reach self.old → OnOk result (AreHeld file reach self.new) }
+        ensures ended { (v : HomeView) → IfErr result (λ fault. HasEndedAs fault v v) }
+    {
+        match self.sessions.may_act(t, Some(member)) {
+            Ok(_) => self.operated(number, t, member, op),
+            Err(fault) => self.answers(number, refusal(fault)),
+        }
+    }
+
+    /// An operation of a transaction whose client may act: a reply is entered in its session.
+    fn operated(&mut self, number: u32, t: Txn, member: u8, op: Op) -> Result<Items, WorldFault>
+        requires in_head { (1 ≤ member) × (member ≤ length self.old.members.items) }
+        requires stands { (s : Federation) × RepresentsWorld E.takes E.stands_for self.old s × IsReady s × ((session : Session) × (leave_to_visit (look s.sessions t) member ≡ Grants session)) }
+        ensures count { IsErrOf result WorldFault.Count → ⊥ }
+        ensures items { (s : Federation) → RepresentsWorld E.takes E.stands_for self.old s → IsReady s → (session : Session) → leave_to_visit (look s.sessions t) member ≡ Grants session → IfOk result (λ items. items ≡ numbered number (operate s t member op).items) }
+        ensures stands { (s : Federation) → RepresentsWorld E.takes E.stands_for self.old s → IsReady s → (session : Session) → leave_to_visit (look s.sessions t) member ≡ Grants session → OnOk result (RepresentsWorld E.takes E.stands_for self.new (operate s t member op).state) }
+        ensures held { (file : Spot → Option File) (reach : Spot → ℕ) → AreHeld file reach self.old → OnOk result (AreHeld file reach self.new) }
+        ensures ended { (v : HomeView) → IfErr result (λ fault. HasEndedAs fault v v) }
+    {
+        if !self.member_up(member) {
+            return self.answers(number, Answer::Down(Node::Member(member)));
+        }
+        let carried = self.sessions.carried(t, member);
+        match self.members[usize::from(member) - 1].op(t, carried, &op) {
+            Ok(answer) => {
+                if let Some(reply) = reply_in(self.alloc, &answer)? {
+                    self.sessions.answered(t, Site { member, op }, reply)?;
+                }
+                self.answers(number, answer)
+            }
+            Err(fault) => Err(of_node(fault)),
+        }
+    }
+
+    /// A client asks the deciding node for the end of a transaction.
+    pub(crate) fn end<H: Home>(
+        &mut self,
+        home: &mut H,
+        number: u32,
+        t: Txn,
+        ending: Ending,
+    ) -> Result<Items, WorldFault>
+        requires held { AreHeld (H.file home.old) (H.reach home.old) self.old }
+        requires stands { (s : Federation) × RepresentsWorld E.takes E.stands_for self.old s × IsReady s }
+        ensures count { IsErrOf result WorldFault.Count → ⊥ }
+        ensures items { (s : Federation) → RepresentsWorld E.takes E.stands_for self.old s → IsReady s → IfOk result (λ items. items ≡ numbered number (ended s t ending).items) }
+        ensures stands { (s : Federation) → RepresentsWorld E.takes E.stands_for self.old s → IsReady s → OnOk result (RepresentsWorld E.takes E.stands_for self.new (ended s t ending).state) }
+        ensures served { OnOk result (AreServed self.new (seen H.file H.reach H.faults H.last_failed home.old) (seen H.file H.reach H.faults H.last_failed home.new)) }
+        ensures ended { IfErr result (λ fault. HasEndedAs fault (seen H.file H.reach H.faults H.last_failed home.old) (seen H.file H.reach H.faults H.last_failed home.new)) }
+        ensures entered { H.entered home.new ≡ H.entered home.old }
+    {
+        match self.sessions.may_act(t, None) {
+            Ok(Node::Coord(coord)) => self.end_at_coord(home, number, t, coord, ending),
+            Ok(Node::Member(member)) => self.end_at_member(home, number, t, member, ending),
+            Err(fault) => self.answers(number, refusal(fault)),
+        }
+    }
+
+    /// A coordinator is asked for the end. The session is marked asked where it was not stopped.
+    fn end_at_coord<H: Home>(
+        &mut self,
+        home: &mut H,
+        number: u32,
+        t: Txn,
+        coord: u8,
+        ending: Ending,
+    ) -> Result<Items, WorldFault>
+        requires in_head { (1 ≤ coord) × (coord ≤ length self.old.coords.items) }
+        requires held { AreHeld (H.file home.old) (H.reach home.old) self.old }
+        requires stands { (s : Federation) × (session : Session) × RepresentsWorld E.takes E.stands_for self.old s × (look s.sessions t ≡ Some session) }
+        ensures count { IsErrOf result WorldFault.Count → ⊥ }
+        ensures items { (s : Federation) → RepresentsWorld E.takes E.stands_for self.old s → (session : Session) → look s.sessions t ≡ Some session → IfOk result (λ items. items ≡ numbered number (coord_answers s t session coord (s.coord coord).up (coord_does coord (coord_asked ending t (parts_of session.told)) (s.coord coord))).items) }
+        ensures stands { (s : Federation) → RepresentsWorld E.takes E.stands_for self.old s → (session : Session) → look s.sessions t ≡ Some session → OnOk result (RepresentsWorld E.takes E.stands_for self.new (coord_answers s t session coord (s.coord coord).up (coord_does coord (coord_asked ending t (parts_of session.told)) (s.coord coord))).state) }
+        ensures served { OnOk result (AreServed self.new (seen H.file H.reach H.faults H.last_failed home.old) (seen H.file H.reach H.faults H.last_failed home.new)) }
+        ensures ended { IfErr result (λ fault. HasEndedAs fault (seen H.file H.reach H.faults H.last_failed home.old) (seen H.file H.reach H.faults H.last_failed home.new)) }
+        ensures entered { H.entered home.new ≡ H.entered home.old }
+    {
+        if !self.coord_up(coord) {
+            return self.answers(number, Answer::Down(Node::Coord(coord)));
+        }
+        let parts = self.sessions.parts(t)?;
+        let did = self.coord_does(home, coord, coord_call(ending, t, parts))?;
+        if !is_stopped(&did.answer) {
+            self.sessions.asked(t);
+        }
+        self.tells_of_coord(number, did)
+    }
+
+    /// The member of a local transaction is asked for the end. The session is marked asked where the commit is not held.
+    fn end_at_member<H: Home>(
+        &mut self,
+        home: &mut H,
+        number: u32,
+        t: Txn,
+        member: u8,
+        ending: Ending,
+    ) -> Result<Items, WorldFault>
+        requires in_head { (1 ≤ member) × (member ≤ length self.old.members.items) }
+        requires held { AreHeld (H.file home.old) (H.reach home.old) self.old }
+        requires stands { (s : Federation) × (session : Session) × RepresentsWorld E.takes E.stands_for self.old s × IsReady s × (look s.sessions t ≡ Some session) × (session.asked ≡ false) }
+        ensures count { IsErrOf result WorldFault.Count → ⊥ }
+        ensures items { (s : Federation) → RepresentsWorld E.takes E.stands_for self.old s → (session : Session) → look s.sessions t ≡ Some session → IfOk result (λ items. items ≡ numbered number (local_answers s t session member (s.member member).up (member_does member (member_asked ending t (count_at session.told member)) (s.member member))).items) }
+        ensures stands { (s : Federation) → RepresentsWorld E.takes E.stands_for self.old s → (session : Session) → look s.sessions t ≡ Some session → OnOk result (RepresentsWorld E.takes E.stands_for self.new (local_answers s t session member (s.member member).up (member_does member (member_asked ending t (count_at session.told member)) (s.member member))).state) }
+        ensures served { OnOk result (AreServed self.new (seen H.file H.reach H.faults H.last_failed home.old) (seen H.file H.reach H.faults H.last_failed home.new)) }
+        ensures ended { IfErr result (λ fault. HasEndedAs fault (seen H.file H.reach H.faults H.last_failed home.old) (seen H.file H.reach H.faults H.last_failed home.new)) }
+        ensures entered { H.entered home.new ≡ H.entered home.old }
+    {
+        if !self.member_up(member) {
+            return self.answers(number, Answer::Down(Node::Member(member)));
+        }
+        let carried = self.sessions.carried(t, member);
+        let did = self.member_does(home, member, member_call(ending, t, carried))?;
+        if !is_held(&did.answer) {
+            self.sessions.asked(t);
+        }
+        self.tells_of_member(number, did)
+    }
+}

@@ -1,0 +1,19 @@
+//! The federation on its directory of logs: members, coordinators, what clients did, and the messages that were sent.
+//!
+//! One call of `World::step` does the event of one schedule line: one action of one node, with at most one log write. A refusal of the session
+//! or of the wire comes first, then that of a node that is down, then the node's own answer.
+#![tactic(auto)]
+
+mod attaching;
+mod calls;
+mod clients;
+mod coords;
+mod events;
+mod faults;
+mod members;
+mod stepping;
+mod telling;
+mod world;
+
+pub use calls::{CoordCall, MemberCall};
+pub use world::World;

@@ -1,0 +1,259 @@
+//! One event of a schedule line.
+ghost use Rattle.std.specs.Prelude.{◌≡◌, ◌≤◌, length, IfOk, IfErr, IsErrOf, OnOk, ◌↔◌};
+ghost use Rattle.co_plain.specs.Federation.{Federation};
+ghost use Rattle.co_plain.specs.Runs.{numbered};
+ghost use Rattle.co_plain.specs.Step.{deliver, timer_at, crash_at, restart_at, arm_at, checkpoint_at, step_line};
+ghost use Rattle.co_schedule.specs.View.{IsEventFor, IsMessageFor, IsNode};
+ghost use Rattle.co_world.specs.Conditions.{IsReady};
+ghost use Rattle.co_world.specs.Counting.{MeetsLimit};
+ghost use Rattle.co_node.specs.Answers.{seen};
+ghost use Rattle.co_world.specs.Served.{AreServed, HasEndedAs};
+ghost use Rattle.co_world.specs.Standing.{RepresentsWorld, AreHeld};
+
+use crate::calls::{CoordCall, MemberCall};
+use crate::clients::Ending;
+use crate::world::World;
+use co_base::{Leaves, Node, Op, Txn};
+use co_durable::WorldFault;
+use co_engine::Engine;
+use co_message::{Answer, Event, Items, Message};
+use co_outside::Home;
+use co_plain::copy_bytes;
+use std::alloc::{AllocError, Global};
+
+/// An equal choice of a crash image.
+fn copy_leaves(alloc: Global, leaves: &Leaves) -> Result<Leaves, AllocError>
+    ensures { IfOk result (λ copy. copy ≡ leaves.now) }
+{
+    match leaves {
+        Leaves::Old => Ok(Leaves::Old),
+        Leaves::New => Ok(Leaves::New),
+        Leaves::Filled(bytes) => Ok(Leaves::Filled(copy_bytes(alloc, bytes.as_slice())?)),
+    }
+}
+
+impl<E: Engine + Drop> World<E> {
+    /// A message is delivered to the node that it names, where it was sent.
+    fn deliver<H: Home>(
+        &mut self,
+        home: &mut H,
+        number: u32,
+        message: Message,
+    ) -> Result<Items, WorldFault>
+        requires in_head { IsMessageFor (length self.old.members.items) (length self.old.coords.items) message }
+        requires held { AreHeld (H.file home.old) (H.reach home.old) self.old }
+        requires stands { (s : Federation) × RepresentsWorld E.takes E.stands_for self.old s × IsReady s }
+        ensures count { IsErrOf result WorldFault.Count → ⊥ }
+        ensures items { (s : Federation) → RepresentsWorld E.takes E.stands_for self.old s → IsReady s → IfOk result (λ items. items ≡ numbered number (deliver s message).items) }
+        ensures stands { (s : Federation) → RepresentsWorld E.takes E.stands_for self.old s → IsReady s → OnOk result (RepresentsWorld E.takes E.stands_for self.new (deliver s message).state) }
+        ensures served { OnOk result (AreServed self.new (seen H.file H.reach H.faults H.last_failed home.old) (seen H.file H.reach H.faults H.last_failed home.new)) }
+        ensures ended { IfErr result (λ fault. HasEndedAs fault (seen H.file H.reach H.faults H.last_failed home.old) (seen H.file H.reach H.faults H.last_failed home.new)) }
+        ensures entered { H.entered home.new ≡ H.entered home.old }
+    {
+        match self.wire.get(&message) {
+            Ok(()) => match message {
+                Message::Prepare { member, .. } | Message::Decide { member, .. } => {
+                    self.at_member(home, number, member, MemberCall::Deliver(message))
+                }
+                Message::Vote { coord, .. }
+                | Message::Ask { coord, .. }
+                | Message::Ack { coord, .. } => {
+                    self.at_coord(home, number, coord, CoordCall::Deliver(message))
+                }
+            },
+            Err(_) => self.answers(number, Answer::Unsent),
+        }
+    }
+
+    /// The timer of a transaction fires at a node.
+    fn timer<H: Home>(
+        &mut self,
+        home: &mut H,
+        number: u32,
+        t: Txn,
+        node: Node,
+    ) -> Result<Items, WorldFault>
+        requires in_head { IsNode (length self.old.members.items) (length self.old.coords.items) node }
+        requires held { AreHeld (H.file home.old) (H.reach home.old) self.old }
+        requires stands { (s : Federation) × RepresentsWorld E.takes E.stands_for self.old s × IsReady s }
+        ensures count { IsErrOf result WorldFault.Count → ⊥ }
+        ensures items { (s : Federation) → RepresentsWorld E.takes E.stands_for self.old s → IfOk result (λ items. items ≡ numbered number (timer_at s t node).items) }
+        ensures stands { (s : Federation) → RepresentsWorld E.takes E.stands_for self.old s → OnOk result (RepresentsWorld E.takes E.stands_for self.new (timer_at s t node).state) }
+        ensures served { OnOk result (AreServed self.new (seen H.file H.reach H.faults H.last_failed home.old) (seen H.file H.reach H.faults H.last_failed home.new)) }
+        ensures ended { IfErr result (λ fault. HasEndedAs fault (seen H.file H.reach H.faults H.last_failed home.old) (seen H.file H.reach H.faults H.last_failed home.new)) }
+        ensures entered { H.entered home.new ≡ H.entered home.old }
+    {
+        match node {
+            Node::Member(member) => self.at_member(home, number, member, MemberCall::Timer(t)),
+            Node::Coord(coord) => self.at_coord(home, number, coord, CoordCall::Timer(t)),
+        }
+    }
+
+    /// A node stops between two log writes.
+    fn crash<H: Home>(&mut self, home: &mut H, number: u32, node: Node) -> Result<Items, WorldFault>
+        requires in_head { IsNode (length self.old.members.items) (length self.old.coords.items) node }
+        requires held { AreHeld (H.file home.old) (H.reach home.old) self.old }
+        requires stands { (s : Federation) × RepresentsWorld E.takes E.stands_for self.old s × IsReady s }
+        ensures count { IsErrOf result WorldFault.Count → ⊥ }
+        ensures items { (s : Federation) → RepresentsWorld E.takes E.stands_for self.old s → IfOk result (λ items. items ≡ numbered number (crash_at s node).items) }
+        ensures stands { (s : Federation) → RepresentsWorld E.takes E.stands_for self.old s → OnOk result (RepresentsWorld E.takes E.stands_for self.new (crash_at s node).state) }
+        ensures served { OnOk result (AreServed self.new (seen H.file H.reach H.faults H.last_failed home.old) (seen H.file H.reach H.faults H.last_failed home.new)) }
+        ensures ended { IfErr result (λ fault. HasEndedAs fault (seen H.file H.reach H.faults H.last_failed home.old) (seen H.file H.reach H.faults H.last_failed home.new)) }
+        ensures entered { H.entered home.new ≡ H.entered home.old }
+    {
+        match node {
+            Node::Member(member) => self.at_member(home, number, member, MemberCall::Crash),
+            Node::Coord(coord) => self.at_coord(home, number, coord, CoordCall::Crash),
+        }
+    }
+
+    /// A restart is answered by a node that is down too.
+    fn restart<H: Home>(
+        &mut self,
+        home: &mut H,
+        number: u32,
+        node: Node,
+    ) -> Result<Items, WorldFault>
+        requires in_head { IsNode (length self.old.members.items) (length self.old.coords.items) node }
+        requires held { AreHeld (H.file home.old) (H.reach home.old) self.old }
+        requires stands { (s : Federation) × RepresentsWorld E.takes E.stands_for self.old s × IsReady s }
+        ensures count { IsErrOf result WorldFault.Count → ⊥ }
+        ensures items { (s : Federation) → RepresentsWorld E.takes E.stands_for self.old s → IfOk result (λ items. items ≡ numbered number (restart_at s node).items) }
+        ensures stands { (s : Federation) → RepresentsWorld E.takes E.stands_for self.old s → OnOk result (RepresentsWorld E.takes E.stands_for self.new (restart_at s node).state) }
+        ensures served { OnOk result (AreServed self.new (seen H.file H.reach H.faults H.last_failed home.old) (seen H.file H.reach H.faults H.last_failed home.new)) }
+        ensures ended { IfErr result (λ fault. HasEndedAs fault (seen H.file H.reach H.faults H.last_failed home.old) (seen H.file H.reach H.faults H.last_failed home.new)) }
+        ensures entered { H.entered home.new ≡ H.entered home.old }
+    {
+        match node {
+            Node::Member(member) => {
+                let did = self.member_does(home, member, MemberCall::Restart)?;
+                self.tells_of_member(number, did)
+            }
+            Node::Coord(coord) => {
+                let did = self.coord_does(home, coord, CoordCall::Restart)?;
+                self.tells_of_coord(number, did)
+            }
+        }
+    }
+
+    /// The next log write of a node is to stop.
+    fn arm<H: Home>(
+        &mut self,
+        home: &mut H,
+        number: u32,
+        node: Node,
+        call: u8,
+        leaves: Leaves,
+    ) -> Result<Items, WorldFault>
+        requires in_head { IsNode (length self.old.members.items) (length self.old.coords.items) node }
+        requires call { (1 ≤ call) × (call ≤ 4) }
+        requires held { AreHeld (H.file home.old) (H.reach home.old) self.old }
+        requires stands { (s : Federation) × RepresentsWorld E.takes E.stands_for self.old s × IsReady s }
+        ensures count { IsErrOf result WorldFault.Count → ⊥ }
+        ensures items { (s : Federation) → RepresentsWorld E.takes E.stands_for self.old s → IfOk result (λ items. items ≡ numbered number (arm_at s call leaves node).items) }
+        ensures stands { (s : Federation) → RepresentsWorld E.takes E.stands_for self.old s → OnOk result (RepresentsWorld E.takes E.stands_for self.new (arm_at s call leaves node).state) }
+        ensures served { OnOk result (AreServed self.new (seen H.file H.reach H.faults H.last_failed home.old) (seen H.file H.reach H.faults H.last_failed home.new)) }
+        ensures ended { IfErr result (λ fault. HasEndedAs fault (seen H.file H.reach H.faults H.last_failed home.old) (seen H.file H.reach H.faults H.last_failed home.new)) }
+        ensures entered { H.entered home.new ≡ H.entered home.old }
+    {
+        match node {
+            Node::Member(member) => {
+                self.at_member(home, number, member, MemberCall::Arm { call, leaves })
+            }
+            Node::Coord(coord) => {
+                self.at_coord(home, number, coord, CoordCall::Arm { call, leaves })
+            }
+        }
+    }
+
+    /// One step of a checkpoint at a node.
+    fn checkpoint<H: Home>(
+        &mut self,
+        home: &mut H,
+        number: u32,
+        node: Node,
+    ) -> Result<Items, WorldFault>
+        requires in_head { IsNode (length self.old.members.items) (length self.old.coords.items) node }
+        requires held { AreHeld (H.file home.old) (H.reach home.old) self.old }
+        requires stands { (s : Federation) × RepresentsWorld E.takes E.stands_for self.old s × IsReady s }
+        ensures count { IsErrOf result WorldFault.Count → ⊥ }
+        ensures items { (s : Federation) → RepresentsWorld E.takes E.stands_for self.old s → IfOk result (λ items. items ≡ numbered number (checkpoint_at s node).items) }
+        ensures stands { (s : Federation) → RepresentsWorld E.takes E.stands_for self.old s → OnOk result (RepresentsWorld E.takes E.stands_for self.new (checkpoint_at s node).state) }
+        ensures served { OnOk result (AreServed self.new (seen H.file H.reach H.faults H.last_failed home.old) (seen H.file H.reach H.faults H.last_failed home.new)) }
+        ensures ended { IfErr result (λ fault. HasEndedAs fault (seen H.file H.reach H.faults H.last_failed home.old) (seen H.file H.reach H.faults H.last_failed home.new)) }
+        ensures entered { H.entered home.new ≡ H.entered home.old }
+    {
+        match node {
+            Node::Member(member) => self.at_member(home, number, member, MemberCall::Checkpoint),
+            Node::Coord(coord) => self.at_coord(home, number, coord, CoordCall::Checkpoint),
+        }
+    }
+
+    /// Does the event of the line of this number, whose nodes are in the head, and whose device call, where it arms a stop, is 1 to 4.
+    ///
+    /// The items are what became stable, what was sent and exactly one answer; the event's own item is not among them. `Count` comes where a
+    /// transaction is begun and 65,536 numbers are used; `Device`, `Differs`, `Full` and `Memory` as the node says. `InUse` and `Bad`
+    /// never come.
+    pub fn step<H: Home>(
+        &mut self,
+        home: &mut H,
+        number: u32,
+        event: &Event,
+    ) -> Result<Items, WorldFault>
+        requires event { IsEventFor (length self.old.members.items) (length self.old.coords.items) event.now }
+        requires held { AreHeld (H.file home.old) (H.reach home.old) self.old }
+        requires stands { (s : Federation) × RepresentsWorld E.takes E.stands_for self.old s × IsReady s }
+        ensures count { IsErrOf result WorldFault.Count ↔ MeetsLimit self.old.sessions event.now }
+        ensures items { (s : Federation) → RepresentsWorld E.takes E.stands_for self.old s → IsReady s → IfOk result (λ items. items ≡ numbered number (step_line s event.now).items) }
+        ensures stands { (s : Federation) → RepresentsWorld E.takes E.stands_for self.old s → IsReady s → OnOk result (RepresentsWorld E.takes E.stands_for self.new (step_line s event.now).state) }
+        ensures served { OnOk result (AreServed self.new (seen H.file H.reach H.faults H.last_failed home.old) (seen H.file H.reach H.faults H.last_failed home.new)) }
+        ensures ended { IfErr result (λ fault. HasEndedAs fault (seen H.file H.reach H.faults H.last_failed home.old) (seen H.file H.reach H.faults H.last_failed home.new)) }
+        ensures entered { H.entered home.new ≡ H.entered home.old }
+    {
+        match event {
+            Event::Begin { txn, coord } => self.begin(home, number, *txn, *coord),
+            Event::Local { txn, member } => self.begin_local(number, *txn, *member),
+            Event::Read { txn, member, key } => {
+                let op = Op::Read(key.copy()?);
+                self.operate(number, *txn, *member, op)
+            }
+            Event::Write {
+                txn,
+                member,
+                key,
+                value,
+            } => {
+                let op = Op::Write(key.copy()?, value.copy()?);
+                self.operate(number, *txn, *member, op)
+            }
+            Event::Erase { txn, member, key } => {
+                let op = Op::Erase(key.copy()?);
+                self.operate(number, *txn, *member, op)
+            }
+            Event::Scan { txn, member, range } => {
+                let op = Op::Scan(range.copy()?);
+                self.operate(number, *txn, *member, op)
+            }
+            Event::Commit { txn } => self.end(home, number, *txn, Ending::Commit),
+            Event::Abort { txn } => self.end(home, number, *txn, Ending::Abort),
+            Event::Deliver(message) => self.deliver(home, number, *message),
+            Event::Vote { txn, member } => {
+                self.at_member(home, number, *member, MemberCall::Vote(*txn))
+            }
+            Event::Timer { txn, node } => self.timer(home, number, *txn, *node),
+            Event::Ask { txn, member } => {
+                self.at_member(home, number, *member, MemberCall::Ask(*txn))
+            }
+            Event::Resend { txn, coord } => {
+                self.at_coord(home, number, *coord, CoordCall::Resend(*txn))
+            }
+            Event::Crash(node) => self.crash(home, number, *node),
+            Event::Restart(node) => self.restart(home, number, *node),
+            Event::Arm { node, call, leaves } => {
+                let leaves = copy_leaves(self.alloc, leaves)?;
+                self.arm(home, number, *node, *call, leaves)
+            }
+            Event::Checkpoint(node) => self.checkpoint(home, number, *node),
+        }
+    }
+}

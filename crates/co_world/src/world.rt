@@ -1,0 +1,152 @@
+//! The federation, and what one of its nodes does in it.
+ghost use Rattle.std.specs.Prelude.{◌≡◌, ◌≤◌, ℕ, Option, length, IfOk, IfErr, IsErrOf, OnOk};
+ghost use Rattle.co_outside.specs.Home.{File};
+ghost use Rattle.co_outside.specs.declared.spot.Spot.{Spot};
+ghost use Rattle.co_plain.specs.Federation.{Federation, answers, with_member, with_coord, noted, items_of};
+ghost use Rattle.co_plain.specs.Runs.{numbered};
+ghost use Rattle.co_plain.specs.Wire.{send_all};
+ghost use Rattle.co_world.specs.Calls.{member_does, coord_does, MemberMay, CoordMay};
+ghost use Rattle.co_node.specs.Answers.{seen, HomeView};
+ghost use Rattle.co_world.specs.Served.{AreServed, HasEndedAs};
+ghost use Rattle.co_world.specs.Standing.{RepresentsWorld, AreHeld};
+ghost use Rattle.co_world.specs.Telling.{IsTold, IsToldBy};
+
+use crate::calls::{CoordCall, MemberCall};
+use crate::coords::coord_does;
+use crate::faults::of_node;
+use crate::members::member_does;
+use crate::telling::items_of;
+use co_base::Mark;
+use co_coord::{Coord, CoordStep};
+use co_durable::WorldFault;
+use co_engine::Engine;
+use co_member::{Member, MemberStep};
+use co_message::{Answer, Items, Message, Wire};
+use co_outside::Home;
+use co_session::Sessions;
+use std::alloc::{AllocError, Global};
+
+/// A federation of members and coordinators on their logs.
+#[derive(Drop)]
+pub struct World<E> {
+    pub(crate) alloc: Global,
+    /// The members, from member 1 on.
+    pub(crate) members: Vec<Member<E>>,
+    /// The coordinators, from coordinator 1 on.
+    pub(crate) coords: Vec<Coord>,
+    /// What clients did in this run.
+    pub(crate) sessions: Sessions,
+    /// The messages that were sent in this run.
+    pub(crate) wire: Wire,
+}
+
+impl<E: Engine + Drop> World<E> {
+    /// The messages that were sent in this run. Takes no memory.
+    pub fn wire(&self) -> &Wire
+        ensures { result.now ≡ self.now.wire }
+    {
+        &self.wire
+    }
+
+    /// Whether the member of this number is up.
+    pub(crate) fn member_up(&self, member: u8) -> bool
+        requires { (1 ≤ member) × (member ≤ length self.now.members.items) }
+        ensures { (s : Federation) → RepresentsWorld E.takes E.stands_for self.now s → result ≡ (s.member member).up }
+    {
+        self.members[usize::from(member) - 1].up()
+    }
+
+    /// Whether the coordinator of this number is up.
+    pub(crate) fn coord_up(&self, coord: u8) -> bool
+        requires { (1 ≤ coord) × (coord ≤ length self.now.coords.items) }
+        ensures { (s : Federation) → RepresentsWorld E.takes E.stands_for self.now s → result ≡ (s.coord coord).up }
+    {
+        self.coords[usize::from(coord) - 1].up()
+    }
+
+    /// An answer that changes nothing.
+    pub(crate) fn answers(&self, number: u32, answer: Answer) -> Result<Items, WorldFault>
+        ensures { (s : Federation) → IfOk result (λ items. items ≡ numbered number (answers s answer).items) }
+    {
+        Ok(items_of(self.alloc, number, &[], &[], answer)?)
+    }
+
+    /// What is asked of the member of this number is done.
+    pub(crate) fn member_does<H: Home>(
+        &mut self,
+        home: &mut H,
+        member: u8,
+        call: MemberCall,
+    ) -> Result<MemberStep, WorldFault>
+        requires in_head { (1 ≤ member) × (member ≤ length self.old.members.items) }
+        requires held { AreHeld (H.file home.old) (H.reach home.old) self.old }
+        requires stands { (s : Federation) × RepresentsWorld E.takes E.stands_for self.old s × MemberMay s.coordinators call (s.member member) }
+        ensures count { IsErrOf result WorldFault.Count → ⊥ }
+        ensures told { (s : Federation) → RepresentsWorld E.takes E.stands_for self.old s →
+            IfOk result (λ d. IsTold (member_does member call (s.member member)) d) }
+        ensures stands { (s : Federation) → RepresentsWorld E.takes E.stands_for self.old s →
+            OnOk result (RepresentsWorld E.takes E.stands_for self.new (with_member s member (member_does member call (s.member member)).state)) }
+        ensures served { OnOk result (AreServed self.new (seen H.file H.reach H.faults H.last_failed home.old) (seen H.file H.reach H.faults H.last_failed home.new)) }
+        ensures ended { IfErr result (λ fault. HasEndedAs fault (seen H.file H.reach H.faults H.last_failed home.old) (seen H.file H.reach H.faults H.last_failed home.new)) }
+        ensures entered { H.entered home.new ≡ H.entered home.old }
+    {
+        match member_does(&mut self.members[usize::from(member) - 1], home, call) {
+            Ok(did) => Ok(did),
+            Err(fault) => Err(of_node(fault)),
+        }
+    }
+
+    /// What is asked of the coordinator of this number is done.
+    pub(crate) fn coord_does<H: Home>(
+        &mut self,
+        home: &mut H,
+        coord: u8,
+        call: CoordCall,
+    ) -> Result<CoordStep, WorldFault>
+        requires in_head { (1 ≤ coord) × (coord ≤ length self.old.coords.items) }
+        requires held { AreHeld (H.file home.old) (H.reach home.old) self.old }
+        requires stands { (s : Federation) × RepresentsWorld E.takes E.stands_for self.old s × CoordMay (length s.kinds) coord call (s.coord coord) }
+        ensures count { IsErrOf result WorldFault.Count → ⊥ }
+        ensures told { (s : Federation) → RepresentsWorld E.takes E.stands_for self.old s →
+            IfOk result (λ d. IsToldBy (coord_does coord call (s.coord coord)) d) }
+        ensures stands { (s : Federation) → RepresentsWorld E.takes E.stands_for self.old s →
+            OnOk result (RepresentsWorld E.takes E.stands_for self.new (with_coord s coord (coord_does coord call (s.coord coord)).state)) }
+        ensures served { OnOk result (AreServed self.new (seen H.file H.reach H.faults H.last_failed home.old) (seen H.file H.reach H.faults H.last_failed home.new)) }
+        ensures ended { IfErr result (λ fault. HasEndedAs fault (seen H.file H.reach H.faults H.last_failed home.old) (seen H.file H.reach H.faults H.last_failed home.new)) }
+        ensures entered { H.entered home.new ≡ H.entered home.old }
+    {
+        match coord_does(&mut self.coords[usize::from(coord) - 1], home, call) {
+            Ok(did) => Ok(did),
+            Err(fault) => Err(of_node(fault)),
+        }
+    }
+
+    /// Messages are sent.
+    fn send(&mut self, messages: &[Message]) -> Result<(), AllocError>
+        ensures wire { OnOk result (self.new.wire ≡ send_all self.old.wire messages.now) }
+        ensures rest { OnOk result (self.new ≡ record self.old { wire = self.new.wire }) }
+    {
+        for message in messages {
+            self.wire.send(*message)?;
+        }
+        Ok(())
+    }
+
+    /// What a node did is sent and told.
+    pub(crate) fn tells(
+        &mut self,
+        number: u32,
+        marks: &[Mark],
+        messages: &[Message],
+        answer: Answer,
+    ) -> Result<Items, WorldFault>
+        ensures count { IsErrOf result WorldFault.Count → ⊥ }
+        ensures items { IfOk result (λ items. items ≡ numbered number (items_of marks.now messages.now answer)) }
+        ensures stands { (s : Federation) → RepresentsWorld E.takes E.stands_for self.old s → OnOk result (RepresentsWorld E.takes E.stands_for self.new (noted s marks.now messages.now)) }
+        ensures held { (file : Spot → Option File) (reach : Spot → ℕ) → AreHeld file reach self.old → OnOk result (AreHeld file reach self.new) }
+        ensures ended { (v : HomeView) → IfErr result (λ fault. HasEndedAs fault v v) }
+    {
+        self.send(messages)?;
+        Ok(items_of(self.alloc, number, marks, messages, answer)?)
+    }
+}
