@@ -1,7 +1,1 @@
-pub mod Passed
-pub mod Fresh
-pub mod Lines
-pub mod Heads
-pub mod OneReplay
-pub mod Ending
 pub mod Recording

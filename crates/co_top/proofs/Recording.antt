@@ -34,7 +34,13 @@ module _ (file : Spot → Option File) (told : AreTold file 16 8) where
   done_of (status.BadLog spot at) cause rows d = absurd (durable_or_not file 16 8 rows (world.Bad spot at) told tt d cause)
   done_of (status.Limit (limit.Log spot)) cause rows d = absurd (durable_or_not file 16 8 rows (world.Full spot) told tt d cause)
   done_of status.Memory cause rows d = inr (inr tt)
-  done_of (status.NotBuilt line) cause rows d = absurd cause
+  done_of (status.Schedule line what) cause rows d = absurd cause
+  done_of (status.Differs other place kept read) cause rows d = absurd cause
+  done_of (status.InUse other) cause rows d = absurd cause
+  done_of (status.OldLog other) cause rows d = absurd cause
+  done_of (status.Limit (limit.Line line)) cause rows d = absurd cause
+  done_of (status.Limit limit.Lines) cause rows d = absurd cause
+  done_of (status.Limit limit.Transactions) cause rows d = absurd cause
 
   bad_of : (ended : Status) → HasCause file ended → (spot : Spot) (at : ℕ) → IsUndurable file 16 8 (world.Bad spot at) → (ended ≡ status.BadLog spot at) ⊎ IsExcused ended
   bad_of status.Done cause spot at u = absurd (durable_or_not file 16 8 cause.0 (world.Bad spot at) told tt cause.1 u)
@@ -45,7 +51,13 @@ module _ (file : Spot → Option File) (told : AreTold file 16 8) where
   bad_of (status.BadLog other place) cause spot at u = let e = undurable_once file 16 8 (world.Bad other place) (world.Bad spot at) told tt tt cause u in inl (cc)
   bad_of (status.Limit (limit.Log other)) cause spot at u = absurd (let e = undurable_once file 16 8 (world.Full other) (world.Bad spot at) told tt tt cause u in cc)
   bad_of status.Memory cause spot at u = inr tt
-  bad_of (status.NotBuilt line) cause spot at u = absurd cause
+  bad_of (status.Schedule line what) cause spot at u = absurd cause
+  bad_of (status.Differs other place kept read) cause spot at u = absurd cause
+  bad_of (status.InUse other) cause spot at u = absurd cause
+  bad_of (status.OldLog other) cause spot at u = absurd cause
+  bad_of (status.Limit (limit.Line line)) cause spot at u = absurd cause
+  bad_of (status.Limit limit.Lines) cause spot at u = absurd cause
+  bad_of (status.Limit limit.Transactions) cause spot at u = absurd cause
 
   full_of : (ended : Status) → HasCause file ended → (spot : Spot) → IsUndurable file 16 8 (world.Full spot) → (ended ≡ status.Limit (limit.Log spot)) ⊎ IsExcused ended
   full_of status.Done cause spot u = absurd (durable_or_not file 16 8 cause.0 (world.Full spot) told tt cause.1 u)
@@ -56,7 +68,13 @@ module _ (file : Spot → Option File) (told : AreTold file 16 8) where
   full_of (status.BadLog other place) cause spot u = absurd (let e = undurable_once file 16 8 (world.Bad other place) (world.Full spot) told tt tt cause u in cc)
   full_of (status.Limit (limit.Log other)) cause spot u = let e = undurable_once file 16 8 (world.Full other) (world.Full spot) told tt tt cause u in inl (cc)
   full_of status.Memory cause spot u = inr tt
-  full_of (status.NotBuilt line) cause spot u = absurd cause
+  full_of (status.Schedule line what) cause spot u = absurd cause
+  full_of (status.Differs other place kept read) cause spot u = absurd cause
+  full_of (status.InUse other) cause spot u = absurd cause
+  full_of (status.OldLog other) cause spot u = absurd cause
+  full_of (status.Limit (limit.Line line)) cause spot u = absurd cause
+  full_of (status.Limit limit.Lines) cause spot u = absurd cause
+  full_of (status.Limit limit.Transactions) cause spot u = absurd cause
 
   -- a status with its cause is the one that the files give
   pub exact_of : (ended : Status) → HasCause file ended → IsExact file ended

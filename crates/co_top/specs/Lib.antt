@@ -1,7 +1,9 @@
 pub mod Command
-pub mod Forms
-pub mod Input
-pub mod Rigorous
-pub mod FirstPath
 pub mod Ends
+pub mod Front
+pub mod Heads
+pub mod Played
+pub mod Telling
+pub mod Ran
+pub mod Replayed
 pub mod Records

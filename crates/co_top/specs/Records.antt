@@ -26,14 +26,12 @@ status_of_records (Err records.Memory) = status.Memory
 -- line is read, so no status of lines comes.
 abbrev pub HasCause : (Spot → Option File) → Status → Type 0
 HasCause file status.Done = HasDurable file
-HasCause file status.Usage = ⊥
-HasCause file status.Read = ⊥
 HasCause file status.Write = HasDurable file
 HasCause file (status.Device spot) = (spot ≡ record { node = 1; part = 0 }) ⊎ IsUndurable file 16 8 (world.Device spot)
 HasCause file (status.BadLog spot at) = IsUndurable file 16 8 (world.Bad spot at)
 HasCause file (status.Limit (limit.Log spot)) = IsUndurable file 16 8 (world.Full spot)
 HasCause file status.Memory = Unit {0}
-HasCause file (status.NotBuilt line) = ⊥
+HasCause file _ = ⊥
 
 -- the directory failed, or there was no memory
 abbrev pub IsExcused : Status → Type 0
@@ -51,11 +49,9 @@ pub record IsExact (file : Spot → Option File) (ended : Status) : Type 0 where
 -- What a sink holds then that held this before: the text of the durable records, or a front of it, or nothing of it.
 abbrev pub HoldsRecords : (Spot → Option File) → List ℕ → Option (List ℕ) → Status → Type 0
 HoldsRecords file held told status.Done = (rows : List DurableRow) × IsDurable file 16 8 rows × (told ≡ Some (held ++ records_text rows))
-HoldsRecords file held told status.Usage = ⊥
-HoldsRecords file held told status.Read = ⊥
 HoldsRecords file held told status.Write = TookFront file held told
 HoldsRecords file held told (status.Device spot) = told ≡ Some held
 HoldsRecords file held told (status.BadLog spot at) = told ≡ Some held
-HoldsRecords file held told (status.Limit kind) = told ≡ Some held
+HoldsRecords file held told (status.Limit (limit.Log spot)) = told ≡ Some held
 HoldsRecords file held told status.Memory = (told ≡ Some held) ⊎ TookFront file held told
-HoldsRecords file held told (status.NotBuilt line) = ⊥
+HoldsRecords file held told _ = ⊥

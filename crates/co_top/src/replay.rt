@@ -1,164 +1,159 @@
-//! An input as a run over fresh logs.
-ghost use Rattle.std.specs.Prelude.{ℕ, List, ◌≡◌, ◌≤◌, ◌<◌, ◌+◌, ◌^◌, ◌++◌, ◌∷◌, [], Some, length, IfOk, OnOk};
-ghost use Rattle.co_record.specs.declared.record.Record.{Record};
+//! A schedule is replayed over a directory of logs: its head is read, the federation is opened, and one line at a time is read, done and told.
+ghost use Rattle.std.specs.Prelude.{◌≡◌, ◌≤◌, ◌++◌, ◌∷◌, [], ℕ, List, Some, IfOk, IfErr, IsErrOf, OnOk};
+ghost use Rattle.co_outside.specs.Faults.{HasRisen};
+ghost use Rattle.co_outside.specs.declared.spot.Spot.{Spot};
+ghost use Rattle.co_disk.specs.Homes.{HasFailed};
+ghost use Rattle.co_base.specs.declared.head.Head.{Head};
+ghost use Rattle.co_base.specs.declared.head.Kind.{Kind};
 ghost use Rattle.co_message.specs.declared.item.ItemKind.TheVariants as item;
 ghost use Rattle.co_plain.specs.Runs.{numbered};
-ghost use Rattle.co_plain_run.specs.PlainProgram.{federation_of};
-ghost use Rattle.co_replay.specs.Schedule.{texts_of};
 ghost use Rattle.co_replay.specs.Transcript.{items_text};
-ghost use Rattle.co_top.specs.Ends.{Replays, IsReplayed, LinesReplayed, stop_behind};
-ghost use Rattle.co_top.specs.FirstPath.{first_items, rigorous_transcript, without_logs};
-ghost use Rattle.co_top.specs.Rigorous.{rigorous_step};
+ghost use Rattle.co_world.specs.Attached.{IsAttachedOver};
+ghost use Rattle.co_world.specs.Standing.{AreHeld};
+ghost use Rattle.co_top.specs.Ran.{IsRunEnd};
+ghost use Rattle.co_top.specs.Replayed.{status_of, opening_text, IsUnopenedAs, IsOpeningTold};
 
-use crate::forms::{built_front, is_built_head};
-use crate::input::{is_long, lines_within};
-use crate::rigorous::rigorous_step;
-use co_base::{Head, Kinds};
-use co_message::{Event, ItemKind};
-use co_plain_run::{PlainFederation, PlainStep, plain_open};
-use co_replay::{ReadEvents, put_event, put_opening, put_told, read_events};
-use co_schedule::{LineFault, read_head};
+use crate::lines::head_of;
+use crate::playing::{put, replay_lines};
+use crate::status::{Status, of_world};
+use co_base::Head;
+use co_engine::Engine;
+use co_message::{Item, ItemKind, Items};
+use co_outside::{Home, HomeFault, Sink, Source, Spot};
+use co_replay::put_items;
+use co_schedule::Lines;
+use co_transcript::put_item;
+use co_world::World;
 use std::alloc::{AllocError, Global};
 
-/// What was told, but the records that became stable.
-fn without_logs(told: Vec<ItemKind>) -> Vec<ItemKind>
-    ensures { result.items ≡ without_logs told.items }
-{
-    let mut told = told;
-    told.retain(|what| !matches!(what, ItemKind::Log(_)));
-    told
-}
+/// The most bytes of a line without its newline.
+const LINE: u32 = 8_192;
 
-/// Does the event of the line of this number, and appends its text.
-fn put_line(
-    alloc: Global,
-    w: PlainFederation,
-    number: u32,
-    event: Event,
-    into: &mut Vec<u8>,
-) -> Result<PlainFederation, AllocError>
-    ensures state { (m c : ℕ → List Record) → IfOk result (λ after. federation_of after m c ≡ (rigorous_step (federation_of w m c) event).state) }
-    ensures text { (m c : ℕ → List Record) → OnOk result (into.new.items ≡ into.old.items ++ items_text (numbered number (item.Event event ∷ without_logs (rigorous_step (federation_of w m c) event).items))) }
-{
-    let event = put_event(number, event, into)?;
-    let PlainStep { state, items } = rigorous_step(alloc, w, event)?;
-    put_told(number, without_logs(items), into)?;
-    Ok(state)
-}
+/// The most lines, the head among them.
+pub(crate) const LINES: u32 = 262_144;
 
-/// Does events, the first of which is that of the line of this number, and appends their text.
-fn put_lines(
-    alloc: Global,
-    w: PlainFederation,
-    number: u32,
-    events: Vec<Event>,
-    into: &mut Vec<u8>,
-) -> Result<(), AllocError>
-    requires { number + length events.items < 2 ^ 32 }
-    ensures { (m c : ℕ → List Record) → OnOk result (into.new.items ≡ into.old.items ++ items_text (rigorous_transcript number events.items (federation_of w m c))) }
+/// Enters the directory.
+fn enter<H: Home>(alloc: Global, home: &mut H, directory: &str) -> Result<(), Status>
+    ensures entered { OnOk result (H.entered home.new ≡ Some directory.now) }
+    ensures files { (s : Spot) → H.file home.new s ≡ H.file home.old s }
+    ensures device { (spot : Spot) → IsErrOf result (Status.Device spot) → HasFailed H.faults H.last_failed spot home.old home.new }
+    ensures quiet { ((spot : Spot) → IsErrOf result (Status.Device spot) → ⊥) → H.faults home.new ≡ H.faults home.old }
+    ensures faults { IfErr result (λ why. ((spot : Spot) × (why ≡ Status.Device spot)) ⊎ (why ≡ Status.Memory)) }
 {
-    let mut state = w;
-    let mut line = number;
-    for event in events {
-        state = put_line(alloc, state, line, event, into)?;
-        line += 1;
-    }
-    Ok(())
-}
-
-/// The text of the run of these events over fresh logs.
-fn text_of(alloc: Global, head: Head, events: Vec<Event>) -> Result<Vec<u8>, AllocError>
-    requires { 2 + length events.items < 2 ^ 32 }
-    ensures { IfOk result (λ text. text.items ≡ items_text (first_items head events.items)) }
-{
-    let kinds = Vec::from_slice(alloc, head.kinds.as_slice())?;
-    let PlainStep { state, items } = plain_open(alloc, Kinds::of(kinds), head.coords)?;
-    let mut text = Vec::new(alloc);
-    put_opening(head, without_logs(items), &mut text)?;
-    put_lines(alloc, state, 2, events, &mut text)?;
-    Ok(text)
-}
-
-/// What the replay of an input gives.
-#[derive(Drop)]
-pub struct Replayed {
-    /// The text of the lines that were done.
-    pub text: Vec<u8>,
-    /// The number of the first line that was not, where there is one.
-    pub stop: Option<u32>,
-}
-
-/// Nothing is done where the first line is the head of no federation that is built.
-fn without_head(alloc: Global) -> Replayed
-    ensures { (result.text.items ≡ []) × (result.stop ≡ Some 1) }
-{
-    Replayed {
-        text: Vec::new(alloc),
-        stop: Some(1),
+    match home.enter(alloc, directory) {
+        Ok(()) => Ok(()),
+        Err(HomeFault::Failed) => Err(Status::Device { spot: Spot::FIRST }),
+        Err(HomeFault::Memory) => Err(Status::Memory),
     }
 }
 
-/// The number of the first line that is not done, of so many lines behind the head.
-fn stop_behind(done: usize, lines: usize, long: bool) -> Option<u32>
-    requires { (done ≤ lines) × (lines ≤ 524290) }
-    ensures { result ≡ stop_behind done lines long }
+/// Opens the federation of a head over the logs of a directory.
+fn open<E: Engine + Drop, H: Home>(
+    alloc: Global,
+    home: &mut H,
+    directory: &str,
+    head: &Head,
+    resume: bool,
+) -> Result<(World<E>, Items), Status>
+    requires kinds { (kind : Kind) → E.takes kind }
+    ensures opened { IfOk result (λ r. IsAttachedOver E.takes E.stands_for (H.file home.old) head.now resume r.0 r.1) }
+    ensures held { IfOk result (λ r. AreHeld (H.file home.new) (H.reach home.new) r.0) }
+    ensures refused { IfErr result (IsUnopenedAs (H.file home.old) head.now resume) }
+    ensures entered { OnOk result (H.entered home.new ≡ Some directory.now) }
+    ensures device { (spot : Spot) → IsErrOf result (Status.Device spot) → HasFailed H.faults H.last_failed spot home.old home.new }
 {
-    if done < lines || long {
-        Some(done as u32 + 2)
-    } else {
-        None
+    enter(alloc, home, directory)?;
+    match World::<E>::attach(alloc, home, head, resume) {
+        Ok(opened) => Ok(opened),
+        Err(fault) => Err(of_world(fault)),
     }
 }
 
-/// Replays the lines behind a head that is built.
-fn replay_lines(
+/// The head that an item tells.
+fn head_in(told: Item) -> Head
+    requires { (head : Head) × (told.what ≡ item.Head head) }
+    ensures { told.what ≡ item.Head result }
+{
+    match told.what {
+        ItemKind::Head(head) => head,
+        _ => unreachable!(),
+    }
+}
+
+/// Appends the text of the first line: the head, and what opening told.
+fn put_opening(head: Head, items: &[Item], into: &mut Vec<u8>) -> Result<Head, AllocError>
+    ensures text { OnOk result (into.new.items ≡ into.old.items ++ opening_text head items.now) }
+    ensures head { IfOk result (λ same. same ≡ head) }
+{
+    let first = Item {
+        number: 1,
+        what: ItemKind::Head(head),
+    };
+    put_item(&first, into)?;
+    put_items(items, into)?;
+    Ok(head_in(first))
+}
+
+/// Puts the text of the first line.
+fn tell_opening<K: Sink>(
     alloc: Global,
+    out: &mut K,
     head: Head,
-    lines: &[&[u8]],
-    long: bool,
-) -> Result<Replayed, AllocError>
-    requires { length lines.now ≤ 524290 }
-    ensures { IfOk result (λ did. IsReplayed head (texts_of lines.now) long did.text.items did.stop) }
+    items: &[Item],
+) -> Result<Head, Status>
+    ensures told { IsOpeningTold head items.now (K.told out.old) (K.told out.new) result }
+    ensures failed { IsErrOf result Status.Write → HasRisen (K.faults out.old) (K.faults out.new) }
+    ensures quiet { (IsErrOf result Status.Write → ⊥) → K.faults out.new ≡ K.faults out.old }
 {
-    let ReadEvents { events, fault: _ } = read_events(alloc, lines, &head)?;
-    let done = built_front(events);
-    let stop = stop_behind(done.len(), lines.len(), long);
-    let text = text_of(alloc, head, done)?;
-    Ok(Replayed { text, stop })
+    let mut text = Vec::new(alloc);
+    let head = put_opening(head, items, &mut text)?;
+    put(alloc, out, &text)?;
+    Ok(head)
 }
 
-/// Replays lines, the first of which is the head.
-fn replay_all(
+/// Replays the schedule of the source over the logs of a directory, up to its end or to what ends it before.
+fn replayed<E: Engine + Drop, S: Source, K: Sink, H: Home>(
     alloc: Global,
-    first: &[u8],
-    lines: &[&[u8]],
-    long: bool,
-) -> Result<Replayed, AllocError>
-    requires { length lines.now ≤ 524290 }
-    ensures { IfOk result (λ did. LinesReplayed (first.now ∷ texts_of lines.now) long did.text.items did.stop) }
+    directory: &str,
+    resume: bool,
+    source: &mut S,
+    out: &mut K,
+    home: &mut H,
+) -> Result<(), Status>
+    requires kinds { (kind : Kind) → E.takes kind }
+    ensures end { (input held : List ℕ) → S.left source.old ≡ Some input → K.told out.old ≡ Some held →
+        IsRunEnd resume input held (H.file home.old) (H.file home.new) (K.told out.new) (status_of result) }
+    ensures entered { OnOk result (H.entered home.new ≡ Some directory.now) }
+    ensures read { IsErrOf result Status.Read → HasRisen (S.faults source.old) (S.faults source.new) }
+    ensures write { IsErrOf result Status.Write → HasRisen (K.faults out.old) (K.faults out.new) }
+    ensures device { (spot : Spot) → IsErrOf result (Status.Device spot) → HasFailed H.faults H.last_failed spot home.old home.new }
 {
-    match read_head(alloc, first) {
-        Ok(head) => {
-            if is_built_head(&head) {
-                replay_lines(alloc, head, lines, long)
-            } else {
-                Ok(without_head(alloc))
-            }
-        }
-        Err(LineFault::Memory) => Err(AllocError),
-        Err(_) => Ok(without_head(alloc)),
-    }
+    let mut lines = Lines::new(alloc, LINE, LINES)?;
+    let head = head_of(alloc, &mut lines, source)?;
+    let (mut world, items) = open::<E, H>(alloc, home, directory, &head, resume)?;
+    let head = tell_opening(alloc, out, head, items.as_slice())?;
+    replay_lines(alloc, &mut lines, source, &head, &mut world, home, out)
 }
 
-/// Replays an input of at most 524,289 bytes over fresh logs, up to the first line that is not built,
-/// or that holds its byte 524,289.
-pub fn replay_input(alloc: Global, input: &[u8]) -> Result<Replayed, AllocError>
-    requires { length input.now ≤ 524289 }
-    ensures { IfOk result (λ did. Replays input.now did.text.items did.stop) }
+/// Replays the schedule of the source over the logs of a directory: over fresh ones, or over those that a run left. The engine is one that takes every kind.
+pub(crate) fn replay<E: Engine + Drop, S: Source, K: Sink, H: Home>(
+    alloc: Global,
+    directory: &str,
+    resume: bool,
+    source: &mut S,
+    out: &mut K,
+    home: &mut H,
+) -> Status
+    requires kinds { (kind : Kind) → E.takes kind }
+    ensures end { (input held : List ℕ) → S.left source.old ≡ Some input → K.told out.old ≡ Some held →
+        IsRunEnd resume input held (H.file home.old) (H.file home.new) (K.told out.new) result }
+    ensures entered { result ≡ Status.Done → H.entered home.new ≡ Some directory.now }
+    ensures read { result ≡ Status.Read → HasRisen (S.faults source.old) (S.faults source.new) }
+    ensures write { result ≡ Status.Write → HasRisen (K.faults out.old) (K.faults out.new) }
+    ensures device { (spot : Spot) → result ≡ Status.Device spot → HasFailed H.faults H.last_failed spot home.old home.new }
 {
-    let lines = lines_within(alloc, input)?;
-    match lines.as_slice() {
-        [] => Ok(without_head(alloc)),
-        [first, behind @ ..] => replay_all(alloc, first, behind, is_long(input)),
+    match replayed::<E, S, K, H>(alloc, directory, resume, source, out, home) {
+        Ok(()) => Status::Done,
+        Err(status) => status,
     }
 }

@@ -1,13 +1,18 @@
 //! The words of the command line.
-ghost use Rattle.std.specs.Prelude.{◌≡◌};
-ghost use Rattle.co_top.specs.Command.{IsCommand, is_directory};
+ghost use Rattle.std.specs.Prelude.{◌≡◌, ◌∷◌, [], true};
+ghost use Rattle.co_top.specs.Command.{IsCommand, is_directory, is_word};
 
 /// What the words of the command line ask for.
 #[derive(Clone, Copy, PartialEq, Eq)]
 pub(crate) enum Command<'a> {
-    /// `run DIR`: a schedule is replayed.
-    Run,
-    /// `records DIR`: the durable records of the logs in a directory are written.
+    /// A schedule is replayed over the logs of a directory: over fresh ones, or over those that a run left.
+    Run {
+        /// Which directory.
+        directory: &'a str,
+        /// Whether the logs are those that a run left.
+        resume: bool,
+    },
+    /// The durable records of the logs in a directory are written.
     Records {
         /// Which directory.
         directory: &'a str,
@@ -26,23 +31,63 @@ fn is_directory(word: &[u8]) -> bool
     }
 }
 
-/// The command that the words are.
-pub(crate) fn command_of(words: &[String]) -> Command<'_>
-    ensures { IsCommand words.now result }
+/// Whether the word is this text.
+fn is_word(word: &String, text: &[u8]) -> bool
+    ensures { result ≡ is_word text.now word.now }
 {
-    let [command, directory] = words else {
-        return Command::Unknown;
-    };
+    word.as_bytes() == text
+}
+
+/// A command of two words.
+fn of_two<'a>(command: &String, directory: &'a String) -> Command<'a>
+    ensures { IsCommand (command.now ∷ directory.now ∷ []) result }
+{
     if !is_directory(directory.as_bytes()) {
         return Command::Unknown;
     }
-    if command.as_bytes() == b"run".as_slice() {
-        return Command::Run;
+    if is_word(command, b"run") {
+        return Command::Run {
+            directory: directory.as_str(),
+            resume: false,
+        };
     }
-    if command.as_bytes() == b"records".as_slice() {
+    if is_word(command, b"records") {
         return Command::Records {
             directory: directory.as_str(),
         };
     }
     Command::Unknown
+}
+
+/// A command of three words: a run that is resumed, with the name of a directory before the word for that or behind it.
+fn of_three<'a>(command: &String, first: &'a String, second: &'a String) -> Command<'a>
+    ensures { IsCommand (command.now ∷ first.now ∷ second.now ∷ []) result }
+{
+    if !is_word(command, b"run") {
+        return Command::Unknown;
+    }
+    if is_word(first, b"--resume") && is_directory(second.as_bytes()) {
+        return Command::Run {
+            directory: second.as_str(),
+            resume: true,
+        };
+    }
+    if is_word(second, b"--resume") && is_directory(first.as_bytes()) {
+        return Command::Run {
+            directory: first.as_str(),
+            resume: true,
+        };
+    }
+    Command::Unknown
+}
+
+/// The command that the words are.
+pub(crate) fn command_of(words: &[String]) -> Command<'_>
+    ensures { IsCommand words.now result }
+{
+    match words {
+        [command, directory] => of_two(command, directory),
+        [command, first, second] => of_three(command, first, second),
+        _ => Command::Unknown,
+    }
 }

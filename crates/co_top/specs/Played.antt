@@ -1,0 +1,65 @@
+-- How far the lines behind a head were done, what was told of them, and for what the federation stands then.
+use Rattle.std.specs.Prelude.{ℕ, suc, ◌≡◌, List, [], ◌++◌, length, take, Option, Some, Result, Ok, Err}
+use Rattle.std.specs.List.{AllByRecursion}
+use Rattle.co_base.specs.declared.head.Head.{Head}
+use Rattle.co_base.specs.declared.head.Kind.{Kind}
+use Rattle.co_message.specs.declared.event.Event.{Event}
+use Rattle.co_node.specs.Answers.{HomeView}
+use Rattle.co_plain.specs.Federation.{Federation}
+use Rattle.co_plain.specs.Runs.{run, transcript, lines}
+use Rattle.co_replay.specs.Schedule.{HasLine}
+use Rattle.co_replay.specs.Transcript.{items_text}
+use Rattle.co_state.specs.declared.engine_state.EngineState.{EngineState}
+use Rattle.co_world.specs.Conditions.{IsReady}
+use Rattle.co_world.specs.Standing.{RepresentsWorld, AreHeld}
+use Rattle.co_world.specs.declared.world.World.{World}
+use Rattle.co_top.specs.Front.{StandsBehind, IsLineFault}
+use Rattle.co_top.specs.declared.status.LimitKind.TheVariants as limit
+use Rattle.co_top.specs.declared.status.Status.{Status}
+use Rattle.co_top.specs.declared.status.Status.TheVariants as status
+
+-- every state of a run of a schedule with this head is one in which an event can be done
+abbrev pub StaysReady : Head → Federation → Type 0
+StaysReady head s0 = (events : List Event) → AllByRecursion (HasLine head) events → IsReady (run (lines events) s0)
+
+-- The events of the lines that were done, where the source tells the text behind the head; and what the sink holds, where it tells that: what it held,
+-- and the text of their transcript.
+pub record IsTold (head : Head) (s0 : Federation) (text held told : Option (List ℕ)) : Type 0 where
+  pub events : List Event
+  pub valid : AllByRecursion (HasLine head) events
+  pub left : (t : List ℕ) → text ≡ Some t → (rest : List ℕ) × StandsBehind head t events rest
+  pub whole : (h : List ℕ) → held ≡ Some h → told ≡ Some (h ++ items_text (transcript 2 events s0))
+
+-- so, but for a front of the text alone
+pub record IsToldInPart (head : Head) (s0 : Federation) (text held told : Option (List ℕ)) : Type 0 where
+  pub events : List Event
+  pub valid : AllByRecursion (HasLine head) events
+  pub left : (t : List ℕ) → text ≡ Some t → (rest : List ℕ) × StandsBehind head t events rest
+  pub part : (h : List ℕ) → held ≡ Some h → (count : ℕ) × (told ≡ Some (h ++ take count (items_text (transcript 2 events s0))))
+
+-- the federation stands for what these events leave, and the directory holds its logs
+pub record StandsFor {E : Type 0} (takes : Kind → Type 0) (stands_for : E → EngineState → Type 0) (s0 : Federation) (home : HomeView) (w : World E) (events : List Event) : Type 0 where
+  pub stands : RepresentsWorld takes stands_for w (run (lines events) s0)
+  pub held : AreHeld home.file home.reach w
+
+-- the lines that were done, and why the next one gave no event
+pub record HasStopped {E : Type 0} (takes : Kind → Type 0) (stands_for : E → EngineState → Type 0) (head : Head) (s0 : Federation) (text held told : Option (List ℕ)) (home : HomeView) (w : World E) (ended : Status) : Type 0 where
+  pub done : IsTold head s0 text held told
+  pub stands : StandsFor takes stands_for s0 home w done.events
+  pub cause : (t : List ℕ) (e : text ≡ Some t) → IsLineFault head (length done.events) (done.left t e).0 ended
+
+-- How the lines behind a head end, by the status.
+abbrev pub IsOver : {E : Type 0} → (Kind → Type 0) → (E → EngineState → Type 0) → Head → Federation → Option (List ℕ) → Option (List ℕ) → Option (List ℕ) → HomeView → World E → Result (Unit {0}) Status → Type 0
+IsOver takes stands_for head s0 text held told home w (Ok u) =
+    (done : IsTold head s0 text held told) × StandsFor takes stands_for s0 home w done.events × ((t : List ℕ) (e : text ≡ Some t) → (done.left t e).0 ≡ [])
+IsOver takes stands_for head s0 text held told home w (Err (status.Schedule line what)) = HasStopped takes stands_for head s0 text held told home w (status.Schedule line what)
+IsOver takes stands_for head s0 text held told home w (Err (status.Limit (limit.Line line))) = HasStopped takes stands_for head s0 text held told home w (status.Limit (limit.Line line))
+IsOver takes stands_for head s0 text held told home w (Err (status.Limit limit.Lines)) = HasStopped takes stands_for head s0 text held told home w (status.Limit limit.Lines)
+IsOver takes stands_for head s0 text held told home w (Err status.Read) = HasStopped takes stands_for head s0 text held told home w status.Read
+IsOver takes stands_for head s0 text held told home w (Err status.Write) = (done : IsToldInPart head s0 text held told) × StandsFor takes stands_for s0 home w done.events
+IsOver takes stands_for head s0 text held told home w (Err status.Memory) = IsToldInPart head s0 text held told
+IsOver takes stands_for head s0 text held told home w (Err (status.Device spot)) = IsTold head s0 text held told
+IsOver takes stands_for head s0 text held told home w (Err (status.Differs spot at kept read)) = IsTold head s0 text held told
+IsOver takes stands_for head s0 text held told home w (Err (status.Limit (limit.Log spot))) = IsTold head s0 text held told
+IsOver takes stands_for head s0 text held told home w (Err (status.Limit limit.Transactions)) = IsTold head s0 text held told
+IsOver takes stands_for head s0 text held told home w (Err _) = ⊥

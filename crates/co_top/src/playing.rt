@@ -1,0 +1,117 @@
+//! The events of a schedule, one at a time: each is done, and then told.
+ghost use Rattle.std.specs.Prelude.{◌≡◌, ◌≤◌, ℕ, Ok, Err, length, IsErrOf};
+ghost use Rattle.co_outside.specs.Faults.{HasRisen};
+ghost use Rattle.co_outside.specs.declared.spot.Spot.{Spot};
+ghost use Rattle.co_disk.specs.Homes.{HasFailed};
+ghost use Rattle.co_node.specs.Answers.{seen};
+ghost use Rattle.co_plain.specs.Federation.{Federation};
+ghost use Rattle.co_schedule.specs.Lines.{ahead};
+ghost use Rattle.co_schedule.specs.View.{IsEventFor};
+ghost use Rattle.co_world.specs.Conditions.{IsReady};
+ghost use Rattle.co_world.specs.Standing.{RepresentsWorld, AreHeld};
+ghost use Rattle.co_top.specs.Front.{HasRead};
+ghost use Rattle.co_top.specs.Played.{StaysReady, IsOver};
+ghost use Rattle.co_top.specs.Telling.{IsToldOf, IsPut, IsPutInPart};
+ghost use Rattle.co_replay.specs.Transcript.{items_text};
+ghost use Rattle.co_message.specs.declared.item.ItemKind.TheVariants as item;
+ghost use Rattle.co_plain.specs.Runs.{numbered};
+
+use crate::lines::event_of;
+use crate::replay::LINES;
+use crate::status::{Status, of_world};
+use co_base::Head;
+use co_engine::Engine;
+use co_message::{Event, Item};
+use co_outside::{Home, Sink, SinkFault, Source, put_all};
+use co_replay::{put_event, put_items};
+use co_schedule::Lines;
+use co_world::World;
+use std::alloc::{AllocError, Global};
+
+/// Puts a text to the sink of the transcript.
+pub(crate) fn put<K: Sink>(alloc: Global, out: &mut K, text: &[u8]) -> Result<(), Status>
+    ensures whole { result ≡ Ok tt → IsPut text.now (K.told out.old) (K.told out.new) }
+    ensures part { (why : Status) → result ≡ Err why → ((why ≡ Status.Write) ⊎ (why ≡ Status.Memory)) × IsPutInPart text.now (K.told out.old) (K.told out.new) }
+    ensures counts { K.faults out.old ≤ K.faults out.new }
+    ensures failed { IsErrOf result Status.Write → HasRisen (K.faults out.old) (K.faults out.new) }
+    ensures quiet { (IsErrOf result Status.Write → ⊥) → K.faults out.new ≡ K.faults out.old }
+{
+    match put_all(alloc, out, text) {
+        Ok(()) => Ok(()),
+        Err(SinkFault::Failed) => Err(Status::Write),
+        Err(SinkFault::Memory) => Err(Status::Memory),
+    }
+}
+
+/// The text of an event and of what came of it.
+fn text_of(
+    alloc: Global,
+    number: u32,
+    event: Event,
+    items: &[Item],
+) -> Result<Vec<u8>, AllocError>
+    ensures { IfOk result (λ text. text.items ≡ items_text (numbered number (item.Event event ∷ []) ++ items.now)) }
+{
+    let mut text = Vec::new(alloc);
+    let _ = put_event(number, event, &mut text)?;
+    put_items(items, &mut text)?;
+    Ok(text)
+}
+
+/// Does the event of the line of this number, and tells it.
+fn tell_event<E: Engine + Drop, K: Sink, H: Home>(
+    alloc: Global,
+    world: &mut World<E>,
+    home: &mut H,
+    out: &mut K,
+    number: u32,
+    event: Event,
+) -> Result<(), Status>
+    requires event { IsEventFor (length world.old.members.items) (length world.old.coords.items) event }
+    requires held { AreHeld (H.file home.old) (H.reach home.old) world.old }
+    requires stands { (s : Federation) × RepresentsWorld E.takes E.stands_for world.old s × IsReady s }
+    ensures told { (s : Federation) → RepresentsWorld E.takes E.stands_for world.old s → IsReady s →
+        IsToldOf E.takes E.stands_for s number event (K.told out.old) (K.told out.new) (seen H.file H.reach H.faults H.last_failed home.new) world.new result }
+    ensures entered { H.entered home.new ≡ H.entered home.old }
+    ensures device { (spot : Spot) → IsErrOf result (Status.Device spot) → HasFailed H.faults H.last_failed spot home.old home.new }
+    ensures whole { ((spot : Spot) → IsErrOf result (Status.Device spot) → ⊥) → H.faults home.new ≡ H.faults home.old }
+    ensures failed { IsErrOf result Status.Write → HasRisen (K.faults out.old) (K.faults out.new) }
+    ensures quiet { (IsErrOf result Status.Write → ⊥) → K.faults out.new ≡ K.faults out.old }
+{
+    match world.step(home, number, &event) {
+        Ok(items) => {
+            let text = text_of(alloc, number, event, items.as_slice())?;
+            put(alloc, out, &text)
+        }
+        Err(fault) => Err(of_world(fault)),
+    }
+}
+
+/// Does and tells the lines behind the head, up to the end or to the first line that gives no event.
+pub(crate) fn replay_lines<E: Engine + Drop, S: Source, K: Sink, H: Home>(
+    alloc: Global,
+    lines: &mut Lines,
+    source: &mut S,
+    head: &Head,
+    world: &mut World<E>,
+    home: &mut H,
+    out: &mut K,
+) -> Result<(), Status>
+    requires read { HasRead 1 lines.old }
+    requires held { AreHeld (H.file home.old) (H.reach home.old) world.old }
+    requires stands { (s0 : Federation) × RepresentsWorld E.takes E.stands_for world.old s0 × StaysReady head.now s0 × (s0.kinds ≡ head.now.kinds) × (s0.coordinators ≡ head.now.coords) }
+    ensures over { (s0 : Federation) → RepresentsWorld E.takes E.stands_for world.old s0 → StaysReady head.now s0 → (s0.kinds ≡ head.now.kinds) → (s0.coordinators ≡ head.now.coords) →
+        IsOver E.takes E.stands_for head.now s0 (ahead lines.old (S.left source.old)) (K.told out.old) (K.told out.new) (seen H.file H.reach H.faults H.last_failed home.new) world.new result }
+    ensures entered { H.entered home.new ≡ H.entered home.old }
+    ensures device { (spot : Spot) → IsErrOf result (Status.Device spot) → HasFailed H.faults H.last_failed spot home.old home.new }
+    ensures failed { IsErrOf result Status.Write → HasRisen (K.faults out.old) (K.faults out.new) }
+    ensures read { IsErrOf result Status.Read → HasRisen (S.faults source.old) (S.faults source.new) }
+{
+    for number in 2..LINES + 2 {
+        match event_of(alloc, lines, source, head, number)? {
+            Some(event) => tell_event(alloc, world, home, out, number, event)?,
+            None => return Ok(()),
+        }
+    }
+    unreachable!()
+}
