@@ -1,1 +1,5 @@
 pub mod Recording
+pub mod Laws
+pub mod LeftRecords
+pub mod Left
+pub mod Ending

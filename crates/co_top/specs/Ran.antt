@@ -1,5 +1,6 @@
 -- What a run did, and what is promised of it.
 use Rattle.std.specs.Prelude.{ℕ, Bool, true, false, ◌≡◌, ◌⊎◌, List, [], ◌++◌, length, take, map, Option, Some}
+use Rattle.std.specs.List.{AllByRecursion}
 use Rattle.co_base.specs.declared.head.Head.{Head}
 use Rattle.co_base.specs.declared.node.Node.TheVariants as node
 use Rattle.co_message.specs.declared.event.Event.{Event}
@@ -17,6 +18,7 @@ use Rattle.co_plain.specs.Opening.{Found, opened}
 use Rattle.co_plain.specs.Promises.{SerialReads, Acknowledged, MembersAgree, LogsStaySound, serial_records}
 use Rattle.co_plain.specs.Runs.{run, transcript, lines}
 use Rattle.co_plain.specs.SoundLogs.{AreSound}
+use Rattle.co_replay.specs.Schedule.{HasLine}
 use Rattle.co_replay.specs.Transcript.{items_text, run_items}
 use Rattle.co_law_runs.specs.OnlyTimers.{IsBetween}
 use Rattle.co_opening.specs.Found.{AreFound, MayRun, AreUnused}
@@ -32,6 +34,7 @@ pub record Ran (resume : Bool) (input : List ℕ) (file : Spot → Option File) 
   pub text : List ℕ
   pub headed : IsHeaded input head text
   pub events : List Event
+  pub valid : AllByRecursion (HasLine head) events
   pub rest : List ℕ
   pub front : StandsBehind head text events rest
   pub found_member : ℕ → Found

@@ -1,0 +1,182 @@
+-- How a replay ends, from how its lines were played behind the text of its head.
+use Rattle.std.proofs.Common.{◌≡◌, ◌⊎◌, inl, inr, ℕ, ◌+◌, ◌≤◌, Bool, false, List, [], ◌∷◌, ◌++◌, length, take, map, Option, None, Some, Result, Ok, Err, refl, sym, ap, ◌∙◌, subst, absurd, append-nil, append_assoc}
+use Rattle.std.specs.List.{AllByRecursion}
+use Rattle.co_base.specs.declared.head.Head.{Head}
+use Rattle.co_base.specs.declared.head.Kind.{Kind}
+use Rattle.co_message.specs.declared.event.Event.{Event}
+use Rattle.co_message.specs.declared.item.Item.{Item}
+use Rattle.co_message.specs.declared.item.ItemKind.TheVariants as item
+use Rattle.co_outside.specs.declared.spot.Spot.{Spot}
+use Rattle.co_outside.specs.Home.{File}
+use Rattle.co_node.specs.Answers.{HomeView}
+use Rattle.co_plain.specs.Federation.{Federation}
+use Rattle.co_plain.specs.Opening.{Found, opened, opening_items}
+use Rattle.co_plain.specs.Runs.{run, lines, numbered, transcript}
+use Rattle.co_state.specs.declared.engine_state.EngineState.{EngineState}
+use Rattle.co_replay.specs.Schedule.{HasLine}
+use Rattle.co_replay.specs.Transcript.{items_text, run_items}
+use Rattle.co_replay.proofs.Appended.{items_text-append}
+use Rattle.co_world.specs.Attached.{IsAttachedOver}
+use Rattle.co_world.specs.Standing.{RepresentsWorld, AreHeld}
+use Rattle.co_world.specs.declared.world.World.{World}
+use Rattle.co_durable.specs.declared.fault.WorldFault.TheVariants as world
+use Rattle.co_top.specs.Front.{IsHeaded, StandsBehind, AtStart, IsHeadFault, IsLineFault}
+use Rattle.co_top.specs.Played.{IsTold, IsToldInPart, StandsFor, HasStopped, IsOver}
+use Rattle.co_top.specs.Ran.{Ran, start_of, end_of, text_of, AreLeftAs, AreLeftBy, HasRun, HasRunInPart, HasStoppedAt, IsUnopenedFor, IsRunEnd}
+use Rattle.co_top.specs.Replayed.{status_of, opening_text, IsUnopenedAs}
+use Rattle.co_top.specs.declared.status.LimitKind.TheVariants as limit
+use Rattle.co_top.specs.declared.status.Status.{Status}
+use Rattle.co_top.specs.declared.status.Status.TheVariants as status
+use Rattle.co_top.proofs.Laws.{fit, promised}
+use Rattle.co_top.proofs.Left.{files_left, left_by}
+
+take_behind : (xs ys : List ℕ) (n : ℕ) → take (length xs + n) (xs ++ ys) ≡ xs ++ take n ys
+take_behind [] ys n = refl
+take_behind (x ∷ xs) ys n = ap (λ zs. x ∷ zs) (take_behind xs ys n)
+
+module _ {E : Type 0} (takes : Kind → Type 0) (stands_for : E → EngineState → Type 0) (resume : Bool) (input held : List ℕ) (old : Spot → Option File) (head : Head) (text : List ℕ) (headed : IsHeaded input head text)
+    (before : World E) (items : List Item) (at : IsAttachedOver takes stands_for old head resume before items) where
+  s0 : Federation
+  s0 = opened head.kinds head.coords at.found_member at.found_coord
+
+  -- a run of these events
+  ran : (events : List Event) → AllByRecursion (HasLine head) events → (left : (rest : List ℕ) × StandsBehind head text events rest) → Ran resume input old
+  ran events valid left =
+      record {
+        head = head;
+        text = text;
+        headed = headed;
+        events = events;
+        valid = valid;
+        rest = left.0;
+        front = left.1;
+        found_member = at.found_member;
+        found_coord = at.found_coord;
+        found = at.found;
+        may = at.may;
+        unused = at.unused;
+      }
+
+  -- its text is that of the first line, and then that of the events
+  all_text : (events : List Event) → items_text (run_items head at.found_member at.found_coord events) ≡ opening_text head items ++ items_text (transcript 2 events s0)
+  all_text events =
+      items_text-append (numbered 1 (item.Head head ∷ opening_items head.kinds head.coords at.found_member at.found_coord)) (transcript 2 events s0)
+      ∙ ap (λ (more : List Item). items_text (numbered 1 (item.Head head ∷ []) ++ more) ++ items_text (transcript 2 events s0)) (sym at.told)
+
+  whole_text : (events : List Event) (told : Option (List ℕ)) → told ≡ Some ((held ++ opening_text head items) ++ items_text (transcript 2 events s0)) →
+      told ≡ Some (held ++ items_text (run_items head at.found_member at.found_coord events))
+  whole_text events told e =
+      e ∙ ap Some (append_assoc held (opening_text head items) (items_text (transcript 2 events s0)) ∙ ap (λ t. held ++ t) (sym (all_text events)))
+
+  part_text : (events : List Event) (told : Option (List ℕ)) → (count : ℕ) × (told ≡ Some ((held ++ opening_text head items) ++ take count (items_text (transcript 2 events s0)))) →
+      (count : ℕ) × (told ≡ Some (held ++ take count (items_text (run_items head at.found_member at.found_coord events))))
+  part_text events told p = (
+    length (opening_text head items) + p.0,
+    p.1 ∙ ap Some (
+      append_assoc held (opening_text head items) (take p.0 (items_text (transcript 2 events s0)))
+      ∙ ap (λ t. held ++ t) (
+        sym (take_behind (opening_text head items) (items_text (transcript 2 events s0)) p.0)
+        ∙ ap (take (length (opening_text head items) + p.0)) (sym (all_text events)))),
+  )
+
+  module _ (told : Option (List ℕ)) where
+    mid : Option (List ℕ)
+    mid = Some (held ++ opening_text head items)
+
+    has_run : IsTold head s0 (Some text) mid told → HasRun resume input held old told
+    has_run p =
+        let r = ran p.events p.valid (p.left text refl) in
+        record { ran = r; promises = promised r; transcript = whole_text p.events told (p.whole (held ++ opening_text head items) refl) }
+
+    has_run_in_part : IsToldInPart head s0 (Some text) mid told → HasRunInPart resume input held old told
+    has_run_in_part p =
+        let r = ran p.events p.valid (p.left text refl) in
+        let t = part_text p.events told (p.part (held ++ opening_text head items) refl) in
+        record { ran = r; promises = promised r; count = t.0; transcript = t.1 }
+
+    module _ (home : HomeView) (w : World E) where
+      files_of : (events : List Event) (valid : AllByRecursion (HasLine head) events) → StandsFor takes stands_for s0 home w events →
+          AreLeftAs home.file (length head.kinds) head.coords (run (lines events) s0)
+      files_of events valid f =
+          let z = run (lines events) s0 in
+          let same = fit head at.found_member at.found_coord at.may events valid in
+          subst (λ ks. AreLeftAs home.file (length ks) head.coords z) same.kinds (
+            subst (λ c. AreLeftAs home.file (length z.kinds) c z) same.coordinators (files_left takes stands_for home.file home.reach w z f.stands f.held))
+
+      stopped : (ended : Status) → HasStopped takes stands_for head s0 (Some text) mid told home w ended → HasStoppedAt resume input held old home.file told ended
+      stopped ended p =
+          let r = has_run p.done in
+          record { run = r; files = left_by r.ran home.file (files_of p.done.events p.done.valid p.stands); cause = p.cause text refl }
+
+      pub over : (result : Result (Unit {0}) Status) → IsOver takes stands_for head s0 (Some text) mid told home w result → IsRunEnd resume input held old home.file told (status_of result)
+      over (Ok u) p =
+          let r = has_run p.0 in
+          (r, left_by r.ran home.file (files_of p.0.events p.0.valid p.1), p.2 text refl)
+      over (Err status.Done) p = absurd p
+      over (Err status.Usage) p = absurd p
+      over (Err (status.Schedule line what)) p = inr (stopped (status.Schedule line what) p)
+      over (Err status.Read) p = inr (stopped status.Read p)
+      over (Err status.Write) p =
+          let r = has_run_in_part p.0 in
+          (r, left_by r.ran home.file (files_of p.0.events p.0.valid p.1))
+      over (Err (status.Device spot)) p = inr (has_run p)
+      over (Err (status.Differs spot place kept read)) p = has_run p
+      over (Err (status.InUse spot)) p = absurd p
+      over (Err (status.BadLog spot place)) p = absurd p
+      over (Err (status.Limit (limit.Line line))) p = inr (stopped (status.Limit (limit.Line line)) p)
+      over (Err (status.Limit limit.Lines)) p = stopped (status.Limit limit.Lines) p
+      over (Err (status.Limit limit.Transactions)) p = inr (has_run p)
+      over (Err (status.Limit (limit.Log spot))) p = inr (has_run p)
+      over (Err status.Memory) p = inr (has_run_in_part p)
+      over (Err (status.OldLog spot)) p = absurd p
+
+      -- no line was played: a front of the text of the head was put
+      pub first : RepresentsWorld takes stands_for w s0 → AreHeld home.file home.reach w → (count : ℕ) × (told ≡ Some (held ++ take count (opening_text head items))) →
+          (done : HasRunInPart resume input held old told) × AreLeftBy done.ran home.file
+      first stands kept p =
+          let r = ran [] tt (text, AtStart text) in (
+            record {
+              ran = r;
+              promises = promised r;
+              count = p.0;
+              transcript = p.1 ∙ ap (λ t. Some (held ++ take p.0 t)) (sym (append-nil (opening_text head items)) ∙ sym (all_text []));
+            },
+            left_by r home.file (files_of [] tt (record { stands = stands; held = kept })),
+          )
+
+-- nothing was opened
+pub unopened : (resume : Bool) (input held : List ℕ) (old new : Spot → Option File) (told : Option (List ℕ)) (head : Head) (text : List ℕ) → IsHeaded input head text → told ≡ Some held →
+    (why : Status) → IsUnopenedAs old head resume why → IsRunEnd resume input held old new told why
+unopened resume input held old new told head text headed same status.Done u = absurd u
+unopened resume input held old new told head text headed same status.Usage u = absurd u
+unopened resume input held old new told head text headed same (status.Schedule line what) u = absurd u
+unopened resume input held old new told head text headed same status.Read u = absurd u
+unopened resume input held old new told head text headed same status.Write u = absurd u
+unopened resume input held old new told head text headed same (status.Device spot) u = inl same
+unopened resume input held old new told head text headed same (status.Differs spot place kept read) u = absurd u
+unopened resume input held old new told head text headed same (status.InUse spot) u = (same, record { head = head; text = text; headed = headed; cause = u })
+unopened resume input held old new told head text headed same (status.BadLog spot place) u = (same, record { head = head; text = text; headed = headed; cause = u })
+unopened resume input held old new told head text headed same (status.Limit (limit.Line line)) u = absurd u
+unopened resume input held old new told head text headed same (status.Limit limit.Lines) u = absurd u
+unopened resume input held old new told head text headed same (status.Limit limit.Transactions) u = inl (same, record { head = head; text = text; headed = headed; cause = u })
+unopened resume input held old new told head text headed same (status.Limit (limit.Log spot)) u = inl (same, record { head = head; text = text; headed = headed; cause = u })
+unopened resume input held old new told head text headed same status.Memory u = inl same
+unopened resume input held old new told head text headed same (status.OldLog spot) u = (same, record { head = head; text = text; headed = headed; cause = u })
+
+-- the head was not read
+pub unheaded : (resume : Bool) (input held : List ℕ) (old new : Spot → Option File) (told : Option (List ℕ)) → told ≡ Some held → (why : Status) → IsHeadFault input why → IsRunEnd resume input held old new told why
+unheaded resume input held old new told same status.Done u = absurd u
+unheaded resume input held old new told same status.Usage u = absurd u
+unheaded resume input held old new told same (status.Schedule line what) u = inl (same, u)
+unheaded resume input held old new told same status.Read u = inl same
+unheaded resume input held old new told same status.Write u = absurd u
+unheaded resume input held old new told same (status.Device spot) u = absurd u
+unheaded resume input held old new told same (status.Differs spot place kept read) u = absurd u
+unheaded resume input held old new told same (status.InUse spot) u = absurd u
+unheaded resume input held old new told same (status.BadLog spot place) u = absurd u
+unheaded resume input held old new told same (status.Limit (limit.Line line)) u = inl (same, u)
+unheaded resume input held old new told same (status.Limit limit.Lines) u = absurd u
+unheaded resume input held old new told same (status.Limit limit.Transactions) u = absurd u
+unheaded resume input held old new told same (status.Limit (limit.Log spot)) u = absurd u
+unheaded resume input held old new told same status.Memory u = inl same
+unheaded resume input held old new told same (status.OldLog spot) u = absurd u
