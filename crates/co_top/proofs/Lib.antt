@@ -3,3 +3,4 @@ pub mod Laws
 pub mod LeftRecords
 pub mod Left
 pub mod Ending
+pub mod Playing

@@ -43,3 +43,12 @@ IsEventRead head count left ahead (Err why) = IsLineFault head count left why
 abbrev pub some_of : Result Event Status → Result (Option Event) Status
 some_of (Ok event) = Ok (Some event)
 some_of (Err why) = Err why
+
+-- the statuses of a line that gave no event
+abbrev pub IsReadStatus : Status → Type 0
+IsReadStatus (status.Schedule number what) = Unit {0}
+IsReadStatus (status.Limit (limit.Line number)) = Unit {0}
+IsReadStatus (status.Limit limit.Lines) = Unit {0}
+IsReadStatus status.Read = Unit {0}
+IsReadStatus status.Memory = Unit {0}
+IsReadStatus _ = ⊥

@@ -1,10 +1,10 @@
 //! The lines of a schedule, as its head and as events.
-ghost use Rattle.std.specs.Prelude.{◌≡◌, ◌+◌, ◌≤◌, ℕ, suc, List, Some, IfOk, IsErrOf, OnOk, IfSome};
+ghost use Rattle.std.specs.Prelude.{◌≡◌, ◌+◌, ◌≤◌, ℕ, suc, List, Some, IfOk, IfErr, IsErrOf, OnOk, IfSome};
 ghost use Rattle.co_outside.specs.Faults.{HasRisen};
 ghost use Rattle.co_replay.specs.Schedule.{HasLine};
 ghost use Rattle.co_schedule.specs.Lines.{ahead};
 ghost use Rattle.co_top.specs.Front.{HasRead};
-ghost use Rattle.co_top.specs.Heads.{IsHeadIn, IsEventIn, IsHeadRead, IsEventRead, some_of};
+ghost use Rattle.co_top.specs.Heads.{IsHeadIn, IsEventIn, IsHeadRead, IsEventRead, IsReadStatus, some_of};
 
 use crate::status::{Status, of_line, of_lines};
 use co_base::Head;
@@ -73,6 +73,7 @@ pub(crate) fn event_of<S: Source>(
         IsEventRead head.now count text (ahead lines.new (S.left source.new)) result }
     ensures valid { IfOk result (λ event. IfSome event (HasLine head.now)) }
     ensures one { (count : ℕ) → number ≡ count + 2 → IfOk result (λ event. IfSome event (λ e. HasRead (suc (suc count)) lines.new)) }
+    ensures own { IfErr result IsReadStatus }
     ensures counts { S.faults source.old ≤ S.faults source.new }
     ensures failed { IsErrOf result Status.Read → HasRisen (S.faults source.old) (S.faults source.new) }
     ensures quiet { (IsErrOf result Status.Read → ⊥) → S.faults source.new ≡ S.faults source.old }

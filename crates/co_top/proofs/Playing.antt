@@ -1,0 +1,191 @@
+-- One more line is played, or none is.
+use Rattle.std.proofs.Common.{◌≡◌, ◌⊎◌, inl, inr, ℕ, suc, ◌+◌, ◌≤◌, List, [], ◌∷◌, ◌++◌, length, take, map, Option, None, Some, Result, Ok, Err, refl, sym, ap, ◌∙◌, subst, absurd, append-nil, append_assoc, arith}
+use Rattle.std.proofs.Math.Seq.{take-length}
+use Rattle.std.specs.List.{AllByRecursion}
+use Rattle.co_base.specs.declared.head.Head.{Head}
+use Rattle.co_base.specs.declared.head.Kind.{Kind}
+use Rattle.co_message.specs.declared.event.Event.{Event}
+use Rattle.co_message.specs.declared.item.Item.{Item}
+use Rattle.co_durable.proofs.Pairs.{all_append}
+use Rattle.co_law.proofs.GoingOn.{transcript_more}
+use Rattle.co_law_runs.proofs.Agreement.{run_more}
+use Rattle.co_node.specs.Answers.{HomeView}
+use Rattle.co_plain.specs.Federation.{Federation}
+use Rattle.co_plain.specs.Runs.{run, lines, numbered, transcript}
+use Rattle.co_plain.specs.Step.{step_line}
+use Rattle.co_plain.specs.declared.happening.Happening.{Happening}
+use Rattle.co_plain.specs.declared.happening.Happening.TheVariants as happening
+use Rattle.co_replay.specs.Schedule.{HasLine}
+use Rattle.co_replay.specs.Transcript.{items_text}
+use Rattle.co_replay.proofs.Appended.{items_text-append}
+use Rattle.co_schedule.specs.declared.lines.Lines.{Lines}
+use Rattle.co_state.specs.declared.engine_state.EngineState.{EngineState}
+use Rattle.co_world.specs.Standing.{RepresentsWorld, AreHeld}
+use Rattle.co_world.specs.declared.world.World.{World}
+use Rattle.co_top.specs.Front.{HasRead, StandsBehind, OneMore, IsNext, IsLineFault}
+use Rattle.co_top.specs.Heads.{IsEventRead, IsReadStatus}
+use Rattle.co_top.specs.Played.{IsTold, IsToldInPart, StandsFor, HasStopped, IsOver}
+use Rattle.co_top.specs.Telling.{event_text, IsPut, IsPutInPart, HasStepped, IsToldOf}
+use Rattle.co_top.specs.declared.status.LimitKind.TheVariants as limit
+use Rattle.co_top.specs.declared.status.Status.{Status}
+use Rattle.co_top.specs.declared.status.Status.TheVariants as status
+
+map_more : {A B : Type 0} (f : A → B) (xs : List A) (y : A) → map f (xs ++ y ∷ []) ≡ map f xs ++ f y ∷ []
+map_more f [] y = refl
+map_more f (x ∷ xs) y = ap (λ zs. f x ∷ zs) (map_more f xs y)
+
+count_more : {A : Type 0} (xs : List A) (y : A) → length (xs ++ y ∷ []) ≡ suc (length xs)
+count_more [] y = refl
+count_more (x ∷ xs) y = ap suc (count_more xs y)
+
+take_behind : (xs ys : List ℕ) (n : ℕ) → take (length xs + n) (xs ++ ys) ≡ xs ++ take n ys
+take_behind [] ys n = refl
+take_behind (x ∷ xs) ys n = ap (λ zs. x ∷ zs) (take_behind xs ys n)
+
+-- the run and the text of one more event
+pub run_one : (es : List Event) (e : Event) (s : Federation) → run (lines (es ++ e ∷ [])) s ≡ (step_line (run (lines es) s) e).state
+run_one es e s = ap (λ hs. run hs s) (map_more happening.Line es e) ∙ run_more (lines es) (happening.Line e ∷ []) s
+
+text_one : (es : List Event) (e : Event) (s : Federation) → items_text (transcript 2 (es ++ e ∷ []) s) ≡ items_text (transcript 2 es s) ++ event_text (length es + 2) e (run (lines es) s)
+text_one es e s =
+    let z = run (lines es) s in
+    let more : List Item = transcript (2 + length es) (e ∷ []) z in
+    ap items_text (transcript_more 2 es (e ∷ []) s)
+    ∙ items_text-append (transcript 2 es s) more
+    ∙ ap (λ (is : List Item). items_text (transcript 2 es s) ++ items_text is) (append-nil _)
+    ∙ ap (λ n. items_text (transcript 2 es s) ++ event_text n e z) (let q : 2 + length es ≡ length es + 2 = omega arith in q)
+
+-- ---- what was read
+
+-- what is left behind one more event
+left_one : (head : Head) (text : List ℕ) (es : List Event) (e : Event) → HasLine head e → (left : (rest : List ℕ) × StandsBehind head text es rest) → (rest : List ℕ) → IsNext head (length es) left.0 rest (Some e) →
+    StandsBehind head text (es ++ e ∷ []) rest
+left_one head text es e line left rest next = subst (StandsBehind head text (es ++ e ∷ [])) (sym next.1) (OneMore text left.0 es e left.1 line next.0)
+
+-- an event was read behind those of the told lines, where the source tells its text, and this is ahead then
+pub IsReadBehind : (head : Head) (text : Option (List ℕ)) (es : List Event) → ((t : List ℕ) → text ≡ Some t → (rest : List ℕ) × StandsBehind head t es rest) → Option (List ℕ) → Event → Type 0
+IsReadBehind head text es left ahead e = (t : List ℕ) (q : text ≡ Some t) → (rest : List ℕ) × IsNext head (length es) (left t q).0 rest (Some e) × (ahead ≡ Some rest)
+
+module _ (head : Head) (s0 : Federation) (text held told : Option (List ℕ)) (p : IsTold head s0 text held told) (e : Event) (line : HasLine head e) (ahead : Option (List ℕ)) (read : IsReadBehind head text p.events p.left ahead e) where
+  es : List Event
+  es = p.events ++ e ∷ []
+
+  z : Federation
+  z = run (lines p.events) s0
+
+  valid : AllByRecursion (HasLine head) es
+  valid = all_append (HasLine head) p.events (e ∷ []) p.valid (line, tt)
+
+  left : (t : List ℕ) → text ≡ Some t → (rest : List ℕ) × StandsBehind head t es rest
+  left t q = let r = read t q in (r.0, left_one head t p.events e line (p.left t q) r.0 r.1)
+
+  pub told_one : (after : Option (List ℕ)) → IsPut (event_text (length p.events + 2) e z) told after → IsTold head s0 text held after
+  told_one after put =
+      record {
+        events = es;
+        valid = valid;
+        left = left;
+        whole = λ h q.
+            put (h ++ items_text (transcript 2 p.events s0)) (p.whole h q)
+            ∙ ap Some (append_assoc h (items_text (transcript 2 p.events s0)) (event_text (length p.events + 2) e z) ∙ ap (λ t. h ++ t) (sym (text_one p.events e s0)));
+      }
+
+  pub told_in_part : (after : Option (List ℕ)) → IsPutInPart (event_text (length p.events + 2) e z) told after → IsToldInPart head s0 text held after
+  told_in_part after put =
+      record {
+        events = es;
+        valid = valid;
+        left = left;
+        part = λ h q.
+            let done = items_text (transcript 2 p.events s0) in
+            let cut = put (h ++ done) (p.whole h q) in (
+              length done + cut.0,
+              cut.1 ∙ ap Some (
+                append_assoc h done (take cut.0 (event_text (length p.events + 2) e z))
+                ∙ ap (λ t. h ++ t) (sym (take_behind done (event_text (length p.events + 2) e z) cut.0) ∙ ap (take (length done + cut.0)) (sym (text_one p.events e s0)))),
+            );
+      }
+
+  module _ {E : Type 0} (takes : Kind → Type 0) (stands_for : E → EngineState → Type 0) (home : HomeView) (w : World E) where
+    stands_one : HasStepped takes stands_for z e home w → StandsFor takes stands_for s0 home w es
+    stands_one st = record { stands = subst (RepresentsWorld takes stands_for w) (sym (run_one p.events e s0)) st.stands; held = st.held }
+
+    -- a line that could not be told, or not be done, ends it
+    pub told_over : (why : Status) (after : Option (List ℕ)) → IsToldOf takes stands_for z (length p.events + 2) e told after home w (Err why) → IsOver takes stands_for head s0 text held after home w (Err why)
+    told_over status.Done after o = absurd o
+    told_over status.Usage after o = absurd o
+    told_over (status.Schedule number what) after o = absurd o
+    told_over status.Read after o = absurd o
+    told_over status.Write after o = (told_in_part after o.1, stands_one o.0)
+    told_over (status.Device spot) after o = subst (IsTold head s0 text held) (sym o) p
+    told_over (status.Differs spot place kept got) after o = subst (IsTold head s0 text held) (sym o) p
+    told_over (status.InUse spot) after o = absurd o
+    told_over (status.BadLog spot place) after o = absurd o
+    told_over (status.Limit (limit.Line number)) after o = absurd o
+    told_over (status.Limit limit.Lines) after o = absurd o
+    told_over (status.Limit limit.Transactions) after o = subst (IsTold head s0 text held) (sym o) p
+    told_over (status.Limit (limit.Log spot)) after o = subst (IsTold head s0 text held) (sym o) p
+    told_over status.Memory after o = told_in_part after o
+    told_over (status.OldLog spot) after o = absurd o
+
+-- what holds before each line: the lines that were told, for what the federation stands, and how many lines were read
+pub record IsPlaying {E : Type 0} (takes : Kind → Type 0) (stands_for : E → EngineState → Type 0) (head : Head) (s0 : Federation) (text held told : Option (List ℕ)) (home : HomeView) (w : World E) (number : ℕ) (reader : Lines) (ahead : Option (List ℕ)) : Type 0 where
+  pub done : IsTold head s0 text held told
+  pub stands : StandsFor takes stands_for s0 home w done.events
+  pub counted : number ≡ length done.events + 2
+  pub read : HasRead (suc (length done.events)) reader
+  pub is_left : (t : List ℕ) (e : text ≡ Some t) → ahead ≡ Some (done.left t e).0
+
+module _ {E : Type 0} (takes : Kind → Type 0) (stands_for : E → EngineState → Type 0) (head : Head) (s0 : Federation) (text held told : Option (List ℕ)) (home : HomeView) (w : World E) (number : ℕ) (reader : Lines) (ahead : Option (List ℕ))
+    (p : IsPlaying takes stands_for head s0 text held told home w number reader ahead) where
+  -- an event was read
+  pub read_behind : (e : Event) (after : Option (List ℕ)) → ((t : List ℕ) → ahead ≡ Some t → IsEventRead head (length p.done.events) t after (Ok (Some e))) → IsReadBehind head text p.done.events p.done.left after e
+  read_behind e after f = λ t q. let r = f (p.done.left t q).0 (p.is_left t q) in (r.0, r.1, r.2)
+
+  -- one more line was played
+  pub plays_on : (e : Event) (line : HasLine head e) (left_after told_after : Option (List ℕ)) (home_after : HomeView) (w_after : World E) (reader_after : Lines) → IsReadBehind head text p.done.events p.done.left left_after e →
+      HasRead (suc (suc (length p.done.events))) reader_after → IsToldOf takes stands_for (run (lines p.done.events) s0) (length p.done.events + 2) e told told_after home_after w_after (Ok tt) →
+      IsPlaying takes stands_for head s0 text held told_after home_after w_after (number + 1) reader_after left_after
+  plays_on e line left_after told_after home_after w_after reader_after read has o =
+      record {
+        done = told_one head s0 text held told p.done e line left_after read told_after o.1;
+        stands = stands_one head s0 text held told p.done e line left_after read takes stands_for home_after w_after o.0;
+        counted = ap (λ n. n + 1) p.counted ∙ (let q : (length p.done.events + 2) + 1 ≡ suc (length p.done.events) + 2 = omega arith in q) ∙ ap (λ n. n + 2) (sym (count_more p.done.events e));
+        read = subst (λ n. HasRead (suc n) reader_after) (sym (count_more p.done.events e)) has;
+        is_left = λ t q. (read t q).2;
+      }
+
+  -- there is no further line
+  pub plays_out : (after : Option (List ℕ)) → ((t : List ℕ) → ahead ≡ Some t → IsEventRead head (length p.done.events) t after (Ok None)) → IsOver takes stands_for head s0 text held told home w (Ok tt)
+  plays_out after f = (p.done, p.stands, λ t q. (f (p.done.left t q).0 (p.is_left t q)).1.0)
+
+  stops : (why : Status) (after : Option (List ℕ)) → ((t : List ℕ) → ahead ≡ Some t → IsEventRead head (length p.done.events) t after (Err why)) → HasStopped takes stands_for head s0 text held told home w why
+  stops why after f = record { done = p.done; stands = p.stands; cause = λ t q. f (p.done.left t q).0 (p.is_left t q) }
+
+  whole_part : IsToldInPart head s0 text held told
+  whole_part =
+      record {
+        events = p.done.events;
+        valid = p.done.valid;
+        left = p.done.left;
+        part = λ h q. let all = items_text (transcript 2 p.done.events s0) in (length all, p.done.whole h q ∙ ap (λ t. Some (h ++ t)) (sym (take-length all)));
+      }
+
+  -- the next line gave no event
+  pub reads_over : (why : Status) (after : Option (List ℕ)) → IsReadStatus why → ((t : List ℕ) → ahead ≡ Some t → IsEventRead head (length p.done.events) t after (Err why)) →
+      IsOver takes stands_for head s0 text held told home w (Err why)
+  reads_over status.Done after own f = absurd own
+  reads_over status.Usage after own f = absurd own
+  reads_over (status.Schedule at what) after own f = stops (status.Schedule at what) after f
+  reads_over status.Read after own f = stops status.Read after f
+  reads_over status.Write after own f = absurd own
+  reads_over (status.Device spot) after own f = absurd own
+  reads_over (status.Differs spot place kept got) after own f = absurd own
+  reads_over (status.InUse spot) after own f = absurd own
+  reads_over (status.BadLog spot place) after own f = absurd own
+  reads_over (status.Limit (limit.Line at)) after own f = stops (status.Limit (limit.Line at)) after f
+  reads_over (status.Limit limit.Lines) after own f = stops (status.Limit limit.Lines) after f
+  reads_over (status.Limit limit.Transactions) after own f = absurd own
+  reads_over (status.Limit (limit.Log spot)) after own f = absurd own
+  reads_over status.Memory after own f = whole_part
+  reads_over (status.OldLog spot) after own f = absurd own
