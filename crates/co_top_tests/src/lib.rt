@@ -10,5 +10,3 @@ mod real_files;
 mod records;
 #[cfg(test)]
 mod replays;
-#[cfg(test)]
-mod statuses;

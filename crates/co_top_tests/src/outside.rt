@@ -1,5 +1,4 @@
 //! The top call over forms in memory.
-use crate::statuses::status_text;
 use co_outside::{FailAt, HomeMemory, SinkMemory, SourceMemory, Spot};
 use co_top::{Status, run};
 use std::alloc::{AllocError, Global};
@@ -34,8 +33,6 @@ pub struct Case<'a> {
 /// What a command is to come to.
 #[derive(Clone, Copy)]
 pub struct Wanted {
-    /// The status, with what it tells.
-    pub status: &'static [u8],
     /// The exit status.
     pub code: u8,
     /// What is written.
@@ -118,8 +115,6 @@ pub fn check<R: AllocGlobal + Abort>(
 ) -> Result<(), AllocError> {
     let mut outside = outside_of(rt.alloc(), case)?;
     let status = command(rt.alloc(), &mut outside, words)?;
-    let text = status_text(rt.alloc(), status)?;
-    assert_eq!(rt; text.as_slice(), wanted.status);
     assert_eq!(rt; status.code(), wanted.code);
     assert_eq!(rt; outside.out.bytes(), wanted.out);
     assert_eq!(rt; outside.notes.bytes(), wanted.notes);

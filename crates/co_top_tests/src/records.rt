@@ -27,9 +27,8 @@ fn case<'a>(files: &'a [LogFile<'a>], failing: Failing) -> Case<'a> {
 }
 
 /// A status under which nothing is written.
-fn unwritten(status: &'static [u8], code: u8, notes: &'static [u8]) -> Wanted {
+fn unwritten(code: u8, notes: &'static [u8]) -> Wanted {
     Wanted {
-        status,
         code,
         out: b"",
         notes,
@@ -40,7 +39,6 @@ fn unwritten(status: &'static [u8], code: u8, notes: &'static [u8]) -> Wanted {
 fn the_records_of_a_directory_are_written(rt: HostRuntime) -> Result<(), AllocError> {
     let files: [LogFile; 1] = [(M1_A, COMMITTED)];
     let wanted = Wanted {
-        status: b"done",
         code: 0,
         out: b"m1 a 5\n",
         notes: b"",
@@ -56,25 +54,22 @@ fn the_records_of_a_directory_are_written(rt: HostRuntime) -> Result<(), AllocEr
 #[test]
 fn files_that_are_no_log_are_named(rt: HostRuntime) -> Result<(), AllocError> {
     let cut = &COMMITTED[..45];
-    let cases: [([LogFile; 2], &[u8], &[u8]); 3] = [
+    let cases: [([LogFile; 2], &[u8]); 3] = [
         (
             [(M1_A, cut), (M2_B, cut)],
-            b"bad log m1.a 39",
             b"bad log: m1.a at 39\n",
         ),
         (
             [(M1_A, COMMITTED), (M2_B, cut)],
-            b"bad log m2.b 39",
             b"bad log: m2.b at 39\n",
         ),
         (
             [(M1_A, COMMITTED), (C1_A, ENDED)],
-            b"bad log c1.a 17",
             b"bad log: c1.a at 17\n",
         ),
     ];
-    for (files, status, note) in cases {
-        let wanted = unwritten(status, 9, note);
+    for (files, note) in cases {
+        let wanted = unwritten(9, note);
         check(
             &rt,
             &["records", "logs"],
@@ -97,17 +92,17 @@ fn first(spot: Spot, call: HomeCall) -> Failing {
 #[test]
 fn a_failed_directory_is_named(rt: HostRuntime) -> Result<(), AllocError> {
     let entered = case(&[], first(M1_A, HomeCall::Enter));
-    let wanted = unwritten(b"device m1.a", 6, b"device fault: m1.a\n");
+    let wanted = unwritten(6, b"device fault: m1.a\n");
     check(&rt, &["records", "logs"], entered, wanted)?;
     let read = case(&[], first(M2_B, HomeCall::ReadAll));
-    let wanted = unwritten(b"device m2.b", 6, b"device fault: m2.b\n");
+    let wanted = unwritten(6, b"device fault: m2.b\n");
     check(&rt, &["records", "logs"], read, wanted)
 }
 
 #[test]
 fn a_failed_sink_of_records_is_told(rt: HostRuntime) -> Result<(), AllocError> {
     let files: [LogFile; 1] = [(M1_A, COMMITTED)];
-    let wanted = unwritten(b"write", 5, b"write fault\n");
+    let wanted = unwritten(5, b"write fault\n");
     check(
         &rt,
         &["records", "logs"],
