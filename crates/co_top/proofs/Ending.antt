@@ -1,5 +1,5 @@
 -- How a replay ends, from how its lines were played behind the text of its head.
-use Rattle.std.proofs.Common.{◌≡◌, ◌⊎◌, inl, inr, ℕ, ◌+◌, ◌≤◌, Bool, false, List, [], ◌∷◌, ◌++◌, length, take, map, Option, None, Some, Result, Ok, Err, refl, sym, ap, ◌∙◌, subst, absurd, append-nil, append_assoc}
+use Rattle.std.proofs.Common.{◌≡◌, ◌⊎◌, inl, inr, ℕ, ◌+◌, ◌≤◌, Bool, false, List, [], ◌∷◌, ◌++◌, length, take, map, Option, None, Some, Result, Ok, Err, refl, sym, ap, ◌∙◌, subst, append-nil, append_assoc}
 use Rattle.std.specs.List.{AllByRecursion}
 use Rattle.co_base.specs.declared.head.Head.{Head}
 use Rattle.co_base.specs.declared.head.Kind.{Kind}
@@ -23,24 +23,25 @@ use Rattle.co_durable.specs.declared.fault.WorldFault.TheVariants as world
 use Rattle.co_top.specs.Front.{IsHeaded, StandsBehind, AtStart, IsHeadFault, IsLineFault}
 use Rattle.co_top.specs.Played.{IsTold, IsToldInPart, StandsFor, HasStopped, IsOver}
 use Rattle.co_top.specs.Ran.{Ran, start_of, end_of, text_of, AreLeftAs, AreLeftBy, HasRun, HasRunInPart, HasStoppedAt, IsUnopenedFor, IsRunEnd}
-use Rattle.co_top.specs.Replayed.{status_of, opening_text, IsUnopenedAs}
+use Rattle.co_outside.specs.Faults.{HasRisen}
+use Rattle.std.specs.Prelude.{OnOk, IfErr}
+use Rattle.co_top.specs.Heads.{IsReadStatus, IsEnding}
+use Rattle.co_top.specs.Replayed.{status_of, opening_text, IsUnopenedAs, IsOpeningTold}
+use Rattle.co_top.specs.Telling.{IsPutInPart, HasEnded}
 use Rattle.co_top.specs.declared.status.LimitKind.TheVariants as limit
 use Rattle.co_top.specs.declared.status.Status.{Status}
 use Rattle.co_top.specs.declared.status.Status.TheVariants as status
 use Rattle.co_top.proofs.Laws.{fit, promised}
+use Rattle.co_top.proofs.Lists.{take_behind}
 use Rattle.co_top.proofs.Left.{files_left, left_by}
-
-take_behind : (xs ys : List ℕ) (n : ℕ) → take (length xs + n) (xs ++ ys) ≡ xs ++ take n ys
-take_behind [] ys n = refl
-take_behind (x ∷ xs) ys n = ap (λ zs. x ∷ zs) (take_behind xs ys n)
 
 module _ {E : Type 0} (takes : Kind → Type 0) (stands_for : E → EngineState → Type 0) (resume : Bool) (input held : List ℕ) (old : Spot → Option File) (head : Head) (text : List ℕ) (headed : IsHeaded input head text)
     (before : World E) (items : List Item) (at : IsAttachedOver takes stands_for old head resume before items) where
-  s0 : Federation
+  abbrev pub s0 : Federation
   s0 = opened head.kinds head.coords at.found_member at.found_coord
 
   -- a run of these events
-  ran : (events : List Event) → AllByRecursion (HasLine head) events → (left : (rest : List ℕ) × StandsBehind head text events rest) → Ran resume input old
+  abbrev pub ran : (events : List Event) → AllByRecursion (HasLine head) events → (left : (rest : List ℕ) × StandsBehind head text events rest) → Ran resume input old
   ran events valid left =
       record {
         head = head;
@@ -58,17 +59,17 @@ module _ {E : Type 0} (takes : Kind → Type 0) (stands_for : E → EngineState 
       }
 
   -- its text is that of the first line, and then that of the events
-  all_text : (events : List Event) → items_text (run_items head at.found_member at.found_coord events) ≡ opening_text head items ++ items_text (transcript 2 events s0)
+  pub all_text : (events : List Event) → items_text (run_items head at.found_member at.found_coord events) ≡ opening_text head items ++ items_text (transcript 2 events s0)
   all_text events =
       items_text-append (numbered 1 (item.Head head ∷ opening_items head.kinds head.coords at.found_member at.found_coord)) (transcript 2 events s0)
       ∙ ap (λ (more : List Item). items_text (numbered 1 (item.Head head ∷ []) ++ more) ++ items_text (transcript 2 events s0)) (sym at.told)
 
-  whole_text : (events : List Event) (told : Option (List ℕ)) → told ≡ Some ((held ++ opening_text head items) ++ items_text (transcript 2 events s0)) →
+  pub whole_text : (events : List Event) (told : Option (List ℕ)) → told ≡ Some ((held ++ opening_text head items) ++ items_text (transcript 2 events s0)) →
       told ≡ Some (held ++ items_text (run_items head at.found_member at.found_coord events))
   whole_text events told e =
       e ∙ ap Some (append_assoc held (opening_text head items) (items_text (transcript 2 events s0)) ∙ ap (λ t. held ++ t) (sym (all_text events)))
 
-  part_text : (events : List Event) (told : Option (List ℕ)) → (count : ℕ) × (told ≡ Some ((held ++ opening_text head items) ++ take count (items_text (transcript 2 events s0)))) →
+  pub part_text : (events : List Event) (told : Option (List ℕ)) → (count : ℕ) × (told ≡ Some ((held ++ opening_text head items) ++ take count (items_text (transcript 2 events s0)))) →
       (count : ℕ) × (told ≡ Some (held ++ take count (items_text (run_items head at.found_member at.found_coord events))))
   part_text events told p = (
     length (opening_text head items) + p.0,
@@ -80,15 +81,15 @@ module _ {E : Type 0} (takes : Kind → Type 0) (stands_for : E → EngineState 
   )
 
   module _ (told : Option (List ℕ)) where
-    mid : Option (List ℕ)
+    abbrev pub mid : Option (List ℕ)
     mid = Some (held ++ opening_text head items)
 
-    has_run : IsTold head s0 (Some text) mid told → HasRun resume input held old told
+    abbrev pub has_run : IsTold head s0 (Some text) mid told → HasRun resume input held old told
     has_run p =
         let r = ran p.events p.valid (p.left text refl) in
         record { ran = r; promises = promised r; transcript = whole_text p.events told (p.whole (held ++ opening_text head items) refl) }
 
-    has_run_in_part : IsToldInPart head s0 (Some text) mid told → HasRunInPart resume input held old told
+    abbrev pub has_run_in_part : IsToldInPart head s0 (Some text) mid told → HasRunInPart resume input held old told
     has_run_in_part p =
         let r = ran p.events p.valid (p.left text refl) in
         let t = part_text p.events told (p.part (held ++ opening_text head items) refl) in
@@ -180,3 +181,94 @@ unheaded resume input held old new told same (status.Limit limit.Transactions) u
 unheaded resume input held old new told same (status.Limit (limit.Log spot)) u = absurd u
 unheaded resume input held old new told same status.Memory u = inl same
 unheaded resume input held old new told same (status.OldLog spot) u = absurd u
+
+-- the text of the first line was not put whole
+module _ {E : Type 0} (takes : Kind → Type 0) (stands_for : E → EngineState → Type 0) (resume : Bool) (input held : List ℕ) (old : Spot → Option File) (head : Head) (text : List ℕ) (headed : IsHeaded input head text)
+    (w : World E) (items : List Item) (at : IsAttachedOver takes stands_for old head resume w items) (home : HomeView) (kept : AreHeld home.file home.reach w) (told : Option (List ℕ)) where
+  cut_text : IsPutInPart (opening_text head items) (Some held) told → (done : HasRunInPart resume input held old told) × AreLeftBy done.ran home.file
+  cut_text p = first takes stands_for resume input held old head text headed w items at told home w at.stands kept (p held refl)
+
+  pub opening_over : (why : Status) → IsOpeningTold head items (Some held) told (Err why) → IsRunEnd resume input held old home.file told why
+  opening_over status.Done p = absurd p
+  opening_over status.Usage p = absurd p
+  opening_over (status.Schedule line what) p = absurd p
+  opening_over status.Read p = absurd p
+  opening_over status.Write p = cut_text p
+  opening_over (status.Device spot) p = absurd p
+  opening_over (status.Differs spot place kept_byte read) p = absurd p
+  opening_over (status.InUse spot) p = absurd p
+  opening_over (status.BadLog spot place) p = absurd p
+  opening_over (status.Limit what) p = absurd p
+  opening_over status.Memory p = inr (cut_text p).0
+  opening_over (status.OldLog spot) p = absurd p
+
+-- ---- what a status is not
+
+pub read_ends : (why : Status) → IsReadStatus why → IsEnding why
+read_ends status.Done own = absurd own
+read_ends status.Usage own = absurd own
+read_ends (status.Schedule line what) own = tt
+read_ends status.Read own = tt
+read_ends status.Write own = tt
+read_ends (status.Device spot) own = tt
+read_ends (status.Differs spot place kept read) own = tt
+read_ends (status.InUse spot) own = tt
+read_ends (status.BadLog spot place) own = tt
+read_ends (status.Limit what) own = tt
+read_ends status.Memory own = tt
+read_ends (status.OldLog spot) own = tt
+
+pub unopened_ends : (file : Spot → Option File) (head : Head) (resume : Bool) (why : Status) → IsUnopenedAs file head resume why → IsEnding why
+unopened_ends file head resume status.Done u = absurd u
+unopened_ends file head resume status.Usage u = absurd u
+unopened_ends file head resume (status.Schedule line what) u = tt
+unopened_ends file head resume status.Read u = tt
+unopened_ends file head resume status.Write u = tt
+unopened_ends file head resume (status.Device spot) u = tt
+unopened_ends file head resume (status.Differs spot place kept read) u = tt
+unopened_ends file head resume (status.InUse spot) u = tt
+unopened_ends file head resume (status.BadLog spot place) u = tt
+unopened_ends file head resume (status.Limit what) u = tt
+unopened_ends file head resume status.Memory u = tt
+unopened_ends file head resume (status.OldLog spot) u = tt
+
+pub opening_ends : (head : Head) (items : List Item) (held told : Option (List ℕ)) (why : Status) → IsOpeningTold head items held told (Err why) → IsEnding why
+opening_ends head items held told status.Done p = absurd p
+opening_ends head items held told status.Usage p = absurd p
+opening_ends head items held told (status.Schedule line what) p = tt
+opening_ends head items held told status.Read p = tt
+opening_ends head items held told status.Write p = tt
+opening_ends head items held told (status.Device spot) p = tt
+opening_ends head items held told (status.Differs spot place kept read) p = tt
+opening_ends head items held told (status.InUse spot) p = tt
+opening_ends head items held told (status.BadLog spot place) p = tt
+opening_ends head items held told (status.Limit what) p = tt
+opening_ends head items held told status.Memory p = tt
+opening_ends head items held told (status.OldLog spot) p = tt
+
+pub over_ends : {E : Type 0} (takes : Kind → Type 0) (stands_for : E → EngineState → Type 0) (head : Head) (s0 : Federation) (text held told : Option (List ℕ)) (home : HomeView) (w : World E) (o : Result (Unit {0}) Status) →
+    IsOver takes stands_for head s0 text held told home w o → IfErr o IsEnding
+over_ends takes stands_for head s text held told home w (Ok u) p = tt
+over_ends takes stands_for head s text held told home w (Err status.Done) p = absurd p
+over_ends takes stands_for head s text held told home w (Err status.Usage) p = absurd p
+over_ends takes stands_for head s text held told home w (Err (status.Schedule line what)) p = tt
+over_ends takes stands_for head s text held told home w (Err status.Read) p = tt
+over_ends takes stands_for head s text held told home w (Err status.Write) p = tt
+over_ends takes stands_for head s text held told home w (Err (status.Device spot)) p = tt
+over_ends takes stands_for head s text held told home w (Err (status.Differs spot place kept read)) p = tt
+over_ends takes stands_for head s text held told home w (Err (status.InUse spot)) p = tt
+over_ends takes stands_for head s text held told home w (Err (status.BadLog spot place)) p = tt
+over_ends takes stands_for head s text held told home w (Err (status.Limit what)) p = tt
+over_ends takes stands_for head s text held told home w (Err status.Memory) p = tt
+over_ends takes stands_for head s text held told home w (Err (status.OldLog spot)) p = tt
+
+-- what is so whatever the answer is
+pub on_any : {A E : Type 0} (P : Type 0) (o : Result A E) → P → OnOk o P
+on_any P (Ok x) p = p
+on_any P (Err e) p = tt
+
+-- the directory failed in this call, where it met no fault before
+pub failed_as : (old new : HomeView) (before : ℕ) (o : Result (Unit {0}) Status) (spot : Spot) → old.faults ≡ before → HasEnded old new o → o ≡ Err (status.Device spot) → HasRisen before new.faults × (new.last_failed ≡ spot)
+failed_as old new before o spot same ended is =
+    let h : HasEnded old new (Err (status.Device spot)) = subst (HasEnded old new) is ended in
+    (subst (λ n. HasRisen n new.faults) same h.0, h.1)

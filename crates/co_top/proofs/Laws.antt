@@ -1,5 +1,5 @@
 -- What the laws say of a run over logs that may be run: an event can be done in each of its states, and it keeps what is promised.
-use Rattle.std.proofs.Common.{◌≡◌, ◌⊎◌, inl, inr, ℕ, ◌≤◌, Bool, false, List, [], ◌∷◌, length, refl, sym, subst, absurd, ap, ◌∙◌}
+use Rattle.std.proofs.Common.{◌≡◌, ◌⊎◌, inl, inr, ℕ, ◌≤◌, Bool, false, List, [], ◌∷◌, length, Option, refl, sym, subst, ap, ◌∙◌}
 use Rattle.std.specs.List.{AllByRecursion}
 use Rattle.co_base.specs.declared.head.Head.{Head}
 use Rattle.co_base.specs.declared.head.Kind.{Kind}
@@ -54,7 +54,7 @@ all_own head [] h = tt
 all_own head (e ∷ es) h = (names_own (length head.kinds) head.coords e h.0.0, all_own head es h.1)
 
 module _ (head : Head) (fm fc : ℕ → Found) (may : MayRun head.kinds head.coords fm fc) where
-  s0 : Federation
+  abbrev pub s0 : Federation
   s0 = opened head.kinds head.coords fm fc
 
   module _ (events : List Event) (valid : AllByRecursion (HasLine head) events) where
@@ -75,11 +75,15 @@ module _ (head : Head) (fm fc : ℕ → Found) (may : MayRun head.kinds head.coo
   -- an event can be done in every state of the run
   pub ready : StaysReady head s0
   ready events valid =
-      let s = run (lines events) s0 in
+      let z = run (lines events) s0 in
       let f = fit events valid in
       record {
-        whole = subst (λ ks. AreWhole (length ks) s.coordinators s) (sym f.kinds) (subst (λ c. AreWhole (length head.kinds) c s) (sym f.coordinators) (whole events valid));
-        writable = subst (λ ks. AreWritable (length ks) s.coordinators s) (sym f.kinds) (subst (λ c. AreWritable (length head.kinds) c s) (sym f.coordinators) (writable events valid));
+        ready = record {
+          whole = subst (λ ks. AreWhole (length ks) z.coordinators z) (sym f.kinds) (subst (λ c. AreWhole (length head.kinds) c z) (sym f.coordinators) (whole events valid));
+          writable = subst (λ ks. AreWritable (length ks) z.coordinators z) (sym f.kinds) (subst (λ c. AreWritable (length head.kinds) c z) (sym f.coordinators) (writable events valid));
+        };
+        kinds = f.kinds;
+        coordinators = f.coordinators;
       }
 
 module _ {resume : Bool} {input : List ℕ} {file : Spot → Option File} (r : Ran resume input file) where

@@ -1,5 +1,5 @@
 -- What the files have of a federation that stands for a state, and what that comes to for a run.
-use Rattle.std.proofs.Common.{◌≡◌, ◌⊎◌, inl, inr, ℕ, zero, suc, ◌≤◌, ◌<◌, ◌+◌, ◌-◌, Bool, List, [], ◌∷◌, ◌++◌, length, reverse, slice_get, Option, None, Some, refl, sym, ap, ◌∙◌, subst, absurd, arith}
+use Rattle.std.proofs.Common.{◌≡◌, ◌⊎◌, inl, inr, ℕ, zero, suc, ◌≤◌, ◌<◌, ◌+◌, ◌-◌, Bool, List, [], ◌∷◌, ◌++◌, length, reverse, slice_get, Option, None, Some, refl, sym, ap, ◌∙◌, subst, arith}
 use Rattle.std.specs.FinMap.{entries, entries_sorted, get-entries}
 use Rattle.std.specs.List.{AllByRecursion}
 use Rattle.std.proofs.lemmas.List.{reverse-reverse}
@@ -44,24 +44,16 @@ use Rattle.co_world.specs.Standing.{RepresentsWorld, AreHeld}
 use Rattle.co_world.specs.declared.world.World.{World}
 use Rattle.co_top.specs.Ran.{Ran, start_of, end_of, IsSoundlyFound, AreLeftAs, AreLeftBy}
 use Rattle.co_top.proofs.Laws.{whole, openable}
+use Rattle.co_top.proofs.Lists.{there, one_less, or_last}
 use Rattle.co_top.proofs.LeftRecords.{Gathered, gather, same_decided, same_rows}
-
--- the element at a place of a list that is long enough
-there : {A : Type 0} (xs : List A) (i : ℕ) → i < length xs → (x : A) × (slice_get xs i ≡ Some x)
-there xs i h = elim (slice_get_cases xs i).1 [ inl f ↦ (f.0, f.2) | inr past ↦ absurd (omega (arith, h, past.0)) ]
-
--- a number from 1 on is one more than another
-one_more : (n : ℕ) → 1 ≤ n → (p : ℕ) × (n ≡ suc p)
-one_more zero h = absurd (omega (arith, h))
-one_more (suc p) h = (p, refl)
 
 module _ {E : Type 0} (takes : Kind → Type 0) (stands_for : E → EngineState → Type 0) (file : Spot → Option File) (reach : Spot → ℕ) (w : World E) (s : Federation) (r : RepresentsWorld takes stands_for w s) (held : AreHeld file reach w) where
   member_left : (m : ℕ) → IsBetween m (length s.kinds) → AreTold file (node.Member m) → (items : Items) × HasRecordsIn file (node.Member m) items × (newest_first items ≡ (s.member m).log.stable)
   member_left m between told =
-      let at = one_more m between.0 in
+      let at = one_less m between.0 in
       let found = there w.members.items at.0 (subst (λ k. at.0 < k) (sym r.kinds) (omega (arith, between.1, at.1))) in
       let is : IsMemberAt takes stands_for s.coordinators at.0 found.0 (s.member (suc at.0)) = r.member at.0 found.0 found.1 in
-      let kept : IsKept file reach (node.Member found.0.number) found.0.log = held.members at.0 found.0 found.1 in
+      let kept : IsKept file reach (node.Member found.0.number) found.0.log = held.member at.0 found.0 found.1 in
       let named : found.0.number ≡ m = is.number ∙ sym at.1 in
       let same : AreTold file (node.Member found.0.number) = subst (λ n. AreTold file (node.Member n)) (sym named) told in
       let has = told_records (node.Member found.0.number) file reach found.0.log (s.member (suc at.0)).log is.stands.log kept.held kept.within same in
@@ -69,10 +61,10 @@ module _ {E : Type 0} (takes : Kind → Type 0) (stands_for : E → EngineState 
 
   coord_left : (c : ℕ) → IsBetween c s.coordinators → AreTold file (node.Coord c) → (items : Items) × HasRecordsIn file (node.Coord c) items × (newest_first items ≡ (s.coord c).log.stable)
   coord_left c between told =
-      let at = one_more c between.0 in
+      let at = one_less c between.0 in
       let found = there w.coords.items at.0 (subst (λ k. at.0 < k) (sym r.coordinators) (omega (arith, between.1, at.1))) in
       let is : IsCoordAt (length s.kinds) at.0 found.0 (s.coord (suc at.0)) = r.coord at.0 found.0 found.1 in
-      let kept : IsKept file reach (node.Coord found.0.number) found.0.log = held.coords at.0 found.0 found.1 in
+      let kept : IsKept file reach (node.Coord found.0.number) found.0.log = held.coord at.0 found.0 found.1 in
       let named : found.0.number ≡ c = is.number ∙ sym at.1 in
       let same : AreTold file (node.Coord found.0.number) = subst (λ n. AreTold file (node.Coord n)) (sym named) told in
       let has = told_records (node.Coord found.0.number) file reach found.0.log (s.coord (suc at.0)).log is.stands.log kept.held kept.within same in
@@ -84,25 +76,19 @@ module _ {E : Type 0} (takes : Kind → Type 0) (stands_for : E → EngineState 
 -- ---- the durable records of such files
 
 -- of nodes of a sort that are told, the one of a number is
+all_but_last : (file : Spot → Option File) (xs : List Node) (x : Node) → AllByRecursion (files.IsTold file) (xs ++ x ∷ []) → AllByRecursion (files.IsTold file) xs × files.IsTold file x
+all_but_last file [] x a = (tt, a.0)
+all_but_last file (y ∷ ys) x a = let rest = all_but_last file ys x a.1 in ((a.0, rest.0), rest.1)
+
+as_told : (file : Spot → Option File) (n : Node) → files.IsTold file n → AreTold file n
+as_told file n t = record { a = t.0; b = t.1; is_a = t.2; is_b = t.3 }
+
 told_at : (file : Spot → Option File) (sort : ℕ → Node) (count n : ℕ) → AllByRecursion (files.IsTold file) (numbered sort count) → IsBetween n count → AreTold file (sort n)
 told_at file sort zero n all between = absurd (omega (arith, between.0, between.1))
-told_at file sort (suc count) n all between = by (more n between)
-  where
-    more : (n : ℕ) → IsBetween n (suc count) → (n ≤ count) ⊎ (n ≡ suc count)
-    more n b = omega (arith, b.1)
-
-    split : (xs : List Node) (x : Node) → AllByRecursion (files.IsTold file) (xs ++ x ∷ []) → AllByRecursion (files.IsTold file) xs × files.IsTold file x
-    split [] x a = (tt, a.0)
-    split (y ∷ ys) x a = let rest = split ys x a.1 in ((a.0, rest.0), rest.1)
-
-    parts : AllByRecursion (files.IsTold file) (numbered sort count) × files.IsTold file (sort (suc count))
-    parts = split (numbered sort count) (sort (suc count)) all
-
-    by : (n ≤ count) ⊎ (n ≡ suc count) → AreTold file (sort n)
-    by (inl few) = told_at file sort count n parts.0 (between.0, few)
-    by (inr last) =
-        let t = parts.1 in
-        subst (λ k. AreTold file (sort k)) (sym last) (record { a = t.0; b = t.1; is_a = t.2; is_b = t.3 })
+told_at file sort (suc count) n all between =
+    let parts = all_but_last file (numbered sort count) (sort (suc count)) all in
+    elim (or_last n count between.1) as (λ c. AreTold file (sort n))
+    [ inl few ↦ told_at file sort count n parts.0 (between.0, few) | inr last ↦ subst (λ k. AreTold file (sort k)) (sym last) (as_told file (sort (suc count)) parts.1) ]
 
 split_told : (file : Spot → Option File) (xs ys : List Node) → AllByRecursion (files.IsTold file) (xs ++ ys) → AllByRecursion (files.IsTold file) xs × AllByRecursion (files.IsTold file) ys
 split_told file [] ys a = (tt, a)

@@ -1,5 +1,5 @@
 -- The durable records of files that have the stable records of a state are those of the state.
-use Rattle.std.proofs.Common.{◌≡◌, ◌⊎◌, inl, inr, ℕ, zero, suc, ◌≤◌, ◌<◌, ◌+◌, ◌-◌, Bool, List, [], ◌∷◌, ◌++◌, map, length, reverse, get_or, Option, None, Some, if◌then◌else◌, refl, sym, ap, ◌∙◌, subst, absurd, arith}
+use Rattle.std.proofs.Common.{◌≡◌, ◌⊎◌, inl, inr, ℕ, zero, suc, ◌≤◌, ◌<◌, ◌+◌, ◌-◌, Bool, List, [], ◌∷◌, ◌++◌, map, length, reverse, get_or, Option, None, Some, if◌then◌else◌, refl, sym, ap, ◌∙◌, subst, arith}
 use Rattle.std.specs.Prelude.{slice_index_or}
 use Rattle.std.specs.FinMap.{entries}
 use Rattle.std.specs.List.{AllByRecursion}
@@ -21,30 +21,7 @@ use Rattle.co_durable.specs.Nodes.{numbered}
 use Rattle.co_durable.specs.Pairs.{EachPair}
 use Rattle.co_durable.specs.declared.durable.DurableRow.{DurableRow}
 use Rattle.co_durable.proofs.Pairs.{pairs_push, all_append}
-
--- one more element at the end of a list
-get_before : {A : Type 0} (xs : List A) (y d : A) (i : ℕ) → i < length xs → get_or (xs ++ y ∷ []) i d ≡ get_or xs i d
-get_before [] y d i h = absurd (omega (arith, h))
-get_before (x ∷ xs) y d zero h = refl
-get_before (x ∷ xs) y d (suc i) h = get_before xs y d i (omega (arith, h))
-
-get_last : {A : Type 0} (xs : List A) (y d : A) (i : ℕ) → i ≡ length xs → get_or (xs ++ y ∷ []) i d ≡ y
-get_last [] y d zero h = refl
-get_last [] y d (suc i) h = absurd (omega (arith, h))
-get_last (x ∷ xs) y d zero h = absurd (omega (arith, h))
-get_last (x ∷ xs) y d (suc i) h = get_last xs y d i (omega (arith, h))
-
-map_more : {A B : Type 0} (f : A → B) (xs : List A) (y : A) → map f (xs ++ y ∷ []) ≡ map f xs ++ f y ∷ []
-map_more f [] y = refl
-map_more f (x ∷ xs) y = ap (λ zs. f x ∷ zs) (map_more f xs y)
-
-map_count : {A B : Type 0} (f : A → B) (xs : List A) → length (map f xs) ≡ length xs
-map_count f [] = refl
-map_count f (x ∷ xs) = ap suc (map_count f xs)
-
-count_more : {A : Type 0} (xs : List A) (y : A) → length (xs ++ y ∷ []) ≡ suc (length xs)
-count_more [] y = refl
-count_more (x ∷ xs) y = ap suc (count_more xs y)
+use Rattle.co_top.proofs.Lists.{get_before, get_last, map_more, map_count, count_more, or_last}
 
 -- what is in the files of so many nodes of a sort, whose logs are these
 pub record Gathered (file : Spot → Option File) (sort : ℕ → Node) (P : Items → Type 0) (logs : ℕ → List Record) (count : ℕ) : Type 0 where
@@ -63,12 +40,9 @@ module _ (file : Spot → Option File) (sort : ℕ → Node) (P : Items → Type
         read = pairs_push (HasRecordsIn file) (numbered sort count) g.lists (sort (suc count)) items g.read has;
         many = count_more g.lists items ∙ ap suc g.many;
         each = all_append P g.lists (items ∷ []) g.each (holds, tt);
-        are = λ n between. by n between (more n between);
+        are = λ n between. by n between (or_last n count between.1);
       }
     where
-      more : (n : ℕ) → IsBetween n (suc count) → (n ≤ count) ⊎ (n ≡ suc count)
-      more n between = omega (arith, between.1)
-
       all : List (List Record)
       all = map newest_first g.lists
 

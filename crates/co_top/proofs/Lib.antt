@@ -1,6 +1,8 @@
 pub mod Recording
+pub mod Lists
 pub mod Laws
 pub mod LeftRecords
 pub mod Left
 pub mod Ending
-pub mod Playing
+pub mod Plays
+pub mod Reading

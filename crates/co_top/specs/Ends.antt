@@ -27,12 +27,13 @@ code_of (status.Limit what) = 10
 code_of status.Memory = 11
 code_of (status.OldLog spot) = 13
 
+-- what is wrong with a line
 abbrev pub kind_word : LineKind → List ℕ
-kind_word kind.Word = codes "word"
-kind_word kind.Number = codes "number"
-kind_word kind.Name = codes "name"
-kind_word kind.Extra = codes "extra"
-kind_word kind.Head = codes "head"
+kind_word kind.Word = codes ": word"
+kind_word kind.Number = codes ": number"
+kind_word kind.Name = codes ": name"
+kind_word kind.Extra = codes ": extra"
+kind_word kind.Head = codes ": head"
 
 -- a digit from 0 to 15, in lower case
 abbrev pub hex_digit : ℕ → ℕ
@@ -47,7 +48,7 @@ byte_word (Some byte) = hex_digit (byte / 16) ∷ hex_digit (byte % 16) ∷ []
 abbrev pub words_of : Status → List ℕ
 words_of status.Done = []
 words_of status.Usage = codes "usage"
-words_of (status.Schedule line what) = codes "schedule line " ++ decimal line ++ codes ": " ++ kind_word what
+words_of (status.Schedule line what) = codes "schedule line " ++ decimal line ++ kind_word what
 words_of status.Read = codes "read fault"
 words_of status.Write = codes "write fault"
 words_of (status.Device spot) = codes "device fault: " ++ spot_name spot

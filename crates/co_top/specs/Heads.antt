@@ -52,3 +52,9 @@ IsReadStatus (status.Limit limit.Lines) = Unit {0}
 IsReadStatus status.Read = Unit {0}
 IsReadStatus status.Memory = Unit {0}
 IsReadStatus _ = ⊥
+
+-- the statuses of a run that ended before its last line
+abbrev pub IsEnding : Status → Type 0
+IsEnding status.Done = ⊥
+IsEnding status.Usage = ⊥
+IsEnding _ = Unit {0}

@@ -18,9 +18,14 @@ use Rattle.co_top.specs.declared.status.LimitKind.TheVariants as limit
 use Rattle.co_top.specs.declared.status.Status.{Status}
 use Rattle.co_top.specs.declared.status.Status.TheVariants as status
 
--- every state of a run of a schedule with this head is one in which an event can be done
+-- every state of a run of a schedule with this head is one of its nodes, in which an event can be done
+pub record IsReadyFor (head : Head) (z : Federation) : Type 0 where
+  pub ready : IsReady z
+  pub kinds : z.kinds ≡ head.kinds
+  pub coordinators : z.coordinators ≡ head.coords
+
 abbrev pub StaysReady : Head → Federation → Type 0
-StaysReady head s0 = (events : List Event) → AllByRecursion (HasLine head) events → IsReady (run (lines events) s0)
+StaysReady head s0 = (events : List Event) → AllByRecursion (HasLine head) events → IsReadyFor head (run (lines events) s0)
 
 -- The events of the lines that were done, where the source tells the text behind the head; and what the sink holds, where it tells that: what it held,
 -- and the text of their transcript.

@@ -39,3 +39,8 @@ IsOpeningTold head items held told (Ok same) = (same ≡ head) × IsPut (opening
 IsOpeningTold head items held told (Err status.Write) = IsPutInPart (opening_text head items) held told
 IsOpeningTold head items held told (Err status.Memory) = IsPutInPart (opening_text head items) held told
 IsOpeningTold head items held told (Err _) = ⊥
+
+-- the head again, where the text of the first line was put
+abbrev pub given_back : Head → Result (Unit {0}) Status → Result Head Status
+given_back head (Ok u) = Ok head
+given_back head (Err why) = Err why

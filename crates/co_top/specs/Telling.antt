@@ -4,6 +4,7 @@ use Rattle.co_base.specs.declared.head.Kind.{Kind}
 use Rattle.co_message.specs.declared.event.Event.{Event}
 use Rattle.co_message.specs.declared.item.Item.{Item}
 use Rattle.co_message.specs.declared.item.ItemKind.TheVariants as item
+use Rattle.co_outside.specs.Faults.{HasRisen}
 use Rattle.co_node.specs.Answers.{HomeView}
 use Rattle.co_plain.specs.Federation.{Federation}
 use Rattle.co_plain.specs.Runs.{numbered}
@@ -27,6 +28,18 @@ IsPut text held told = (h : List ℕ) → held ≡ Some h → told ≡ Some (h +
 -- or a front of the text
 abbrev pub IsPutInPart : List ℕ → Option (List ℕ) → Option (List ℕ) → Type 0
 IsPutInPart text held told = (h : List ℕ) → held ≡ Some h → (count : ℕ) × (told ≡ Some (h ++ take count text))
+
+-- a text was put whole, or a front of it where the sink failed or there was no memory
+abbrev pub IsTextPut : List ℕ → Option (List ℕ) → Option (List ℕ) → Result (Unit {0}) Status → Type 0
+IsTextPut text held told (Ok u) = IsPut text held told
+IsTextPut text held told (Err status.Write) = IsPutInPart text held told
+IsTextPut text held told (Err status.Memory) = IsPutInPart text held told
+IsTextPut text held told (Err _) = ⊥
+
+-- the directory failed at the file that the status names, or it met no fault
+abbrev pub HasEnded : HomeView → HomeView → Result (Unit {0}) Status → Type 0
+HasEnded old new (Err (status.Device spot)) = HasRisen old.faults new.faults × (new.last_failed ≡ spot)
+HasEnded old new _ = new.faults ≡ old.faults
 
 -- the federation stands for the state that the event leaves, and the directory holds its logs
 pub record HasStepped {E : Type 0} (takes : Kind → Type 0) (stands_for : E → EngineState → Type 0) (s : Federation) (event : Event) (home : HomeView) (w : World E) : Type 0 where

@@ -32,6 +32,7 @@ pub(crate) fn head_of<S: Source>(
     requires fresh { HasRead 0 lines.old }
     ensures read { (text : List ℕ) → ahead lines.old (S.left source.old) ≡ Some text → IsHeadRead text (ahead lines.new (S.left source.new)) result }
     ensures one { OnOk result (HasRead 1 lines.new) }
+    ensures own { IfErr result IsReadStatus }
     ensures counts { S.faults source.old ≤ S.faults source.new }
     ensures failed { IsErrOf result Status.Read → HasRisen (S.faults source.old) (S.faults source.new) }
     ensures quiet { (IsErrOf result Status.Read → ⊥) → S.faults source.new ≡ S.faults source.old }

@@ -1,17 +1,16 @@
 //! The events of a schedule, one at a time: each is done, and then told.
-ghost use Rattle.std.specs.Prelude.{◌≡◌, ◌≤◌, ℕ, Ok, Err, length, IsErrOf};
+ghost use Rattle.std.specs.Prelude.{◌≡◌, ◌≤◌, ◌++◌, ◌∷◌, [], ℕ, Ok, Err, length, IfOk, IsErrOf};
 ghost use Rattle.co_outside.specs.Faults.{HasRisen};
-ghost use Rattle.co_outside.specs.declared.spot.Spot.{Spot};
-ghost use Rattle.co_disk.specs.Homes.{HasFailed};
 ghost use Rattle.co_node.specs.Answers.{seen};
 ghost use Rattle.co_plain.specs.Federation.{Federation};
 ghost use Rattle.co_schedule.specs.Lines.{ahead};
 ghost use Rattle.co_schedule.specs.View.{IsEventFor};
 ghost use Rattle.co_world.specs.Conditions.{IsReady};
 ghost use Rattle.co_world.specs.Standing.{RepresentsWorld, AreHeld};
+ghost use Rattle.co_top.specs.Ends.{of_world};
 ghost use Rattle.co_top.specs.Front.{HasRead};
 ghost use Rattle.co_top.specs.Played.{StaysReady, IsOver};
-ghost use Rattle.co_top.specs.Telling.{IsToldOf, IsPut, IsPutInPart};
+ghost use Rattle.co_top.specs.Telling.{IsToldOf, IsTextPut, HasEnded};
 ghost use Rattle.co_replay.specs.Transcript.{items_text};
 ghost use Rattle.co_message.specs.declared.item.ItemKind.TheVariants as item;
 ghost use Rattle.co_plain.specs.Runs.{numbered};
@@ -20,6 +19,7 @@ use crate::lines::event_of;
 use crate::replay::LINES;
 use crate::status::{Status, of_world};
 use co_base::Head;
+use co_durable::WorldFault;
 use co_engine::Engine;
 use co_message::{Event, Item};
 use co_outside::{Home, Sink, SinkFault, Source, put_all};
@@ -30,9 +30,7 @@ use std::alloc::{AllocError, Global};
 
 /// Puts a text to the sink of the transcript.
 pub(crate) fn put<K: Sink>(alloc: Global, out: &mut K, text: &[u8]) -> Result<(), Status>
-    ensures whole { result ≡ Ok tt → IsPut text.now (K.told out.old) (K.told out.new) }
-    ensures part { (why : Status) → result ≡ Err why → ((why ≡ Status.Write) ⊎ (why ≡ Status.Memory)) × IsPutInPart text.now (K.told out.old) (K.told out.new) }
-    ensures counts { K.faults out.old ≤ K.faults out.new }
+    ensures put { IsTextPut text.now (K.told out.old) (K.told out.new) result }
     ensures failed { IsErrOf result Status.Write → HasRisen (K.faults out.old) (K.faults out.new) }
     ensures quiet { (IsErrOf result Status.Write → ⊥) → K.faults out.new ≡ K.faults out.old }
 {
@@ -58,6 +56,29 @@ fn text_of(
     Ok(text)
 }
 
+/// Puts the text of an event and of what came of it.
+fn tell<K: Sink>(
+    alloc: Global,
+    out: &mut K,
+    number: u32,
+    event: Event,
+    items: &[Item],
+) -> Result<(), Status>
+    ensures put { IsTextPut (items_text (numbered number (item.Event event ∷ []) ++ items.now)) (K.told out.old) (K.told out.new) result }
+    ensures failed { IsErrOf result Status.Write → HasRisen (K.faults out.old) (K.faults out.new) }
+    ensures quiet { (IsErrOf result Status.Write → ⊥) → K.faults out.new ≡ K.faults out.old }
+{
+    let text = text_of(alloc, number, event, items)?;
+    put(alloc, out, &text)
+}
+
+/// The status of an event that was not done.
+fn undone(_event: Event, fault: WorldFault) -> Status
+    ensures { result ≡ of_world fault }
+{
+    of_world(fault)
+}
+
 /// Does the event of the line of this number, and tells it.
 fn tell_event<E: Engine + Drop, K: Sink, H: Home>(
     alloc: Global,
@@ -73,17 +94,13 @@ fn tell_event<E: Engine + Drop, K: Sink, H: Home>(
     ensures told { (s : Federation) → RepresentsWorld E.takes E.stands_for world.old s → IsReady s →
         IsToldOf E.takes E.stands_for s number event (K.told out.old) (K.told out.new) (seen H.file H.reach H.faults H.last_failed home.new) world.new result }
     ensures entered { H.entered home.new ≡ H.entered home.old }
-    ensures device { (spot : Spot) → IsErrOf result (Status.Device spot) → HasFailed H.faults H.last_failed spot home.old home.new }
-    ensures whole { ((spot : Spot) → IsErrOf result (Status.Device spot) → ⊥) → H.faults home.new ≡ H.faults home.old }
+    ensures ended { HasEnded (seen H.file H.reach H.faults H.last_failed home.old) (seen H.file H.reach H.faults H.last_failed home.new) result }
     ensures failed { IsErrOf result Status.Write → HasRisen (K.faults out.old) (K.faults out.new) }
     ensures quiet { (IsErrOf result Status.Write → ⊥) → K.faults out.new ≡ K.faults out.old }
 {
     match world.step(home, number, &event) {
-        Ok(items) => {
-            let text = text_of(alloc, number, event, items.as_slice())?;
-            put(alloc, out, &text)
-        }
-        Err(fault) => Err(of_world(fault)),
+        Ok(items) => tell(alloc, out, number, event, items.as_slice()),
+        Err(fault) => Err(undone(event, fault)),
     }
 }
 
@@ -99,11 +116,11 @@ pub(crate) fn replay_lines<E: Engine + Drop, S: Source, K: Sink, H: Home>(
 ) -> Result<(), Status>
     requires read { HasRead 1 lines.old }
     requires held { AreHeld (H.file home.old) (H.reach home.old) world.old }
-    requires stands { (s0 : Federation) × RepresentsWorld E.takes E.stands_for world.old s0 × StaysReady head.now s0 × (s0.kinds ≡ head.now.kinds) × (s0.coordinators ≡ head.now.coords) }
-    ensures over { (s0 : Federation) → RepresentsWorld E.takes E.stands_for world.old s0 → StaysReady head.now s0 → (s0.kinds ≡ head.now.kinds) → (s0.coordinators ≡ head.now.coords) →
+    requires stands { (s0 : Federation) × RepresentsWorld E.takes E.stands_for world.old s0 × StaysReady head.now s0 }
+    ensures over { (s0 : Federation) → RepresentsWorld E.takes E.stands_for world.old s0 → StaysReady head.now s0 →
         IsOver E.takes E.stands_for head.now s0 (ahead lines.old (S.left source.old)) (K.told out.old) (K.told out.new) (seen H.file H.reach H.faults H.last_failed home.new) world.new result }
     ensures entered { H.entered home.new ≡ H.entered home.old }
-    ensures device { (spot : Spot) → IsErrOf result (Status.Device spot) → HasFailed H.faults H.last_failed spot home.old home.new }
+    ensures ended { HasEnded (seen H.file H.reach H.faults H.last_failed home.old) (seen H.file H.reach H.faults H.last_failed home.new) result }
     ensures failed { IsErrOf result Status.Write → HasRisen (K.faults out.old) (K.faults out.new) }
     ensures read { IsErrOf result Status.Read → HasRisen (S.faults source.old) (S.faults source.new) }
 {

@@ -1,5 +1,5 @@
 //! A schedule is replayed over a directory of logs: its head is read, the federation is opened, and one line at a time is read, done and told.
-ghost use Rattle.std.specs.Prelude.{◌≡◌, ◌≤◌, ◌++◌, ◌∷◌, [], ℕ, List, Some, IfOk, IfErr, IsErrOf, OnOk};
+ghost use Rattle.std.specs.Prelude.{◌≡◌, ◌≤◌, ◌⊎◌, ◌++◌, ◌∷◌, [], ℕ, List, Some, IfOk, IfErr, IsErrOf, OnOk};
 ghost use Rattle.co_outside.specs.Faults.{HasRisen};
 ghost use Rattle.co_outside.specs.declared.spot.Spot.{Spot};
 ghost use Rattle.co_disk.specs.Homes.{HasFailed};
@@ -10,8 +10,9 @@ ghost use Rattle.co_plain.specs.Runs.{numbered};
 ghost use Rattle.co_replay.specs.Transcript.{items_text};
 ghost use Rattle.co_world.specs.Attached.{IsAttachedOver};
 ghost use Rattle.co_world.specs.Standing.{AreHeld};
+ghost use Rattle.co_top.specs.Heads.{IsEnding};
 ghost use Rattle.co_top.specs.Ran.{IsRunEnd};
-ghost use Rattle.co_top.specs.Replayed.{status_of, opening_text, IsUnopenedAs, IsOpeningTold};
+ghost use Rattle.co_top.specs.Replayed.{status_of, given_back, opening_text, IsUnopenedAs, IsOpeningTold};
 
 use crate::lines::head_of;
 use crate::playing::{put, replay_lines};
@@ -47,6 +48,27 @@ fn enter<H: Home>(alloc: Global, home: &mut H, directory: &str) -> Result<(), St
     }
 }
 
+/// Opens the federation of a head over the logs in the directory that was entered.
+fn attach<E: Engine + Drop, H: Home>(
+    alloc: Global,
+    home: &mut H,
+    head: &Head,
+    resume: bool,
+) -> Result<(World<E>, Items), Status>
+    requires kinds { (kind : Kind) → E.takes kind }
+    ensures opened { IfOk result (λ r. IsAttachedOver E.takes E.stands_for (H.file home.old) head.now resume r.0 r.1) }
+    ensures held { IfOk result (λ r. AreHeld (H.file home.new) (H.reach home.new) r.0) }
+    ensures refused { IfErr result (IsUnopenedAs (H.file home.old) head.now resume) }
+    ensures entered { H.entered home.new ≡ H.entered home.old }
+    ensures device { (spot : Spot) → IsErrOf result (Status.Device spot) → HasFailed H.faults H.last_failed spot home.old home.new }
+    ensures quiet { ((spot : Spot) → IsErrOf result (Status.Device spot) → ⊥) → H.faults home.new ≡ H.faults home.old }
+{
+    match World::<E>::attach(alloc, home, head, resume) {
+        Ok(opened) => Ok(opened),
+        Err(fault) => Err(of_world(fault)),
+    }
+}
+
 /// Opens the federation of a head over the logs of a directory.
 fn open<E: Engine + Drop, H: Home>(
     alloc: Global,
@@ -61,12 +83,10 @@ fn open<E: Engine + Drop, H: Home>(
     ensures refused { IfErr result (IsUnopenedAs (H.file home.old) head.now resume) }
     ensures entered { OnOk result (H.entered home.new ≡ Some directory.now) }
     ensures device { (spot : Spot) → IsErrOf result (Status.Device spot) → HasFailed H.faults H.last_failed spot home.old home.new }
+    ensures quiet { ((spot : Spot) → IsErrOf result (Status.Device spot) → ⊥) → H.faults home.new ≡ H.faults home.old }
 {
     enter(alloc, home, directory)?;
-    match World::<E>::attach(alloc, home, head, resume) {
-        Ok(opened) => Ok(opened),
-        Err(fault) => Err(of_world(fault)),
-    }
+    attach(alloc, home, head, resume)
 }
 
 /// The head that an item tells.
@@ -94,6 +114,16 @@ fn put_opening(head: Head, items: &[Item], into: &mut Vec<u8>) -> Result<Head, A
     Ok(head_in(first))
 }
 
+/// The head again, where the text of the first line was put.
+fn given_back(head: Head, put: Result<(), Status>) -> Result<Head, Status>
+    ensures { result ≡ given_back head put }
+{
+    match put {
+        Ok(()) => Ok(head),
+        Err(why) => Err(why),
+    }
+}
+
 /// Puts the text of the first line.
 fn tell_opening<K: Sink>(
     alloc: Global,
@@ -107,8 +137,8 @@ fn tell_opening<K: Sink>(
 {
     let mut text = Vec::new(alloc);
     let head = put_opening(head, items, &mut text)?;
-    put(alloc, out, &text)?;
-    Ok(head)
+    let told = put(alloc, out, &text);
+    given_back(head, told)
 }
 
 /// Replays the schedule of the source over the logs of a directory, up to its end or to what ends it before.
@@ -123,6 +153,7 @@ fn replayed<E: Engine + Drop, S: Source, K: Sink, H: Home>(
     requires kinds { (kind : Kind) → E.takes kind }
     ensures end { (input held : List ℕ) → S.left source.old ≡ Some input → K.told out.old ≡ Some held →
         IsRunEnd resume input held (H.file home.old) (H.file home.new) (K.told out.new) (status_of result) }
+    ensures own { IfErr result IsEnding }
     ensures entered { OnOk result (H.entered home.new ≡ Some directory.now) }
     ensures read { IsErrOf result Status.Read → HasRisen (S.faults source.old) (S.faults source.new) }
     ensures write { IsErrOf result Status.Write → HasRisen (K.faults out.old) (K.faults out.new) }
@@ -147,6 +178,7 @@ pub(crate) fn replay<E: Engine + Drop, S: Source, K: Sink, H: Home>(
     requires kinds { (kind : Kind) → E.takes kind }
     ensures end { (input held : List ℕ) → S.left source.old ≡ Some input → K.told out.old ≡ Some held →
         IsRunEnd resume input held (H.file home.old) (H.file home.new) (K.told out.new) result }
+    ensures own { result ≡ Status.Usage → ⊥ }
     ensures entered { result ≡ Status.Done → H.entered home.new ≡ Some directory.now }
     ensures read { result ≡ Status.Read → HasRisen (S.faults source.old) (S.faults source.new) }
     ensures write { result ≡ Status.Write → HasRisen (K.faults out.old) (K.faults out.new) }

@@ -192,16 +192,16 @@ pub(crate) fn of_line(line: u32, fault: LineFault) -> Status
     }
 }
 
-/// The word of what is wrong with a line.
+/// What is noted of a line, by what is wrong with it.
 fn kind_text(kind: LineKind) -> &'static [u8]
     ensures { result.now ≡ kind_word kind }
 {
     match kind {
-        LineKind::Word => b"word",
-        LineKind::Number => b"number",
-        LineKind::Name => b"name",
-        LineKind::Extra => b"extra",
-        LineKind::Head => b"head",
+        LineKind::Word => b": word",
+        LineKind::Number => b": number",
+        LineKind::Name => b": name",
+        LineKind::Extra => b": extra",
+        LineKind::Head => b": head",
     }
 }
 
@@ -261,20 +261,35 @@ fn put_difference(
     append_byte(into, read)
 }
 
-/// Appends what is noted of a limit.
-fn put_limit(alloc: Global, limit: LimitKind, into: &mut Vec<u8>) -> Result<(), AllocError>
-    ensures { OnOk result (into.new.items ≡ into.old.items ++ words_of (Status.Limit limit)) }
+/// Appends a text and a number.
+fn put_number(text: &[u8], number: u32, into: &mut Vec<u8>) -> Result<(), AllocError>
+    ensures { OnOk result (into.new.items ≡ into.old.items ++ (text.now ++ codes " " ++ decimal number)) }
 {
-    match limit {
-        LimitKind::Line { line } => {
-            into.extend_from_slice(b"limit: line")?;
-            append_number(into, u64::from(line))?;
-            into.extend_from_slice(b" is long")
-        }
-        LimitKind::Lines => into.extend_from_slice(b"limit: lines"),
-        LimitKind::Transactions => into.extend_from_slice(b"limit: transactions"),
-        LimitKind::Log { spot } => append_spot(alloc, into, b"limit: log ", spot),
-    }
+    into.extend_from_slice(text)?;
+    append_number(into, u64::from(number))
+}
+
+/// Appends what is wrong with a line.
+fn put_kind(kind: LineKind, into: &mut Vec<u8>) -> Result<(), AllocError>
+    ensures { OnOk result (into.new.items ≡ into.old.items ++ kind_word kind) }
+{
+    into.extend_from_slice(kind_text(kind))
+}
+
+/// Appends what is noted of a line outside the grammar.
+fn put_mistake(line: u32, kind: LineKind, into: &mut Vec<u8>) -> Result<(), AllocError>
+    ensures { OnOk result (into.new.items ≡ into.old.items ++ words_of (Status.Schedule line kind)) }
+{
+    put_number(b"schedule line", line, into)?;
+    put_kind(kind, into)
+}
+
+/// Appends what is noted of a long line.
+fn put_long(line: u32, into: &mut Vec<u8>) -> Result<(), AllocError>
+    ensures { OnOk result (into.new.items ≡ into.old.items ++ words_of (Status.Limit (LimitKind.Line line))) }
+{
+    put_number(b"limit: line", line, into)?;
+    into.extend_from_slice(b" is long")
 }
 
 /// Appends the note of a status, but its newline.
@@ -284,12 +299,7 @@ fn put_words(alloc: Global, status: Status, into: &mut Vec<u8>) -> Result<(), Al
     match status {
         Status::Done => Ok(()),
         Status::Usage => into.extend_from_slice(b"usage"),
-        Status::Schedule { line, kind } => {
-            into.extend_from_slice(b"schedule line")?;
-            append_number(into, u64::from(line))?;
-            into.extend_from_slice(b": ")?;
-            into.extend_from_slice(kind_text(kind))
-        }
+        Status::Schedule { line, kind } => put_mistake(line, kind, into),
         Status::Read => into.extend_from_slice(b"read fault"),
         Status::Write => into.extend_from_slice(b"write fault"),
         Status::Device { spot } => append_spot(alloc, into, b"device fault: ", spot),
@@ -301,7 +311,10 @@ fn put_words(alloc: Global, status: Status, into: &mut Vec<u8>) -> Result<(), Al
         } => put_difference(alloc, spot, at, kept, read, into),
         Status::InUse { spot } => append_spot(alloc, into, b"logs in use: ", spot),
         Status::BadLog { spot, at } => put_place(alloc, b"bad log: ", spot, at, into),
-        Status::Limit(limit) => put_limit(alloc, limit, into),
+        Status::Limit(LimitKind::Line { line }) => put_long(line, into),
+        Status::Limit(LimitKind::Lines) => into.extend_from_slice(b"limit: lines"),
+        Status::Limit(LimitKind::Transactions) => into.extend_from_slice(b"limit: transactions"),
+        Status::Limit(LimitKind::Log { spot }) => append_spot(alloc, into, b"limit: log ", spot),
         Status::Memory => into.extend_from_slice(b"want of memory"),
         Status::OldLog { spot } => append_spot(alloc, into, b"old log: ", spot),
     }

@@ -1,12 +1,20 @@
 -- One more line is played, or none is.
-use Rattle.std.proofs.Common.{◌≡◌, ◌⊎◌, inl, inr, ℕ, suc, ◌+◌, ◌≤◌, List, [], ◌∷◌, ◌++◌, length, take, map, Option, None, Some, Result, Ok, Err, refl, sym, ap, ◌∙◌, subst, absurd, append-nil, append_assoc, arith}
+use Rattle.std.proofs.Common.{◌≡◌, ◌⊎◌, inl, inr, ℕ, suc, ◌+◌, ◌≤◌, Bool, true, false, List, [], ◌∷◌, ◌++◌, length, take, map, Option, None, Some, Result, Ok, Err, refl, sym, ap, ◌∙◌, subst, append-nil, append_assoc, arith}
 use Rattle.std.proofs.Math.Seq.{take-length}
+use Rattle.std.specs.Result.{IsErr, IsErrAnd}
 use Rattle.std.specs.List.{AllByRecursion}
 use Rattle.co_base.specs.declared.head.Head.{Head}
 use Rattle.co_base.specs.declared.head.Kind.{Kind}
 use Rattle.co_message.specs.declared.event.Event.{Event}
 use Rattle.co_message.specs.declared.item.Item.{Item}
+use Rattle.co_message.specs.declared.item.ItemKind.TheVariants as item
+use Rattle.co_outside.specs.declared.spot.Spot.{Spot}
+use Rattle.co_outside.specs.Home.{File}
 use Rattle.co_durable.proofs.Pairs.{all_append}
+use Rattle.co_durable.specs.declared.fault.WorldFault.{WorldFault}
+use Rattle.co_durable.specs.declared.fault.WorldFault.TheVariants as world
+use Rattle.co_opening.specs.Opened.{IsUnopened}
+use Rattle.co_world.specs.Served.{HasEndedAs}
 use Rattle.co_law.proofs.GoingOn.{transcript_more}
 use Rattle.co_law_runs.proofs.Agreement.{run_more}
 use Rattle.co_node.specs.Answers.{HomeView}
@@ -22,64 +30,55 @@ use Rattle.co_schedule.specs.declared.lines.Lines.{Lines}
 use Rattle.co_state.specs.declared.engine_state.EngineState.{EngineState}
 use Rattle.co_world.specs.Standing.{RepresentsWorld, AreHeld}
 use Rattle.co_world.specs.declared.world.World.{World}
+use Rattle.co_top.proofs.Lists.{map_more, count_more, take_behind}
 use Rattle.co_top.specs.Front.{HasRead, StandsBehind, OneMore, IsNext, IsLineFault}
 use Rattle.co_top.specs.Heads.{IsEventRead, IsReadStatus}
 use Rattle.co_top.specs.Played.{IsTold, IsToldInPart, StandsFor, HasStopped, IsOver}
-use Rattle.co_top.specs.Telling.{event_text, IsPut, IsPutInPart, HasStepped, IsToldOf}
+use Rattle.co_top.specs.Ends.{of_world}
+use Rattle.co_top.specs.Replayed.{given_back, opening_text, IsUnopenedAs, IsOpeningTold}
+use Rattle.co_top.specs.Telling.{event_text, IsPut, IsPutInPart, IsTextPut, HasStepped, HasEnded, IsToldOf}
 use Rattle.co_top.specs.declared.status.LimitKind.TheVariants as limit
 use Rattle.co_top.specs.declared.status.Status.{Status}
 use Rattle.co_top.specs.declared.status.Status.TheVariants as status
-
-map_more : {A B : Type 0} (f : A → B) (xs : List A) (y : A) → map f (xs ++ y ∷ []) ≡ map f xs ++ f y ∷ []
-map_more f [] y = refl
-map_more f (x ∷ xs) y = ap (λ zs. f x ∷ zs) (map_more f xs y)
-
-count_more : {A : Type 0} (xs : List A) (y : A) → length (xs ++ y ∷ []) ≡ suc (length xs)
-count_more [] y = refl
-count_more (x ∷ xs) y = ap suc (count_more xs y)
-
-take_behind : (xs ys : List ℕ) (n : ℕ) → take (length xs + n) (xs ++ ys) ≡ xs ++ take n ys
-take_behind [] ys n = refl
-take_behind (x ∷ xs) ys n = ap (λ zs. x ∷ zs) (take_behind xs ys n)
 
 -- the run and the text of one more event
 pub run_one : (es : List Event) (e : Event) (s : Federation) → run (lines (es ++ e ∷ [])) s ≡ (step_line (run (lines es) s) e).state
 run_one es e s = ap (λ hs. run hs s) (map_more happening.Line es e) ∙ run_more (lines es) (happening.Line e ∷ []) s
 
-text_one : (es : List Event) (e : Event) (s : Federation) → items_text (transcript 2 (es ++ e ∷ []) s) ≡ items_text (transcript 2 es s) ++ event_text (length es + 2) e (run (lines es) s)
+pub text_one : (es : List Event) (e : Event) (s : Federation) → items_text (transcript 2 (es ++ e ∷ []) s) ≡ items_text (transcript 2 es s) ++ event_text (length es + 2) e (run (lines es) s)
 text_one es e s =
     let z = run (lines es) s in
     let more : List Item = transcript (2 + length es) (e ∷ []) z in
     ap items_text (transcript_more 2 es (e ∷ []) s)
     ∙ items_text-append (transcript 2 es s) more
-    ∙ ap (λ (is : List Item). items_text (transcript 2 es s) ++ items_text is) (append-nil _)
+    ∙ ap (λ (is : List Item). items_text (transcript 2 es s) ++ items_text is) {y = numbered (2 + length es) (item.Event e ∷ (step_line z e).items)} (append-nil _)
     ∙ ap (λ n. items_text (transcript 2 es s) ++ event_text n e z) (let q : 2 + length es ≡ length es + 2 = omega arith in q)
 
 -- ---- what was read
 
 -- what is left behind one more event
-left_one : (head : Head) (text : List ℕ) (es : List Event) (e : Event) → HasLine head e → (left : (rest : List ℕ) × StandsBehind head text es rest) → (rest : List ℕ) → IsNext head (length es) left.0 rest (Some e) →
+pub left_one : (head : Head) (text : List ℕ) (es : List Event) (e : Event) → HasLine head e → (left : (rest : List ℕ) × StandsBehind head text es rest) → (rest : List ℕ) → IsNext head (length es) left.0 rest (Some e) →
     StandsBehind head text (es ++ e ∷ []) rest
 left_one head text es e line left rest next = subst (StandsBehind head text (es ++ e ∷ [])) (sym next.1) (OneMore text left.0 es e left.1 line next.0)
 
 -- an event was read behind those of the told lines, where the source tells its text, and this is ahead then
-pub IsReadBehind : (head : Head) (text : Option (List ℕ)) (es : List Event) → ((t : List ℕ) → text ≡ Some t → (rest : List ℕ) × StandsBehind head t es rest) → Option (List ℕ) → Event → Type 0
+abbrev pub IsReadBehind : (head : Head) (text : Option (List ℕ)) (es : List Event) → ((t : List ℕ) → text ≡ Some t → (rest : List ℕ) × StandsBehind head t es rest) → Option (List ℕ) → Event → Type 0
 IsReadBehind head text es left ahead e = (t : List ℕ) (q : text ≡ Some t) → (rest : List ℕ) × IsNext head (length es) (left t q).0 rest (Some e) × (ahead ≡ Some rest)
 
 module _ (head : Head) (s0 : Federation) (text held told : Option (List ℕ)) (p : IsTold head s0 text held told) (e : Event) (line : HasLine head e) (ahead : Option (List ℕ)) (read : IsReadBehind head text p.events p.left ahead e) where
-  es : List Event
+  abbrev pub es : List Event
   es = p.events ++ e ∷ []
 
-  z : Federation
+  abbrev pub z : Federation
   z = run (lines p.events) s0
 
-  valid : AllByRecursion (HasLine head) es
+  abbrev pub valid : AllByRecursion (HasLine head) es
   valid = all_append (HasLine head) p.events (e ∷ []) p.valid (line, tt)
 
-  left : (t : List ℕ) → text ≡ Some t → (rest : List ℕ) × StandsBehind head t es rest
+  abbrev pub left : (t : List ℕ) → text ≡ Some t → (rest : List ℕ) × StandsBehind head t es rest
   left t q = let r = read t q in (r.0, left_one head t p.events e line (p.left t q) r.0 r.1)
 
-  pub told_one : (after : Option (List ℕ)) → IsPut (event_text (length p.events + 2) e z) told after → IsTold head s0 text held after
+  abbrev pub told_one : (after : Option (List ℕ)) → IsPut (event_text (length p.events + 2) e z) told after → IsTold head s0 text held after
   told_one after put =
       record {
         events = es;
@@ -90,7 +89,7 @@ module _ (head : Head) (s0 : Federation) (text held told : Option (List ℕ)) (p
             ∙ ap Some (append_assoc h (items_text (transcript 2 p.events s0)) (event_text (length p.events + 2) e z) ∙ ap (λ t. h ++ t) (sym (text_one p.events e s0)));
       }
 
-  pub told_in_part : (after : Option (List ℕ)) → IsPutInPart (event_text (length p.events + 2) e z) told after → IsToldInPart head s0 text held after
+  abbrev pub told_in_part : (after : Option (List ℕ)) → IsPutInPart (event_text (length p.events + 2) e z) told after → IsToldInPart head s0 text held after
   told_in_part after put =
       record {
         events = es;
@@ -189,3 +188,101 @@ module _ {E : Type 0} (takes : Kind → Type 0) (stands_for : E → EngineState 
   reads_over (status.Limit (limit.Log spot)) after own f = absurd own
   reads_over status.Memory after own f = whole_part
   reads_over (status.OldLog spot) after own f = absurd own
+
+-- ---- one event is told
+
+-- nothing was put
+pub nothing_put : (text : List ℕ) (held : Option (List ℕ)) → IsPutInPart text held held
+nothing_put text held = λ h e. (0, e ∙ ap Some (sym (append-nil h)))
+
+-- what was done is told so
+pub told_as : {E : Type 0} (takes : Kind → Type 0) (stands_for : E → EngineState → Type 0) (s : Federation) (number : ℕ) (e : Event) (held told : Option (List ℕ)) (home : HomeView) (w : World E) (items : List Item) (o : Result (Unit {0}) Status) →
+    items ≡ numbered number (step_line s e).items → HasStepped takes stands_for s e home w → IsTextPut (items_text (numbered number (item.Event e ∷ []) ++ items)) held told o → IsToldOf takes stands_for s number e held told home w o
+told_as takes stands_for s number e held told home w items (Ok u) is st p = (st, subst (λ (xs : List Item). IsPut (items_text (numbered number (item.Event e ∷ []) ++ xs)) held told) is p)
+told_as takes stands_for s number e held told home w items (Err status.Done) is st p = absurd p
+told_as takes stands_for s number e held told home w items (Err status.Usage) is st p = absurd p
+told_as takes stands_for s number e held told home w items (Err (status.Schedule line what)) is st p = absurd p
+told_as takes stands_for s number e held told home w items (Err status.Read) is st p = absurd p
+told_as takes stands_for s number e held told home w items (Err status.Write) is st p = (st, subst (λ (xs : List Item). IsPutInPart (items_text (numbered number (item.Event e ∷ []) ++ xs)) held told) is p)
+told_as takes stands_for s number e held told home w items (Err (status.Device spot)) is st p = absurd p
+told_as takes stands_for s number e held told home w items (Err (status.Differs spot place kept got)) is st p = absurd p
+told_as takes stands_for s number e held told home w items (Err (status.InUse spot)) is st p = absurd p
+told_as takes stands_for s number e held told home w items (Err (status.BadLog spot place)) is st p = absurd p
+told_as takes stands_for s number e held told home w items (Err (status.Limit what)) is st p = absurd p
+told_as takes stands_for s number e held told home w items (Err status.Memory) is st p = subst (λ (xs : List Item). IsPutInPart (items_text (numbered number (item.Event e ∷ []) ++ xs)) held told) is p
+told_as takes stands_for s number e held told home w items (Err (status.OldLog spot)) is st p = absurd p
+
+-- what was not done is not told
+pub untold : {E : Type 0} (takes : Kind → Type 0) (stands_for : E → EngineState → Type 0) (s : Federation) (number : ℕ) (e : Event) (held : Option (List ℕ)) (old new : HomeView) (w : World E) (fault : WorldFault) → HasEndedAs fault old new →
+    IsToldOf takes stands_for s number e held held new w (Err (of_world fault))
+untold takes stands_for s number e held old new w (world.Device spot) h = refl
+untold takes stands_for s number e held old new w (world.Differs spot place kept got) h = refl
+untold takes stands_for s number e held old new w (world.InUse spot) h = absurd h
+untold takes stands_for s number e held old new w (world.Bad spot place) h = absurd h
+untold takes stands_for s number e held old new w (world.Full spot) h = refl
+untold takes stands_for s number e held old new w world.Count h = refl
+untold takes stands_for s number e held old new w (world.Old spot) h = absurd h
+untold takes stands_for s number e held old new w world.Memory h = nothing_put (event_text number e s) held
+
+-- how the directory ended
+pub ended_as : (old new : HomeView) (fault : WorldFault) → HasEndedAs fault old new → HasEnded old new (Err (of_world fault))
+ended_as old new (world.Device spot) h = h
+ended_as old new (world.Differs spot place kept got) h = h
+ended_as old new (world.InUse spot) h = absurd h
+ended_as old new (world.Bad spot place) h = absurd h
+ended_as old new (world.Full spot) h = h
+ended_as old new world.Count h = ap (λ (v : HomeView). v.faults) h
+ended_as old new (world.Old spot) h = absurd h
+ended_as old new world.Memory h = h
+
+-- a text that was put met no fault of the directory
+pub put_ended : (text : List ℕ) (held told : Option (List ℕ)) (old new : HomeView) (o : Result (Unit {0}) Status) → new.faults ≡ old.faults → IsTextPut text held told o → HasEnded old new o
+put_ended text held told old new (Ok u) q p = q
+put_ended text held told old new (Err status.Done) q p = q
+put_ended text held told old new (Err status.Usage) q p = q
+put_ended text held told old new (Err (status.Schedule line what)) q p = q
+put_ended text held told old new (Err status.Read) q p = q
+put_ended text held told old new (Err status.Write) q p = q
+put_ended text held told old new (Err (status.Device spot)) q p = absurd p
+put_ended text held told old new (Err (status.Differs spot place kept got)) q p = q
+put_ended text held told old new (Err (status.InUse spot)) q p = q
+put_ended text held told old new (Err (status.BadLog spot place)) q p = q
+put_ended text held told old new (Err (status.Limit what)) q p = q
+put_ended text held told old new (Err status.Memory) q p = q
+put_ended text held told old new (Err (status.OldLog spot)) q p = q
+
+-- how the text of the first line was put
+pub opening_put : (head : Head) (items : List Item) (held told : Option (List ℕ)) (o : Result (Unit {0}) Status) → IsTextPut (opening_text head items) held told o → IsOpeningTold head items held told (given_back head o)
+opening_put head items held told (Ok u) p = (refl, p)
+opening_put head items held told (Err status.Done) p = absurd p
+opening_put head items held told (Err status.Usage) p = absurd p
+opening_put head items held told (Err (status.Schedule line what)) p = absurd p
+opening_put head items held told (Err status.Read) p = absurd p
+opening_put head items held told (Err status.Write) p = p
+opening_put head items held told (Err (status.Device spot)) p = absurd p
+opening_put head items held told (Err (status.Differs spot place kept got)) p = absurd p
+opening_put head items held told (Err (status.InUse spot)) p = absurd p
+opening_put head items held told (Err (status.BadLog spot place)) p = absurd p
+opening_put head items held told (Err (status.Limit what)) p = absurd p
+opening_put head items held told (Err status.Memory) p = p
+opening_put head items held told (Err (status.OldLog spot)) p = absurd p
+
+-- why a federation was not opened, as a status
+pub unopened_as : (file : Spot → Option File) (head : Head) (resume : Bool) (fault : WorldFault) → IsUnopened file head resume fault → IsUnopenedAs file head resume (of_world fault)
+unopened_as file head resume (world.Device spot) u = tt
+unopened_as file head resume (world.Differs spot place kept got) u = absurd u
+unopened_as file head resume (world.InUse spot) u = u
+unopened_as file head resume (world.Bad spot place) u = u
+unopened_as file head resume (world.Full spot) u = u
+unopened_as file head resume world.Count u = u
+unopened_as file head resume (world.Old spot) u = u
+unopened_as file head resume world.Memory u = tt
+
+-- what a question mark passes on is the fault that was met
+pub err_is : {A E : Type 0} (o : Result A E) (why : E) → IsErr o × IsErrAnd o (λ e. e ≡ why) → o ≡ Err why
+err_is (Ok x) why h = absurd (let z : false ≡ true = h.0 in cc)
+err_is (Err e) why h = ap Err h.1
+
+-- what was done is no fault
+pub not_err : {A E : Type 0} (x : A) (e : E) → Ok x ≡ Err e → ⊥
+not_err x e q = let z : Ok x ≡ Err e = q in cc

@@ -1,0 +1,18 @@
+use Rattle.std.proofs.Common.{◌≡◌, ◌∙◌, Ok, Err, ap, sym, subst}
+use Rattle.co_durable.specs.declared.fault.WorldFault.TheVariants as world
+use Rattle.co_top.specs.Ends.{of_world}
+use Rattle.co_top.specs.Replayed.{IsUnopenedAs}
+use Rattle.co_top.proofs.Plays.{unopened_as}
+use Rattle.co_top.proofs.replay.attach.Goals as goal
+
+pub returns-in-Err-clause-refused : goal.returns-in-Err-clause-refused
+returns-in-Err-clause-refused g c =
+    subst (IsUnopenedAs (g.H.Home.file c.args.home.now) c.args.head.now c.args.resume) (sym c.of_world.ensures)
+    (unopened_as (g.H.Home.file c.args.home.now) c.args.head.now c.args.resume c.in-Err.fault c.in-Err.ensures.refused)
+
+pub returns-in-Ok-clause-quiet : goal.returns-in-Ok-clause-quiet
+returns-in-Ok-clause-quiet g c = λ h. c.in-Ok.ensures.quiet (λ spot e. absurd (let z : Ok c.in-Ok.opened ≡ Err (world.Device spot) = e in cc))
+
+pub returns-in-Err-clause-quiet : goal.returns-in-Err-clause-quiet
+returns-in-Err-clause-quiet g c = λ h.
+    c.in-Err.ensures.quiet (λ spot e. h spot (ap Err (c.of_world.ensures ∙ ap of_world (let z : c.in-Err.fault ≡ world.Device spot = (let q : Err c.in-Err.fault ≡ Err (world.Device spot) = e in cc) in z))))
