@@ -1,0 +1,66 @@
+-- The nodes of a federation that was opened.
+use Rattle.std.proofs.Common.{◌≡◌, ℕ, zero, suc, ◌+◌, ◌≤◌, ◌++◌, Bool, List, length, refl, sym, ap, subst, ◌∙◌, arith}
+use Rattle.std.specs.Prelude.{Option, Some, slice_get}
+use Rattle.std.specs.FinMap.{keys}
+use Rattle.co_base.specs.declared.head.Head.{Head}
+use Rattle.co_base.specs.declared.head.Kind.{Kind}
+use Rattle.co_base.specs.declared.node.Node.TheVariants.{Member, Coord}
+use Rattle.co_outside.specs.declared.spot.Spot.{Spot}
+use Rattle.co_outside.specs.Home.{File}
+use Rattle.co_log.specs.LogView.{LogView}
+use Rattle.co_plain.specs.Opening.{Found, opened_member, opened_coord, used_numbers, member_headers, coord_headers}
+use Rattle.co_plain.specs.MemberView.{Numbers}
+use Rattle.co_plain.specs.Numbers.{has_number}
+use Rattle.co_recover.specs.declared.past.CoordPast.{CoordPast}
+use Rattle.co_recover.specs.declared.past.MemberPast.{MemberPast}
+use Rattle.co_state.specs.declared.engine_state.EngineState.{EngineState}
+use Rattle.co_state.specs.Table.{no_entries, holds}
+use Rattle.co_coord.specs.declared.coord.Coord.{Coord as CoordOn}
+use Rattle.co_member.specs.declared.member.Member.{Member as MemberOn}
+use Rattle.co_opening.specs.Counted.{with_members, with_coords}
+use Rattle.co_opening.specs.From.{AllFrom}
+use Rattle.co_opening.specs.Judged.{AreJudged}
+use Rattle.co_opening.specs.Kept.{IsOwnLog}
+use Rattle.co_opening.specs.Nodes.{IsMemberAt, IsCoordAt, IsKept, AreKept}
+use Rattle.co_opening.specs.Opened.{AreOpened}
+use Rattle.co_opening.specs.Running.{AreMembersAt, AreCoordsAt, AreOwnMembers, AreOwnCoords}
+use Rattle.co_opening.specs.declared.nodes.Nodes.{Nodes}
+use Rattle.co_opening.proofs.From.{all_from_first}
+use Rattle.co_opening.proofs.Judged.{laid_used}
+use Rattle.co_opening.proofs.Laid.{has_keys}
+
+pub opened_nodes : {E : Type 0} (takes : Kind → Type 0) (stands_for : E → EngineState → Type 0) (file : Spot → Option File) (resume : Bool) (head : Head) (member_logs coord_logs : List LogView) (member_pasts : List MemberPast) (coord_pasts : List CoordPast)
+    (j : AreJudged file resume head member_logs coord_logs member_pasts coord_pasts) (n : Nodes E) → length n.members.items ≡ length head.kinds → length n.coords.items ≡ length coord_logs
+    → AreMembersAt takes stands_for head.kinds head.coords j.found_member n.members.items → AreCoordsAt (length head.kinds) j.found_coord n.coords.items
+    → n.used ≡ keys (with_coords (with_members no_entries member_pasts) coord_pasts) → length n.used ≤ 65536
+    → n.marks ≡ member_headers (length head.kinds) j.found_member ++ coord_headers (length coord_logs) j.found_coord → AreOpened takes stands_for file head resume n
+opened_nodes takes stands_for file resume head member_logs coord_logs member_pasts coord_pasts j n many few ms cs used most marks =
+    let numbers : Numbers = used_numbers (length head.kinds) head.coords j.found_member j.found_coord in
+    let are : n.used ≡ keys numbers = used ∙ ap keys (laid_used file resume head member_logs coord_logs member_pasts coord_pasts j) in
+    record {
+      found_member = j.found_member;
+      found_coord = j.found_coord;
+      found = j.found;
+      may = j.may;
+      unused = j.unused;
+      members = many;
+      coords = few ∙ j.many_coords;
+      member = λ p m is. all_from_first (λ q x. IsMemberAt takes stands_for head.coords q x (opened_member head.kinds (suc q) (j.found_member (suc q)))) n.members.items p m ms is;
+      coord = λ p c is. all_from_first (λ q y. IsCoordAt (length head.kinds) q y (opened_coord (suc q) (j.found_coord (suc q)))) n.coords.items p c cs is;
+      used = λ t. ap (λ (ts : List ℕ). has_number ts t) are ∙ has_keys numbers t;
+      few = most;
+      marks = marks ∙ ap (λ k. member_headers (length head.kinds) j.found_member ++ coord_headers k j.found_coord) j.many_coords;
+    }
+
+pub kept_nodes : {E : Type 0} (takes : Kind → Type 0) (stands_for : E → EngineState → Type 0) (file : Spot → Option File) (reach : Spot → ℕ) (head : Head) (found_member found_coord : ℕ → Found) (members : List (MemberOn E)) (coords : List CoordOn)
+    → AreMembersAt takes stands_for head.kinds head.coords found_member members → AreCoordsAt (length head.kinds) found_coord coords → AreOwnMembers file reach members → AreOwnCoords file reach coords → AreKept file reach members coords
+kept_nodes takes stands_for file reach head found_member found_coord members coords ms cs own owns = record {
+  members = λ p m is.
+      let at = all_from_first (λ q x. IsMemberAt takes stands_for head.coords q x (opened_member head.kinds (suc q) (found_member (suc q)))) members p m ms is in
+      let log = all_from_first (λ q x. IsOwnLog file reach (Member (suc q)) x.log) members p m own is in
+      subst (λ k. IsKept file reach (Member k) m.log) (sym at.number) log.kept;
+  coords = λ p c is.
+      let at = all_from_first (λ q y. IsCoordAt (length head.kinds) q y (opened_coord (suc q) (found_coord (suc q)))) coords p c cs is in
+      let log = all_from_first (λ q y. IsOwnLog file reach (Coord (suc q)) y.log) coords p c owns is in
+      subst (λ k. IsKept file reach (Coord k) c.log) (sym at.number) log.kept;
+}
