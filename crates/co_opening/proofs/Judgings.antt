@@ -111,8 +111,8 @@ module _ (file : Spot → Option File) (resume : Bool) where
   are_fresh none nodes logs pairs = right_all (IsAttachedTo file resume) IsFresh (λ node log att. att.fresh none) nodes logs pairs
 
 resumed : (resume : Bool) → (resume ≡ false → ⊥) → resume ≡ true
-resumed true no = refl
-resumed false no = absurd (no refl)
+resumed true never = refl
+resumed false never = absurd (never refl)
 
 -- the element that the first bad one is
 first_of : {A : Type 0} (P IsGood IsBad : A → Type 0) (xs : List A) → AllByRecursion P xs → (f : FirstWhere IsGood IsBad xs) → P f.first
