@@ -1,6 +1,7 @@
 -- Logs that are made where they are fresh, and the nodes on them.
 use Rattle.std.proofs.Common.{◌≡◌, ◌⊎◌, inl, inr, ℕ, zero, suc, ◌+◌, ◌<◌, ◌==◌, ◌++◌, Bool, true, false, List, [], ◌∷◌, refl, sym, ap, subst, ◌∙◌, arith}
-use Rattle.std.specs.Prelude.{reverse, None}
+use Rattle.std.specs.Prelude.{Result, Ok, Err, IsErrOf}
+use Rattle.std.specs.Result.{IsErrAnd}
 use Rattle.co_base.specs.Nodes.{IsValidNode}
 use Rattle.co_base.specs.declared.head.Kind.{Kind}
 use Rattle.co_base.specs.declared.mark.Mark.{Mark}
@@ -20,6 +21,7 @@ use Rattle.co_plain.specs.MemberView.{recovered_view}
 use Rattle.co_plain.specs.Opening.{Found, made, header_mark, opened_log, opened_member, kind_of, member_with}
 use Rattle.co_plain.specs.LogWrite.{marks_of}
 use Rattle.co_plain.specs.declared.log_state.LogState.{LogState}
+use Rattle.co_durable.specs.declared.fault.WorldFault.{WorldFault}
 use Rattle.co_opening.specs.Standing.{IsStanding}
 
 -- the log is that of the node
@@ -66,3 +68,12 @@ made_view owner (r ∷ rs) = refl
 pub made_commits : (owner : Node) (records : List Record) → recovered_commits (made owner records) ≡ recovered_commits records
 made_commits owner [] = refl
 made_commits owner (r ∷ rs) = refl
+
+-- ---- faults that are handed on
+
+same_fault : {S : Type 0} (fault at : WorldFault) → IsErrOf {T = S} (Err fault) at → fault ≡ at
+same_fault fault at is = cc
+
+pub handed : {T S : Type 0} (answer : Result T WorldFault) (fault at : WorldFault) → IsErrAnd answer (λ e. e ≡ fault) → IsErrOf {T = S} (Err fault) at → IsErrOf answer at
+handed (Ok x) fault at p is = absurd p
+handed {S = S} (Err e) fault at p is = ap Err (p ∙ same_fault {S = S} fault at is)

@@ -21,14 +21,18 @@ use Rattle.co_opening.proofs.From.{all_from_next}
 use Rattle.co_opening.proofs.Judgings.{first_unattached}
 use Rattle.co_opening.proofs.Stays.{stays_elsewhere, stays_on, own_all_stay}
 
-next_of : (place : ℕ) → place + 1 ≡ suc place
+pub next_of : (place : ℕ) → place + 1 ≡ suc place
 next_of place = omega arith
 
 node_valid : (sort : Sort) (place count : ℕ) → place < count → count ≤ most_in sort → IsValidNode (node_in sort (suc place))
 node_valid Members place count h most = (omega arith, omega (arith, h, most))
 node_valid Coords place count h most = (omega arith, omega (arith, h, most))
 
-nodes_apart : (sort : Sort) (p q : ℕ) → (p ≡ q → ⊥) → node_in sort p ≢ node_in sort q
+pub number_valid : (sort : Sort) (place : ℕ) → suc place ≤ most_in sort → IsValidNode (node_in sort (suc place))
+number_valid Members place most = (omega arith, most)
+number_valid Coords place most = (omega arith, most)
+
+pub nodes_apart : (sort : Sort) (p q : ℕ) → (p ≡ q → ⊥) → node_in sort p ≢ node_in sort q
 nodes_apart Members p q other e = other (let h : Member p ≡ Member q = e in let same : p ≡ q = cc in same)
 nodes_apart Coords p q other e = other (let h : Coord p ≡ Coord q = e in let same : p ≡ q = cc in same)
 
@@ -72,8 +76,11 @@ module _ (sort : Sort) (place count : ℕ) (h : place < count) (most : count ≤
       first_unattached file resume (node_in sort) place count logs fault h pairs
       (subst (IsUnattached file resume fault) is (subst (λ (f : Spot → Option File). IsUnattached f resume fault this) (same_files mid file stay) bad))
 
-apart_sorts : (m c : ℕ) → Member m ≢ Coord c
+pub apart_sorts : (m c : ℕ) → Member m ≢ Coord c
 apart_sorts m c e = absurd (let h : Member m ≡ Coord c = e in cc)
+
+pub sorts_apart : (c m : ℕ) → Coord c ≢ Member m
+sorts_apart c m e = absurd (let h : Coord c ≡ Member m = e in cc)
 
 -- members are left while the logs of coordinators are attached
 pub members_left : (file after : Spot → Option File) (reach further : Spot → ℕ) (logs : List LogView) → length logs ≤ 16 → OthersLeft Coords file after reach further → AreOwnLogs file reach Member 0 logs → AreOwnLogs after further Member 0 logs
