@@ -1,6 +1,7 @@
 -- Logs that are made where they are fresh, and the nodes on them.
-use Rattle.std.proofs.Common.{◌≡◌, ◌⊎◌, inl, inr, ℕ, zero, suc, ◌+◌, ◌<◌, ◌==◌, ◌++◌, Bool, true, false, List, [], ◌∷◌, refl, sym, ap, subst, ◌∙◌, arith}
-use Rattle.std.specs.Prelude.{Result, Ok, Err, IsErrOf}
+use Rattle.std.proofs.Common.{◌≡◌, ◌⊎◌, inl, inr, ℕ, zero, suc, ◌+◌, ◌<◌, ◌==◌, ◌++◌, Bool, true, false, List, [], ◌∷◌, refl, sym, ap, subst, ◌∙◌, length, get_or, if◌then◌else◌, ◌-◌, arith}
+use Rattle.std.proofs.lemmas.Bool.Decides.{nat_tests}
+use Rattle.std.specs.Prelude.{nat_le, Result, Ok, Err, IsErrOf}
 use Rattle.std.specs.Result.{IsErrAnd}
 use Rattle.co_base.specs.Nodes.{IsValidNode}
 use Rattle.co_base.specs.declared.head.Kind.{Kind}
@@ -77,3 +78,20 @@ same_fault fault at is = cc
 pub handed : {T S : Type 0} (answer : Result T WorldFault) (fault at : WorldFault) → IsErrAnd answer (λ e. e ≡ fault) → IsErrOf {T = S} (Err fault) at → IsErrOf answer at
 handed (Ok x) fault at p is = absurd p
 handed {S = S} (Err e) fault at p is = ap Err (p ∙ same_fault {S = S} fault at is)
+
+pub handed_back : {T S : Type 0} (answer : Result T WorldFault) (fault at : WorldFault) → IsErrAnd answer (λ e. e ≡ fault) → IsErrOf answer at → IsErrOf {T = S} (Err fault) at
+handed_back (Ok x) fault at p is = absurd p
+handed_back {T = T} (Err e) fault at p is = ap Err (sym p ∙ same_fault {S = T} e at is)
+
+-- ---- the kinds of members
+
+pub kind_at : (kinds : List Kind) (p q : ℕ) (d : Kind) → q ≡ p → p < length kinds → get_or kinds q d ≡ kind_of kinds (suc p)
+kind_at kinds p q d same h = ap (λ n. get_or kinds n d) same ∙ here kinds p h
+  where
+    later : (n : ℕ) → nat_le (suc (suc n)) 1 ≡ false
+    later n = grind (arith, nat_tests)
+
+    here : (ks : List Kind) (n : ℕ) → n < length ks → get_or ks n d ≡ kind_of ks (suc n)
+    here [] n low = absurd (omega (arith, low))
+    here (k ∷ ks) zero low = refl
+    here (k ∷ ks) (suc n) low = here ks n (omega (arith, low)) ∙ sym (ap (λ (b : Bool). if b then k else kind_of ks (suc (suc n) - 1)) (later n) ∙ ap (kind_of ks) (let e : suc (suc n) - 1 ≡ suc n = omega arith in e))
