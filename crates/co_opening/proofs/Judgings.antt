@@ -41,7 +41,7 @@ use Rattle.co_durable.proofs.Pairs.{left_all, right_all, all_over, all_map, firs
 use Rattle.co_opening.specs.Attached.{AreAttached, IsAttachedTo, IsUnattached, IsFirstUnattached}
 use Rattle.co_opening.specs.Found.{AreFound, MayRun, AreUnused}
 use Rattle.co_opening.specs.InUse.{IsUnusedNode, IsInUse}
-use Rattle.co_opening.specs.Judged.{AreJudged}
+use Rattle.co_opening.specs.Judged.{IsOfJudging}
 use Rattle.co_opening.specs.Opened.{IsUnopened}
 use Rattle.co_opening.specs.Standing.{IsFoundLog, IsMemberFound, IsCoordFound, IsCoordPastOf}
 use Rattle.co_opening.specs.Versions.{IsOfVersion, IsNewIn, IsOldIn, IsFirstOld, IsVersioned, IsLatest, IsOldAt, IsFirstOldLog}
@@ -109,6 +109,27 @@ module _ (file : Spot → Option File) (resume : Bool) where
 
   are_fresh : resume ≡ false → (nodes : List Node) (logs : List LogView) → EachPair (IsAttachedTo file resume) nodes logs → AllByRecursion IsFresh logs
   are_fresh none nodes logs pairs = right_all (IsAttachedTo file resume) IsFresh (λ node log att. att.fresh none) nodes logs pairs
+
+-- such logs are refused for these causes alone
+pub fallen_judged : (refuses : Items → Option ℕ) (logs : List LogView) (fault : WorldFault) → IsFirstToFall refuses logs fault → IsOfJudging fault
+fallen_judged refuses logs (Device spot) f = absurd f.bad
+fallen_judged refuses logs (Differs spot at kept other) f = absurd f.bad
+fallen_judged refuses logs (InUse spot) f = absurd f.bad
+fallen_judged refuses logs (Bad spot at) f = tt
+fallen_judged refuses logs (Full spot) f = absurd f.bad
+fallen_judged refuses logs Count f = absurd f.bad
+fallen_judged refuses logs (Old spot) f = absurd f.bad
+fallen_judged refuses logs Memory f = tt
+
+pub old_judged : (logs : List LogView) (fault : WorldFault) → IsFirstOldLog logs fault → IsOfJudging fault
+old_judged logs (Device spot) f = f
+old_judged logs (Differs spot at kept other) f = f
+old_judged logs (InUse spot) f = f
+old_judged logs (Bad spot at) f = absurd f
+old_judged logs (Full spot) f = f
+old_judged logs Count f = f
+old_judged logs (Old spot) f = tt
+old_judged logs Memory f = absurd f
 
 resumed : (resume : Bool) → (resume ≡ false → ⊥) → resume ≡ true
 resumed true never = refl

@@ -1,6 +1,9 @@
 -- The nodes of a federation that was opened.
 use Rattle.std.proofs.Common.{◌≡◌, ℕ, zero, suc, ◌+◌, ◌≤◌, ◌++◌, Bool, List, length, refl, sym, ap, subst, ◌∙◌, arith}
-use Rattle.std.specs.Prelude.{Option, Some, slice_get}
+use Rattle.std.specs.Prelude.{Option, Some, slice_get, Result, Ok, Err, IsErrOf, OnOk, IfOk}
+use Rattle.co_base.specs.Nodes.{IsValidNode}
+use Rattle.co_disk.specs.Homes.{IsClean}
+use Rattle.co_durable.specs.declared.fault.WorldFault.{WorldFault}
 use Rattle.std.specs.FinMap.{keys}
 use Rattle.co_base.specs.declared.head.Head.{Head}
 use Rattle.co_base.specs.declared.head.Kind.{Kind}
@@ -20,12 +23,13 @@ use Rattle.co_member.specs.declared.member.Member.{Member as MemberOn}
 use Rattle.co_opening.specs.Counted.{with_members, with_coords}
 use Rattle.co_opening.specs.From.{AllFrom}
 use Rattle.co_opening.specs.Judged.{AreJudged}
-use Rattle.co_opening.specs.Kept.{IsOwnLog}
+use Rattle.co_opening.specs.Kept.{NodeStays, IsOwnLog, AreOwnLogs}
 use Rattle.co_opening.specs.Nodes.{IsMemberAt, IsCoordAt, IsKept, AreKept}
 use Rattle.co_opening.specs.Opened.{AreOpened}
 use Rattle.co_opening.specs.Running.{AreMembersAt, AreCoordsAt, AreOwnMembers, AreOwnCoords}
 use Rattle.co_opening.specs.declared.nodes.Nodes.{Nodes}
-use Rattle.co_opening.proofs.From.{all_from_first}
+use Rattle.co_opening.proofs.From.{all_from_first, all_from_map}
+use Rattle.co_opening.proofs.Stays.{own_stays, own_all_stay}
 use Rattle.co_opening.proofs.Judged.{laid_used}
 use Rattle.co_opening.proofs.Laid.{has_keys}
 
@@ -64,3 +68,23 @@ kept_nodes takes stands_for file reach head found_member found_coord these those
       let log = all_from_first (λ q y. IsOwnLog file reach (Coord (suc q)) y.log) those p c owns is in
       subst (λ k. IsKept file reach (Coord k) c.log) (sym at.number) log.kept;
 }
+
+-- ---- the logs of one sort, while those of the other are made
+
+pub coords_left : (file after : Spot → Option File) (reach further : Spot → ℕ) (logs : List LogView) → length logs ≤ 8 → ((c : ℕ) → IsValidNode (Coord c) → NodeStays (Coord c) file after reach further) → AreOwnLogs file reach Coord 0 logs → AreOwnLogs after further Coord 0 logs
+coords_left file after reach further logs few left kept = own_all_stay Coord 0 file after reach further logs (λ q low high. left (suc q) (omega arith, omega (arith, high, few))) kept
+
+pub own_members_stay : {E : Type 0} (file after : Spot → Option File) (reach further : Spot → ℕ) (these : List (MemberOn E)) → length these ≤ 16 → ((m : ℕ) → IsValidNode (Member m) → NodeStays (Member m) file after reach further)
+    → AreOwnMembers file reach these → AreOwnMembers after further these
+own_members_stay file after reach further these few left kept =
+    all_from_map (λ q x. IsOwnLog file reach (Member (suc q)) x.log) (λ q x. IsOwnLog after further (Member (suc q)) x.log) 0 these
+    (λ q x low high own. own_stays (Member (suc q)) file after reach further x.log (left (suc q) (omega arith, omega (arith, high, few))) own) kept
+
+-- ---- answers
+
+pub not_err : {T : Type 0} (x : T) (at : WorldFault) → IsErrOf (Ok x) at → ⊥
+not_err x at is = absurd cc
+
+pub clean_moved : {T : Type 0} (result : Result T WorldFault) (file mid after : Spot → Option File) → ((s : Spot) → mid s ≡ file s) → OnOk result ((s : Spot) → IsClean (mid s) → IsClean (after s)) → IfOk result (λ n. (s : Spot) → IsClean (file s) → IsClean (after s))
+clean_moved (Ok n) file mid after same clean = λ s was. clean s (subst IsClean (sym (same s)) was)
+clean_moved (Err e) file mid after same clean = tt

@@ -45,3 +45,14 @@ IsOfMaking (Full spot) = ⊥
 IsOfMaking Count = ⊥
 IsOfMaking (Old spot) = ⊥
 IsOfMaking Memory = Unit {0}
+
+-- the faults of logs that are judged
+abbrev pub IsOfJudging : WorldFault → Type 0
+IsOfJudging (Device spot) = ⊥
+IsOfJudging (Differs spot at kept read) = ⊥
+IsOfJudging (InUse spot) = ⊥
+IsOfJudging (Bad spot at) = Unit {0}
+IsOfJudging (Full spot) = ⊥
+IsOfJudging Count = ⊥
+IsOfJudging (Old spot) = Unit {0}
+IsOfJudging Memory = Unit {0}

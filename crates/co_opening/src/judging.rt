@@ -6,7 +6,7 @@ ghost use Rattle.co_outside.specs.declared.spot.Spot.{Spot};
 ghost use Rattle.co_durable.specs.Pairs.{EachPair};
 ghost use Rattle.co_durable.specs.Recovering.{member_refuses, coord_refuses, fallen, IsReadable, IsPastOf, LogFalls, IsFirstToFall};
 ghost use Rattle.co_opening.specs.Attached.{AreAttached};
-ghost use Rattle.co_opening.specs.Judged.{AreJudged};
+ghost use Rattle.co_opening.specs.Judged.{AreJudged, IsOfJudging};
 ghost use Rattle.co_opening.specs.Opened.{IsUnopened};
 ghost use Rattle.co_opening.specs.Standing.{IsCoordPastOf};
 ghost use Rattle.co_opening.specs.Versions.{IsVersioned, IsLatest, IsFirstOldLog};
@@ -113,6 +113,7 @@ pub(crate) fn judge(alloc: Global, head: &Head, logs: &Logs) -> Result<Pasts, Wo
         IfOk result (λ pasts. AreJudged file resume head.now logs.now.members.items logs.now.coords.items pasts.members.items pasts.coords.items) }
     ensures refused { (file : Spot → Option File) (resume : Bool) → AreAttached file resume (length head.now.kinds) head.now.coords logs.now.members.items logs.now.coords.items →
         IfErr result (IsUnopened file head.now resume) }
+    ensures faults { IfErr result IsOfJudging }
 {
     let count = head.kinds.len() as u8;
     let members = member_pasts(alloc, logs.members.as_slice(), head.coords)?;

@@ -13,7 +13,8 @@ use Rattle.co_opening.specs.Opened.{IsUnopened}
 use Rattle.co_opening.specs.Standing.{IsCoordPastOf}
 use Rattle.co_opening.specs.Versions.{IsVersioned, IsLatest, IsFirstOldLog}
 use Rattle.co_opening.proofs.Judged.{judged}
-use Rattle.co_opening.proofs.Judgings.{are_readable, are_versioned, member_fallen, coord_fallen, member_old, coord_old}
+use Rattle.co_opening.specs.Judged.{IsOfJudging}
+use Rattle.co_opening.proofs.Judgings.{fallen_judged, old_judged, are_readable, are_versioned, member_fallen, coord_fallen, member_old, coord_old}
 use Rattle.co_opening.proofs.judging.judge.Goals as goal
 
 pub member_pasts-requires : goal.member_pasts-requires
@@ -84,3 +85,23 @@ returns-clause-judged c = λ file resume att.
     (subst (λ (logs : List LogView). EachPair (IsCoordPastOf c.len-count.result) logs c.in_ok-coords.coords.items) c.as_slice-2.ensures.value c.in_ok-coords.ensures.pasts))
     (subst (AllByRecursion IsLatest) c.as_slice-3.ensures.value c.in_ok-refuse_old.ensures.latest)
     (subst (AllByRecursion IsLatest) c.as_slice-4.ensures.value c.in_ok-refuse_old-2.ensures.latest)
+
+pub returns-in_err-members-clause-faults : goal.returns-in_err-members-clause-faults
+returns-in_err-members-clause-faults c =
+    let own : IsOfJudging c.in_err-members.field-0.0 = fallen_judged (member_refuses c.args.head.now.coords) c.as_slice.result.now c.in_err-members.field-0.0 c.in_err-members.ensures.refused in
+    handed_on _ IsOfJudging c.from_residual.result (λ e is. subst IsOfJudging (sym is) own) c.from_residual.ensures.1
+
+pub returns-in_err-coords-clause-faults : goal.returns-in_err-coords-clause-faults
+returns-in_err-coords-clause-faults c =
+    let own : IsOfJudging c.in_err-coords.field-0.0 = fallen_judged (coord_refuses c.len-count.result) c.as_slice-2.result.now c.in_err-coords.field-0.0 c.in_err-coords.ensures.refused in
+    handed_on _ IsOfJudging c.from_residual-in_err-coords.result (λ e is. subst IsOfJudging (sym is) own) c.from_residual-in_err-coords.ensures.1
+
+pub returns-in_err-refuse_old-clause-faults : goal.returns-in_err-refuse_old-clause-faults
+returns-in_err-refuse_old-clause-faults c =
+    let own : IsOfJudging c.in_err-refuse_old.field-0.0 = old_judged c.as_slice-3.result.now c.in_err-refuse_old.field-0.0 c.in_err-refuse_old.ensures.old in
+    handed_on _ IsOfJudging c.from_residual-in_err-refuse_old.result (λ e is. subst IsOfJudging (sym is) own) c.from_residual-in_err-refuse_old.ensures.1
+
+pub returns-in_err-refuse_old-2-clause-faults : goal.returns-in_err-refuse_old-2-clause-faults
+returns-in_err-refuse_old-2-clause-faults c =
+    let own : IsOfJudging c.in_err-refuse_old-2.field-0.0 = old_judged c.as_slice-4.result.now c.in_err-refuse_old-2.field-0.0 c.in_err-refuse_old-2.ensures.old in
+    handed_on _ IsOfJudging c.from_residual-in_err-refuse_old-2.result (λ e is. subst IsOfJudging (sym is) own) c.from_residual-in_err-refuse_old-2.ensures.1
