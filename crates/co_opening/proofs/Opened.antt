@@ -59,11 +59,11 @@ opened_nodes takes stands_for file resume head member_logs coord_logs member_pas
 pub kept_nodes : {E : Type 0} (takes : Kind → Type 0) (stands_for : E → EngineState → Type 0) (file : Spot → Option File) (reach : Spot → ℕ) (head : Head) (found_member found_coord : ℕ → Found) (these : List (MemberOn E)) (those : List CoordOn)
     → AreMembersAt takes stands_for head.kinds head.coords found_member these → AreCoordsAt (length head.kinds) found_coord those → AreOwnMembers file reach these → AreOwnCoords file reach those → AreKept file reach these those
 kept_nodes takes stands_for file reach head found_member found_coord these those ms cs own owns = record {
-  members = λ p m is.
+  member = λ p m is.
       let at = all_from_first (λ q x. IsMemberAt takes stands_for head.coords q x (opened_member head.kinds (suc q) (found_member (suc q)))) these p m ms is in
       let log = all_from_first (λ q x. IsOwnLog file reach (Member (suc q)) x.log) these p m own is in
       subst (λ k. IsKept file reach (Member k) m.log) (sym at.number) log.kept;
-  coords = λ p c is.
+  coord = λ p c is.
       let at = all_from_first (λ q y. IsCoordAt (length head.kinds) q y (opened_coord (suc q) (found_coord (suc q)))) those p c cs is in
       let log = all_from_first (λ q y. IsOwnLog file reach (Coord (suc q)) y.log) those p c owns is in
       subst (λ k. IsKept file reach (Coord k) c.log) (sym at.number) log.kept;
