@@ -1,5 +1,5 @@
 -- A log that was attached, from all that its attaching says.
-use Rattle.std.proofs.Common.{◌≡◌, Bool, true, false, Option, Result, Ok, Err, IfOk}
+use Rattle.std.proofs.Common.{◌≡◌, Bool, false, Option, Result, Ok, Err, IfOk}
 use Rattle.std.specs.Prelude.{OnOk}
 use Rattle.co_base.specs.Nodes.{IsValidNode}
 use Rattle.co_base.specs.declared.node.Node.{Node}

@@ -1,5 +1,5 @@
 -- What is found of the files of a node, over its attached log.
-use Rattle.std.proofs.Common.{◌≡◌, ◌⊎◌, inl, inr, ℕ, zero, suc, ◌+◌, ◌<◌, ◌==◌, if◌then◌else◌, Bool, true, false, List, [], ◌∷◌, ◌++◌, map, length, Option, refl, sym, ap, subst, ◌∙◌, arith}
+use Rattle.std.proofs.Common.{◌≡◌, ◌⊎◌, inl, inr, ℕ, ◌+◌, ◌<◌, ◌==◌, if◌then◌else◌, Bool, List, [], ◌∷◌, length, Option, refl, sym, ap, subst, ◌∙◌, arith}
 use Rattle.std.specs.Prelude.{reverse, option_map}
 use Rattle.std.proofs.lemmas.List.{reverse-reverse, reverse-append}
 use Rattle.std.specs.List.{AllByRecursion}
@@ -28,7 +28,6 @@ use Rattle.co_log.proofs.Unmade.{read_stable}
 use Rattle.co_log.proofs.Versions.{has_records, newest_known}
 use Rattle.co_node.specs.NodeLog.{RepresentsLog, plain_stop}
 use Rattle.co_node.proofs.Standing.{none_armed}
-use Rattle.co_plain.specs.LogWrite.{marks_of}
 use Rattle.co_plain.specs.Opening.{Found, made, header_mark, opened_log}
 use Rattle.co_durable.specs.Reading.{IsLogOf}
 use Rattle.co_durable.specs.Recovering.{HasItems}
@@ -200,8 +199,7 @@ module _ (file : Spot → Option File) (node : Node) (log : LogView) (valid : Is
       some : IsOrdered log r.items → (0 < log.gate) × (header_mark node (newest_first r.items) ≡ []) × RepresentsLog node log (opened_log node (found_of log r.items))
       some o =
           let unarmed = attached_unarmed node is.a is.b log is.attached in
-          let m = made_none node (newest_first r.items) (has_some log.node log.generation r.items o.header) in
-          (
+          let m = made_none node (newest_first r.items) (has_some log.node log.generation r.items o.header) in (
             o.live.made,
             m.1,
             record {

@@ -1,5 +1,5 @@
 -- Facts of the elements of lists by their places.
-use Rattle.std.proofs.Common.{◌≡◌, ℕ, zero, suc, ◌+◌, ◌≤◌, ◌<◌, List, [], ◌∷◌, ◌++◌, length, get_or, refl, sym, ap, subst, ◌∙◌, arith}
+use Rattle.std.proofs.Common.{◌≡◌, ℕ, zero, suc, ◌+◌, ◌≤◌, ◌<◌, List, [], ◌∷◌, ◌++◌, length, get_or, refl, subst, arith}
 use Rattle.std.specs.Prelude.{slice_get, Some, None}
 use Rattle.std.specs.List.{AllByRecursion}
 use Rattle.co_durable.specs.Pairs.{EachPair}
@@ -16,9 +16,10 @@ all_from_next P xs n x many all here = all_from_push P 0 xs x all (subst (λ k. 
 
 pub all_from_map : {A : Type 0} (P Q : ℕ → A → Type 0) (p : ℕ) (xs : List A) → ((q : ℕ) (x : A) → p ≤ q → q < p + length xs → P q x → Q q x) → AllFrom P p xs → AllFrom Q p xs
 all_from_map P Q p [] f all = tt
-all_from_map P Q p (x ∷ xs) f all =
-    (f p x (omega arith) (let h : p < p + suc (length xs) = omega arith in h) all.0,
-    all_from_map P Q (suc p) xs (λ q y low high. f q y (omega (arith, low)) (let h : q < p + suc (length xs) = omega (arith, high) in h)) all.1)
+all_from_map P Q p (x ∷ xs) f all = (
+  f p x (omega arith) (let h : p < p + suc (length xs) = omega arith in h) all.0,
+  all_from_map P Q (suc p) xs (λ q y low high. f q y (omega (arith, low)) (let h : q < p + suc (length xs) = omega (arith, high) in h)) all.1,
+)
 
 pub all_from_at : {A : Type 0} (P : ℕ → A → Type 0) (p : ℕ) (xs : List A) (k : ℕ) (x : A) → AllFrom P p xs → slice_get xs k ≡ Some x → P (p + k) x
 all_from_at P p [] k x all is = absurd (let e : None ≡ Some x = is in cc)

@@ -1,11 +1,10 @@
 -- The logs of all nodes, with what they tell, are ones that a federation may be opened over.
-use Rattle.std.proofs.Common.{◌≡◌, ◌⊎◌, inl, inr, ℕ, zero, suc, ◌+◌, ◌≤◌, ◌<◌, ◌&&◌, Bool, true, false, List, [], ◌∷◌, length, refl, sym, ap, subst, ◌∙◌, arith}
-use Rattle.std.specs.Prelude.{reverse, nat_le, Option, None, Some, Ok}
+use Rattle.std.proofs.Common.{◌≡◌, ℕ, suc, ◌≤◌, ◌<◌, ◌&&◌, Bool, true, false, List, [], length, refl, sym, ap, subst, ◌∙◌, arith}
+use Rattle.std.specs.Prelude.{reverse, nat_le, Option, None, Ok}
 use Rattle.std.proofs.lemmas.List.{reverse-reverse}
 use Rattle.std.specs.FinMap.{keys}
 use Rattle.std.specs.List.{AllByRecursion}
 use Rattle.co_base.specs.declared.head.Head.{Head}
-use Rattle.co_base.specs.declared.node.Node.{Node}
 use Rattle.co_base.specs.declared.node.Node.TheVariants.{Member, Coord}
 use Rattle.co_outside.specs.declared.spot.Spot.{Spot}
 use Rattle.co_outside.specs.Home.{File}
@@ -17,27 +16,27 @@ use Rattle.co_log.specs.NodeFiles.{Items, newest_first}
 use Rattle.co_law_node.specs.Writable.{IsWithinBounds}
 use Rattle.co_plain.specs.CoordView.{first_refused_at_coord, recovered_commits}
 use Rattle.co_plain.specs.MemberView.{first_refused_at_member, recovered_view}
-use Rattle.co_plain.specs.Opening.{Found, fresh, used_numbers}
+use Rattle.co_plain.specs.Opening.{used_numbers}
 use Rattle.co_recover.specs.Recovered.{records_of, past_of_member, past_of_coord, IsMemberRecovery, IsCoordRecovery}
 use Rattle.co_recover.specs.declared.past.CoordPast.{CoordPast}
 use Rattle.co_recover.specs.declared.past.MemberPast.{MemberPast}
 use Rattle.co_state.specs.Table.{no_entries}
 use Rattle.co_durable.specs.declared.fault.WorldFault.{WorldFault}
 use Rattle.co_durable.specs.declared.fault.WorldFault.TheVariants.{Device, Differs, InUse, Bad, Full, Count, Old, Memory}
-use Rattle.co_durable.specs.Nodes.{numbered, member_nodes, coord_nodes}
+use Rattle.co_durable.specs.Nodes.{member_nodes, coord_nodes}
 use Rattle.co_durable.specs.Pairs.{EachPair}
 use Rattle.co_durable.specs.Recovering.{HasItems, IsPastOf}
 use Rattle.co_durable.proofs.Numbered.{so_many}
 use Rattle.co_durable.proofs.Pairs.{all_map, pairs_length}
 use Rattle.co_opening.specs.Attached.{AreAttached, IsAttachedTo}
 use Rattle.co_opening.specs.Counted.{with_members, with_coords}
-use Rattle.co_opening.specs.Found.{IsFoundIn, AreFound, MayRun, AreUnused}
-use Rattle.co_opening.specs.Judged.{AreJudged, IsUncounted, IsOfMaking}
-use Rattle.co_opening.specs.Opened.{IsUnopened, AreTooMany, IsOfFound}
-use Rattle.co_opening.specs.Standing.{IsFoundLog, IsMemberFound, IsCoordFound, IsCoordPastOf, AreMembersFound, AreCoordsFound}
+use Rattle.co_opening.specs.Found.{IsFoundIn}
+use Rattle.co_opening.specs.Judged.{AreJudged, IsUncounted}
+use Rattle.co_opening.specs.Opened.{IsUnopened}
+use Rattle.co_opening.specs.Standing.{IsMemberFound, IsCoordFound, IsCoordPastOf}
 use Rattle.co_opening.specs.Versions.{IsLatest}
 use Rattle.co_opening.proofs.Laid.{all_laid, none_used}
-use Rattle.co_opening.proofs.Lists.{found_at, Founds, AreFounds, found_all, founds_length, founds_from, founds_all, founds_both, same_at, all_at, outside, in_files_at}
+use Rattle.co_opening.proofs.Lists.{found_at, Founds, found_all, founds_length, founds_from, founds_all, founds_both, same_at, all_at, outside, in_files_at}
 use Rattle.co_opening.proofs.Numbering.{by_number}
 
 -- ---- what the records tell
@@ -157,25 +156,3 @@ module _ (file : Spot → Option File) (resume : Bool) (head : Head) (member_log
   uncounted Count u = too_many u
   uncounted (Old spot) u = absurd u
   uncounted Memory u = tt
-
--- ---- logs that were not made
-
-pub unmade : (file : Spot → Option File) (resume : Bool) (head : Head) (fault : WorldFault) → IsOfMaking fault → IsUnopened file head resume fault
-unmade file resume head (Device spot) m = tt
-unmade file resume head (Differs spot at kept other) m = absurd m
-unmade file resume head (InUse spot) m = absurd m
-unmade file resume head (Bad spot at) m = absurd m
-unmade file resume head (Full spot) m = absurd m
-unmade file resume head Count m = absurd m
-unmade file resume head (Old spot) m = absurd m
-unmade file resume head Memory m = tt
-
-pub not_of_found : (fault : WorldFault) → IsOfMaking fault → IsOfFound fault → ⊥
-not_of_found (Device spot) m f = f
-not_of_found (Differs spot at kept other) m f = m
-not_of_found (InUse spot) m f = m
-not_of_found (Bad spot at) m f = m
-not_of_found (Full spot) m f = m
-not_of_found Count m f = m
-not_of_found (Old spot) m f = m
-not_of_found Memory m f = f

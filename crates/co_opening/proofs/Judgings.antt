@@ -1,54 +1,40 @@
 -- What the logs of all nodes tell, and why they are refused.
-use Rattle.std.proofs.Common.{◌≡◌, ◌⊎◌, inl, inr, ℕ, zero, suc, ◌+◌, ◌≤◌, ◌<◌, Bool, true, false, List, [], ◌∷◌, ◌++◌, length, get_or, take, Option, refl, sym, ap, subst, ◌∙◌, arith}
-use Rattle.std.specs.Prelude.{reverse, None, Some, Ok, Err}
-use Rattle.std.proofs.lemmas.List.{reverse-reverse}
+use Rattle.std.proofs.Common.{◌≡◌, ℕ, suc, ◌<◌, Bool, true, false, List, [], ◌∷◌, length, Option, refl, sym, subst, ◌∙◌, arith}
+use Rattle.std.specs.Prelude.{None, Some}
 use Rattle.std.specs.List.{AllByRecursion}
 use Rattle.co_base.specs.declared.head.Head.{Head}
-use Rattle.co_base.specs.declared.head.Kind.{Kind}
 use Rattle.co_base.specs.declared.node.Node.{Node}
-use Rattle.co_base.specs.declared.node.Node.TheVariants.{Member, Coord}
 use Rattle.co_outside.specs.declared.spot.Spot.{Spot}
 use Rattle.co_outside.specs.Home.{File}
-use Rattle.co_disk.specs.DiskModel.{read_of}
-use Rattle.co_record.specs.declared.record.Record.{Record}
-use Rattle.co_record.specs.declared.record.Record.TheVariants as log
-use Rattle.co_record.specs.Format.{newest, oldest}
-use Rattle.co_record.specs.Spelling.{IsWritable}
 use Rattle.co_record.specs.Stored.{HasRecords}
 use Rattle.co_log.specs.Fresh.{IsFresh}
 use Rattle.co_log.specs.LogView.{LogView}
-use Rattle.co_log.specs.NodeFiles.{Items, newest_first}
+use Rattle.co_log.specs.NodeFiles.{Items}
 use Rattle.co_log.proofs.Unmade.{read_stable}
-use Rattle.co_law_node.specs.Writable.{IsWithinBounds}
-use Rattle.co_plain.specs.CoordView.{first_refused_at_coord, recovered_commits}
-use Rattle.co_plain.specs.MemberView.{first_refused_at_member, recovered_view}
-use Rattle.co_plain.specs.Opening.{Found, fresh}
-use Rattle.co_recover.specs.Recovered.{records_of, past_of_member, past_of_coord, IsRefusedAt}
+use Rattle.co_plain.specs.Opening.{fresh}
+use Rattle.co_recover.specs.Recovered.{IsRefusedAt}
 use Rattle.co_recover.specs.declared.past.CoordPast.{CoordPast}
 use Rattle.co_recover.specs.declared.past.MemberPast.{MemberPast}
 use Rattle.co_durable.specs.declared.fault.WorldFault.{WorldFault}
 use Rattle.co_durable.specs.declared.fault.WorldFault.TheVariants.{Device, Differs, InUse, Bad, Full, Count, Old, Memory}
-use Rattle.co_durable.specs.Durable.{IsLogIn, Stands, IsUndurable}
-use Rattle.co_durable.specs.Nodes.{numbered, member_nodes, coord_nodes, nodes_of}
+use Rattle.co_durable.specs.Durable.{Stands}
+use Rattle.co_durable.specs.Nodes.{numbered, member_nodes, coord_nodes}
 use Rattle.co_durable.specs.Pairs.{EachPair, FirstWhere}
-use Rattle.co_durable.specs.Reading.{IsLogOf, HasLog, IsUnread, IsFirstUnread}
+use Rattle.co_durable.specs.Reading.{IsLogOf, HasLog, IsUnread}
 use Rattle.co_durable.specs.Recovering.{HasItems, IsReadable, IsPastOf, LogStands, LogFalls, IsFirstToFall, member_refuses, coord_refuses}
 use Rattle.co_durable.proofs.Durables.{unread_member, unread_coord, fallen_member, fallen_coord}
 use Rattle.co_durable.proofs.Firsts.{all_back}
-use Rattle.co_durable.proofs.Numbered.{so_many}
 use Rattle.co_durable.proofs.Opened.{stands}
-use Rattle.co_durable.proofs.Pairs.{left_all, right_all, all_over, all_map, first_left, first_right, first_over, pairs_length}
+use Rattle.co_durable.proofs.Pairs.{left_all, right_all, all_over, first_left, first_right, first_over}
 use Rattle.co_opening.specs.Attached.{AreAttached, IsAttachedTo, IsUnattached, IsFirstUnattached}
-use Rattle.co_opening.specs.Found.{AreFound, MayRun, AreUnused}
 use Rattle.co_opening.specs.InUse.{IsUnusedNode, IsInUse}
 use Rattle.co_opening.specs.Judged.{IsOfJudging}
 use Rattle.co_opening.specs.Opened.{IsUnopened}
-use Rattle.co_opening.specs.Standing.{IsFoundLog, IsMemberFound, IsCoordFound, IsCoordPastOf}
-use Rattle.co_opening.specs.Versions.{IsOfVersion, IsNewIn, IsOldIn, IsFirstOld, IsVersioned, IsLatest, IsOldAt, IsFirstOldLog}
+use Rattle.co_opening.specs.Standing.{IsCoordPastOf}
+use Rattle.co_opening.specs.Versions.{IsOfVersion, IsNewIn, IsOldIn, IsVersioned, IsLatest, IsOldAt, IsFirstOldLog}
 use Rattle.co_opening.proofs.Founds.{read}
 use Rattle.co_opening.proofs.From.{pairs_map}
-use Rattle.co_opening.proofs.Lists.{found_at, Founds, AreFounds, found_all, founds_length, founds_from, founds_all, founds_both, same_at, all_at, outside, in_files_at}
-use Rattle.co_opening.proofs.Numbering.{first_numbered, by_number}
+use Rattle.co_opening.proofs.Numbering.{first_numbered}
 
 -- ---- logs that were not attached
 

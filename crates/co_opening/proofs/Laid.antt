@@ -1,14 +1,14 @@
 -- The numbers that stand in logs, as they are laid into one set.
-use Rattle.std.proofs.Common.{◌≡◌, ℕ, zero, suc, ◌+◌, Bool, true, false, cond, ◌||◌, ◌==◌, List, [], ◌∷◌, map, length, Option, None, Some, refl, sym, ap, subst, ◌∙◌, arith}
+use Rattle.std.proofs.Common.{◌≡◌, ℕ, zero, suc, ◌+◌, Bool, true, false, cond, ◌||◌, ◌==◌, List, [], ◌∷◌, map, length, Option, Some, refl, sym, ap, ◌∙◌, arith}
 use Rattle.std.specs.Option.{is_some}
 use Rattle.std.specs.List.{list_any}
 use Rattle.std.specs.Ordering.{nat_cmp, eq_by_cmp}
 use Rattle.std.specs.Cmp.{nat_cmp_total, unsigned_ties}
 use Rattle.std.proofs.lemmas.Bool.Decides.{nat_tests}
-use Rattle.std.specs.FinMap.{entries, keys, get, len-entries, len-empty, get-empty, get-insert, contains_key-keys, same_map, nat_cmp-IsAntisymmetric}
+use Rattle.std.specs.FinMap.{entries, keys, get, len-entries, len-empty, get-insert, contains_key-keys, same_map, nat_cmp-IsAntisymmetric}
 use Rattle.co_pairs.specs.Votes.{prepared_of}
 use Rattle.co_state.specs.declared.engine_state.Vote.{Vote}
-use Rattle.co_state.specs.Table.{Table, no_entries, holds}
+use Rattle.co_state.specs.Table.{no_entries, holds}
 use Rattle.co_log.specs.LogView.{LogView}
 use Rattle.co_plain.specs.MemberView.{Numbers, with_number, with_numbers, recovered_view}
 use Rattle.co_plain.specs.CoordView.{recovered_commits}
@@ -19,7 +19,7 @@ use Rattle.co_recover.specs.Recovered.{past_of_member}
 use Rattle.co_recover.specs.declared.past.CoordPast.{CoordPast}
 use Rattle.co_recover.specs.declared.past.MemberPast.{MemberPast}
 use Rattle.co_opening.specs.Counted.{with_member, with_members, with_coords}
-use Rattle.co_opening.specs.Standing.{IsMemberFound, IsCoordFound, AreMembersFound, AreCoordsFound}
+use Rattle.co_opening.specs.Standing.{AreMembersFound, AreCoordsFound}
 
 -- ---- sets of numbers
 

@@ -1,6 +1,6 @@
 -- What was found of all nodes of a sort, log by log.
-use Rattle.std.proofs.Common.{◌≡◌, inl, inr, ℕ, zero, suc, ◌+◌, ◌≤◌, ◌<◌, ◌&&◌, Bool, true, false, List, [], ◌∷◌, length, get_or, Option, refl, sym, ap, subst, ◌∙◌, arith}
-use Rattle.std.specs.Prelude.{reverse, nat_le, None, Ok}
+use Rattle.std.proofs.Common.{◌≡◌, ℕ, zero, suc, ◌+◌, ◌≤◌, ◌&&◌, Bool, false, List, [], ◌∷◌, length, get_or, Option, refl, sym, ap, subst, ◌∙◌, arith}
+use Rattle.std.specs.Prelude.{nat_le}
 use Rattle.std.proofs.lemmas.Bool.Decides.{nat_tests}
 use Rattle.std.specs.List.{AllByRecursion}
 use Rattle.co_base.specs.declared.node.Node.{Node}
@@ -85,8 +85,7 @@ module _ {T : Type 0} (file : Spot → Option File) (resume : Bool) (node : ℕ 
   founds_both R f found p (l ∷ ls) [] fs same are = absurd are
   founds_both R f found p (l ∷ ls) (t ∷ ts) [] same are = absurd are
   founds_both R f found p (l ∷ ls) (t ∷ ts) (x ∷ xs) same are =
-      let here : found (suc p) ≡ x = ap (λ n. found (suc n)) (let e : p ≡ p + 0 = omega arith in e) ∙ same 0 in
-      (
+      let here : found (suc p) ≡ x = ap (λ n. found (suc n)) (let e : p ≡ p + 0 = omega arith in e) ∙ same 0 in (
         subst (R p l t) (sym here) (f p l t x are.0.0 are.0.1),
         founds_both R f found (suc p) ls ts xs (λ k. ap (λ n. found (suc n)) (let e : suc p + k ≡ p + suc k = omega arith in e) ∙ same (suc k)) are.1,
       )

@@ -1,53 +1,25 @@
 -- Logs that are made where they are fresh, and the nodes on them.
-use Rattle.std.proofs.Common.{◌≡◌, ◌⊎◌, inl, inr, ℕ, zero, suc, ◌+◌, ◌<◌, ◌==◌, ◌++◌, Bool, true, false, List, [], ◌∷◌, refl, sym, ap, subst, ◌∙◌, length, get_or, if◌then◌else◌, ◌-◌, arith}
+use Rattle.std.proofs.Common.{◌≡◌, inl, inr, ℕ, zero, suc, ◌<◌, Bool, false, List, [], ◌∷◌, refl, sym, ap, subst, ◌∙◌, length, get_or, if◌then◌else◌, ◌-◌, arith}
 use Rattle.std.proofs.lemmas.Bool.Decides.{nat_tests}
 use Rattle.std.specs.Prelude.{nat_le, Result, Ok, Err, IsErrOf}
 use Rattle.std.specs.Result.{IsErrAnd}
-use Rattle.co_base.specs.Nodes.{IsValidNode}
 use Rattle.co_base.specs.declared.head.Kind.{Kind}
-use Rattle.co_base.specs.declared.mark.Mark.{Mark}
 use Rattle.co_base.specs.declared.node.Node.{Node}
-use Rattle.co_base.specs.declared.node.Node.TheVariants.{Member, Coord}
 use Rattle.co_record.specs.declared.record.Record.{Record}
-use Rattle.co_record.specs.declared.record.Record.TheVariants as log
 use Rattle.co_record.specs.Gate.{begins_closed}
 use Rattle.co_log.specs.Fresh.{IsFresh, IsMade}
 use Rattle.co_log.specs.LogView.{LogView}
-use Rattle.co_log.proofs.Ordered.{attached_unarmed}
 use Rattle.co_node.specs.NodeLog.{RepresentsLog}
 use Rattle.co_node.proofs.Opened.{made_stands}
-use Rattle.co_plain.specs.Invariants.{Stable}
 use Rattle.co_plain.specs.CoordView.{recovered_commits}
 use Rattle.co_plain.specs.MemberView.{recovered_view}
-use Rattle.co_plain.specs.Opening.{Found, made, header_mark, opened_log, opened_member, kind_of, member_with}
-use Rattle.co_plain.specs.LogWrite.{marks_of}
-use Rattle.co_plain.specs.declared.log_state.LogState.{LogState}
+use Rattle.co_plain.specs.Opening.{Found, made, opened_log, kind_of}
 use Rattle.co_durable.specs.declared.fault.WorldFault.{WorldFault}
 use Rattle.co_opening.specs.Standing.{IsStanding}
-
--- the log is that of the node
-pub owned : (owner : Node) (l : LogView) (found : Found) → IsStanding owner l found → l.node ≡ owner
-owned owner l found s = (attached_unarmed owner s.a s.b l s.attached).0
 
 -- a log without a gate is fresh, and nothing was found
 fresh_one : (owner : Node) (l : LogView) (found : Found) → IsStanding owner l found → l.gate ≡ 0 → IsFresh l × (found.records ≡ []) × (found.spare_closed ≡ begins_closed l.spare.state.stable)
 fresh_one owner l found s none = elim s.either [ inl f ↦ f | inr r ↦ absurd (omega (arith, r.0, none)) ]
-
-pub is_fresh : (owner : Node) (l : LogView) (found : Found) → IsStanding owner l found → l.gate ≡ 0 → IsFresh l
-is_fresh owner l found s none = (fresh_one owner l found s none).0
-
--- any other stands for what was found, and no header is made
-going_one : (owner : Node) (l : LogView) (found : Found) → IsStanding owner l found → (l.gate == 0) ≡ false → (0 < l.gate) × (header_mark owner found.records ≡ []) × RepresentsLog owner l (opened_log owner found)
-going_one owner l found s some = elim s.either [
-  | inl f ↦ absurd (let e : (l.gate == 0) ≡ true = ap (λ n. n == 0) f.0.unmade in cc)
-  | inr r ↦ r
-]
-
-pub going_stands : (owner : Node) (l : LogView) (found : Found) → IsStanding owner l found → (l.gate == 0) ≡ false → RepresentsLog owner l (opened_log owner found)
-going_stands owner l found s some = (going_one owner l found s some).2
-
-pub going_unmarked : (owner : Node) (l : LogView) (found : Found) → IsStanding owner l found → (l.gate == 0) ≡ false → header_mark owner found.records ≡ []
-going_unmarked owner l found s some = (going_one owner l found s some).1
 
 -- one that was made stands for nothing found
 pub fresh_stands : (owner : Node) (l after : LogView) (found : Found) → IsStanding owner l found → l.gate ≡ 0 → IsMade l after → RepresentsLog owner after (opened_log owner found)
@@ -56,9 +28,6 @@ fresh_stands owner l after found s none m =
     let same : opened_log owner (record { records = []; spare_closed = begins_closed l.spare.state.stable }) ≡ opened_log owner found =
     λ i. opened_log owner (record { records = sym f.1 i; spare_closed = sym f.2 i }) in
     subst (RepresentsLog owner after) same (made_stands owner s.a s.b l after s.valid s.attached f.0 m)
-
-pub fresh_marked : (owner : Node) (l : LogView) (found : Found) → IsStanding owner l found → l.gate ≡ 0 → header_mark owner found.records ≡ marks_of owner (log.Header owner 1 ∷ [])
-fresh_marked owner l found s none = ap (header_mark owner) (fresh_one owner l found s none).1
 
 -- ---- a header tells nothing
 

@@ -1,6 +1,6 @@
 -- The nodes of a federation that was opened.
-use Rattle.std.proofs.Common.{◌≡◌, ℕ, zero, suc, ◌+◌, ◌≤◌, ◌++◌, Bool, List, length, refl, sym, ap, subst, ◌∙◌, arith}
-use Rattle.std.specs.Prelude.{Option, Some, slice_get, Result, Ok, Err, IsErrOf, OnOk, IfOk}
+use Rattle.std.proofs.Common.{◌≡◌, ℕ, suc, ◌≤◌, ◌++◌, Bool, List, length, sym, ap, subst, ◌∙◌, arith}
+use Rattle.std.specs.Prelude.{Option, Result, Ok, Err, IsErrOf, OnOk, IfOk}
 use Rattle.co_base.specs.Nodes.{IsValidNode}
 use Rattle.co_disk.specs.Homes.{IsClean}
 use Rattle.co_durable.specs.declared.fault.WorldFault.{WorldFault}
@@ -17,11 +17,10 @@ use Rattle.co_plain.specs.Numbers.{has_number}
 use Rattle.co_recover.specs.declared.past.CoordPast.{CoordPast}
 use Rattle.co_recover.specs.declared.past.MemberPast.{MemberPast}
 use Rattle.co_state.specs.declared.engine_state.EngineState.{EngineState}
-use Rattle.co_state.specs.Table.{no_entries, holds}
+use Rattle.co_state.specs.Table.{no_entries}
 use Rattle.co_coord.specs.declared.coord.Coord.{Coord as CoordOn}
 use Rattle.co_member.specs.declared.member.Member.{Member as MemberOn}
 use Rattle.co_opening.specs.Counted.{with_members, with_coords}
-use Rattle.co_opening.specs.From.{AllFrom}
 use Rattle.co_opening.specs.Judged.{AreJudged}
 use Rattle.co_opening.specs.Kept.{NodeStays, IsOwnLog, AreOwnLogs}
 use Rattle.co_opening.specs.Nodes.{IsMemberAt, IsCoordAt, IsKept, AreKept}

@@ -1,7 +1,6 @@
 -- Nodes that were opened on their logs stand for the plain nodes that are opened over what was found.
-use Rattle.std.proofs.Common.{◌≡◌, ℕ, suc, ◌+◌, List, [], true, refl, sym, ap, subst, ◌∙◌, arith}
+use Rattle.std.proofs.Common.{◌≡◌, ℕ, suc, ◌+◌, List, [], true, sym, ap, subst, ◌∙◌, arith}
 use Rattle.std.specs.FinMap.{entries}
-use Rattle.std.specs.Prelude.{reverse, None}
 use Rattle.co_base.specs.declared.head.Kind.{Kind}
 use Rattle.co_base.specs.declared.node.Node.TheVariants.{Member, Coord}
 use Rattle.co_log.specs.LogView.{LogView}
@@ -12,7 +11,7 @@ use Rattle.co_node.specs.NodeLog.{RepresentsLog}
 use Rattle.co_plain.specs.CoordStep.{table_from}
 use Rattle.co_plain.specs.CoordView.{recovered_commits}
 use Rattle.co_plain.specs.Invariants.{Stable}
-use Rattle.co_plain.specs.MemberView.{recovered_view, first_refused_at_member}
+use Rattle.co_plain.specs.MemberView.{recovered_view}
 use Rattle.co_plain.specs.Opening.{Found, opened_log, opened_member, opened_coord, kind_of, member_with}
 use Rattle.co_plain.specs.declared.coord_view.CoordView.{CoordView}
 use Rattle.co_plain.specs.declared.member_view.MemberView.{MemberView}

@@ -1,5 +1,5 @@
 -- Logs of one sort of nodes that are attached one after another.
-use Rattle.std.proofs.Common.{◌≡◌, ◌≢◌, ℕ, suc, ◌+◌, ◌≤◌, ◌<◌, Bool, List, [], ◌∷◌, ◌++◌, length, refl, sym, ap, subst, ◌∙◌, arith}
+use Rattle.std.proofs.Common.{◌≡◌, ◌≢◌, ℕ, suc, ◌+◌, ◌≤◌, ◌<◌, Bool, List, [], ◌∷◌, ◌++◌, length, sym, ap, subst, ◌∙◌, arith}
 use Rattle.std.specs.Prelude.{Option}
 use Rattle.co_base.specs.Nodes.{IsValidNode}
 use Rattle.co_base.specs.declared.node.Node.{Node}
@@ -57,8 +57,8 @@ module _ (sort : Sort) (place count : ℕ) (h : place < count) (most : count ≤
       let all : AreOwnLogs after further (node_in sort) 0 logs =
       own_all_stay (node_in sort) 0 mid after between further logs
       (λ q low high.
-        let below : q < place = omega (arith, high, many) in
-        stays_elsewhere this (node_in sort (suc q)) mid after between further valid (node_valid sort q count (omega (arith, below, h)) most) (λ e. nodes_apart sort (suc q) (suc place) (λ same. omega (arith, same, below)) (e ∙ is)) stay) kept in
+      let below : q < place = omega (arith, high, many) in
+      stays_elsewhere this (node_in sort (suc q)) mid after between further valid (node_valid sort q count (omega (arith, below, h)) most) (λ e. nodes_apart sort (suc q) (suc place) (λ same. omega (arith, same, below)) (e ∙ is)) stay) kept in
       subst (AreOwnLogs after further (node_in sort) 0) (sym pushed) (all_from_next (λ q l. IsOwnLog after further (node_in sort (suc q)) l) logs place log many all (subst (λ n. IsOwnLog after further n log) is own))
 
   pub attached_on : (file mid : Spot → Option File) (resume : Bool) (logs more : List LogView) (log : LogView) → more ≡ logs ++ log ∷ [] → ((s : Spot) → mid s ≡ file s) → EachPair (IsAttachedTo file resume) (nodes_in sort place) logs → IsAttachedTo mid resume this log

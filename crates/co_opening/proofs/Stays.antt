@@ -1,21 +1,17 @@
 -- Logs that the directory keeps, while calls are made on the logs of other nodes.
-use Rattle.std.proofs.Common.{◌≡◌, ◌≢◌, ◌⊎◌, ℕ, suc, ◌+◌, ◌≤◌, ◌<◌, List, length, refl, sym, ap, subst, ◌∙◌, inl, inr, arith}
+use Rattle.std.proofs.Common.{◌≡◌, ◌≢◌, ℕ, suc, ◌+◌, ◌≤◌, ◌<◌, List, length, sym, ap, subst, ◌∙◌, inl, inr, arith}
 use Rattle.std.specs.Prelude.{Option}
-use Rattle.co_base.specs.Nodes.{IsValidNode, node_byte}
+use Rattle.co_base.specs.Nodes.{IsValidNode}
 use Rattle.co_base.specs.declared.node.Node.{Node}
-use Rattle.co_disk.specs.Homes.{Agrees, IsClean}
+use Rattle.co_disk.specs.Homes.{Agrees}
 use Rattle.co_outside.specs.Home.{File}
 use Rattle.co_outside.specs.declared.spot.Spot.{Spot}
 use Rattle.co_frame.specs.LogText.{most_log_bytes}
 use Rattle.co_log.specs.Attaching.{IsWithin}
-use Rattle.co_log.specs.LogView.{LogView, HasSpots, IsHeld, spot_of}
+use Rattle.co_log.specs.LogView.{LogView, HasSpots, spot_of}
 use Rattle.co_log.specs.Others.{OtherFilesStay}
 use Rattle.co_log.proofs.Spots.{bytes_apart}
-use Rattle.co_node.specs.Answers.{AreWithin}
-use Rattle.co_durable.proofs.Spots.{same_or_other}
-use Rattle.co_opening.specs.From.{AllFrom}
 use Rattle.co_opening.specs.Kept.{NodeStays, IsOwnLog, AreOwnLogs}
-use Rattle.co_opening.specs.Nodes.{IsKept}
 use Rattle.co_opening.proofs.From.{all_from_map}
 
 elsewhere : (this that : Node) (p q : ℕ) → IsValidNode this → IsValidNode that → that ≢ this → spot_of that p ≢ spot_of this q
@@ -29,9 +25,6 @@ stays_elsewhere this that file after reach further one two other stay = record {
   reach_a = stay.reaches (spot_of that 0) (elsewhere this that 0 0 one two other) (elsewhere this that 0 1 one two other);
   reach_b = stay.reaches (spot_of that 1) (elsewhere this that 1 0 one two other) (elsewhere this that 1 1 one two other);
 }
-
-pub nothing_stays : (node : Node) (file : Spot → Option File) (reach : Spot → ℕ) → NodeStays node file file reach reach
-nothing_stays node file reach = record { file_a = refl; file_b = refl; reach_a = refl; reach_b = refl }
 
 pub stays_on : (node : Node) (file mid after : Spot → Option File) (reach between further : Spot → ℕ) → NodeStays node file mid reach between → NodeStays node mid after between further → NodeStays node file after reach further
 stays_on node file mid after reach between further one two = record {
@@ -76,11 +69,3 @@ pub own_all_stay : (node : ℕ → Node) (p : ℕ) (file after : Spot → Option
 own_all_stay node p file after reach further logs stay all =
     all_from_map (λ q log. IsOwnLog file reach (node (suc q)) log) (λ q log. IsOwnLog after further (node (suc q)) log) p logs
     (λ q log low high own. own_stays (node (suc q)) file after reach further log (stay q low high) own) all
-
--- a file that is cleaned, where all others stay
-pub cleaned : (file after : Spot → Option File) (at : Spot) → ((s : Spot) → s ≢ at → after s ≡ file s) → IsClean (after at) → (s : Spot) → IsClean (file s) → IsClean (after s)
-cleaned file after at others here s was = by (same_or_other s at)
-  where
-    by : (s ≡ at) ⊎ (s ≢ at) → IsClean (after s)
-    by (inl e) = subst (λ (t : Spot). IsClean (after t)) (sym e) here
-    by (inr n) = subst IsClean (sym (others s n)) was

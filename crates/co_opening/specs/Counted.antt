@@ -1,6 +1,5 @@
 -- The numbers that the logs of members and coordinators tell, one log after another.
-use Rattle.std.specs.Prelude.{ℕ, List, [], ◌∷◌, map}
-use Rattle.co_pairs.specs.declared.prepared.Prepared.{Prepared}
+use Rattle.std.specs.Prelude.{List, [], ◌∷◌, map}
 use Rattle.co_plain.specs.MemberView.{Numbers, with_numbers}
 use Rattle.co_recover.specs.declared.past.CoordPast.{CoordPast}
 use Rattle.co_recover.specs.declared.past.MemberPast.{MemberPast}

@@ -1,10 +1,8 @@
 -- The nodes of a federation that was opened, and why it was not.
 use Rattle.std.specs.Prelude.{ℕ, suc, false, true, Bool, ◌≡◌, ◌≤◌, ◌<◌, ◌++◌, length, slice_get, Option, Some}
 use Rattle.std.specs.FinMap.{keys}
-use Rattle.std.specs.List.{AllByRecursion}
 use Rattle.co_base.specs.declared.head.Head.{Head}
 use Rattle.co_base.specs.declared.head.Kind.{Kind}
-use Rattle.co_base.specs.declared.node.Node.{Node}
 use Rattle.co_outside.specs.declared.spot.Spot.{Spot}
 use Rattle.co_outside.specs.Home.{File}
 use Rattle.co_plain.specs.Numbers.{has_number}

@@ -1,6 +1,5 @@
 -- Attached logs as they are found: fresh, or of records that a run may go on from.
-use Rattle.std.specs.Prelude.{ℕ, suc, ◌≡◌, ◌<◌, ◌≤◌, ◌⊎◌, ◌&&◌, false, Bool, List, [], length, reverse, nat_le, Option, None, Ok}
-use Rattle.std.specs.FinMap.{keys}
+use Rattle.std.specs.Prelude.{ℕ, suc, ◌≡◌, ◌<◌, ◌⊎◌, false, Bool, List, [], reverse, Option, None, Ok}
 use Rattle.std.specs.List.{AllByRecursion}
 use Rattle.co_base.specs.Nodes.{IsValidNode}
 use Rattle.co_base.specs.declared.node.Node.{Node}
@@ -17,7 +16,7 @@ use Rattle.co_log.specs.NodeFiles.{Items}
 use Rattle.co_node.specs.NodeLog.{RepresentsLog}
 use Rattle.co_plain.specs.CoordView.{first_refused_at_coord, recovered_commits}
 use Rattle.co_plain.specs.MemberView.{first_refused_at_member, recovered_view}
-use Rattle.co_plain.specs.Opening.{Found, header_mark, opened_log, used_numbers}
+use Rattle.co_plain.specs.Opening.{Found, header_mark, opened_log}
 use Rattle.co_recover.specs.Recovered.{past_of_member, past_of_coord, IsCoordRecovery}
 use Rattle.co_recover.specs.declared.past.CoordPast.{CoordPast}
 use Rattle.co_recover.specs.declared.past.MemberPast.{MemberPast}

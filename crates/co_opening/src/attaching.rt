@@ -32,12 +32,7 @@ pub(crate) struct Logs {
 }
 
 /// Attaches the log of a node, whose files are as they were.
-fn attach<H: Home>(
-    alloc: Global,
-    home: &mut H,
-    node: Node,
-    resume: bool,
-) -> Result<Log, LogFault>
+fn attach<H: Home>(alloc: Global, home: &mut H, node: Node, resume: bool) -> Result<Log, LogFault>
     requires { IsValidNode node }
     ensures attached { IfOk result (IsAttachedTo (H.file home.old) resume node) }
     ensures kept { IfOk result (IsOwnLog (H.file home.new) (H.reach home.new) node) }

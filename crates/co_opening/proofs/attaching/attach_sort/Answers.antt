@@ -1,5 +1,4 @@
-use Rattle.std.proofs.Common.{rules, sym, subst, length, ◌∙◌, arith}
-use Rattle.std.proofs.lemmas.List.{length_push}
+use Rattle.std.proofs.Common.{rules, sym, subst}
 use Rattle.co_durable.proofs.Readings.{handed_on, reads_on}
 use Rattle.co_opening.specs.Attached.{IsFirstUnattached}
 use Rattle.co_opening.specs.Sorts.{nodes_in}

@@ -1,14 +1,10 @@
-use Rattle.std.proofs.Common.{ℕ, Bool, List, length, sym, subst}
+use Rattle.std.proofs.Common.{ℕ, List, length, sym, subst}
 use Rattle.std.specs.List.{AllByRecursion}
-use Rattle.std.specs.Prelude.{Option}
-use Rattle.co_outside.specs.Home.{File}
-use Rattle.co_outside.specs.declared.spot.Spot.{Spot}
 use Rattle.co_log.specs.LogView.{LogView}
 use Rattle.co_durable.specs.Nodes.{member_nodes, coord_nodes}
 use Rattle.co_durable.specs.Pairs.{EachPair}
 use Rattle.co_durable.specs.Recovering.{IsReadable, IsPastOf, IsFirstToFall, member_refuses, coord_refuses}
 use Rattle.co_durable.proofs.Readings.{handed_on}
-use Rattle.co_opening.specs.Attached.{AreAttached}
 use Rattle.co_opening.specs.Opened.{IsUnopened}
 use Rattle.co_opening.specs.Standing.{IsCoordPastOf}
 use Rattle.co_opening.specs.Versions.{IsVersioned, IsLatest, IsFirstOldLog}
@@ -25,7 +21,7 @@ member_pasts-requires c =
 pub returns-in_err-members-clause-refused : goal.returns-in_err-members-clause-refused
 returns-in_err-members-clause-refused c = λ file resume att.
     let fault = c.in_err-members.field-0.0 in
-    let un : IsUnopened file c.args.head.now resume c.in_err-members.field-0.0 = 
+    let un : IsUnopened file c.args.head.now resume c.in_err-members.field-0.0 =
     member_fallen file resume c.args.head.now c.args.logs.now.members.items c.args.logs.now.coords.items att fault (subst (λ (logs : List LogView). IsFirstToFall (member_refuses c.args.head.now.coords) logs c.in_err-members.field-0.0) c.as_slice.ensures.value c.in_err-members.ensures.refused) in
     handed_on _ (IsUnopened file c.args.head.now resume) c.from_residual.result (λ e is. subst (IsUnopened file c.args.head.now resume) (sym is) un) c.from_residual.ensures.1
 
@@ -37,7 +33,7 @@ coord_pasts-requires c =
 pub returns-in_err-coords-clause-refused : goal.returns-in_err-coords-clause-refused
 returns-in_err-coords-clause-refused c = λ file resume att.
     let fault = c.in_err-coords.field-0.0 in
-    let un : IsUnopened file c.args.head.now resume c.in_err-coords.field-0.0 = 
+    let un : IsUnopened file c.args.head.now resume c.in_err-coords.field-0.0 =
     coord_fallen file resume c.args.head.now c.args.logs.now.members.items c.args.logs.now.coords.items att c.in_ok-members.members.items fault
     (subst (λ (logs : List LogView). EachPair (IsPastOf c.args.head.now.coords) logs c.in_ok-members.members.items) c.as_slice.ensures.value c.in_ok-members.ensures.pasts)
     (subst (λ (n : ℕ). IsFirstToFall (coord_refuses n) c.args.logs.now.coords.items c.in_err-coords.field-0.0) c.len-count.ensures
@@ -52,7 +48,7 @@ refuse_old-requires c =
 pub returns-in_err-refuse_old-clause-refused : goal.returns-in_err-refuse_old-clause-refused
 returns-in_err-refuse_old-clause-refused c = λ file resume att.
     let fault = c.in_err-refuse_old.field-0.0 in
-    let un : IsUnopened file c.args.head.now resume c.in_err-refuse_old.field-0.0 = 
+    let un : IsUnopened file c.args.head.now resume c.in_err-refuse_old.field-0.0 =
     member_old file resume c.args.head.now c.args.logs.now.members.items c.args.logs.now.coords.items att c.in_ok-members.members.items c.in_ok-coords.coords.items fault
     (subst (λ (logs : List LogView). EachPair (IsPastOf c.args.head.now.coords) logs c.in_ok-members.members.items) c.as_slice.ensures.value c.in_ok-members.ensures.pasts)
     (subst (λ (n : ℕ). EachPair (IsCoordPastOf n) c.args.logs.now.coords.items c.in_ok-coords.coords.items) c.len-count.ensures
@@ -68,7 +64,7 @@ refuse_old-requires-2 c =
 pub returns-in_err-refuse_old-2-clause-refused : goal.returns-in_err-refuse_old-2-clause-refused
 returns-in_err-refuse_old-2-clause-refused c = λ file resume att.
     let fault = c.in_err-refuse_old-2.field-0.0 in
-    let un : IsUnopened file c.args.head.now resume c.in_err-refuse_old-2.field-0.0 = 
+    let un : IsUnopened file c.args.head.now resume c.in_err-refuse_old-2.field-0.0 =
     coord_old file resume c.args.head.now c.args.logs.now.members.items c.args.logs.now.coords.items att c.in_ok-members.members.items c.in_ok-coords.coords.items fault
     (subst (λ (logs : List LogView). EachPair (IsPastOf c.args.head.now.coords) logs c.in_ok-members.members.items) c.as_slice.ensures.value c.in_ok-members.ensures.pasts)
     (subst (λ (n : ℕ). EachPair (IsCoordPastOf n) c.args.logs.now.coords.items c.in_ok-coords.coords.items) c.len-count.ensures

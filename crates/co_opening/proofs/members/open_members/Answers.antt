@@ -1,4 +1,4 @@
-use Rattle.std.proofs.Common.{◌≡◌, ℕ, suc, ◌+◌, ◌++◌, ◌≤◌, List, length, rules, refl, sym, ap, subst, ◌∙◌, arith}
+use Rattle.std.proofs.Common.{◌≡◌, suc, ◌+◌, ◌++◌, length, rules, refl, sym, ap, ◌∙◌, arith}
 use Rattle.co_base.specs.declared.node.Node.TheVariants.{Member, Coord}
 use Rattle.co_plain.specs.Opening.{header_mark, opened_member, member_headers}
 use Rattle.co_opening.specs.Nodes.{IsMemberAt}

@@ -1,4 +1,4 @@
-use Rattle.std.proofs.Common.{◌≡◌, List, sym, subst}
+use Rattle.std.proofs.Common.{List, sym, subst}
 use Rattle.std.specs.FinMap.{keys}
 use Rattle.co_recover.specs.declared.past.CoordPast.{CoordPast}
 use Rattle.co_recover.specs.declared.past.MemberPast.{MemberPast}
