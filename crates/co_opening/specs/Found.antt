@@ -1,5 +1,5 @@
 -- Logs as they are found: what the files of each node tell, and what that may be for a run.
-use Rattle.std.specs.Prelude.{ℕ, Bool, ◌≡◌, ◌≤◌, ◌==◌, List, [], length, reverse, if◌then◌else◌, Option, None}
+use Rattle.std.specs.Prelude.{ℕ, ◌≡◌, ◌≤◌, ◌==◌, List, [], length, reverse, if◌then◌else◌, Option, None}
 use Rattle.std.specs.List.{AllByRecursion}
 use Rattle.co_base.specs.declared.head.Kind.{Kind}
 use Rattle.co_base.specs.declared.node.Node.{Node}
@@ -9,7 +9,6 @@ use Rattle.co_outside.specs.Home.{File}
 use Rattle.co_record.specs.Gate.{begins_closed}
 use Rattle.co_record.specs.Spelling.{IsWritable}
 use Rattle.co_log.specs.NodeFiles.{Items, newest_first, IsCurrentIn}
-use Rattle.co_node.specs.Answers.{AreTold}
 use Rattle.co_plain.specs.CoordView.{first_refused_at_coord}
 use Rattle.co_plain.specs.MemberView.{first_refused_at_member}
 use Rattle.co_plain.specs.Opening.{Found, OnlyOwnLogs}

@@ -1,3 +1,13 @@
+pub mod From
+pub mod Sorts
 pub mod Nodes
 pub mod Found
+pub mod InUse
+pub mod Versions
 pub mod Opened
+pub mod Kept
+pub mod Attached
+pub mod Counted
+pub mod Standing
+pub mod Judged
+pub mod Running

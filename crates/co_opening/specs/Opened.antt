@@ -1,15 +1,10 @@
 -- The nodes of a federation that was opened, and why it was not.
-use Rattle.std.specs.Prelude.{ℕ, suc, false, true, Bool, ◌≡◌, ◌≤◌, ◌<◌, ◌⊎◌, ◌++◌, List, length, slice_get, Option, Some}
+use Rattle.std.specs.Prelude.{ℕ, suc, false, true, Bool, ◌≡◌, ◌≤◌, ◌<◌, ◌++◌, length, slice_get, Option, Some}
 use Rattle.std.specs.FinMap.{keys}
-use Rattle.std.specs.List.{AllByRecursion}
 use Rattle.co_base.specs.declared.head.Head.{Head}
 use Rattle.co_base.specs.declared.head.Kind.{Kind}
-use Rattle.co_base.specs.declared.node.Node.{Node}
 use Rattle.co_outside.specs.declared.spot.Spot.{Spot}
 use Rattle.co_outside.specs.Home.{File}
-use Rattle.co_log.specs.Attaching.{IsLonger, IsWithin}
-use Rattle.co_log.specs.LogView.{spot_of}
-use Rattle.co_log.specs.NodeFiles.{Items}
 use Rattle.co_plain.specs.Numbers.{has_number}
 use Rattle.co_plain.specs.Opening.{Found, opened_member, opened_coord, used_numbers, member_headers, coord_headers}
 use Rattle.co_state.specs.declared.engine_state.EngineState.{EngineState}
@@ -23,6 +18,8 @@ use Rattle.co_durable.specs.Nodes.{nodes_of}
 use Rattle.co_durable.specs.Pairs.{FirstWhere}
 use Rattle.co_opening.specs.Nodes.{IsMemberAt, IsCoordAt}
 use Rattle.co_opening.specs.Found.{AreFound, MayRun, AreUnused}
+pub use Rattle.co_opening.specs.InUse.{IsUnusedNode, IsInUse}
+use Rattle.co_opening.specs.Versions.{IsFirstOld}
 use Rattle.co_opening.specs.declared.nodes.Nodes.{Nodes}
 
 -- The nodes of the federation that is opened over what was found in the files: each stands for the plain one, the numbers that stand in the logs are used,
@@ -41,14 +38,6 @@ pub record AreOpened {E : Type 0} (takes : Kind → Type 0) (stands_for : E → 
   pub few : length n.used ≤ 65536
   pub marks : n.marks ≡ member_headers (length head.kinds) found_member ++ coord_headers head.coords found_coord
 
--- no file of the node has more than one byte, where the directory tells them
-abbrev pub IsUnusedNode : (Spot → Option File) → Node → Type 0
-IsUnusedNode file node = IsWithin 1 (file (spot_of node 0)) × IsWithin 1 (file (spot_of node 1))
-
--- this is the first file of the node that has more than one byte, where the directory tells it
-abbrev pub IsInUse : (Spot → Option File) → Spot → Node → Type 0
-IsInUse file spot node = ((spot ≡ spot_of node 0) × IsLonger 1 (file (spot_of node 0))) ⊎ ((spot ≡ spot_of node 1) × IsWithin 1 (file (spot_of node 0)) × IsLonger 1 (file (spot_of node 1)))
-
 -- the logs were found so, and more numbers stand in them than there may be
 pub record AreTooMany (file : Spot → Option File) (head : Head) : Type 0 where
   pub found_member : ℕ → Found
@@ -57,7 +46,8 @@ pub record AreTooMany (file : Spot → Option File) (head : Head) : Type 0 where
   pub many : 65536 < length (keys (used_numbers (length head.kinds) head.coords found_member found_coord))
 
 -- Why the federation was not opened, by the files where the directory tells them. A log that is not resumed is refused where it is in use, and for nothing else;
--- one that is resumed is refused where its files are no log, are too long, or are of version 1; and then the numbers are counted.
+-- one that is resumed is refused where its files are no log or are too long, then where its records are not allowed, then where a current file is of version 1; and
+-- then the numbers are counted.
 abbrev pub IsUnopened : (Spot → Option File) → Head → Bool → WorldFault → Type 0
 IsUnopened file head resume (Device spot) = Unit {0}
 IsUnopened file head resume (Differs spot at kept read) = ⊥
@@ -65,7 +55,7 @@ IsUnopened file head resume (InUse spot) = (resume ≡ false) × FirstWhere (IsU
 IsUnopened file head resume (Bad spot at) = (resume ≡ true) × IsUndurable file (length head.kinds) head.coords (Bad spot at)
 IsUnopened file head resume (Full spot) = (resume ≡ true) × IsUndurable file (length head.kinds) head.coords (Full spot)
 IsUnopened file head resume Count = (resume ≡ true) × AreTooMany file head
-IsUnopened file head resume (Old spot) = resume ≡ true
+IsUnopened file head resume (Old spot) = (resume ≡ true) × IsFirstOld file (length head.kinds) head.coords spot
 IsUnopened file head resume Memory = Unit {0}
 
 -- the refusals before which nothing is written

@@ -3,8 +3,15 @@
 //! All logs are read before any is judged by its records, and all are judged before any file is written.
 #![tactic(auto)]
 
+mod attaching;
+mod coords;
+mod judging;
+mod making;
+mod members;
 mod nodes;
+mod numbers;
 mod opening;
+mod sort;
 
 pub use nodes::Nodes;
 pub use opening::open_nodes;

@@ -1,0 +1,32 @@
+-- A log that was attached, from all that its attaching says.
+use Rattle.std.proofs.Common.{◌≡◌, Bool, false, Option, Result, Ok, Err, IfOk}
+use Rattle.std.specs.Prelude.{OnOk}
+use Rattle.co_base.specs.Nodes.{IsValidNode}
+use Rattle.co_base.specs.declared.node.Node.{Node}
+use Rattle.co_disk.specs.DiskView.{DiskView}
+use Rattle.co_outside.specs.declared.spot.Spot.{Spot}
+use Rattle.co_outside.specs.Home.{File}
+use Rattle.co_frame.specs.LogText.{most_log_bytes}
+use Rattle.co_log.specs.declared.fault.LogFault.{LogFault}
+use Rattle.co_log.specs.Attaching.{IsAttached, IsToldAs, IsWithin}
+use Rattle.co_log.specs.Fresh.{IsFresh}
+use Rattle.co_log.specs.LogView.{LogView, spot_of}
+use Rattle.co_opening.specs.Attached.{IsAttachedTo}
+use Rattle.co_opening.specs.InUse.{IsUnusedNode}
+
+pub attached_to : (file : Spot → Option File) (resume : Bool) (node : Node) (log : LogView) → IsValidNode node
+    → (a : DiskView) × (b : DiskView) × IsToldAs (spot_of node 0) (file (spot_of node 0)) a × IsToldAs (spot_of node 1) (file (spot_of node 1)) b × IsAttached node a b log
+    → (resume ≡ false → IsUnusedNode file node) → (resume ≡ false → IsFresh log) → IsWithin most_log_bytes (file (spot_of node 0)) × IsWithin most_log_bytes (file (spot_of node 1)) → IsAttachedTo file resume node log
+attached_to file resume node log valid told none fresh within = record {
+  valid = valid;
+  is = record { a = told.0; b = told.1; file_a = told.2; file_b = told.3; within_a = within.0; within_b = within.1; attached = told.4 };
+  fresh = fresh;
+  unused = none;
+}
+
+pub attached_result : (file : Spot → Option File) (resume : Bool) (node : Node) (result : Result LogView LogFault) → IsValidNode node
+    → IfOk result (λ log. (a : DiskView) × (b : DiskView) × IsToldAs (spot_of node 0) (file (spot_of node 0)) a × IsToldAs (spot_of node 1) (file (spot_of node 1)) b × IsAttached node a b log)
+    → (resume ≡ false → OnOk result (IsWithin 1 (file (spot_of node 0)) × IsWithin 1 (file (spot_of node 1)))) → (resume ≡ false → IfOk result IsFresh)
+    → OnOk result (IsWithin most_log_bytes (file (spot_of node 0)) × IsWithin most_log_bytes (file (spot_of node 1))) → IfOk result (IsAttachedTo file resume node)
+attached_result file resume node (Ok log) valid told none fresh within = attached_to file resume node log valid told none fresh within
+attached_result file resume node (Err e) valid told none fresh within = tt

@@ -1,0 +1,89 @@
+-- The nodes of a federation that was opened.
+use Rattle.std.proofs.Common.{◌≡◌, ℕ, suc, ◌≤◌, ◌++◌, Bool, List, length, sym, ap, subst, ◌∙◌, arith}
+use Rattle.std.specs.Prelude.{Option, Result, Ok, Err, IsErrOf, OnOk, IfOk}
+use Rattle.co_base.specs.Nodes.{IsValidNode}
+use Rattle.co_disk.specs.Homes.{IsClean}
+use Rattle.co_durable.specs.declared.fault.WorldFault.{WorldFault}
+use Rattle.std.specs.FinMap.{keys}
+use Rattle.co_base.specs.declared.head.Head.{Head}
+use Rattle.co_base.specs.declared.head.Kind.{Kind}
+use Rattle.co_base.specs.declared.node.Node.TheVariants.{Member, Coord}
+use Rattle.co_outside.specs.declared.spot.Spot.{Spot}
+use Rattle.co_outside.specs.Home.{File}
+use Rattle.co_log.specs.LogView.{LogView}
+use Rattle.co_plain.specs.Opening.{Found, opened_member, opened_coord, used_numbers, member_headers, coord_headers}
+use Rattle.co_plain.specs.MemberView.{Numbers}
+use Rattle.co_plain.specs.Numbers.{has_number}
+use Rattle.co_recover.specs.declared.past.CoordPast.{CoordPast}
+use Rattle.co_recover.specs.declared.past.MemberPast.{MemberPast}
+use Rattle.co_state.specs.declared.engine_state.EngineState.{EngineState}
+use Rattle.co_state.specs.Table.{no_entries}
+use Rattle.co_coord.specs.declared.coord.Coord.{Coord as CoordOn}
+use Rattle.co_member.specs.declared.member.Member.{Member as MemberOn}
+use Rattle.co_opening.specs.Counted.{with_members, with_coords}
+use Rattle.co_opening.specs.Judged.{AreJudged}
+use Rattle.co_opening.specs.Kept.{NodeStays, IsOwnLog, AreOwnLogs}
+use Rattle.co_opening.specs.Nodes.{IsMemberAt, IsCoordAt, IsKept, AreKept}
+use Rattle.co_opening.specs.Opened.{AreOpened}
+use Rattle.co_opening.specs.Running.{AreMembersAt, AreCoordsAt, AreOwnMembers, AreOwnCoords}
+use Rattle.co_opening.specs.declared.nodes.Nodes.{Nodes}
+use Rattle.co_opening.proofs.From.{all_from_first, all_from_map}
+use Rattle.co_opening.proofs.Stays.{own_stays, own_all_stay}
+use Rattle.co_opening.proofs.Judged.{laid_used}
+use Rattle.co_opening.proofs.Laid.{has_keys}
+
+pub opened_nodes : {E : Type 0} (takes : Kind → Type 0) (stands_for : E → EngineState → Type 0) (file : Spot → Option File) (resume : Bool) (head : Head) (member_logs coord_logs : List LogView) (member_pasts : List MemberPast) (coord_pasts : List CoordPast)
+    (j : AreJudged file resume head member_logs coord_logs member_pasts coord_pasts) (n : Nodes E) → length n.members.items ≡ length head.kinds → length n.coords.items ≡ length coord_logs
+    → AreMembersAt takes stands_for head.kinds head.coords j.found_member n.members.items → AreCoordsAt (length head.kinds) j.found_coord n.coords.items
+    → n.used ≡ keys (with_coords (with_members no_entries member_pasts) coord_pasts) → length n.used ≤ 65536
+    → n.marks ≡ member_headers (length head.kinds) j.found_member ++ coord_headers (length coord_logs) j.found_coord → AreOpened takes stands_for file head resume n
+opened_nodes takes stands_for file resume head member_logs coord_logs member_pasts coord_pasts j n many few ms cs used most marks =
+    let numbers : Numbers = used_numbers (length head.kinds) head.coords j.found_member j.found_coord in
+    let are : n.used ≡ keys numbers = used ∙ ap keys (laid_used file resume head member_logs coord_logs member_pasts coord_pasts j) in
+    record {
+      found_member = j.found_member;
+      found_coord = j.found_coord;
+      found = j.found;
+      may = j.may;
+      unused = j.unused;
+      members = many;
+      coords = few ∙ j.many_coords;
+      member = λ p m is. all_from_first (λ q x. IsMemberAt takes stands_for head.coords q x (opened_member head.kinds (suc q) (j.found_member (suc q)))) n.members.items p m ms is;
+      coord = λ p c is. all_from_first (λ q y. IsCoordAt (length head.kinds) q y (opened_coord (suc q) (j.found_coord (suc q)))) n.coords.items p c cs is;
+      used = λ t. ap (λ (ts : List ℕ). has_number ts t) are ∙ has_keys numbers t;
+      few = most;
+      marks = marks ∙ ap (λ k. member_headers (length head.kinds) j.found_member ++ coord_headers k j.found_coord) j.many_coords;
+    }
+
+pub kept_nodes : {E : Type 0} (takes : Kind → Type 0) (stands_for : E → EngineState → Type 0) (file : Spot → Option File) (reach : Spot → ℕ) (head : Head) (found_member found_coord : ℕ → Found) (these : List (MemberOn E)) (those : List CoordOn)
+    → AreMembersAt takes stands_for head.kinds head.coords found_member these → AreCoordsAt (length head.kinds) found_coord those → AreOwnMembers file reach these → AreOwnCoords file reach those → AreKept file reach these those
+kept_nodes takes stands_for file reach head found_member found_coord these those ms cs own owns = record {
+  member = λ p m is.
+      let at = all_from_first (λ q x. IsMemberAt takes stands_for head.coords q x (opened_member head.kinds (suc q) (found_member (suc q)))) these p m ms is in
+      let log = all_from_first (λ q x. IsOwnLog file reach (Member (suc q)) x.log) these p m own is in
+      subst (λ k. IsKept file reach (Member k) m.log) (sym at.number) log.kept;
+  coord = λ p c is.
+      let at = all_from_first (λ q y. IsCoordAt (length head.kinds) q y (opened_coord (suc q) (found_coord (suc q)))) those p c cs is in
+      let log = all_from_first (λ q y. IsOwnLog file reach (Coord (suc q)) y.log) those p c owns is in
+      subst (λ k. IsKept file reach (Coord k) c.log) (sym at.number) log.kept;
+}
+
+-- ---- the logs of one sort, while those of the other are made
+
+pub coords_left : (file after : Spot → Option File) (reach further : Spot → ℕ) (logs : List LogView) → length logs ≤ 8 → ((c : ℕ) → IsValidNode (Coord c) → NodeStays (Coord c) file after reach further) → AreOwnLogs file reach Coord 0 logs → AreOwnLogs after further Coord 0 logs
+coords_left file after reach further logs few left kept = own_all_stay Coord 0 file after reach further logs (λ q low high. left (suc q) (omega arith, omega (arith, high, few))) kept
+
+pub own_members_stay : {E : Type 0} (file after : Spot → Option File) (reach further : Spot → ℕ) (these : List (MemberOn E)) → length these ≤ 16 → ((m : ℕ) → IsValidNode (Member m) → NodeStays (Member m) file after reach further)
+    → AreOwnMembers file reach these → AreOwnMembers after further these
+own_members_stay file after reach further these few left kept =
+    all_from_map (λ q x. IsOwnLog file reach (Member (suc q)) x.log) (λ q x. IsOwnLog after further (Member (suc q)) x.log) 0 these
+    (λ q x low high own. own_stays (Member (suc q)) file after reach further x.log (left (suc q) (omega arith, omega (arith, high, few))) own) kept
+
+-- ---- answers
+
+pub not_err : {T : Type 0} (x : T) (at : WorldFault) → IsErrOf (Ok x) at → ⊥
+not_err x at is = absurd cc
+
+pub clean_moved : {T : Type 0} (result : Result T WorldFault) (file mid after : Spot → Option File) → ((s : Spot) → mid s ≡ file s) → OnOk result ((s : Spot) → IsClean (mid s) → IsClean (after s)) → IfOk result (λ n. (s : Spot) → IsClean (file s) → IsClean (after s))
+clean_moved (Ok n) file mid after same clean = λ s was. clean s (subst IsClean (sym (same s)) was)
+clean_moved (Err e) file mid after same clean = tt

@@ -1,0 +1,19 @@
+use Rattle.std.proofs.Common.{◌≡◌, ◌≢◌, ℕ, length}
+use Rattle.co_base.specs.Nodes.{IsValidNode}
+use Rattle.co_base.specs.declared.node.Node.{Node}
+use Rattle.co_durable.specs.Pairs.{EachPair}
+use Rattle.co_durable.specs.Reading.{OnlyReads}
+use Rattle.co_opening.specs.Attached.{IsAttachedTo}
+use Rattle.co_opening.specs.Kept.{NodeStays, AreOwnLogs}
+use Rattle.co_opening.specs.Sorts.{node_in, nodes_in}
+use Rattle.co_opening.proofs.attaching.attach_sort.Given as goal
+
+abbrev pub invariant-loop-place : goal.invariant-loop-place
+invariant-loop-place g l = record {
+  attached : EachPair (IsAttachedTo (g.H.Home.file l.initial.home) l.resume) (nodes_in l.sort l.place) l.logs.items;
+  many : length l.logs.items ≡ l.place;
+  kept : AreOwnLogs (g.H.Home.file l.home) (g.H.Home.reach l.home) (node_in l.sort) 0 l.logs.items;
+  reads : OnlyReads g.H.Home.file g.H.Home.entered g.H.Home.faults l.initial.home l.home;
+  others : (n : Node) → IsValidNode n → ((p : ℕ) → n ≢ node_in l.sort p) → NodeStays n (g.H.Home.file l.initial.home) (g.H.Home.file l.home) (g.H.Home.reach l.initial.home) (g.H.Home.reach l.home);
+  quiet : g.H.Home.faults l.home ≡ g.H.Home.faults l.initial.home;
+}

@@ -1,0 +1,68 @@
+use Rattle.std.proofs.Common.{◌≡◌, suc, ◌+◌, ◌++◌, length, rules, refl, sym, ap, ◌∙◌, arith}
+use Rattle.co_base.specs.declared.node.Node.TheVariants.{Member, Coord}
+use Rattle.co_plain.specs.Opening.{header_mark, opened_member, member_headers}
+use Rattle.co_opening.specs.Nodes.{IsMemberAt}
+use Rattle.co_opening.specs.Standing.{IsMemberFound}
+use Rattle.co_opening.specs.declared.sort.Sort.TheVariants.{Members}
+use Rattle.co_durable.specs.declared.fault.WorldFault.TheVariants.{Device}
+use Rattle.co_durable.proofs.Readings.{fails_later}
+use Rattle.co_opening.proofs.Made.{handed, handed_back, kind_at}
+use Rattle.co_opening.proofs.From.{both_next}
+use Rattle.co_opening.proofs.Sorts.{number_valid, sorts_apart}
+use Rattle.co_opening.proofs.Turns.{leaves, one_less, place_below, both_on, all_on, marks_on, to_keep_on, kept_on}
+use Rattle.co_opening.proofs.members.open_members.Goals as goal
+
+pub open_member-requires-clause-found : goal.open_member-requires-clause-found
+open_member-requires-clause-found g c =
+    let w = c.requires.found in
+    (w.0 (suc c.loop-log.place), (both_next (λ q l t. IsMemberFound c.args.coords (suc q) l t (w.0 (suc q))) c.loop-log.place c.loop-log.log-iterator.rest.items c.next.new.self.rest.items c.loop-log.pasts.rest.items c.next-in-loop-log.new.self.rest.items c.in-Some.log c.in-Some-next.past c.in-Some.ensures.steps.0 c.in-Some-next.ensures.items (c.loop-log.invariant.found w.0 w.1)).0)
+
+pub returns-in_err-member-clause-device : goal.returns-in_err-member-clause-device
+returns-in_err-member-clause-device g c = λ spot is.
+    fails_later g.H.Home.file g.H.Home.entered g.H.Home.faults g.H.Home.last_failed c.args.home.now c.loop-log.home c.open_member.new.home spot (omega (arith, c.loop-log.invariant.quiet))
+    (c.in_err-member.ensures.device spot (handed_back c.from_residual.result c.in_err-member.field-0.0 (Device spot) c.from_residual.ensures.1 is))
+
+pub returns-in_err-member-clause-quiet : goal.returns-in_err-member-clause-quiet
+returns-in_err-member-clause-quiet g c = λ quiet.
+    c.in_err-member.ensures.quiet (λ spot is. quiet spot (handed c.from_residual.result c.in_err-member.field-0.0 (Device spot) c.from_residual.ensures.1 is)) ∙ c.loop-log.invariant.quiet
+
+pub returns-clause-marks : goal.returns-clause-marks
+returns-clause-marks g c = λ found f.
+    let many : length c.loop-log.members.items ≡ length c.args.kinds.now = search rules in
+    c.loop-log.invariant.marked found f ∙ ap (λ n. c.args.marks.now ++ member_headers n found) (sym c.loop-log.invariant.done ∙ many)
+
+pub returns-in_err-member-clause-others : goal.returns-in_err-member-clause-others
+returns-in_err-member-clause-others g c = λ k own.
+    leaves (Member (suc c.loop-log.place)) (Coord k) (g.H.Home.file c.args.home.now) (g.H.Home.file c.loop-log.home) (g.H.Home.file c.open_member.new.home) (g.H.Home.reach c.args.home.now) (g.H.Home.reach c.loop-log.home) (g.H.Home.reach c.open_member.new.home)
+    (number_valid Members c.loop-log.place (place_below c.loop-log.place (length c.args.kinds.now) 16 c.loop-log.log-iterator.rest.items c.next.new.self.rest.items c.in-Some.log c.in-Some.ensures.steps.0 c.loop-log.invariant.left c.requires.few)) own (λ e. sorts_apart k (suc c.loop-log.place) e) (c.loop-log.invariant.others k own) c.open_member.ensures.rest.others
+
+pub returns-in_err-push-clause-others : goal.returns-in_err-push-clause-others
+returns-in_err-push-clause-others g c = λ k own.
+    leaves (Member (suc c.loop-log.place)) (Coord k) (g.H.Home.file c.args.home.now) (g.H.Home.file c.loop-log.home) (g.H.Home.file c.open_member.new.home) (g.H.Home.reach c.args.home.now) (g.H.Home.reach c.loop-log.home) (g.H.Home.reach c.open_member.new.home)
+    (number_valid Members c.loop-log.place (place_below c.loop-log.place (length c.args.kinds.now) 16 c.loop-log.log-iterator.rest.items c.next.new.self.rest.items c.in-Some.log c.in-Some.ensures.steps.0 c.loop-log.invariant.left c.requires.few)) own (λ e. sorts_apart k (suc c.loop-log.place) e) (c.loop-log.invariant.others k own) c.open_member.ensures.rest.others
+
+pub loop-log-preserved : goal.loop-log-preserved
+loop-log-preserved g c =
+    let i = c.loop-log.invariant in
+    let few = (place_below c.loop-log.place (length c.args.kinds.now) 16 c.loop-log.log-iterator.rest.items c.next.new.self.rest.items c.in-Some.log c.in-Some.ensures.steps.0 c.loop-log.invariant.left c.requires.few) in
+    record {
+      done = search rules;
+      left = one_less c.loop-log.place (length c.args.kinds.now) c.loop-log.log-iterator.rest.items c.next.new.self.rest.items c.in-Some.log c.in-Some.ensures.steps.0 c.loop-log.invariant.left;
+      found = λ found f. both_on (λ q l t. IsMemberFound c.args.coords (suc q) l t (found (suc q))) c.loop-log.place c.loop-log.log-iterator.rest.items c.next.new.self.rest.items c.loop-log.pasts.rest.items c.next-in-loop-log.new.self.rest.items c.in-Some.log c.in-Some-next.past c.in-Some.ensures.steps.0 c.in-Some-next.ensures.items (c.loop-log.invariant.found found f);
+      opened = λ found f.
+          all_on (λ q x. IsMemberAt g.E.Engine.takes g.E.Engine.stands_for c.args.coords q x (opened_member c.args.kinds.now (suc q) (found (suc q)))) c.loop-log.place c.loop-log.members.items c.push.new.self.items c.in_ok-member.member c.in_ok-push.ensures.items c.loop-log.invariant.done (c.loop-log.invariant.opened found f)
+          (c.in_ok-member.ensures.opened c.args.kinds.now (found (suc c.loop-log.place)) (kind_at c.args.kinds.now c.loop-log.place _ _ c.from.ensures (omega (arith, few, c.requires.few, i.left, ap length c.in-Some.ensures.steps.0))) (both_next (λ q l t. IsMemberFound c.args.coords (suc q) l t (found (suc q))) c.loop-log.place c.loop-log.log-iterator.rest.items c.next.new.self.rest.items c.loop-log.pasts.rest.items c.next-in-loop-log.new.self.rest.items c.in-Some.log c.in-Some-next.past c.in-Some.ensures.steps.0 c.in-Some-next.ensures.items (c.loop-log.invariant.found found f)).0);
+      marked = λ found f.
+          marks_on (λ n. member_headers n found) (header_mark (Member (suc c.loop-log.place)) (found (suc c.loop-log.place)).records) c.args.marks.now c.loop-log.marks c.open_member.new.marks c.loop-log.place refl
+          (c.in_ok-member.ensures.marks (found (suc c.loop-log.place)) (both_next (λ q l t. IsMemberFound c.args.coords (suc q) l t (found (suc q))) c.loop-log.place c.loop-log.log-iterator.rest.items c.next.new.self.rest.items c.loop-log.pasts.rest.items c.next-in-loop-log.new.self.rest.items c.in-Some.log c.in-Some-next.past c.in-Some.ensures.steps.0 c.in-Some-next.ensures.items (c.loop-log.invariant.found found f)).0) (c.loop-log.invariant.marked found f);
+      to_keep = to_keep_on Members c.loop-log.place few (g.H.Home.file c.loop-log.home) (g.H.Home.file c.open_member.new.home) (g.H.Home.reach c.loop-log.home) (g.H.Home.reach c.open_member.new.home) c.open_member.ensures.rest.others c.loop-log.log-iterator.rest.items c.next.new.self.rest.items c.in-Some.log c.in-Some.ensures.steps.0
+          (let many : c.loop-log.place + length c.loop-log.log-iterator.rest.items ≡ (length c.args.kinds.now) = c.loop-log.invariant.left in omega (arith, many, c.requires.few)) i.to_keep;
+      kept = kept_on Members c.loop-log.place few (g.H.Home.file c.loop-log.home) (g.H.Home.file c.open_member.new.home) (g.H.Home.reach c.loop-log.home) (g.H.Home.reach c.open_member.new.home) c.open_member.ensures.rest.others (λ x. x.log) c.loop-log.members.items c.push.new.self.items c.in_ok-member.member c.in_ok-push.ensures.items
+          c.loop-log.invariant.done i.kept c.in_ok-member.ensures.kept;
+      clean = λ s was. c.in_ok-member.ensures.clean s (c.loop-log.invariant.clean s was);
+      others = λ k own.
+          leaves (Member (suc c.loop-log.place)) (Coord k) (g.H.Home.file c.args.home.now) (g.H.Home.file c.loop-log.home) (g.H.Home.file c.open_member.new.home) (g.H.Home.reach c.args.home.now) (g.H.Home.reach c.loop-log.home) (g.H.Home.reach c.open_member.new.home)
+          (number_valid Members c.loop-log.place (place_below c.loop-log.place (length c.args.kinds.now) 16 c.loop-log.log-iterator.rest.items c.next.new.self.rest.items c.in-Some.log c.in-Some.ensures.steps.0 c.loop-log.invariant.left c.requires.few)) own (λ e. sorts_apart k (suc c.loop-log.place) e) (c.loop-log.invariant.others k own) c.open_member.ensures.rest.others;
+      entered = c.open_member.ensures.rest.directory ∙ c.loop-log.invariant.entered;
+      quiet = search rules;
+    }

@@ -1,0 +1,26 @@
+-- Nodes that were opened, by their places.
+use Rattle.std.specs.Prelude.{ℕ, suc, List, Option}
+use Rattle.co_base.specs.declared.head.Kind.{Kind}
+use Rattle.co_base.specs.declared.node.Node.TheVariants as node
+use Rattle.co_outside.specs.declared.spot.Spot.{Spot}
+use Rattle.co_outside.specs.Home.{File}
+use Rattle.co_plain.specs.Opening.{Found, opened_member, opened_coord}
+use Rattle.co_state.specs.declared.engine_state.EngineState.{EngineState}
+use Rattle.co_coord.specs.declared.coord.Coord.{Coord}
+use Rattle.co_member.specs.declared.member.Member.{Member}
+use Rattle.co_opening.specs.From.{AllFrom}
+use Rattle.co_opening.specs.Kept.{IsOwnLog}
+use Rattle.co_opening.specs.Nodes.{IsMemberAt, IsCoordAt}
+
+abbrev pub AreMembersAt : {E : Type 0} → (Kind → Type 0) → (E → EngineState → Type 0) → List Kind → ℕ → (ℕ → Found) → List (Member E) → Type 0
+AreMembersAt takes stands_for kinds coords found members = AllFrom (λ p m. IsMemberAt takes stands_for coords p m (opened_member kinds (suc p) (found (suc p)))) 0 members
+
+abbrev pub AreCoordsAt : ℕ → (ℕ → Found) → List Coord → Type 0
+AreCoordsAt members found coords = AllFrom (λ p c. IsCoordAt members p c (opened_coord (suc p) (found (suc p)))) 0 coords
+
+-- the directory keeps the logs of these nodes
+abbrev pub AreOwnMembers : {E : Type 0} → (Spot → Option File) → (Spot → ℕ) → List (Member E) → Type 0
+AreOwnMembers file reach members = AllFrom (λ p m. IsOwnLog file reach (node.Member (suc p)) m.log) 0 members
+
+abbrev pub AreOwnCoords : (Spot → Option File) → (Spot → ℕ) → List Coord → Type 0
+AreOwnCoords file reach coords = AllFrom (λ p c. IsOwnLog file reach (node.Coord (suc p)) c.log) 0 coords

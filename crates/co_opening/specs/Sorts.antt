@@ -1,0 +1,19 @@
+-- The two sorts of nodes.
+use Rattle.std.specs.Prelude.{ℕ, List}
+use Rattle.co_base.specs.declared.node.Node.{Node}
+use Rattle.co_base.specs.declared.node.Node.TheVariants as node
+use Rattle.co_durable.specs.Nodes.{numbered}
+use Rattle.co_opening.specs.declared.sort.Sort.{Sort}
+use Rattle.co_opening.specs.declared.sort.Sort.TheVariants.{Members, Coords}
+
+abbrev pub node_in : Sort → ℕ → Node
+node_in Members number = node.Member number
+node_in Coords number = node.Coord number
+
+-- there are at most so many of a sort
+abbrev pub most_in : Sort → ℕ
+most_in Members = 16
+most_in Coords = 8
+
+abbrev pub nodes_in : Sort → ℕ → List Node
+nodes_in sort count = numbered (node_in sort) count
