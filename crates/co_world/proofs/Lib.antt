@@ -1,1 +1,6 @@
 pub mod Places
+pub mod Ready
+pub mod Acting
+pub mod Ends
+pub mod ClientSteps
+pub mod Operated
