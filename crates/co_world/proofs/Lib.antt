@@ -4,3 +4,4 @@ pub mod Acting
 pub mod Ends
 pub mod ClientSteps
 pub mod Operated
+pub mod Told

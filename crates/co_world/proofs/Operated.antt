@@ -1,22 +1,30 @@
 -- An operation at one member, as a change of the federation that it is in.
+use Rattle.std.specs.Prelude.{IsTrue, false}
 use Rattle.std.proofs.Common.{◌≡◌, ◌≢◌, ◌⊎◌, inl, inr, ℕ, suc, ◌+◌, ◌-◌, ◌≤◌, List, length, set, slice_get, Option, Some, refl, sym, ap, subst, ◌∙◌, arith, length-set}
 use Rattle.co_base.specs.declared.head.Kind.{Kind}
+use Rattle.co_base.specs.declared.op.Op.{Op}
 use Rattle.co_base.specs.declared.node.Node.TheVariants as node
 use Rattle.co_coord.specs.declared.coord.Coord.{Coord}
 use Rattle.co_log.specs.LogView.{LogView}
-use Rattle.co_member.specs.Standing.{RepresentsMember, IsSame}
+use Rattle.co_engine.specs.Calls.{may_operate}
+use Rattle.co_member.specs.Standing.{RepresentsMember, HasAnswered, IsSame}
 use Rattle.co_member.specs.declared.member.Member.{Member}
+use Rattle.co_message.specs.declared.answer.Answer.{Answer}
 use Rattle.co_opening.specs.Nodes.{IsMemberAt, IsKept}
 use Rattle.co_outside.specs.Home.{File}
 use Rattle.co_outside.specs.declared.spot.Spot.{Spot}
 use Rattle.co_plain.specs.Federation.{Federation, with_member}
+use Rattle.co_plain.specs.Invariants.{Memory, view, stands}
+use Rattle.co_plain.specs.Member.{member_op}
 use Rattle.co_plain.specs.Numbers.{has_number}
 use Rattle.co_plain.specs.declared.member_state.MemberState.{MemberState}
 use Rattle.co_session.specs.Clients.{Clients}
 use Rattle.co_state.specs.declared.engine_state.EngineState.{EngineState}
 use Rattle.co_world.specs.Standing.{RepresentsWorld, AreHeld}
 use Rattle.co_world.specs.declared.world.World.{World}
+use Rattle.co_world.specs.Conditions.{IsReady}
 use Rattle.co_world.proofs.Places.{each_changed, set_cases}
+use Rattle.co_world.proofs.Ready.{operable}
 
 -- one member is another one, and all else is the same
 pub record IsChangedAt {E : Type 0} (w after : World E) (p : ℕ) (m n : Member E) : Type 0 where
@@ -63,15 +71,28 @@ module _ {E : Type 0} (w after : World E) (p : ℕ) (m n : Member E) (changed : 
   pub changed_held : (file : Spot → Option File) (reach : Spot → ℕ) → n.log ≡ m.log → AreHeld file reach w → AreHeld file reach after
   changed_held file reach same held =
       record {
-        members = λ i q is. at i q (set_cases w.members.items p i n q (subst (λ (ms : List (Member E)). slice_get ms i ≡ Some q) changed.members is));
-        coords = λ i c is. held.coords i c (subst (λ (cs : List Coord). slice_get cs i ≡ Some c) changed.coords is);
+        member = λ i q is. at i q (set_cases w.members.items p i n q (subst (λ (ms : List (Member E)). slice_get ms i ≡ Some q) changed.members is));
+        coord = λ i c is. held.coord i c (subst (λ (cs : List Coord). slice_get cs i ≡ Some c) changed.coords is);
       }
     where
       now : IsKept file reach (node.Member n.number) n.log
       now =
           subst (λ (k : ℕ). IsKept file reach (node.Member k) n.log) (sym changed.same.number)
-          (subst (λ (l : LogView). IsKept file reach (node.Member m.number) l) (sym same) (held.members p m changed.here))
+          (subst (λ (l : LogView). IsKept file reach (node.Member m.number) l) (sym same) (held.member p m changed.here))
 
       at : (i : ℕ) (q : Member E) → ((p ≡ i) × (n ≡ q)) ⊎ ((p ≢ i) × (slice_get w.members.items i ≡ Some q)) → IsKept file reach (node.Member q.number) q.log
       at i q (inl is) = subst (λ (z : Member E). IsKept file reach (node.Member z.number) z.log) is.1 now
-      at i q (inr is) = held.members i q is.1
+      at i q (inr is) = held.member i q is.1
+
+  -- what the member of a number answered, and what the federation is after it
+  pub record HasOperated (takes : Kind → Type 0) (stands_for : E → EngineState → Type 0) (s : Federation) (k t count : ℕ) (op : Op) (a : Answer) : Type 0 where
+    pub answer : a ≡ (member_op (s.member k) t count op).answer
+    pub state : RepresentsWorld takes stands_for after (with_member s k (member_op (s.member k) t count op).state)
+
+  pub operated_at : (takes : Kind → Type 0) (stands_for : E → EngineState → Type 0) (s : Federation) (k t carried count : ℕ) (op : Op) (a : Answer) → suc p ≡ k → RepresentsWorld takes stands_for w s → IsReady s →
+      carried ≡ count → stands (view Memory (s.member k)) t ≡ false →
+      ((x : MemberState) → RepresentsMember stands_for m x → IsTrue (may_operate x.engine t) → HasAnswered stands_for (member_op x t carried op) a n) → HasOperated takes stands_for s k t count op a
+  operated_at takes stands_for s k t carried count op a number r ready same none did =
+      let here = subst (λ (j : ℕ). RepresentsMember stands_for m (s.member j)) number (r.member p m changed.here).stands in
+      let done = subst (λ (j : ℕ). HasAnswered stands_for (member_op (s.member k) t j op) a n) same (did (s.member k) here (operable s.coordinators (s.member k) t (ready.whole.member k) none)) in
+      record { answer = done.answer; state = changed_stands takes stands_for s k (member_op (s.member k) t count op).state number r done.state }
