@@ -1,7 +1,8 @@
 -- How a call of one node leaves the directory: what was answered of its log write, as one fact, and how the calls do that write nothing.
-use Rattle.std.proofs.Common.{◌≡◌, ◌≢◌, ◌⊎◌, ℕ, Bool, true, false, refl, sym, ap, subst, ◌∙◌, inl, inr}
-use Rattle.std.specs.Prelude.{List, Option, None, Some, is_some, Result, Ok, Err, IfErr, OnOk, IsOk}
+use Rattle.std.proofs.Common.{◌≡◌, ◌≢◌, ◌⊎◌, ℕ, Bool, true, false, refl, sym, ap, subst, ◌∙◌, inl, inr, arith}
+use Rattle.std.specs.Prelude.{List, reverse, Option, None, Some, is_some, Result, Ok, Err, IfErr, OnOk, IsOk}
 use Rattle.co_base.specs.declared.node.Node.{Node}
+use Rattle.co_base.specs.declared.node.Node.TheVariants as node
 use Rattle.co_disk.specs.Homes.{IsClean, HasFailed}
 use Rattle.co_durable.proofs.Spots.{same_or_other, all_stay}
 use Rattle.co_frame.specs.LogText.{most_log_bytes}
@@ -23,6 +24,20 @@ use Rattle.co_coord.specs.Standing.{written_by as written_by_coord}
 use Rattle.co_coord.specs.declared.step.CoordStep.{CoordStep}
 use Rattle.co_member.specs.Attaching.{read_by}
 use Rattle.co_member.specs.Standing.{written_by as written_by_member}
+use Rattle.co_coord.specs.Restating.{restated, IsCheckpointed as IsCoordCheckpointed}
+use Rattle.co_coord.specs.Writing.{IsAnsweredFor as IsCoordAnsweredFor, IsTooLongFor as IsCoordTooLongFor, stable_after as coord_stable_after}
+use Rattle.co_coord.specs.declared.plan.Writes.{Writes as CoordWrites}
+use Rattle.co_member.specs.Checkpoint.{spare_items, IsAnsweredIn, IsCheckpointed as IsMemberCheckpointed}
+use Rattle.co_member.specs.Writing.{IsAnsweredFor as IsMemberAnsweredFor, IsTooLongFor as IsMemberTooLongFor, stable_after as member_stable_after}
+use Rattle.co_member.specs.declared.plan.Writes.{Writes as MemberWrites}
+use Rattle.co_log.specs.Spare.{IsOverfull}
+use Rattle.co_node.specs.Writes.{filled_with}
+use Rattle.co_plain.specs.LogWrite.{generation_of}
+use Rattle.co_plain.specs.MemberLog.{member_spare}
+use Rattle.co_plain.specs.Numbers.{next_generation}
+use Rattle.co_plain.specs.declared.coord_state.CoordState.{CoordState}
+use Rattle.co_plain.specs.declared.log_state.LogState.{LogState}
+use Rattle.co_plain.specs.declared.member_state.MemberState.{MemberState}
 use Rattle.co_member.specs.declared.step.MemberStep.{MemberStep}
 use Rattle.co_world.specs.Served.{IsServed, HasFailedAs}
 
@@ -86,6 +101,63 @@ module _ (owner : Node) (at : Spot) (long : Type 0) (this that : List Record) (l
   coord_ended (Ok d) answered = tt
   coord_ended (Err e) answered = answered_ended (Err e) answered
 
+-- a plan of a member, and one of a coordinator
+pub plan_served : (w : MemberWrites) (owner : Node) (l : LogState) (log after : LogView) (old new : HomeView) (out : Result MemberStep NodeFault) → IsMemberAnsweredFor w owner l log after old new (written_by_member out) → log.node ≡ owner
+    → OtherFilesStay log.node old.file new.file old.reach new.reach → OnOk out (IsServed owner after old new)
+plan_served w owner l log after old new out answered owned stay =
+    member_served owner log.current.spot (IsMemberTooLongFor w log) l.stable (member_stable_after w l) after old new out answered (subst (λ (n : Node). OtherFilesStay n old.file new.file old.reach new.reach) owned stay)
+
+pub plan_ended : (w : MemberWrites) (owner : Node) (l : LogState) (log after : LogView) (old new : HomeView) (out : Result MemberStep NodeFault) → IsMemberAnsweredFor w owner l log after old new (written_by_member out) → IfErr out (λ fault. HasFailedAs fault old new)
+plan_ended w owner l log after old new out answered = member_ended owner log.current.spot (IsMemberTooLongFor w log) l.stable (member_stable_after w l) after old new out answered
+
+pub coord_plan_served : (w : CoordWrites) (owner : Node) (l : LogState) (log after : LogView) (old new : HomeView) (out : Result CoordStep NodeFault) → IsCoordAnsweredFor w owner l log after old new (written_by_coord out) → log.node ≡ owner
+    → OtherFilesStay log.node old.file new.file old.reach new.reach → OnOk out (IsServed owner after old new)
+coord_plan_served w owner l log after old new out answered owned stay =
+    coord_served owner log.current.spot (IsCoordTooLongFor w log) l.stable (coord_stable_after w l) after old new out answered (subst (λ (n : Node). OtherFilesStay n old.file new.file old.reach new.reach) owned stay)
+
+pub coord_plan_ended : (w : CoordWrites) (owner : Node) (l : LogState) (log after : LogView) (old new : HomeView) (out : Result CoordStep NodeFault) → IsCoordAnsweredFor w owner l log after old new (written_by_coord out) → IfErr out (λ fault. HasFailedAs fault old new)
+coord_plan_ended w owner l log after old new out answered = coord_ended owner log.current.spot (IsCoordTooLongFor w log) l.stable (coord_stable_after w l) after old new out answered
+
+-- ---- a checkpoint
+
+checkpoint_by_served : (m : ℕ) (x : MemberState) (log after : LogView) (old new : HomeView) (out : Result MemberStep NodeFault) (closed : Bool) → IsAnsweredIn closed m x log after old new (written_by_member out) → OtherFilesStay (node.Member m) old.file new.file old.reach new.reach
+    → OnOk out (IsServed (node.Member m) after old new)
+checkpoint_by_served m x log after old new out false answered stay = member_served (node.Member m) log.spare.spot ⊥ x.log.stable x.log.stable after old new out answered stay
+checkpoint_by_served m x log after old new out true answered stay =
+    member_served (node.Member m) log.spare.spot (IsOverfull log (spare_items x)) x.log.stable (member_spare m x (next_generation (generation_of x.log.stable))) after old new out answered stay
+
+pub checkpoint_served : (m : ℕ) (x : MemberState) (log after : LogView) (old new : HomeView) (out : Result MemberStep NodeFault) → IsMemberCheckpointed m x log after old new (written_by_member out) → log.node ≡ node.Member m → OtherFilesStay log.node old.file new.file old.reach new.reach
+    → OnOk out (IsServed (node.Member m) after old new)
+checkpoint_served m x log after old new out answered owned stay =
+    checkpoint_by_served m x log after old new out x.log.spare_closed answered (subst (λ (n : Node). OtherFilesStay n old.file new.file old.reach new.reach) owned stay)
+
+checkpoint_by_ended : (m : ℕ) (x : MemberState) (log after : LogView) (old new : HomeView) (out : Result MemberStep NodeFault) (closed : Bool) → IsAnsweredIn closed m x log after old new (written_by_member out) → IfErr out (λ fault. HasFailedAs fault old new)
+checkpoint_by_ended m x log after old new out false answered = member_ended (node.Member m) log.spare.spot ⊥ x.log.stable x.log.stable after old new out answered
+checkpoint_by_ended m x log after old new out true answered =
+    member_ended (node.Member m) log.spare.spot (IsOverfull log (spare_items x)) x.log.stable (member_spare m x (next_generation (generation_of x.log.stable))) after old new out answered
+
+pub checkpoint_ended : (m : ℕ) (x : MemberState) (log after : LogView) (old new : HomeView) (out : Result MemberStep NodeFault) → IsMemberCheckpointed m x log after old new (written_by_member out) → IfErr out (λ fault. HasFailedAs fault old new)
+checkpoint_ended m x log after old new out answered = checkpoint_by_ended m x log after old new out x.log.spare_closed answered
+
+coord_checkpoint_by_served : (owner : Node) (y : CoordState) (log after : LogView) (old new : HomeView) (out : Result CoordStep NodeFault) (closed : Bool) → IsCoordCheckpointed closed owner y log after old new (written_by_coord out) → OtherFilesStay owner old.file new.file old.reach new.reach
+    → OnOk out (IsServed owner after old new)
+coord_checkpoint_by_served owner y log after old new out false answered stay = coord_served owner log.spare.spot ⊥ y.log.stable y.log.stable after old new out answered stay
+coord_checkpoint_by_served owner y log after old new out true answered stay =
+    coord_served owner log.spare.spot (IsOverfull log (reverse (restated y))) y.log.stable (filled_with owner y.log (restated y)) after old new out answered stay
+
+pub coord_checkpoint_served : (owner : Node) (y : CoordState) (log after : LogView) (old new : HomeView) (out : Result CoordStep NodeFault) → IsCoordCheckpointed y.log.spare_closed owner y log after old new (written_by_coord out) → log.node ≡ owner → OtherFilesStay log.node old.file new.file old.reach new.reach
+    → OnOk out (IsServed owner after old new)
+coord_checkpoint_served owner y log after old new out answered owned stay =
+    coord_checkpoint_by_served owner y log after old new out y.log.spare_closed answered (subst (λ (n : Node). OtherFilesStay n old.file new.file old.reach new.reach) owned stay)
+
+coord_checkpoint_by_ended : (owner : Node) (y : CoordState) (log after : LogView) (old new : HomeView) (out : Result CoordStep NodeFault) (closed : Bool) → IsCoordCheckpointed closed owner y log after old new (written_by_coord out) → IfErr out (λ fault. HasFailedAs fault old new)
+coord_checkpoint_by_ended owner y log after old new out false answered = coord_ended owner log.spare.spot ⊥ y.log.stable y.log.stable after old new out answered
+coord_checkpoint_by_ended owner y log after old new out true answered =
+    coord_ended owner log.spare.spot (IsOverfull log (reverse (restated y))) y.log.stable (filled_with owner y.log (restated y)) after old new out answered
+
+pub coord_checkpoint_ended : (owner : Node) (y : CoordState) (log after : LogView) (old new : HomeView) (out : Result CoordStep NodeFault) → IsCoordCheckpointed y.log.spare_closed owner y log after old new (written_by_coord out) → IfErr out (λ fault. HasFailedAs fault old new)
+coord_checkpoint_ended owner y log after old new out answered = coord_checkpoint_by_ended owner y log after old new out y.log.spare_closed answered
+
 -- ---- a call that is not given the directory
 
 pub still_served : {A : Type 0} (out : Result A NodeFault) (owner : Node) (log after : LogView) (home : HomeView) → IsKept home.file home.reach owner log → IsHeld home.file home.reach after → OnOk out (IsServed owner after home home)
@@ -101,7 +173,7 @@ still_ended (Err e) home memory = subst (λ (fault : NodeFault). HasFailedAs fau
 
 pub done_ended : {A : Type 0} (out : Result A NodeFault) (old new : HomeView) → IsOk out → IfErr out (λ fault. HasFailedAs fault old new)
 done_ended (Ok d) old new done = tt
-done_ended (Err e) old new done = absurd done
+done_ended (Err e) old new done = absurd cc
 
 pub others_still : {H : Type 0} (file : H → Spot → Option File) (reach : H → Spot → ℕ) (entered : H → Option (List ℕ)) (faults : H → ℕ) (owner : Node) (home : H) → OtherNodesStay file reach entered faults owner home home
 others_still file reach entered faults owner home = record { others = record { files = λ s a b. refl; reaches = λ s a b. refl }; directory = refl; count = omega arith }
@@ -151,7 +223,7 @@ module _ {H : Type 0} (gives : H → Spot → ℕ → List ℕ → Type 0) (file
       → IfErr out (λ fault. HasFailedAs fault (seen file reach faults last_failed old) (seen file reach faults last_failed new))
   member_unrestarted running (Ok d) stays reread = tt
   member_unrestarted None (Err e) stays reread = reread_ended (Err e) (reread refl)
-  member_unrestarted (Some r) (Err e) stays reread = absurd ((stays refl).0)
+  member_unrestarted (Some r) (Err e) stays reread = let h : false ≡ true = (stays refl).0 in absurd cc
 
   -- so for a coordinator
   pub coord_restarted : (owner : Node) (after : LogView) (up : Bool) (out : Result CoordStep NodeFault) → IsLeft owner after → IsRestarted up gives file reach entered faults last_failed log old new out
@@ -163,5 +235,5 @@ module _ {H : Type 0} (gives : H → Spot → ℕ → List ℕ → Type 0) (file
   pub coord_unrestarted : (up : Bool) (out : Result CoordStep NodeFault) → IsRestarted up gives file reach entered faults last_failed log old new out
       → IfErr out (λ fault. HasFailedAs fault (seen file reach faults last_failed old) (seen file reach faults last_failed new))
   coord_unrestarted up (Ok d) is = tt
-  coord_unrestarted true (Err e) is = absurd is.0
+  coord_unrestarted true (Err e) is = let h : false ≡ true = is.0 in absurd cc
   coord_unrestarted false (Err e) is = reread_ended (Err e) is
