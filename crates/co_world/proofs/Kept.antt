@@ -73,8 +73,8 @@ module _ {E : Type 0} (members : List (Member E)) (coords : List Coord) (are : A
     kept_by_member p m n here same stay now =
         let this = valid_member p m here in
         record {
-          members = λ i q is. stays_at i q (set_cases members p i n q is);
-          coords = λ i c is. other_kept (node.Member m.number) (node.Coord c.number) c.log old.file new.file old.reach new.reach this (valid_coord i c is) (λ e. no_member e) (are.coord i c is).1 stay (kept.coords i c is);
+          member = λ i q is. stays_at i q (set_cases members p i n q is);
+          coord = λ i c is. other_kept (node.Member m.number) (node.Coord c.number) c.log old.file new.file old.reach new.reach this (valid_coord i c is) (λ e. no_member e) (are.coord i c is).1 stay (kept.coord i c is);
         }
       where
         stays_at : (i : ℕ) (q : Member E) → ((p ≡ i) × (n ≡ q)) ⊎ ((p ≢ i) × (slice_get members i ≡ Some q)) → IsKept new.file new.reach (node.Member q.number) q.log
@@ -83,7 +83,7 @@ module _ {E : Type 0} (members : List (Member E)) (coords : List Coord) (are : A
             let one = (are.member p m here).0 in
             let two = (are.member i q is.1).0 in
             let other : node.Member q.number ≢ node.Member m.number = λ e. is.0 (let w = member_number e in omega (arith, w, one, two)) in
-            other_kept (node.Member m.number) (node.Member q.number) q.log old.file new.file old.reach new.reach (valid_member p m here) (valid_member i q is.1) other (are.member i q is.1).1 stay (kept.members i q is.1)
+            other_kept (node.Member m.number) (node.Member q.number) q.log old.file new.file old.reach new.reach (valid_member p m here) (valid_member i q is.1) other (are.member i q is.1).1 stay (kept.member i q is.1)
 
     -- the coordinator at this place did something
     pub kept_by_coord : (p : ℕ) (c d : Coord) → slice_get coords p ≡ Some c → d.number ≡ c.number → OtherFilesStay (node.Coord c.number) old.file new.file old.reach new.reach → IsKept new.file new.reach (node.Coord c.number) d.log
@@ -91,8 +91,8 @@ module _ {E : Type 0} (members : List (Member E)) (coords : List Coord) (are : A
     kept_by_coord p c d here same stay now =
         let this = valid_coord p c here in
         record {
-          members = λ i m is. other_kept (node.Coord c.number) (node.Member m.number) m.log old.file new.file old.reach new.reach this (valid_member i m is) (λ e. no_member (sym e)) (are.member i m is).1 stay (kept.members i m is);
-          coords = λ i q is. stays_at i q (set_cases coords p i d q is);
+          member = λ i m is. other_kept (node.Coord c.number) (node.Member m.number) m.log old.file new.file old.reach new.reach this (valid_member i m is) (λ e. no_member (sym e)) (are.member i m is).1 stay (kept.member i m is);
+          coord = λ i q is. stays_at i q (set_cases coords p i d q is);
         }
       where
         stays_at : (i : ℕ) (q : Coord) → ((p ≡ i) × (d ≡ q)) ⊎ ((p ≢ i) × (slice_get coords i ≡ Some q)) → IsKept new.file new.reach (node.Coord q.number) q.log
@@ -101,4 +101,4 @@ module _ {E : Type 0} (members : List (Member E)) (coords : List Coord) (are : A
             let one = (are.coord p c here).0 in
             let two = (are.coord i q is.1).0 in
             let other : node.Coord q.number ≢ node.Coord c.number = λ e. is.0 (let w = coord_number e in omega (arith, w, one, two)) in
-            other_kept (node.Coord c.number) (node.Coord q.number) q.log old.file new.file old.reach new.reach (valid_coord p c here) (valid_coord i q is.1) other (are.coord i q is.1).1 stay (kept.coords i q is.1)
+            other_kept (node.Coord c.number) (node.Coord q.number) q.log old.file new.file old.reach new.reach (valid_coord p c here) (valid_coord i q is.1) other (are.coord i q is.1).1 stay (kept.coord i q is.1)

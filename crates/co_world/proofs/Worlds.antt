@@ -169,4 +169,4 @@ module _ {E : Type 0} (takes : Kind → Type 0) (stands_for : E → EngineState 
       })
 
   pub noted_held : (w after : World E) (file : Spot → Option File) (reach : Spot → ℕ) → after ≡ record w { wire = after.wire } → AreHeld file reach w → AreHeld file reach after
-  noted_held w after file reach rest held = subst (λ (v : World E). AreHeld file reach v) (sym rest) (record { members = held.members; coords = held.coords })
+  noted_held w after file reach rest held = subst (λ (v : World E). AreHeld file reach v) (sym rest) (record { member = held.member; coord = held.coord })

@@ -66,7 +66,9 @@ impl<E: Engine + Drop> World<E> {
 
     /// An answer that changes nothing.
     pub(crate) fn answers(&self, number: u32, answer: Answer) -> Result<Items, WorldFault>
-        ensures { (s : Federation) → IfOk result (λ items. items ≡ numbered number (answers s answer).items) }
+        ensures count { IsErrOf result WorldFault.Count → ⊥ }
+        ensures items { (s : Federation) → IfOk result (λ items. items ≡ numbered number (answers s answer).items) }
+        ensures ended { (v : HomeView) → IfErr result (λ fault. HasEndedAs fault v v) }
     {
         Ok(items_of(self.alloc, number, &[], &[], answer)?)
     }
