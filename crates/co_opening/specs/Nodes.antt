@@ -35,5 +35,5 @@ pub record IsKept (file : Spot → Option File) (reach : Spot → ℕ) (owner : 
 
 -- the directory holds the logs of all nodes
 pub record AreKept {E : Type 0} (file : Spot → Option File) (reach : Spot → ℕ) (members : List (Member E)) (coords : List Coord) : Type 0 where
-  pub members : (p : ℕ) (m : Member E) → slice_get members p ≡ Some m → IsKept file reach (node.Member m.number) m.log
-  pub coords : (p : ℕ) (c : Coord) → slice_get coords p ≡ Some c → IsKept file reach (node.Coord c.number) c.log
+  pub member : (p : ℕ) (m : Member E) → slice_get members p ≡ Some m → IsKept file reach (node.Member m.number) m.log
+  pub coord : (p : ℕ) (c : Coord) → slice_get coords p ≡ Some c → IsKept file reach (node.Coord c.number) c.log

@@ -5,3 +5,9 @@ pub mod Ends
 pub mod ClientSteps
 pub mod Operated
 pub mod Told
+pub mod Serving
+pub mod Kept
+pub mod Worlds
+pub mod Ending
+pub mod Steps
+pub mod Openings

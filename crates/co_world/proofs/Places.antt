@@ -23,14 +23,14 @@ set_other (x ∷ ms) zero (suc i) m h = refl
 set_other (x ∷ ms) (suc p) zero m h = refl
 set_other (x ∷ ms) (suc p) (suc i) m h = set_other ms p i m (λ e. h (ap suc e))
 
-at_same : {X : Type 0} (f : ℕ → X) (k : ℕ) (x : X) → with_at f k x k ≡ x
+pub at_same : {X : Type 0} (f : ℕ → X) (k : ℕ) (x : X) → with_at f k x k ≡ x
 at_same f k x = by (k == k) refl
   where
     by : (b : Bool) → (k == k) ≡ b → (if b then x else f k) ≡ x
     by true e = refl
     by false e = absurd (let w : (k == k) ≡ true = eq-eqb k k refl in cc)
 
-at_other : {X : Type 0} (f : ℕ → X) (k i : ℕ) (x : X) → k ≢ i → with_at f k x i ≡ f i
+pub at_other : {X : Type 0} (f : ℕ → X) (k i : ℕ) (x : X) → k ≢ i → with_at f k x i ≡ f i
 at_other f k i x h = by (k == i) refl
   where
     by : (b : Bool) → (k == i) ≡ b → (if b then x else f i) ≡ f i

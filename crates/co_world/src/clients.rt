@@ -144,8 +144,8 @@ impl<E: Engine + Drop> World<E> {
         if !self.coord_up(coord) {
             return self.answers(number, Answer::Down(Node::Coord(coord)));
         }
-        let did = self.coord_does(home, coord, CoordCall::Begin(t))?;
         self.sessions.begin(t, Node::Coord(coord))?;
+        let did = self.coord_does(home, coord, CoordCall::Begin(t))?;
         self.tells_of_coord(number, did)
     }
 

@@ -1,6 +1,5 @@
 //! The federation, and what one of its nodes does in it.
 ghost use Rattle.std.specs.Prelude.{◌≡◌, ◌≤◌, ℕ, Option, length, IfOk, IfErr, IsErrOf, OnOk};
-ghost use Rattle.co_durable.specs.declared.fault.WorldFault.TheVariants as world;
 ghost use Rattle.co_outside.specs.Home.{File};
 ghost use Rattle.co_outside.specs.declared.spot.Spot.{Spot};
 ghost use Rattle.co_plain.specs.Federation.{Federation, answers, with_member, with_coord, noted, items_of};
@@ -67,8 +66,9 @@ impl<E: Engine + Drop> World<E> {
 
     /// An answer that changes nothing.
     pub(crate) fn answers(&self, number: u32, answer: Answer) -> Result<Items, WorldFault>
+        ensures count { IsErrOf result WorldFault.Count → ⊥ }
         ensures items { (s : Federation) → IfOk result (λ items. items ≡ numbered number (answers s answer).items) }
-        ensures memory { IfErr result (λ fault. fault ≡ world.Memory) }
+        ensures ended { (v : HomeView) → IfErr result (λ fault. HasEndedAs fault v v) }
     {
         Ok(items_of(self.alloc, number, &[], &[], answer)?)
     }
