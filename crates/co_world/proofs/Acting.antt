@@ -1,6 +1,6 @@
 -- What a client may do, and what its session is after it: of the sessions of a federation on its logs as of those of the plain one.
 use Rattle.std.proofs.Common.{◌≡◌, ◌≢◌, ◌⊎◌, inl, inr, ℕ, Bool, true, false, not, ◌||◌, ◌≤◌, if◌then◌else◌, List, [], ◌∷◌, length, Option, None, Some, Result, Ok, Err, refl, sym, ap, ◌∙◌, subst, arith}
-use Rattle.std.specs.Prelude.{IfOk, IfErr}
+use Rattle.std.specs.Prelude.{◌↔◌}
 use Rattle.co_base.specs.declared.head.Kind.{Kind}
 use Rattle.co_base.specs.declared.node.Node.{Node}
 use Rattle.co_base.specs.declared.node.Node.TheVariants as node
@@ -21,6 +21,7 @@ use Rattle.co_schedule.specs.View.{IsNode}
 use Rattle.co_session.specs.Clients.{Clients, is_used as is_used_in, changed, with_begun, with_answered, with_asked}
 use Rattle.co_session.specs.Leaves.{IsLeave, leave_by, leave_in, refusal_of}
 use Rattle.co_session.specs.declared.fault.SessionFault.{SessionFault}
+use Rattle.co_session.specs.declared.fault.SessionFault.TheVariants.{Used}
 use Rattle.co_world.specs.Standing.{RepresentsWorld}
 use Rattle.co_world.specs.declared.world.World.{World}
 
@@ -73,6 +74,16 @@ end_granted (Some home) session e = let two = unasked home session e in (ap Some
 -- and who was not may end
 pub may_end : (o : Option Session) (session : Session) → o ≡ Some session → session.asked ≡ false → leave_to_end o ≡ Grants session
 may_end o session is not_asked = ap leave_to_end is ∙ ap (λ b. if b then Refuses answer.Asked else Grants session) not_asked
+
+-- a number that may not be begun, and is not used, is one more than there may be
+pub none_left : (fault : SessionFault) (used full : Bool) → (fault ≡ Used → ⊥) → ((false ≡ true) ↔ ((used ≡ false) × (full ≡ false))) →
+    ((◌≡◌ {A = Result (Unit {0}) SessionFault} (Err fault) (Err Used)) ↔ (used ≡ true)) → (used ≡ false) × (full ≡ true)
+none_left fault true full other ok is = absurd (other (let e = is.1 refl in cc))
+none_left fault false false other ok is = absurd (let w : false ≡ true = ok.1 (refl, refl) in cc)
+none_left fault false true other ok is = (refl, refl)
+
+pub some_is : {A : Type 0} {a b : A} → Some a ≡ Some b → a ≡ b
+some_is e = cc
 
 -- ---- one more session, or another one
 

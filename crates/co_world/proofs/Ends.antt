@@ -33,8 +33,8 @@ module _ {A : Type 0} where
   wants_memory (Err fault) u v q h = subst (λ (k : WorldFault). HasEndedAs k u v) (sym h) q
 
   pub no_limit : (result : Result A WorldFault) → IfErr result (λ fault. fault ≡ world.Memory) → result ≡ Err world.Count → ⊥
-  no_limit (Ok a) h e = let w : Ok a ≡ Err world.Count = e in absurd (cc)
-  no_limit (Err fault) h e = let w : Err {T = A} fault ≡ Err world.Count = e in absurd (cc)
+  no_limit (Ok a) h e = let w : ◌≡◌ {A = Result A WorldFault} (Ok a) (Err world.Count) = e in absurd (cc)
+  no_limit (Err fault) h e = let w : ◌≡◌ {A = Result A WorldFault} (Err fault) (Err world.Count) = e in absurd (cc)
 
   -- a fault that is passed on
   pub errs_as : (fault : WorldFault) (result : Result A WorldFault) → IsErr result × IsErrAnd result (λ f. f ≡ fault) → result ≡ Err fault

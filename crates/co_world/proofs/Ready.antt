@@ -76,6 +76,7 @@ installed_alike (i ∷ is) t = ap (λ b. (i.txn == t) || b) (installed_alike is 
 pub operable : (coords : ℕ) (x : MemberState) (t : ℕ) → IsWholeMember coords x → stands (view Memory x) t ≡ false → IsTrue (may_operate x.engine t)
 operable coords x t whole none = by (was_installed x.engine.installed t) refl
   where
+    two : (holds x.engine.voted t ≡ false) × (holds x.committed t ≡ false)
     two = neither (holds x.engine.voted t) (holds x.committed t) none
 
     by : (b : Bool) → was_installed x.engine.installed t ≡ b → (not (holds x.engine.voted t) && not (is_installed x.engine.installed t)) ≡ true

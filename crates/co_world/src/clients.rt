@@ -106,7 +106,6 @@ fn reply_in(alloc: Global, answer: &Answer) -> Result<Option<Reply>, AllocError>
 
 impl<E: Engine + Drop> World<E> {
     /// Why a number may not be begun, where it may not.
-    #[tactic(none)]
     fn used(&self, t: Txn) -> Result<bool, WorldFault>
         ensures used { IfOk result (λ used. used ≡ is_used self.now.sessions t) }
         ensures room { IfOk result (λ used. used ≡ false → is_full self.now.sessions ≡ false) }
@@ -114,13 +113,16 @@ impl<E: Engine + Drop> World<E> {
     {
         match self.sessions.may_begin(t) {
             Ok(()) => Ok(false),
-            Err(SessionFault::Used) => Ok(true),
-            Err(_) => Err(WorldFault::Count),
+            Err(fault) => match fault {
+                SessionFault::Used => Ok(true),
+                SessionFault::NotBegun => Err(WorldFault::Count),
+                SessionFault::Asked => Err(WorldFault::Count),
+                SessionFault::Count => Err(WorldFault::Count),
+            },
         }
     }
 
     /// A client begins at a coordinator. The number is used up only where the coordinator is up.
-    #[tactic(none)]
     pub(crate) fn begin<H: Home>(
         &mut self,
         home: &mut H,
@@ -150,7 +152,6 @@ impl<E: Engine + Drop> World<E> {
     }
 
     /// A client begins a transaction at a member, which decides it alone.
-    #[tactic(none)]
     pub(crate) fn begin_local(
         &mut self,
         number: u32,
@@ -175,7 +176,6 @@ impl<E: Engine + Drop> World<E> {
     }
 
     /// A client asks for an operation.
-    #[tactic(none)]
     pub(crate) fn operate(
         &mut self,
         number: u32,
@@ -198,7 +198,6 @@ impl<E: Engine + Drop> World<E> {
     }
 
     /// An operation of a transaction whose client may act: a reply is entered in its session.
-    #[tactic(none)]
     fn operated(&mut self, number: u32, t: Txn, member: u8, op: Op) -> Result<Items, WorldFault>
         requires in_head { (1 ≤ member) × (member ≤ length self.old.members.items) }
         requires stands { (s : Federation) × RepresentsWorld E.takes E.stands_for self.old s × IsReady s × ((session : Session) × (leave_to_visit (look s.sessions t) member ≡ Grants session)) }
@@ -217,7 +216,6 @@ impl<E: Engine + Drop> World<E> {
     }
 
     /// An operation of a transaction whose client may act, at a member that is up.
-    #[tactic(none)]
     fn op_at(&mut self, t: Txn, member: u8, op: &Op) -> Result<Answer, WorldFault>
         requires in_head { (1 ≤ member) × (member ≤ length self.old.members.items) }
         requires stands { (s : Federation) × (session : Session) × RepresentsWorld E.takes E.stands_for self.old s × IsReady s × ((s.member member).up ≡ true) × (leave_to_visit (look s.sessions t) member ≡ Grants session) }
@@ -237,7 +235,6 @@ impl<E: Engine + Drop> World<E> {
     }
 
     /// A reply is entered in the session of its transaction.
-    #[tactic(none)]
     fn enter(&mut self, t: Txn, member: u8, op: Op, answer: &Answer) -> Result<(), WorldFault>
         requires in_head { (1 ≤ member) × (member ≤ 16) }
         requires begun { holds self.old.sessions.sessions t ≡ true }
@@ -254,7 +251,6 @@ impl<E: Engine + Drop> World<E> {
     }
 
     /// The session is marked asked, where its deciding node answered.
-    #[tactic(none)]
     fn mark_asked(&mut self, t: Txn, answered: bool)
         requires begun { holds self.old.sessions.sessions t ≡ true }
         ensures stands { (s : Federation) → RepresentsWorld E.takes E.stands_for self.old s → (session : Session) → look s.sessions t ≡ Some session →
@@ -267,7 +263,6 @@ impl<E: Engine + Drop> World<E> {
     }
 
     /// A client asks the deciding node for the end of a transaction.
-    #[tactic(none)]
     pub(crate) fn end<H: Home>(
         &mut self,
         home: &mut H,
@@ -292,7 +287,6 @@ impl<E: Engine + Drop> World<E> {
     }
 
     /// A coordinator is asked for the end. The session is marked asked where it was not stopped.
-    #[tactic(none)]
     fn end_at_coord<H: Home>(
         &mut self,
         home: &mut H,
@@ -321,7 +315,6 @@ impl<E: Engine + Drop> World<E> {
     }
 
     /// The member of a local transaction is asked for the end. The session is marked asked where the commit is not held.
-    #[tactic(none)]
     fn end_at_member<H: Home>(
         &mut self,
         home: &mut H,
