@@ -45,7 +45,7 @@ module _ {E : Type 0} (w after : World E) (p : ℕ) (m n : Member E) (changed : 
         coordinators = ap length changed.coords ∙ r.coordinators;
         few_members = r.few_members;
         few_coordinators = r.few_coordinators;
-        member = λ i q at. each i q (subst (λ (ms : List (Member E)). slice_get ms i ≡ Some q) changed.members at);
+        member = λ i q at. each_changed (IsMemberAt takes stands_for s.coordinators) w.members.items s.member p n x r.member new i q (subst (λ (ms : List (Member E)). slice_get ms i ≡ Some q) changed.members at);
         coord = λ i c at. r.coord i c (subst (λ (cs : List Coord). slice_get cs i ≡ Some c) changed.coords at);
         sessions = ap (λ (c : Clients). c.sessions) changed.sessions ∙ r.sessions;
         used = λ t. ap (λ (c : Clients). has_number c.used t) changed.sessions ∙ r.used t;
@@ -64,8 +64,6 @@ module _ {E : Type 0} (w after : World E) (p : ℕ) (m n : Member E) (changed : 
             taken = subst takes (sym changed.same.kind) old.taken;
             stands = now;
           }
-
-      each = each_changed (IsMemberAt takes stands_for s.coordinators) w.members.items s.member p n x r.member new
 
   -- a log that is the same one is held as before
   pub changed_held : (file : Spot → Option File) (reach : Spot → ℕ) → n.log ≡ m.log → AreHeld file reach w → AreHeld file reach after
