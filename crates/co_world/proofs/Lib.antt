@@ -11,3 +11,4 @@ pub mod Worlds
 pub mod Ending
 pub mod Steps
 pub mod Openings
+pub mod Arriving

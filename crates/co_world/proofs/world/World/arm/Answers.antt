@@ -1,10 +1,20 @@
 use Rattle.std.proofs.Common.{◌≡◌, ◌≤◌, ℕ, Bool, Some, Err, length, refl, sym, ap, ◌∙◌, subst}
-use Rattle.std.specs.Prelude.{IfOk, OnOk}
+use Rattle.std.specs.Prelude.{ℕ, List, IfOk, OnOk, IsErrOf, ◌↔◌}
+use Rattle.co_base.specs.declared.leaves.Leaves.{Leaves}
+use Rattle.co_base.specs.declared.op.Op.{Op}
+use Rattle.co_base.specs.declared.op.Op.TheVariants as op
+use Rattle.co_base.specs.declared.range.Range.{Range}
+use Rattle.co_durable.specs.declared.fault.WorldFault.TheVariants as world
+use Rattle.co_plain.specs.Step.{operate}
+use Rattle.co_world.specs.Counting.{MeetsLimit}
+use Rattle.co_world.specs.Served.{AreServed}
+use Rattle.co_world.proofs.Arriving.{receiver_in_head, delivers_to_member, delivers_to_coord, never_sent, unsent_is}
+use Rattle.co_plain.specs.Wire.{was_sent}
+use Rattle.co_message.specs.declared.message.Message.{Message}
 use Rattle.co_base.specs.declared.node.Node.{Node}
 use Rattle.co_base.specs.declared.node.Node.TheVariants as node
 use Rattle.co_message.specs.declared.answer.Answer.TheVariants as answer
 use Rattle.co_message.specs.declared.event.Event.{Event}
-use Rattle.co_message.specs.declared.message.Message.{Message}
 use Rattle.co_node.specs.Answers.{seen}
 use Rattle.co_plain.specs.Federation.{answers, with_member, with_coord}
 use Rattle.co_plain.specs.MemberLog.{member_restart}
@@ -19,6 +29,14 @@ use Rattle.co_world.proofs.Ending.{told_ended}
 use Rattle.co_world.proofs.Ready.{takes_note, votes_again, checkpoints_member, restarts_member, hears_note, checkpoints_coord, restarts_coord}
 use Rattle.co_world.proofs.Told.{told_as, stands_as, answered_stands, coord_told, coord_stands, member_told, member_stands}
 use Rattle.co_world.proofs.world.World.arm.Goals as goal
+
+pub returns-in_err-leaves-clause-count : goal.returns-in_err-leaves-clause-count
+returns-in_err-leaves-clause-count g c =
+    no_limit c.from_residual.result (passed_memory _ c.from_residual.result c.from_residual.ensures refl)
+
+pub returns-in_err-leaves-clause-ended : goal.returns-in_err-leaves-clause-ended
+returns-in_err-leaves-clause-ended g c =
+    wants_memory c.from_residual.result (seen g.H.Home.file g.H.Home.reach g.H.Home.faults g.H.Home.last_failed c.args.home.now) (seen g.H.Home.file g.H.Home.reach g.H.Home.faults g.H.Home.last_failed c.args.home.now) refl (passed_memory _ c.from_residual.result c.from_residual.ensures refl)
 
 pub at_member-requires-clause-in_head : goal.at_member-requires-clause-in_head
 at_member-requires-clause-in_head g c =
@@ -37,11 +55,11 @@ returns-in-Member-clause-count g c =
 
 pub returns-in-Member-clause-items : goal.returns-in-Member-clause-items
 returns-in-Member-clause-items g c = λ s r.
-    subst (λ (n : Node). IfOk c.at_member.result (λ items. items ≡ numbered c.args.number (arm_at s c.args.call c.args.leaves n).items)) (sym c.in-Member.is) (c.at_member.ensures.items s r)
+    told_as c.args.number c.at_member.result _ (arm_at s c.args.call c.args.leaves.now c.args.node) (λ i. arm_at s c.args.call (c.in_ok-leaves.ensures i) (sym c.in-Member.is i)) (c.at_member.ensures.items s r)
 
 pub returns-in-Member-clause-stands : goal.returns-in-Member-clause-stands
 returns-in-Member-clause-stands g c = λ s r.
-    subst (λ (n : Node). OnOk c.at_member.result (RepresentsWorld g.E.Engine.takes g.E.Engine.stands_for c.at_member.new.self (arm_at s c.args.call c.args.leaves n).state)) (sym c.in-Member.is) (c.at_member.ensures.stands s r)
+    stands_as g.E.Engine.takes g.E.Engine.stands_for c.at_member.result c.at_member.new.self _ (arm_at s c.args.call c.args.leaves.now c.args.node) (λ i. arm_at s c.args.call (c.in_ok-leaves.ensures i) (sym c.in-Member.is i)) (c.at_member.ensures.stands s r)
 
 pub returns-in-Member-clause-served : goal.returns-in-Member-clause-served
 returns-in-Member-clause-served g c =
@@ -68,11 +86,11 @@ returns-in-Coord-clause-count g c =
 
 pub returns-in-Coord-clause-items : goal.returns-in-Coord-clause-items
 returns-in-Coord-clause-items g c = λ s r.
-    subst (λ (n : Node). IfOk c.at_coord.result (λ items. items ≡ numbered c.args.number (arm_at s c.args.call c.args.leaves n).items)) (sym c.in-Coord.is) (c.at_coord.ensures.items s r)
+    told_as c.args.number c.at_coord.result _ (arm_at s c.args.call c.args.leaves.now c.args.node) (λ i. arm_at s c.args.call (c.in_ok-leaves.ensures i) (sym c.in-Coord.is i)) (c.at_coord.ensures.items s r)
 
 pub returns-in-Coord-clause-stands : goal.returns-in-Coord-clause-stands
 returns-in-Coord-clause-stands g c = λ s r.
-    subst (λ (n : Node). OnOk c.at_coord.result (RepresentsWorld g.E.Engine.takes g.E.Engine.stands_for c.at_coord.new.self (arm_at s c.args.call c.args.leaves n).state)) (sym c.in-Coord.is) (c.at_coord.ensures.stands s r)
+    stands_as g.E.Engine.takes g.E.Engine.stands_for c.at_coord.result c.at_coord.new.self _ (arm_at s c.args.call c.args.leaves.now c.args.node) (λ i. arm_at s c.args.call (c.in_ok-leaves.ensures i) (sym c.in-Coord.is i)) (c.at_coord.ensures.stands s r)
 
 pub returns-in-Coord-clause-served : goal.returns-in-Coord-clause-served
 returns-in-Coord-clause-served g c =
