@@ -5,3 +5,6 @@ pub mod Worlds
 pub mod Ending
 pub mod Steps
 pub mod Openings
+pub mod Leaving
+pub mod CoordLeaving
+pub mod Lefts

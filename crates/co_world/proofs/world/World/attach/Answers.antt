@@ -17,6 +17,6 @@ returns-in_err-members-clause-untouched g c =
 pub returns-clause-opened : goal.returns-clause-opened
 returns-clause-opened g c =
     let n = c.in_ok-members.field-0 in
-    let sessions = c.in_ok-sessions.ensures ∙ ap none_begun c.in_ok-members.used-is in
-    let told = c.in_ok-items.ensures ∙ ap (λ (ms : List Mark). numbered 1 (items_of ms [] answer.Opened)) (c.as_slice.ensures ∙ c.in_ok-members.marks-is) in
+    let sessions : c.in_ok-sessions.sessions ≡ none_begun n.used = c.in_ok-sessions.ensures in
+    let told : c.in_ok-items.items ≡ numbered 1 (items_of n.marks [] answer.Opened) = c.in_ok-items.ensures ∙ ap (λ (ms : List Mark). numbered 1 (items_of ms [] answer.Opened)) c.as_slice.ensures in
     attached_over g.E.Engine.takes g.E.Engine.stands_for (g.H.Home.file c.args.home.now) c.args.head.now c.args.resume n _ c.in_ok-items.items c.args.head.now.members c.args.head.now.coordinators c.in_ok-members.ensures.opened refl refl sessions c.new.ensures told
