@@ -25,13 +25,15 @@ use Rattle.co_coord.proofs.Steps.{commit_is, deliver_is}
 use Rattle.co_coord.specs.Plans.{carried, carried_out, commit_plan, deliver_plan, txn_of}
 use Rattle.co_coord.specs.Restating.{restated, IsCheckpointed}
 use Rattle.co_coord.specs.Standing.{written_by}
-use Rattle.co_coord.specs.Writing.{stable_after}
+use Rattle.co_coord.specs.Writing.{IsAnsweredFor, IsTooLongFor, stable_after}
+use Rattle.co_node.specs.NodeLog.{RepresentsLog}
+use Rattle.co_opening.specs.Nodes.{IsKept}
 use Rattle.co_coord.specs.declared.plan.Plan.{Plan}
 use Rattle.co_coord.specs.declared.plan.Writes.{Writes}
 use Rattle.co_coord.specs.declared.plan.Writes.TheVariants.{Nothing, Forces, Keeps}
 use Rattle.co_coord.specs.declared.step.CoordStep.{CoordStep}
 use Rattle.co_world.specs.Left.{coord_disarmed}
-use Rattle.co_world.proofs.Leaving.{fault_left}
+use Rattle.co_world.proofs.Leaving.{fault_left, kept_left}
 
 carried_stable : (w : Writes) (c : ℕ) (y : CoordState) (next : CoordState) (a : Answer) (sent : List Message) → next.log ≡ with_stop y.log None → (carried w c next a sent).state.log.stable ≡ stable_after w y.log
 carried_stable Nothing c y next a sent is = ap (λ (k : LogState). k.stable) is
@@ -66,3 +68,8 @@ checkpoint_by_left c y log after old new out true answered before =
 pub checkpoint_left : (c : ℕ) (y : CoordState) (log after : LogView) (old new : HomeView) (out : Result CoordStep NodeFault) → IsCheckpointed y.log.spare_closed (node.Coord c) y log after old new (written_by out) → ((that : List Record) → LeftAs old.file (node.Coord c) y.log.stable that)
     → OnErr out (LeftAs new.file (node.Coord c) y.log.stable (coord_checkpoint c (coord_disarmed y)).state.log.stable)
 checkpoint_left c y log after old new out answered before = checkpoint_by_left c y log after old new out y.log.spare_closed answered before
+
+pub plan_left : (w : Writes) (owner : Node) (y : CoordState) (log after : LogView) (old new : HomeView) (out : Result CoordStep NodeFault) (completed : List Record) → stable_after w y.log ≡ completed → RepresentsLog owner log y.log → IsKept old.file old.reach owner log
+    → IsAnsweredFor w owner y.log log after old new (written_by out) → OnErr out (LeftAs new.file owner y.log.stable completed)
+plan_left w owner y log after old new out completed same stands kept answered =
+    coord_left owner log.current.spot (IsTooLongFor w log) y.log.stable (stable_after w y.log) after old new out completed same answered (kept_left owner old.file old.reach log y.log (stable_after w y.log) stands kept)

@@ -1,6 +1,6 @@
 -- What the log write of an event leaves of the stable records of its node, where no stop is armed.
-use Rattle.std.proofs.Common.{◌≡◌, ◌⊎◌, ℕ, Bool, true, false, List, [], ◌∷◌, refl, sym, ap, subst, ◌∙◌, inl, inr}
-use Rattle.std.specs.Prelude.{Option, None, Some, if◌then◌else◌, ◌==◌, Result, Ok, Err, OnErr}
+use Rattle.std.proofs.Common.{◌≡◌, ◌⊎◌, ℕ, Bool, true, false, List, [], ◌∷◌, ◌++◌, refl, sym, ap, subst, ◌∙◌, inl, inr}
+use Rattle.std.specs.Prelude.{Option, None, Some, if◌then◌else◌, ◌==◌, Result, Ok, Err, IsOk, OnErr}
 use Rattle.co_base.specs.declared.node.Node.{Node}
 use Rattle.co_base.specs.declared.node.Node.TheVariants as node
 use Rattle.co_log.specs.LogView.{LogView}
@@ -38,7 +38,9 @@ use Rattle.co_member.proofs.Steps.{deliver_is, vote_is, local_commit_is}
 use Rattle.co_member.specs.Checkpoint.{spare_items, IsAnsweredIn, IsCheckpointed}
 use Rattle.co_member.specs.Plans.{txn_of, changed, carried, carried_out, prepare_plan, deliver_plan, again_plan, asked_plan, local_commit_plan, marked, marked_by, decide_plan}
 use Rattle.co_member.specs.Standing.{written_by}
-use Rattle.co_member.specs.Writing.{stable_after}
+use Rattle.co_member.specs.Writing.{IsAnsweredFor, IsTooLongFor, stable_after}
+use Rattle.co_log.specs.Others.{OtherFilesStay}
+use Rattle.co_world.proofs.Serving.{files_stay}
 use Rattle.co_member.specs.declared.plan.Plan.{Plan}
 use Rattle.co_member.specs.declared.plan.Writes.{Writes}
 use Rattle.co_member.specs.declared.plan.Writes.TheVariants.{Nothing, Keeps, Forces, ForcesBoth}
@@ -158,3 +160,24 @@ checkpoint_by_left m x log after old new out true answered before =
 pub checkpoint_left : (m : ℕ) (x : MemberState) (log after : LogView) (old new : HomeView) (out : Result MemberStep NodeFault) → IsCheckpointed m x log after old new (written_by out) → ((that : List Record) → LeftAs old.file (node.Member m) x.log.stable that)
     → OnErr out (LeftAs new.file (node.Member m) x.log.stable (member_checkpoint m (member_disarmed x)).state.log.stable)
 checkpoint_left m x log after old new out answered before = checkpoint_by_left m x log after old new out x.log.spare_closed answered before
+
+-- ---- by the calls of a member
+
+pub plan_left : (w : Writes) (owner : Node) (l : LogState) (log after : LogView) (old new : HomeView) (out : Result MemberStep NodeFault) (completed : List Record) → stable_after w l ≡ completed → RepresentsLog owner log l → IsKept old.file old.reach owner log
+    → IsAnsweredFor w owner l log after old new (written_by out) → OnErr out (LeftAs new.file owner l.stable completed)
+plan_left w owner l log after old new out completed same stands kept answered =
+    member_left owner log.current.spot (IsTooLongFor w log) l.stable (stable_after w l) after old new out completed same answered (kept_left owner old.file old.reach log l (stable_after w l) stands kept)
+
+pub still_left : {A : Type 0} (out : Result A NodeFault) (owner : Node) (file : Spot → Option File) (reach : Spot → ℕ) (log : LogView) (l : LogState) (that : List Record) → RepresentsLog owner log l → IsKept file reach owner log → OnErr out (LeftAs file owner l.stable that)
+still_left out owner file reach log l that stands kept = at_fault out (kept_left owner file reach log l that stands kept)
+
+pub never_left : {A : Type 0} (out : Result A NodeFault) (P : Type 0) → IsOk out → OnErr out P
+never_left (Ok d) P done = tt
+never_left (Err e) P done = absurd cc
+
+-- a restart leaves the files of its node
+pub restart_left : {A : Type 0} (out : Result A NodeFault) (owner : Node) (file after : Spot → Option File) (reach further : Spot → ℕ) (log : LogView) (l : LogState) (that : List Record) → RepresentsLog owner log l → IsKept file reach owner log
+    → after log.current.spot ≡ file log.current.spot → after log.spare.spot ≡ file log.spare.spot → OtherFilesStay log.node file after reach further → OnErr out (LeftAs after owner l.stable that)
+restart_left out owner file after reach further log l that stands kept current spare stay =
+    let same = files_stay owner log file after reach further stands.owned kept.held.spots current spare (subst (λ (n : Node). OtherFilesStay n file after reach further) stands.owned stay) in
+    at_fault out (subst (λ (f : Spot → Option File). LeftAs f owner l.stable that) (sym (λ i s. same s i)) (kept_left owner file reach log l that stands kept))
