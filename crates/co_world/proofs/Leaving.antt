@@ -129,7 +129,7 @@ kept_left owner file reach log l that s kept told =
     let here = told_records owner file reach log l s kept.held kept.within told in
     (here.0, here.1, inl here.2)
 
-pub at_fault : {A : Type 0} (out : Result A NodeFault) {P : Type 0} → P → OnErr out P
+pub at_fault : {A F : Type 0} (out : Result A F) {P : Type 0} → P → OnErr out P
 at_fault (Ok d) p = tt
 at_fault (Err e) p = p
 

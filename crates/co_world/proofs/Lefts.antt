@@ -12,19 +12,28 @@ use Rattle.co_node.proofs.Opened.{told_records}
 use Rattle.co_node.specs.Answers.{AreTold, LeftAs}
 use Rattle.co_outside.specs.Home.{File}
 use Rattle.co_outside.specs.declared.spot.Spot.{Spot}
-use Rattle.co_plain.specs.Federation.{Federation, with_member, with_coord}
-use Rattle.co_plain.specs.Step.{disarmed}
+use Rattle.co_base.specs.declared.mark.Mark.{Mark}
+use Rattle.co_message.specs.declared.message.Message.{Message}
+use Rattle.co_plain.specs.Federation.{Federation, message_list, noted, with_member, with_coord}
+use Rattle.co_plain.specs.Step.{disarmed, up_member, up_coord}
+use Rattle.co_plain.specs.declared.coord_step.CoordStep.{CoordStep as PlainCoordStep}
+use Rattle.co_plain.specs.declared.member_step.MemberStep.{MemberStep as PlainMemberStep}
+use Rattle.co_coord.specs.Standing.{RepresentsCoord}
+use Rattle.co_member.specs.Standing.{RepresentsMember}
+use Rattle.co_world.specs.Calls.{member_does, coord_does}
+use Rattle.co_world.specs.declared.calls.CoordCall.{CoordCall}
+use Rattle.co_world.specs.declared.calls.MemberCall.{MemberCall}
 use Rattle.co_plain.specs.declared.coord_state.CoordState.{CoordState}
 use Rattle.co_plain.specs.declared.member_state.MemberState.{MemberState}
 use Rattle.co_frame.specs.LogText.{most_log_bytes}
 use Rattle.co_log.specs.Attaching.{IsWithin}
 use Rattle.co_world.proofs.Kept.{apart}
-use Rattle.co_world.proofs.Places.{at_other, at_same}
+use Rattle.co_world.proofs.Places.{at_other, at_same, within_list}
 use Rattle.co_record.specs.declared.record.Record.{Record}
 use Rattle.co_state.specs.declared.engine_state.EngineState.{EngineState}
 use Rattle.co_coord.specs.declared.coord.Coord.{Coord}
 use Rattle.co_member.specs.declared.member.Member.{Member}
-use Rattle.co_world.specs.Left.{HasStable, AreLeftAs}
+use Rattle.co_world.specs.Left.{HasStable, AreLeftAs, AreLeftBy, member_disarmed, coord_disarmed}
 use Rattle.co_world.specs.Standing.{RepresentsWorld, AreHeld}
 use Rattle.co_world.specs.declared.world.World.{World}
 
@@ -191,3 +200,53 @@ module _ (s : Federation) (few : AreFew s) (file after : Spot → Option File) (
           inr
           (coord_left_as k (with_coord (disarmed s) k y) from to stay refl refl (λ i other. ap (λ (z : CoordState). z.log.stable) (at_other (disarmed s).coord k i y other)) (λ m. refl)
           (subst (λ (z : CoordState). HasStable after (node.Coord k) z.log.stable) (sym (at_same (disarmed s).coord k y)) new))
+
+module _ {E : Type 0} (takes : Kind → Type 0) (stands_for : E → EngineState → Type 0) (w : World E) (s : Federation) (stands : RepresentsWorld takes stands_for w s) (file after : Spot → Option File) (reach further : Spot → ℕ) (held : AreHeld file reach w) where
+  -- a fault at the member of a number
+  pub member_fault : (k p : ℕ) (m : Member E) (call : MemberCall) → suc p ≡ k → slice_get w.members.items p ≡ Some m → OtherFilesStay (node.Member m.number) file after reach further
+      → ((x : MemberState) → RepresentsMember stands_for m x → LeftAs after (node.Member m.number) x.log.stable (member_does m.number call (member_disarmed x)).state.log.stable)
+      → AreLeftAs after s ⊎ AreLeftAs after (with_member (disarmed s) k (member_does k call (member_disarmed (s.member k))).state)
+  member_fault k p m call next is stay left =
+      let here = stands.member p m is in
+      let number : m.number ≡ k = here.number ∙ next in
+      let below = within_list w.members.items p m is in
+      let few : AreFew s = record { members = stands.few_members; coords = stands.few_coordinators } in
+      let at_p = left (s.member (suc p)) here.stands in
+      let at_number = subst (λ (j : ℕ). LeftAs after (node.Member j) (s.member (suc p)).log.stable (member_does j call (member_disarmed (s.member (suc p)))).state.log.stable) number at_p in
+      let at_k = subst (λ (j : ℕ). LeftAs after (node.Member k) (s.member j).log.stable (member_does k call (member_disarmed (s.member j))).state.log.stable) next at_number in
+      member_fault_left s few file after reach further (held_left takes stands_for w s file reach stands held) k (member_does k call (member_disarmed (s.member k))).state (omega (arith, next)) (omega (arith, below, stands.kinds, next))
+      (subst (λ (j : ℕ). OtherFilesStay (node.Member j) file after reach further) number stay) at_k
+
+  -- so for a coordinator
+  pub coord_fault : (k p : ℕ) (c : Coord) (call : CoordCall) → suc p ≡ k → slice_get w.coords.items p ≡ Some c → OtherFilesStay (node.Coord c.number) file after reach further
+      → ((y : CoordState) → RepresentsCoord c y → LeftAs after (node.Coord c.number) y.log.stable (coord_does c.number call (coord_disarmed y)).state.log.stable)
+      → AreLeftAs after s ⊎ AreLeftAs after (with_coord (disarmed s) k (coord_does k call (coord_disarmed (s.coord k))).state)
+  coord_fault k p c call next is stay left =
+      let here = stands.coord p c is in
+      let number : c.number ≡ k = here.number ∙ next in
+      let below = within_list w.coords.items p c is in
+      let few : AreFew s = record { members = stands.few_members; coords = stands.few_coordinators } in
+      let at_p = left (s.coord (suc p)) here.stands in
+      let at_number = subst (λ (j : ℕ). LeftAs after (node.Coord j) (s.coord (suc p)).log.stable (coord_does j call (coord_disarmed (s.coord (suc p)))).state.log.stable) number at_p in
+      let at_k = subst (λ (j : ℕ). LeftAs after (node.Coord k) (s.coord j).log.stable (coord_does k call (coord_disarmed (s.coord j))).state.log.stable) next at_number in
+      coord_fault_left s few file after reach further (held_left takes stands_for w s file reach stands held) k (coord_does k call (coord_disarmed (s.coord k))).state (omega (arith, next)) (omega (arith, below, stands.coordinators, next))
+      (subst (λ (j : ℕ). OtherFilesStay (node.Coord j) file after reach further) number stay) at_k
+
+-- ---- a step of the federation
+
+-- decisions and messages are in no file
+noted_left : (file : Spot → Option File) (s : Federation) (marks : List Mark) (messages : List Message) → AreLeftAs file s → AreLeftAs file (noted s marks messages)
+noted_left file s marks messages left = record { member = left.member; coord = left.coord }
+
+pub member_step_left : (file : Spot → Option File) (s : Federation) (k : ℕ) (up : Bool) (did : PlainMemberStep) → up ≡ true → AreLeftAs file (with_member s k did.state) → AreLeftAs file (up_member s k up did).state
+member_step_left file s k up did is left =
+    subst (λ (b : Bool). AreLeftAs file (up_member s k b did).state) (sym is) (noted_left file (with_member s k did.state) did.marks (message_list did.sent) left)
+
+pub coord_step_left : (file : Spot → Option File) (s : Federation) (k : ℕ) (up : Bool) (did : PlainCoordStep) → up ≡ true → AreLeftAs file (with_coord s k did.state) → AreLeftAs file (up_coord s k up did).state
+coord_step_left file s k up did is left =
+    subst (λ (b : Bool). AreLeftAs file (up_coord s k b did).state) (sym is) (noted_left file (with_coord s k did.state) did.marks did.sent left)
+
+-- a fault at a node that was up
+pub either_left : (file : Spot → Option File) (before after completed other : Federation) → (AreLeftAs file other → AreLeftAs file completed) → AreLeftAs file before ⊎ AreLeftAs file other → AreLeftBy file before after completed
+either_left file before after completed other so (inl old) = inl old
+either_left file before after completed other so (inr new) = inr (inr (so new))
