@@ -1,5 +1,5 @@
 -- How the fault of an event is told: that of a node as that of its federation, and want of memory behind what a node did.
-use Rattle.std.proofs.Common.{◌≡◌, ℕ, refl, sym, ap, subst, ◌∙◌, arith}
+use Rattle.std.proofs.Common.{◌≡◌, refl, sym, ap, subst, arith}
 use Rattle.std.specs.Prelude.{Result, Ok, Err, IfErr, IsErr, IsErrOf, min, ◌≤◌, ◌+◌, ◌-◌, ◌^◌}
 use Rattle.std.specs.Result.{IsErrAnd}
 use Rattle.co_durable.specs.declared.fault.WorldFault.{WorldFault}

@@ -1,6 +1,6 @@
 -- What the log write of an event leaves of the stable records of its node, where no stop is armed.
 use Rattle.std.proofs.Common.{◌≡◌, ◌⊎◌, ℕ, Bool, true, false, List, [], ◌∷◌, ◌++◌, refl, sym, ap, subst, ◌∙◌, inl, inr}
-use Rattle.std.specs.Prelude.{Option, None, Some, if◌then◌else◌, ◌==◌, Result, Ok, Err, IsOk, OnErr}
+use Rattle.std.specs.Prelude.{Option, None, Some, Result, Ok, Err, IsOk, OnErr}
 use Rattle.co_base.specs.declared.node.Node.{Node}
 use Rattle.co_base.specs.declared.node.Node.TheVariants as node
 use Rattle.co_log.specs.LogView.{LogView}
@@ -12,14 +12,13 @@ use Rattle.co_message.specs.declared.message.Message.TheVariants as message
 use Rattle.co_node.proofs.Opened.{told_records}
 use Rattle.co_node.specs.Answers.{HomeView, LeftAs, IsAnswered}
 use Rattle.co_node.specs.NodeLog.{RepresentsLog}
-use Rattle.co_node.specs.declared.written.Written.{Written}
 use Rattle.co_opening.specs.Nodes.{IsKept}
 use Rattle.co_outside.specs.Home.{File}
 use Rattle.co_outside.specs.declared.spot.Spot.{Spot}
-use Rattle.co_plain.specs.LogWrite.{outcome_of, with_stop, with_spare, with_filled_spare}
+use Rattle.co_plain.specs.LogWrite.{outcome_of, with_stop}
 use Rattle.co_plain.specs.LocalCommit.{member_local_commit}
-use Rattle.co_plain.specs.Member.{coord_of, member_deliver, member_vote}
-use Rattle.co_plain.specs.MemberLog.{checkpoint_by, member_checkpoint, fill_by, close_by, member_spare}
+use Rattle.co_plain.specs.Member.{member_deliver, member_vote}
+use Rattle.co_plain.specs.MemberLog.{checkpoint_by, member_checkpoint, member_spare}
 use Rattle.co_plain.specs.MemberStep.{forced_by, standing_of}
 use Rattle.co_plain.specs.LogWrite.{generation_of}
 use Rattle.co_plain.specs.declared.member_step.MemberStep.{MemberStep as PlainStep}
@@ -36,7 +35,7 @@ use Rattle.co_state.specs.Table.{look}
 use Rattle.co_member.proofs.Carrying.{changed_log}
 use Rattle.co_member.proofs.Steps.{deliver_is, vote_is, local_commit_is}
 use Rattle.co_member.specs.Checkpoint.{spare_items, IsAnsweredIn, IsCheckpointed}
-use Rattle.co_member.specs.Plans.{txn_of, changed, carried, carried_out, prepare_plan, deliver_plan, again_plan, asked_plan, local_commit_plan, marked, marked_by, decide_plan}
+use Rattle.co_member.specs.Plans.{txn_of, changed, carried, carried_out, prepare_plan, deliver_plan, again_plan, asked_plan, local_commit_plan, marked, marked_by}
 use Rattle.co_member.specs.Standing.{written_by}
 use Rattle.co_member.specs.Writing.{IsAnsweredFor, IsTooLongFor, stable_after}
 use Rattle.co_log.specs.Others.{OtherFilesStay}

@@ -1,5 +1,5 @@
 -- What a fault of one node leaves in the files of all nodes.
-use Rattle.std.proofs.Common.{◌≡◌, ◌≢◌, ◌⊎◌, ◌==◌, ℕ, zero, [], ◌∷◌, suc, pred, ◌-◌, ◌<◌, ◌≤◌, Bool, true, false, List, length, slice_get, Option, None, Some, refl, sym, ap, subst, ◌∙◌, inl, inr, arith}
+use Rattle.std.proofs.Common.{◌≡◌, ◌≢◌, ◌⊎◌, ◌==◌, ℕ, zero, [], ◌∷◌, suc, ◌-◌, ◌<◌, ◌≤◌, Bool, true, false, List, length, slice_get, Option, None, Some, refl, sym, ap, subst, ◌∙◌, inl, inr, arith}
 use Rattle.std.proofs.lemmas.Bool.{eqb-true, eqb-false}
 use Rattle.co_base.specs.Nodes.{IsValidNode}
 use Rattle.co_base.specs.declared.head.Kind.{Kind}
@@ -89,6 +89,7 @@ left_split file owner this that left = by (are_told file owner)
     which : (items : Items) → HasRecordsIn file owner items → (newest_first items ≡ this) ⊎ (newest_first items ≡ that) → HasStable file owner this ⊎ HasStable file owner that
     which items has (inl e) = inl (λ told. (items, has, e))
     which items has (inr e) = inr (λ told. (items, has, e))
+
     by : AreTold file owner ⊎ (AreTold file owner → ⊥) → HasStable file owner this ⊎ HasStable file owner that
     by (inl told) = let h = left told in which h.0 h.1 h.2
     by (inr not_told) = inl (λ told. absurd (not_told told))
@@ -99,8 +100,7 @@ other_stable this that file after reach further records one two other stay has t
     let same_a = stay.files (spot_of that 0) (apart this that 0 0 one two other) (apart this that 0 1 one two other) in
     let same_b = stay.files (spot_of that 1) (apart this that 1 0 one two other) (apart this that 1 1 one two other) in
     let found = has (record { a = told.a; b = told.b; is_a = sym same_a ∙ told.is_a; is_b = sym same_b ∙ told.is_b }) in
-    let old = found.1.1 in
-    (
+    let old = found.1.1 in (
       found.0,
       (
         found.1.0,

@@ -1,5 +1,5 @@
 -- A federation over the nodes that were opened.
-use Rattle.std.proofs.Common.{◌≡◌, ◌≤◌, ◌++◌, ℕ, suc, Bool, List, [], length, slice_get, Option, Some, refl, sym, ap, subst, ◌∙◌}
+use Rattle.std.proofs.Common.{◌≡◌, ◌≤◌, Bool, List, [], length, slice_get, Option, Some, ap, subst, ◌∙◌}
 use Rattle.co_base.specs.declared.head.Head.{Head}
 use Rattle.co_base.specs.declared.head.Kind.{Kind}
 use Rattle.co_base.specs.declared.mark.Mark.{Mark}
@@ -12,8 +12,6 @@ use Rattle.co_plain.specs.Numbers.{has_number}
 use Rattle.co_plain.specs.Runs.{numbered}
 use Rattle.co_session.specs.Clients.{Clients, none_begun}
 use Rattle.co_state.specs.declared.engine_state.EngineState.{EngineState}
-use Rattle.co_coord.specs.declared.coord.Coord.{Coord}
-use Rattle.co_member.specs.declared.member.Member.{Member}
 use Rattle.co_opening.specs.Opened.{AreOpened}
 use Rattle.co_opening.specs.declared.nodes.Nodes.{Nodes}
 use Rattle.co_world.specs.Attached.{IsAttachedOver}

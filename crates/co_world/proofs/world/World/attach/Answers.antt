@@ -1,4 +1,4 @@
-use Rattle.std.proofs.Common.{◌≡◌, List, [], refl, sym, ap, ◌∙◌}
+use Rattle.std.proofs.Common.{◌≡◌, List, [], refl, ap, ◌∙◌}
 use Rattle.co_base.specs.declared.mark.Mark.{Mark}
 use Rattle.co_message.specs.declared.answer.Answer.TheVariants as answer
 use Rattle.co_opening.specs.Opened.{IsOfFound}

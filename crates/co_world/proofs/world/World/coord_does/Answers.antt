@@ -1,10 +1,8 @@
-use Rattle.std.proofs.Common.{◌≡◌, ◌<◌, ◌-◌, length, suc, refl, sym, ap, subst, ◌∙◌, arith}
-use Rattle.std.specs.Prelude.{ℕ, slice_get, Some}
+use Rattle.std.proofs.Common.{◌≡◌, ◌<◌, ◌-◌, length, suc, refl, sym, subst, arith}
+use Rattle.std.specs.Prelude.{ℕ}
 use Rattle.std.specs.Vec.{with_item}
-use Rattle.co_base.specs.declared.node.Node.{Node}
-use Rattle.co_base.specs.declared.node.Node.TheVariants as node
 use Rattle.co_node.specs.Answers.{seen}
-use Rattle.co_world.specs.Calls.{MemberMay, CoordMay}
+use Rattle.co_world.specs.Calls.{CoordMay}
 use Rattle.co_world.proofs.Kept.{kept_by_coord}
 use Rattle.co_world.proofs.Lefts.{coord_fault}
 use Rattle.co_world.proofs.Places.{at_place}

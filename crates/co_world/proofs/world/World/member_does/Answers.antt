@@ -1,10 +1,8 @@
-use Rattle.std.proofs.Common.{◌≡◌, ◌<◌, ◌-◌, length, suc, refl, sym, ap, subst, ◌∙◌, arith}
-use Rattle.std.specs.Prelude.{ℕ, slice_get, Some}
+use Rattle.std.proofs.Common.{◌≡◌, ◌<◌, ◌-◌, length, suc, refl, sym, subst, arith}
+use Rattle.std.specs.Prelude.{ℕ}
 use Rattle.std.specs.Vec.{with_item}
-use Rattle.co_base.specs.declared.node.Node.{Node}
-use Rattle.co_base.specs.declared.node.Node.TheVariants as node
 use Rattle.co_node.specs.Answers.{seen}
-use Rattle.co_world.specs.Calls.{MemberMay, CoordMay}
+use Rattle.co_world.specs.Calls.{MemberMay}
 use Rattle.co_world.proofs.Kept.{kept_by_member}
 use Rattle.co_world.proofs.Lefts.{member_fault}
 use Rattle.co_world.proofs.Places.{at_place}
@@ -33,7 +31,7 @@ member_does-requires-clause-stands g c =
     let here = at_place w.members.items (c.from.result - 1) c.index_mut.result.now place c.index_mut.ensures.value in
     let s = c.requires.stands.0 in
     let asked = member_asked g.E.Engine.takes g.E.Engine.stands_for w s (c.from.result - 1) c.index_mut.result.now c.args.call c.requires.stands.1 here
-        (subst (λ (k : ℕ). MemberMay s.coordinators c.args.call (s.member k)) (sym next) c.requires.stands.2) in
+    (subst (λ (k : ℕ). MemberMay s.coordinators c.args.call (s.member k)) (sym next) c.requires.stands.2) in
     asked.stands
 
 pub returns-in-Ok-clause-told : goal.returns-in-Ok-clause-told
