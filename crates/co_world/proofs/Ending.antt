@@ -1,6 +1,7 @@
 -- How the fault of an event is told: that of a node as that of its federation, and want of memory behind what a node did.
-use Rattle.std.proofs.Common.{◌≡◌, ℕ, refl, sym, ap, subst, ◌∙◌, arith}
-use Rattle.std.specs.Prelude.{Result, Ok, Err, IfErr, IsErrOf, min, ◌≤◌, ◌+◌, ◌-◌, ◌^◌}
+use Rattle.std.proofs.Common.{◌≡◌, refl, sym, ap, subst, arith}
+use Rattle.std.specs.Prelude.{Result, Ok, Err, IfErr, IsErr, IsErrOf, min, ◌≤◌, ◌+◌, ◌-◌, ◌^◌}
+use Rattle.std.specs.Result.{IsErrAnd}
 use Rattle.co_durable.specs.declared.fault.WorldFault.{WorldFault}
 use Rattle.co_durable.specs.declared.fault.WorldFault.TheVariants as world
 use Rattle.co_log.specs.declared.fault.NodeFault.{NodeFault}
@@ -44,3 +45,8 @@ quiet_ended world.Memory old new ended some quiet = quiet
 pub told_ended : {A : Type 0} (out : Result A WorldFault) (old new : HomeView) → ((v : HomeView) → IfErr out (λ fault. HasEndedAs fault v v)) → (IsErrOf out world.Count → ⊥) → new.faults ≡ old.faults → IfErr out (λ fault. HasEndedAs fault old new)
 told_ended (Ok a) old new ended some quiet = tt
 told_ended (Err fault) old new ended some quiet = quiet_ended fault old new ended (λ is. some (ap Err is)) quiet
+
+-- a fault that is passed on
+pub passed_on : {A : Type 0} (out : Result A WorldFault) (fault : WorldFault) (P : WorldFault → Type 0) → IsErr out × IsErrAnd out (λ e. e ≡ fault) → P fault → IfErr out P
+passed_on (Ok a) fault P is p = tt
+passed_on (Err e) fault P is p = subst P (sym is.1) p

@@ -1,7 +1,7 @@
 -- What one node does leaves the logs of all others held.
-use Rattle.std.proofs.Common.{◌≡◌, ◌≢◌, ◌⊎◌, ℕ, suc, ◌<◌, ◌≤◌, List, refl, sym, ap, subst, ◌∙◌, inl, inr, arith, set, slice_get, Option, Some}
+use Rattle.std.proofs.Common.{◌≡◌, ◌≢◌, ◌⊎◌, ℕ, suc, ◌≤◌, List, sym, ap, subst, ◌∙◌, inl, inr, arith, set, slice_get, Option, Some}
 use Rattle.std.specs.Prelude.{length}
-use Rattle.co_base.specs.Nodes.{IsValidNode, node_byte}
+use Rattle.co_base.specs.Nodes.{IsValidNode}
 use Rattle.co_base.specs.declared.node.Node.{Node}
 use Rattle.co_base.specs.declared.node.Node.TheVariants as node
 use Rattle.co_frame.specs.LogText.{most_log_bytes}
@@ -15,7 +15,6 @@ use Rattle.co_outside.specs.Home.{File}
 use Rattle.co_outside.specs.declared.spot.Spot.{Spot}
 use Rattle.co_coord.specs.declared.coord.Coord.{Coord}
 use Rattle.co_member.specs.declared.member.Member.{Member}
-use Rattle.co_world.specs.Served.{IsServed}
 use Rattle.co_world.proofs.Places.{set_cases, within_list}
 
 -- the files of two nodes are at other places

@@ -12,3 +12,6 @@ pub mod Ending
 pub mod Steps
 pub mod Openings
 pub mod Arriving
+pub mod Leaving
+pub mod CoordLeaving
+pub mod Lefts

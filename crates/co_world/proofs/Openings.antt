@@ -1,8 +1,9 @@
 -- A federation over the nodes that were opened.
-use Rattle.std.proofs.Common.{◌≡◌, ◌≤◌, ◌++◌, ℕ, suc, Bool, List, [], length, slice_get, Option, Some, refl, sym, ap, subst, ◌∙◌}
+use Rattle.std.proofs.Common.{◌≡◌, ◌≤◌, Bool, List, [], length, slice_get, Option, Some, sym, ap, subst, ◌∙◌}
 use Rattle.co_base.specs.declared.head.Head.{Head}
 use Rattle.co_base.specs.declared.head.Kind.{Kind}
 use Rattle.co_base.specs.declared.mark.Mark.{Mark}
+use Rattle.co_law_base.proofs.Lookups.{is_nothing, look_none}
 use Rattle.co_message.specs.declared.answer.Answer.TheVariants as answer
 use Rattle.co_message.specs.declared.item.Item.{Item}
 use Rattle.co_outside.specs.Home.{File}
@@ -12,8 +13,6 @@ use Rattle.co_plain.specs.Numbers.{has_number}
 use Rattle.co_plain.specs.Runs.{numbered}
 use Rattle.co_session.specs.Clients.{Clients, none_begun}
 use Rattle.co_state.specs.declared.engine_state.EngineState.{EngineState}
-use Rattle.co_coord.specs.declared.coord.Coord.{Coord}
-use Rattle.co_member.specs.declared.member.Member.{Member}
 use Rattle.co_opening.specs.Opened.{AreOpened}
 use Rattle.co_opening.specs.declared.nodes.Nodes.{Nodes}
 use Rattle.co_world.specs.Attached.{IsAttachedOver}
@@ -39,6 +38,7 @@ attached_over takes stands_for file head resume n w items few_members few_coords
         sessions = ap (λ (x : Clients). x.sessions) sessions;
         used = λ t. ap (λ (x : Clients). has_number x.used t) sessions ∙ opened.used t;
         wire = wire;
+        homes = λ t session is. is_nothing (sym (look_none t) ∙ is);
       };
       told = told ∙ ap (λ (marks : List Mark). numbered 1 (items_of marks [] answer.Opened)) opened.marks;
     }

@@ -1,5 +1,5 @@
 -- A list of nodes beside a family by number: the node at each place goes with the entry of the next number.
-use Rattle.std.proofs.Common.{◌≡◌, T, ℕ, zero, suc, ◌<◌, ◌≢◌, ◌⊎◌, inl, inr, eqb→eq, eq-eqb, Bool, true, false, if◌then◌else◌, List, [], ◌∷◌, length, set, slice_get, get_or, Option, None, Some, refl, sym, ap, ◌∙◌, subst, arith, pred}
+use Rattle.std.proofs.Common.{◌≡◌, T, ℕ, zero, suc, ◌<◌, ◌≢◌, ◌⊎◌, inl, inr, eqb→eq, eq-eqb, Bool, true, false, if◌then◌else◌, List, [], ◌∷◌, length, set, slice_get, get_or, None, Some, refl, sym, ap, ◌∙◌, subst, arith, pred}
 use Rattle.std.specs.Prelude.{◌==◌}
 use Rattle.co_serial.specs.SerialRun.{with_at}
 

@@ -3,7 +3,7 @@ use Rattle.std.proofs.Common.{◌≡◌, ◌≢◌, ◌⊎◌, ℕ, Bool, true, 
 use Rattle.std.specs.Prelude.{List, reverse, Option, None, Some, is_some, Result, Ok, Err, IfErr, OnOk, IsOk}
 use Rattle.co_base.specs.declared.node.Node.{Node}
 use Rattle.co_base.specs.declared.node.Node.TheVariants as node
-use Rattle.co_disk.specs.Homes.{IsClean, HasFailed}
+use Rattle.co_disk.specs.Homes.{IsClean}
 use Rattle.co_durable.proofs.Spots.{same_or_other, all_stay}
 use Rattle.co_frame.specs.LogText.{most_log_bytes}
 use Rattle.co_log.specs.Attaching.{IsWithin}
@@ -11,15 +11,14 @@ use Rattle.co_log.specs.LogView.{LogView, IsHeld, HasSpots, spot_of}
 use Rattle.co_log.specs.Others.{OtherFilesStay, OtherNodesStay}
 use Rattle.co_log.specs.declared.fault.NodeFault.{NodeFault}
 use Rattle.co_log.specs.declared.fault.NodeFault.TheVariants.{Device, Differs, Full, Memory}
-use Rattle.co_node.specs.Answers.{HomeView, seen, AreWithin, IsAnswered, IsServed as IsServedNode}
+use Rattle.co_node.specs.Answers.{HomeView, seen, IsAnswered}
 use Rattle.co_node.specs.Rereading.{IsReread}
 use Rattle.co_node.specs.declared.written.Written.{Written}
 use Rattle.co_opening.specs.Nodes.{IsKept}
-use Rattle.co_outside.specs.Faults.{HasRisen}
 use Rattle.co_outside.specs.Home.{File}
 use Rattle.co_outside.specs.declared.spot.Spot.{Spot}
 use Rattle.co_record.specs.declared.record.Record.{Record}
-use Rattle.co_coord.specs.Opening.{IsRestarted, reread_by}
+use Rattle.co_coord.specs.Opening.{IsRestarted}
 use Rattle.co_coord.specs.Standing.{written_by as written_by_coord}
 use Rattle.co_coord.specs.declared.step.CoordStep.{CoordStep}
 use Rattle.co_member.specs.Attaching.{read_by}
@@ -61,6 +60,7 @@ files_stay owner log file after reach further owned spots current spare stay =
     at_a : HasSpots log → after (spot_of owner 0) ≡ file (spot_of owner 0)
     at_a (inl own) = subst (λ (s : Spot). after s ≡ file s) (own.0 ∙ ap (λ (n : Node). spot_of n 0) owned) current
     at_a (inr own) = subst (λ (s : Spot). after s ≡ file s) (own.1 ∙ ap (λ (n : Node). spot_of n 0) owned) spare
+
     at_b : HasSpots log → after (spot_of owner 1) ≡ file (spot_of owner 1)
     at_b (inl own) = subst (λ (s : Spot). after s ≡ file s) (own.1 ∙ ap (λ (n : Node). spot_of n 1) owned) spare
     at_b (inr own) = subst (λ (s : Spot). after s ≡ file s) (own.0 ∙ ap (λ (n : Node). spot_of n 1) owned) current

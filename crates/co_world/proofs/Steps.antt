@@ -1,13 +1,8 @@
 -- What a node did, as a step of the federation.
-use Rattle.std.proofs.Common.{◌≡◌, ℕ, Bool, true, false, List, Option, refl, sym, ap, subst, ◌∙◌}
-use Rattle.co_base.specs.declared.mark.Mark.{Mark}
+use Rattle.std.proofs.Common.{◌≡◌, ℕ, Bool, true, false, sym, ap}
 use Rattle.co_base.specs.declared.node.Node.TheVariants as node
-use Rattle.co_message.specs.declared.answer.Answer.{Answer}
 use Rattle.co_message.specs.declared.answer.Answer.TheVariants as answer
-use Rattle.co_message.specs.declared.item.Item.{Item}
-use Rattle.co_message.specs.declared.message.Message.{Message}
-use Rattle.co_plain.specs.Federation.{Federation, Stepped, answers, noted, items_of, message_list, at_member, at_coord, with_member, with_coord}
-use Rattle.co_plain.specs.Runs.{numbered}
+use Rattle.co_plain.specs.Federation.{Federation, answers, noted, items_of, message_list, at_member, at_coord, with_member, with_coord}
 use Rattle.co_plain.specs.Step.{up_member, up_coord}
 use Rattle.co_plain.specs.declared.coord_step.CoordStep.{CoordStep as PlainCoordStep}
 use Rattle.co_plain.specs.declared.member_step.MemberStep.{MemberStep as PlainMemberStep}

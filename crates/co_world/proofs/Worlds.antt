@@ -1,13 +1,10 @@
 -- What one node does, as a change of the federation that it is in.
-use Rattle.std.proofs.Common.{◌≡◌, ℕ, suc, ◌+◌, ◌-◌, ◌<◌, ◌≤◌, List, length, set, slice_get, get_or, Option, None, Some, refl, sym, ap, subst, ◌∙◌, arith, length-set}
-use Rattle.std.specs.Prelude.{Bool, is_some}
+use Rattle.std.proofs.Common.{◌≡◌, ℕ, suc, List, length, set, slice_get, Option, Some, sym, ap, subst, ◌∙◌, arith, length-set}
+use Rattle.std.specs.Prelude.{is_some}
 use Rattle.co_base.specs.declared.head.Kind.{Kind}
-use Rattle.co_base.specs.declared.node.Node.TheVariants as node
 use Rattle.co_plain.specs.Federation.{Federation, with_member, with_coord, noted}
 use Rattle.co_plain.specs.declared.coord_state.CoordState.{CoordState}
-use Rattle.co_plain.specs.declared.coord_step.CoordStep.{CoordStep as PlainCoordStep}
 use Rattle.co_plain.specs.declared.member_state.MemberState.{MemberState}
-use Rattle.co_plain.specs.declared.member_step.MemberStep.{MemberStep as PlainMemberStep}
 use Rattle.co_base.specs.declared.mark.Mark.{Mark}
 use Rattle.co_message.specs.declared.message.Message.{Message}
 use Rattle.co_outside.specs.Home.{File}
@@ -30,7 +27,7 @@ use Rattle.co_world.specs.declared.calls.CoordCall.{CoordCall}
 use Rattle.co_world.specs.declared.calls.MemberCall.{MemberCall}
 use Rattle.co_world.specs.declared.world.World.{World}
 use Rattle.co_world.proofs.Kept.{AreNumbered}
-use Rattle.co_world.proofs.Places.{at_place, each_changed}
+use Rattle.co_world.proofs.Places.{each_changed}
 
 module _ {E : Type 0} (takes : Kind → Type 0) (stands_for : E → EngineState → Type 0) where
   -- the nodes of a federation that stands have the next numbers and their own logs

@@ -1,5 +1,5 @@
-use Rattle.std.proofs.Common.{◌≡◌, ◌<◌, ◌-◌, length, suc, sym, ap, subst, ◌∙◌, arith}
-use Rattle.std.specs.Prelude.{ℕ, is_some, slice_get, Some}
+use Rattle.std.proofs.Common.{◌≡◌, ◌<◌, ◌-◌, length, suc, sym, ap, ◌∙◌, arith}
+use Rattle.std.specs.Prelude.{ℕ}
 use Rattle.co_world.proofs.Places.{at_place}
 use Rattle.co_world.proofs.Worlds.{coord_up_is}
 use Rattle.co_world.proofs.world.World.coord_up.Goals as goal

@@ -1,11 +1,10 @@
-use Rattle.std.proofs.Common.{◌≡◌, ◌<◌, ◌-◌, length, suc, refl, sym, ap, subst, ◌∙◌, arith}
-use Rattle.std.specs.Prelude.{ℕ, slice_get, Some}
+use Rattle.std.proofs.Common.{◌≡◌, ◌<◌, ◌-◌, length, suc, refl, sym, subst, arith}
+use Rattle.std.specs.Prelude.{ℕ}
 use Rattle.std.specs.Vec.{with_item}
-use Rattle.co_base.specs.declared.node.Node.{Node}
-use Rattle.co_base.specs.declared.node.Node.TheVariants as node
 use Rattle.co_node.specs.Answers.{seen}
-use Rattle.co_world.specs.Calls.{MemberMay, CoordMay}
+use Rattle.co_world.specs.Calls.{MemberMay}
 use Rattle.co_world.proofs.Kept.{kept_by_member}
+use Rattle.co_world.proofs.Lefts.{member_fault}
 use Rattle.co_world.proofs.Places.{at_place}
 use Rattle.co_world.proofs.Worlds.{are_numbered, member_asked, member_did}
 use Rattle.co_world.proofs.world.World.member_does.Goals as goal
@@ -32,7 +31,7 @@ member_does-requires-clause-stands g c =
     let here = at_place w.members.items (c.from.result - 1) c.index_mut.result.now place c.index_mut.ensures.value in
     let s = c.requires.stands.0 in
     let asked = member_asked g.E.Engine.takes g.E.Engine.stands_for w s (c.from.result - 1) c.index_mut.result.now c.args.call c.requires.stands.1 here
-        (subst (λ (k : ℕ). MemberMay s.coordinators c.args.call (s.member k)) (sym next) c.requires.stands.2) in
+    (subst (λ (k : ℕ). MemberMay s.coordinators c.args.call (s.member k)) (sym next) c.requires.stands.2) in
     asked.stands
 
 pub returns-in-Ok-clause-told : goal.returns-in-Ok-clause-told
@@ -67,3 +66,11 @@ returns-in-Ok-clause-served g c =
       clean = served.clean;
       quiet = served.quiet;
     }
+
+pub returns-in-Err-clause-left : goal.returns-in-Err-clause-left
+returns-in-Err-clause-left g c = λ s r.
+    let w = c.args.self.now in
+    let place : c.from.result - 1 < length w.members.items = omega arith in
+    let next : suc (c.from.result - 1) ≡ c.args.member = omega arith in
+    let here = at_place w.members.items (c.from.result - 1) c.index_mut.result.now place c.index_mut.ensures.value in
+    member_fault g.E.Engine.takes g.E.Engine.stands_for w s r (g.H.Home.file c.args.home.now) (g.H.Home.file c.member_does.new.home) (g.H.Home.reach c.args.home.now) (g.H.Home.reach c.member_does.new.home) c.requires.held c.args.member (c.from.result - 1) c.index_mut.result.now c.args.call next here c.in-Err.ensures.rest.others c.in-Err.ensures.left
