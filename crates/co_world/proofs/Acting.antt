@@ -1,24 +1,21 @@
 -- What a client may do, and what its session is after it: of the sessions of a federation on its logs as of those of the plain one.
-use Rattle.std.proofs.Common.{◌≡◌, ◌≢◌, ◌⊎◌, inl, inr, ℕ, Bool, true, false, not, ◌||◌, ◌≤◌, if◌then◌else◌, List, [], ◌∷◌, length, Option, None, Some, Result, Ok, Err, refl, sym, ap, ◌∙◌, subst, arith}
+use Rattle.std.proofs.Common.{◌≡◌, ◌≢◌, ◌⊎◌, inl, inr, ℕ, Bool, true, false, ◌||◌, ◌≤◌, if◌then◌else◌, length, Option, None, Some, Result, Ok, Err, refl, sym, ap, ◌∙◌, subst}
 use Rattle.std.specs.Prelude.{◌↔◌}
 use Rattle.co_base.specs.declared.head.Kind.{Kind}
 use Rattle.co_base.specs.declared.node.Node.{Node}
 use Rattle.co_base.specs.declared.node.Node.TheVariants as node
-use Rattle.co_base.specs.declared.op.Op.{Op}
-use Rattle.co_base.specs.declared.reply.Reply.{Reply}
 use Rattle.co_message.specs.declared.answer.Answer.{Answer}
 use Rattle.co_message.specs.declared.answer.Answer.TheVariants as answer
 use Rattle.co_state.specs.declared.engine_state.EngineState.{EngineState}
 use Rattle.co_state.specs.Table.{look, put, holds}
 use Rattle.co_plain.specs.declared.session.Session.{Session}
-use Rattle.co_plain.specs.declared.session.Told.{Told}
 use Rattle.co_plain.specs.Federation.{Federation, with_session}
 use Rattle.co_plain.specs.Numbers.{has_number}
-use Rattle.co_plain.specs.Sessions.{Leave, Refuses, Grants, may_visit, unless_asked, leave_to_visit, leave_to_end, begun_by, with_told, asked_to_end}
-use Rattle.co_plain.specs.Step.{is_used, entered, marked_asked}
-use Rattle.co_law_base.proofs.Lookups.{apart_by, is_nothing, put_cases, found_holds}
+use Rattle.co_plain.specs.Sessions.{Leave, Refuses, Grants, may_visit, unless_asked, leave_to_visit, leave_to_end, begun_by}
+use Rattle.co_plain.specs.Step.{is_used}
+use Rattle.co_law_base.proofs.Lookups.{put_cases, found_holds}
 use Rattle.co_schedule.specs.View.{IsNode}
-use Rattle.co_session.specs.Clients.{Clients, is_used as is_used_in, changed, with_begun, with_answered, with_asked}
+use Rattle.co_session.specs.Clients.{Clients, is_used as is_used_in, changed, with_begun}
 use Rattle.co_session.specs.Leaves.{IsLeave, leave_by, leave_in, refusal_of}
 use Rattle.co_session.specs.declared.fault.SessionFault.{SessionFault}
 use Rattle.co_session.specs.declared.fault.SessionFault.TheVariants.{Used}

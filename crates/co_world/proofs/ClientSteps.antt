@@ -1,15 +1,11 @@
 -- What a client asks for, as one step of the plain federation.
-use Rattle.std.proofs.Common.{◌≡◌, ℕ, Bool, true, false, not, List, [], ◌∷◌, Option, None, Some, Result, Ok, Err, refl, sym, ap, ◌∙◌, subst}
-use Rattle.std.specs.Prelude.{IfOk}
-use Rattle.co_base.specs.declared.mark.Mark.{Mark}
-use Rattle.co_base.specs.declared.node.Node.{Node}
+use Rattle.std.proofs.Common.{◌≡◌, ℕ, Bool, true, false, [], ◌∷◌, Option, None, Some, refl, sym, ap, ◌∙◌}
 use Rattle.co_base.specs.declared.node.Node.TheVariants as node
 use Rattle.co_base.specs.declared.op.Op.{Op}
 use Rattle.co_base.specs.declared.reply.Reply.{Reply}
 use Rattle.co_message.specs.declared.answer.Answer.{Answer}
 use Rattle.co_message.specs.declared.answer.Answer.TheVariants as answer
 use Rattle.co_message.specs.declared.item.ItemKind.TheVariants as item
-use Rattle.co_message.specs.declared.message.Message.{Message}
 use Rattle.co_state.specs.Table.{look}
 use Rattle.co_plain.specs.declared.coord_state.CoordState.{CoordState}
 use Rattle.co_plain.specs.declared.member_state.MemberState.{MemberState}

@@ -1,6 +1,6 @@
 -- An operation at one member, as a change of the federation that it is in.
 use Rattle.std.specs.Prelude.{IsTrue, false}
-use Rattle.std.proofs.Common.{◌≡◌, ◌≢◌, ◌⊎◌, inl, inr, ℕ, suc, ◌+◌, ◌-◌, ◌≤◌, List, length, set, slice_get, Option, Some, refl, sym, ap, subst, ◌∙◌, arith, length-set}
+use Rattle.std.proofs.Common.{◌≡◌, ◌≢◌, ◌⊎◌, inl, inr, ℕ, suc, List, length, set, slice_get, Option, Some, sym, ap, subst, ◌∙◌, length-set}
 use Rattle.co_base.specs.declared.head.Kind.{Kind}
 use Rattle.co_base.specs.declared.op.Op.{Op}
 use Rattle.co_base.specs.declared.node.Node.TheVariants as node

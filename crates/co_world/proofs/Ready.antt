@@ -1,10 +1,9 @@
 -- What each call of a node asks for, where the nodes of the federation are whole and what they would write next can be written.
-use Rattle.std.proofs.Common.{◌≡◌, ◌≢◌, ℕ, Bool, true, false, not, ◌&&◌, ◌||◌, ◌==◌, ◌≤◌, ◌<◌, if◌then◌else◌, List, [], ◌∷◌, length, Option, None, Some, refl, sym, ap, ◌∙◌, subst, arith}
+use Rattle.std.proofs.Common.{◌≡◌, ◌≢◌, ℕ, Bool, true, false, not, ◌&&◌, ◌||◌, ◌==◌, ◌≤◌, ◌<◌, if◌then◌else◌, List, [], ◌∷◌, length, Option, None, Some, refl, sym, ap, ◌∙◌, arith}
 use Rattle.std.specs.Prelude.{IsTrue}
 use Rattle.std.specs.FinMap.{entries, get-entries}
 use Rattle.std.specs.List.{AllByRecursion}
 use Rattle.std.proofs.lemmas.Bool.{eqb-false}
-use Rattle.co_base.specs.declared.leaves.Leaves.{Leaves}
 use Rattle.co_base.specs.declared.op.Op.{Op}
 use Rattle.co_base.specs.declared.part.Part.{Part}
 use Rattle.co_base.specs.declared.reply.Reply.{Reply}
@@ -27,7 +26,7 @@ use Rattle.co_plain.specs.Member.{most_operations, prepare_record, unless_blocke
 use Rattle.co_plain.specs.MemberLog.{prepares_onto, member_spare}
 use Rattle.co_plain.specs.MemberStep.{says}
 use Rattle.co_plain.specs.Numbers.{counted}
-use Rattle.co_plain.specs.Sessions.{Grants, leave_to_visit, leave_to_end}
+use Rattle.co_plain.specs.Sessions.{Grants, leave_to_end}
 use Rattle.co_plain.specs.Step.{reply_in}
 use Rattle.co_plain.specs.Wire.{was_sent}
 use Rattle.co_law_base.proofs.ImageRules.{EachEntry, entry_has}
@@ -125,7 +124,7 @@ module _ (s : Federation) (ready : IsReady s) where
     votes_again t up = (
       up,
       λ mark is granted. let k = (ready.whole.member m).marked t mark is in
-      (ready.writable.member m own).vote t mark.coord mark.count k.1 k.2 granted,
+          (ready.writable.member m own).vote t mark.coord mark.count k.1 k.2 granted,
     )
 
     pub checkpoints_member : (s.member m).up ≡ true → MemberMay s.coordinators to_member.Checkpoint (s.member m)

@@ -1,14 +1,12 @@
 -- What is told of an event, and what the federation is after it, as those of a plain step.
-use Rattle.std.proofs.Common.{◌≡◌, ℕ, Bool, List, Result, refl, sym, ap, ◌∙◌, subst}
+use Rattle.std.proofs.Common.{◌≡◌, ℕ, List, Result, subst}
 use Rattle.std.specs.Prelude.{IfOk, OnOk}
 use Rattle.co_base.specs.declared.head.Kind.{Kind}
-use Rattle.co_base.specs.declared.mark.Mark.{Mark}
 use Rattle.co_coord.specs.declared.step.CoordStep.{CoordStep}
 use Rattle.co_durable.specs.declared.fault.WorldFault.{WorldFault}
 use Rattle.co_member.specs.declared.step.MemberStep.{MemberStep}
 use Rattle.co_message.specs.declared.answer.Answer.{Answer}
 use Rattle.co_message.specs.declared.item.Item.{Item}
-use Rattle.co_message.specs.declared.message.Message.{Message}
 use Rattle.co_plain.specs.Federation.{Federation, Stepped, answers, at_member, at_coord, items_of, message_list, noted, with_coord, with_member}
 use Rattle.co_plain.specs.Runs.{numbered}
 use Rattle.co_plain.specs.declared.coord_step.CoordStep.{CoordStep as PlainCoordStep}

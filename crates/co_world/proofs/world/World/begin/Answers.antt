@@ -1,5 +1,4 @@
-use Rattle.std.proofs.Common.{◌≡◌, Bool, Err, refl, sym, ap, ◌∙◌, subst}
-use Rattle.std.specs.Prelude.{IfOk}
+use Rattle.std.proofs.Common.{Bool, Err, refl, sym, ap, ◌∙◌, subst}
 use Rattle.co_base.specs.declared.node.Node.TheVariants as node
 use Rattle.co_durable.specs.declared.fault.WorldFault.{WorldFault}
 use Rattle.co_law_base.proofs.Lookups.{apart_by}

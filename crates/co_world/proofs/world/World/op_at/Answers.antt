@@ -1,6 +1,5 @@
-use Rattle.std.proofs.Common.{◌≡◌, ◌<◌, ◌-◌, ◌+◌, ℕ, Option, length, suc, refl, sym, ap, subst, ◌∙◌, arith}
+use Rattle.std.proofs.Common.{◌≡◌, ◌<◌, ◌-◌, ℕ, Option, length, suc, refl, sym, ap, ◌∙◌, arith}
 use Rattle.std.specs.Vec.{with_item}
-use Rattle.co_log.specs.declared.fault.NodeFault.{NodeFault}
 use Rattle.co_plain.specs.declared.session.Session.{Session}
 use Rattle.co_plain.specs.Sessions.{count_at}
 use Rattle.co_session.specs.Clients.{carried_of}
@@ -75,4 +74,3 @@ returns-in-Err-clause-held g c = λ file reach held.
     let here = at_place w.members.items (c.from.result - 1) c.index_mut.result.now place c.index_mut.ensures.value in
     let changed : IsChangedAt w (record w { members = with_item w.members (c.from.result - 1) c.op.new.self }) (c.from.result - 1) c.index_mut.result.now c.op.new.self = record { here = here; members = refl; coords = refl; sessions = refl; wire = refl; same = c.in-Err.ensures.same } in
     changed_held w (record w { members = with_item w.members (c.from.result - 1) c.op.new.self }) (c.from.result - 1) c.index_mut.result.now c.op.new.self changed file reach c.in-Err.ensures.log held
-

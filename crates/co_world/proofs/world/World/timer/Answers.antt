@@ -1,23 +1,10 @@
-use Rattle.std.proofs.Common.{◌≡◌, ◌≤◌, ℕ, Bool, Some, Err, length, refl, sym, ap, ◌∙◌, subst}
+use Rattle.std.proofs.Common.{◌≡◌, length, sym, subst}
 use Rattle.std.specs.Prelude.{IfOk, OnOk}
 use Rattle.co_base.specs.declared.node.Node.{Node}
-use Rattle.co_base.specs.declared.node.Node.TheVariants as node
-use Rattle.co_message.specs.declared.answer.Answer.TheVariants as answer
-use Rattle.co_message.specs.declared.event.Event.{Event}
-use Rattle.co_message.specs.declared.message.Message.{Message}
-use Rattle.co_node.specs.Answers.{seen}
-use Rattle.co_plain.specs.Federation.{answers, with_member, with_coord}
-use Rattle.co_plain.specs.MemberLog.{member_restart}
-use Rattle.co_plain.specs.CoordLog.{coord_restart}
 use Rattle.co_plain.specs.Runs.{numbered}
-use Rattle.co_plain.specs.Step.{deliver, timer_at, crash_at, restart_at, arm_at, checkpoint_at, step_line}
-use Rattle.co_schedule.specs.View.{IsNode, IsEventFor, IsMessageFor}
+use Rattle.co_plain.specs.Step.{timer_at}
+use Rattle.co_schedule.specs.View.{IsNode}
 use Rattle.co_world.specs.Standing.{RepresentsWorld}
-use Rattle.co_world.proofs.Acting.{own_coord, own_member}
-use Rattle.co_world.proofs.Ends.{passed, passed_limit, passed_memory, wants_memory, no_limit, served_alone, served_after, served_here, all_ok}
-use Rattle.co_world.proofs.Ending.{told_ended}
-use Rattle.co_world.proofs.Ready.{takes_note, votes_again, checkpoints_member, restarts_member, hears_note, checkpoints_coord, restarts_coord}
-use Rattle.co_world.proofs.Told.{told_as, stands_as, answered_stands, coord_told, coord_stands, member_told, member_stands}
 use Rattle.co_world.proofs.world.World.timer.Goals as goal
 
 pub at_member-requires-clause-in_head : goal.at_member-requires-clause-in_head
@@ -81,4 +68,3 @@ returns-in-Coord-clause-served g c =
 pub returns-in-Coord-clause-ended : goal.returns-in-Coord-clause-ended
 returns-in-Coord-clause-ended g c =
     c.at_coord.ensures.ended
-

@@ -1,6 +1,5 @@
-use Rattle.std.proofs.Common.{◌≡◌, Bool, true, false, Err, sym, refl, ap, ◌∙◌}
+use Rattle.std.proofs.Common.{◌≡◌, Err, sym, refl, ap, ◌∙◌}
 use Rattle.co_session.specs.Clients.{is_used, is_full}
-use Rattle.co_session.specs.declared.fault.SessionFault.{SessionFault}
 use Rattle.co_session.specs.declared.fault.SessionFault.TheVariants.{Used, NotBegun, Asked, Count}
 use Rattle.co_world.proofs.Acting.{none_left}
 use Rattle.co_world.proofs.world.World.used.Goals as goal
