@@ -1,32 +1,15 @@
--- How a call that made no call of the directory leaves it, and how one does that went on after a served one.
-use Rattle.std.proofs.Common.{◌≡◌, ℕ, true, false, Result, Ok, Err, refl, sym, ap, ◌∙◌, subst}
+-- How a call that wants memory ends, how one does that passes a fault on, and which logs are held after one that was served.
+use Rattle.std.proofs.Common.{◌≡◌, true, false, Result, Ok, Err, refl, sym, ap, ◌∙◌, subst}
 use Rattle.std.specs.Prelude.{IfErr, OnOk}
 use Rattle.std.specs.Result.{IsErr, IsErrAnd}
 use Rattle.co_durable.specs.declared.fault.WorldFault.{WorldFault}
 use Rattle.co_durable.specs.declared.fault.WorldFault.TheVariants as world
 use Rattle.co_node.specs.Answers.{HomeView}
 use Rattle.co_opening.specs.Nodes.{AreKept}
-use Rattle.co_outside.specs.Faults.{HasRisen}
 use Rattle.co_world.specs.Served.{AreServed, HasEndedAs}
 use Rattle.co_world.specs.declared.world.World.{World}
 
-ends_after : (fault : WorldFault) (u v : HomeView) → v.faults ≡ u.faults → (fault ≡ world.Count → ⊥) → HasEndedAs fault v v → HasEndedAs fault u v
-ends_after (world.Device spot) u v q n h = (subst (λ (k : ℕ). HasRisen k v.faults) q h.0, h.1)
-ends_after (world.Differs spot at kept read) u v q n h = q
-ends_after (world.InUse spot) u v q n h = h
-ends_after (world.Bad spot at) u v q n h = h
-ends_after (world.Full spot) u v q n h = q
-ends_after world.Count u v q n h = absurd (n refl)
-ends_after (world.Old spot) u v q n h = h
-ends_after world.Memory u v q n h = q
-
 module _ {A : Type 0} where
-  -- the end of a call after one that met no fault
-  pub all_after : (result : Result A WorldFault) (u v : HomeView) → v.faults ≡ u.faults → (result ≡ Err world.Count → ⊥) → IfErr result (λ fault. HasEndedAs fault v v) →
-      IfErr result (λ fault. HasEndedAs fault u v)
-  all_after (Ok a) u v q n h = tt
-  all_after (Err fault) u v q n h = ends_after fault u v q (λ e. n (ap Err e)) h
-
   -- where there is no memory, no fault was met
   pub wants_memory : (result : Result A WorldFault) (u v : HomeView) → v.faults ≡ u.faults → IfErr result (λ fault. fault ≡ world.Memory) → IfErr result (λ fault. HasEndedAs fault u v)
   wants_memory (Ok a) u v q h = tt
@@ -65,6 +48,3 @@ module _ {A : Type 0} where
   pub served_alone : {E : Type 0} (result : Result A WorldFault) (w : World E) (v : HomeView) → OnOk result (AreKept v.file v.reach w.members.items w.coords.items) → OnOk result (AreServed w v v)
   served_alone (Ok a) w v kept = record { kept = kept; clean = λ s clean. clean; quiet = refl }
   served_alone (Err fault) w v kept = tt
-
-pub served_here : {E : Type 0} (w : World E) (v : HomeView) → AreKept v.file v.reach w.members.items w.coords.items → AreServed w v v
-served_here w v kept = record { kept = kept; clean = λ s clean. clean; quiet = refl }
