@@ -1,1 +1,17 @@
 pub mod Places
+pub mod Ready
+pub mod Acting
+pub mod Ends
+pub mod ClientSteps
+pub mod Operated
+pub mod Told
+pub mod Serving
+pub mod Kept
+pub mod Worlds
+pub mod Ending
+pub mod Steps
+pub mod Openings
+pub mod Arriving
+pub mod Leaving
+pub mod CoordLeaving
+pub mod Lefts

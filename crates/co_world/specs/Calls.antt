@@ -1,7 +1,11 @@
 -- What is asked of a node, what the node does, and what it has to be for it.
 use Rattle.std.specs.Prelude.{ℕ, true, false, ◌≡◌, ◌≤◌, List}
 use Rattle.co_base.specs.declared.part.Part.{Part}
+use Rattle.co_base.specs.declared.node.Node.{Node}
+use Rattle.co_base.specs.declared.node.Node.TheVariants as node
 use Rattle.co_message.specs.declared.event.Event.TheVariants as event
+use Rattle.co_message.specs.declared.message.Message.{Message}
+use Rattle.co_message.specs.declared.message.Message.TheVariants as message
 use Rattle.co_plain.specs.declared.coord_state.CoordState.{CoordState}
 use Rattle.co_plain.specs.declared.coord_step.CoordStep.{CoordStep}
 use Rattle.co_plain.specs.declared.member_state.MemberState.{MemberState}
@@ -90,3 +94,11 @@ member_asked ending.Abort t carried = member.LocalAbort t
 abbrev pub ended : Federation → ℕ → Ending → Stepped
 ended s t ending.Commit = step_line s (event.Commit t)
 ended s t ending.Abort = step_line s (event.Abort t)
+
+-- the node that a message goes to
+abbrev pub receiver : Message → Node
+receiver (message.Prepare t c m count) = node.Member m
+receiver (message.Vote t m c granted) = node.Coord c
+receiver (message.Decide t c m commit) = node.Member m
+receiver (message.Ask t m c) = node.Coord c
+receiver (message.Ack t m c) = node.Coord c

@@ -5,3 +5,4 @@ pub mod Conditions
 pub mod Telling
 pub mod Attached
 pub mod Counting
+pub mod Left

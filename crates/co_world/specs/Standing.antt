@@ -6,8 +6,10 @@ use Rattle.co_outside.specs.declared.spot.Spot.{Spot}
 use Rattle.co_outside.specs.Home.{File}
 use Rattle.co_plain.specs.Numbers.{has_number}
 use Rattle.co_plain.specs.Federation.{Federation}
+use Rattle.co_plain.specs.declared.session.Session.{Session}
+use Rattle.co_schedule.specs.View.{IsNode}
 use Rattle.co_state.specs.declared.engine_state.EngineState.{EngineState}
-use Rattle.co_state.specs.Table.{holds}
+use Rattle.co_state.specs.Table.{look, holds}
 use Rattle.co_coord.specs.declared.coord.Coord.{Coord}
 use Rattle.co_member.specs.declared.member.Member.{Member}
 use Rattle.co_opening.specs.Nodes.{IsMemberAt, IsCoordAt, AreKept}
@@ -25,6 +27,8 @@ pub record RepresentsWorld {E : Type 0} (takes : Kind → Type 0) (stands_for : 
   pub sessions : w.sessions.sessions ≡ s.sessions
   pub used : (t : ℕ) → has_number w.sessions.used t ≡ holds s.used t
   pub wire : w.wire ≡ s.sent
+  -- each session is of a transaction that a node of the federation decides
+  pub homes : (t : ℕ) (session : Session) → look s.sessions t ≡ Some session → IsNode (length s.kinds) s.coordinators session.by
 
 -- the directory holds the log of every node
 abbrev pub AreHeld : {E : Type 0} → (Spot → Option File) → (Spot → ℕ) → World E → Type 0

@@ -1,18 +1,20 @@
 //! What clients ask: to begin, to operate and to end.
-ghost use Rattle.std.specs.Prelude.{◌≡◌, ◌≤◌, ℕ, Option, true, false, Some, length, IfOk, IfErr, IsErrOf, OnOk, ◌↔◌};
+ghost use Rattle.std.specs.Prelude.{◌≡◌, ◌≤◌, ◌<◌, ℕ, Option, true, false, Some, length, IfOk, IfErr, IsErrOf, OnOk, ◌↔◌};
+ghost use Rattle.co_base.specs.declared.reply.Reply.{Reply};
 ghost use Rattle.co_durable.specs.declared.fault.WorldFault.TheVariants as world;
 ghost use Rattle.co_message.specs.declared.answer.Answer.{Answer};
 ghost use Rattle.co_message.specs.declared.event.Event.TheVariants as event;
 ghost use Rattle.co_outside.specs.Home.{File};
 ghost use Rattle.co_outside.specs.declared.spot.Spot.{Spot};
-ghost use Rattle.co_plain.specs.Federation.{Federation};
+ghost use Rattle.co_plain.specs.Federation.{Federation, with_member};
+ghost use Rattle.co_plain.specs.Member.{member_op};
 ghost use Rattle.co_plain.specs.Runs.{numbered};
 ghost use Rattle.co_plain.specs.Sessions.{Grants, leave_to_visit, count_at, parts_of};
-ghost use Rattle.co_plain.specs.Step.{is_stopped, is_held, reply_in, operate, coord_answers, local_answers, step_line};
+ghost use Rattle.co_plain.specs.Step.{is_stopped, is_held, reply_in, entered, operate, marked_asked, coord_answers, local_answers, step_line};
 ghost use Rattle.co_plain.specs.declared.session.Session.{Session};
-ghost use Rattle.co_session.specs.Clients.{is_used, is_full};
+ghost use Rattle.co_session.specs.Clients.{is_used, is_full, carried_in};
 ghost use Rattle.co_session.specs.Leaves.{refusal_of};
-ghost use Rattle.co_state.specs.Table.{look};
+ghost use Rattle.co_state.specs.Table.{look, holds};
 ghost use Rattle.co_world.specs.Calls.{coord_asked, coord_does, member_asked, member_does, ended};
 ghost use Rattle.co_world.specs.Conditions.{IsReady};
 ghost use Rattle.co_world.specs.Counting.{IsOneMore};
@@ -111,8 +113,12 @@ impl<E: Engine + Drop> World<E> {
     {
         match self.sessions.may_begin(t) {
             Ok(()) => Ok(false),
-            Err(SessionFault::Used) => Ok(true),
-            Err(_) => Err(WorldFault::Count),
+            Err(fault) => match fault {
+                SessionFault::Used => Ok(true),
+                SessionFault::NotBegun => Err(WorldFault::Count),
+                SessionFault::Asked => Err(WorldFault::Count),
+                SessionFault::Count => Err(WorldFault::Count),
+            },
         }
     }
 
@@ -140,8 +146,8 @@ impl<E: Engine + Drop> World<E> {
         if !self.coord_up(coord) {
             return self.answers(number, Answer::Down(Node::Coord(coord)));
         }
-        let did = self.coord_does(home, coord, CoordCall::Begin(t))?;
         self.sessions.begin(t, Node::Coord(coord))?;
+        let did = self.coord_does(home, coord, CoordCall::Begin(t))?;
         self.tells_of_coord(number, did)
     }
 
@@ -204,15 +210,55 @@ impl<E: Engine + Drop> World<E> {
         if !self.member_up(member) {
             return self.answers(number, Answer::Down(Node::Member(member)));
         }
+        let answer = self.op_at(t, member, &op)?;
+        self.enter(t, member, op, &answer)?;
+        self.answers(number, answer)
+    }
+
+    /// An operation of a transaction whose client may act, at a member that is up.
+    fn op_at(&mut self, t: Txn, member: u8, op: &Op) -> Result<Answer, WorldFault>
+        requires in_head { (1 ≤ member) × (member ≤ length self.old.members.items) }
+        requires stands { (s : Federation) × (session : Session) × RepresentsWorld E.takes E.stands_for self.old s × IsReady s × ((s.member member).up ≡ true) × (leave_to_visit (look s.sessions t) member ≡ Grants session) }
+        ensures memory { IfErr result (λ fault. fault ≡ world.Memory) }
+        ensures answer { (s : Federation) → RepresentsWorld E.takes E.stands_for self.old s → IsReady s → (session : Session) → leave_to_visit (look s.sessions t) member ≡ Grants session →
+            IfOk result (λ a. a ≡ (member_op (s.member member) t (count_at session.told member) op.now).answer) }
+        ensures stands { (s : Federation) → RepresentsWorld E.takes E.stands_for self.old s → IsReady s → (session : Session) → leave_to_visit (look s.sessions t) member ≡ Grants session →
+            OnOk result (RepresentsWorld E.takes E.stands_for self.new (with_member s member (member_op (s.member member) t (count_at session.told member) op.now).state)) }
+        ensures sessions { self.new.sessions ≡ self.old.sessions }
+        ensures held { (file : Spot → Option File) (reach : Spot → ℕ) → AreHeld file reach self.old → AreHeld file reach self.new }
+    {
         let carried = self.sessions.carried(t, member);
-        match self.members[usize::from(member) - 1].op(t, carried, &op) {
-            Ok(answer) => {
-                if let Some(reply) = reply_in(self.alloc, &answer)? {
-                    self.sessions.answered(t, Site { member, op }, reply)?;
-                }
-                self.answers(number, answer)
-            }
+        match self.members[usize::from(member) - 1].op(t, carried, op) {
+            Ok(answer) => Ok(answer),
             Err(fault) => Err(of_node(fault)),
+        }
+    }
+
+    /// A reply is entered in the session of its transaction.
+    fn enter(&mut self, t: Txn, member: u8, op: Op, answer: &Answer) -> Result<(), WorldFault>
+        requires in_head { (1 ≤ member) × (member ≤ 16) }
+        requires begun { holds self.old.sessions.sessions t ≡ true }
+        requires count { (reply : Reply) → reply_in answer.now ≡ Some reply → carried_in self.old.sessions t member < 1024 }
+        ensures memory { IfErr result (λ fault. fault ≡ world.Memory) }
+        ensures stands { (s : Federation) → RepresentsWorld E.takes E.stands_for self.old s → (session : Session) → look s.sessions t ≡ Some session →
+            OnOk result (RepresentsWorld E.takes E.stands_for self.new (entered s t session member op (reply_in answer.now))) }
+        ensures held { (file : Spot → Option File) (reach : Spot → ℕ) → AreHeld file reach self.old → AreHeld file reach self.new }
+    {
+        match reply_in(self.alloc, answer)? {
+            Some(reply) => Ok(self.sessions.answered(t, Site { member, op }, reply)?),
+            None => Ok(()),
+        }
+    }
+
+    /// The session is marked asked, where its deciding node answered.
+    fn mark_asked(&mut self, t: Txn, answered: bool)
+        requires begun { holds self.old.sessions.sessions t ≡ true }
+        ensures stands { (s : Federation) → RepresentsWorld E.takes E.stands_for self.old s → (session : Session) → look s.sessions t ≡ Some session →
+            RepresentsWorld E.takes E.stands_for self.new (marked_asked s t session answered) }
+        ensures held { (file : Spot → Option File) (reach : Spot → ℕ) → AreHeld file reach self.old → AreHeld file reach self.new }
+    {
+        if answered {
+            self.sessions.asked(t);
         }
     }
 
@@ -264,9 +310,7 @@ impl<E: Engine + Drop> World<E> {
         }
         let parts = self.sessions.parts(t)?;
         let did = self.coord_does(home, coord, coord_call(ending, t, parts))?;
-        if !is_stopped(&did.answer) {
-            self.sessions.asked(t);
-        }
+        self.mark_asked(t, !is_stopped(&did.answer));
         self.tells_of_coord(number, did)
     }
 
@@ -294,9 +338,7 @@ impl<E: Engine + Drop> World<E> {
         }
         let carried = self.sessions.carried(t, member);
         let did = self.member_does(home, member, member_call(ending, t, carried))?;
-        if !is_held(&did.answer) {
-            self.sessions.asked(t);
-        }
+        self.mark_asked(t, !is_held(&did.answer));
         self.tells_of_member(number, did)
     }
 }

@@ -1,19 +1,23 @@
 //! One event of a schedule line.
-ghost use Rattle.std.specs.Prelude.{◌≡◌, ◌≤◌, length, IfOk, IfErr, IsErrOf, OnOk, ◌↔◌};
+ghost use Rattle.std.specs.Prelude.{◌≡◌, ◌≤◌, ℕ, Option, length, IfOk, IfErr, IsErrOf, OnOk, ◌↔◌};
+ghost use Rattle.co_base.specs.declared.op.Op.TheVariants as op;
+ghost use Rattle.co_outside.specs.Home.{File};
+ghost use Rattle.co_outside.specs.declared.spot.Spot.{Spot};
 ghost use Rattle.co_plain.specs.Federation.{Federation};
 ghost use Rattle.co_plain.specs.Runs.{numbered};
-ghost use Rattle.co_plain.specs.Step.{deliver, timer_at, crash_at, restart_at, arm_at, checkpoint_at, step_line};
+ghost use Rattle.co_plain.specs.Step.{operate, deliver, timer_at, crash_at, restart_at, arm_at, checkpoint_at, step_line};
 ghost use Rattle.co_schedule.specs.View.{IsEventFor, IsMessageFor, IsNode};
+ghost use Rattle.co_world.specs.Calls.{receiver};
 ghost use Rattle.co_world.specs.Conditions.{IsReady};
 ghost use Rattle.co_world.specs.Counting.{MeetsLimit};
-ghost use Rattle.co_node.specs.Answers.{seen};
+ghost use Rattle.co_node.specs.Answers.{seen, HomeView};
 ghost use Rattle.co_world.specs.Served.{AreServed, HasEndedAs};
 ghost use Rattle.co_world.specs.Standing.{RepresentsWorld, AreHeld};
 
 use crate::calls::{CoordCall, MemberCall};
 use crate::clients::Ending;
 use crate::world::World;
-use co_base::{Leaves, Node, Op, Txn};
+use co_base::{Key, Leaves, Node, Op, Range, Txn, Value};
 use co_durable::WorldFault;
 use co_engine::Engine;
 use co_message::{Answer, Event, Items, Message};
@@ -32,7 +36,78 @@ fn copy_leaves(alloc: Global, leaves: &Leaves) -> Result<Leaves, AllocError>
     }
 }
 
+/// The node that a message goes to.
+fn receiver(message: &Message) -> Node
+    ensures { result ≡ receiver message.now }
+{
+    match message {
+        Message::Prepare { member, .. } | Message::Decide { member, .. } => Node::Member(*member),
+        Message::Vote { coord, .. } | Message::Ask { coord, .. } | Message::Ack { coord, .. } => {
+            Node::Coord(*coord)
+        }
+    }
+}
+
 impl<E: Engine + Drop> World<E> {
+    /// A client reads a record.
+    fn reads(&mut self, number: u32, t: Txn, member: u8, key: &Key) -> Result<Items, WorldFault>
+        requires in_head { (1 ≤ member) × (member ≤ length self.old.members.items) }
+        requires stands { (s : Federation) × RepresentsWorld E.takes E.stands_for self.old s × IsReady s }
+        ensures count { IsErrOf result WorldFault.Count → ⊥ }
+        ensures items { (s : Federation) → RepresentsWorld E.takes E.stands_for self.old s → IsReady s → IfOk result (λ items. items ≡ numbered number (operate s t member (op.Read key.now)).items) }
+        ensures stands { (s : Federation) → RepresentsWorld E.takes E.stands_for self.old s → IsReady s → OnOk result (RepresentsWorld E.takes E.stands_for self.new (operate s t member (op.Read key.now)).state) }
+        ensures held { (file : Spot → Option File) (reach : Spot → ℕ) → AreHeld file reach self.old → OnOk result (AreHeld file reach self.new) }
+        ensures ended { (v : HomeView) → IfErr result (λ fault. HasEndedAs fault v v) }
+    {
+        self.operate(number, t, member, Op::Read(key.copy()?))
+    }
+
+    /// A client writes a record.
+    fn writes(
+        &mut self,
+        number: u32,
+        t: Txn,
+        member: u8,
+        key: &Key,
+        value: &Value,
+    ) -> Result<Items, WorldFault>
+        requires in_head { (1 ≤ member) × (member ≤ length self.old.members.items) }
+        requires stands { (s : Federation) × RepresentsWorld E.takes E.stands_for self.old s × IsReady s }
+        ensures count { IsErrOf result WorldFault.Count → ⊥ }
+        ensures items { (s : Federation) → RepresentsWorld E.takes E.stands_for self.old s → IsReady s → IfOk result (λ items. items ≡ numbered number (operate s t member (op.Write key.now value.now)).items) }
+        ensures stands { (s : Federation) → RepresentsWorld E.takes E.stands_for self.old s → IsReady s → OnOk result (RepresentsWorld E.takes E.stands_for self.new (operate s t member (op.Write key.now value.now)).state) }
+        ensures held { (file : Spot → Option File) (reach : Spot → ℕ) → AreHeld file reach self.old → OnOk result (AreHeld file reach self.new) }
+        ensures ended { (v : HomeView) → IfErr result (λ fault. HasEndedAs fault v v) }
+    {
+        self.operate(number, t, member, Op::Write(key.copy()?, value.copy()?))
+    }
+
+    /// A client takes a record away.
+    fn erases(&mut self, number: u32, t: Txn, member: u8, key: &Key) -> Result<Items, WorldFault>
+        requires in_head { (1 ≤ member) × (member ≤ length self.old.members.items) }
+        requires stands { (s : Federation) × RepresentsWorld E.takes E.stands_for self.old s × IsReady s }
+        ensures count { IsErrOf result WorldFault.Count → ⊥ }
+        ensures items { (s : Federation) → RepresentsWorld E.takes E.stands_for self.old s → IsReady s → IfOk result (λ items. items ≡ numbered number (operate s t member (op.Erase key.now)).items) }
+        ensures stands { (s : Federation) → RepresentsWorld E.takes E.stands_for self.old s → IsReady s → OnOk result (RepresentsWorld E.takes E.stands_for self.new (operate s t member (op.Erase key.now)).state) }
+        ensures held { (file : Spot → Option File) (reach : Spot → ℕ) → AreHeld file reach self.old → OnOk result (AreHeld file reach self.new) }
+        ensures ended { (v : HomeView) → IfErr result (λ fault. HasEndedAs fault v v) }
+    {
+        self.operate(number, t, member, Op::Erase(key.copy()?))
+    }
+
+    /// A client reads the records of a range.
+    fn scans(&mut self, number: u32, t: Txn, member: u8, range: &Range) -> Result<Items, WorldFault>
+        requires in_head { (1 ≤ member) × (member ≤ length self.old.members.items) }
+        requires stands { (s : Federation) × RepresentsWorld E.takes E.stands_for self.old s × IsReady s }
+        ensures count { IsErrOf result WorldFault.Count → ⊥ }
+        ensures items { (s : Federation) → RepresentsWorld E.takes E.stands_for self.old s → IsReady s → IfOk result (λ items. items ≡ numbered number (operate s t member (op.Scan range.now)).items) }
+        ensures stands { (s : Federation) → RepresentsWorld E.takes E.stands_for self.old s → IsReady s → OnOk result (RepresentsWorld E.takes E.stands_for self.new (operate s t member (op.Scan range.now)).state) }
+        ensures held { (file : Spot → Option File) (reach : Spot → ℕ) → AreHeld file reach self.old → OnOk result (AreHeld file reach self.new) }
+        ensures ended { (v : HomeView) → IfErr result (λ fault. HasEndedAs fault v v) }
+    {
+        self.operate(number, t, member, Op::Scan(range.copy()?))
+    }
+
     /// A message is delivered to the node that it names, where it was sent.
     fn deliver<H: Home>(
         &mut self,
@@ -51,13 +126,11 @@ impl<E: Engine + Drop> World<E> {
         ensures entered { H.entered home.new ≡ H.entered home.old }
     {
         match self.wire.get(&message) {
-            Ok(()) => match message {
-                Message::Prepare { member, .. } | Message::Decide { member, .. } => {
+            Ok(()) => match receiver(&message) {
+                Node::Member(member) => {
                     self.at_member(home, number, member, MemberCall::Deliver(message))
                 }
-                Message::Vote { coord, .. }
-                | Message::Ask { coord, .. }
-                | Message::Ack { coord, .. } => {
+                Node::Coord(coord) => {
                     self.at_coord(home, number, coord, CoordCall::Deliver(message))
                 }
             },
@@ -143,19 +216,20 @@ impl<E: Engine + Drop> World<E> {
         number: u32,
         node: Node,
         call: u8,
-        leaves: Leaves,
+        leaves: &Leaves,
     ) -> Result<Items, WorldFault>
         requires in_head { IsNode (length self.old.members.items) (length self.old.coords.items) node }
         requires call { (1 ≤ call) × (call ≤ 4) }
         requires held { AreHeld (H.file home.old) (H.reach home.old) self.old }
         requires stands { (s : Federation) × RepresentsWorld E.takes E.stands_for self.old s × IsReady s }
         ensures count { IsErrOf result WorldFault.Count → ⊥ }
-        ensures items { (s : Federation) → RepresentsWorld E.takes E.stands_for self.old s → IfOk result (λ items. items ≡ numbered number (arm_at s call leaves node).items) }
-        ensures stands { (s : Federation) → RepresentsWorld E.takes E.stands_for self.old s → OnOk result (RepresentsWorld E.takes E.stands_for self.new (arm_at s call leaves node).state) }
+        ensures items { (s : Federation) → RepresentsWorld E.takes E.stands_for self.old s → IfOk result (λ items. items ≡ numbered number (arm_at s call leaves.now node).items) }
+        ensures stands { (s : Federation) → RepresentsWorld E.takes E.stands_for self.old s → OnOk result (RepresentsWorld E.takes E.stands_for self.new (arm_at s call leaves.now node).state) }
         ensures served { OnOk result (AreServed self.new (seen H.file H.reach H.faults H.last_failed home.old) (seen H.file H.reach H.faults H.last_failed home.new)) }
         ensures ended { IfErr result (λ fault. HasEndedAs fault (seen H.file H.reach H.faults H.last_failed home.old) (seen H.file H.reach H.faults H.last_failed home.new)) }
         ensures entered { H.entered home.new ≡ H.entered home.old }
     {
+        let leaves = copy_leaves(self.alloc, leaves)?;
         match node {
             Node::Member(member) => {
                 self.at_member(home, number, member, MemberCall::Arm { call, leaves })
@@ -213,27 +287,15 @@ impl<E: Engine + Drop> World<E> {
         match event {
             Event::Begin { txn, coord } => self.begin(home, number, *txn, *coord),
             Event::Local { txn, member } => self.begin_local(number, *txn, *member),
-            Event::Read { txn, member, key } => {
-                let op = Op::Read(key.copy()?);
-                self.operate(number, *txn, *member, op)
-            }
+            Event::Read { txn, member, key } => self.reads(number, *txn, *member, key),
             Event::Write {
                 txn,
                 member,
                 key,
                 value,
-            } => {
-                let op = Op::Write(key.copy()?, value.copy()?);
-                self.operate(number, *txn, *member, op)
-            }
-            Event::Erase { txn, member, key } => {
-                let op = Op::Erase(key.copy()?);
-                self.operate(number, *txn, *member, op)
-            }
-            Event::Scan { txn, member, range } => {
-                let op = Op::Scan(range.copy()?);
-                self.operate(number, *txn, *member, op)
-            }
+            } => self.writes(number, *txn, *member, key, value),
+            Event::Erase { txn, member, key } => self.erases(number, *txn, *member, key),
+            Event::Scan { txn, member, range } => self.scans(number, *txn, *member, range),
             Event::Commit { txn } => self.end(home, number, *txn, Ending::Commit),
             Event::Abort { txn } => self.end(home, number, *txn, Ending::Abort),
             Event::Deliver(message) => self.deliver(home, number, *message),
@@ -249,10 +311,7 @@ impl<E: Engine + Drop> World<E> {
             }
             Event::Crash(node) => self.crash(home, number, *node),
             Event::Restart(node) => self.restart(home, number, *node),
-            Event::Arm { node, call, leaves } => {
-                let leaves = copy_leaves(self.alloc, leaves)?;
-                self.arm(home, number, *node, *call, leaves)
-            }
+            Event::Arm { node, call, leaves } => self.arm(home, number, *node, *call, leaves),
             Event::Checkpoint(node) => self.checkpoint(home, number, *node),
         }
     }

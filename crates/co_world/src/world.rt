@@ -1,12 +1,14 @@
 //! The federation, and what one of its nodes does in it.
-ghost use Rattle.std.specs.Prelude.{◌≡◌, ◌≤◌, ℕ, Option, length, IfOk, IfErr, IsErrOf, OnOk};
+ghost use Rattle.std.specs.Prelude.{◌≡◌, ◌⊎◌, ◌≤◌, ℕ, Option, length, IfOk, IfErr, IsErrOf, OnOk, OnErr};
 ghost use Rattle.co_outside.specs.Home.{File};
 ghost use Rattle.co_outside.specs.declared.spot.Spot.{Spot};
 ghost use Rattle.co_plain.specs.Federation.{Federation, answers, with_member, with_coord, noted, items_of};
 ghost use Rattle.co_plain.specs.Runs.{numbered};
+ghost use Rattle.co_plain.specs.Step.{disarmed};
 ghost use Rattle.co_plain.specs.Wire.{send_all};
 ghost use Rattle.co_world.specs.Calls.{member_does, coord_does, MemberMay, CoordMay};
 ghost use Rattle.co_node.specs.Answers.{seen, HomeView};
+ghost use Rattle.co_world.specs.Left.{AreLeftAs, member_disarmed, coord_disarmed};
 ghost use Rattle.co_world.specs.Served.{AreServed, HasEndedAs};
 ghost use Rattle.co_world.specs.Standing.{RepresentsWorld, AreHeld};
 ghost use Rattle.co_world.specs.Telling.{IsTold, IsToldBy};
@@ -66,12 +68,14 @@ impl<E: Engine + Drop> World<E> {
 
     /// An answer that changes nothing.
     pub(crate) fn answers(&self, number: u32, answer: Answer) -> Result<Items, WorldFault>
-        ensures { (s : Federation) → IfOk result (λ items. items ≡ numbered number (answers s answer).items) }
+        ensures count { IsErrOf result WorldFault.Count → ⊥ }
+        ensures items { (s : Federation) → IfOk result (λ items. items ≡ numbered number (answers s answer).items) }
+        ensures ended { (v : HomeView) → IfErr result (λ fault. HasEndedAs fault v v) }
     {
         Ok(items_of(self.alloc, number, &[], &[], answer)?)
     }
 
-    /// What is asked of the member of this number is done.
+    /// What is asked of the member of this number is done. A fault leaves the stable records of before, or those of the completed write.
     pub(crate) fn member_does<H: Home>(
         &mut self,
         home: &mut H,
@@ -86,6 +90,8 @@ impl<E: Engine + Drop> World<E> {
             IfOk result (λ d. IsTold (member_does member call (s.member member)) d) }
         ensures stands { (s : Federation) → RepresentsWorld E.takes E.stands_for self.old s →
             OnOk result (RepresentsWorld E.takes E.stands_for self.new (with_member s member (member_does member call (s.member member)).state)) }
+        ensures left { (s : Federation) → RepresentsWorld E.takes E.stands_for self.old s →
+            OnErr result (AreLeftAs (H.file home.new) s ⊎ AreLeftAs (H.file home.new) (with_member (disarmed s) member (member_does member call (member_disarmed (s.member member))).state)) }
         ensures served { OnOk result (AreServed self.new (seen H.file H.reach H.faults H.last_failed home.old) (seen H.file H.reach H.faults H.last_failed home.new)) }
         ensures ended { IfErr result (λ fault. HasEndedAs fault (seen H.file H.reach H.faults H.last_failed home.old) (seen H.file H.reach H.faults H.last_failed home.new)) }
         ensures entered { H.entered home.new ≡ H.entered home.old }
@@ -96,7 +102,7 @@ impl<E: Engine + Drop> World<E> {
         }
     }
 
-    /// What is asked of the coordinator of this number is done.
+    /// What is asked of the coordinator of this number is done. A fault leaves the stable records of before, or those of the completed write.
     pub(crate) fn coord_does<H: Home>(
         &mut self,
         home: &mut H,
@@ -111,6 +117,8 @@ impl<E: Engine + Drop> World<E> {
             IfOk result (λ d. IsToldBy (coord_does coord call (s.coord coord)) d) }
         ensures stands { (s : Federation) → RepresentsWorld E.takes E.stands_for self.old s →
             OnOk result (RepresentsWorld E.takes E.stands_for self.new (with_coord s coord (coord_does coord call (s.coord coord)).state)) }
+        ensures left { (s : Federation) → RepresentsWorld E.takes E.stands_for self.old s →
+            OnErr result (AreLeftAs (H.file home.new) s ⊎ AreLeftAs (H.file home.new) (with_coord (disarmed s) coord (coord_does coord call (coord_disarmed (s.coord coord))).state)) }
         ensures served { OnOk result (AreServed self.new (seen H.file H.reach H.faults H.last_failed home.old) (seen H.file H.reach H.faults H.last_failed home.new)) }
         ensures ended { IfErr result (λ fault. HasEndedAs fault (seen H.file H.reach H.faults H.last_failed home.old) (seen H.file H.reach H.faults H.last_failed home.new)) }
         ensures entered { H.entered home.new ≡ H.entered home.old }

@@ -1,0 +1,37 @@
+-- What a node did, as a step of the federation.
+use Rattle.std.proofs.Common.{◌≡◌, ℕ, Bool, true, false, sym, ap}
+use Rattle.co_base.specs.declared.node.Node.TheVariants as node
+use Rattle.co_message.specs.declared.answer.Answer.TheVariants as answer
+use Rattle.co_plain.specs.Federation.{Federation, answers, noted, items_of, message_list, at_member, at_coord, with_member, with_coord}
+use Rattle.co_plain.specs.Step.{up_member, up_coord}
+use Rattle.co_plain.specs.declared.coord_step.CoordStep.{CoordStep as PlainCoordStep}
+use Rattle.co_plain.specs.declared.member_step.MemberStep.{MemberStep as PlainMemberStep}
+use Rattle.co_coord.specs.declared.step.CoordStep.{CoordStep}
+use Rattle.co_member.specs.declared.step.MemberStep.{MemberStep}
+use Rattle.co_world.specs.Telling.{IsTold, IsToldBy}
+
+-- by whether the node is up
+pub member_is_down : (s : Federation) (m : ℕ) (up : Bool) (did : PlainMemberStep) → up ≡ false → answers s (answer.Down (node.Member m)) ≡ up_member s m up did
+member_is_down s m up did is = ap (λ (b : Bool). up_member s m b did) (sym is)
+
+pub member_is_up : (s : Federation) (m : ℕ) (up : Bool) (did : PlainMemberStep) → up ≡ true → at_member s m did ≡ up_member s m up did
+member_is_up s m up did is = ap (λ (b : Bool). up_member s m b did) (sym is)
+
+pub coord_is_down : (s : Federation) (c : ℕ) (up : Bool) (did : PlainCoordStep) → up ≡ false → answers s (answer.Down (node.Coord c)) ≡ up_coord s c up did
+coord_is_down s c up did is = ap (λ (b : Bool). up_coord s c b did) (sym is)
+
+pub coord_is_up : (s : Federation) (c : ℕ) (up : Bool) (did : PlainCoordStep) → up ≡ true → at_coord s c did ≡ up_coord s c up did
+coord_is_up s c up did is = ap (λ (b : Bool). up_coord s c b did) (sym is)
+
+-- what is noted and told of what a member did is that of the plain step
+pub member_noted : (s : Federation) (m : ℕ) (step : PlainMemberStep) (d : MemberStep) → IsTold step d → noted (with_member s m step.state) d.marks (message_list d.sent) ≡ (at_member s m step).state
+member_noted s m step d told = λ i. noted (with_member s m step.state) (told.marks i) (message_list (told.sent i))
+
+pub member_items : (s : Federation) (m : ℕ) (step : PlainMemberStep) (d : MemberStep) → IsTold step d → items_of d.marks (message_list d.sent) d.answer ≡ (at_member s m step).items
+member_items s m step d told = λ i. items_of (told.marks i) (message_list (told.sent i)) (told.answer i)
+
+pub coord_noted : (s : Federation) (c : ℕ) (step : PlainCoordStep) (d : CoordStep) → IsToldBy step d → noted (with_coord s c step.state) d.marks d.sent ≡ (at_coord s c step).state
+coord_noted s c step d told = λ i. noted (with_coord s c step.state) (told.marks i) (told.sent i)
+
+pub coord_items : (s : Federation) (c : ℕ) (step : PlainCoordStep) (d : CoordStep) → IsToldBy step d → items_of d.marks d.sent d.answer ≡ (at_coord s c step).items
+coord_items s c step d told = λ i. items_of (told.marks i) (told.sent i) (told.answer i)

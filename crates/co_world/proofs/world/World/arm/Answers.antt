@@ -1,0 +1,78 @@
+use Rattle.std.proofs.Common.{length, refl, sym, subst}
+use Rattle.co_base.specs.declared.node.Node.{Node}
+use Rattle.co_node.specs.Answers.{seen}
+use Rattle.co_plain.specs.Step.{arm_at}
+use Rattle.co_schedule.specs.View.{IsNode}
+use Rattle.co_world.proofs.Ends.{passed_memory, wants_memory, no_limit}
+use Rattle.co_world.proofs.Told.{told_as, stands_as}
+use Rattle.co_world.proofs.world.World.arm.Goals as goal
+
+pub returns-in_err-leaves-clause-count : goal.returns-in_err-leaves-clause-count
+returns-in_err-leaves-clause-count g c =
+    no_limit c.from_residual.result (passed_memory _ c.from_residual.result c.from_residual.ensures refl)
+
+pub returns-in_err-leaves-clause-ended : goal.returns-in_err-leaves-clause-ended
+returns-in_err-leaves-clause-ended g c =
+    wants_memory c.from_residual.result (seen g.H.Home.file g.H.Home.reach g.H.Home.faults g.H.Home.last_failed c.args.home.now) (seen g.H.Home.file g.H.Home.reach g.H.Home.faults g.H.Home.last_failed c.args.home.now) refl (passed_memory _ c.from_residual.result c.from_residual.ensures refl)
+
+pub at_member-requires-clause-in_head : goal.at_member-requires-clause-in_head
+at_member-requires-clause-in_head g c =
+    subst (λ (n : Node). IsNode (length c.args.self.now.members.items) (length c.args.self.now.coords.items) n) c.in-Member.is c.requires.in_head
+
+pub at_member-requires-clause-stands : goal.at_member-requires-clause-stands
+at_member-requires-clause-stands g c =
+    let s = c.requires.stands.0 in
+    let r = c.requires.stands.1 in
+    let ready = c.requires.stands.2 in
+    (s, r, λ up. (up, c.requires.call.0, c.requires.call.1))
+
+pub returns-in-Member-clause-count : goal.returns-in-Member-clause-count
+returns-in-Member-clause-count g c =
+    c.at_member.ensures.count
+
+pub returns-in-Member-clause-items : goal.returns-in-Member-clause-items
+returns-in-Member-clause-items g c = λ s r.
+    told_as c.args.number c.at_member.result _ (arm_at s c.args.call c.args.leaves.now c.args.node) (λ i. arm_at s c.args.call (c.in_ok-leaves.ensures i) (sym c.in-Member.is i)) (c.at_member.ensures.items s r)
+
+pub returns-in-Member-clause-stands : goal.returns-in-Member-clause-stands
+returns-in-Member-clause-stands g c = λ s r.
+    stands_as g.E.Engine.takes g.E.Engine.stands_for c.at_member.result c.at_member.new.self _ (arm_at s c.args.call c.args.leaves.now c.args.node) (λ i. arm_at s c.args.call (c.in_ok-leaves.ensures i) (sym c.in-Member.is i)) (c.at_member.ensures.stands s r)
+
+pub returns-in-Member-clause-served : goal.returns-in-Member-clause-served
+returns-in-Member-clause-served g c =
+    c.at_member.ensures.served
+
+pub returns-in-Member-clause-ended : goal.returns-in-Member-clause-ended
+returns-in-Member-clause-ended g c =
+    c.at_member.ensures.ended
+
+pub at_coord-requires-clause-in_head : goal.at_coord-requires-clause-in_head
+at_coord-requires-clause-in_head g c =
+    subst (λ (n : Node). IsNode (length c.args.self.now.members.items) (length c.args.self.now.coords.items) n) c.in-Coord.is c.requires.in_head
+
+pub at_coord-requires-clause-stands : goal.at_coord-requires-clause-stands
+at_coord-requires-clause-stands g c =
+    let s = c.requires.stands.0 in
+    let r = c.requires.stands.1 in
+    let ready = c.requires.stands.2 in
+    (s, r, λ up. (up, c.requires.call.0, c.requires.call.1))
+
+pub returns-in-Coord-clause-count : goal.returns-in-Coord-clause-count
+returns-in-Coord-clause-count g c =
+    c.at_coord.ensures.count
+
+pub returns-in-Coord-clause-items : goal.returns-in-Coord-clause-items
+returns-in-Coord-clause-items g c = λ s r.
+    told_as c.args.number c.at_coord.result _ (arm_at s c.args.call c.args.leaves.now c.args.node) (λ i. arm_at s c.args.call (c.in_ok-leaves.ensures i) (sym c.in-Coord.is i)) (c.at_coord.ensures.items s r)
+
+pub returns-in-Coord-clause-stands : goal.returns-in-Coord-clause-stands
+returns-in-Coord-clause-stands g c = λ s r.
+    stands_as g.E.Engine.takes g.E.Engine.stands_for c.at_coord.result c.at_coord.new.self _ (arm_at s c.args.call c.args.leaves.now c.args.node) (λ i. arm_at s c.args.call (c.in_ok-leaves.ensures i) (sym c.in-Coord.is i)) (c.at_coord.ensures.stands s r)
+
+pub returns-in-Coord-clause-served : goal.returns-in-Coord-clause-served
+returns-in-Coord-clause-served g c =
+    c.at_coord.ensures.served
+
+pub returns-in-Coord-clause-ended : goal.returns-in-Coord-clause-ended
+returns-in-Coord-clause-ended g c =
+    c.at_coord.ensures.ended

@@ -1,0 +1,94 @@
+use Rattle.std.proofs.Common.{◌≡◌, Err, length, sym, ap, subst}
+use Rattle.std.specs.Prelude.{IfOk, OnOk}
+use Rattle.co_base.specs.declared.node.Node.{Node}
+use Rattle.co_node.specs.Answers.{seen}
+use Rattle.co_plain.specs.Federation.{with_member, with_coord}
+use Rattle.co_plain.specs.MemberLog.{member_restart}
+use Rattle.co_plain.specs.CoordLog.{coord_restart}
+use Rattle.co_plain.specs.Runs.{numbered}
+use Rattle.co_plain.specs.Step.{restart_at}
+use Rattle.co_schedule.specs.View.{IsNode}
+use Rattle.co_world.specs.Standing.{RepresentsWorld}
+use Rattle.co_world.proofs.Ends.{passed, passed_limit, served_after}
+use Rattle.co_world.proofs.Ending.{told_ended}
+use Rattle.co_world.proofs.Ready.{restarts_member, restarts_coord}
+use Rattle.co_world.proofs.Told.{coord_told, coord_stands, member_told, member_stands}
+use Rattle.co_world.proofs.world.World.restart.Goals as goal
+
+pub member_does-requires-clause-in_head : goal.member_does-requires-clause-in_head
+member_does-requires-clause-in_head g c =
+    subst (λ (n : Node). IsNode (length c.args.self.now.members.items) (length c.args.self.now.coords.items) n) c.in-Member.is c.requires.in_head
+
+pub member_does-requires-clause-stands : goal.member_does-requires-clause-stands
+member_does-requires-clause-stands g c =
+    let s = c.requires.stands.0 in
+    let r = c.requires.stands.1 in
+    let ready = c.requires.stands.2 in
+    (s, r, restarts_member s ready c.in-Member.member)
+
+pub returns-in_err-did-in-Member-clause-count : goal.returns-in_err-did-in-Member-clause-count
+returns-in_err-did-in-Member-clause-count g c =
+    passed_limit c.in_err-did-in-Member.field-0.0 c.from_residual.result c.from_residual.ensures (λ e. c.in_err-did-in-Member.ensures.count (ap Err e))
+
+pub returns-in_err-did-in-Member-clause-ended : goal.returns-in_err-did-in-Member-clause-ended
+returns-in_err-did-in-Member-clause-ended g c =
+    passed c.in_err-did-in-Member.field-0.0 c.from_residual.result (seen g.H.Home.file g.H.Home.reach g.H.Home.faults g.H.Home.last_failed c.args.home.now) (seen g.H.Home.file g.H.Home.reach g.H.Home.faults g.H.Home.last_failed c.member_does.new.home) c.from_residual.ensures c.in_err-did-in-Member.ensures.ended
+
+pub returns-in_ok-did-in-Member-clause-count : goal.returns-in_ok-did-in-Member-clause-count
+returns-in_ok-did-in-Member-clause-count g c =
+    c.tells_of_member.ensures.count
+
+pub returns-in_ok-did-in-Member-clause-items : goal.returns-in_ok-did-in-Member-clause-items
+returns-in_ok-did-in-Member-clause-items g c = λ s r.
+    subst (λ (n : Node). IfOk c.tells_of_member.result (λ items. items ≡ numbered c.args.number (restart_at s n).items)) (sym c.in-Member.is) (member_told c.args.number c.tells_of_member.result s c.in-Member.member (member_restart (s.member c.in-Member.member)) c.in_ok-did-in-Member.did (c.in_ok-did-in-Member.ensures.told s r) c.tells_of_member.ensures.items)
+
+pub returns-in_ok-did-in-Member-clause-stands : goal.returns-in_ok-did-in-Member-clause-stands
+returns-in_ok-did-in-Member-clause-stands g c = λ s r.
+    subst (λ (n : Node). OnOk c.tells_of_member.result (RepresentsWorld g.E.Engine.takes g.E.Engine.stands_for c.tells_of_member.new.self (restart_at s n).state)) (sym c.in-Member.is) (member_stands g.E.Engine.takes g.E.Engine.stands_for c.tells_of_member.result c.tells_of_member.new.self s c.in-Member.member (member_restart (s.member c.in-Member.member)) c.in_ok-did-in-Member.did (c.in_ok-did-in-Member.ensures.told s r) (c.tells_of_member.ensures.stands (with_member s c.in-Member.member (member_restart (s.member c.in-Member.member)).state) (c.in_ok-did-in-Member.ensures.stands s r)))
+
+pub returns-in_ok-did-in-Member-clause-served : goal.returns-in_ok-did-in-Member-clause-served
+returns-in_ok-did-in-Member-clause-served g c =
+    served_after c.tells_of_member.result c.member_does.new.self c.tells_of_member.new.self (seen g.H.Home.file g.H.Home.reach g.H.Home.faults g.H.Home.last_failed c.args.home.now) (seen g.H.Home.file g.H.Home.reach g.H.Home.faults g.H.Home.last_failed c.member_does.new.home) c.in_ok-did-in-Member.ensures.served (c.tells_of_member.ensures.held (g.H.Home.file c.member_does.new.home) (g.H.Home.reach c.member_does.new.home) c.in_ok-did-in-Member.ensures.served.kept)
+
+pub returns-in_ok-did-in-Member-clause-ended : goal.returns-in_ok-did-in-Member-clause-ended
+returns-in_ok-did-in-Member-clause-ended g c =
+    told_ended c.tells_of_member.result (seen g.H.Home.file g.H.Home.reach g.H.Home.faults g.H.Home.last_failed c.args.home.now) (seen g.H.Home.file g.H.Home.reach g.H.Home.faults g.H.Home.last_failed c.member_does.new.home) c.tells_of_member.ensures.ended c.tells_of_member.ensures.count c.in_ok-did-in-Member.ensures.served.quiet
+
+pub coord_does-requires-clause-in_head : goal.coord_does-requires-clause-in_head
+coord_does-requires-clause-in_head g c =
+    subst (λ (n : Node). IsNode (length c.args.self.now.members.items) (length c.args.self.now.coords.items) n) c.in-Coord.is c.requires.in_head
+
+pub coord_does-requires-clause-stands : goal.coord_does-requires-clause-stands
+coord_does-requires-clause-stands g c =
+    let s = c.requires.stands.0 in
+    let r = c.requires.stands.1 in
+    let ready = c.requires.stands.2 in
+    (s, r, restarts_coord s ready c.in-Coord.coord)
+
+pub returns-in_err-did-in-Coord-clause-count : goal.returns-in_err-did-in-Coord-clause-count
+returns-in_err-did-in-Coord-clause-count g c =
+    passed_limit c.in_err-did-in-Coord.field-0.0 c.from_residual-in_err-did-in-Coord.result c.from_residual-in_err-did-in-Coord.ensures (λ e. c.in_err-did-in-Coord.ensures.count (ap Err e))
+
+pub returns-in_err-did-in-Coord-clause-ended : goal.returns-in_err-did-in-Coord-clause-ended
+returns-in_err-did-in-Coord-clause-ended g c =
+    passed c.in_err-did-in-Coord.field-0.0 c.from_residual-in_err-did-in-Coord.result (seen g.H.Home.file g.H.Home.reach g.H.Home.faults g.H.Home.last_failed c.args.home.now) (seen g.H.Home.file g.H.Home.reach g.H.Home.faults g.H.Home.last_failed c.coord_does.new.home) c.from_residual-in_err-did-in-Coord.ensures c.in_err-did-in-Coord.ensures.ended
+
+pub returns-in_ok-did-in-Coord-clause-count : goal.returns-in_ok-did-in-Coord-clause-count
+returns-in_ok-did-in-Coord-clause-count g c =
+    c.tells_of_coord.ensures.count
+
+pub returns-in_ok-did-in-Coord-clause-items : goal.returns-in_ok-did-in-Coord-clause-items
+returns-in_ok-did-in-Coord-clause-items g c = λ s r.
+    subst (λ (n : Node). IfOk c.tells_of_coord.result (λ items. items ≡ numbered c.args.number (restart_at s n).items)) (sym c.in-Coord.is) (coord_told c.args.number c.tells_of_coord.result s c.in-Coord.coord (coord_restart (s.coord c.in-Coord.coord)) c.in_ok-did-in-Coord.did (c.in_ok-did-in-Coord.ensures.told s r) c.tells_of_coord.ensures.items)
+
+pub returns-in_ok-did-in-Coord-clause-stands : goal.returns-in_ok-did-in-Coord-clause-stands
+returns-in_ok-did-in-Coord-clause-stands g c = λ s r.
+    subst (λ (n : Node). OnOk c.tells_of_coord.result (RepresentsWorld g.E.Engine.takes g.E.Engine.stands_for c.tells_of_coord.new.self (restart_at s n).state)) (sym c.in-Coord.is) (coord_stands g.E.Engine.takes g.E.Engine.stands_for c.tells_of_coord.result c.tells_of_coord.new.self s c.in-Coord.coord (coord_restart (s.coord c.in-Coord.coord)) c.in_ok-did-in-Coord.did (c.in_ok-did-in-Coord.ensures.told s r) (c.tells_of_coord.ensures.stands (with_coord s c.in-Coord.coord (coord_restart (s.coord c.in-Coord.coord)).state) (c.in_ok-did-in-Coord.ensures.stands s r)))
+
+pub returns-in_ok-did-in-Coord-clause-served : goal.returns-in_ok-did-in-Coord-clause-served
+returns-in_ok-did-in-Coord-clause-served g c =
+    served_after c.tells_of_coord.result c.coord_does.new.self c.tells_of_coord.new.self (seen g.H.Home.file g.H.Home.reach g.H.Home.faults g.H.Home.last_failed c.args.home.now) (seen g.H.Home.file g.H.Home.reach g.H.Home.faults g.H.Home.last_failed c.coord_does.new.home) c.in_ok-did-in-Coord.ensures.served (c.tells_of_coord.ensures.held (g.H.Home.file c.coord_does.new.home) (g.H.Home.reach c.coord_does.new.home) c.in_ok-did-in-Coord.ensures.served.kept)
+
+pub returns-in_ok-did-in-Coord-clause-ended : goal.returns-in_ok-did-in-Coord-clause-ended
+returns-in_ok-did-in-Coord-clause-ended g c =
+    told_ended c.tells_of_coord.result (seen g.H.Home.file g.H.Home.reach g.H.Home.faults g.H.Home.last_failed c.args.home.now) (seen g.H.Home.file g.H.Home.reach g.H.Home.faults g.H.Home.last_failed c.coord_does.new.home) c.tells_of_coord.ensures.ended c.tells_of_coord.ensures.count c.in_ok-did-in-Coord.ensures.served.quiet

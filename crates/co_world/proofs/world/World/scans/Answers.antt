@@ -1,0 +1,37 @@
+use Rattle.std.proofs.Common.{◌≡◌, refl, subst}
+use Rattle.std.specs.Prelude.{IfOk, OnOk}
+use Rattle.co_base.specs.declared.op.Op.TheVariants as op
+use Rattle.co_base.specs.declared.range.Range.{Range}
+use Rattle.co_plain.specs.Step.{operate}
+use Rattle.co_plain.specs.Runs.{numbered}
+use Rattle.co_world.specs.Standing.{RepresentsWorld}
+use Rattle.co_world.proofs.Ends.{passed_memory, wants_memory, no_limit}
+use Rattle.co_world.proofs.world.World.scans.Goals as goal
+
+pub returns-in_err-copy-clause-count : goal.returns-in_err-copy-clause-count
+returns-in_err-copy-clause-count g c =
+    no_limit c.from_residual.result (passed_memory _ c.from_residual.result c.from_residual.ensures refl)
+
+pub returns-in_err-copy-clause-ended : goal.returns-in_err-copy-clause-ended
+returns-in_err-copy-clause-ended g c = λ v.
+    wants_memory c.from_residual.result v v refl (passed_memory _ c.from_residual.result c.from_residual.ensures refl)
+
+pub returns-clause-count : goal.returns-clause-count
+returns-clause-count g c =
+    c.operate.ensures.count
+
+pub returns-clause-items : goal.returns-clause-items
+returns-clause-items g c = λ s r ready.
+    subst (λ (k : Range). IfOk c.operate.result (λ items. items ≡ numbered c.args.number (operate s c.args.t c.args.member (op.Scan k)).items)) c.in_ok-copy.ensures (c.operate.ensures.items s r ready)
+
+pub returns-clause-stands : goal.returns-clause-stands
+returns-clause-stands g c = λ s r ready.
+    subst (λ (k : Range). OnOk c.operate.result (RepresentsWorld g.E.Engine.takes g.E.Engine.stands_for c.operate.new.self (operate s c.args.t c.args.member (op.Scan k)).state)) c.in_ok-copy.ensures (c.operate.ensures.stands s r ready)
+
+pub returns-clause-held : goal.returns-clause-held
+returns-clause-held g c =
+    c.operate.ensures.held
+
+pub returns-clause-ended : goal.returns-clause-ended
+returns-clause-ended g c =
+    c.operate.ensures.ended
