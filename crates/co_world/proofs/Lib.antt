@@ -8,3 +8,4 @@ pub mod Openings
 pub mod Leaving
 pub mod CoordLeaving
 pub mod Lefts
+pub mod ClientLefts
