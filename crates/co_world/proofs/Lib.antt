@@ -15,3 +15,4 @@ pub mod Arriving
 pub mod Leaving
 pub mod CoordLeaving
 pub mod Lefts
+pub mod LeftSteps
