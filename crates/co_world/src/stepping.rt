@@ -274,7 +274,8 @@ impl<E: Engine + Drop> World<E> {
     ///
     /// The items are what became stable, what was sent and exactly one answer; the event's own item is not among them. `Count` comes where a
     /// transaction is begun and 65,536 numbers are used; `Device`, `Differs`, `Full` and `Memory` as the node says. `InUse` and `Bad`
-    /// never come.
+    /// never come. A fault leaves in the files the stable records of before the event, or those that the event leaves, or those that it leaves
+    /// where no stop is armed.
     pub fn step<H: Home>(
         &mut self,
         home: &mut H,
