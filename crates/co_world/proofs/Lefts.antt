@@ -235,7 +235,7 @@ module _ {E : Type 0} (takes : Kind → Type 0) (stands_for : E → EngineState 
 -- ---- a step of the federation
 
 -- decisions and messages are in no file
-noted_left : (file : Spot → Option File) (s : Federation) (marks : List Mark) (messages : List Message) → AreLeftAs file s → AreLeftAs file (noted s marks messages)
+pub noted_left : (file : Spot → Option File) (s : Federation) (marks : List Mark) (messages : List Message) → AreLeftAs file s → AreLeftAs file (noted s marks messages)
 noted_left file s marks messages left = record { member = left.member; coord = left.coord }
 
 pub member_step_left : (file : Spot → Option File) (s : Federation) (k : ℕ) (up : Bool) (did : PlainMemberStep) → up ≡ true → AreLeftAs file (with_member s k did.state) → AreLeftAs file (up_member s k up did).state

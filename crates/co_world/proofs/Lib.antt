@@ -15,4 +15,4 @@ pub mod Arriving
 pub mod Leaving
 pub mod CoordLeaving
 pub mod Lefts
-pub mod ClientLefts
+pub mod LeftSteps

@@ -1,5 +1,5 @@
 //! What clients ask: to begin, to operate and to end.
-ghost use Rattle.std.specs.Prelude.{◌≡◌, ◌≤◌, ◌<◌, ℕ, Option, true, false, Some, length, IfOk, IfErr, IsErrOf, OnOk, ◌↔◌};
+ghost use Rattle.std.specs.Prelude.{◌≡◌, ◌≤◌, ◌<◌, ℕ, Option, true, false, Some, length, IfOk, IfErr, IsErrOf, OnOk, OnErr, ◌↔◌};
 ghost use Rattle.co_base.specs.declared.reply.Reply.{Reply};
 ghost use Rattle.co_durable.specs.declared.fault.WorldFault.TheVariants as world;
 ghost use Rattle.co_message.specs.declared.answer.Answer.{Answer};
@@ -10,7 +10,7 @@ ghost use Rattle.co_plain.specs.Federation.{Federation, with_member};
 ghost use Rattle.co_plain.specs.Member.{member_op};
 ghost use Rattle.co_plain.specs.Runs.{numbered};
 ghost use Rattle.co_plain.specs.Sessions.{Grants, leave_to_visit, count_at, parts_of};
-ghost use Rattle.co_plain.specs.Step.{is_stopped, is_held, reply_in, entered, operate, marked_asked, coord_answers, local_answers, step_line};
+ghost use Rattle.co_plain.specs.Step.{is_stopped, is_held, reply_in, entered, operate, marked_asked, coord_answers, local_answers, disarmed, step_line};
 ghost use Rattle.co_plain.specs.declared.session.Session.{Session};
 ghost use Rattle.co_session.specs.Clients.{is_used, is_full, carried_in};
 ghost use Rattle.co_session.specs.Leaves.{refusal_of};
@@ -19,6 +19,7 @@ ghost use Rattle.co_world.specs.Calls.{coord_asked, coord_does, member_asked, me
 ghost use Rattle.co_world.specs.Conditions.{IsReady};
 ghost use Rattle.co_world.specs.Counting.{IsOneMore};
 ghost use Rattle.co_node.specs.Answers.{seen, HomeView};
+ghost use Rattle.co_world.specs.Left.{AreLeftBy, member_disarmed, coord_disarmed};
 ghost use Rattle.co_world.specs.Served.{AreServed, HasEndedAs};
 ghost use Rattle.co_world.specs.Standing.{RepresentsWorld, AreHeld};
 
@@ -136,6 +137,8 @@ impl<E: Engine + Drop> World<E> {
         ensures count { IsErrOf result WorldFault.Count ↔ IsOneMore self.old.sessions t }
         ensures items { (s : Federation) → RepresentsWorld E.takes E.stands_for self.old s → IfOk result (λ items. items ≡ numbered number (step_line s (event.Begin t coord)).items) }
         ensures stands { (s : Federation) → RepresentsWorld E.takes E.stands_for self.old s → OnOk result (RepresentsWorld E.takes E.stands_for self.new (step_line s (event.Begin t coord)).state) }
+        ensures left { (s : Federation) → RepresentsWorld E.takes E.stands_for self.old s →
+            OnErr result (AreLeftBy (H.file home.new) s (step_line s (event.Begin t coord)).state (step_line (disarmed s) (event.Begin t coord)).state) }
         ensures served { OnOk result (AreServed self.new (seen H.file H.reach H.faults H.last_failed home.old) (seen H.file H.reach H.faults H.last_failed home.new)) }
         ensures ended { IfErr result (λ fault. HasEndedAs fault (seen H.file H.reach H.faults H.last_failed home.old) (seen H.file H.reach H.faults H.last_failed home.new)) }
         ensures entered { H.entered home.new ≡ H.entered home.old }
@@ -275,6 +278,8 @@ impl<E: Engine + Drop> World<E> {
         ensures count { IsErrOf result WorldFault.Count → ⊥ }
         ensures items { (s : Federation) → RepresentsWorld E.takes E.stands_for self.old s → IsReady s → IfOk result (λ items. items ≡ numbered number (ended s t ending).items) }
         ensures stands { (s : Federation) → RepresentsWorld E.takes E.stands_for self.old s → IsReady s → OnOk result (RepresentsWorld E.takes E.stands_for self.new (ended s t ending).state) }
+        ensures left { (s : Federation) → RepresentsWorld E.takes E.stands_for self.old s → IsReady s →
+            OnErr result (AreLeftBy (H.file home.new) s (ended s t ending).state (ended (disarmed s) t ending).state) }
         ensures served { OnOk result (AreServed self.new (seen H.file H.reach H.faults H.last_failed home.old) (seen H.file H.reach H.faults H.last_failed home.new)) }
         ensures ended { IfErr result (λ fault. HasEndedAs fault (seen H.file H.reach H.faults H.last_failed home.old) (seen H.file H.reach H.faults H.last_failed home.new)) }
         ensures entered { H.entered home.new ≡ H.entered home.old }
@@ -301,6 +306,10 @@ impl<E: Engine + Drop> World<E> {
         ensures count { IsErrOf result WorldFault.Count → ⊥ }
         ensures items { (s : Federation) → RepresentsWorld E.takes E.stands_for self.old s → (session : Session) → look s.sessions t ≡ Some session → IfOk result (λ items. items ≡ numbered number (coord_answers s t session coord (s.coord coord).up (coord_does coord (coord_asked ending t (parts_of session.told)) (s.coord coord))).items) }
         ensures stands { (s : Federation) → RepresentsWorld E.takes E.stands_for self.old s → (session : Session) → look s.sessions t ≡ Some session → OnOk result (RepresentsWorld E.takes E.stands_for self.new (coord_answers s t session coord (s.coord coord).up (coord_does coord (coord_asked ending t (parts_of session.told)) (s.coord coord))).state) }
+        ensures left { (s : Federation) → RepresentsWorld E.takes E.stands_for self.old s → (session : Session) → look s.sessions t ≡ Some session →
+            OnErr result (AreLeftBy (H.file home.new) s
+            (coord_answers s t session coord (s.coord coord).up (coord_does coord (coord_asked ending t (parts_of session.told)) (s.coord coord))).state
+            (coord_answers (disarmed s) t session coord (s.coord coord).up (coord_does coord (coord_asked ending t (parts_of session.told)) (coord_disarmed (s.coord coord)))).state) }
         ensures served { OnOk result (AreServed self.new (seen H.file H.reach H.faults H.last_failed home.old) (seen H.file H.reach H.faults H.last_failed home.new)) }
         ensures ended { IfErr result (λ fault. HasEndedAs fault (seen H.file H.reach H.faults H.last_failed home.old) (seen H.file H.reach H.faults H.last_failed home.new)) }
         ensures entered { H.entered home.new ≡ H.entered home.old }
@@ -329,6 +338,10 @@ impl<E: Engine + Drop> World<E> {
         ensures count { IsErrOf result WorldFault.Count → ⊥ }
         ensures items { (s : Federation) → RepresentsWorld E.takes E.stands_for self.old s → (session : Session) → look s.sessions t ≡ Some session → IfOk result (λ items. items ≡ numbered number (local_answers s t session member (s.member member).up (member_does member (member_asked ending t (count_at session.told member)) (s.member member))).items) }
         ensures stands { (s : Federation) → RepresentsWorld E.takes E.stands_for self.old s → (session : Session) → look s.sessions t ≡ Some session → OnOk result (RepresentsWorld E.takes E.stands_for self.new (local_answers s t session member (s.member member).up (member_does member (member_asked ending t (count_at session.told member)) (s.member member))).state) }
+        ensures left { (s : Federation) → RepresentsWorld E.takes E.stands_for self.old s → (session : Session) → look s.sessions t ≡ Some session →
+            OnErr result (AreLeftBy (H.file home.new) s
+            (local_answers s t session member (s.member member).up (member_does member (member_asked ending t (count_at session.told member)) (s.member member))).state
+            (local_answers (disarmed s) t session member (s.member member).up (member_does member (member_asked ending t (count_at session.told member)) (member_disarmed (s.member member)))).state) }
         ensures served { OnOk result (AreServed self.new (seen H.file H.reach H.faults H.last_failed home.old) (seen H.file H.reach H.faults H.last_failed home.new)) }
         ensures ended { IfErr result (λ fault. HasEndedAs fault (seen H.file H.reach H.faults H.last_failed home.old) (seen H.file H.reach H.faults H.last_failed home.new)) }
         ensures entered { H.entered home.new ≡ H.entered home.old }

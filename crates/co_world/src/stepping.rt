@@ -1,16 +1,17 @@
 //! One event of a schedule line.
-ghost use Rattle.std.specs.Prelude.{◌≡◌, ◌≤◌, ℕ, Option, length, IfOk, IfErr, IsErrOf, OnOk, ◌↔◌};
+ghost use Rattle.std.specs.Prelude.{◌≡◌, ◌≤◌, ℕ, Option, length, IfOk, IfErr, IsErrOf, OnOk, OnErr, ◌↔◌};
 ghost use Rattle.co_base.specs.declared.op.Op.TheVariants as op;
 ghost use Rattle.co_outside.specs.Home.{File};
 ghost use Rattle.co_outside.specs.declared.spot.Spot.{Spot};
 ghost use Rattle.co_plain.specs.Federation.{Federation};
 ghost use Rattle.co_plain.specs.Runs.{numbered};
-ghost use Rattle.co_plain.specs.Step.{operate, deliver, timer_at, crash_at, restart_at, arm_at, checkpoint_at, step_line};
+ghost use Rattle.co_plain.specs.Step.{operate, deliver, timer_at, crash_at, restart_at, arm_at, checkpoint_at, disarmed, step_line};
 ghost use Rattle.co_schedule.specs.View.{IsEventFor, IsMessageFor, IsNode};
 ghost use Rattle.co_world.specs.Calls.{receiver};
 ghost use Rattle.co_world.specs.Conditions.{IsReady};
 ghost use Rattle.co_world.specs.Counting.{MeetsLimit};
 ghost use Rattle.co_node.specs.Answers.{seen, HomeView};
+ghost use Rattle.co_world.specs.Left.{AreLeftBy};
 ghost use Rattle.co_world.specs.Served.{AreServed, HasEndedAs};
 ghost use Rattle.co_world.specs.Standing.{RepresentsWorld, AreHeld};
 
@@ -121,6 +122,7 @@ impl<E: Engine + Drop> World<E> {
         ensures count { IsErrOf result WorldFault.Count → ⊥ }
         ensures items { (s : Federation) → RepresentsWorld E.takes E.stands_for self.old s → IsReady s → IfOk result (λ items. items ≡ numbered number (deliver s message).items) }
         ensures stands { (s : Federation) → RepresentsWorld E.takes E.stands_for self.old s → IsReady s → OnOk result (RepresentsWorld E.takes E.stands_for self.new (deliver s message).state) }
+        ensures left { (s : Federation) → RepresentsWorld E.takes E.stands_for self.old s → IsReady s → OnErr result (AreLeftBy (H.file home.new) s (deliver s message).state (deliver (disarmed s) message).state) }
         ensures served { OnOk result (AreServed self.new (seen H.file H.reach H.faults H.last_failed home.old) (seen H.file H.reach H.faults H.last_failed home.new)) }
         ensures ended { IfErr result (λ fault. HasEndedAs fault (seen H.file H.reach H.faults H.last_failed home.old) (seen H.file H.reach H.faults H.last_failed home.new)) }
         ensures entered { H.entered home.new ≡ H.entered home.old }
@@ -152,6 +154,7 @@ impl<E: Engine + Drop> World<E> {
         ensures count { IsErrOf result WorldFault.Count → ⊥ }
         ensures items { (s : Federation) → RepresentsWorld E.takes E.stands_for self.old s → IfOk result (λ items. items ≡ numbered number (timer_at s t node).items) }
         ensures stands { (s : Federation) → RepresentsWorld E.takes E.stands_for self.old s → OnOk result (RepresentsWorld E.takes E.stands_for self.new (timer_at s t node).state) }
+        ensures left { (s : Federation) → RepresentsWorld E.takes E.stands_for self.old s → OnErr result (AreLeftBy (H.file home.new) s (timer_at s t node).state (timer_at (disarmed s) t node).state) }
         ensures served { OnOk result (AreServed self.new (seen H.file H.reach H.faults H.last_failed home.old) (seen H.file H.reach H.faults H.last_failed home.new)) }
         ensures ended { IfErr result (λ fault. HasEndedAs fault (seen H.file H.reach H.faults H.last_failed home.old) (seen H.file H.reach H.faults H.last_failed home.new)) }
         ensures entered { H.entered home.new ≡ H.entered home.old }
@@ -170,6 +173,7 @@ impl<E: Engine + Drop> World<E> {
         ensures count { IsErrOf result WorldFault.Count → ⊥ }
         ensures items { (s : Federation) → RepresentsWorld E.takes E.stands_for self.old s → IfOk result (λ items. items ≡ numbered number (crash_at s node).items) }
         ensures stands { (s : Federation) → RepresentsWorld E.takes E.stands_for self.old s → OnOk result (RepresentsWorld E.takes E.stands_for self.new (crash_at s node).state) }
+        ensures left { (s : Federation) → RepresentsWorld E.takes E.stands_for self.old s → OnErr result (AreLeftBy (H.file home.new) s (crash_at s node).state (crash_at (disarmed s) node).state) }
         ensures served { OnOk result (AreServed self.new (seen H.file H.reach H.faults H.last_failed home.old) (seen H.file H.reach H.faults H.last_failed home.new)) }
         ensures ended { IfErr result (λ fault. HasEndedAs fault (seen H.file H.reach H.faults H.last_failed home.old) (seen H.file H.reach H.faults H.last_failed home.new)) }
         ensures entered { H.entered home.new ≡ H.entered home.old }
@@ -193,6 +197,7 @@ impl<E: Engine + Drop> World<E> {
         ensures count { IsErrOf result WorldFault.Count → ⊥ }
         ensures items { (s : Federation) → RepresentsWorld E.takes E.stands_for self.old s → IfOk result (λ items. items ≡ numbered number (restart_at s node).items) }
         ensures stands { (s : Federation) → RepresentsWorld E.takes E.stands_for self.old s → OnOk result (RepresentsWorld E.takes E.stands_for self.new (restart_at s node).state) }
+        ensures left { (s : Federation) → RepresentsWorld E.takes E.stands_for self.old s → OnErr result (AreLeftBy (H.file home.new) s (restart_at s node).state (restart_at (disarmed s) node).state) }
         ensures served { OnOk result (AreServed self.new (seen H.file H.reach H.faults H.last_failed home.old) (seen H.file H.reach H.faults H.last_failed home.new)) }
         ensures ended { IfErr result (λ fault. HasEndedAs fault (seen H.file H.reach H.faults H.last_failed home.old) (seen H.file H.reach H.faults H.last_failed home.new)) }
         ensures entered { H.entered home.new ≡ H.entered home.old }
@@ -225,6 +230,7 @@ impl<E: Engine + Drop> World<E> {
         ensures count { IsErrOf result WorldFault.Count → ⊥ }
         ensures items { (s : Federation) → RepresentsWorld E.takes E.stands_for self.old s → IfOk result (λ items. items ≡ numbered number (arm_at s call leaves.now node).items) }
         ensures stands { (s : Federation) → RepresentsWorld E.takes E.stands_for self.old s → OnOk result (RepresentsWorld E.takes E.stands_for self.new (arm_at s call leaves.now node).state) }
+        ensures left { (s : Federation) → RepresentsWorld E.takes E.stands_for self.old s → OnErr result (AreLeftBy (H.file home.new) s (arm_at s call leaves.now node).state (arm_at (disarmed s) call leaves.now node).state) }
         ensures served { OnOk result (AreServed self.new (seen H.file H.reach H.faults H.last_failed home.old) (seen H.file H.reach H.faults H.last_failed home.new)) }
         ensures ended { IfErr result (λ fault. HasEndedAs fault (seen H.file H.reach H.faults H.last_failed home.old) (seen H.file H.reach H.faults H.last_failed home.new)) }
         ensures entered { H.entered home.new ≡ H.entered home.old }
@@ -253,6 +259,7 @@ impl<E: Engine + Drop> World<E> {
         ensures count { IsErrOf result WorldFault.Count → ⊥ }
         ensures items { (s : Federation) → RepresentsWorld E.takes E.stands_for self.old s → IfOk result (λ items. items ≡ numbered number (checkpoint_at s node).items) }
         ensures stands { (s : Federation) → RepresentsWorld E.takes E.stands_for self.old s → OnOk result (RepresentsWorld E.takes E.stands_for self.new (checkpoint_at s node).state) }
+        ensures left { (s : Federation) → RepresentsWorld E.takes E.stands_for self.old s → OnErr result (AreLeftBy (H.file home.new) s (checkpoint_at s node).state (checkpoint_at (disarmed s) node).state) }
         ensures served { OnOk result (AreServed self.new (seen H.file H.reach H.faults H.last_failed home.old) (seen H.file H.reach H.faults H.last_failed home.new)) }
         ensures ended { IfErr result (λ fault. HasEndedAs fault (seen H.file H.reach H.faults H.last_failed home.old) (seen H.file H.reach H.faults H.last_failed home.new)) }
         ensures entered { H.entered home.new ≡ H.entered home.old }
@@ -267,7 +274,8 @@ impl<E: Engine + Drop> World<E> {
     ///
     /// The items are what became stable, what was sent and exactly one answer; the event's own item is not among them. `Count` comes where a
     /// transaction is begun and 65,536 numbers are used; `Device`, `Differs`, `Full` and `Memory` as the node says. `InUse` and `Bad`
-    /// never come.
+    /// never come. A fault leaves in the files the stable records of before the event, or those that the event leaves, or those that it leaves
+    /// where no stop is armed.
     pub fn step<H: Home>(
         &mut self,
         home: &mut H,
@@ -280,6 +288,7 @@ impl<E: Engine + Drop> World<E> {
         ensures count { IsErrOf result WorldFault.Count ↔ MeetsLimit self.old.sessions event.now }
         ensures items { (s : Federation) → RepresentsWorld E.takes E.stands_for self.old s → IsReady s → IfOk result (λ items. items ≡ numbered number (step_line s event.now).items) }
         ensures stands { (s : Federation) → RepresentsWorld E.takes E.stands_for self.old s → IsReady s → OnOk result (RepresentsWorld E.takes E.stands_for self.new (step_line s event.now).state) }
+        ensures left { (s : Federation) → RepresentsWorld E.takes E.stands_for self.old s → IsReady s → OnErr result (AreLeftBy (H.file home.new) s (step_line s event.now).state (step_line (disarmed s) event.now).state) }
         ensures served { OnOk result (AreServed self.new (seen H.file H.reach H.faults H.last_failed home.old) (seen H.file H.reach H.faults H.last_failed home.new)) }
         ensures ended { IfErr result (λ fault. HasEndedAs fault (seen H.file H.reach H.faults H.last_failed home.old) (seen H.file H.reach H.faults H.last_failed home.new)) }
         ensures entered { H.entered home.new ≡ H.entered home.old }

@@ -1,10 +1,13 @@
-use Rattle.std.proofs.Common.{length, refl, sym, subst}
+use Rattle.std.proofs.Common.{length, refl, sym, subst, inl}
 use Rattle.co_base.specs.declared.node.Node.{Node}
 use Rattle.co_node.specs.Answers.{seen}
-use Rattle.co_plain.specs.Step.{arm_at}
+use Rattle.co_plain.specs.Step.{arm_at, disarmed}
 use Rattle.co_schedule.specs.View.{IsNode}
 use Rattle.co_world.proofs.Ends.{passed_memory, wants_memory, no_limit}
 use Rattle.co_world.proofs.Told.{told_as, stands_as}
+use Rattle.co_world.proofs.Lefts.{held_left}
+use Rattle.co_world.proofs.Leaving.{at_fault}
+use Rattle.co_world.proofs.LeftSteps.{left_as}
 use Rattle.co_world.proofs.world.World.arm.Goals as goal
 
 pub returns-in_err-leaves-clause-count : goal.returns-in_err-leaves-clause-count
@@ -76,3 +79,17 @@ returns-in-Coord-clause-served g c =
 pub returns-in-Coord-clause-ended : goal.returns-in-Coord-clause-ended
 returns-in-Coord-clause-ended g c =
     c.at_coord.ensures.ended
+
+pub returns-in_err-leaves-clause-left : goal.returns-in_err-leaves-clause-left
+returns-in_err-leaves-clause-left g c = λ s r.
+    at_fault c.from_residual.result (inl (held_left g.E.Engine.takes g.E.Engine.stands_for c.args.self.now s (g.H.Home.file c.args.home.now) (g.H.Home.reach c.args.home.now) r c.requires.held))
+
+pub returns-in-Member-clause-left : goal.returns-in-Member-clause-left
+returns-in-Member-clause-left g c = λ s r.
+    left_as c.at_member.result (g.H.Home.file c.at_member.new.home) s _ (arm_at s c.args.call c.args.leaves.now c.args.node) _ (arm_at (disarmed s) c.args.call c.args.leaves.now c.args.node) (λ i. arm_at s c.args.call (c.in_ok-leaves.ensures i) (sym c.in-Member.is i))
+    (λ i. arm_at (disarmed s) c.args.call (c.in_ok-leaves.ensures i) (sym c.in-Member.is i)) (c.at_member.ensures.left s r)
+
+pub returns-in-Coord-clause-left : goal.returns-in-Coord-clause-left
+returns-in-Coord-clause-left g c = λ s r.
+    left_as c.at_coord.result (g.H.Home.file c.at_coord.new.home) s _ (arm_at s c.args.call c.args.leaves.now c.args.node) _ (arm_at (disarmed s) c.args.call c.args.leaves.now c.args.node) (λ i. arm_at s c.args.call (c.in_ok-leaves.ensures i) (sym c.in-Coord.is i))
+    (λ i. arm_at (disarmed s) c.args.call (c.in_ok-leaves.ensures i) (sym c.in-Coord.is i)) (c.at_coord.ensures.left s r)

@@ -1,4 +1,4 @@
-use Rattle.std.proofs.Common.{Bool, Err, refl, sym, ap, ◌∙◌, subst}
+use Rattle.std.proofs.Common.{Bool, Err, refl, sym, ap, ◌∙◌, subst, inl, inr}
 use Rattle.co_base.specs.declared.node.Node.TheVariants as node
 use Rattle.co_durable.specs.declared.fault.WorldFault.{WorldFault}
 use Rattle.co_law_base.proofs.Lookups.{apart_by}
@@ -7,13 +7,17 @@ use Rattle.co_node.specs.Answers.{seen}
 use Rattle.co_plain.specs.Coordinator.{coord_begin}
 use Rattle.co_plain.specs.Federation.{answers, with_session, with_coord, at_coord}
 use Rattle.co_plain.specs.Sessions.{begun_by}
-use Rattle.co_plain.specs.Step.{is_used, begin_where}
+use Rattle.co_plain.specs.Step.{is_used, begin_where, disarmed}
 use Rattle.co_session.specs.Clients.{is_used as is_used_in}
 use Rattle.co_world.specs.Served.{HasEndedAs}
 use Rattle.co_world.proofs.Acting.{used_alike, begins, own_coord}
 use Rattle.co_world.proofs.Ends.{errs_as, passed, passed_limit, passed_memory, wants_memory, no_limit, served_alone, served_after, all_ok}
 use Rattle.co_world.proofs.Ending.{told_ended}
 use Rattle.co_world.proofs.Told.{told_as, stands_as, answered_stands, coord_told, coord_stands}
+use Rattle.co_world.proofs.Lefts.{held_left}
+use Rattle.co_world.proofs.Leaving.{at_fault}
+use Rattle.co_world.proofs.LeftSteps.{at_coord_left, begun_left, left_as}
+use Rattle.co_world.specs.Left.{coord_disarmed}
 use Rattle.co_world.proofs.world.World.begin.Goals as goal
 
 -- ---- the number is used, or there are too many
@@ -178,3 +182,54 @@ returns-clause-ended g c =
     let old = seen g.H.Home.file g.H.Home.reach g.H.Home.faults g.H.Home.last_failed c.args.home.now in
     let new = seen g.H.Home.file g.H.Home.reach g.H.Home.faults g.H.Home.last_failed c.coord_does.new.home in
     told_ended c.tells_of_coord.result old new c.tells_of_coord.ensures.ended c.tells_of_coord.ensures.count c.in_ok-did.ensures.served.quiet
+
+pub returns-in_err-used-clause-left : goal.returns-in_err-used-clause-left
+returns-in_err-used-clause-left g c = λ s r.
+    at_fault c.from_residual.result (inl (held_left g.E.Engine.takes g.E.Engine.stands_for c.args.self.now s (g.H.Home.file c.args.home.now) (g.H.Home.reach c.args.home.now) r c.requires.held))
+
+pub returns-then-branch-clause-left : goal.returns-then-branch-clause-left
+returns-then-branch-clause-left g c = λ s r.
+    at_fault c.answers.result (inl (held_left g.E.Engine.takes g.E.Engine.stands_for c.args.self.now s (g.H.Home.file c.args.home.now) (g.H.Home.reach c.args.home.now) r c.requires.held))
+
+pub returns-then-not-coord_up-clause-left : goal.returns-then-not-coord_up-clause-left
+returns-then-not-coord_up-clause-left g c = λ s r.
+    at_fault c.answers-then-not-coord_up.result (inl (held_left g.E.Engine.takes g.E.Engine.stands_for c.args.self.now s (g.H.Home.file c.args.home.now) (g.H.Home.reach c.args.home.now) r c.requires.held))
+
+pub returns-in_err-begin-clause-left : goal.returns-in_err-begin-clause-left
+returns-in_err-begin-clause-left g c = λ s r.
+    at_fault c.from_residual-in_err-begin.result (inl (held_left g.E.Engine.takes g.E.Engine.stands_for c.args.self.now s (g.H.Home.file c.args.home.now) (g.H.Home.reach c.args.home.now) r c.requires.held))
+
+pub returns-in_err-did-clause-left : goal.returns-in_err-did-clause-left
+returns-in_err-did-clause-left g c = λ s r.
+    let by = node.Coord c.args.coord in
+    let unused = sym (used_alike g.E.Engine.takes g.E.Engine.stands_for c.args.self.now s r c.args.t) ∙ sym c.in_ok-used.ensures.used ∙ c.if-branch.false in
+    let up = sym (c.coord_up.ensures s r) ∙ c.if-not-coord_up.false in
+    let own = own_coord g.E.Engine.takes g.E.Engine.stands_for c.args.self.now s r c.args.coord c.requires.in_head in
+    let begun = begins g.E.Engine.takes g.E.Engine.stands_for c.args.self.now s r c.begin.new.self c.args.t by c.in_ok-begin.ensures.ok own in
+    let plain = with_session s c.args.t (begun_by by) in
+    let step = coord_begin (s.coord c.args.coord) c.args.t in
+    let whole = coord_begin (coord_disarmed (s.coord c.args.coord)) c.args.t in
+    let file = g.H.Home.file c.coord_does.new.home in
+    let first = at_coord plain c.args.coord step in
+    let all = at_coord (with_session (disarmed s) c.args.t (begun_by by)) c.args.coord whole in
+    left_as c.from_residual-in_err-did.result file s first (begin_where s c.args.t c.args.coord (is_used s c.args.t) (s.coord c.args.coord).up) all (begin_where (disarmed s) c.args.t c.args.coord (is_used s c.args.t) (s.coord c.args.coord).up)
+    (λ i. begin_where s c.args.t c.args.coord (sym unused i) (sym up i)) (λ i. begin_where (disarmed s) c.args.t c.args.coord (sym unused i) (sym up i))
+    (at_fault c.from_residual-in_err-did.result (begun_left file s c.args.t (begun_by by) c.args.coord first.state whole (c.in_err-did.ensures.left plain begun)))
+
+pub returns-clause-left : goal.returns-clause-left
+returns-clause-left g c = λ s r.
+    let by = node.Coord c.args.coord in
+    let unused = sym (used_alike g.E.Engine.takes g.E.Engine.stands_for c.args.self.now s r c.args.t) ∙ sym c.in_ok-used.ensures.used ∙ c.if-branch.false in
+    let up = sym (c.coord_up.ensures s r) ∙ c.if-not-coord_up.false in
+    let own = own_coord g.E.Engine.takes g.E.Engine.stands_for c.args.self.now s r c.args.coord c.requires.in_head in
+    let begun = begins g.E.Engine.takes g.E.Engine.stands_for c.args.self.now s r c.begin.new.self c.args.t by c.in_ok-begin.ensures.ok own in
+    let plain = with_session s c.args.t (begun_by by) in
+    let step = coord_begin (s.coord c.args.coord) c.args.t in
+    let whole = coord_begin (coord_disarmed (s.coord c.args.coord)) c.args.t in
+    let file = g.H.Home.file c.coord_does.new.home in
+    let first = at_coord plain c.args.coord step in
+    let all = at_coord (with_session (disarmed s) c.args.t (begun_by by)) c.args.coord whole in
+    let now = held_left g.E.Engine.takes g.E.Engine.stands_for c.coord_does.new.self (with_coord plain c.args.coord step.state) (g.H.Home.file c.coord_does.new.home) (g.H.Home.reach c.coord_does.new.home) (c.in_ok-did.ensures.stands plain begun) c.in_ok-did.ensures.served.kept in
+    left_as c.tells_of_coord.result file s first (begin_where s c.args.t c.args.coord (is_used s c.args.t) (s.coord c.args.coord).up) all (begin_where (disarmed s) c.args.t c.args.coord (is_used s c.args.t) (s.coord c.args.coord).up)
+    (λ i. begin_where s c.args.t c.args.coord (sym unused i) (sym up i)) (λ i. begin_where (disarmed s) c.args.t c.args.coord (sym unused i) (sym up i))
+    (at_fault c.tells_of_coord.result (inr (inl (at_coord_left file plain c.args.coord step now))))

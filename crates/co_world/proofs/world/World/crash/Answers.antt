@@ -1,10 +1,11 @@
 use Rattle.std.proofs.Common.{◌≡◌, length, sym, subst}
-use Rattle.std.specs.Prelude.{IfOk, OnOk}
+use Rattle.std.specs.Prelude.{IfOk, OnOk, OnErr}
 use Rattle.co_base.specs.declared.node.Node.{Node}
 use Rattle.co_plain.specs.Runs.{numbered}
-use Rattle.co_plain.specs.Step.{crash_at}
+use Rattle.co_plain.specs.Step.{crash_at, disarmed}
 use Rattle.co_schedule.specs.View.{IsNode}
 use Rattle.co_world.specs.Standing.{RepresentsWorld}
+use Rattle.co_world.specs.Left.{AreLeftBy}
 use Rattle.co_world.proofs.world.World.crash.Goals as goal
 
 pub at_member-requires-clause-in_head : goal.at_member-requires-clause-in_head
@@ -68,3 +69,11 @@ returns-in-Coord-clause-served g c =
 pub returns-in-Coord-clause-ended : goal.returns-in-Coord-clause-ended
 returns-in-Coord-clause-ended g c =
     c.at_coord.ensures.ended
+
+pub returns-in-Member-clause-left : goal.returns-in-Member-clause-left
+returns-in-Member-clause-left g c = λ s r.
+    subst (λ (n : Node). OnErr c.at_member.result (AreLeftBy (g.H.Home.file c.at_member.new.home) s (crash_at s n).state (crash_at (disarmed s) n).state)) (sym c.in-Member.is) (c.at_member.ensures.left s r)
+
+pub returns-in-Coord-clause-left : goal.returns-in-Coord-clause-left
+returns-in-Coord-clause-left g c = λ s r.
+    subst (λ (n : Node). OnErr c.at_coord.result (AreLeftBy (g.H.Home.file c.at_coord.new.home) s (crash_at s n).state (crash_at (disarmed s) n).state)) (sym c.in-Coord.is) (c.at_coord.ensures.left s r)

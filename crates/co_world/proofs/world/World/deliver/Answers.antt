@@ -1,4 +1,4 @@
-use Rattle.std.proofs.Common.{◌≡◌, true, false, length, refl, sym, ap, ◌∙◌, subst}
+use Rattle.std.proofs.Common.{◌≡◌, true, false, length, refl, sym, ap, ◌∙◌, subst, inl}
 use Rattle.std.specs.Prelude.{List}
 use Rattle.co_world.proofs.Arriving.{receiver_in_head, delivers_to_member, delivers_to_coord, never_sent, unsent_is}
 use Rattle.co_plain.specs.Wire.{was_sent}
@@ -7,12 +7,15 @@ use Rattle.co_base.specs.declared.node.Node.{Node}
 use Rattle.co_message.specs.declared.answer.Answer.TheVariants as answer
 use Rattle.co_node.specs.Answers.{seen}
 use Rattle.co_plain.specs.Federation.{answers}
-use Rattle.co_plain.specs.Step.{deliver}
+use Rattle.co_plain.specs.Step.{deliver, disarmed}
 use Rattle.co_schedule.specs.View.{IsNode}
 use Rattle.co_world.proofs.Acting.{own_coord, own_member}
 use Rattle.co_world.proofs.Ends.{served_alone, all_ok}
 use Rattle.co_world.proofs.Ready.{takes_note, hears_note}
 use Rattle.co_world.proofs.Told.{told_as, stands_as, answered_stands}
+use Rattle.co_world.proofs.Lefts.{held_left}
+use Rattle.co_world.proofs.Leaving.{at_fault}
+use Rattle.co_world.proofs.LeftSteps.{left_as}
 use Rattle.co_world.proofs.world.World.deliver.Goals as goal
 
 pub at_member-requires-clause-in_head : goal.at_member-requires-clause-in_head
@@ -105,3 +108,19 @@ returns-in-Err-clause-served g c =
 pub returns-in-Err-clause-ended : goal.returns-in-Err-clause-ended
 returns-in-Err-clause-ended g c =
     c.answers.ensures.ended (seen g.H.Home.file g.H.Home.reach g.H.Home.faults g.H.Home.last_failed c.args.home.now)
+
+pub returns-in-Member-clause-left : goal.returns-in-Member-clause-left
+returns-in-Member-clause-left g c = λ s r ready.
+    let sent : was_sent s.sent c.args.message ≡ true = sym (ap (λ (ms : List Message). was_sent ms c.args.message) r.wire) ∙ c.in-Ok.ensures.ok.0 refl in
+    left_as c.at_member.result (g.H.Home.file c.at_member.new.home) s _ (deliver s c.args.message) _ (deliver (disarmed s) c.args.message) (delivers_to_member s c.args.message c.in-Member.member c.in-Member.ensures sent)
+    (delivers_to_member (disarmed s) c.args.message c.in-Member.member c.in-Member.ensures sent) (c.at_member.ensures.left s r)
+
+pub returns-in-Coord-clause-left : goal.returns-in-Coord-clause-left
+returns-in-Coord-clause-left g c = λ s r ready.
+    let sent : was_sent s.sent c.args.message ≡ true = sym (ap (λ (ms : List Message). was_sent ms c.args.message) r.wire) ∙ c.in-Ok.ensures.ok.0 refl in
+    left_as c.at_coord.result (g.H.Home.file c.at_coord.new.home) s _ (deliver s c.args.message) _ (deliver (disarmed s) c.args.message) (delivers_to_coord s c.args.message c.in-Coord.coord c.in-Coord.ensures sent)
+    (delivers_to_coord (disarmed s) c.args.message c.in-Coord.coord c.in-Coord.ensures sent) (c.at_coord.ensures.left s r)
+
+pub returns-in-Err-clause-left : goal.returns-in-Err-clause-left
+returns-in-Err-clause-left g c = λ s r ready.
+    at_fault c.answers.result (inl (held_left g.E.Engine.takes g.E.Engine.stands_for c.args.self.now s (g.H.Home.file c.args.home.now) (g.H.Home.reach c.args.home.now) r c.requires.held))

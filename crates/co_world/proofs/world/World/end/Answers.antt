@@ -1,4 +1,4 @@
-use Rattle.std.proofs.Common.{◌≡◌, None, Ok, sym, ap, ◌∙◌, subst}
+use Rattle.std.proofs.Common.{◌≡◌, None, Ok, sym, ap, ◌∙◌, subst, inl}
 use Rattle.co_base.specs.declared.node.Node.TheVariants as node
 use Rattle.co_node.specs.Answers.{seen}
 use Rattle.co_plain.specs.Federation.{answers}
@@ -10,6 +10,10 @@ use Rattle.co_world.proofs.Acting.{some_is, granted, refused, leave_alike, end_g
 use Rattle.co_world.proofs.ClientSteps.{ended_refused, ended_by_coord, ended_by_member}
 use Rattle.co_world.proofs.Ends.{served_alone, all_ok}
 use Rattle.co_world.proofs.Told.{told_as, stands_as, answered_stands}
+use Rattle.co_world.proofs.Lefts.{held_left}
+use Rattle.co_world.proofs.Leaving.{at_fault}
+use Rattle.co_world.proofs.LeftSteps.{left_as}
+use Rattle.co_plain.specs.Step.{disarmed}
 use Rattle.co_world.proofs.world.World.end.Goals as goal
 
 pub end_at_coord-requires-clause-in_head : goal.end_at_coord-requires-clause-in_head
@@ -109,3 +113,23 @@ returns-in-Err-clause-served g c =
 pub returns-in-Err-clause-ended : goal.returns-in-Err-clause-ended
 returns-in-Err-clause-ended g c =
     c.answers.ensures.ended (seen g.H.Home.file g.H.Home.reach g.H.Home.faults g.H.Home.last_failed c.args.home.now)
+
+pub returns-in-Ok-Coord-clause-left : goal.returns-in-Ok-Coord-clause-left
+returns-in-Ok-Coord-clause-left g c = λ s r ready.
+    let l = granted (leave_in c.args.self.now.sessions c.args.t None) (node.Coord c.in-Ok-Coord.coord) (subst (λ (n : Node). IsLeave (leave_in c.args.self.now.sessions c.args.t None) (Ok n)) c.in-Ok-Coord.field-0-is c.in-Ok-Coord.ensures.leave) in
+    let may = sym (leave_alike g.E.Engine.takes g.E.Engine.stands_for c.args.self.now s r c.args.t None) ∙ l.is in
+    let here = (end_granted (look s.sessions c.args.t) l.session may).0 in
+    left_as c.end_at_coord.result (g.H.Home.file c.end_at_coord.new.home) s _ (ended s c.args.t c.args.ending) _ (ended (disarmed s) c.args.t c.args.ending) (sym (ended_by_coord s c.args.t c.args.ending l.session c.in-Ok-Coord.coord may l.home))
+    (sym (ended_by_coord (disarmed s) c.args.t c.args.ending l.session c.in-Ok-Coord.coord may l.home)) (c.end_at_coord.ensures.left s r l.session here)
+
+pub returns-in-Ok-Member-clause-left : goal.returns-in-Ok-Member-clause-left
+returns-in-Ok-Member-clause-left g c = λ s r ready.
+    let l = granted (leave_in c.args.self.now.sessions c.args.t None) (node.Member c.in-Ok-Member.member) (subst (λ (n : Node). IsLeave (leave_in c.args.self.now.sessions c.args.t None) (Ok n)) c.in-Ok-Member.field-0-is c.in-Ok-Member.ensures.leave) in
+    let may = sym (leave_alike g.E.Engine.takes g.E.Engine.stands_for c.args.self.now s r c.args.t None) ∙ l.is in
+    let here = (end_granted (look s.sessions c.args.t) l.session may).0 in
+    left_as c.end_at_member.result (g.H.Home.file c.end_at_member.new.home) s _ (ended s c.args.t c.args.ending) _ (ended (disarmed s) c.args.t c.args.ending) (sym (ended_by_member s c.args.t c.args.ending l.session c.in-Ok-Member.member may l.home))
+    (sym (ended_by_member (disarmed s) c.args.t c.args.ending l.session c.in-Ok-Member.member may l.home)) (c.end_at_member.ensures.left s r l.session here)
+
+pub returns-in-Err-clause-left : goal.returns-in-Err-clause-left
+returns-in-Err-clause-left g c = λ s r ready.
+    at_fault c.answers.result (inl (held_left g.E.Engine.takes g.E.Engine.stands_for c.args.self.now s (g.H.Home.file c.args.home.now) (g.H.Home.reach c.args.home.now) r c.requires.held))

@@ -1,4 +1,4 @@
-use Rattle.std.proofs.Common.{◌≡◌, Bool, not, length, Err, refl, sym, ap, ◌∙◌, subst}
+use Rattle.std.proofs.Common.{◌≡◌, Bool, not, length, Err, refl, sym, ap, ◌∙◌, subst, inl, inr, true, ◌⊎◌}
 use Rattle.co_base.specs.declared.node.Node.TheVariants as node
 use Rattle.co_message.specs.declared.answer.Answer.{Answer}
 use Rattle.co_message.specs.declared.answer.Answer.TheVariants as answer
@@ -7,7 +7,7 @@ use Rattle.co_plain.specs.Federation.{answers, with_coord, at_coord}
 use Rattle.co_plain.specs.Sessions.{parts_of}
 use Rattle.co_world.specs.Telling.{IsToldBy}
 use Rattle.co_world.specs.declared.calls.CoordCall.{CoordCall}
-use Rattle.co_plain.specs.Step.{is_stopped, marked_asked, coord_answers}
+use Rattle.co_plain.specs.Step.{is_stopped, marked_asked, coord_answers, disarmed}
 use Rattle.co_plain.specs.declared.session.Session.{Session}
 use Rattle.co_session.specs.Clients.{parts_at}
 use Rattle.co_state.specs.Table.{Table, look}
@@ -19,6 +19,10 @@ use Rattle.co_world.proofs.Ends.{passed, passed_limit, passed_memory, wants_memo
 use Rattle.co_world.proofs.Ending.{told_ended}
 use Rattle.co_world.proofs.Ready.{ends_at_coord}
 use Rattle.co_world.proofs.Told.{told_as, stands_as, answered_stands, coord_told, coord_stands}
+use Rattle.co_world.proofs.Lefts.{either_left, held_left}
+use Rattle.co_world.proofs.Leaving.{at_fault}
+use Rattle.co_world.proofs.LeftSteps.{coord_answers_left}
+use Rattle.co_world.specs.Left.{AreLeftAs, coord_disarmed}
 use Rattle.co_world.proofs.world.World.end_at_coord.Goals as goal
 
 pub returns-then-not-coord_up-clause-count : goal.returns-then-not-coord_up-clause-count
@@ -121,3 +125,39 @@ returns-clause-served g c =
 pub returns-clause-ended : goal.returns-clause-ended
 returns-clause-ended g c =
     told_ended c.tells_of_coord.result (seen g.H.Home.file g.H.Home.reach g.H.Home.faults g.H.Home.last_failed c.args.home.now) (seen g.H.Home.file g.H.Home.reach g.H.Home.faults g.H.Home.last_failed c.coord_does.new.home) c.tells_of_coord.ensures.ended c.tells_of_coord.ensures.count c.in_ok-did.ensures.served.quiet
+
+pub returns-then-not-coord_up-clause-left : goal.returns-then-not-coord_up-clause-left
+returns-then-not-coord_up-clause-left g c = λ s r session here.
+    at_fault c.answers.result (inl (held_left g.E.Engine.takes g.E.Engine.stands_for c.args.self.now s (g.H.Home.file c.args.home.now) (g.H.Home.reach c.args.home.now) r c.requires.held))
+
+pub returns-in_err-parts-clause-left : goal.returns-in_err-parts-clause-left
+returns-in_err-parts-clause-left g c = λ s r session here.
+    at_fault c.from_residual.result (inl (held_left g.E.Engine.takes g.E.Engine.stands_for c.args.self.now s (g.H.Home.file c.args.home.now) (g.H.Home.reach c.args.home.now) r c.requires.held))
+
+pub returns-in_err-did-clause-left : goal.returns-in_err-did-clause-left
+returns-in_err-did-clause-left g c = λ s r session here.
+    let parts : c.in_ok-parts.parts ≡ parts_of session.told = c.in_ok-parts.ensures ∙ ap (λ (table : Table Session). parts_at (look table c.args.t)) r.sessions ∙ ap parts_at here in
+    let asks : c.coord_call.result ≡ coord_asked c.args.ending c.args.t (parts_of session.told) = c.coord_call.ensures ∙ ap (coord_asked c.args.ending c.args.t) parts in
+    let k = c.args.coord in
+    let asked = coord_asked c.args.ending c.args.t (parts_of session.told) in
+    let step = coord_does k asked (s.coord k) in
+    let whole = coord_does k asked (coord_disarmed (s.coord k)) in
+    let up : (s.coord k).up ≡ true = sym (c.coord_up.ensures s r) ∙ c.if-not-coord_up.false in
+    let file = g.H.Home.file c.coord_does.new.home in
+    let left : AreLeftAs file s ⊎ AreLeftAs file (with_coord (disarmed s) k whole.state) = subst (λ (j : CoordCall). AreLeftAs file s ⊎ AreLeftAs file (with_coord (disarmed s) k (coord_does k j (coord_disarmed (s.coord k))).state)) asks (c.in_err-did.ensures.left s r) in
+    at_fault c.from_residual-in_err-did.result
+    (either_left file s (coord_answers s c.args.t session k (s.coord k).up step).state (coord_answers (disarmed s) c.args.t session k (s.coord k).up whole).state (with_coord (disarmed s) k whole.state) (coord_answers_left file (disarmed s) c.args.t session k (s.coord k).up whole up) left)
+
+pub returns-clause-left : goal.returns-clause-left
+returns-clause-left g c = λ s r session here.
+    let parts : c.in_ok-parts.parts ≡ parts_of session.told = c.in_ok-parts.ensures ∙ ap (λ (table : Table Session). parts_at (look table c.args.t)) r.sessions ∙ ap parts_at here in
+    let asks : c.coord_call.result ≡ coord_asked c.args.ending c.args.t (parts_of session.told) = c.coord_call.ensures ∙ ap (coord_asked c.args.ending c.args.t) parts in
+    let k = c.args.coord in
+    let asked = coord_asked c.args.ending c.args.t (parts_of session.told) in
+    let step = coord_does k asked (s.coord k) in
+    let whole = coord_does k asked (coord_disarmed (s.coord k)) in
+    let up : (s.coord k).up ≡ true = sym (c.coord_up.ensures s r) ∙ c.if-not-coord_up.false in
+    let file = g.H.Home.file c.coord_does.new.home in
+    let stood : RepresentsWorld g.E.Engine.takes g.E.Engine.stands_for c.coord_does.new.self (with_coord s k step.state) = subst (λ (j : CoordCall). RepresentsWorld g.E.Engine.takes g.E.Engine.stands_for c.coord_does.new.self (with_coord s k (coord_does k j (s.coord k)).state)) asks (c.in_ok-did.ensures.stands s r) in
+    let now = held_left g.E.Engine.takes g.E.Engine.stands_for c.coord_does.new.self (with_coord s k step.state) file (g.H.Home.reach c.coord_does.new.home) stood c.in_ok-did.ensures.served.kept in
+    at_fault c.tells_of_coord.result (inr (inl (coord_answers_left file s c.args.t session k (s.coord k).up step up now)))

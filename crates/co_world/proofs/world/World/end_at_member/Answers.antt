@@ -1,4 +1,4 @@
-use Rattle.std.proofs.Common.{◌≡◌, Bool, not, Option, Err, sym, ap, ◌∙◌, subst}
+use Rattle.std.proofs.Common.{◌≡◌, Bool, not, Option, Err, sym, ap, ◌∙◌, subst, inl, inr, true, ◌⊎◌}
 use Rattle.co_base.specs.declared.node.Node.TheVariants as node
 use Rattle.co_message.specs.declared.answer.Answer.{Answer}
 use Rattle.co_message.specs.declared.answer.Answer.TheVariants as answer
@@ -7,7 +7,7 @@ use Rattle.co_plain.specs.Federation.{answers, with_member, at_member}
 use Rattle.co_plain.specs.Sessions.{count_at}
 use Rattle.co_world.specs.Telling.{IsTold}
 use Rattle.co_world.specs.declared.calls.MemberCall.{MemberCall}
-use Rattle.co_plain.specs.Step.{is_held, marked_asked, local_answers}
+use Rattle.co_plain.specs.Step.{is_held, marked_asked, local_answers, disarmed}
 use Rattle.co_plain.specs.declared.session.Session.{Session}
 use Rattle.co_session.specs.Clients.{carried_of}
 use Rattle.co_state.specs.Table.{Table, look}
@@ -19,6 +19,10 @@ use Rattle.co_world.proofs.Ends.{passed, passed_limit, served_alone, served_afte
 use Rattle.co_world.proofs.Ending.{told_ended}
 use Rattle.co_world.proofs.Ready.{ends_alone}
 use Rattle.co_world.proofs.Told.{told_as, stands_as, answered_stands, member_told, member_stands}
+use Rattle.co_world.proofs.Lefts.{either_left, held_left}
+use Rattle.co_world.proofs.Leaving.{at_fault}
+use Rattle.co_world.proofs.LeftSteps.{local_answers_left}
+use Rattle.co_world.specs.Left.{AreLeftAs, member_disarmed}
 use Rattle.co_world.proofs.world.World.end_at_member.Goals as goal
 
 pub returns-then-not-member_up-clause-count : goal.returns-then-not-member_up-clause-count
@@ -108,3 +112,35 @@ returns-clause-served g c =
 pub returns-clause-ended : goal.returns-clause-ended
 returns-clause-ended g c =
     told_ended c.tells_of_member.result (seen g.H.Home.file g.H.Home.reach g.H.Home.faults g.H.Home.last_failed c.args.home.now) (seen g.H.Home.file g.H.Home.reach g.H.Home.faults g.H.Home.last_failed c.member_does.new.home) c.tells_of_member.ensures.ended c.tells_of_member.ensures.count c.in_ok-did.ensures.served.quiet
+
+pub returns-then-not-member_up-clause-left : goal.returns-then-not-member_up-clause-left
+returns-then-not-member_up-clause-left g c = λ s r session here.
+    at_fault c.answers.result (inl (held_left g.E.Engine.takes g.E.Engine.stands_for c.args.self.now s (g.H.Home.file c.args.home.now) (g.H.Home.reach c.args.home.now) r c.requires.held))
+
+pub returns-in_err-did-clause-left : goal.returns-in_err-did-clause-left
+returns-in_err-did-clause-left g c = λ s r session here.
+    let carried : c.carried-carried.result ≡ count_at session.told c.args.member = c.carried-carried.ensures ∙ ap (λ (table : Table Session). carried_of (look table c.args.t) c.args.member) r.sessions ∙ ap (λ (o : Option Session). carried_of o c.args.member) here in
+    let asks : c.member_call.result ≡ member_asked c.args.ending c.args.t (count_at session.told c.args.member) = c.member_call.ensures ∙ ap (member_asked c.args.ending c.args.t) carried in
+    let k = c.args.member in
+    let asked = member_asked c.args.ending c.args.t (count_at session.told k) in
+    let step = member_does k asked (s.member k) in
+    let whole = member_does k asked (member_disarmed (s.member k)) in
+    let up : (s.member k).up ≡ true = sym (c.member_up.ensures s r) ∙ c.if-not-member_up.false in
+    let file = g.H.Home.file c.member_does.new.home in
+    let left : AreLeftAs file s ⊎ AreLeftAs file (with_member (disarmed s) k whole.state) = subst (λ (j : MemberCall). AreLeftAs file s ⊎ AreLeftAs file (with_member (disarmed s) k (member_does k j (member_disarmed (s.member k))).state)) asks (c.in_err-did.ensures.left s r) in
+    at_fault c.from_residual.result
+    (either_left file s (local_answers s c.args.t session k (s.member k).up step).state (local_answers (disarmed s) c.args.t session k (s.member k).up whole).state (with_member (disarmed s) k whole.state) (local_answers_left file (disarmed s) c.args.t session k (s.member k).up whole up) left)
+
+pub returns-clause-left : goal.returns-clause-left
+returns-clause-left g c = λ s r session here.
+    let carried : c.carried-carried.result ≡ count_at session.told c.args.member = c.carried-carried.ensures ∙ ap (λ (table : Table Session). carried_of (look table c.args.t) c.args.member) r.sessions ∙ ap (λ (o : Option Session). carried_of o c.args.member) here in
+    let asks : c.member_call.result ≡ member_asked c.args.ending c.args.t (count_at session.told c.args.member) = c.member_call.ensures ∙ ap (member_asked c.args.ending c.args.t) carried in
+    let k = c.args.member in
+    let asked = member_asked c.args.ending c.args.t (count_at session.told k) in
+    let step = member_does k asked (s.member k) in
+    let whole = member_does k asked (member_disarmed (s.member k)) in
+    let up : (s.member k).up ≡ true = sym (c.member_up.ensures s r) ∙ c.if-not-member_up.false in
+    let file = g.H.Home.file c.member_does.new.home in
+    let stood : RepresentsWorld g.E.Engine.takes g.E.Engine.stands_for c.member_does.new.self (with_member s k step.state) = subst (λ (j : MemberCall). RepresentsWorld g.E.Engine.takes g.E.Engine.stands_for c.member_does.new.self (with_member s k (member_does k j (s.member k)).state)) asks (c.in_ok-did.ensures.stands s r) in
+    let now = held_left g.E.Engine.takes g.E.Engine.stands_for c.member_does.new.self (with_member s k step.state) file (g.H.Home.reach c.member_does.new.home) stood c.in_ok-did.ensures.served.kept in
+    at_fault c.tells_of_member.result (inr (inl (local_answers_left file s c.args.t session k (s.member k).up step up now)))

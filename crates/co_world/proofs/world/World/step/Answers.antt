@@ -1,16 +1,19 @@
-use Rattle.std.proofs.Common.{◌≡◌, length, sym, subst}
-use Rattle.std.specs.Prelude.{IfOk, OnOk, IsErrOf, ◌↔◌}
+use Rattle.std.proofs.Common.{◌≡◌, length, sym, subst, inl}
+use Rattle.std.specs.Prelude.{IfOk, OnOk, IsErrOf, ◌↔◌, OnErr}
 use Rattle.co_durable.specs.declared.fault.WorldFault.TheVariants as world
 use Rattle.co_world.specs.Counting.{MeetsLimit}
 use Rattle.co_message.specs.declared.event.Event.{Event}
 use Rattle.co_node.specs.Answers.{seen}
 use Rattle.co_plain.specs.Runs.{numbered}
-use Rattle.co_plain.specs.Step.{step_line}
+use Rattle.co_plain.specs.Step.{step_line, disarmed}
 use Rattle.co_schedule.specs.View.{IsEventFor}
 use Rattle.co_world.specs.Standing.{RepresentsWorld}
 use Rattle.co_world.proofs.Acting.{own_member}
 use Rattle.co_world.proofs.Ends.{served_alone}
 use Rattle.co_world.proofs.Ready.{votes_again}
+use Rattle.co_world.proofs.Lefts.{held_left}
+use Rattle.co_world.proofs.Leaving.{at_fault}
+use Rattle.co_world.specs.Left.{AreLeftBy}
 use Rattle.co_world.proofs.world.World.step.Goals as goal
 
 pub begin-requires-clause-in_head : goal.begin-requires-clause-in_head
@@ -528,3 +531,71 @@ returns-in-Arm-clause-served g c =
 pub returns-in-Arm-clause-ended : goal.returns-in-Arm-clause-ended
 returns-in-Arm-clause-ended g c =
     c.arm.ensures.ended
+
+pub returns-in-Begin-clause-left : goal.returns-in-Begin-clause-left
+returns-in-Begin-clause-left g c = λ s r ready.
+    subst (λ (e : Event). OnErr c.begin.result (AreLeftBy (g.H.Home.file c.begin.new.home) s (step_line s e).state (step_line (disarmed s) e).state)) (sym c.in-Begin.is) (c.begin.ensures.left s r)
+
+pub returns-in-Local-clause-left : goal.returns-in-Local-clause-left
+returns-in-Local-clause-left g c = λ s r ready.
+    at_fault c.begin_local.result (inl (held_left g.E.Engine.takes g.E.Engine.stands_for c.args.self.now s (g.H.Home.file c.args.home.now) (g.H.Home.reach c.args.home.now) r c.requires.held))
+
+pub returns-in-Read-clause-left : goal.returns-in-Read-clause-left
+returns-in-Read-clause-left g c = λ s r ready.
+    at_fault c.reads.result (inl (held_left g.E.Engine.takes g.E.Engine.stands_for c.args.self.now s (g.H.Home.file c.args.home.now) (g.H.Home.reach c.args.home.now) r c.requires.held))
+
+pub returns-in-Write-clause-left : goal.returns-in-Write-clause-left
+returns-in-Write-clause-left g c = λ s r ready.
+    at_fault c.writes.result (inl (held_left g.E.Engine.takes g.E.Engine.stands_for c.args.self.now s (g.H.Home.file c.args.home.now) (g.H.Home.reach c.args.home.now) r c.requires.held))
+
+pub returns-in-Erase-clause-left : goal.returns-in-Erase-clause-left
+returns-in-Erase-clause-left g c = λ s r ready.
+    at_fault c.erases.result (inl (held_left g.E.Engine.takes g.E.Engine.stands_for c.args.self.now s (g.H.Home.file c.args.home.now) (g.H.Home.reach c.args.home.now) r c.requires.held))
+
+pub returns-in-Scan-clause-left : goal.returns-in-Scan-clause-left
+returns-in-Scan-clause-left g c = λ s r ready.
+    at_fault c.scans.result (inl (held_left g.E.Engine.takes g.E.Engine.stands_for c.args.self.now s (g.H.Home.file c.args.home.now) (g.H.Home.reach c.args.home.now) r c.requires.held))
+
+pub returns-in-Commit-clause-left : goal.returns-in-Commit-clause-left
+returns-in-Commit-clause-left g c = λ s r ready.
+    subst (λ (e : Event). OnErr c.end.result (AreLeftBy (g.H.Home.file c.end.new.home) s (step_line s e).state (step_line (disarmed s) e).state)) (sym c.in-Commit.is) (c.end.ensures.left s r ready)
+
+pub returns-in-Abort-clause-left : goal.returns-in-Abort-clause-left
+returns-in-Abort-clause-left g c = λ s r ready.
+    subst (λ (e : Event). OnErr c.end-in-Abort.result (AreLeftBy (g.H.Home.file c.end-in-Abort.new.home) s (step_line s e).state (step_line (disarmed s) e).state)) (sym c.in-Abort.is) (c.end-in-Abort.ensures.left s r ready)
+
+pub returns-in-Deliver-clause-left : goal.returns-in-Deliver-clause-left
+returns-in-Deliver-clause-left g c = λ s r ready.
+    subst (λ (e : Event). OnErr c.deliver.result (AreLeftBy (g.H.Home.file c.deliver.new.home) s (step_line s e).state (step_line (disarmed s) e).state)) (sym c.in-Deliver.is) (c.deliver.ensures.left s r ready)
+
+pub returns-in-Vote-clause-left : goal.returns-in-Vote-clause-left
+returns-in-Vote-clause-left g c = λ s r ready.
+    subst (λ (e : Event). OnErr c.at_member.result (AreLeftBy (g.H.Home.file c.at_member.new.home) s (step_line s e).state (step_line (disarmed s) e).state)) (sym c.in-Vote.is) (c.at_member.ensures.left s r)
+
+pub returns-in-Timer-clause-left : goal.returns-in-Timer-clause-left
+returns-in-Timer-clause-left g c = λ s r ready.
+    subst (λ (e : Event). OnErr c.timer.result (AreLeftBy (g.H.Home.file c.timer.new.home) s (step_line s e).state (step_line (disarmed s) e).state)) (sym c.in-Timer.is) (c.timer.ensures.left s r)
+
+pub returns-in-Ask-clause-left : goal.returns-in-Ask-clause-left
+returns-in-Ask-clause-left g c = λ s r ready.
+    subst (λ (e : Event). OnErr c.at_member-in-Ask.result (AreLeftBy (g.H.Home.file c.at_member-in-Ask.new.home) s (step_line s e).state (step_line (disarmed s) e).state)) (sym c.in-Ask.is) (c.at_member-in-Ask.ensures.left s r)
+
+pub returns-in-Resend-clause-left : goal.returns-in-Resend-clause-left
+returns-in-Resend-clause-left g c = λ s r ready.
+    subst (λ (e : Event). OnErr c.at_coord.result (AreLeftBy (g.H.Home.file c.at_coord.new.home) s (step_line s e).state (step_line (disarmed s) e).state)) (sym c.in-Resend.is) (c.at_coord.ensures.left s r)
+
+pub returns-in-Crash-clause-left : goal.returns-in-Crash-clause-left
+returns-in-Crash-clause-left g c = λ s r ready.
+    subst (λ (e : Event). OnErr c.crash.result (AreLeftBy (g.H.Home.file c.crash.new.home) s (step_line s e).state (step_line (disarmed s) e).state)) (sym c.in-Crash.is) (c.crash.ensures.left s r)
+
+pub returns-in-Restart-clause-left : goal.returns-in-Restart-clause-left
+returns-in-Restart-clause-left g c = λ s r ready.
+    subst (λ (e : Event). OnErr c.restart.result (AreLeftBy (g.H.Home.file c.restart.new.home) s (step_line s e).state (step_line (disarmed s) e).state)) (sym c.in-Restart.is) (c.restart.ensures.left s r)
+
+pub returns-in-Arm-clause-left : goal.returns-in-Arm-clause-left
+returns-in-Arm-clause-left g c = λ s r ready.
+    subst (λ (e : Event). OnErr c.arm.result (AreLeftBy (g.H.Home.file c.arm.new.home) s (step_line s e).state (step_line (disarmed s) e).state)) (sym c.in-Arm.is) (c.arm.ensures.left s r)
+
+pub returns-in-Checkpoint-clause-left : goal.returns-in-Checkpoint-clause-left
+returns-in-Checkpoint-clause-left g c = λ s r ready.
+    subst (λ (e : Event). OnErr c.checkpoint.result (AreLeftBy (g.H.Home.file c.checkpoint.new.home) s (step_line s e).state (step_line (disarmed s) e).state)) (sym c.in-Checkpoint.is) (c.checkpoint.ensures.left s r)

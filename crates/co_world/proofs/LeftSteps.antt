@@ -1,0 +1,64 @@
+-- What a fault leaves behind an event: sessions are in no file, and a step told in another way leaves the same.
+use Rattle.std.proofs.Common.{◌≡◌, ◌⊎◌, ℕ, Bool, true, false, not, Option, Result, sym, subst, inl, inr}
+use Rattle.std.specs.Prelude.{OnErr}
+use Rattle.co_durable.specs.declared.fault.WorldFault.{WorldFault}
+use Rattle.co_outside.specs.Home.{File}
+use Rattle.co_outside.specs.declared.spot.Spot.{Spot}
+use Rattle.co_plain.specs.Federation.{Federation, Stepped, at_coord, at_member, message_list, with_coord, with_member, with_session}
+use Rattle.co_plain.specs.Step.{coord_answers, disarmed, is_held, is_stopped, local_answers, marked_asked}
+use Rattle.co_plain.specs.declared.coord_state.CoordState.{CoordState}
+use Rattle.co_plain.specs.declared.coord_step.CoordStep.{CoordStep as PlainCoordStep}
+use Rattle.co_plain.specs.declared.member_state.MemberState.{MemberState}
+use Rattle.co_plain.specs.declared.member_step.MemberStep.{MemberStep as PlainMemberStep}
+use Rattle.co_plain.specs.declared.session.Session.{Session}
+use Rattle.co_world.specs.Left.{AreLeftAs, AreLeftBy}
+use Rattle.co_world.proofs.Lefts.{noted_left}
+
+-- ---- a step told in another way
+
+pub left_as : {A : Type 0} (out : Result A WorldFault) (file : Spot → Option File) (before : Federation) (after then whole all : Stepped) → after ≡ then → whole ≡ all → OnErr out (AreLeftBy file before after.state whole.state) →
+    OnErr out (AreLeftBy file before then.state all.state)
+left_as out file before after then whole all one two left =
+    subst (λ (d : Stepped). OnErr out (AreLeftBy file before then.state d.state)) two (subst (λ (d : Stepped). OnErr out (AreLeftBy file before d.state whole.state)) one left)
+
+module _ (file : Spot → Option File) (s : Federation) where
+  -- ---- what a node did, whatever its answer
+
+  pub at_coord_left : (c : ℕ) (did : PlainCoordStep) → AreLeftAs file (with_coord s c did.state) → AreLeftAs file (at_coord s c did).state
+  at_coord_left c did left = noted_left file (with_coord s c did.state) did.marks did.sent left
+
+  pub at_member_left : (m : ℕ) (did : PlainMemberStep) → AreLeftAs file (with_member s m did.state) → AreLeftAs file (at_member s m did).state
+  at_member_left m did left = noted_left file (with_member s m did.state) did.marks (message_list did.sent) left
+
+  -- ---- a transaction is begun
+
+  pub unbegun_left : (t : ℕ) (session : Session) → AreLeftAs file (with_session s t session) → AreLeftAs file s
+  unbegun_left t session left = record { member = left.member; coord = left.coord }
+
+  -- by a coordinator that meets a fault
+  pub begun_left : (t : ℕ) (session : Session) (c : ℕ) (after : Federation) (did : PlainCoordStep) → AreLeftAs file (with_session s t session) ⊎ AreLeftAs file (with_coord (disarmed (with_session s t session)) c did.state) →
+      AreLeftBy file s after (at_coord (with_session (disarmed s) t session) c did).state
+  begun_left t session c after did (inl old) = inl (unbegun_left t session old)
+  begun_left t session c after did (inr new) = inr (inr (noted_left file (with_coord (disarmed (with_session s t session)) c did.state) did.marks did.sent new))
+
+  -- ---- a transaction is ended
+
+  marked_coord_left : (t : ℕ) (session : Session) (b : Bool) (c : ℕ) (y : CoordState) → AreLeftAs file (with_coord s c y) → AreLeftAs file (with_coord (marked_asked s t session b) c y)
+  marked_coord_left t session true c y left = record { member = left.member; coord = left.coord }
+  marked_coord_left t session false c y left = left
+
+  marked_member_left : (t : ℕ) (session : Session) (b : Bool) (m : ℕ) (x : MemberState) → AreLeftAs file (with_member s m x) → AreLeftAs file (with_member (marked_asked s t session b) m x)
+  marked_member_left t session true m x left = record { member = left.member; coord = left.coord }
+  marked_member_left t session false m x left = left
+
+  pub coord_answers_left : (t : ℕ) (session : Session) (c : ℕ) (up : Bool) (did : PlainCoordStep) → up ≡ true → AreLeftAs file (with_coord s c did.state) → AreLeftAs file (coord_answers s t session c up did).state
+  coord_answers_left t session c up did is left =
+      let b = not (is_stopped did.answer) in
+      let done = noted_left file (with_coord (marked_asked s t session b) c did.state) did.marks did.sent (marked_coord_left t session b c did.state left) in
+      subst (λ (k : Bool). AreLeftAs file (coord_answers s t session c k did).state) (sym is) done
+
+  pub local_answers_left : (t : ℕ) (session : Session) (m : ℕ) (up : Bool) (did : PlainMemberStep) → up ≡ true → AreLeftAs file (with_member s m did.state) → AreLeftAs file (local_answers s t session m up did).state
+  local_answers_left t session m up did is left =
+      let b = not (is_held did.answer) in
+      let done = noted_left file (with_member (marked_asked s t session b) m did.state) did.marks (message_list did.sent) (marked_member_left t session b m did.state left) in
+      subst (λ (k : Bool). AreLeftAs file (local_answers s t session m k did).state) (sym is) done
