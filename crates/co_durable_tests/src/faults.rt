@@ -1,8 +1,8 @@
 //! Calls of a directory and of a sink that fail.
 use crate::logs::M1_BOTH;
 use crate::telling::{C8_B, M1_A, M1_B};
-use co_outside::{FailAt, HomeCall, HomeMemory, SinkMemory, Spot};
 use co_durable::{RecordsFault, write_records};
+use co_outside::{FailAt, HomeCall, HomeMemory, SinkMemory, Spot};
 use std::alloc::Global;
 use std::test::Fail;
 

@@ -1,6 +1,6 @@
 //! Directories of log files, and what their durable records are to be.
-use co_outside::{HomeMemory, SinkMemory, Spot};
 use co_durable::{RecordsFault, write_records};
+use co_outside::{HomeMemory, SinkMemory, Spot};
 use std::alloc::{AllocError, Global};
 
 /// Part `a` of the log of member 1.

@@ -91,10 +91,20 @@ fn a_local_transaction_stays_at_its_member(rt: HostRuntime) {
     assert!(rt; matches!(sessions.may_begin(Txn(7)), Ok(())));
     assert!(rt; begin_local(&mut sessions, Txn(7)));
     assert!(rt; matches!(sessions.may_act(Txn(7), Some(1)), Ok(Node::Member(1))));
-    assert!(rt; matches!(sessions.may_act(Txn(7), Some(2)), Err(SessionFault::NotBegun)));
+    assert!(rt;
+        matches!(
+            sessions.may_act(Txn(7), Some(2)),
+            Err(SessionFault::NotBegun)
+        )
+    );
     assert!(rt; matches!(sessions.may_act(Txn(7), None), Ok(Node::Member(1))));
     assert!(rt; ask(&mut sessions, Txn(7)));
-    assert!(rt; matches!(sessions.may_act(Txn(7), Some(2)), Err(SessionFault::NotBegun)));
+    assert!(rt;
+        matches!(
+            sessions.may_act(Txn(7), Some(2)),
+            Err(SessionFault::NotBegun)
+        )
+    );
     assert!(rt; matches!(sessions.may_act(Txn(7), Some(1)), Err(SessionFault::Asked)));
 }
 

@@ -1,5 +1,5 @@
 -- How a replay ends, from how its lines were played behind the text of its head.
-use Rattle.std.proofs.Common.{◌≡◌, ◌⊎◌, inl, inr, ℕ, ◌+◌, ◌≤◌, Bool, false, List, [], ◌∷◌, ◌++◌, length, take, map, Option, None, Some, Result, Ok, Err, refl, sym, ap, ◌∙◌, subst, append-nil, append_assoc}
+use Rattle.std.proofs.Common.{◌≡◌, inl, inr, ℕ, ◌+◌, Bool, List, [], ◌∷◌, ◌++◌, length, take, Option, Some, Result, Ok, Err, refl, sym, ap, ◌∙◌, subst, append-nil, append_assoc}
 use Rattle.std.specs.List.{AllByRecursion}
 use Rattle.co_base.specs.declared.head.Head.{Head}
 use Rattle.co_base.specs.declared.head.Kind.{Kind}
@@ -10,30 +10,31 @@ use Rattle.co_outside.specs.declared.spot.Spot.{Spot}
 use Rattle.co_outside.specs.Home.{File}
 use Rattle.co_node.specs.Answers.{HomeView}
 use Rattle.co_plain.specs.Federation.{Federation}
-use Rattle.co_plain.specs.Opening.{Found, opened, opening_items}
+use Rattle.co_plain.specs.Opening.{opened, opening_items}
 use Rattle.co_plain.specs.Runs.{run, lines, numbered, transcript}
 use Rattle.co_state.specs.declared.engine_state.EngineState.{EngineState}
 use Rattle.co_replay.specs.Schedule.{HasLine}
 use Rattle.co_replay.specs.Transcript.{items_text, run_items}
 use Rattle.co_replay.proofs.Appended.{items_text-append}
 use Rattle.co_world.specs.Attached.{IsAttachedOver}
+use Rattle.co_world.specs.Left.{AreLeftAs}
+use Rattle.co_world.proofs.Lefts.{held_left}
 use Rattle.co_world.specs.Standing.{RepresentsWorld, AreHeld}
 use Rattle.co_world.specs.declared.world.World.{World}
-use Rattle.co_durable.specs.declared.fault.WorldFault.TheVariants as world
-use Rattle.co_top.specs.Front.{IsHeaded, StandsBehind, AtStart, IsHeadFault, IsLineFault}
-use Rattle.co_top.specs.Played.{IsTold, IsToldInPart, StandsFor, HasStopped, IsOver}
-use Rattle.co_top.specs.Ran.{Ran, start_of, end_of, text_of, AreLeftAs, AreLeftBy, HasRun, HasRunInPart, HasStoppedAt, IsUnopenedFor, IsRunEnd}
+use Rattle.co_top.specs.Front.{IsHeaded, StandsBehind, AtStart, IsHeadFault}
+use Rattle.co_top.specs.Played.{IsTold, IsToldInPart, StandsFor, IsLeftNear, HasFailed, HasStopped, IsOver}
+use Rattle.co_top.specs.Ran.{Ran, AreLeftBy, AreLeftByFault, HasRun, HasRunInPart, HasStoppedAt, IsRunEnd}
 use Rattle.co_outside.specs.Faults.{HasRisen}
 use Rattle.std.specs.Prelude.{OnOk, IfErr}
 use Rattle.co_top.specs.Heads.{IsReadStatus, IsEnding}
-use Rattle.co_top.specs.Replayed.{status_of, opening_text, IsUnopenedAs, IsOpeningTold}
+use Rattle.co_top.specs.Replayed.{status_of, opening_text, IsUnopenedAs, IsOfFiles, IsOpeningTold}
 use Rattle.co_top.specs.Telling.{IsPutInPart, HasEnded}
 use Rattle.co_top.specs.declared.status.LimitKind.TheVariants as limit
 use Rattle.co_top.specs.declared.status.Status.{Status}
 use Rattle.co_top.specs.declared.status.Status.TheVariants as status
-use Rattle.co_top.proofs.Laws.{fit, promised}
+use Rattle.co_top.proofs.Laws.{promised}
 use Rattle.co_top.proofs.Lists.{take_behind}
-use Rattle.co_top.proofs.Left.{files_left, left_by}
+use Rattle.co_top.proofs.Left.{left_by, left_by_fault}
 
 module _ {E : Type 0} (takes : Kind → Type 0) (stands_for : E → EngineState → Type 0) (resume : Bool) (input held : List ℕ) (old : Spot → Option File) (head : Head) (text : List ℕ) (headed : IsHeaded input head text)
     (before : World E) (items : List Item) (at : IsAttachedOver takes stands_for old head resume before items) where
@@ -74,8 +75,8 @@ module _ {E : Type 0} (takes : Kind → Type 0) (stands_for : E → EngineState 
   part_text events told p = (
     length (opening_text head items) + p.0,
     p.1 ∙ ap Some (
-      append_assoc held (opening_text head items) (take p.0 (items_text (transcript 2 events s0)))
-      ∙ ap (λ t. held ++ t) (
+        append_assoc held (opening_text head items) (take p.0 (items_text (transcript 2 events s0)))
+        ∙ ap (λ t. held ++ t) (
         sym (take_behind (opening_text head items) (items_text (transcript 2 events s0)) p.0)
         ∙ ap (take (length (opening_text head items) + p.0)) (sym (all_text events)))),
   )
@@ -96,39 +97,42 @@ module _ {E : Type 0} (takes : Kind → Type 0) (stands_for : E → EngineState 
         record { ran = r; promises = promised r; count = t.0; transcript = t.1 }
 
     module _ (home : HomeView) (w : World E) where
-      files_of : (events : List Event) (valid : AllByRecursion (HasLine head) events) → StandsFor takes stands_for s0 home w events →
-          AreLeftAs home.file (length head.kinds) head.coords (run (lines events) s0)
-      files_of events valid f =
-          let z = run (lines events) s0 in
-          let same = fit head at.found_member at.found_coord at.may events valid in
-          subst (λ ks. AreLeftAs home.file (length ks) head.coords z) same.kinds (
-            subst (λ c. AreLeftAs home.file (length z.kinds) c z) same.coordinators (files_left takes stands_for home.file home.reach w z f.stands f.held))
+      files_of : (events : List Event) → StandsFor takes stands_for s0 home w events → AreLeftAs home.file (run (lines events) s0)
+      files_of events f = held_left takes stands_for w (run (lines events) s0) home.file home.reach f.stands f.held
+
+      near_left : (events : List Event) (valid : AllByRecursion (HasLine head) events) (left : (t : List ℕ) → Some text ≡ Some t → (rest : List ℕ) × StandsBehind head t events rest) →
+          IsLeftNear head s0 (Some text) events left home.file → AreLeftByFault (ran events valid (left text refl)) home.file
+      near_left events valid left (inl before) = left_by_fault (ran events valid (left text refl)) home.file (inl before)
+      near_left events valid left (inr (event, line, next, either)) = left_by_fault (ran events valid (left text refl)) home.file (inr (event, line, next text refl, either))
+
+      failed : HasFailed head s0 (Some text) mid told home → (done : HasRun resume input held old told) × AreLeftByFault done.ran home.file
+      failed p = (has_run p.done, near_left p.done.events p.done.valid p.done.left p.files)
 
       stopped : (ended : Status) → HasStopped takes stands_for head s0 (Some text) mid told home w ended → HasStoppedAt resume input held old home.file told ended
       stopped ended p =
           let r = has_run p.done in
-          record { run = r; files = left_by r.ran home.file (files_of p.done.events p.done.valid p.stands); cause = p.cause text refl }
+          record { run = r; files = left_by r.ran home.file (files_of p.done.events p.stands); cause = p.cause text refl }
 
       pub over : (result : Result (Unit {0}) Status) → IsOver takes stands_for head s0 (Some text) mid told home w result → IsRunEnd resume input held old home.file told (status_of result)
       over (Ok u) p =
           let r = has_run p.0 in
-          (r, left_by r.ran home.file (files_of p.0.events p.0.valid p.1), p.2 text refl)
+          (r, left_by r.ran home.file (files_of p.0.events p.1), p.2 text refl)
       over (Err status.Done) p = absurd p
       over (Err status.Usage) p = absurd p
       over (Err (status.Schedule line what)) p = inr (stopped (status.Schedule line what) p)
       over (Err status.Read) p = inr (stopped status.Read p)
       over (Err status.Write) p =
           let r = has_run_in_part p.0 in
-          (r, left_by r.ran home.file (files_of p.0.events p.0.valid p.1))
-      over (Err (status.Device spot)) p = inr (has_run p)
-      over (Err (status.Differs spot place kept read)) p = has_run p
+          (r, left_by r.ran home.file (files_of p.0.events p.1))
+      over (Err (status.Device spot)) p = inr (failed p)
+      over (Err (status.Differs spot place kept read)) p = failed p
       over (Err (status.InUse spot)) p = absurd p
       over (Err (status.BadLog spot place)) p = absurd p
       over (Err (status.Limit (limit.Line line))) p = inr (stopped (status.Limit (limit.Line line)) p)
       over (Err (status.Limit limit.Lines)) p = stopped (status.Limit limit.Lines) p
-      over (Err (status.Limit limit.Transactions)) p = inr (has_run p)
-      over (Err (status.Limit (limit.Log spot))) p = inr (has_run p)
-      over (Err status.Memory) p = inr (has_run_in_part p)
+      over (Err (status.Limit limit.Transactions)) p = inr (failed p)
+      over (Err (status.Limit (limit.Log spot))) p = inr (failed p)
+      over (Err status.Memory) p = inr (has_run_in_part p.done, near_left p.done.events p.done.valid p.done.left p.files)
       over (Err (status.OldLog spot)) p = absurd p
 
       -- no line was played: a front of the text of the head was put
@@ -142,45 +146,45 @@ module _ {E : Type 0} (takes : Kind → Type 0) (stands_for : E → EngineState 
               count = p.0;
               transcript = p.1 ∙ ap (λ t. Some (held ++ take p.0 t)) (sym (append-nil (opening_text head items)) ∙ sym (all_text []));
             },
-            left_by r home.file (files_of [] tt (record { stands = stands; held = kept })),
+            left_by r home.file (files_of [] (record { stands = stands; held = kept })),
           )
 
 -- nothing was opened
 pub unopened : (resume : Bool) (input held : List ℕ) (old new : Spot → Option File) (told : Option (List ℕ)) (head : Head) (text : List ℕ) → IsHeaded input head text → told ≡ Some held →
-    (why : Status) → IsUnopenedAs old head resume why → IsRunEnd resume input held old new told why
-unopened resume input held old new told head text headed same status.Done u = absurd u
-unopened resume input held old new told head text headed same status.Usage u = absurd u
-unopened resume input held old new told head text headed same (status.Schedule line what) u = absurd u
-unopened resume input held old new told head text headed same status.Read u = absurd u
-unopened resume input held old new told head text headed same status.Write u = absurd u
-unopened resume input held old new told head text headed same (status.Device spot) u = inl same
-unopened resume input held old new told head text headed same (status.Differs spot place kept read) u = absurd u
-unopened resume input held old new told head text headed same (status.InUse spot) u = (same, record { head = head; text = text; headed = headed; cause = u })
-unopened resume input held old new told head text headed same (status.BadLog spot place) u = (same, record { head = head; text = text; headed = headed; cause = u })
-unopened resume input held old new told head text headed same (status.Limit (limit.Line line)) u = absurd u
-unopened resume input held old new told head text headed same (status.Limit limit.Lines) u = absurd u
-unopened resume input held old new told head text headed same (status.Limit limit.Transactions) u = inl (same, record { head = head; text = text; headed = headed; cause = u })
-unopened resume input held old new told head text headed same (status.Limit (limit.Log spot)) u = inl (same, record { head = head; text = text; headed = headed; cause = u })
-unopened resume input held old new told head text headed same status.Memory u = inl same
-unopened resume input held old new told head text headed same (status.OldLog spot) u = (same, record { head = head; text = text; headed = headed; cause = u })
+    (why : Status) → IsUnopenedAs old head resume why → (IsOfFiles why → (s : Spot) → new s ≡ old s) → IsRunEnd resume input held old new told why
+unopened resume input held old new told head text headed same status.Done u rest = absurd u
+unopened resume input held old new told head text headed same status.Usage u rest = absurd u
+unopened resume input held old new told head text headed same (status.Schedule line what) u rest = absurd u
+unopened resume input held old new told head text headed same status.Read u rest = absurd u
+unopened resume input held old new told head text headed same status.Write u rest = absurd u
+unopened resume input held old new told head text headed same (status.Device spot) u rest = inl same
+unopened resume input held old new told head text headed same (status.Differs spot place kept read) u rest = absurd u
+unopened resume input held old new told head text headed same (status.InUse spot) u rest = ((same, rest tt), record { head = head; text = text; headed = headed; cause = u })
+unopened resume input held old new told head text headed same (status.BadLog spot place) u rest = ((same, rest tt), record { head = head; text = text; headed = headed; cause = u })
+unopened resume input held old new told head text headed same (status.Limit (limit.Line line)) u rest = absurd u
+unopened resume input held old new told head text headed same (status.Limit limit.Lines) u rest = absurd u
+unopened resume input held old new told head text headed same (status.Limit limit.Transactions) u rest = inl ((same, rest tt), record { head = head; text = text; headed = headed; cause = u })
+unopened resume input held old new told head text headed same (status.Limit (limit.Log spot)) u rest = inl ((same, rest tt), record { head = head; text = text; headed = headed; cause = u })
+unopened resume input held old new told head text headed same status.Memory u rest = inl same
+unopened resume input held old new told head text headed same (status.OldLog spot) u rest = ((same, rest tt), record { head = head; text = text; headed = headed; cause = u })
 
 -- the head was not read
-pub unheaded : (resume : Bool) (input held : List ℕ) (old new : Spot → Option File) (told : Option (List ℕ)) → told ≡ Some held → (why : Status) → IsHeadFault input why → IsRunEnd resume input held old new told why
-unheaded resume input held old new told same status.Done u = absurd u
-unheaded resume input held old new told same status.Usage u = absurd u
-unheaded resume input held old new told same (status.Schedule line what) u = inl (same, u)
-unheaded resume input held old new told same status.Read u = inl same
-unheaded resume input held old new told same status.Write u = absurd u
-unheaded resume input held old new told same (status.Device spot) u = absurd u
-unheaded resume input held old new told same (status.Differs spot place kept read) u = absurd u
-unheaded resume input held old new told same (status.InUse spot) u = absurd u
-unheaded resume input held old new told same (status.BadLog spot place) u = absurd u
-unheaded resume input held old new told same (status.Limit (limit.Line line)) u = inl (same, u)
-unheaded resume input held old new told same (status.Limit limit.Lines) u = absurd u
-unheaded resume input held old new told same (status.Limit limit.Transactions) u = absurd u
-unheaded resume input held old new told same (status.Limit (limit.Log spot)) u = absurd u
-unheaded resume input held old new told same status.Memory u = inl same
-unheaded resume input held old new told same (status.OldLog spot) u = absurd u
+pub unheaded : (resume : Bool) (input held : List ℕ) (old : Spot → Option File) (told : Option (List ℕ)) → told ≡ Some held → (why : Status) → IsHeadFault input why → IsRunEnd resume input held old old told why
+unheaded resume input held old told same status.Done u = absurd u
+unheaded resume input held old told same status.Usage u = absurd u
+unheaded resume input held old told same (status.Schedule line what) u = inl ((same, λ s. refl), u)
+unheaded resume input held old told same status.Read u = inl (same, λ s. refl)
+unheaded resume input held old told same status.Write u = absurd u
+unheaded resume input held old told same (status.Device spot) u = absurd u
+unheaded resume input held old told same (status.Differs spot place kept read) u = absurd u
+unheaded resume input held old told same (status.InUse spot) u = absurd u
+unheaded resume input held old told same (status.BadLog spot place) u = absurd u
+unheaded resume input held old told same (status.Limit (limit.Line line)) u = inl ((same, λ s. refl), u)
+unheaded resume input held old told same (status.Limit limit.Lines) u = absurd u
+unheaded resume input held old told same (status.Limit limit.Transactions) u = absurd u
+unheaded resume input held old told same (status.Limit (limit.Log spot)) u = absurd u
+unheaded resume input held old told same status.Memory u = inl same
+unheaded resume input held old told same (status.OldLog spot) u = absurd u
 
 -- the text of the first line was not put whole
 module _ {E : Type 0} (takes : Kind → Type 0) (stands_for : E → EngineState → Type 0) (resume : Bool) (input held : List ℕ) (old : Spot → Option File) (head : Head) (text : List ℕ) (headed : IsHeaded input head text)
@@ -199,7 +203,7 @@ module _ {E : Type 0} (takes : Kind → Type 0) (stands_for : E → EngineState 
   opening_over (status.InUse spot) p = absurd p
   opening_over (status.BadLog spot place) p = absurd p
   opening_over (status.Limit what) p = absurd p
-  opening_over status.Memory p = inr (cut_text p).0
+  opening_over status.Memory p = let c = cut_text p in inr (c.0, record { happened = lines c.0.ran.events; up_to = inl refl; files = c.1 })
   opening_over (status.OldLog spot) p = absurd p
 
 -- ---- what a status is not

@@ -1,8 +1,7 @@
 -- What the laws say of a run over logs that may be run: an event can be done in each of its states, and it keeps what is promised.
-use Rattle.std.proofs.Common.{◌≡◌, ◌⊎◌, inl, inr, ℕ, ◌≤◌, Bool, false, List, [], ◌∷◌, length, Option, refl, sym, subst, ap, ◌∙◌}
+use Rattle.std.proofs.Common.{inl, inr, ℕ, Bool, List, [], ◌∷◌, length, Option, sym, subst, ◌∙◌}
 use Rattle.std.specs.List.{AllByRecursion}
 use Rattle.co_base.specs.declared.head.Head.{Head}
-use Rattle.co_base.specs.declared.head.Kind.{Kind}
 use Rattle.co_message.specs.declared.event.Event.{Event}
 use Rattle.co_message.specs.declared.event.Event.TheVariants as event
 use Rattle.co_outside.specs.declared.spot.Spot.{Spot}
@@ -10,7 +9,7 @@ use Rattle.co_outside.specs.Home.{File}
 use Rattle.co_plain.specs.Federation.{Federation}
 use Rattle.co_plain.specs.Opening.{Found, opened}
 use Rattle.co_plain.specs.Runs.{run, lines}
-use Rattle.co_plain.specs.SoundLogs.{AreSound}
+use Rattle.co_plain.specs.declared.happening.Happening.{Happening}
 use Rattle.co_replay.specs.Schedule.{HasLine}
 use Rattle.co_schedule.specs.View.{IsEventFor}
 use Rattle.co_law_base.proofs.Lookups.{is_nothing, look_none}
@@ -19,15 +18,15 @@ use Rattle.co_law_node.specs.WholeNodes.{AreWhole, AreWritable}
 use Rattle.co_law_runs.specs.OnlyTimers.{AreOwn, NamesOwnNode}
 use Rattle.co_law_runs.proofs.Fitting.{Fit, run_fits}
 use Rattle.co_law.proofs.EveryOrder.{every_transcript}
-use Rattle.co_law.proofs.EveryRun.{every_acknowledged, every_agreement, every_log, every_read, every_sound}
+use Rattle.co_law.proofs.EveryRun.{every_acknowledged, every_agreement, every_read}
 use Rattle.co_law.proofs.FreshLogs.{empty_openable}
 use Rattle.co_law.proofs.GoingOn.{lines_true}
 use Rattle.co_law.proofs.Readable.{readable}
 use Rattle.co_law.proofs.WholeRuns.{are_whole}
 use Rattle.co_law.proofs.WritableRuns.{are_writable}
-use Rattle.co_opening.specs.Found.{MayRun, AreUnused}
+use Rattle.co_opening.specs.Found.{MayRun}
 use Rattle.co_top.specs.Played.{StaysReady}
-use Rattle.co_top.specs.Ran.{Ran, start_of, end_of, IsSoundlyFound, KeepsPromises}
+use Rattle.co_top.specs.Ran.{Ran, start_of, IsSoundlyFound, KeepsPromises}
 
 -- begins and operations name nodes of the head
 names_own : (n k : ℕ) (e : Event) → IsEventFor n k e → NamesOwnNode n k e
@@ -57,30 +56,28 @@ module _ (head : Head) (fm fc : ℕ → Found) (may : MayRun head.kinds head.coo
   abbrev pub s0 : Federation
   s0 = opened head.kinds head.coords fm fc
 
-  module _ (events : List Event) (valid : AllByRecursion (HasLine head) events) where
-    own : AreOwn (length head.kinds) head.coords (lines events)
-    own = all_own head events valid
+  module _ (hs : List Happening) (own : AreOwn (length head.kinds) head.coords hs) where
+    pub fit_after : Fit (length head.kinds) head.coords s0 (run hs s0)
+    fit_after = run_fits (length head.kinds) head.coords hs s0 (λ u other h. is_nothing (sym (look_none u) ∙ h)) own
 
-    pub fit : Fit (length head.kinds) head.coords s0 (run (lines events) s0)
-    fit = run_fits (length head.kinds) head.coords (lines events) s0 (λ u other h. is_nothing (sym (look_none u) ∙ h)) own
+    pub whole_after : AreWhole (length head.kinds) head.coords (run hs s0)
+    whole_after = are_whole head.kinds head.coords fm fc hs head.some_coord may.own may.members_allowed may.coords_allowed own
 
-    pub whole : AreWhole (length head.kinds) head.coords (run (lines events) s0)
-    whole = are_whole head.kinds head.coords fm fc (lines events) head.some_coord may.own may.members_allowed may.coords_allowed own
-
-    writable : AreWritable (length head.kinds) head.coords (run (lines events) s0)
+    writable : AreWritable (length head.kinds) head.coords (run hs s0)
     writable =
-        are_writable head.kinds head.coords fm fc (lines events) head.some_coord head.coordinators head.members may.own may.members_allowed may.coords_allowed may.members_within
+        are_writable head.kinds head.coords fm fc hs head.some_coord head.coordinators head.members may.own may.members_allowed may.coords_allowed may.members_within
         may.coords_within own
 
   -- an event can be done in every state of the run
   pub ready : StaysReady head s0
   ready events valid =
       let z = run (lines events) s0 in
-      let f = fit events valid in
+      let own = all_own head events valid in
+      let f = fit_after (lines events) own in
       record {
         ready = record {
-          whole = subst (λ ks. AreWhole (length ks) z.coordinators z) (sym f.kinds) (subst (λ c. AreWhole (length head.kinds) c z) (sym f.coordinators) (whole events valid));
-          writable = subst (λ ks. AreWritable (length ks) z.coordinators z) (sym f.kinds) (subst (λ c. AreWritable (length head.kinds) c z) (sym f.coordinators) (writable events valid));
+          whole = subst (λ ks. AreWhole (length ks) z.coordinators z) (sym f.kinds) (subst (λ c. AreWhole (length head.kinds) c z) (sym f.coordinators) (whole_after (lines events) own));
+          writable = subst (λ ks. AreWritable (length ks) z.coordinators z) (sym f.kinds) (subst (λ c. AreWritable (length head.kinds) c z) (sym f.coordinators) (writable (lines events) own));
         };
         kinds = f.kinds;
         coordinators = f.coordinators;

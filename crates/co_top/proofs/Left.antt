@@ -1,32 +1,29 @@
 -- What the files have of a federation that stands for a state, and what that comes to for a run.
-use Rattle.std.proofs.Common.{◌≡◌, ◌⊎◌, inl, inr, ℕ, zero, suc, ◌≤◌, ◌<◌, ◌+◌, ◌-◌, Bool, List, [], ◌∷◌, ◌++◌, length, reverse, slice_get, Option, None, Some, refl, sym, ap, ◌∙◌, subst, arith}
+use Rattle.std.proofs.Common.{◌≡◌, ◌⊎◌, inl, inr, ℕ, zero, suc, Bool, List, [], ◌∷◌, ◌++◌, length, reverse, Option, Some, refl, sym, ap, ◌∙◌, subst, arith}
 use Rattle.std.specs.FinMap.{entries, entries_sorted, get-entries}
 use Rattle.std.specs.List.{AllByRecursion}
 use Rattle.std.proofs.lemmas.List.{reverse-reverse}
-use Rattle.std.proofs.lemmas.Option.{slice_get_cases}
-use Rattle.co_base.specs.declared.head.Head.{Head}
-use Rattle.co_base.specs.declared.head.Kind.{Kind}
 use Rattle.co_base.specs.declared.node.Node.{Node}
 use Rattle.co_base.specs.declared.node.Node.TheVariants as node
 use Rattle.co_outside.specs.declared.spot.Spot.{Spot}
 use Rattle.co_outside.specs.Home.{File}
 use Rattle.co_record.specs.declared.record.Record.{Record}
-use Rattle.co_log.specs.NodeFiles.{Items, newest_first, HasRecordsIn}
+use Rattle.co_log.specs.NodeFiles.{Items, newest_first}
 use Rattle.co_recover.specs.Recovered.{records_of}
 use Rattle.co_node.specs.Answers.{AreTold}
-use Rattle.co_node.proofs.Opened.{told_records}
-use Rattle.co_state.specs.Table.{look}
-use Rattle.co_state.specs.declared.engine_state.EngineState.{EngineState}
 use Rattle.co_state.specs.declared.engine_state.Vote.{Vote}
 use Rattle.co_plain.specs.CoordView.{first_refused_at_coord}
-use Rattle.co_plain.specs.DurableRecords.{with_decided, durable_records, durable_in}
+use Rattle.co_plain.specs.DurableRecords.{durable_records, durable_in}
 use Rattle.co_plain.specs.Federation.{Federation}
 use Rattle.co_plain.specs.Invariants.{Stable}
 use Rattle.co_plain.specs.MemberView.{first_refused_at_member, recovered_view}
 use Rattle.co_plain.specs.Promises.{serial_records}
 use Rattle.co_plain.specs.Runs.{run, lines}
-use Rattle.co_plain.specs.declared.coord_state.CoordState.{CoordState}
-use Rattle.co_plain.specs.declared.member_state.MemberState.{MemberState}
+use Rattle.co_plain.specs.Step.{disarmed, step, step_line}
+use Rattle.co_plain.specs.declared.happening.Happening.{Happening}
+use Rattle.co_plain.specs.declared.happening.Happening.TheVariants as happening
+use Rattle.co_message.specs.declared.event.Event.{Event}
+use Rattle.co_replay.specs.Schedule.{HasLine}
 use Rattle.co_serial.specs.SerialRun.{AllRecords}
 use Rattle.co_durable.specs.Durable.{IsDurable, log_of, numbered_rows, IsAllowedBy}
 use Rattle.co_durable.specs.Nodes.{numbered, member_nodes, coord_nodes}
@@ -34,44 +31,17 @@ use Rattle.co_durable.specs.Recovering.{member_refuses, coord_refuses}
 use Rattle.co_durable.specs.Told as files
 use Rattle.co_law_base.proofs.ImageRules.{EachEntry, each_entry}
 use Rattle.co_law_node.specs.WholeNodes.{AreWhole}
-use Rattle.co_law_runs.specs.OnlyTimers.{IsBetween}
+use Rattle.co_law_moves.specs.HandedVerdicts.{AreTrueVerdicts}
+use Rattle.co_law_runs.specs.OnlyTimers.{IsBetween, AreOwn}
+use Rattle.co_law_runs.proofs.Agreement.{run_more}
 use Rattle.co_law.proofs.EveryRun.{every_log, every_sound}
 use Rattle.co_law.proofs.GoingOn.{lines_true}
-use Rattle.co_coord.specs.declared.coord.Coord.{Coord}
-use Rattle.co_member.specs.declared.member.Member.{Member}
-use Rattle.co_opening.specs.Nodes.{IsKept, IsMemberAt, IsCoordAt}
-use Rattle.co_world.specs.Standing.{RepresentsWorld, AreHeld}
-use Rattle.co_world.specs.declared.world.World.{World}
-use Rattle.co_top.specs.Ran.{Ran, start_of, end_of, IsSoundlyFound, AreLeftAs, AreLeftBy}
-use Rattle.co_top.proofs.Laws.{whole, openable}
-use Rattle.co_top.proofs.Lists.{there, one_less, or_last}
+use Rattle.co_world.specs.Left.{AreLeftAs}
+use Rattle.co_top.specs.Front.{IsNext}
+use Rattle.co_top.specs.Ran.{Ran, start_of, end_of, AreLeftAfter, AreLeftBy, AreLeftByFault}
+use Rattle.co_top.proofs.Laws.{all_own, fit_after, whole_after, openable}
+use Rattle.co_top.proofs.Lists.{or_last}
 use Rattle.co_top.proofs.LeftRecords.{Gathered, gather, same_decided, same_rows}
-
-module _ {E : Type 0} (takes : Kind → Type 0) (stands_for : E → EngineState → Type 0) (file : Spot → Option File) (reach : Spot → ℕ) (w : World E) (s : Federation) (r : RepresentsWorld takes stands_for w s) (held : AreHeld file reach w) where
-  member_left : (m : ℕ) → IsBetween m (length s.kinds) → AreTold file (node.Member m) → (items : Items) × HasRecordsIn file (node.Member m) items × (newest_first items ≡ (s.member m).log.stable)
-  member_left m between told =
-      let at = one_less m between.0 in
-      let found = there w.members.items at.0 (subst (λ k. at.0 < k) (sym r.kinds) (omega (arith, between.1, at.1))) in
-      let is : IsMemberAt takes stands_for s.coordinators at.0 found.0 (s.member (suc at.0)) = r.member at.0 found.0 found.1 in
-      let kept : IsKept file reach (node.Member found.0.number) found.0.log = held.member at.0 found.0 found.1 in
-      let named : found.0.number ≡ m = is.number ∙ sym at.1 in
-      let same : AreTold file (node.Member found.0.number) = subst (λ n. AreTold file (node.Member n)) (sym named) told in
-      let has = told_records (node.Member found.0.number) file reach found.0.log (s.member (suc at.0)).log is.stands.log kept.held kept.within same in
-      (has.0, subst (λ n. HasRecordsIn file (node.Member n) has.0) named has.1, has.2 ∙ ap (λ n. (s.member n).log.stable) (sym at.1))
-
-  coord_left : (c : ℕ) → IsBetween c s.coordinators → AreTold file (node.Coord c) → (items : Items) × HasRecordsIn file (node.Coord c) items × (newest_first items ≡ (s.coord c).log.stable)
-  coord_left c between told =
-      let at = one_less c between.0 in
-      let found = there w.coords.items at.0 (subst (λ k. at.0 < k) (sym r.coordinators) (omega (arith, between.1, at.1))) in
-      let is : IsCoordAt (length s.kinds) at.0 found.0 (s.coord (suc at.0)) = r.coord at.0 found.0 found.1 in
-      let kept : IsKept file reach (node.Coord found.0.number) found.0.log = held.coord at.0 found.0 found.1 in
-      let named : found.0.number ≡ c = is.number ∙ sym at.1 in
-      let same : AreTold file (node.Coord found.0.number) = subst (λ n. AreTold file (node.Coord n)) (sym named) told in
-      let has = told_records (node.Coord found.0.number) file reach found.0.log (s.coord (suc at.0)).log is.stands.log kept.held kept.within same in
-      (has.0, subst (λ n. HasRecordsIn file (node.Coord n) has.0) named has.1, has.2 ∙ ap (λ n. (s.coord n).log.stable) (sym at.1))
-
-  pub files_left : AreLeftAs file (length s.kinds) s.coordinators s
-  files_left = record { member = member_left; coord = coord_left }
 
 -- ---- the durable records of such files
 
@@ -94,7 +64,7 @@ split_told : (file : Spot → Option File) (xs ys : List Node) → AllByRecursio
 split_told file [] ys a = (tt, a)
 split_told file (x ∷ xs) ys a = let rest = split_told file xs ys a.1 in ((a.0, rest.0), rest.1)
 
-module _ (file : Spot → Option File) (members coords : ℕ) (s : Federation) (w : AreWhole members coords s) (left : AreLeftAs file members coords s) (told : files.AreTold file members coords) where
+module _ (file : Spot → Option File) (members coords : ℕ) (s : Federation) (w : AreWhole members coords s) (kinds : length s.kinds ≡ members) (coordinators : s.coordinators ≡ coords) (left : AreLeftAs file s) (told : files.AreTold file members coords) where
   both : AllByRecursion (files.IsTold file) (member_nodes members) × AllByRecursion (files.IsTold file) (coord_nodes coords)
   both = split_told file (member_nodes members) (coord_nodes coords) told
 
@@ -105,15 +75,15 @@ module _ (file : Spot → Option File) (members coords : ℕ) (s : Federation) (
   in_members =
       gather file node.Member (IsAllowedBy (member_refuses coords)) (λ m. (s.member m).log.stable) members
       (λ m between.
-        let has = left.member m between (told_at file node.Member members m both.0 between) in
-        (has.0, has.1, ap (first_refused_at_member coords) (turned has.0 (s.member m).log.stable has.2) ∙ (w.member m).readable Stable, has.2))
+      let has = left.member m between.0 (omega (arith, between.1, kinds)) (told_at file node.Member members m both.0 between) in
+      (has.0, has.1, ap (first_refused_at_member coords) (turned has.0 (s.member m).log.stable has.2) ∙ (w.member m).readable Stable, has.2))
 
   in_coords : Gathered file node.Coord (IsAllowedBy (coord_refuses members)) (λ c. (s.coord c).log.stable) coords
   in_coords =
       gather file node.Coord (IsAllowedBy (coord_refuses members)) (λ c. (s.coord c).log.stable) coords
       (λ c between.
-        let has = left.coord c between (told_at file node.Coord coords c both.1 between) in
-        (has.0, has.1, ap (first_refused_at_coord members) (turned has.0 (s.coord c).log.stable has.2) ∙ (w.coord c).readable Stable, has.2))
+      let has = left.coord c between.0 (omega (arith, between.1, coordinators)) (told_at file node.Coord coords c both.1 between) in
+      (has.0, has.1, ap (first_refused_at_coord members) (turned has.0 (s.coord c).log.stable has.2) ∙ (w.coord c).readable Stable, has.2))
 
   as_all : (es : List (ℕ × Vote)) → EachEntry (λ t vote. log_of in_coords.lists vote.coord ≡ (s.coord vote.coord).log.stable) es →
       AllByRecursion (λ (e : ℕ × Vote). log_of in_coords.lists e.1.coord ≡ (s.coord e.1.coord).log.stable) es
@@ -144,14 +114,66 @@ module _ (file : Spot → Option File) (members coords : ℕ) (s : Federation) (
 
 -- ---- what a run left
 
+-- happenings that hand no verdict, each of which names nodes of the head
+pub record ArePlain (members coords : ℕ) (hs : List Happening) : Type 0 where
+  pub own : AreOwn members coords hs
+  pub handless : (s : Federation) → AreTrueVerdicts hs s
+
+own_more : (n k : ℕ) (hs more : List Happening) → AreOwn n k hs → AreOwn n k more → AreOwn n k (hs ++ more)
+own_more n k [] more own rest = rest
+own_more n k (h ∷ hs) more own rest = (own.0, own_more n k hs more own.1 rest)
+
+lines_true_more : (events : List Event) (more : List Happening) → ((s : Federation) → AreTrueVerdicts more s) → (s : Federation) → AreTrueVerdicts (lines events ++ more) s
+lines_true_more [] more rest s = rest s
+lines_true_more (e ∷ es) more rest s = (tt, lines_true_more es more rest (step s (happening.Line e)).state)
+
 module _ {resume : Bool} {input : List ℕ} {old : Spot → Option File} (r : Ran resume input old) (file : Spot → Option File) where
-  pub left_by : AreLeftAs file (length r.head.kinds) r.head.coords (end_of r) → AreLeftBy r file
-  left_by left =
+  abbrev members : ℕ
+  members = length r.head.kinds
+
+  are_plain : ArePlain members r.head.coords (lines r.events)
+  are_plain = record { own = all_own r.head r.events r.valid; handless = lines_true r.events }
+
+  more_plain : (more : List Happening) → AreOwn members r.head.coords more → ((s : Federation) → AreTrueVerdicts more s) → ArePlain members r.head.coords (lines r.events ++ more)
+  more_plain more own handless =
+      record {
+        own = own_more members r.head.coords (lines r.events) more (all_own r.head r.events r.valid) own;
+        handless = lines_true_more r.events more handless;
+      }
+
+  left_after : (hs : List Happening) → ArePlain members r.head.coords hs → AreLeftAs file (run hs (start_of r)) → AreLeftAfter r hs file
+  left_after hs plain left =
+      let f = fit_after r.head r.found_member r.found_coord r.may hs plain.own in
       record {
         left = left;
         logs_alone = λ sound told.
-            durable_left file (length r.head.kinds) r.head.coords (end_of r) (whole r.head r.found_member r.found_coord r.may r.events r.valid) left told
-            (serial_records (start_of r) (end_of r).decided)
-            (every_log r.head.kinds r.head.coords r.found_member r.found_coord (lines r.events) (openable r sound) (lines_true r.events (start_of r)));
-        sound_logs = λ sound. every_sound r.head.kinds r.head.coords r.found_member r.found_coord (lines r.events) (openable r sound) (lines_true r.events (start_of r));
+            durable_left file members r.head.coords (run hs (start_of r)) (whole_after r.head r.found_member r.found_coord r.may hs plain.own) (ap length f.kinds) f.coordinators left told
+            (serial_records (start_of r) (run hs (start_of r)).decided)
+            (every_log r.head.kinds r.head.coords r.found_member r.found_coord hs (openable r sound) (plain.handless (start_of r)));
+        sound_logs = λ sound. every_sound r.head.kinds r.head.coords r.found_member r.found_coord hs (openable r sound) (plain.handless (start_of r));
+      }
+
+  pub left_by : AreLeftAs file (end_of r) → AreLeftBy r file
+  left_by left = left_after (lines r.events) are_plain left
+
+  -- a fault left what was done, or what the event of the next line leaves
+  pub left_by_fault : AreLeftAs file (end_of r)
+      ⊎ ((event : Event) × HasLine r.head event × ((rest : List ℕ) × IsNext r.head (length r.events) r.rest rest (Some event))
+      × (AreLeftAs file (step_line (end_of r) event).state ⊎ AreLeftAs file (step_line (disarmed (end_of r)) event).state)) → AreLeftByFault r file
+  left_by_fault (inl before) = record { happened = lines r.events; up_to = inl refl; files = left_by before }
+  left_by_fault (inr (event, line, next, inl after)) =
+      let more : List Happening = happening.Line event ∷ [] in
+      record {
+        happened = lines r.events ++ more;
+        up_to = inr (event, next.0, next.1, inl refl);
+        files = left_after (lines r.events ++ more) (more_plain more (all_own r.head (event ∷ []) (line, tt)) (λ s. (tt, tt)))
+            (subst (AreLeftAs file) (sym (run_more (lines r.events) more (start_of r))) after);
+      }
+  left_by_fault (inr (event, line, next, inr completed)) =
+      let more : List Happening = happening.Disarm ∷ happening.Line event ∷ [] in
+      record {
+        happened = lines r.events ++ more;
+        up_to = inr (event, next.0, next.1, inr refl);
+        files = left_after (lines r.events ++ more) (more_plain more (tt, all_own r.head (event ∷ []) (line, tt)) (λ s. (tt, (tt, tt))))
+            (subst (AreLeftAs file) (sym (run_more (lines r.events) more (start_of r))) completed);
       }

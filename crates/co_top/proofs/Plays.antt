@@ -1,5 +1,5 @@
 -- One more line is played, or none is.
-use Rattle.std.proofs.Common.{◌≡◌, ◌⊎◌, inl, inr, ℕ, suc, ◌+◌, ◌≤◌, Bool, true, false, List, [], ◌∷◌, ◌++◌, length, take, map, Option, None, Some, Result, Ok, Err, refl, sym, ap, ◌∙◌, subst, append-nil, append_assoc, arith}
+use Rattle.std.proofs.Common.{◌≡◌, inl, inr, ℕ, suc, ◌+◌, Bool, true, false, List, [], ◌∷◌, ◌++◌, length, take, Option, None, Some, Result, Ok, Err, refl, sym, ap, ◌∙◌, subst, append-nil, append_assoc, arith}
 use Rattle.std.proofs.Math.Seq.{take-length}
 use Rattle.std.specs.Result.{IsErr, IsErrAnd}
 use Rattle.std.specs.List.{AllByRecursion}
@@ -13,30 +13,31 @@ use Rattle.co_outside.specs.Home.{File}
 use Rattle.co_durable.proofs.Pairs.{all_append}
 use Rattle.co_durable.specs.declared.fault.WorldFault.{WorldFault}
 use Rattle.co_durable.specs.declared.fault.WorldFault.TheVariants as world
-use Rattle.co_opening.specs.Opened.{IsUnopened}
+use Rattle.co_opening.specs.Opened.{IsUnopened, IsOfFound}
 use Rattle.co_world.specs.Served.{HasEndedAs}
 use Rattle.co_law.proofs.GoingOn.{transcript_more}
 use Rattle.co_law_runs.proofs.Agreement.{run_more}
 use Rattle.co_node.specs.Answers.{HomeView}
 use Rattle.co_plain.specs.Federation.{Federation}
 use Rattle.co_plain.specs.Runs.{run, lines, numbered, transcript}
-use Rattle.co_plain.specs.Step.{step_line}
-use Rattle.co_plain.specs.declared.happening.Happening.{Happening}
+use Rattle.co_plain.specs.Step.{disarmed, step_line}
 use Rattle.co_plain.specs.declared.happening.Happening.TheVariants as happening
 use Rattle.co_replay.specs.Schedule.{HasLine}
 use Rattle.co_replay.specs.Transcript.{items_text}
 use Rattle.co_replay.proofs.Appended.{items_text-append}
 use Rattle.co_schedule.specs.declared.lines.Lines.{Lines}
 use Rattle.co_state.specs.declared.engine_state.EngineState.{EngineState}
-use Rattle.co_world.specs.Standing.{RepresentsWorld, AreHeld}
+use Rattle.co_world.specs.Left.{AreLeftAs, AreLeftBy}
+use Rattle.co_world.specs.Standing.{RepresentsWorld}
+use Rattle.co_world.proofs.Lefts.{held_left}
 use Rattle.co_world.specs.declared.world.World.{World}
 use Rattle.co_top.proofs.Lists.{map_more, count_more, take_behind}
-use Rattle.co_top.specs.Front.{HasRead, StandsBehind, OneMore, IsNext, IsLineFault}
+use Rattle.co_top.specs.Front.{HasRead, StandsBehind, OneMore, IsNext}
 use Rattle.co_top.specs.Heads.{IsEventRead, IsReadStatus}
-use Rattle.co_top.specs.Played.{IsTold, IsToldInPart, StandsFor, HasStopped, IsOver}
+use Rattle.co_top.specs.Played.{IsTold, IsToldInPart, StandsFor, IsLeftNear, HasFailed, HasFailedInPart, HasStopped, IsOver}
 use Rattle.co_top.specs.Ends.{of_world}
-use Rattle.co_top.specs.Replayed.{given_back, opening_text, IsUnopenedAs, IsOpeningTold}
-use Rattle.co_top.specs.Telling.{event_text, IsPut, IsPutInPart, IsTextPut, HasStepped, HasEnded, IsToldOf}
+use Rattle.co_top.specs.Replayed.{given_back, opening_text, IsUnopenedAs, IsOfFiles, IsOpeningTold}
+use Rattle.co_top.specs.Telling.{event_text, IsPut, IsPutInPart, IsTextPut, HasStepped, HasFaulted, HasEnded, IsToldOf}
 use Rattle.co_top.specs.declared.status.LimitKind.TheVariants as limit
 use Rattle.co_top.specs.declared.status.Status.{Status}
 use Rattle.co_top.specs.declared.status.Status.TheVariants as status
@@ -64,6 +65,19 @@ left_one head text es e line left rest next = subst (StandsBehind head text (es 
 -- an event was read behind those of the told lines, where the source tells its text, and this is ahead then
 abbrev pub IsReadBehind : (head : Head) (text : Option (List ℕ)) (es : List Event) → ((t : List ℕ) → text ≡ Some t → (rest : List ℕ) × StandsBehind head t es rest) → Option (List ℕ) → Event → Type 0
 IsReadBehind head text es left ahead e = (t : List ℕ) (q : text ≡ Some t) → (rest : List ℕ) × IsNext head (length es) (left t q).0 rest (Some e) × (ahead ≡ Some rest)
+
+-- what was told whole was told in part
+abbrev pub whole_part : (head : Head) (s0 : Federation) (text held told : Option (List ℕ)) → IsTold head s0 text held told → IsToldInPart head s0 text held told
+whole_part head s0 text held told p =
+    record {
+      events = p.events;
+      valid = p.valid;
+      left = p.left;
+      part = λ h q. let all = items_text (transcript 2 p.events s0) in (length all, p.whole h q ∙ ap (λ t. Some (h ++ t)) (sym (take-length all)));
+    }
+
+in_part : (head : Head) (s0 : Federation) (text held told : Option (List ℕ)) (home : HomeView) → HasFailed head s0 text held told home → HasFailedInPart head s0 text held told home
+in_part head s0 text held told home f = record { done = whole_part head s0 text held told f.done; files = f.files }
 
 module _ (head : Head) (s0 : Federation) (text held told : Option (List ℕ)) (p : IsTold head s0 text held told) (e : Event) (line : HasLine head e) (ahead : Option (List ℕ)) (read : IsReadBehind head text p.events p.left ahead e) where
   abbrev pub es : List Event
@@ -100,14 +114,24 @@ module _ (head : Head) (s0 : Federation) (text held told : Option (List ℕ)) (p
             let cut = put (h ++ done) (p.whole h q) in (
               length done + cut.0,
               cut.1 ∙ ap Some (
-                append_assoc h done (take cut.0 (event_text (length p.events + 2) e z))
-                ∙ ap (λ t. h ++ t) (sym (take_behind done (event_text (length p.events + 2) e z) cut.0) ∙ ap (take (length done + cut.0)) (sym (text_one p.events e s0)))),
+                  append_assoc h done (take cut.0 (event_text (length p.events + 2) e z))
+                  ∙ ap (λ t. h ++ t) (sym (take_behind done (event_text (length p.events + 2) e z) cut.0) ∙ ap (take (length done + cut.0)) (sym (text_one p.events e s0)))),
             );
       }
 
   module _ {E : Type 0} (takes : Kind → Type 0) (stands_for : E → EngineState → Type 0) (home : HomeView) (w : World E) where
-    stands_one : HasStepped takes stands_for z e home w → StandsFor takes stands_for s0 home w es
+    pub stands_one : HasStepped takes stands_for z e home w → StandsFor takes stands_for s0 home w es
     stands_one st = record { stands = subst (RepresentsWorld takes stands_for w) (sym (run_one p.events e s0)) st.stands; held = st.held }
+
+    files_one : HasStepped takes stands_for z e home w → AreLeftAs home.file (run (lines es) s0)
+    files_one st = let f = stands_one st in held_left takes stands_for w (run (lines es) s0) home.file home.reach f.stands f.held
+
+    near : AreLeftBy home.file z (step_line z e).state (step_line (disarmed z) e).state → IsLeftNear head s0 text p.events p.left home.file
+    near (inl before) = inl before
+    near (inr began) = inr (e, line, λ t q. let r = read t q in (r.0, r.1), began)
+
+    failed : (after : Option (List ℕ)) → HasFaulted z e told after home → HasFailed head s0 text held after home
+    failed after o = subst (λ (t : Option (List ℕ)). HasFailed head s0 text held t home) (sym o.0) (record { done = p; files = near o.1 })
 
     -- a line that could not be told, or not be done, ends it
     pub told_over : (why : Status) (after : Option (List ℕ)) → IsToldOf takes stands_for z (length p.events + 2) e told after home w (Err why) → IsOver takes stands_for head s0 text held after home w (Err why)
@@ -116,15 +140,16 @@ module _ (head : Head) (s0 : Federation) (text held told : Option (List ℕ)) (p
     told_over (status.Schedule number what) after o = absurd o
     told_over status.Read after o = absurd o
     told_over status.Write after o = (told_in_part after o.1, stands_one o.0)
-    told_over (status.Device spot) after o = subst (IsTold head s0 text held) (sym o) p
-    told_over (status.Differs spot place kept got) after o = subst (IsTold head s0 text held) (sym o) p
+    told_over (status.Device spot) after o = failed after o
+    told_over (status.Differs spot place kept got) after o = failed after o
     told_over (status.InUse spot) after o = absurd o
     told_over (status.BadLog spot place) after o = absurd o
     told_over (status.Limit (limit.Line number)) after o = absurd o
     told_over (status.Limit limit.Lines) after o = absurd o
-    told_over (status.Limit limit.Transactions) after o = subst (IsTold head s0 text held) (sym o) p
-    told_over (status.Limit (limit.Log spot)) after o = subst (IsTold head s0 text held) (sym o) p
-    told_over status.Memory after o = told_in_part after o
+    told_over (status.Limit limit.Transactions) after o = failed after o
+    told_over (status.Limit (limit.Log spot)) after o = failed after o
+    told_over status.Memory after (inl o) = in_part head s0 text held after home (failed after o)
+    told_over status.Memory after (inr o) = record { done = told_in_part after o.1; files = inl (files_one o.0) }
     told_over (status.OldLog spot) after o = absurd o
 
 -- what holds before each line: the lines that were told, for what the federation stands, and how many lines were read
@@ -161,15 +186,6 @@ module _ {E : Type 0} (takes : Kind → Type 0) (stands_for : E → EngineState 
   stops : (why : Status) (after : Option (List ℕ)) → ((t : List ℕ) → ahead ≡ Some t → IsEventRead head (length p.done.events) t after (Err why)) → HasStopped takes stands_for head s0 text held told home w why
   stops why after f = record { done = p.done; stands = p.stands; cause = λ t q. f (p.done.left t q).0 (p.is_left t q) }
 
-  whole_part : IsToldInPart head s0 text held told
-  whole_part =
-      record {
-        events = p.done.events;
-        valid = p.done.valid;
-        left = p.done.left;
-        part = λ h q. let all = items_text (transcript 2 p.done.events s0) in (length all, p.done.whole h q ∙ ap (λ t. Some (h ++ t)) (sym (take-length all)));
-      }
-
   -- the next line gave no event
   pub reads_over : (why : Status) (after : Option (List ℕ)) → IsReadStatus why → ((t : List ℕ) → ahead ≡ Some t → IsEventRead head (length p.done.events) t after (Err why)) →
       IsOver takes stands_for head s0 text held told home w (Err why)
@@ -186,14 +202,11 @@ module _ {E : Type 0} (takes : Kind → Type 0) (stands_for : E → EngineState 
   reads_over (status.Limit limit.Lines) after own f = stops (status.Limit limit.Lines) after f
   reads_over (status.Limit limit.Transactions) after own f = absurd own
   reads_over (status.Limit (limit.Log spot)) after own f = absurd own
-  reads_over status.Memory after own f = whole_part
+  reads_over status.Memory after own f =
+      record { done = whole_part head s0 text held told p.done; files = inl (held_left takes stands_for w (run (lines p.done.events) s0) home.file home.reach p.stands.stands p.stands.held) }
   reads_over (status.OldLog spot) after own f = absurd own
 
 -- ---- one event is told
-
--- nothing was put
-pub nothing_put : (text : List ℕ) (held : Option (List ℕ)) → IsPutInPart text held held
-nothing_put text held = λ h e. (0, e ∙ ap Some (sym (append-nil h)))
 
 -- what was done is told so
 pub told_as : {E : Type 0} (takes : Kind → Type 0) (stands_for : E → EngineState → Type 0) (s : Federation) (number : ℕ) (e : Event) (held told : Option (List ℕ)) (home : HomeView) (w : World E) (items : List Item) (o : Result (Unit {0}) Status) →
@@ -209,20 +222,20 @@ told_as takes stands_for s number e held told home w items (Err (status.Differs 
 told_as takes stands_for s number e held told home w items (Err (status.InUse spot)) is st p = absurd p
 told_as takes stands_for s number e held told home w items (Err (status.BadLog spot place)) is st p = absurd p
 told_as takes stands_for s number e held told home w items (Err (status.Limit what)) is st p = absurd p
-told_as takes stands_for s number e held told home w items (Err status.Memory) is st p = subst (λ (xs : List Item). IsPutInPart (items_text (numbered number (item.Event e ∷ []) ++ xs)) held told) is p
+told_as takes stands_for s number e held told home w items (Err status.Memory) is st p = inr (st, subst (λ (xs : List Item). IsPutInPart (items_text (numbered number (item.Event e ∷ []) ++ xs)) held told) is p)
 told_as takes stands_for s number e held told home w items (Err (status.OldLog spot)) is st p = absurd p
 
 -- what was not done is not told
 pub untold : {E : Type 0} (takes : Kind → Type 0) (stands_for : E → EngineState → Type 0) (s : Federation) (number : ℕ) (e : Event) (held : Option (List ℕ)) (old new : HomeView) (w : World E) (fault : WorldFault) → HasEndedAs fault old new →
-    IsToldOf takes stands_for s number e held held new w (Err (of_world fault))
-untold takes stands_for s number e held old new w (world.Device spot) h = refl
-untold takes stands_for s number e held old new w (world.Differs spot place kept got) h = refl
-untold takes stands_for s number e held old new w (world.InUse spot) h = absurd h
-untold takes stands_for s number e held old new w (world.Bad spot place) h = absurd h
-untold takes stands_for s number e held old new w (world.Full spot) h = refl
-untold takes stands_for s number e held old new w world.Count h = refl
-untold takes stands_for s number e held old new w (world.Old spot) h = absurd h
-untold takes stands_for s number e held old new w world.Memory h = nothing_put (event_text number e s) held
+    AreLeftBy new.file s (step_line s e).state (step_line (disarmed s) e).state → IsToldOf takes stands_for s number e held held new w (Err (of_world fault))
+untold takes stands_for s number e held old new w (world.Device spot) h left = (refl, left)
+untold takes stands_for s number e held old new w (world.Differs spot place kept got) h left = (refl, left)
+untold takes stands_for s number e held old new w (world.InUse spot) h left = absurd h
+untold takes stands_for s number e held old new w (world.Bad spot place) h left = absurd h
+untold takes stands_for s number e held old new w (world.Full spot) h left = (refl, left)
+untold takes stands_for s number e held old new w world.Count h left = (refl, left)
+untold takes stands_for s number e held old new w (world.Old spot) h left = absurd h
+untold takes stands_for s number e held old new w world.Memory h left = inl (refl, left)
 
 -- how the directory ended
 pub ended_as : (old new : HomeView) (fault : WorldFault) → HasEndedAs fault old new → HasEnded old new (Err (of_world fault))
@@ -234,6 +247,17 @@ ended_as old new (world.Full spot) h = h
 ended_as old new world.Count h = ap (λ (v : HomeView). v.faults) h
 ended_as old new (world.Old spot) h = absurd h
 ended_as old new world.Memory h = h
+
+-- no fault of the federation is one of the sink
+pub not_write : (fault : WorldFault) → of_world fault ≡ status.Write → ⊥
+not_write (world.Device spot) e = let z : status.Device spot ≡ status.Write = e in cc
+not_write (world.Differs spot place kept got) e = let z : status.Differs spot place kept got ≡ status.Write = e in cc
+not_write (world.InUse spot) e = let z : status.InUse spot ≡ status.Write = e in cc
+not_write (world.Bad spot place) e = let z : status.BadLog spot place ≡ status.Write = e in cc
+not_write (world.Full spot) e = let z : status.Limit (limit.Log spot) ≡ status.Write = e in cc
+not_write world.Count e = let z : status.Limit limit.Transactions ≡ status.Write = e in cc
+not_write (world.Old spot) e = let z : status.OldLog spot ≡ status.Write = e in cc
+not_write world.Memory e = let z : status.Memory ≡ status.Write = e in cc
 
 -- a text that was put met no fault of the directory
 pub put_ended : (text : List ℕ) (held told : Option (List ℕ)) (old new : HomeView) (o : Result (Unit {0}) Status) → new.faults ≡ old.faults → IsTextPut text held told o → HasEnded old new o
@@ -277,6 +301,17 @@ unopened_as file head resume (world.Full spot) u = u
 unopened_as file head resume world.Count u = u
 unopened_as file head resume (world.Old spot) u = u
 unopened_as file head resume world.Memory u = tt
+
+-- a refusal of what was found, as a status
+pub of_found : (fault : WorldFault) → IsOfFiles (of_world fault) → IsOfFound fault
+of_found (world.Device spot) f = absurd f
+of_found (world.Differs spot place kept got) f = absurd f
+of_found (world.InUse spot) f = tt
+of_found (world.Bad spot place) f = tt
+of_found (world.Full spot) f = tt
+of_found world.Count f = tt
+of_found (world.Old spot) f = tt
+of_found world.Memory f = absurd f
 
 -- what a question mark passes on is the fault that was met
 pub err_is : {A E : Type 0} (o : Result A E) (why : E) → IsErr o × IsErrAnd o (λ e. e ≡ why) → o ≡ Err why

@@ -2,16 +2,14 @@
 use Rattle.std.proofs.Common.{◌≡◌, ℕ, suc, ◌+◌, ◌<◌, Bool, true, false, nat_lt, if◌then◌else◌, List, [], ◌∷◌, length, Option, None, Some, Result, Ok, Err, refl, sym, ap, ◌∙◌, subst}
 use Rattle.co_base.specs.declared.head.Head.{Head}
 use Rattle.co_message.specs.declared.event.Event.{Event}
-use Rattle.co_replay.specs.Schedule.{HasLine, IsOutside, IsFaultOf}
+use Rattle.co_replay.specs.Schedule.{IsOutside, IsFaultOf}
 use Rattle.co_schedule.specs.LineText.{first_line, behind_line, next_line}
 use Rattle.co_schedule.specs.Limits.{longest_line}
-use Rattle.co_schedule.specs.Spelling.{head_text, line_text}
-use Rattle.co_schedule.specs.declared.fault.LineFault.{LineFault}
+use Rattle.co_schedule.specs.Spelling.{head_text}
 use Rattle.co_schedule.specs.declared.fault.LineKind.TheVariants as kind
 use Rattle.co_schedule.specs.declared.fault.LinesFault.{LinesFault}
 use Rattle.co_schedule.specs.declared.fault.LinesFault.TheVariants as lines
-use Rattle.co_top.specs.Ends.{of_line}
-use Rattle.co_top.specs.Front.{IsHeaded, IsHeadFault, IsNext, IsLineFault, most}
+use Rattle.co_top.specs.Front.{IsHeadFault, most}
 use Rattle.co_top.specs.Heads.{IsHeadIn, IsEventIn, IsHeadRead, IsEventRead, some_of}
 use Rattle.co_top.specs.declared.status.LimitKind.TheVariants as limit
 use Rattle.co_top.specs.declared.status.Status.{Status}

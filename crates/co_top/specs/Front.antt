@@ -1,15 +1,13 @@
 -- The front of a schedule: its head, and the events of the lines behind it that were read.
-use Rattle.std.specs.Prelude.{ℕ, suc, ◌+◌, ◌≡◌, ◌<◌, ◌≤◌, List, [], ◌∷◌, ◌++◌, length, Option, None, Some, Result, Ok, Err}
+use Rattle.std.specs.Prelude.{ℕ, suc, ◌+◌, ◌≡◌, ◌<◌, List, [], ◌∷◌, ◌++◌, length, Option, None, Some, Ok, Err}
 use Rattle.co_base.specs.declared.head.Head.{Head}
 use Rattle.co_message.specs.declared.event.Event.{Event}
 use Rattle.co_replay.specs.Schedule.{HasLine, IsOutside, IsFaultOf}
 use Rattle.co_schedule.specs.Limits.{longest_line}
 use Rattle.co_schedule.specs.LineText.{first_line, behind_line, next_line}
-use Rattle.co_schedule.specs.Lines as reader
 use Rattle.co_schedule.specs.Lines.{most_bytes, most_lines, lines_read}
 use Rattle.co_schedule.specs.Spelling.{line_text, head_text}
 use Rattle.co_schedule.specs.declared.fault.LineFault.{LineFault}
-use Rattle.co_schedule.specs.declared.fault.LineFault.TheVariants as fault
 use Rattle.co_schedule.specs.declared.fault.LinesFault.TheVariants as lines
 use Rattle.co_schedule.specs.declared.fault.LineKind.TheVariants as kind
 use Rattle.co_schedule.specs.declared.lines.Lines.{Lines}

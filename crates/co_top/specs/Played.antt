@@ -1,19 +1,23 @@
 -- How far the lines behind a head were done, what was told of them, and for what the federation stands then.
-use Rattle.std.specs.Prelude.{ℕ, suc, ◌≡◌, List, [], ◌++◌, length, take, Option, Some, Result, Ok, Err}
+use Rattle.std.specs.Prelude.{ℕ, ◌≡◌, ◌⊎◌, List, [], ◌++◌, length, take, Option, Some, Result, Ok, Err}
 use Rattle.std.specs.List.{AllByRecursion}
 use Rattle.co_base.specs.declared.head.Head.{Head}
 use Rattle.co_base.specs.declared.head.Kind.{Kind}
 use Rattle.co_message.specs.declared.event.Event.{Event}
+use Rattle.co_outside.specs.declared.spot.Spot.{Spot}
+use Rattle.co_outside.specs.Home.{File}
 use Rattle.co_node.specs.Answers.{HomeView}
 use Rattle.co_plain.specs.Federation.{Federation}
 use Rattle.co_plain.specs.Runs.{run, transcript, lines}
+use Rattle.co_plain.specs.Step.{disarmed, step_line}
 use Rattle.co_replay.specs.Schedule.{HasLine}
 use Rattle.co_replay.specs.Transcript.{items_text}
 use Rattle.co_state.specs.declared.engine_state.EngineState.{EngineState}
 use Rattle.co_world.specs.Conditions.{IsReady}
+use Rattle.co_world.specs.Left.{AreLeftAs}
 use Rattle.co_world.specs.Standing.{RepresentsWorld, AreHeld}
 use Rattle.co_world.specs.declared.world.World.{World}
-use Rattle.co_top.specs.Front.{StandsBehind, IsLineFault}
+use Rattle.co_top.specs.Front.{StandsBehind, IsNext, IsLineFault}
 use Rattle.co_top.specs.declared.status.LimitKind.TheVariants as limit
 use Rattle.co_top.specs.declared.status.Status.{Status}
 use Rattle.co_top.specs.declared.status.Status.TheVariants as status
@@ -47,6 +51,22 @@ pub record StandsFor {E : Type 0} (takes : Kind → Type 0) (stands_for : E → 
   pub stands : RepresentsWorld takes stands_for w (run (lines events) s0)
   pub held : AreHeld home.file home.reach w
 
+-- The files have what these events left, or what was left of the event of the next line: it was begun, and a stop that was armed counts or does not.
+abbrev pub IsLeftNear : (head : Head) → Federation → (text : Option (List ℕ)) → (events : List Event) → ((t : List ℕ) → text ≡ Some t → (rest : List ℕ) × StandsBehind head t events rest) → (Spot → Option File) → Type 0
+IsLeftNear head s0 text events left file =
+    AreLeftAs file (run (lines events) s0)
+    ⊎ ((event : Event) × HasLine head event × ((t : List ℕ) (q : text ≡ Some t) → (rest : List ℕ) × IsNext head (length events) (left t q).0 rest (Some event))
+    × (AreLeftAs file (step_line (run (lines events) s0) event).state ⊎ AreLeftAs file (step_line (disarmed (run (lines events) s0)) event).state))
+
+-- what was told before an event met a fault, and what the files have then
+pub record HasFailed (head : Head) (s0 : Federation) (text held told : Option (List ℕ)) (home : HomeView) : Type 0 where
+  pub done : IsTold head s0 text held told
+  pub files : IsLeftNear head s0 text done.events done.left home.file
+
+pub record HasFailedInPart (head : Head) (s0 : Federation) (text held told : Option (List ℕ)) (home : HomeView) : Type 0 where
+  pub done : IsToldInPart head s0 text held told
+  pub files : IsLeftNear head s0 text done.events done.left home.file
+
 -- the lines that were done, and why the next one gave no event
 pub record HasStopped {E : Type 0} (takes : Kind → Type 0) (stands_for : E → EngineState → Type 0) (head : Head) (s0 : Federation) (text held told : Option (List ℕ)) (home : HomeView) (w : World E) (ended : Status) : Type 0 where
   pub done : IsTold head s0 text held told
@@ -62,9 +82,9 @@ IsOver takes stands_for head s0 text held told home w (Err (status.Limit (limit.
 IsOver takes stands_for head s0 text held told home w (Err (status.Limit limit.Lines)) = HasStopped takes stands_for head s0 text held told home w (status.Limit limit.Lines)
 IsOver takes stands_for head s0 text held told home w (Err status.Read) = HasStopped takes stands_for head s0 text held told home w status.Read
 IsOver takes stands_for head s0 text held told home w (Err status.Write) = (done : IsToldInPart head s0 text held told) × StandsFor takes stands_for s0 home w done.events
-IsOver takes stands_for head s0 text held told home w (Err status.Memory) = IsToldInPart head s0 text held told
-IsOver takes stands_for head s0 text held told home w (Err (status.Device spot)) = IsTold head s0 text held told
-IsOver takes stands_for head s0 text held told home w (Err (status.Differs spot at kept read)) = IsTold head s0 text held told
-IsOver takes stands_for head s0 text held told home w (Err (status.Limit (limit.Log spot))) = IsTold head s0 text held told
-IsOver takes stands_for head s0 text held told home w (Err (status.Limit limit.Transactions)) = IsTold head s0 text held told
+IsOver takes stands_for head s0 text held told home w (Err status.Memory) = HasFailedInPart head s0 text held told home
+IsOver takes stands_for head s0 text held told home w (Err (status.Device spot)) = HasFailed head s0 text held told home
+IsOver takes stands_for head s0 text held told home w (Err (status.Differs spot at kept read)) = HasFailed head s0 text held told home
+IsOver takes stands_for head s0 text held told home w (Err (status.Limit (limit.Log spot))) = HasFailed head s0 text held told home
+IsOver takes stands_for head s0 text held told home w (Err (status.Limit limit.Transactions)) = HasFailed head s0 text held told home
 IsOver takes stands_for head s0 text held told home w (Err _) = ⊥

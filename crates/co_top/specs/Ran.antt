@@ -1,13 +1,10 @@
 -- What a run did, and what is promised of it.
-use Rattle.std.specs.Prelude.{ℕ, Bool, true, false, ◌≡◌, ◌⊎◌, List, [], ◌++◌, length, take, map, Option, Some}
+use Rattle.std.specs.Prelude.{ℕ, Bool, false, ◌≡◌, ◌⊎◌, List, [], ◌∷◌, ◌++◌, length, take, map, Option, Some}
 use Rattle.std.specs.List.{AllByRecursion}
 use Rattle.co_base.specs.declared.head.Head.{Head}
-use Rattle.co_base.specs.declared.node.Node.TheVariants as node
 use Rattle.co_message.specs.declared.event.Event.{Event}
 use Rattle.co_outside.specs.declared.spot.Spot.{Spot}
 use Rattle.co_outside.specs.Home.{File}
-use Rattle.co_log.specs.NodeFiles.{Items, newest_first, HasRecordsIn}
-use Rattle.co_node.specs.Answers.{AreTold}
 use Rattle.co_durable.specs.Durable.{IsDurable, numbered_rows}
 use Rattle.co_durable.specs.Told as files
 use Rattle.co_durable.specs.declared.fault.WorldFault.{WorldFault}
@@ -18,12 +15,14 @@ use Rattle.co_plain.specs.Opening.{Found, opened}
 use Rattle.co_plain.specs.Promises.{SerialReads, Acknowledged, MembersAgree, LogsStaySound, serial_records}
 use Rattle.co_plain.specs.Runs.{run, transcript, lines}
 use Rattle.co_plain.specs.SoundLogs.{AreSound}
+use Rattle.co_plain.specs.declared.happening.Happening.{Happening}
+use Rattle.co_plain.specs.declared.happening.Happening.TheVariants as happening
 use Rattle.co_replay.specs.Schedule.{HasLine}
 use Rattle.co_replay.specs.Transcript.{items_text, run_items}
-use Rattle.co_law_runs.specs.OnlyTimers.{IsBetween}
 use Rattle.co_opening.specs.Found.{AreFound, MayRun, AreUnused}
 use Rattle.co_opening.specs.Opened.{IsUnopened}
-use Rattle.co_top.specs.Front.{IsHeaded, StandsBehind, IsHeadFault, IsLineFault}
+use Rattle.co_world.specs.Left.{AreLeftAs}
+use Rattle.co_top.specs.Front.{IsHeaded, StandsBehind, IsNext, IsHeadFault, IsLineFault}
 use Rattle.co_top.specs.declared.status.LimitKind.TheVariants as limit
 use Rattle.co_top.specs.declared.status.Status.{Status}
 use Rattle.co_top.specs.declared.status.Status.TheVariants as status
@@ -67,18 +66,31 @@ pub record KeepsPromises {resume : Bool} {input : List ℕ} {file : Spot → Opt
   pub agreement : MembersAgree (start_of r) (lines r.events)
   pub ordered : IsCommitmentOrdered r.head.kinds (map (λ i. i.what) (transcript 2 r.events (start_of r)))
 
--- the files of each node have the stable records of the state, where the directory tells them
-pub record AreLeftAs (file : Spot → Option File) (members coords : ℕ) (s : Federation) : Type 0 where
-  pub member : (m : ℕ) → IsBetween m members → AreTold file (node.Member m) → (items : Items) × HasRecordsIn file (node.Member m) items × (newest_first items ≡ (s.member m).log.stable)
-  pub coord : (c : ℕ) → IsBetween c coords → AreTold file (node.Coord c) → (items : Items) × HasRecordsIn file (node.Coord c) items × (newest_first items ≡ (s.coord c).log.stable)
-
--- The files that a run left, of a directory that tells them: they have what the events left. Where the logs were fresh or sound, they alone give the records of the
--- serial run in the order of decisions, and they are sound again.
-pub record AreLeftBy {resume : Bool} {input : List ℕ} {old : Spot → Option File} (r : Ran resume input old) (file : Spot → Option File) : Type 0 where
-  pub left : AreLeftAs file (length r.head.kinds) r.head.coords (end_of r)
+-- What a directory that tells its files has after happenings of this run: what they left in the logs. Where the logs were fresh or sound, the files alone give the
+-- records of the serial run in the order of decisions, and they are sound again.
+pub record AreLeftAfter {resume : Bool} {input : List ℕ} {old : Spot → Option File} (r : Ran resume input old) (happened : List Happening) (file : Spot → Option File) : Type 0 where
+  pub left : AreLeftAs file (run happened (start_of r))
   pub logs_alone : IsSoundlyFound r → files.AreTold file (length r.head.kinds) r.head.coords →
-      IsDurable file (length r.head.kinds) r.head.coords (numbered_rows (serial_records (start_of r) (end_of r).decided) 1 (length r.head.kinds))
-  pub sound_logs : IsSoundlyFound r → LogsStaySound (start_of r) (lines r.events)
+      IsDurable file (length r.head.kinds) r.head.coords (numbered_rows (serial_records (start_of r) (run happened (start_of r)).decided) 1 (length r.head.kinds))
+  pub sound_logs : IsSoundlyFound r → LogsStaySound (start_of r) happened
+
+-- the files that a run left
+abbrev pub AreLeftBy : {resume : Bool} {input : List ℕ} {old : Spot → Option File} → Ran resume input old → (Spot → Option File) → Type 0
+AreLeftBy r file = AreLeftAfter r (lines r.events) file
+
+-- The happenings up to a fault: the events of the lines that were done, and with them that of the next line or not; where the fault stands in the place of a stop
+-- that was armed, as if none were.
+abbrev pub IsUpToFault : {resume : Bool} {input : List ℕ} {old : Spot → Option File} → Ran resume input old → List Happening → Type 0
+IsUpToFault r happened =
+    (happened ≡ lines r.events)
+    ⊎ ((event : Event) × (rest : List ℕ) × IsNext r.head (length r.events) r.rest rest (Some event)
+    × ((happened ≡ lines r.events ++ happening.Line event ∷ []) ⊎ (happened ≡ lines r.events ++ happening.Disarm ∷ happening.Line event ∷ [])))
+
+-- the files that a fault left
+pub record AreLeftByFault {resume : Bool} {input : List ℕ} {old : Spot → Option File} (r : Ran resume input old) (file : Spot → Option File) : Type 0 where
+  pub happened : List Happening
+  pub up_to : IsUpToFault r happened
+  pub files : AreLeftAfter r happened file
 
 -- a run, its promises, and what it told
 pub record HasRun (resume : Bool) (input held : List ℕ) (old : Spot → Option File) (told : Option (List ℕ)) : Type 0 where
@@ -92,6 +104,10 @@ pub record HasRunInPart (resume : Bool) (input held : List ℕ) (old : Spot → 
   pub promises : IsSoundlyFound ran → KeepsPromises ran
   pub count : ℕ
   pub transcript : told ≡ Some (held ++ take count (text_of ran))
+
+-- nothing was put, and no file is changed
+abbrev pub IsAtRest : List ℕ → Option (List ℕ) → (Spot → Option File) → (Spot → Option File) → Type 0
+IsAtRest held told old new = (told ≡ Some held) × ((s : Spot) → new s ≡ old s)
 
 -- why no federation was opened: the head was none, or nothing could be opened in the directory
 pub record IsUnopenedFor (resume : Bool) (input : List ℕ) (old : Spot → Option File) (why : WorldFault) : Type 0 where
@@ -110,16 +126,16 @@ pub record HasStoppedAt (resume : Bool) (input held : List ℕ) (old new : Spot 
 abbrev pub IsRunEnd : Bool → List ℕ → List ℕ → (Spot → Option File) → (Spot → Option File) → Option (List ℕ) → Status → Type 0
 IsRunEnd resume input held old new told status.Done = (done : HasRun resume input held old told) × AreLeftBy done.ran new × (done.ran.rest ≡ [])
 IsRunEnd resume input held old new told status.Usage = ⊥
-IsRunEnd resume input held old new told (status.Schedule line what) = ((told ≡ Some held) × IsHeadFault input (status.Schedule line what)) ⊎ HasStoppedAt resume input held old new told (status.Schedule line what)
-IsRunEnd resume input held old new told status.Read = (told ≡ Some held) ⊎ HasStoppedAt resume input held old new told status.Read
+IsRunEnd resume input held old new told (status.Schedule line what) = (IsAtRest held told old new × IsHeadFault input (status.Schedule line what)) ⊎ HasStoppedAt resume input held old new told (status.Schedule line what)
+IsRunEnd resume input held old new told status.Read = IsAtRest held told old new ⊎ HasStoppedAt resume input held old new told status.Read
 IsRunEnd resume input held old new told status.Write = (done : HasRunInPart resume input held old told) × AreLeftBy done.ran new
-IsRunEnd resume input held old new told (status.Device spot) = (told ≡ Some held) ⊎ HasRun resume input held old told
-IsRunEnd resume input held old new told (status.Differs spot at kept read) = HasRun resume input held old told
-IsRunEnd resume input held old new told (status.InUse spot) = (told ≡ Some held) × IsUnopenedFor resume input old (world.InUse spot)
-IsRunEnd resume input held old new told (status.BadLog spot at) = (told ≡ Some held) × IsUnopenedFor resume input old (world.Bad spot at)
-IsRunEnd resume input held old new told (status.OldLog spot) = (told ≡ Some held) × IsUnopenedFor resume input old (world.Old spot)
-IsRunEnd resume input held old new told (status.Limit (limit.Line line)) = ((told ≡ Some held) × IsHeadFault input (status.Limit (limit.Line line))) ⊎ HasStoppedAt resume input held old new told (status.Limit (limit.Line line))
+IsRunEnd resume input held old new told (status.Device spot) = (told ≡ Some held) ⊎ ((done : HasRun resume input held old told) × AreLeftByFault done.ran new)
+IsRunEnd resume input held old new told (status.Differs spot at kept read) = (done : HasRun resume input held old told) × AreLeftByFault done.ran new
+IsRunEnd resume input held old new told (status.InUse spot) = IsAtRest held told old new × IsUnopenedFor resume input old (world.InUse spot)
+IsRunEnd resume input held old new told (status.BadLog spot at) = IsAtRest held told old new × IsUnopenedFor resume input old (world.Bad spot at)
+IsRunEnd resume input held old new told (status.OldLog spot) = IsAtRest held told old new × IsUnopenedFor resume input old (world.Old spot)
+IsRunEnd resume input held old new told (status.Limit (limit.Line line)) = (IsAtRest held told old new × IsHeadFault input (status.Limit (limit.Line line))) ⊎ HasStoppedAt resume input held old new told (status.Limit (limit.Line line))
 IsRunEnd resume input held old new told (status.Limit limit.Lines) = HasStoppedAt resume input held old new told (status.Limit limit.Lines)
-IsRunEnd resume input held old new told (status.Limit limit.Transactions) = ((told ≡ Some held) × IsUnopenedFor resume input old world.Count) ⊎ HasRun resume input held old told
-IsRunEnd resume input held old new told (status.Limit (limit.Log spot)) = ((told ≡ Some held) × IsUnopenedFor resume input old (world.Full spot)) ⊎ HasRun resume input held old told
-IsRunEnd resume input held old new told status.Memory = (told ≡ Some held) ⊎ HasRunInPart resume input held old told
+IsRunEnd resume input held old new told (status.Limit limit.Transactions) = (IsAtRest held told old new × IsUnopenedFor resume input old world.Count) ⊎ ((done : HasRun resume input held old told) × AreLeftByFault done.ran new)
+IsRunEnd resume input held old new told (status.Limit (limit.Log spot)) = (IsAtRest held told old new × IsUnopenedFor resume input old (world.Full spot)) ⊎ ((done : HasRun resume input held old told) × AreLeftByFault done.ran new)
+IsRunEnd resume input held old new told status.Memory = (told ≡ Some held) ⊎ ((done : HasRunInPart resume input held old told) × AreLeftByFault done.ran new)

@@ -1,5 +1,5 @@
 -- How a replay ends, and how the federation of a head is opened in a directory.
-use Rattle.std.specs.Prelude.{ℕ, Bool, ◌≡◌, ◌∷◌, ◌++◌, List, [], Option, Some, Result, Ok, Err}
+use Rattle.std.specs.Prelude.{ℕ, Bool, ◌≡◌, ◌∷◌, ◌++◌, List, [], Option, Result, Ok, Err}
 use Rattle.co_base.specs.declared.head.Head.{Head}
 use Rattle.co_message.specs.declared.item.Item.{Item}
 use Rattle.co_message.specs.declared.item.ItemKind.TheVariants as item
@@ -32,6 +32,14 @@ IsUnopenedAs file head resume (status.Limit limit.Transactions) = IsUnopened fil
 IsUnopenedAs file head resume (status.Limit (limit.Log spot)) = IsUnopened file head resume (world.Full spot)
 IsUnopenedAs file head resume status.Memory = Unit {0}
 IsUnopenedAs file head resume _ = ⊥
+
+-- the refusals of what was found in the files, before which none is changed
+abbrev pub IsOfFiles : Status → Type 0
+IsOfFiles (status.InUse spot) = Unit {0}
+IsOfFiles (status.BadLog spot at) = Unit {0}
+IsOfFiles (status.OldLog spot) = Unit {0}
+IsOfFiles (status.Limit what) = Unit {0}
+IsOfFiles _ = ⊥
 
 -- how the text of the first line was put
 abbrev pub IsOpeningTold : Head → List Item → Option (List ℕ) → Option (List ℕ) → Result Head Status → Type 0

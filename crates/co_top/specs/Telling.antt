@@ -1,16 +1,16 @@
 -- How one event is done and told, and how a federation is opened and told of.
-use Rattle.std.specs.Prelude.{ℕ, ◌≡◌, List, [], ◌∷◌, ◌++◌, take, Option, Some, Result, Ok, Err}
+use Rattle.std.specs.Prelude.{ℕ, ◌≡◌, ◌⊎◌, List, ◌∷◌, ◌++◌, take, Option, Some, Result, Ok, Err}
 use Rattle.co_base.specs.declared.head.Kind.{Kind}
 use Rattle.co_message.specs.declared.event.Event.{Event}
-use Rattle.co_message.specs.declared.item.Item.{Item}
 use Rattle.co_message.specs.declared.item.ItemKind.TheVariants as item
 use Rattle.co_outside.specs.Faults.{HasRisen}
 use Rattle.co_node.specs.Answers.{HomeView}
 use Rattle.co_plain.specs.Federation.{Federation}
 use Rattle.co_plain.specs.Runs.{numbered}
-use Rattle.co_plain.specs.Step.{step_line}
+use Rattle.co_plain.specs.Step.{disarmed, step_line}
 use Rattle.co_replay.specs.Transcript.{items_text}
 use Rattle.co_state.specs.declared.engine_state.EngineState.{EngineState}
+use Rattle.co_world.specs.Left.{AreLeftBy}
 use Rattle.co_world.specs.Standing.{RepresentsWorld, AreHeld}
 use Rattle.co_world.specs.declared.world.World.{World}
 use Rattle.co_top.specs.declared.status.LimitKind.TheVariants as limit
@@ -46,13 +46,17 @@ pub record HasStepped {E : Type 0} (takes : Kind → Type 0) (stands_for : E →
   pub stands : RepresentsWorld takes stands_for w (step_line s event).state
   pub held : AreHeld home.file home.reach w
 
+-- nothing was told, and the files have what a fault of the event may leave
+abbrev pub HasFaulted : Federation → Event → Option (List ℕ) → Option (List ℕ) → HomeView → Type 0
+HasFaulted s event held told home = (told ≡ held) × AreLeftBy home.file s (step_line s event).state (step_line (disarmed s) event).state
+
 -- How an event of a line of this number is done and told.
 abbrev pub IsToldOf : {E : Type 0} → (Kind → Type 0) → (E → EngineState → Type 0) → Federation → ℕ → Event → Option (List ℕ) → Option (List ℕ) → HomeView → World E → Result (Unit {0}) Status → Type 0
 IsToldOf takes stands_for s number event held told home w (Ok u) = HasStepped takes stands_for s event home w × IsPut (event_text number event s) held told
 IsToldOf takes stands_for s number event held told home w (Err status.Write) = HasStepped takes stands_for s event home w × IsPutInPart (event_text number event s) held told
-IsToldOf takes stands_for s number event held told home w (Err status.Memory) = IsPutInPart (event_text number event s) held told
-IsToldOf takes stands_for s number event held told home w (Err (status.Device spot)) = told ≡ held
-IsToldOf takes stands_for s number event held told home w (Err (status.Differs spot at kept read)) = told ≡ held
-IsToldOf takes stands_for s number event held told home w (Err (status.Limit (limit.Log spot))) = told ≡ held
-IsToldOf takes stands_for s number event held told home w (Err (status.Limit limit.Transactions)) = told ≡ held
+IsToldOf takes stands_for s number event held told home w (Err status.Memory) = HasFaulted s event held told home ⊎ (HasStepped takes stands_for s event home w × IsPutInPart (event_text number event s) held told)
+IsToldOf takes stands_for s number event held told home w (Err (status.Device spot)) = HasFaulted s event held told home
+IsToldOf takes stands_for s number event held told home w (Err (status.Differs spot at kept read)) = HasFaulted s event held told home
+IsToldOf takes stands_for s number event held told home w (Err (status.Limit (limit.Log spot))) = HasFaulted s event held told home
+IsToldOf takes stands_for s number event held told home w (Err (status.Limit limit.Transactions)) = HasFaulted s event held told home
 IsToldOf takes stands_for s number event held told home w (Err _) = ⊥

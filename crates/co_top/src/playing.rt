@@ -42,12 +42,7 @@ pub(crate) fn put<K: Sink>(alloc: Global, out: &mut K, text: &[u8]) -> Result<()
 }
 
 /// The text of an event and of what came of it.
-fn text_of(
-    alloc: Global,
-    number: u32,
-    event: Event,
-    items: &[Item],
-) -> Result<Vec<u8>, AllocError>
+fn text_of(alloc: Global, number: u32, event: Event, items: &[Item]) -> Result<Vec<u8>, AllocError>
     ensures { IfOk result (λ text. text.items ≡ items_text (numbered number (item.Event event ∷ []) ++ items.now)) }
 {
     let mut text = Vec::new(alloc);

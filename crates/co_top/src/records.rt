@@ -6,8 +6,8 @@ ghost use Rattle.co_disk.specs.Homes.{HasFailed};
 ghost use Rattle.co_top.specs.Records.{status_of_records, HasCause, HoldsRecords};
 
 use crate::status::{LimitKind, Status};
-use co_outside::{Home, Sink};
 use co_durable::{RecordsFault, write_records};
+use co_outside::{Home, Sink};
 use std::alloc::Global;
 
 /// The status that stands for how the records were written.

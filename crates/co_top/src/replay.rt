@@ -12,7 +12,7 @@ ghost use Rattle.co_world.specs.Attached.{IsAttachedOver};
 ghost use Rattle.co_world.specs.Standing.{AreHeld};
 ghost use Rattle.co_top.specs.Heads.{IsEnding};
 ghost use Rattle.co_top.specs.Ran.{IsRunEnd};
-ghost use Rattle.co_top.specs.Replayed.{status_of, given_back, opening_text, IsUnopenedAs, IsOpeningTold};
+ghost use Rattle.co_top.specs.Replayed.{status_of, given_back, opening_text, IsUnopenedAs, IsOfFiles, IsOpeningTold};
 
 use crate::lines::head_of;
 use crate::playing::{put, replay_lines};
@@ -59,6 +59,7 @@ fn attach<E: Engine + Drop, H: Home>(
     ensures opened { IfOk result (λ r. IsAttachedOver E.takes E.stands_for (H.file home.old) head.now resume r.0 r.1) }
     ensures held { IfOk result (λ r. AreHeld (H.file home.new) (H.reach home.new) r.0) }
     ensures refused { IfErr result (IsUnopenedAs (H.file home.old) head.now resume) }
+    ensures untouched { IfErr result (λ why. IsOfFiles why → (s : Spot) → H.file home.new s ≡ H.file home.old s) }
     ensures entered { H.entered home.new ≡ H.entered home.old }
     ensures device { (spot : Spot) → IsErrOf result (Status.Device spot) → HasFailed H.faults H.last_failed spot home.old home.new }
     ensures quiet { ((spot : Spot) → IsErrOf result (Status.Device spot) → ⊥) → H.faults home.new ≡ H.faults home.old }
@@ -81,6 +82,7 @@ fn open<E: Engine + Drop, H: Home>(
     ensures opened { IfOk result (λ r. IsAttachedOver E.takes E.stands_for (H.file home.old) head.now resume r.0 r.1) }
     ensures held { IfOk result (λ r. AreHeld (H.file home.new) (H.reach home.new) r.0) }
     ensures refused { IfErr result (IsUnopenedAs (H.file home.old) head.now resume) }
+    ensures untouched { IfErr result (λ why. IsOfFiles why → (s : Spot) → H.file home.new s ≡ H.file home.old s) }
     ensures entered { OnOk result (H.entered home.new ≡ Some directory.now) }
     ensures device { (spot : Spot) → IsErrOf result (Status.Device spot) → HasFailed H.faults H.last_failed spot home.old home.new }
     ensures quiet { ((spot : Spot) → IsErrOf result (Status.Device spot) → ⊥) → H.faults home.new ≡ H.faults home.old }

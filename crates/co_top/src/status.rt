@@ -108,6 +108,7 @@ impl Status {
 
 impl From<AllocError> for Status {
     ghost from_gives = { λ _ e. e ≡ Memory };
+
     ghost use Rattle.co_top.specs.declared.status.Status.TheVariants.{Memory};
 
     fn from(_e: AllocError) -> Status {
@@ -117,6 +118,7 @@ impl From<AllocError> for Status {
 
 impl<T: Drop> From<AllocFailed<T>> for Status {
     ghost from_gives = { λ _ e. e ≡ Memory };
+
     ghost use Rattle.co_top.specs.declared.status.Status.TheVariants.{Memory};
 
     fn from(_e: AllocFailed<T>) -> Status {

@@ -27,7 +27,8 @@ use std::alloc::Global;
 /// acknowledged one is decided, and once, that no two members decide one differently, and that the logs alone give the records of that serial run.
 /// `Schedule` comes at the first line outside the grammar, `Limit` at a long line, at line 262,145, at 65,536 transactions and where a log would be
 /// too long; `InUse`, `BadLog` and `OldLog` where the logs cannot be opened; `Read`, `Write` and `Device` only where the source, the sink or the
-/// directory failed.
+/// directory failed. Where the head or the logs are refused, no file is changed. After a fault within an event the files have what the lines before it left, or
+/// with them what it leaves.
 ///
 /// `records DIR` enters the directory, and makes it where it is missing, and writes the durable records that the logs of 16 members and 8
 /// coordinators alone give: a line `NODE KEY VALUE` for each, members ascending and the keys of each member ascending. It reads no schedule and

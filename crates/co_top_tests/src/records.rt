@@ -55,18 +55,9 @@ fn the_records_of_a_directory_are_written(rt: HostRuntime) -> Result<(), AllocEr
 fn files_that_are_no_log_are_named(rt: HostRuntime) -> Result<(), AllocError> {
     let cut = &COMMITTED[..45];
     let cases: [([LogFile; 2], &[u8]); 3] = [
-        (
-            [(M1_A, cut), (M2_B, cut)],
-            b"bad log: m1.a at 39\n",
-        ),
-        (
-            [(M1_A, COMMITTED), (M2_B, cut)],
-            b"bad log: m2.b at 39\n",
-        ),
-        (
-            [(M1_A, COMMITTED), (C1_A, ENDED)],
-            b"bad log: c1.a at 17\n",
-        ),
+        ([(M1_A, cut), (M2_B, cut)], b"bad log: m1.a at 39\n"),
+        ([(M1_A, COMMITTED), (M2_B, cut)], b"bad log: m2.b at 39\n"),
+        ([(M1_A, COMMITTED), (C1_A, ENDED)], b"bad log: c1.a at 17\n"),
     ];
     for (files, note) in cases {
         let wanted = unwritten(9, note);

@@ -1,4 +1,4 @@
-use Rattle.std.proofs.Common.{◌≡◌, ◌∙◌, ◌+◌, ℕ, suc, sym, ap, subst, Ok, option_copied, arith}
+use Rattle.std.proofs.Common.{◌≡◌, ◌∙◌, suc, sym, ap, subst, Ok, option_copied, arith}
 use Rattle.co_schedule.specs.LineText.{next_line}
 use Rattle.co_schedule.specs.Lines.{lines_read}
 use Rattle.co_top.specs.Heads.{IsEventRead}

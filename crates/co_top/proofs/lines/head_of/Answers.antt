@@ -1,4 +1,4 @@
-use Rattle.std.proofs.Common.{◌≡◌, ◌∙◌, sym, ap, subst, Ok, option_copied}
+use Rattle.std.proofs.Common.{◌∙◌, sym, ap, subst, Ok, option_copied}
 use Rattle.co_schedule.specs.LineText.{next_line}
 use Rattle.co_top.specs.Front.{IsHeadFault}
 use Rattle.co_top.proofs.Reading.{head_reads, no_head}

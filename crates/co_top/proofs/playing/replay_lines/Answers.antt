@@ -1,4 +1,4 @@
-use Rattle.std.proofs.Common.{◌≡◌, ◌∙◌, ◌+◌, suc, ℕ, List, [], Some, Ok, Err, Result, refl, sym, ap, subst, append-nil, length}
+use Rattle.std.proofs.Common.{◌≡◌, ◌∙◌, [], Some, Ok, Err, refl, sym, ap, subst, append-nil, length}
 use Rattle.co_node.specs.Answers.{seen}
 use Rattle.co_plain.specs.Runs.{run, lines}
 use Rattle.co_schedule.specs.Lines.{ahead}
@@ -6,7 +6,6 @@ use Rattle.co_top.specs.Front.{AtStart}
 use Rattle.co_top.specs.Heads.{IsEventRead}
 use Rattle.co_top.specs.Played.{IsOver}
 use Rattle.co_top.specs.Telling.{IsToldOf}
-use Rattle.co_top.specs.declared.status.Status.{Status}
 use Rattle.co_top.specs.declared.status.Status.TheVariants as status
 use Rattle.co_top.proofs.Plays.{plays_out, plays_on, reads_over, read_behind, told_over, err_is}
 use Rattle.co_top.proofs.playing.replay_lines.Goals as goal
@@ -14,13 +13,13 @@ use Rattle.co_top.proofs.playing.replay_lines.Goals as goal
 pub loop-number-init : goal.loop-number-init
 loop-number-init g c = (
   λ s0 r ready.
-    record {
-      done = record { events = []; valid = tt; left = λ t e. (t, AtStart t); whole = λ h e. e ∙ ap Some (sym (append-nil h)) };
-      stands = record { stands = r; held = c.requires.held };
-      counted = refl;
-      read = c.requires.read;
-      is_left = λ t e. e;
-    },
+      record {
+        done = record { events = []; valid = tt; left = λ t e. (t, AtStart t); whole = λ h e. e ∙ ap Some (sym (append-nil h)) };
+        stands = record { stands = r; held = c.requires.held };
+        counted = refl;
+        read = c.requires.read;
+        is_left = λ t e. e;
+      },
   refl,
   refl,
   refl,
@@ -74,21 +73,21 @@ returns-in-None-clause-over g c = λ s0 r ready.
 pub loop-number-preserved : goal.loop-number-preserved
 loop-number-preserved g c = (
   λ s0 r ready.
-    let p = c.loop-number.invariant.0 s0 r ready in
-    let text = ahead c.args.lines.now (g.S.Source.left c.args.source.now) in
-    let home = seen g.H.Home.file g.H.Home.reach g.H.Home.faults g.H.Home.last_failed c.tell_event.new.home in
-    let z = run (lines p.done.events) s0 in
-    let left = ahead c.event_of.new.lines (g.S.Source.left c.event_of.new.source) in
-    let line = rw c.in-Some.is at c.in_ok-event.ensures.valid in
-    let read =
-    read_behind g.E.Engine.takes g.E.Engine.stands_for c.args.head.now s0 text (g.K.Sink.told c.args.out.now) (g.K.Sink.told c.loop-number.out) _ c.loop-number.world c.loop-number.number c.loop-number.lines
-    (ahead c.loop-number.lines (g.S.Source.left c.loop-number.source)) p c.in-Some.event left
-    (λ t e. subst (λ o. IsEventRead c.args.head.now (length p.done.events) t left (Ok o)) c.in-Some.is (c.in_ok-event.ensures.read (length p.done.events) t p.counted e)) in
-    plays_on g.E.Engine.takes g.E.Engine.stands_for c.args.head.now s0 text (g.K.Sink.told c.args.out.now) (g.K.Sink.told c.loop-number.out) _ c.loop-number.world c.loop-number.number c.loop-number.lines
-    (ahead c.loop-number.lines (g.S.Source.left c.loop-number.source)) p c.in-Some.event line left (g.K.Sink.told c.tell_event.new.out) home c.tell_event.new.world c.event_of.new.lines read
-    (rw c.in-Some.is at c.in_ok-event.ensures.one (length p.done.events) p.counted)
-    (subst (λ n. IsToldOf g.E.Engine.takes g.E.Engine.stands_for z n c.in-Some.event (g.K.Sink.told c.loop-number.out) (g.K.Sink.told c.tell_event.new.out) home c.tell_event.new.world (Ok tt))
-    p.counted (c.in_ok-tell_event-in-Some.ensures.told z p.stands.stands (ready p.done.events p.done.valid).ready)),
+      let p = c.loop-number.invariant.0 s0 r ready in
+      let text = ahead c.args.lines.now (g.S.Source.left c.args.source.now) in
+      let home = seen g.H.Home.file g.H.Home.reach g.H.Home.faults g.H.Home.last_failed c.tell_event.new.home in
+      let z = run (lines p.done.events) s0 in
+      let left = ahead c.event_of.new.lines (g.S.Source.left c.event_of.new.source) in
+      let line = rw c.in-Some.is at c.in_ok-event.ensures.valid in
+      let read =
+      read_behind g.E.Engine.takes g.E.Engine.stands_for c.args.head.now s0 text (g.K.Sink.told c.args.out.now) (g.K.Sink.told c.loop-number.out) _ c.loop-number.world c.loop-number.number c.loop-number.lines
+      (ahead c.loop-number.lines (g.S.Source.left c.loop-number.source)) p c.in-Some.event left
+      (λ t e. subst (λ o. IsEventRead c.args.head.now (length p.done.events) t left (Ok o)) c.in-Some.is (c.in_ok-event.ensures.read (length p.done.events) t p.counted e)) in
+      plays_on g.E.Engine.takes g.E.Engine.stands_for c.args.head.now s0 text (g.K.Sink.told c.args.out.now) (g.K.Sink.told c.loop-number.out) _ c.loop-number.world c.loop-number.number c.loop-number.lines
+      (ahead c.loop-number.lines (g.S.Source.left c.loop-number.source)) p c.in-Some.event line left (g.K.Sink.told c.tell_event.new.out) home c.tell_event.new.world c.event_of.new.lines read
+      (rw c.in-Some.is at c.in_ok-event.ensures.one (length p.done.events) p.counted)
+      (subst (λ n. IsToldOf g.E.Engine.takes g.E.Engine.stands_for z n c.in-Some.event (g.K.Sink.told c.loop-number.out) (g.K.Sink.told c.tell_event.new.out) home c.tell_event.new.world (Ok tt))
+      p.counted (c.in_ok-tell_event-in-Some.ensures.told z p.stands.stands (ready p.done.events p.done.valid).ready)),
   c.tell_event.ensures.entered ∙ c.loop-number.invariant.1,
   c.in_ok-tell_event-in-Some.ensures.ended ∙ c.loop-number.invariant.2,
   c.in_ok-tell_event-in-Some.ensures.quiet (λ z. let e : Ok tt ≡ Err status.Write = z in cc) ∙ c.loop-number.invariant.3,

@@ -10,8 +10,8 @@ use Rattle.co_top.proofs.playing.replay_lines.Given as goal
 abbrev pub invariant-loop-number : goal.invariant-loop-number
 invariant-loop-number g l =
     ((s0 : Federation) → RepresentsWorld g.E.Engine.takes g.E.Engine.stands_for l.fn.world s0 → StaysReady l.fn.head s0 →
-        IsPlaying g.E.Engine.takes g.E.Engine.stands_for l.fn.head s0 (ahead l.fn.lines (g.S.Source.left l.fn.source)) (g.K.Sink.told l.fn.out) (g.K.Sink.told l.out)
-        (seen g.H.Home.file g.H.Home.reach g.H.Home.faults g.H.Home.last_failed l.home) l.world l.number l.lines (ahead l.lines (g.S.Source.left l.source)))
+    IsPlaying g.E.Engine.takes g.E.Engine.stands_for l.fn.head s0 (ahead l.fn.lines (g.S.Source.left l.fn.source)) (g.K.Sink.told l.fn.out) (g.K.Sink.told l.out)
+    (seen g.H.Home.file g.H.Home.reach g.H.Home.faults g.H.Home.last_failed l.home) l.world l.number l.lines (ahead l.lines (g.S.Source.left l.source)))
     × (g.H.Home.entered l.home ≡ g.H.Home.entered l.fn.home)
     × (g.H.Home.faults l.home ≡ g.H.Home.faults l.fn.home)
     × (g.K.Sink.faults l.out ≡ g.K.Sink.faults l.fn.out)

@@ -1,8 +1,8 @@
 use Rattle.std.proofs.Common.{◌≡◌, ◌∙◌, Ok, Err, ap, sym, subst}
 use Rattle.co_durable.specs.declared.fault.WorldFault.TheVariants as world
 use Rattle.co_top.specs.Ends.{of_world}
-use Rattle.co_top.specs.Replayed.{IsUnopenedAs}
-use Rattle.co_top.proofs.Plays.{unopened_as}
+use Rattle.co_top.specs.Replayed.{IsUnopenedAs, IsOfFiles}
+use Rattle.co_top.proofs.Plays.{unopened_as, of_found}
 use Rattle.co_top.proofs.replay.attach.Goals as goal
 
 pub returns-in-Err-clause-refused : goal.returns-in-Err-clause-refused
@@ -16,3 +16,6 @@ returns-in-Ok-clause-quiet g c = λ h. c.in-Ok.ensures.quiet (λ spot e. absurd 
 pub returns-in-Err-clause-quiet : goal.returns-in-Err-clause-quiet
 returns-in-Err-clause-quiet g c = λ h.
     c.in-Err.ensures.quiet (λ spot e. h spot (ap Err (c.of_world.ensures ∙ ap of_world (let z : c.in-Err.fault ≡ world.Device spot = (let q : Err c.in-Err.fault ≡ Err (world.Device spot) = e in cc) in z))))
+
+pub returns-in-Err-clause-untouched : goal.returns-in-Err-clause-untouched
+returns-in-Err-clause-untouched g c = λ own. c.in-Err.ensures.untouched (of_found c.in-Err.fault (subst IsOfFiles c.of_world.ensures own))

@@ -1,17 +1,16 @@
-use Rattle.std.proofs.Common.{◌≡◌, ◌∙◌, ◌++◌, List, ℕ, Option, Some, Ok, Err, Result, refl, sym, ap, subst, option_map}
+use Rattle.std.proofs.Common.{◌≡◌, ◌∙◌, ◌++◌, List, ℕ, Option, Some, Err, Result, sym, ap, subst, option_map}
 use Rattle.std.specs.Prelude.{IfErr}
 use Rattle.co_message.specs.declared.item.Item.{Item}
 use Rattle.co_node.specs.Answers.{seen}
 use Rattle.co_plain.specs.Opening.{opened}
 use Rattle.co_schedule.specs.Lines.{ahead}
-use Rattle.co_world.specs.Attached.{IsAttachedOver}
 use Rattle.co_top.specs.Heads.{IsReadStatus, IsEnding}
 use Rattle.co_top.specs.Played.{StaysReady, IsOver}
 use Rattle.co_top.specs.Ran.{IsRunEnd}
 use Rattle.co_top.specs.Replayed.{status_of, opening_text, IsOpeningTold}
 use Rattle.co_top.specs.declared.status.Status.{Status}
 use Rattle.co_top.specs.declared.status.Status.TheVariants as status
-use Rattle.co_top.proofs.Ending.{over, unopened, unheaded, opening_over, read_ends, unopened_ends, opening_ends, over_ends, on_any, failed_as}
+use Rattle.co_top.proofs.Ending.{over, unopened, opening_over, opening_ends, over_ends, on_any, failed_as}
 use Rattle.co_top.proofs.Laws.{ready}
 use Rattle.co_top.proofs.Plays.{err_is, not_err}
 use Rattle.co_top.proofs.replay.replayed.Goals as goal
@@ -30,7 +29,7 @@ returns-in_err-world-clause-end g c = λ input held l t.
     let read = c.in_ok-head.ensures.read input at_front in
     subst (λ o. IsRunEnd c.args.resume input held (g.H.Home.file c.args.home.now) (g.H.Home.file c.open.new.home) (g.K.Sink.told c.args.out.now) (status_of o))
     (sym (err_is c.from_residual-in_err-world.result c.in_err-world.field-0.0 c.from_residual-in_err-world.ensures))
-    (unopened c.args.resume input held (g.H.Home.file c.args.home.now) (g.H.Home.file c.open.new.home) (g.K.Sink.told c.args.out.now) c.in_ok-head.head read.0 read.1 t c.in_err-world.field-0.0 c.in_err-world.ensures.refused)
+    (unopened c.args.resume input held (g.H.Home.file c.args.home.now) (g.H.Home.file c.open.new.home) (g.K.Sink.told c.args.out.now) c.in_ok-head.head read.0 read.1 t c.in_err-world.field-0.0 c.in_err-world.ensures.refused c.in_err-world.ensures.untouched)
 
 pub returns-in_err-head-2-clause-end : goal.returns-in_err-head-2-clause-end
 returns-in_err-head-2-clause-end g c = λ input held l t.
