@@ -62,7 +62,7 @@ fn other_words_are_no_command(rt: HostRuntime) -> Result<(), AllocError> {
 
 #[test]
 fn a_failed_source_is_told(rt: HostRuntime) -> Result<(), AllocError> {
-    let case = head_alone(Failing::Take(2));
+    let case = head_alone(Failing::Take(1));
     let wanted = unwritten(4, b"read fault\n");
     check(&rt, &["run", "logs"], case, wanted)
 }
