@@ -5,7 +5,8 @@
 //! ended goes to standard error.
 #![tactic(auto)]
 
-use co_outside::{HomeStd, SinkStd, SourceStd};
+use co_files::HomeStd;
+use co_outside::{SinkStd, SourceStd};
 use co_top::run;
 use std::process::ExitCode;
 use std::{env, io};

@@ -1,6 +1,7 @@
 //! The directory of logs over real files in the test's own folder.
 use crate::words::{C2_B, M1_A, answer, entered, read, synced};
-use co_outside::{Home, HomeFault, HomeStd};
+use co_files::HomeStd;
+use co_outside::{Home, HomeFault};
 use std::alloc::Global;
 use std::{fs, io};
 

@@ -2,14 +2,13 @@
 //!
 //! Each trait says what its calls tell of the content, where it can be told, and that the count of
 //! faults rises exactly in the calls that answer `Failed`. A form in memory tells its content
-//! and fails at named calls; a form over std's readers, writers and files tells nothing.
+//! and fails at named calls; a form over std's readers and writers tells nothing, nor does the one over
+//! files, which stands in a crate of its own.
 #![tactic(auto)]
 
 mod failing;
-mod folder;
 mod home;
 mod home_memory;
-mod home_std;
 mod home_twist;
 mod laying;
 mod sink;
@@ -24,7 +23,6 @@ mod whole;
 
 pub use home::{FailAt, Home, HomeCall, HomeFault};
 pub use home_memory::HomeMemory;
-pub use home_std::HomeStd;
 pub use home_twist::HomeTwist;
 pub use laying::lay;
 pub use sink::{Sink, SinkFault};

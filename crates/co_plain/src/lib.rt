@@ -2,7 +2,7 @@
 //!
 //! The rules are definitions in `specs/`: the tables of members and coordinators, one step for every
 //! event, runs, and what is promised of them. `docs/DEFINITIONS.md` says each in words. Beside the data the code
-//! has only what both sorts of nodes share; `co_plain_member`, `co_plain_coord` and `co_plain_run` compute the rest.
+//! has only what both sorts of nodes share.
 #![tactic(auto)]
 
 mod coord_state;

@@ -6,7 +6,8 @@ mod transfer;
 
 use crate::transfer::write_logs;
 use anyhow::Result;
-use co_outside::{Home, HomeStd, SinkStd, SourceStd};
+use co_files::HomeStd;
+use co_outside::{Home, SinkStd, SourceStd};
 use co_top::run;
 use std::process::ExitCode;
 

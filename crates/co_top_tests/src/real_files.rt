@@ -1,5 +1,6 @@
 //! The top call over real files, in a folder of the test's own.
-use co_outside::{HomeStd, SinkMemory, SourceMemory};
+use co_files::HomeStd;
+use co_outside::{SinkMemory, SourceMemory};
 use co_top::run;
 use std::alloc::{AllocError, Global};
 use std::{fs, io};

@@ -2,8 +2,7 @@
 ghost use Rattle.std.specs.Prelude.{◌≡◌, ◌≤◌, ◌^◌, None, option_map, string_bytes, IsErrOf};
 
 use crate::folder;
-use crate::home::{Home, HomeFault};
-use crate::spot::Spot;
+use co_outside::{Home, HomeFault, Spot};
 use std::alloc::Global;
 use std::fmt::Write;
 use std::io::{self, ErrorKind};

@@ -1,0 +1,10 @@
+//! The directory of logs over real files.
+//!
+//! What a file holds is outside every contract: `HomeStd` is proved against the directory of logs without telling any content. It is the thin
+//! edge where trust in the operating system begins.
+#![tactic(auto)]
+
+mod folder;
+mod home_std;
+
+pub use home_std::HomeStd;

@@ -1,4 +1,0 @@
-mod Few
-mod Placed
-mod Acting
-mod Opened
