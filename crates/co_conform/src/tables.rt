@@ -1,0 +1,274 @@
+//! Tables: one command over directories that fail, are cut or are stopped, each in turn.
+use crate::command::{Ended, ended_of};
+use crate::fault::CaseFault;
+use crate::files::{copy_of, spots_of};
+use crate::outside::{Settings, home_of, home_that_fails};
+use crate::words::{spot_of, word};
+use co_outside::{FailAt, HomeCall, HomeMemory, Spot};
+use std::alloc::{AllocError, Global};
+
+/// The kinds of calls of a directory, and their words.
+const CALLS: [(HomeCall, &[u8]); 5] = [
+    (HomeCall::Enter, b"enter"),
+    (HomeCall::ReadAll, b"read"),
+    (HomeCall::WriteAt, b"write"),
+    (HomeCall::SetLen, b"cut"),
+    (HomeCall::Sync, b"sync"),
+];
+
+/// The choices of a crash image in a table of stops.
+const IMAGES: [&[u8]; 5] = [b"old", b"new", b"x", b"xa5", b"x7f"];
+
+/// Appends the lines of a text, with this before each.
+fn put_joined(before: &[u8], text: &[u8], into: &mut Vec<u8>) -> Result<(), AllocError> {
+    for line in text.split(|b| *b == b'\n') {
+        if !line.is_empty() {
+            into.extend_from_slice(before)?;
+            into.extend_from_slice(line)?;
+        }
+    }
+    Ok(())
+}
+
+/// Appends the records that a directory gives, or the status of that.
+fn put_records(
+    alloc: Global,
+    settings: &Settings,
+    home: &mut HomeMemory,
+    into: &mut Vec<u8>,
+) -> Result<(), AllocError> {
+    let ended = ended_of(alloc, settings, home, b"records logs", Vec::new(alloc))?;
+    put_joined(b"; ", &ended.out, into)?;
+    if ended.code != 0 {
+        put_joined(b"; ", &ended.ending, into)?;
+    }
+    Ok(())
+}
+
+/// The number of the last item of a transcript; 0 where it has none.
+fn last_line(out: &[u8]) -> &[u8] {
+    let text = match out {
+        [before @ .., b'\n'] => before,
+        _ => out,
+    };
+    let last = text.rsplit(|b| *b == b'\n').next();
+    match last {
+        Some(line) if !line.is_empty() => word(line).0,
+        _ => b"0",
+    }
+}
+
+/// What a table of faults is made over.
+#[derive(Clone, Copy)]
+struct Faults<'a> {
+    settings: &'a Settings,
+    /// The words of the command.
+    words: &'a [u8],
+    /// The input of the command.
+    input: &'a [u8],
+    /// What the command puts where nothing fails.
+    whole: &'a [u8],
+}
+
+/// Appends what a run over a directory that fails at this call comes to, and whether it failed.
+fn put_failing(
+    alloc: Global,
+    faults: Faults<'_>,
+    failing: FailAt,
+    name: &[u8],
+    into: &mut Vec<u8>,
+) -> Result<bool, AllocError> {
+    let mut home = home_that_fails(alloc, faults.settings, failing)?;
+    let input = faults.input.to_vec(alloc)?;
+    let ended = ended_of(alloc, faults.settings, &mut home, faults.words, input)?;
+    if ended.code != 6 {
+        return Ok(false);
+    }
+    into.extend_from_slice(name)?;
+    let FailAt { spot, number, .. } = failing;
+    let at = format!(in alloc; " {spot} {number}: ")?;
+    into.extend_from_slice(at.as_bytes())?;
+    put_joined(b"", &ended.ending, into)?;
+    into.extend_from_slice(b"; line ")?;
+    into.extend_from_slice(last_line(&ended.out))?;
+    if !faults.whole.starts_with(&ended.out) {
+        into.extend_from_slice(b" of another text")?;
+    }
+    put_records(alloc, faults.settings, &mut home, into)?;
+    into.push(b'\n')?;
+    Ok(true)
+}
+
+/// Appends what comes of it where the calls of this kind at this file fail, one in each run.
+fn put_failing_calls(
+    alloc: Global,
+    faults: Faults<'_>,
+    spot: Spot,
+    kind: (HomeCall, &[u8]),
+    into: &mut Vec<u8>,
+) -> Result<(), AllocError> {
+    let (call, name) = kind;
+    for number in 1..u32::MAX {
+        let failing = FailAt { spot, call, number };
+        if !put_failing(alloc, faults, failing, name, into)? {
+            return Ok(());
+        }
+    }
+    Ok(())
+}
+
+/// Appends what comes of a command where each call that it makes of a directory fails, one in each run.
+pub(crate) fn put_faults(
+    alloc: Global,
+    settings: &Settings,
+    words: &[u8],
+    input: &[u8],
+    into: &mut Vec<u8>,
+) -> Result<(), AllocError> {
+    let mut home = home_of(alloc, settings)?;
+    let Ended { out: whole, .. } = ended_of(
+        alloc,
+        settings,
+        &mut home,
+        words,
+        input.to_vec(alloc)?,
+    )?;
+    let faults = Faults {
+        settings,
+        words,
+        input,
+        whole: &whole,
+    };
+    for spot in &spots_of(alloc, &home)? {
+        for kind in CALLS {
+            put_failing_calls(alloc, faults, *spot, kind, into)?;
+        }
+    }
+    Ok(())
+}
+
+/// What a command comes to over a copy of a directory in which this file is cut to this length.
+fn cut_outcome(
+    alloc: Global,
+    settings: &Settings,
+    home: &HomeMemory,
+    cut: (Spot, usize),
+    asked: (&[u8], &[u8]),
+) -> Result<Vec<u8>, AllocError> {
+    let (spot, length) = cut;
+    let (words, input) = asked;
+    let mut copy = copy_of(alloc, home)?;
+    let bytes = copy.bytes(spot);
+    let front = bytes.get(..length).unwrap_or(bytes).to_vec(alloc)?;
+    copy.put(spot, front)?;
+    let ended = ended_of(alloc, settings, &mut copy, words, input.to_vec(alloc)?)?;
+    let mut told = Vec::new(alloc);
+    put_joined(b"", &ended.ending, &mut told)?;
+    put_joined(b"; ", &ended.out, &mut told)?;
+    Ok(told)
+}
+
+/// Appends what a command comes to where a file has each length from 0 to its own: lengths with one outcome in one line.
+pub(crate) fn put_cuts(
+    alloc: Global,
+    settings: &Settings,
+    home: &HomeMemory,
+    words: &[u8],
+    input: &[u8],
+    into: &mut Vec<u8>,
+) -> Result<(), CaseFault> {
+    let (name, words) = word(words);
+    let spot = spot_of(alloc, name)?;
+    let mut from = 0;
+    let mut outcome = cut_outcome(alloc, settings, home, (spot, 0), (words, input))?;
+    for length in 1..home.bytes(spot).len() + 1 {
+        let next = cut_outcome(alloc, settings, home, (spot, length), (words, input))?;
+        if next != outcome {
+            put_lengths(alloc, from, length - 1, &outcome, into)?;
+            from = length;
+            outcome = next;
+        }
+    }
+    Ok(put_lengths(alloc, from, home.bytes(spot).len(), &outcome, into)?)
+}
+
+/// Appends what files of these lengths come to.
+fn put_lengths(
+    alloc: Global,
+    from: usize,
+    to: usize,
+    outcome: &[u8],
+    into: &mut Vec<u8>,
+) -> Result<(), AllocError> {
+    let lengths = format!(in alloc; "{from} to {to}: ")?;
+    into.extend_from_slice(lengths.as_bytes())?;
+    into.extend_from_slice(outcome)?;
+    Ok(into.push(b'\n')?)
+}
+
+/// The input with this stop in place of the words `K LEAVES`.
+fn with_stop(alloc: Global, input: &[u8], call: u8, image: &[u8]) -> Result<Vec<u8>, AllocError> {
+    let mut whole = Vec::new(alloc);
+    for line in input.split_inclusive(|b| *b == b'\n') {
+        match line.strip_suffix(b"K LEAVES\n".as_slice()) {
+            Some(front) => {
+                whole.extend_from_slice(front)?;
+                whole.push(b'0' + call)?;
+                whole.push(b' ')?;
+                whole.extend_from_slice(image)?;
+                whole.push(b'\n')?;
+            }
+            None => whole.extend_from_slice(line)?,
+        }
+    }
+    Ok(whole)
+}
+
+/// The items behind the one that tells that a stop is armed.
+fn behind_armed(out: &[u8]) -> &[u8] {
+    let word = b" reply armed\n";
+    for at in 0..out.len() {
+        if out[at..].starts_with(word) {
+            return &out[at + word.len()..];
+        }
+    }
+    &[]
+}
+
+/// Appends what a run comes to that has this stop.
+fn put_stop(
+    alloc: Global,
+    settings: &Settings,
+    words: &[u8],
+    input: &[u8],
+    stop: (u8, &[u8]),
+    into: &mut Vec<u8>,
+) -> Result<(), AllocError> {
+    let (call, image) = stop;
+    let mut home = home_of(alloc, settings)?;
+    let input = with_stop(alloc, input, call, image)?;
+    let ended = ended_of(alloc, settings, &mut home, words, input)?;
+    into.push(b'0' + call)?;
+    into.push(b' ')?;
+    into.extend_from_slice(image)?;
+    put_joined(b"; ", behind_armed(&ended.out), into)?;
+    into.extend_from_slice(b"; records")?;
+    put_records(alloc, settings, &mut home, into)?;
+    Ok(into.push(b'\n')?)
+}
+
+/// Appends what a command comes to for each device call in which a log write may stop, and each choice of an image.
+pub(crate) fn put_stops(
+    alloc: Global,
+    settings: &Settings,
+    words: &[u8],
+    input: &[u8],
+    into: &mut Vec<u8>,
+) -> Result<(), AllocError> {
+    for call in 1..5 {
+        for image in IMAGES {
+            put_stop(alloc, settings, words, input, (call, image), into)?;
+        }
+    }
+    Ok(())
+}
