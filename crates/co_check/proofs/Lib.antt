@@ -2,3 +2,5 @@ pub mod Serially
 pub mod Ledgers
 pub mod Running
 pub mod Reading
+pub mod Texts
+pub mod Verdicts

@@ -5,3 +5,5 @@ pub mod Serial
 pub mod Kept
 pub mod Checked
 pub mod Taking
+pub mod Text
+pub mod Written

@@ -15,10 +15,14 @@ mod place;
 mod same;
 mod serial;
 mod shaping;
+mod text;
 mod verdict;
+mod writing;
 
 pub use client::{Answered, Client};
 pub use fault::CheckFault;
 pub use lines::check_items;
 pub use place::Place;
+pub use text::put_verdict;
 pub use verdict::Verdict;
+pub use writing::{Finding, VerdictFault, write_check};
