@@ -1,3 +1,7 @@
 pub mod Marks
 pub mod Groups
 pub mod Events
+pub mod Transcripts
+pub mod Heads
+pub mod Serially
+pub mod Fresh

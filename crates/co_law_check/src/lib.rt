@@ -2,3 +2,7 @@
 //!
 //! Each law is the contract of a function without a body.
 #![tactic(auto)]
+
+mod laws;
+
+pub use laws::transcripts_are_serial;
