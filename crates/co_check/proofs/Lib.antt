@@ -4,3 +4,5 @@ pub mod Running
 pub mod Reading
 pub mod Texts
 pub mod Verdicts
+pub mod Splits
+pub mod Fronts

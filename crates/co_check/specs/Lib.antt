@@ -7,3 +7,4 @@ pub mod Checked
 pub mod Taking
 pub mod Text
 pub mod Written
+pub mod Once

@@ -9,6 +9,7 @@ mod checker;
 mod client;
 mod fault;
 mod fitting;
+mod laws;
 mod ledger;
 mod lines;
 mod place;
@@ -21,6 +22,7 @@ mod writing;
 
 pub use client::{Answered, Client};
 pub use fault::CheckFault;
+pub use laws::texts_are_checked_once;
 pub use lines::check_items;
 pub use place::Place;
 pub use text::put_verdict;

@@ -2,9 +2,12 @@
 use Rattle.std.specs.Prelude.{ℕ, ◌≡◌, ◌⊎◌, List, Option, Some, Result, Ok, Err}
 use Rattle.co_base.specs.declared.reply.Reply.{Reply}
 use Rattle.co_serial.specs.Records.{Records}
-use Rattle.co_check.specs.Checked.{IsTextFault, IsLineFault}
+use Rattle.co_check.specs.Checked.{IsCheck, IsTextFault, IsLineFault}
+use Rattle.co_check.specs.Once.{IsOfText}
 use Rattle.co_check.specs.Written.{IsFound, IsFoundInPart}
+use Rattle.co_check.specs.declared.fault.CheckFault.{CheckFault}
 use Rattle.co_check.specs.declared.fault.CheckFault.TheVariants as check
+use Rattle.co_check.specs.declared.verdict.Verdict.{Verdict}
 use Rattle.co_check.specs.declared.verdict.Verdict.TheVariants as verdict
 use Rattle.co_check.specs.declared.writing.Finding.{Finding}
 use Rattle.co_check.specs.declared.writing.Finding.TheVariants as finding
@@ -14,10 +17,14 @@ use Rattle.co_top.specs.declared.status.LimitKind.TheVariants as limit
 use Rattle.co_top.specs.declared.status.Status.{Status}
 use Rattle.co_top.specs.declared.status.Status.TheVariants as status
 
--- the status that stands for what was found, or for a fault
+-- the status that stands for what was found
+abbrev pub status_of_finding : Finding → Status
+status_of_finding finding.Serial = status.Done
+status_of_finding (finding.NotSerial txn line) = status.NotSerial txn line
+
+-- the status that stands for that, or for a fault
 abbrev pub status_of_check : Result Finding VerdictFault → Status
-status_of_check (Ok finding.Serial) = status.Done
-status_of_check (Ok (finding.NotSerial txn line)) = status.NotSerial txn line
+status_of_check (Ok found) = status_of_finding found
 status_of_check (Err fault.Read) = status.Read
 status_of_check (Err fault.Write) = status.Write
 status_of_check (Err (fault.Text line)) = status.Transcript line
@@ -50,3 +57,26 @@ IsCheckEnd input held told status.Read = told ≡ Some held
 IsCheckEnd input held told status.Write = IsFoundInPart input held told
 IsCheckEnd input held told status.Memory = (told ≡ Some held) ⊎ IsFoundInPart input held told
 IsCheckEnd input held told _ = ⊥
+
+-- ---- which status comes
+
+-- the status that stands for an answer of checking
+abbrev pub status_of_answer : Result Verdict CheckFault → Status
+status_of_answer (Ok (verdict.Serial transactions map)) = status.Done
+status_of_answer (Ok (verdict.Differs txn line told serial)) = status.NotSerial txn line
+status_of_answer (Err (check.Text line)) = status.Transcript line
+status_of_answer (Err (check.Long line)) = status.Limit (limit.Line line)
+status_of_answer (Err check.Many) = status.Limit limit.Lines
+status_of_answer (Err check.Read) = status.Read
+status_of_answer (Err check.Memory) = status.Memory
+
+-- the source or the sink failed, or there was no memory
+abbrev pub HasGivenUp : Status → Type 0
+HasGivenUp status.Read = Unit {0}
+HasGivenUp status.Write = Unit {0}
+HasGivenUp status.Memory = Unit {0}
+HasGivenUp _ = ⊥
+
+-- whatever the text is, a serial transcript or not, or one with a fault: that is told, unless the source or the sink failed or there was no memory
+abbrev pub IsExactCheck : List ℕ → Status → Type 0
+IsExactCheck input ended = (answer : Result Verdict CheckFault) → IsCheck input answer → IsOfText answer → (ended ≡ status_of_answer answer) ⊎ HasGivenUp ended

@@ -1,20 +1,32 @@
 //! A transcript is judged.
 ghost use Rattle.std.specs.Prelude.{◌≡◌, ℕ, List, Some};
 ghost use Rattle.co_outside.specs.Faults.{HasRisen};
-ghost use Rattle.co_top.specs.Checking.{status_of_check, IsCheckEnd, IsOfCheck};
+ghost use Rattle.co_top.specs.Checking.{status_of_finding, status_of_check, IsCheckEnd, IsOfCheck};
 
 use crate::status::{LimitKind, Status};
 use co_check::{Finding, VerdictFault, write_check};
 use co_outside::{Sink, Source};
 use std::alloc::Global;
 
+/// The status that stands for what was found.
+fn status_of_finding(found: &Finding) -> Status
+    ensures { result ≡ status_of_finding found.now }
+{
+    match found {
+        Finding::Serial => Status::Done,
+        Finding::NotSerial { txn, line } => Status::NotSerial {
+            txn: *txn,
+            line: *line,
+        },
+    }
+}
+
 /// The status that stands for what checking came to.
 fn status_of_check(written: Result<Finding, VerdictFault>) -> Status
     ensures { result ≡ status_of_check written }
 {
     match written {
-        Ok(Finding::Serial) => Status::Done,
-        Ok(Finding::NotSerial { txn, line }) => Status::NotSerial { txn, line },
+        Ok(found) => status_of_finding(&found),
         Err(VerdictFault::Read) => Status::Read,
         Err(VerdictFault::Write) => Status::Write,
         Err(VerdictFault::Text { line }) => Status::Transcript { line },

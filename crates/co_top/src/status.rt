@@ -311,38 +311,38 @@ fn put_long(line: u32, into: &mut Vec<u8>) -> Result<(), AllocError>
 }
 
 /// Appends the note of a status, but its newline.
-fn put_words(alloc: Global, status: Status, into: &mut Vec<u8>) -> Result<(), AllocError>
-    ensures { OnOk result (into.new.items ≡ into.old.items ++ words_of status) }
+fn put_words(alloc: Global, status: &Status, into: &mut Vec<u8>) -> Result<(), AllocError>
+    ensures { OnOk result (into.new.items ≡ into.old.items ++ words_of status.now) }
 {
     match status {
         Status::Done => Ok(()),
         Status::Usage => into.extend_from_slice(b"usage"),
-        Status::Schedule { line, kind } => put_mistake(line, kind, into),
+        Status::Schedule { line, kind } => put_mistake(*line, *kind, into),
         Status::Read => into.extend_from_slice(b"read fault"),
         Status::Write => into.extend_from_slice(b"write fault"),
-        Status::Device { spot } => append_spot(alloc, into, b"device fault: ", spot),
+        Status::Device { spot } => append_spot(alloc, into, b"device fault: ", *spot),
         Status::Differs {
             spot,
             at,
             kept,
             read,
-        } => put_difference(alloc, spot, at, kept, read, into),
-        Status::InUse { spot } => append_spot(alloc, into, b"logs in use: ", spot),
-        Status::BadLog { spot, at } => put_place(alloc, b"bad log: ", spot, at, into),
-        Status::Limit(LimitKind::Line { line }) => put_long(line, into),
+        } => put_difference(alloc, *spot, *at, *kept, *read, into),
+        Status::InUse { spot } => append_spot(alloc, into, b"logs in use: ", *spot),
+        Status::BadLog { spot, at } => put_place(alloc, b"bad log: ", *spot, *at, into),
+        Status::Limit(LimitKind::Line { line }) => put_long(*line, into),
         Status::Limit(LimitKind::Lines) => into.extend_from_slice(b"limit: lines"),
         Status::Limit(LimitKind::Transactions) => into.extend_from_slice(b"limit: transactions"),
-        Status::Limit(LimitKind::Log { spot }) => append_spot(alloc, into, b"limit: log ", spot),
+        Status::Limit(LimitKind::Log { spot }) => append_spot(alloc, into, b"limit: log ", *spot),
         Status::Memory => into.extend_from_slice(b"want of memory"),
-        Status::OldLog { spot } => append_spot(alloc, into, b"old log: ", spot),
+        Status::OldLog { spot } => append_spot(alloc, into, b"old log: ", *spot),
         Status::NotSerial { .. } => Ok(()),
-        Status::Transcript { line } => put_number(b"transcript line", line, into),
+        Status::Transcript { line } => put_number(b"transcript line", *line, into),
     }
 }
 
 /// Appends the note of a status.
-pub fn put_note(alloc: Global, status: Status, into: &mut Vec<u8>) -> Result<(), AllocError>
-    ensures { OnOk result (into.new.items ≡ into.old.items ++ note_of status) }
+pub fn put_note(alloc: Global, status: &Status, into: &mut Vec<u8>) -> Result<(), AllocError>
+    ensures { OnOk result (into.new.items ≡ into.old.items ++ note_of status.now) }
 {
     put_words(alloc, status, into)?;
     match status {

@@ -4,7 +4,7 @@ ghost use Rattle.co_outside.specs.declared.spot.Spot.{Spot};
 ghost use Rattle.co_outside.specs.Faults.{HasRisen};
 ghost use Rattle.co_disk.specs.Homes.{HasFailed};
 ghost use Rattle.co_durable.specs.Told.{AreTold};
-ghost use Rattle.co_top.specs.Checking.{IsCheckEnd};
+ghost use Rattle.co_top.specs.Checking.{IsCheckEnd, IsExactCheck};
 ghost use Rattle.co_top.specs.Command.{is_run, is_records, is_check, is_command, resumes, directory_of};
 ghost use Rattle.co_top.specs.Ends.{IsNoted, note_of};
 ghost use Rattle.co_top.specs.Ran.{IsRunEnd};
@@ -67,12 +67,13 @@ pub fn run<S: Source, K: Sink, N: Sink, H: Home>(
     ensures files { is_records words.now ≡ true → (s : Spot) → H.file home.new s ≡ H.file home.old s }
     ensures checked { (input held : List ℕ) → is_check words.now ≡ true → S.left source.old ≡ Some input → K.told out.old ≡ Some held →
         IsCheckEnd input held (K.told out.new) result }
+    ensures judged { (input held : List ℕ) → is_check words.now ≡ true → S.left source.old ≡ Some input → K.told out.old ≡ Some held → IsExactCheck input result }
     ensures kept { is_check words.now ≡ true → home.new ≡ home.old }
     ensures entered { is_check words.now ≡ false → result ≡ Status.Done → H.entered home.new ≡ Some (directory_of words.now) }
     ensures notes { (held : List ℕ) → N.told notes.old ≡ Some held → IsNoted held (note_of result) (N.told notes.new) }
 {
     let status = command(alloc, words, source, out, home);
-    tell(alloc, notes, status);
+    tell(alloc, notes, &status);
     status
 }
 
@@ -111,8 +112,8 @@ fn command<S: Source, K: Sink, H: Home>(
 }
 
 /// Puts the note of a status. A failed note changes nothing.
-fn tell<N: Sink>(alloc: Global, notes: &mut N, status: Status)
-    ensures { (held : List ℕ) → N.told notes.old ≡ Some held → IsNoted held (note_of status) (N.told notes.new) }
+fn tell<N: Sink>(alloc: Global, notes: &mut N, status: &Status)
+    ensures { (held : List ℕ) → N.told notes.old ≡ Some held → IsNoted held (note_of status.now) (N.told notes.new) }
 {
     let mut note = Vec::new(alloc);
     match put_note(alloc, status, &mut note) {
