@@ -8,7 +8,7 @@ use Rattle.co_transcript.proofs.ItemLaws.{one_line}
 use Rattle.co_check.specs.Account.{Account}
 use Rattle.co_check.specs.Checked.{IsCheck, IsJudgedAs, IsBroken, StandsBehind, AtStart, OneMore, fault_of, longest}
 use Rattle.co_check.specs.Once.{IsOfText, IsSameAnswer}
-use Rattle.co_check.specs.Shape.{Read, unread, next_of, read_from, is_whole}
+use Rattle.co_check.specs.Shape.{Read, unread, next_of, read_from, read, is_whole}
 use Rattle.co_check.specs.declared.fault.CheckFault.{CheckFault}
 use Rattle.co_check.specs.declared.fault.CheckFault.TheVariants as fault
 use Rattle.co_check.specs.declared.verdict.Verdict.{Verdict}
@@ -177,3 +177,26 @@ checked_once text one other c d k l =
     let reads : a.shaped ≡ b.shaped = (let z : Some a.shaped ≡ Some b.shaped = sym a.is_shaped ∙ ap (read_from (Some unread)) same.0 ∙ b.is_shaped in cc) in
     one_end b.shaped (length b.items) b.left one other
     (subst (λ left. EndsAs b.shaped (length b.items) left one) same.1 (subst (λ n. EndsAs b.shaped n a.left one) (ap length same.0) (subst (λ r. EndsAs r (length a.items) a.left one) reads a.ends))) b.ends
+
+-- a text whose lines are these items, well shaped to its end, is answered by a verdict on them
+pub record IsJudged (a : Account) (answer : Result Verdict CheckFault) : Type 0 where
+  pub verdict : Verdict
+  pub is : answer ≡ Ok verdict
+  pub judged : IsJudgedAs a verdict
+
+at_end : (r : Read) (lent : ℕ) (answer : Result Verdict CheckFault) → is_whole r.place ≡ true → EndsAs r lent [] answer → IsJudged r.account answer
+at_end r lent (Ok judged) w h = record { verdict = judged; is = refl; judged = h.2 }
+at_end r lent (Err (fault.Text line)) w h = absurd (text_at_end r [] refl w h.2)
+at_end r lent (Err (fault.Long line)) w h = absurd (nor_at_end lent [] (fault.Long line) h refl)
+at_end r lent (Err fault.Many) w h = absurd (nor_at_end lent [] fault.Many h refl)
+at_end r lent (Err fault.Read) w h = absurd h
+at_end r lent (Err fault.Memory) w h = absurd h
+
+pub judged_at_end : (text : List ℕ) (items : List Item) (r : Read) → StandsBehind text items [] → read items ≡ Some r → is_whole r.place ≡ true →
+    (answer : Result Verdict CheckFault) → IsCheck text answer → IsOfText answer → IsJudged r.account answer
+judged_at_end text items r all shaped w answer c k =
+    let b = ended text answer c k in
+    let stop_b = subst (λ n. IsAtStop (Some b.shaped) n b.left) (let q : length b.items ≡ 0 + length b.items = omega arith in q) (stops b.shaped (length b.items) b.left answer b.ends) in
+    let same = one_front 0 text (Some unread) items [] r b.items b.left b.shaped (front_of text items [] all) b.front shaped b.is_shaped (λ it after i e n. nothing_next (0 + length items) [] it refl e) stop_b in
+    let reads : r ≡ b.shaped = (let z : Some r ≡ Some b.shaped = sym shaped ∙ ap (read_from (Some unread)) same.0 ∙ b.is_shaped in cc) in
+    at_end r (length b.items) answer w (subst (λ left. EndsAs r (length b.items) left answer) (sym same.1) (subst (λ z. EndsAs z (length b.items) b.left answer) (sym reads) b.ends))

@@ -5,3 +5,4 @@ pub mod Transcripts
 pub mod Heads
 pub mod Serially
 pub mod Fresh
+pub mod Judged

@@ -1,7 +1,9 @@
 -- What a transcript tells of its transactions, beside what the federation keeps of them.
-use Rattle.std.specs.Prelude.{ℕ, Bool, true, false, ◌≡◌, List, [], ◌∷◌, length, map, Option, None, Some}
+use Rattle.std.specs.Prelude.{ℕ, Bool, true, false, ◌≡◌, List, [], ◌∷◌, length, map, Option, None, Some, Result, Ok}
 use Rattle.co_base.specs.declared.node.Node.{Node}
 use Rattle.co_message.specs.declared.item.Item.{Item}
+use Rattle.co_serial.specs.Family.{family_of}
+use Rattle.co_serial.specs.Records.{Records}
 use Rattle.co_state.specs.Table.{Table, look}
 use Rattle.co_plain.specs.Decisions.{told_in, is_decided}
 use Rattle.co_plain.specs.Federation.{Federation}
@@ -14,7 +16,10 @@ use Rattle.co_check.specs.Runs.{sites, replies}
 use Rattle.co_check.specs.Serial.{IsSerial, serial_after}
 use Rattle.co_check.specs.Shape.{read, is_whole}
 use Rattle.co_check.specs.declared.client.Answered.{Answered}
+use Rattle.co_check.specs.declared.fault.CheckFault.{CheckFault}
 use Rattle.co_check.specs.declared.place.Place.{Place}
+use Rattle.co_check.specs.declared.verdict.Verdict.{Verdict}
+use Rattle.co_check.specs.declared.verdict.Verdict.TheVariants as verdict
 
 -- the node that decides the transaction of a session
 abbrev pub by_in : Option Session → Option Node
@@ -49,3 +54,11 @@ pub record IsToldSerially (items : List Item) (s z : Federation) : Type 0 where
   pub serial : IsSerial account.committed
   pub count : length account.committed ≡ length z.decided
   pub records : serial_after account.committed ≡ serial_records s z.decided
+
+-- Checking answered that all committed transactions read serially: as many as were decided, with the records that their serial run leaves.
+pub record IsFoundSerial (answer : Result Verdict CheckFault) (s z : Federation) : Type 0 where
+  pub transactions : ℕ
+  pub map_left : List Records
+  pub is : answer ≡ Ok (verdict.Serial transactions map_left)
+  pub count : transactions ≡ length z.decided
+  pub records : family_of map_left ≡ serial_records s z.decided
