@@ -42,7 +42,7 @@ first_cut lent first line true false e = let z : Ok (Some first) ≡ Ok (Some li
 first_cut lent first line false long e = absurd (let z : Err lines.Many ≡ Ok (Some line) = e in cc)
 
 -- the next line is the first one
-next_is_first : (lent : ℕ) (left line : List ℕ) → next_line longest longest lent left ≡ Ok (Some line) → line ≡ first_line left
+pub next_is_first : (lent : ℕ) (left line : List ℕ) → next_line longest longest lent left ≡ Ok (Some line) → line ≡ first_line left
 next_is_first lent [] line e = absurd (let z : Ok None ≡ Ok (Some line) = e in cc)
 next_is_first lent (byte ∷ bytes) line e =
     first_cut lent (first_line (byte ∷ bytes)) line (nat_lt lent longest) (nat_lt longest (length (first_line (byte ∷ bytes)))) e

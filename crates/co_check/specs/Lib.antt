@@ -5,3 +5,6 @@ pub mod Serial
 pub mod Kept
 pub mod Checked
 pub mod Taking
+pub mod Text
+pub mod Written
+pub mod Once

@@ -1,8 +1,8 @@
-//! Replays a schedule, or writes the durable records of a directory of logs.
+//! Replays a schedule, writes the durable records of a directory of logs, or judges a transcript.
 //!
 //! `co_cli run DIR` reads a schedule from standard input and writes its transcript to standard output;
-//! `co_cli records DIR` writes the records that the logs in the directory give. A note of how it
-//! ended goes to standard error.
+//! `co_cli records DIR` writes the records that the logs in the directory give; `co_cli check` reads a
+//! transcript from standard input and tells whether its committed transactions read serially. A note of how it ended goes to standard error.
 #![tactic(auto)]
 
 use co_files::HomeStd;

@@ -134,6 +134,8 @@ module _ {E : Type 0} (takes : Kind → Type 0) (stands_for : E → EngineState 
       over (Err (status.Limit (limit.Log spot))) p = inr (failed p)
       over (Err status.Memory) p = inr (has_run_in_part p.done, near_left p.done.events p.done.valid p.done.left p.files)
       over (Err (status.OldLog spot)) p = absurd p
+      over (Err (status.NotSerial txn number)) p = absurd p
+      over (Err (status.Transcript number)) p = absurd p
 
       -- no line was played: a front of the text of the head was put
       pub first : RepresentsWorld takes stands_for w s0 → AreHeld home.file home.reach w → (count : ℕ) × (told ≡ Some (held ++ take count (opening_text head items))) →
@@ -167,6 +169,8 @@ unopened resume input held old new told head text headed same (status.Limit limi
 unopened resume input held old new told head text headed same (status.Limit (limit.Log spot)) u rest = inl ((same, rest tt), record { head = head; text = text; headed = headed; cause = u })
 unopened resume input held old new told head text headed same status.Memory u rest = inl same
 unopened resume input held old new told head text headed same (status.OldLog spot) u rest = ((same, rest tt), record { head = head; text = text; headed = headed; cause = u })
+unopened resume input held old new told head text headed same (status.NotSerial txn number) u rest = absurd u
+unopened resume input held old new told head text headed same (status.Transcript number) u rest = absurd u
 
 -- the head was not read
 pub unheaded : (resume : Bool) (input held : List ℕ) (old : Spot → Option File) (told : Option (List ℕ)) → told ≡ Some held → (why : Status) → IsHeadFault input why → IsRunEnd resume input held old old told why
@@ -185,6 +189,8 @@ unheaded resume input held old told same (status.Limit limit.Transactions) u = a
 unheaded resume input held old told same (status.Limit (limit.Log spot)) u = absurd u
 unheaded resume input held old told same status.Memory u = inl same
 unheaded resume input held old told same (status.OldLog spot) u = absurd u
+unheaded resume input held old told same (status.NotSerial txn number) u = absurd u
+unheaded resume input held old told same (status.Transcript number) u = absurd u
 
 -- the text of the first line was not put whole
 module _ {E : Type 0} (takes : Kind → Type 0) (stands_for : E → EngineState → Type 0) (resume : Bool) (input held : List ℕ) (old : Spot → Option File) (head : Head) (text : List ℕ) (headed : IsHeaded input head text)
@@ -205,6 +211,8 @@ module _ {E : Type 0} (takes : Kind → Type 0) (stands_for : E → EngineState 
   opening_over (status.Limit what) p = absurd p
   opening_over status.Memory p = let c = cut_text p in inr (c.0, record { happened = lines c.0.ran.events; up_to = inl refl; files = c.1 })
   opening_over (status.OldLog spot) p = absurd p
+  opening_over (status.NotSerial txn number) p = absurd p
+  opening_over (status.Transcript number) p = absurd p
 
 -- ---- what a status is not
 
@@ -221,6 +229,8 @@ read_ends (status.BadLog spot place) own = tt
 read_ends (status.Limit what) own = tt
 read_ends status.Memory own = tt
 read_ends (status.OldLog spot) own = tt
+read_ends (status.NotSerial txn number) own = absurd own
+read_ends (status.Transcript number) own = absurd own
 
 pub unopened_ends : (file : Spot → Option File) (head : Head) (resume : Bool) (why : Status) → IsUnopenedAs file head resume why → IsEnding why
 unopened_ends file head resume status.Done u = absurd u
@@ -235,6 +245,8 @@ unopened_ends file head resume (status.BadLog spot place) u = tt
 unopened_ends file head resume (status.Limit what) u = tt
 unopened_ends file head resume status.Memory u = tt
 unopened_ends file head resume (status.OldLog spot) u = tt
+unopened_ends file head resume (status.NotSerial txn number) u = absurd u
+unopened_ends file head resume (status.Transcript number) u = absurd u
 
 pub opening_ends : (head : Head) (items : List Item) (held told : Option (List ℕ)) (why : Status) → IsOpeningTold head items held told (Err why) → IsEnding why
 opening_ends head items held told status.Done p = absurd p
@@ -249,6 +261,8 @@ opening_ends head items held told (status.BadLog spot place) p = tt
 opening_ends head items held told (status.Limit what) p = tt
 opening_ends head items held told status.Memory p = tt
 opening_ends head items held told (status.OldLog spot) p = tt
+opening_ends head items held told (status.NotSerial txn number) p = absurd p
+opening_ends head items held told (status.Transcript number) p = absurd p
 
 pub over_ends : {E : Type 0} (takes : Kind → Type 0) (stands_for : E → EngineState → Type 0) (head : Head) (s0 : Federation) (text held told : Option (List ℕ)) (home : HomeView) (w : World E) (o : Result (Unit {0}) Status) →
     IsOver takes stands_for head s0 text held told home w o → IfErr o IsEnding
@@ -265,6 +279,8 @@ over_ends takes stands_for head s text held told home w (Err (status.BadLog spot
 over_ends takes stands_for head s text held told home w (Err (status.Limit what)) p = tt
 over_ends takes stands_for head s text held told home w (Err status.Memory) p = tt
 over_ends takes stands_for head s text held told home w (Err (status.OldLog spot)) p = tt
+over_ends takes stands_for head s text held told home w (Err (status.NotSerial txn number)) p = absurd p
+over_ends takes stands_for head s text held told home w (Err (status.Transcript number)) p = absurd p
 
 -- what is so whatever the answer is
 pub on_any : {A E : Type 0} (P : Type 0) (o : Result A E) → P → OnOk o P

@@ -6,3 +6,4 @@ pub mod Left
 pub mod Ending
 pub mod Plays
 pub mod Reading
+pub mod Judging

@@ -151,6 +151,8 @@ module _ (head : Head) (s0 : Federation) (text held told : Option (List ℕ)) (p
     told_over status.Memory after (inl o) = in_part head s0 text held after home (failed after o)
     told_over status.Memory after (inr o) = record { done = told_in_part after o.1; files = inl (files_one o.0) }
     told_over (status.OldLog spot) after o = absurd o
+    told_over (status.NotSerial txn at) after o = absurd o
+    told_over (status.Transcript at) after o = absurd o
 
 -- what holds before each line: the lines that were told, for what the federation stands, and how many lines were read
 pub record IsPlaying {E : Type 0} (takes : Kind → Type 0) (stands_for : E → EngineState → Type 0) (head : Head) (s0 : Federation) (text held told : Option (List ℕ)) (home : HomeView) (w : World E) (number : ℕ) (reader : Lines) (ahead : Option (List ℕ)) : Type 0 where
@@ -205,6 +207,8 @@ module _ {E : Type 0} (takes : Kind → Type 0) (stands_for : E → EngineState 
   reads_over status.Memory after own f =
       record { done = whole_part head s0 text held told p.done; files = inl (held_left takes stands_for w (run (lines p.done.events) s0) home.file home.reach p.stands.stands p.stands.held) }
   reads_over (status.OldLog spot) after own f = absurd own
+  reads_over (status.NotSerial txn at) after own f = absurd own
+  reads_over (status.Transcript at) after own f = absurd own
 
 -- ---- one event is told
 
@@ -224,6 +228,8 @@ told_as takes stands_for s number e held told home w items (Err (status.BadLog s
 told_as takes stands_for s number e held told home w items (Err (status.Limit what)) is st p = absurd p
 told_as takes stands_for s number e held told home w items (Err status.Memory) is st p = inr (st, subst (λ (xs : List Item). IsPutInPart (items_text (numbered number (item.Event e ∷ []) ++ xs)) held told) is p)
 told_as takes stands_for s number e held told home w items (Err (status.OldLog spot)) is st p = absurd p
+told_as takes stands_for s number e held told home w items (Err (status.NotSerial txn at)) is st p = absurd p
+told_as takes stands_for s number e held told home w items (Err (status.Transcript at)) is st p = absurd p
 
 -- what was not done is not told
 pub untold : {E : Type 0} (takes : Kind → Type 0) (stands_for : E → EngineState → Type 0) (s : Federation) (number : ℕ) (e : Event) (held : Option (List ℕ)) (old new : HomeView) (w : World E) (fault : WorldFault) → HasEndedAs fault old new →
@@ -274,6 +280,8 @@ put_ended text held told old new (Err (status.BadLog spot place)) q p = q
 put_ended text held told old new (Err (status.Limit what)) q p = q
 put_ended text held told old new (Err status.Memory) q p = q
 put_ended text held told old new (Err (status.OldLog spot)) q p = q
+put_ended text held told old new (Err (status.NotSerial txn at)) q p = absurd p
+put_ended text held told old new (Err (status.Transcript at)) q p = absurd p
 
 -- how the text of the first line was put
 pub opening_put : (head : Head) (items : List Item) (held told : Option (List ℕ)) (o : Result (Unit {0}) Status) → IsTextPut (opening_text head items) held told o → IsOpeningTold head items held told (given_back head o)
@@ -290,6 +298,8 @@ opening_put head items held told (Err (status.BadLog spot place)) p = absurd p
 opening_put head items held told (Err (status.Limit what)) p = absurd p
 opening_put head items held told (Err status.Memory) p = p
 opening_put head items held told (Err (status.OldLog spot)) p = absurd p
+opening_put head items held told (Err (status.NotSerial txn at)) p = absurd p
+opening_put head items held told (Err (status.Transcript at)) p = absurd p
 
 -- why a federation was not opened, as a status
 pub unopened_as : (file : Spot → Option File) (head : Head) (resume : Bool) (fault : WorldFault) → IsUnopened file head resume fault → IsUnopenedAs file head resume (of_world fault)

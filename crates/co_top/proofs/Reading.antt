@@ -59,6 +59,8 @@ head_reads text line ahead (Err (status.Limit limit.Lines)) next behind h = absu
 head_reads text line ahead (Err (status.Limit limit.Transactions)) next behind h = absurd h
 head_reads text line ahead (Err (status.Limit (limit.Log spot))) next behind h = absurd h
 head_reads text line ahead (Err (status.OldLog spot)) next behind h = absurd h
+head_reads text line ahead (Err (status.NotSerial txn at)) next behind h = absurd h
+head_reads text line ahead (Err (status.Transcript at)) next behind h = absurd h
 
 pub no_head : (text : List ℕ) → next_line longest_line most 0 text ≡ Ok None → IsHeadFault text (status.Schedule 1 kind.Head)
 no_head text next = (refl, refl, λ head e. let z : [] ≡ head_text head = ap first_line (sym (none_left longest_line most 0 text next)) ∙ e in cc)
@@ -86,6 +88,8 @@ event_reads head count number text line ahead (Err (status.Limit limit.Lines)) n
 event_reads head count number text line ahead (Err (status.Limit limit.Transactions)) n next behind h = absurd h
 event_reads head count number text line ahead (Err (status.Limit (limit.Log spot))) n next behind h = absurd h
 event_reads head count number text line ahead (Err (status.OldLog spot)) n next behind h = absurd h
+event_reads head count number text line ahead (Err (status.NotSerial txn at)) n next behind h = absurd h
+event_reads head count number text line ahead (Err (status.Transcript at)) n next behind h = absurd h
 
 -- nothing is left, and so nothing lies ahead
 pub no_event : (head : Head) (count : ℕ) (text : List ℕ) (ahead : Option (List ℕ)) → next_line longest_line most (suc count) text ≡ Ok None → ahead ≡ Some (behind_line text) → IsEventRead head count text ahead (Ok None)

@@ -38,6 +38,8 @@ module _ (file : Spot → Option File) (told : AreTold file 16 8) where
   done_of (status.Differs other place kept read) cause rows d = absurd cause
   done_of (status.InUse other) cause rows d = absurd cause
   done_of (status.OldLog other) cause rows d = absurd cause
+  done_of (status.NotSerial txn number) cause rows d = absurd cause
+  done_of (status.Transcript number) cause rows d = absurd cause
   done_of (status.Limit (limit.Line line)) cause rows d = absurd cause
   done_of (status.Limit limit.Lines) cause rows d = absurd cause
   done_of (status.Limit limit.Transactions) cause rows d = absurd cause
@@ -55,6 +57,8 @@ module _ (file : Spot → Option File) (told : AreTold file 16 8) where
   bad_of (status.Differs other place kept read) cause spot at u = absurd cause
   bad_of (status.InUse other) cause spot at u = absurd cause
   bad_of (status.OldLog other) cause spot at u = absurd cause
+  bad_of (status.NotSerial txn number) cause spot at u = absurd cause
+  bad_of (status.Transcript number) cause spot at u = absurd cause
   bad_of (status.Limit (limit.Line line)) cause spot at u = absurd cause
   bad_of (status.Limit limit.Lines) cause spot at u = absurd cause
   bad_of (status.Limit limit.Transactions) cause spot at u = absurd cause
@@ -72,6 +76,8 @@ module _ (file : Spot → Option File) (told : AreTold file 16 8) where
   full_of (status.Differs other place kept read) cause spot u = absurd cause
   full_of (status.InUse other) cause spot u = absurd cause
   full_of (status.OldLog other) cause spot u = absurd cause
+  full_of (status.NotSerial txn number) cause spot u = absurd cause
+  full_of (status.Transcript number) cause spot u = absurd cause
   full_of (status.Limit (limit.Line line)) cause spot u = absurd cause
   full_of (status.Limit limit.Lines) cause spot u = absurd cause
   full_of (status.Limit limit.Transactions) cause spot u = absurd cause

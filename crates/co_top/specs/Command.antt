@@ -1,10 +1,10 @@
--- The words of the command line: a command and the name of a directory, and whether a run is resumed.
+-- The words of the command line: a command, and mostly the name of a directory, and whether a run is resumed.
 use Rattle.std.specs.Prelude.{ℕ, Bool, true, false, not, ◌==◌, ◌≡◌, ◌&&◌, ◌||◌, nat_eq, List, [], ◌∷◌, codes, if◌then◌else◌}
 use Rattle.std.specs.Cmp.Lexicographic.{pointwise}
 use Rattle.std.specs.declared.string.String.{String}
 use Rattle.std.specs.String.{string_bytes}
 use Rattle.co_top.specs.declared.words.Command.{Command}
-use Rattle.co_top.specs.declared.words.Command.TheVariants.{Run, Records, Unknown}
+use Rattle.co_top.specs.declared.words.Command.TheVariants.{Run, Records, Check, Unknown}
 
 -- at least one byte, and the first one is no dash
 abbrev pub is_directory : List ℕ → Bool
@@ -34,8 +34,13 @@ is_run words = asks (codes "run") words || resumes words
 abbrev pub is_records : {A : Type 0} → List (String A) → Bool
 is_records words = asks (codes "records") words
 
+-- `check` alone
+abbrev pub is_check : {A : Type 0} → List (String A) → Bool
+is_check (word ∷ []) = is_word (codes "check") word
+is_check _ = false
+
 abbrev pub is_command : {A : Type 0} → List (String A) → Bool
-is_command words = is_run words || is_records words
+is_command words = is_run words || (is_records words || is_check words)
 
 -- the word that names the directory
 abbrev pub directory_of : {A : Type 0} → List (String A) → List ℕ
@@ -46,6 +51,7 @@ directory_of (word ∷ first ∷ second ∷ words) = if is_word (codes "--resume
 
 -- the command that the words are
 abbrev pub IsCommand : {A : Type 0} → List (String A) → Command → Type 0
-IsCommand words (Run directory resume) = (is_run words ≡ true) × (is_records words ≡ false) × (directory.now ≡ directory_of words) × (resume ≡ resumes words)
-IsCommand words (Records directory) = (is_run words ≡ false) × (is_records words ≡ true) × (directory.now ≡ directory_of words)
-IsCommand words Unknown = (is_run words ≡ false) × (is_records words ≡ false)
+IsCommand words (Run directory resume) = (is_run words ≡ true) × (is_records words ≡ false) × (directory.now ≡ directory_of words) × (resume ≡ resumes words) × (is_check words ≡ false)
+IsCommand words (Records directory) = (is_run words ≡ false) × (is_records words ≡ true) × (directory.now ≡ directory_of words) × (is_check words ≡ false)
+IsCommand words Check = (is_run words ≡ false) × (is_records words ≡ false) × (is_check words ≡ true)
+IsCommand words Unknown = (is_run words ≡ false) × (is_records words ≡ false) × (is_check words ≡ false)

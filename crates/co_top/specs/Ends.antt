@@ -26,6 +26,8 @@ code_of (status.BadLog spot at) = 9
 code_of (status.Limit what) = 10
 code_of status.Memory = 11
 code_of (status.OldLog spot) = 13
+code_of (status.NotSerial txn line) = 14
+code_of (status.Transcript line) = 15
 
 -- what is wrong with a line
 abbrev pub kind_word : LineKind → List ℕ
@@ -61,9 +63,12 @@ words_of (status.Limit limit.Transactions) = codes "limit: transactions"
 words_of (status.Limit (limit.Log spot)) = codes "limit: log " ++ spot_name spot
 words_of status.Memory = codes "want of memory"
 words_of (status.OldLog spot) = codes "old log: " ++ spot_name spot
+words_of (status.NotSerial txn line) = []
+words_of (status.Transcript line) = codes "transcript line " ++ decimal line
 
 abbrev pub note_of : Status → List ℕ
 note_of status.Done = []
+note_of (status.NotSerial txn line) = []
 note_of ended = words_of ended ++ 10 ∷ []
 
 -- the note, or a front of it where it could not be put whole

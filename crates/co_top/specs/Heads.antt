@@ -57,4 +57,6 @@ IsReadStatus _ = ⊥
 abbrev pub IsEnding : Status → Type 0
 IsEnding status.Done = ⊥
 IsEnding status.Usage = ⊥
+IsEnding (status.NotSerial txn line) = ⊥
+IsEnding (status.Transcript line) = ⊥
 IsEnding _ = Unit {0}

@@ -7,3 +7,4 @@ pub mod Telling
 pub mod Ran
 pub mod Replayed
 pub mod Records
+pub mod Checking

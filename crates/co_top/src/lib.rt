@@ -1,6 +1,7 @@
-//! The top call: a schedule is replayed over a directory of logs, or the records that the logs alone give are written.
+//! The top call: a schedule is replayed over a directory of logs, the records that the logs alone give are written, or a transcript is judged.
 #![tactic(auto)]
 
+mod checking;
 mod lines;
 mod playing;
 mod records;

@@ -3,6 +3,7 @@ ghost use Rattle.std.specs.Prelude.{◌≡◌, ◌++◌, OnOk, codes, decimal};
 ghost use Rattle.co_outside.specs.Spots.{spot_name};
 ghost use Rattle.co_top.specs.Ends.{code_of, note_of, words_of, kind_word, byte_word, of_world, of_lines, of_line};
 
+use co_base::Txn;
 use co_durable::WorldFault;
 use co_outside::Spot;
 use co_schedule::{LineFault, LineKind, LinesFault, append_number};
@@ -11,12 +12,12 @@ use std::alloc::{AllocError, AllocFailed, Global};
 /// A limit that ended a command.
 #[derive(Clone, Copy, PartialEq, Eq)]
 pub enum LimitKind {
-    /// The line has more than 8,192 bytes.
+    /// The line is long: one of a schedule has more than 8,192 bytes, one of a transcript that is judged more than 16,777,216.
     Line {
         /// The number of the line, counted from 1.
         line: u32,
     },
-    /// A byte follows the last line that there may be.
+    /// A byte follows the last line that there may be: the 262,144th of a schedule, the 16,777,216th of a transcript that is judged.
     Lines,
     /// There are, or would be, more than 65,536 transactions.
     Transactions,
@@ -30,7 +31,8 @@ pub enum LimitKind {
 /// How a command ended.
 #[derive(Clone, Copy, PartialEq, Eq)]
 pub enum Status {
-    /// The schedule was read to its end, and every line was done; or the text of the command was written whole.
+    /// The schedule was read to its end, and every line was done; or the text of the command was written whole, and tells of nothing that is not as it
+    /// should be.
     Done,
     /// The words are no command.
     Usage,
@@ -43,7 +45,7 @@ pub enum Status {
     },
     /// The source failed.
     Read,
-    /// The sink of the transcript, or of the records, failed.
+    /// The sink of the transcript, or of the text of the command, failed.
     Write,
     /// The directory of logs failed.
     Device {
@@ -82,6 +84,18 @@ pub enum Status {
         /// Which file.
         spot: Spot,
     },
+    /// A committed transaction of the transcript was not answered as in the serial run; this was written.
+    NotSerial {
+        /// The first one in the order of the decisions.
+        txn: Txn,
+        /// The number of the event of its first operation that differs.
+        line: u32,
+    },
+    /// The line of the transcript is no item or breaks its shape; or it is the line past the end, where the last group of lines is not whole.
+    Transcript {
+        /// The number of the line, counted from 1.
+        line: u32,
+    },
 }
 
 impl Status {
@@ -102,6 +116,8 @@ impl Status {
             Status::Limit(_) => 10,
             Status::Memory => 11,
             Status::OldLog { .. } => 13,
+            Status::NotSerial { .. } => 14,
+            Status::Transcript { .. } => 15,
         }
     }
 }
@@ -295,40 +311,42 @@ fn put_long(line: u32, into: &mut Vec<u8>) -> Result<(), AllocError>
 }
 
 /// Appends the note of a status, but its newline.
-fn put_words(alloc: Global, status: Status, into: &mut Vec<u8>) -> Result<(), AllocError>
-    ensures { OnOk result (into.new.items ≡ into.old.items ++ words_of status) }
+fn put_words(alloc: Global, status: &Status, into: &mut Vec<u8>) -> Result<(), AllocError>
+    ensures { OnOk result (into.new.items ≡ into.old.items ++ words_of status.now) }
 {
     match status {
         Status::Done => Ok(()),
         Status::Usage => into.extend_from_slice(b"usage"),
-        Status::Schedule { line, kind } => put_mistake(line, kind, into),
+        Status::Schedule { line, kind } => put_mistake(*line, *kind, into),
         Status::Read => into.extend_from_slice(b"read fault"),
         Status::Write => into.extend_from_slice(b"write fault"),
-        Status::Device { spot } => append_spot(alloc, into, b"device fault: ", spot),
+        Status::Device { spot } => append_spot(alloc, into, b"device fault: ", *spot),
         Status::Differs {
             spot,
             at,
             kept,
             read,
-        } => put_difference(alloc, spot, at, kept, read, into),
-        Status::InUse { spot } => append_spot(alloc, into, b"logs in use: ", spot),
-        Status::BadLog { spot, at } => put_place(alloc, b"bad log: ", spot, at, into),
-        Status::Limit(LimitKind::Line { line }) => put_long(line, into),
+        } => put_difference(alloc, *spot, *at, *kept, *read, into),
+        Status::InUse { spot } => append_spot(alloc, into, b"logs in use: ", *spot),
+        Status::BadLog { spot, at } => put_place(alloc, b"bad log: ", *spot, *at, into),
+        Status::Limit(LimitKind::Line { line }) => put_long(*line, into),
         Status::Limit(LimitKind::Lines) => into.extend_from_slice(b"limit: lines"),
         Status::Limit(LimitKind::Transactions) => into.extend_from_slice(b"limit: transactions"),
-        Status::Limit(LimitKind::Log { spot }) => append_spot(alloc, into, b"limit: log ", spot),
+        Status::Limit(LimitKind::Log { spot }) => append_spot(alloc, into, b"limit: log ", *spot),
         Status::Memory => into.extend_from_slice(b"want of memory"),
-        Status::OldLog { spot } => append_spot(alloc, into, b"old log: ", spot),
+        Status::OldLog { spot } => append_spot(alloc, into, b"old log: ", *spot),
+        Status::NotSerial { .. } => Ok(()),
+        Status::Transcript { line } => put_number(b"transcript line", *line, into),
     }
 }
 
 /// Appends the note of a status.
-pub fn put_note(alloc: Global, status: Status, into: &mut Vec<u8>) -> Result<(), AllocError>
-    ensures { OnOk result (into.new.items ≡ into.old.items ++ note_of status) }
+pub fn put_note(alloc: Global, status: &Status, into: &mut Vec<u8>) -> Result<(), AllocError>
+    ensures { OnOk result (into.new.items ≡ into.old.items ++ note_of status.now) }
 {
     put_words(alloc, status, into)?;
     match status {
-        Status::Done => Ok(()),
+        Status::Done | Status::NotSerial { .. } => Ok(()),
         _ => into.extend_from_slice(b"\n"),
     }
 }

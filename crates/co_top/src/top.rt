@@ -4,11 +4,13 @@ ghost use Rattle.co_outside.specs.declared.spot.Spot.{Spot};
 ghost use Rattle.co_outside.specs.Faults.{HasRisen};
 ghost use Rattle.co_disk.specs.Homes.{HasFailed};
 ghost use Rattle.co_durable.specs.Told.{AreTold};
-ghost use Rattle.co_top.specs.Command.{is_run, is_records, is_command, resumes, directory_of};
+ghost use Rattle.co_top.specs.Checking.{IsCheckEnd, IsExactCheck};
+ghost use Rattle.co_top.specs.Command.{is_run, is_records, is_check, is_command, resumes, directory_of};
 ghost use Rattle.co_top.specs.Ends.{IsNoted, note_of};
 ghost use Rattle.co_top.specs.Ran.{IsRunEnd};
 ghost use Rattle.co_top.specs.Records.{HasCause, IsExact, HoldsRecords};
 
+use crate::checking::check;
 use crate::records::records;
 use crate::replay::replay;
 use crate::status::{Status, put_note};
@@ -17,8 +19,8 @@ use co_any::AnyEngine;
 use co_outside::{Home, Sink, Source, put_all};
 use std::alloc::Global;
 
-/// Runs a command: its words, without the name of the program, the source of a schedule, the sink of its transcript, the sink of notes and
-/// the directory of logs.
+/// Runs a command: its words, without the name of the program, the source of a schedule or a transcript, the sink of what the command writes, the sink
+/// of notes and the directory of logs.
 ///
 /// `run DIR` replays the schedule of the source over fresh logs in the directory, `run --resume DIR` and `run DIR --resume` over logs that a run
 /// left there, and writes the transcript. Over a source, a sink and a directory that tell what they have, `run` says of every status what was done
@@ -34,6 +36,13 @@ use std::alloc::Global;
 /// coordinators alone give: a line `NODE KEY VALUE` for each, members ascending and the keys of each member ascending. It reads no schedule and
 /// writes no file. `Device` comes only where the home failed, `Limit` where a file is too long and `BadLog` where the files of a node are no
 /// log, or a record stands where it may not, each at the first such file; `Write` only where the sink of the records failed.
+///
+/// `check` reads a transcript from the source, and trusts nothing that wrote it. Where its lines are items, and well shaped, as those of a run over fresh logs are, it
+/// judges the committed transactions: each has to have been answered, before its decision, as when run whole behind the earlier decisions. Where all were, it
+/// writes `serial N` and then the records of that serial run, N the number of decisions; else `not serial T LINE`, and `NotSerial` tells the first transaction in the order of decisions that was
+/// not, and the number of the event of its first such operation. `Transcript` comes at the first line that is no item or breaks the shape, and at the line past the end where the
+/// last event has no reply; `Limit` at a line of more than 16,777,216 bytes and behind as many lines; `Read` and `Write` only where the source or the sink failed. The
+/// directory is not touched.
 ///
 /// Every other list of words is `Usage`, and changes nothing but the sink of notes.
 pub fn run<S: Source, K: Sink, N: Sink, H: Home>(
@@ -56,11 +65,15 @@ pub fn run<S: Source, K: Sink, N: Sink, H: Home>(
     ensures exact { is_records words.now ≡ true → AreTold (H.file home.old) 16 8 → IsExact (H.file home.old) result }
     ensures durable { (held : List ℕ) → is_records words.now ≡ true → K.told out.old ≡ Some held → HoldsRecords (H.file home.old) held (K.told out.new) result }
     ensures files { is_records words.now ≡ true → (s : Spot) → H.file home.new s ≡ H.file home.old s }
-    ensures entered { result ≡ Status.Done → H.entered home.new ≡ Some (directory_of words.now) }
+    ensures checked { (input held : List ℕ) → is_check words.now ≡ true → S.left source.old ≡ Some input → K.told out.old ≡ Some held →
+        IsCheckEnd input held (K.told out.new) result }
+    ensures judged { (input held : List ℕ) → is_check words.now ≡ true → S.left source.old ≡ Some input → K.told out.old ≡ Some held → IsExactCheck input result }
+    ensures kept { is_check words.now ≡ true → home.new ≡ home.old }
+    ensures entered { is_check words.now ≡ false → result ≡ Status.Done → H.entered home.new ≡ Some (directory_of words.now) }
     ensures notes { (held : List ℕ) → N.told notes.old ≡ Some held → IsNoted held (note_of result) (N.told notes.new) }
 {
     let status = command(alloc, words, source, out, home);
-    tell(alloc, notes, status);
+    tell(alloc, notes, &status);
     status
 }
 
@@ -83,20 +96,24 @@ fn command<S: Source, K: Sink, H: Home>(
     ensures causes { is_records words.now ≡ true → HasCause (H.file home.old) result }
     ensures durable { (held : List ℕ) → is_records words.now ≡ true → K.told out.old ≡ Some held → HoldsRecords (H.file home.old) held (K.told out.new) result }
     ensures files { is_records words.now ≡ true → (s : Spot) → H.file home.new s ≡ H.file home.old s }
-    ensures entered { result ≡ Status.Done → H.entered home.new ≡ Some (directory_of words.now) }
+    ensures checked { (input held : List ℕ) → is_check words.now ≡ true → S.left source.old ≡ Some input → K.told out.old ≡ Some held →
+        IsCheckEnd input held (K.told out.new) result }
+    ensures kept { is_check words.now ≡ true → home.new ≡ home.old }
+    ensures entered { is_check words.now ≡ false → result ≡ Status.Done → H.entered home.new ≡ Some (directory_of words.now) }
 {
     match command_of(words) {
         Command::Run { directory, resume } => {
             replay::<AnyEngine, S, K, H>(alloc, directory, resume, source, out, home)
         }
         Command::Records { directory } => records(alloc, directory, out, home),
+        Command::Check => check(alloc, source, out),
         Command::Unknown => Status::Usage,
     }
 }
 
 /// Puts the note of a status. A failed note changes nothing.
-fn tell<N: Sink>(alloc: Global, notes: &mut N, status: Status)
-    ensures { (held : List ℕ) → N.told notes.old ≡ Some held → IsNoted held (note_of status) (N.told notes.new) }
+fn tell<N: Sink>(alloc: Global, notes: &mut N, status: &Status)
+    ensures { (held : List ℕ) → N.told notes.old ≡ Some held → IsNoted held (note_of status.now) (N.told notes.new) }
 {
     let mut note = Vec::new(alloc);
     match put_note(alloc, status, &mut note) {

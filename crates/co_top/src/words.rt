@@ -17,6 +17,8 @@ pub(crate) enum Command<'a> {
         /// Which directory.
         directory: &'a str,
     },
+    /// The transcript of the source is judged.
+    Check,
     /// Nothing that is a command.
     Unknown,
 }
@@ -36,6 +38,16 @@ fn is_word(word: &String, text: &[u8]) -> bool
     ensures { result ≡ is_word text.now word.now }
 {
     word.as_bytes() == text
+}
+
+/// A command of one word.
+fn of_one<'a>(command: &String) -> Command<'a>
+    ensures { IsCommand (command.now ∷ []) result }
+{
+    if is_word(command, b"check") {
+        return Command::Check;
+    }
+    Command::Unknown
 }
 
 /// A command of two words.
@@ -86,6 +98,7 @@ pub(crate) fn command_of(words: &[String]) -> Command<'_>
     ensures { IsCommand words.now result }
 {
     match words {
+        [command] => of_one(command),
         [command, directory] => of_two(command, directory),
         [command, first, second] => of_three(command, first, second),
         _ => Command::Unknown,

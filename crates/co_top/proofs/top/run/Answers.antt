@@ -1,5 +1,10 @@
+use Rattle.co_top.proofs.Judging.{exact_of as exact_check}
 use Rattle.co_top.proofs.Recording.{exact_of}
 use Rattle.co_top.proofs.top.run.Goals as goal
 
 pub returns-clause-exact : goal.returns-clause-exact
 returns-clause-exact g c = λ is told. exact_of (g.H.Home.file c.args.home.now) told c.command-status.result (c.command-status.ensures.causes is)
+
+pub returns-clause-judged : goal.returns-clause-judged
+returns-clause-judged g c = λ input held is left told.
+    exact_check input held (g.K.Sink.told c.command-status.new.out) c.command-status.result (c.command-status.ensures.checked input held is left told)

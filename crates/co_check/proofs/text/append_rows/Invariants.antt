@@ -1,0 +1,7 @@
+use Rattle.std.proofs.Common.{◌≡◌, ◌++◌, take}
+use Rattle.co_durable.specs.Laying.{member_rows}
+use Rattle.co_durable.specs.Text.{records_text}
+use Rattle.co_check.proofs.text.append_rows.Given as goal
+
+abbrev pub invariant-loop-row : goal.invariant-loop-row
+invariant-loop-row l = l.into.items ≡ l.initial.into.items ++ records_text (member_rows l.member (take l.row-index l.rows))

@@ -1,0 +1,8 @@
+//! The transcript of every run over fresh logs is well shaped, and a checker that reads it finds its committed transactions serial.
+//!
+//! Each law is the contract of a function without a body.
+#![tactic(auto)]
+
+mod laws;
+
+pub use laws::{transcripts_are_found_serial, transcripts_are_serial};
