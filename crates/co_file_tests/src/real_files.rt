@@ -119,20 +119,20 @@ fn calls(alloc: Global, home: &mut HomeStd) -> [&'static str; 4] {
 /// Each call fails.
 const ALL_FAIL: [&str; 4] = ["failed", "failed", "failed", "failed"];
 
-/// What a new home is answered in a folder.
-fn calls_in(rt: &HostRuntime, folder: &str) -> io::Result<[&'static str; 4]> {
+/// Whether a new home is answered so in a folder.
+fn is_answered(rt: &HostRuntime, folder: &str, wanted: [&str; 4]) -> io::Result<bool> {
     let mut home = HomeStd::new(rt.clone()?);
     let _ = entered(rt.alloc(), &mut home, folder);
-    Ok(calls(rt.alloc(), &mut home))
+    Ok(calls(rt.alloc(), &mut home) == wanted)
 }
 
 #[test]
 fn a_file_that_is_no_plain_file_is_a_fault(rt: HostRuntime) -> io::Result<()> {
     fs::create_dir_all(&rt, "no_plain_file/m1.a")?;
-    assert!(rt; calls_in(&rt, "no_plain_file")? == ALL_FAIL);
+    assert!(rt; is_answered(&rt, "no_plain_file", ALL_FAIL)?);
     fs::remove_dir(&rt, "no_plain_file/m1.a")?;
     symlink(&rt, "elsewhere", "no_plain_file/m1.a")?;
-    assert!(rt; calls_in(&rt, "no_plain_file")? == ALL_FAIL);
+    assert!(rt; is_answered(&rt, "no_plain_file", ALL_FAIL)?);
     fs::remove_dir_all(&rt, "no_plain_file")
 }
 
@@ -178,10 +178,10 @@ fn a_file_without_permission_is_a_fault(rt: HostRuntime) -> io::Result<()> {
     fs::write(&rt, "forbidden/m1.a", "abc")?;
     permit(&rt, "forbidden/m1.a", 0)?;
     if !may_all(&rt, "forbidden/m1.a") {
-        assert!(rt; calls_in(&rt, "forbidden")? == ALL_FAIL);
+        assert!(rt; is_answered(&rt, "forbidden", ALL_FAIL)?);
         permit(&rt, "forbidden/m1.a", 0o400)?;
-        let answers = calls_in(&rt, "forbidden")?;
-        assert!(rt; answers == ["these", "failed", "failed", "done"]);
+        let read_alone = ["these", "failed", "failed", "done"];
+        assert!(rt; is_answered(&rt, "forbidden", read_alone)?);
     }
     fs::remove_dir_all(&rt, "forbidden")
 }
