@@ -23,9 +23,9 @@ pub(crate) struct Folder {
     pub(crate) name: String,
     /// Room for the path of a file.
     path: String,
-    /// The directory itself, which is locked as long as it is open.
-    directory: File,
     files: Vec<LogFile>,
+    /// The directory itself, which is locked as long as it is open. It is closed last.
+    directory: File,
 }
 
 impl Folder {
@@ -50,8 +50,8 @@ impl Folder {
         Ok(Folder {
             name,
             path,
-            directory,
             files: Vec::with_capacity(alloc, MOST_FILES)?,
+            directory,
         })
     }
 
