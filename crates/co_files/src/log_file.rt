@@ -6,7 +6,6 @@ use co_outside::Spot;
 use std::alloc::Global;
 use std::fs::{self, File, Metadata, OpenOptions};
 use std::io::{self, ErrorKind};
-use std::os::fd::AsRawFd;
 use std::os::unix::fs::FileExt;
 
 /// A log file that is kept open. It is read, written, cut and synced by one descriptor, so that an error at write-back reaches the next sync.
@@ -28,15 +27,10 @@ impl LogFile {
         LogFile::settled(spot, File::create_new(rt, path)?)
     }
 
-    /// Syncs what an earlier process may have left unsynced, and lets go of the kernel's copies, which a failed sync may have left other than
-    /// the disk has them.
+    /// Syncs what an earlier process may have left unsynced.
     fn settled(spot: Spot, file: File) -> io::Result<LogFile> {
         let identity = Identity::of(&file.metadata()?);
         file.sync_all()?;
-        let advised = libc::posix_fadvise(file.as_raw_fd(), 0, 0, libc::POSIX_FADV_DONTNEED);
-        if advised != 0 {
-            return Err(io::Error::from_raw_os_error(advised));
-        }
         Ok(LogFile {
             spot,
             file,
