@@ -6,28 +6,44 @@
 #![tactic(auto)]
 
 use co_files::HomeStd;
-use co_outside::{SinkStd, SourceStd};
-use co_top::run;
+use co_outside::{SinkStd, SourceStd, put_all};
+use co_top::{Status, run};
+use std::env;
+use std::io::{self, ErrorKind};
 use std::process::ExitCode;
-use std::{env, io};
 
-fn main(rt: HostRuntime) -> io::Result<ExitCode> {
-    let alloc = rt.alloc();
-    let mut words = Vec::new(alloc);
-    for word in env::args(&rt)?.skip(1) {
+/// The words of the command line behind the name of the program.
+fn words_of(rt: &HostRuntime) -> io::Result<Vec<String>> {
+    let mut words = Vec::new(rt.alloc());
+    for word in env::args(rt)?.skip(1) {
         words.push(word)?;
     }
+    Ok(words)
+}
+
+/// Runs the command of these words over the standard streams and real files.
+fn run_here(rt: HostRuntime, words: &[String]) -> Status {
     let mut source = SourceStd::new(rt.stdin());
     let mut out = SinkStd::new(rt.stdout());
     let mut notes = SinkStd::new(rt.stderr());
+    let alloc = rt.alloc();
     let mut home = HomeStd::new(rt);
-    let status = run(
-        alloc,
-        words.as_slice(),
-        &mut source,
-        &mut out,
-        &mut notes,
-        &mut home,
-    );
-    Ok(ExitCode::from(status.code()))
+    run(alloc, words, &mut source, &mut out, &mut notes, &mut home)
+}
+
+/// Notes that there was no memory for the words.
+fn want_of_memory(rt: &HostRuntime) -> Status {
+    let mut notes = SinkStd::new(rt.stderr());
+    let _ = put_all(rt.alloc(), &mut notes, b"want of memory\n");
+    Status::Memory
+}
+
+fn main(rt: HostRuntime) -> ExitCode {
+    let status = match words_of(&rt) {
+        Ok(words) => run_here(rt, &words),
+        Err(e) if e.kind() == ErrorKind::OutOfMemory => want_of_memory(&rt),
+        // A word that is no UTF-8 is one of no command.
+        Err(_) => run_here(rt, &[]),
+    };
+    ExitCode::from(status.code())
 }

@@ -1,6 +1,4 @@
-pub mod Keeping
-pub mod Fitting
-pub mod Deciding
+pub mod Events
 pub mod Naming
+pub mod New
 pub mod Starting
-pub mod Allowed

@@ -1,25 +1,28 @@
--- Members of a commit record that can be written.
-use Rattle.std.proofs.Common.{ℕ, ◌≤◌, ◌<◌, List, [], ◌∷◌, refl, sym, arith}
+-- Members that a commit may name.
+use Rattle.std.proofs.Common.{◌≡◌, ℕ, Bool, true, ◌≤◌, ◌<◌, ◌&&◌, nat_le, List, [], ◌∷◌, refl, sym, ap, ◌∙◌, arith}
 use Rattle.std.specs.Prelude.{length, get_or}
 use Rattle.std.specs.Cmp.{nat_cmp_is}
 use Rattle.std.specs.Ordering.{nat_cmp}
 use Rattle.std.specs.declared.cmp.Ordering.TheVariants.{Less}
+use Rattle.std.proofs.lemmas.Bool.Decides.{nat_tests}
 use Rattle.co_record.proofs.Short.{none_sorted, one_sorted, two_sorted}
-use Rattle.co_coord_rows.specs.Beside.{AreNamed}
+use Rattle.co_plain.specs.CoordView.{all_up_to}
+use Rattle.co_coord_rows.specs.Played.{AreNamed}
 
-pub named_none : AreNamed []
-named_none t = (grind arith, tt, none_sorted nat_cmp [] refl)
+-- one more member
+one_more : (a : ℕ) (ms : List ℕ) → 1 ≤ a → a ≤ 3 → all_up_to 3 ms ≡ true → all_up_to 3 (a ∷ ms) ≡ true
+one_more a ms low high rest = grind (arith, nat_tests, low, high, rest)
 
-pub named_one : (a : ℕ) → 1 ≤ a → a ≤ 3 → AreNamed (a ∷ [])
-named_one a low high t = (grind arith, ((low, grind (arith, high)), tt), one_sorted nat_cmp a)
+named_one : (a : ℕ) → 1 ≤ a → a ≤ 3 → AreNamed (a ∷ [])
+named_one a low high = (one_more a [] low high refl, one_sorted nat_cmp a)
 
 pub named_two : (a b : ℕ) → 1 ≤ a → a < b → b ≤ 3 → AreNamed (a ∷ b ∷ [])
-named_two a b low below high t =
-    (grind arith, ((low, grind (arith, below, high)), ((grind (arith, low, below), grind (arith, high)), tt)), two_sorted nat_cmp a b (sym (nat_cmp_is a b Less below)))
+named_two a b low below high =
+    (one_more a (b ∷ []) low (omega (arith, below, high)) (one_more b [] (omega (arith, low, below)) high refl), two_sorted nat_cmp a b (sym (nat_cmp_is a b Less below)))
 
--- the same of a list by its length
+-- members by their count
 pub none_are : (xs : List ℕ) → length xs < 1 → AreNamed xs
-none_are [] below = named_none
+none_are [] below = (refl, none_sorted nat_cmp [] refl)
 none_are (x ∷ xs) below = absurd (omega (arith, below))
 
 pub one_is : (xs : List ℕ) → 1 ≤ length xs → length xs < 2 → 1 ≤ get_or xs 0 0 → get_or xs 0 0 ≤ 3 → AreNamed xs

@@ -1,15 +1,14 @@
-//! Events of a coordinator that does not write its log, each beside the plain one.
-ghost use Rattle.std.specs.Prelude.{◌≡◌, ◌≤◌, true, IfOk};
+//! The calls of a coordinator.
+ghost use Rattle.std.specs.Prelude.{◌≡◌, true, OnOk};
 ghost use Rattle.co_coord.specs.Standing.{is_up};
-ghost use Rattle.co_coord_rows.specs.Beside.{IsBeside};
+ghost use Rattle.co_coord_rows.specs.Played.{IsPlayed};
 
 use crate::fault::RowFault;
-use crate::played::{Played, compared};
+use crate::fits::{need_named, need_new};
 use co_base::{Leaves, Part, Txn};
-use co_coord::Coord;
+use co_coord::{Coord, CoordStep};
+use co_message::Message;
 use co_outside::HomeMemory;
-use co_plain::CoordState;
-use co_plain_coord::{coord_abort, coord_arm, coord_begin, coord_resend, coord_timer};
 use std::alloc::Global;
 
 /// The number of the coordinator.
@@ -18,63 +17,97 @@ pub const COORD: u8 = 1;
 /// A client begins a transaction.
 pub fn begin(
     alloc: Global,
+    home: &HomeMemory,
     coord: &mut Coord,
-    plain: CoordState,
     t: Txn,
-) -> Result<Played, RowFault>
+) -> Result<CoordStep, RowFault>
     requires up { is_up coord.old ≡ true }
-    ensures { (home : HomeMemory) → IsBeside home coord.old plain → IfOk result (λ p. IsBeside home coord.new p.plain) }
+    requires played { IsPlayed home.now coord.old }
+    ensures { OnOk result (IsPlayed home.now coord.new) }
 {
-    let step = coord.begin(t)?;
-    let plainly = coord_begin(alloc, plain, t)?;
-    Ok(compared(step, plainly))
+    need_new(alloc, coord, t)?;
+    Ok(coord.begin(t)?)
+}
+
+/// A client asks for the commit.
+pub fn commit(
+    alloc: Global,
+    home: &mut HomeMemory,
+    coord: &mut Coord,
+    t: Txn,
+    parts: &[Part],
+) -> Result<CoordStep, RowFault>
+    requires up { is_up coord.old ≡ true }
+    requires played { IsPlayed home.old coord.old }
+    ensures { OnOk result (IsPlayed home.new coord.new) }
+{
+    need_named(alloc, parts)?;
+    Ok(coord.commit(home, t, parts)?)
 }
 
 /// A client asks for the abort.
 pub fn abort(
-    alloc: Global,
+    home: &HomeMemory,
     coord: &mut Coord,
-    plain: CoordState,
     t: Txn,
     parts: &[Part],
-) -> Result<Played, RowFault>
+) -> Result<CoordStep, RowFault>
     requires up { is_up coord.old ≡ true }
-    ensures { (home : HomeMemory) → IsBeside home coord.old plain → IfOk result (λ p. IsBeside home coord.new p.plain) }
+    requires played { IsPlayed home.now coord.old }
+    ensures { OnOk result (IsPlayed home.now coord.new) }
 {
-    let step = coord.abort(t, parts)?;
-    let plainly = coord_abort(alloc, COORD, plain, t, parts)?;
-    Ok(compared(step, plainly))
+    Ok(coord.abort(t, parts)?)
+}
+
+/// A message comes.
+pub fn deliver(
+    home: &mut HomeMemory,
+    coord: &mut Coord,
+    message: &Message,
+) -> Result<CoordStep, RowFault>
+    requires up { is_up coord.old ≡ true }
+    requires played { IsPlayed home.old coord.old }
+    ensures { OnOk result (IsPlayed home.new coord.new) }
+{
+    Ok(coord.deliver(home, message)?)
 }
 
 /// A timer fires.
-pub fn timer(
-    alloc: Global,
-    coord: &mut Coord,
-    plain: CoordState,
-    t: Txn,
-) -> Result<Played, RowFault>
+pub fn timer(home: &HomeMemory, coord: &mut Coord, t: Txn) -> Result<CoordStep, RowFault>
     requires up { is_up coord.old ≡ true }
-    ensures { (home : HomeMemory) → IsBeside home coord.old plain → IfOk result (λ p. IsBeside home coord.new p.plain) }
+    requires played { IsPlayed home.now coord.old }
+    ensures { OnOk result (IsPlayed home.now coord.new) }
 {
-    let step = coord.timer(t)?;
-    let plainly = coord_timer(alloc, COORD, plain, t)?;
-    Ok(compared(step, plainly))
+    Ok(coord.timer(t)?)
 }
 
-/// What was not answered is sent again.
-pub fn resend(alloc: Global, coord: &Coord, plain: CoordState, t: Txn) -> Result<Played, RowFault>
-    requires up { is_up coord.now ≡ true }
-    ensures { (home : HomeMemory) → IsBeside home coord.now plain → IfOk result (λ p. IsBeside home coord.now p.plain) }
+/// One step of a checkpoint.
+pub fn checkpoint(home: &mut HomeMemory, coord: &mut Coord) -> Result<CoordStep, RowFault>
+    requires up { is_up coord.old ≡ true }
+    requires played { IsPlayed home.old coord.old }
+    ensures { OnOk result (IsPlayed home.new coord.new) }
 {
-    let step = coord.resend(t)?;
-    let plainly = coord_resend(alloc, COORD, plain, t)?;
-    Ok(compared(step, plainly))
+    Ok(coord.checkpoint(home)?)
+}
+
+/// A crash.
+pub fn crash(home: &mut HomeMemory, coord: &mut Coord) -> Result<CoordStep, RowFault>
+    requires { IsPlayed home.old coord.old }
+    ensures { OnOk result (IsPlayed home.new coord.new) }
+{
+    Ok(coord.crash(home)?)
+}
+
+/// A restart.
+pub fn restart(home: &mut HomeMemory, coord: &mut Coord) -> Result<CoordStep, RowFault>
+    requires { IsPlayed home.old coord.old }
+    ensures { OnOk result (IsPlayed home.new coord.new) }
+{
+    Ok(coord.restart(home)?)
 }
 
 /// An equal image.
-fn copy(alloc: Global, leaves: &Leaves) -> Result<Leaves, RowFault>
-    ensures { IfOk result (λ copy. copy ≡ leaves.now) }
-{
+fn copy(alloc: Global, leaves: &Leaves) -> Result<Leaves, RowFault> {
     match leaves {
         Leaves::Old => Ok(Leaves::Old),
         Leaves::New => Ok(Leaves::New),
@@ -82,21 +115,21 @@ fn copy(alloc: Global, leaves: &Leaves) -> Result<Leaves, RowFault>
     }
 }
 
-/// The next log write is to stop.
+/// The next log write is to stop in this call, which is one of a log write.
 pub fn arm(
     alloc: Global,
+    home: &HomeMemory,
     coord: &mut Coord,
-    plain: CoordState,
     call: u8,
     leaves: &Leaves,
-) -> Result<Played, RowFault>
+) -> Result<CoordStep, RowFault>
     requires up { is_up coord.old ≡ true }
-    requires call { (1 ≤ call) × (call ≤ 4) }
-    ensures { (home : HomeMemory) → IsBeside home coord.old plain → IfOk result (λ p. IsBeside home coord.new p.plain) }
+    requires played { IsPlayed home.now coord.old }
+    ensures { OnOk result (IsPlayed home.now coord.new) }
 {
-    let copied = copy(alloc, leaves)?;
-    let step = coord.arm(call, copied)?;
-    let again = copy(alloc, leaves)?;
-    let plainly = coord_arm(alloc, plain, call, again);
-    Ok(compared(step, plainly))
+    if call < 1 || 4 < call {
+        return Err(RowFault::Word);
+    }
+    let leaves = copy(alloc, leaves)?;
+    Ok(coord.arm(call, leaves)?)
 }

@@ -1,16 +1,17 @@
-//! What may be asked of a coordinator: which records it could write, and whether its log is allowed.
-ghost use Rattle.std.specs.Prelude.{OnOk};
-ghost use Rattle.std.specs.FinMap.{entries};
+//! What may be asked of a coordinator: a commit of members, ascending, and a new transaction.
+ghost use Rattle.std.specs.Prelude.{◌≡◌, false, OnOk};
+ghost use Rattle.co_plain.specs.CoordView.{has_commit_of};
+ghost use Rattle.co_plain.specs.Invariants.{Memory};
 ghost use Rattle.co_plain.specs.declared.coord_state.CoordState.{CoordState};
-ghost use Rattle.co_coord.specs.Opening.{MayRestart};
+ghost use Rattle.co_law_node.specs.WholeCoords.{commits_of, EndsAlone};
 ghost use Rattle.co_coord.specs.Standing.{RepresentsCoord};
-ghost use Rattle.co_coord_rows.specs.Beside.{AreNamed, Fits, AllFit};
+ghost use Rattle.co_coord_rows.specs.Played.{AreNamed, MayName};
 
 use crate::fault::RowFault;
+use co_base::{Part, Txn};
 use co_coord::Coord;
-use co_plain::{Entry, members_of};
+use co_plain::members_of;
 use co_recover::recover_coord;
-use co_state::Table;
 use std::alloc::Global;
 
 /// How many members the federation has.
@@ -28,35 +29,22 @@ fn need_members(members: &[u8]) -> Result<(), RowFault>
     }
 }
 
-/// Refuses an entry whose commit record could not be written.
-fn need_fit(alloc: Global, entry: &Entry) -> Result<(), RowFault>
-    ensures { OnOk result (Fits entry.now) }
+/// Refuses participants that a commit may not name.
+pub fn need_named(alloc: Global, parts: &[Part]) -> Result<(), RowFault>
+    ensures { OnOk result (MayName parts.now) }
 {
-    match entry {
-        Entry::Idle => Ok(()),
-        Entry::Collecting { parts, yeses: _ } => {
-            let members = members_of(alloc, parts.as_slice())?;
-            need_members(&members)
-        }
-        Entry::Committed { members, acks: _ } => need_members(members.as_slice()),
-    }
+    let members = members_of(alloc, parts)?;
+    need_members(&members)
 }
 
-/// Refuses a table with an entry whose commit record could not be written.
-pub fn need_all_fit(alloc: Global, table: &Table<Entry>) -> Result<(), RowFault>
-    ensures { OnOk result (AllFit (entries table.now)) }
-{
-    for (_, entry) in table.iter() {
-        need_fit(alloc, entry)?;
-    }
-    Ok(())
-}
-
-/// Refuses a coordinator whose log is not allowed.
-pub fn need_allowed(alloc: Global, coord: &Coord) -> Result<(), RowFault>
+/// Refuses a transaction that the log has committed.
+pub fn need_new(alloc: Global, coord: &Coord, t: Txn) -> Result<(), RowFault>
     requires { (y : CoordState) × RepresentsCoord coord.now y }
-    ensures { (y : CoordState) → RepresentsCoord coord.now y → OnOk result (MayRestart 3 y) }
+    ensures { (y : CoordState) → RepresentsCoord coord.now y → EndsAlone y.log.waiting → OnOk result (has_commit_of (commits_of Memory y) t ≡ false) }
 {
-    let _past = recover_coord(alloc, coord.log().views(), MEMBERS)?;
+    let past = recover_coord(alloc, coord.log().views(), MEMBERS)?;
+    if past.seen.as_slice().contains(&t) {
+        return Err(RowFault::Unfit);
+    }
     Ok(())
 }

@@ -1,34 +1,22 @@
 //! Events of the coordinator.
-ghost use Rattle.std.specs.Prelude.{◌≡◌, true, IfOk};
+ghost use Rattle.std.specs.Prelude.{◌≡◌, true, OnOk};
 ghost use Rattle.co_coord.specs.Standing.{is_up};
-ghost use Rattle.co_coord_rows.specs.Beside.{IsBeside};
+ghost use Rattle.co_coord_rows.specs.Played.{IsPlayed};
 
-use crate::calls::{COORD, abort, arm, begin, resend, timer};
+use crate::calls::{COORD, abort, arm, begin, checkpoint, commit, crash, deliver, restart, timer};
 use crate::fault::RowFault;
-use crate::played::{Played, answered};
-use crate::writes::{checkpoint, commit, crash, deliver, restart};
-use co_base::{Leaves, Node, Part};
-use co_coord::Coord;
-use co_message::{Answer, Event};
+use co_base::{Marks, Node, Part};
+use co_coord::{Coord, CoordStep};
+use co_message::{Answer, Event, Messages};
 use co_outside::HomeMemory;
-use co_plain::CoordState;
 use std::alloc::Global;
 
-/// Arms a stop whose call is one of a log write.
-fn arms(
-    alloc: Global,
-    coord: &mut Coord,
-    plain: CoordState,
-    call: u8,
-    leaves: &Leaves,
-) -> Result<Played, RowFault>
-    requires up { is_up coord.old ≡ true }
-    ensures { (home : HomeMemory) → IsBeside home coord.old plain → IfOk result (λ p. IsBeside home coord.new p.plain) }
-{
-    if 1 <= call && call <= 4 {
-        arm(alloc, coord, plain, call, leaves)
-    } else {
-        Err(RowFault::Word)
+/// An answer alone.
+pub fn answered(alloc: Global, answer: Answer) -> CoordStep {
+    CoordStep {
+        answer,
+        sent: Messages::new(alloc),
+        marks: Marks::new(alloc),
     }
 }
 
@@ -37,51 +25,47 @@ fn happen_up(
     alloc: Global,
     home: &mut HomeMemory,
     coord: &mut Coord,
-    plain: CoordState,
     parts: &[Part],
     event: &Event,
-) -> Result<Played, RowFault>
+) -> Result<CoordStep, RowFault>
     requires up { is_up coord.old ≡ true }
-    requires beside { IsBeside home.old coord.old plain }
-    ensures { IfOk result (λ p. IsBeside home.new coord.new p.plain) }
+    requires played { IsPlayed home.old coord.old }
+    ensures { OnOk result (IsPlayed home.new coord.new) }
 {
     match event {
-        Event::Begin { txn, coord: _ } => begin(alloc, coord, plain, *txn),
-        Event::Commit { txn } => commit(alloc, home, coord, plain, *txn, parts),
-        Event::Abort { txn } => abort(alloc, coord, plain, *txn, parts),
-        Event::Deliver(message) => deliver(alloc, home, coord, plain, message),
-        Event::Timer { txn, node: _ } => timer(alloc, coord, plain, *txn),
-        Event::Resend { txn, coord: _ } => resend(alloc, coord, plain, *txn),
-        Event::Crash(_) => crash(alloc, home, coord, plain),
+        Event::Begin { txn, coord: _ } => begin(alloc, home, coord, *txn),
+        Event::Commit { txn } => commit(alloc, home, coord, *txn, parts),
+        Event::Abort { txn } => abort(home, coord, *txn, parts),
+        Event::Deliver(message) => deliver(home, coord, message),
+        Event::Timer { txn, node: _ } => timer(home, coord, *txn),
+        Event::Resend { txn, coord: _ } => Ok(coord.resend(*txn)?),
+        Event::Crash(_) => crash(home, coord),
         Event::Arm {
             node: _,
             call,
             leaves,
-        } => arms(alloc, coord, plain, *call, leaves),
-        Event::Checkpoint(_) => checkpoint(alloc, home, coord, plain),
+        } => arm(alloc, home, coord, *call, leaves),
+        Event::Checkpoint(_) => checkpoint(home, coord),
         _ => Err(RowFault::Word),
     }
 }
 
-/// Lets an event happen at the coordinator, and at the plain one. One that is down is only restarted.
+/// Lets an event happen at the coordinator. One that is down is only restarted.
 pub fn happen(
     alloc: Global,
     home: &mut HomeMemory,
     coord: &mut Coord,
-    plain: CoordState,
     parts: &[Part],
     event: &Event,
-) -> Result<Played, RowFault>
-    requires beside { IsBeside home.old coord.old plain }
-    ensures { IfOk result (λ p. IsBeside home.new coord.new p.plain) }
+) -> Result<CoordStep, RowFault>
+    requires { IsPlayed home.old coord.old }
+    ensures { OnOk result (IsPlayed home.new coord.new) }
 {
     if matches!(event, Event::Restart(_)) {
-        return restart(alloc, home, coord, plain);
+        return restart(home, coord);
     }
     if !coord.up() {
-        let told = answered(alloc, Answer::Down(Node::Coord(COORD)));
-        let same = !plain.up;
-        return Ok(Played { plain, told, same });
+        return Ok(answered(alloc, Answer::Down(Node::Coord(COORD))));
     }
-    happen_up(alloc, home, coord, plain, parts, event)
+    happen_up(alloc, home, coord, parts, event)
 }

@@ -1,66 +1,59 @@
 //! Many open transactions, beside which others are carried to their end.
-ghost use Rattle.std.specs.Prelude.{◌≡◌, true, OnOk};
-ghost use Rattle.co_coord.specs.Standing.{is_up};
-ghost use Rattle.co_coord_rows.specs.Beside.{IsLoaded};
+ghost use Rattle.std.specs.Prelude.{OnOk};
+ghost use Rattle.co_coord_rows.specs.Played.{IsPlayed};
 
 use crate::calls::COORD;
 use crate::fault::RowFault;
-use crate::fits::need_all_fit;
+use crate::happening::happen;
 use crate::opened::opened;
 use co_base::{Part, Txn};
 use co_coord::Coord;
-use co_message::{Answer, Message};
+use co_message::{Answer, Event, Message};
 use co_outside::HomeMemory;
 use std::alloc::Global;
 
-/// Refuses a coordinator that is down.
-fn still_up(coord: &Coord) -> Result<(), RowFault>
-    ensures { OnOk result (is_up coord.now ≡ true) }
-{
-    if coord.up() {
-        Ok(())
-    } else {
-        Err(RowFault::Unfit)
-    }
-}
+/// The participants of each transaction.
+const PARTS: [Part; 2] = [
+    Part {
+        member: 1,
+        count: 1,
+    },
+    Part {
+        member: 2,
+        count: 1,
+    },
+];
 
 /// A transaction is begun.
-fn begin(home: &HomeMemory, coord: &mut Coord, t: Txn) -> Result<(), RowFault>
-    requires { IsLoaded home.now coord.old }
-    ensures { OnOk result (IsLoaded home.now coord.new) }
+fn begin(alloc: Global, home: &mut HomeMemory, coord: &mut Coord, txn: Txn) -> Result<(), RowFault>
+    requires { IsPlayed home.old coord.old }
+    ensures { OnOk result (IsPlayed home.new coord.new) }
 {
-    let _step = coord.begin(t)?;
-    still_up(coord)?;
+    let event = Event::Begin { txn, coord: COORD };
+    let _step = happen(alloc, home, coord, &PARTS, &event)?;
     Ok(())
 }
 
-/// Its commit is asked, of two participants.
-fn ask(home: &mut HomeMemory, coord: &mut Coord, t: Txn) -> Result<(), RowFault>
-    requires { IsLoaded home.old coord.old }
-    ensures { OnOk result (IsLoaded home.new coord.new) }
+/// Its commit is asked.
+fn ask(alloc: Global, home: &mut HomeMemory, coord: &mut Coord, txn: Txn) -> Result<(), RowFault>
+    requires { IsPlayed home.old coord.old }
+    ensures { OnOk result (IsPlayed home.new coord.new) }
 {
-    let parts = [
-        Part {
-            member: 1,
-            count: 1,
-        },
-        Part {
-            member: 2,
-            count: 1,
-        },
-    ];
-    let _step = coord.commit(home, t, &parts)?;
-    still_up(coord)?;
+    let _step = happen(alloc, home, coord, &PARTS, &Event::Commit { txn })?;
     Ok(())
 }
 
 /// A message comes. Whether its transaction ended is told.
-fn bring(home: &mut HomeMemory, coord: &mut Coord, message: Message) -> Result<bool, RowFault>
-    requires { IsLoaded home.old coord.old }
-    ensures { OnOk result (IsLoaded home.new coord.new) }
+fn bring(
+    alloc: Global,
+    home: &mut HomeMemory,
+    coord: &mut Coord,
+    message: Message,
+) -> Result<bool, RowFault>
+    requires { IsPlayed home.old coord.old }
+    ensures { OnOk result (IsPlayed home.new coord.new) }
 {
-    let step = coord.deliver(home, &message)?;
-    still_up(coord)?;
+    let step = happen(alloc, home, coord, &PARTS, &Event::Deliver(message))?;
     Ok(matches!(step.answer, Answer::Ended))
 }
 
@@ -83,53 +76,48 @@ fn ack(txn: Txn, member: u8) -> Message {
     }
 }
 
-/// A transaction is begun, and its commit is asked.
-fn open(home: &mut HomeMemory, coord: &mut Coord, t: Txn) -> Result<(), RowFault>
-    requires { IsLoaded home.old coord.old }
-    ensures { OnOk result (IsLoaded home.new coord.new) }
+/// A transaction is carried from its commit to its end, in five events. Whether it ended is told.
+fn carry(alloc: Global, home: &mut HomeMemory, coord: &mut Coord, t: Txn) -> Result<bool, RowFault>
+    requires { IsPlayed home.old coord.old }
+    ensures { OnOk result (IsPlayed home.new coord.new) }
 {
-    begin(home, coord, t)?;
-    ask(home, coord, t)
+    ask(alloc, home, coord, t)?;
+    let _ = bring(alloc, home, coord, yes(t, 1))?;
+    let _ = bring(alloc, home, coord, yes(t, 2))?;
+    let _ = bring(alloc, home, coord, ack(t, 1))?;
+    bring(alloc, home, coord, ack(t, 2))
 }
 
-/// A transaction is carried from its begin to its end, in six events. Whether it ended is told.
-fn carry(home: &mut HomeMemory, coord: &mut Coord, t: Txn) -> Result<bool, RowFault>
-    requires { IsLoaded home.old coord.old }
-    ensures { OnOk result (IsLoaded home.new coord.new) }
-{
-    open(home, coord, t)?;
-    let _ = bring(home, coord, yes(t, 1))?;
-    let _ = bring(home, coord, yes(t, 2))?;
-    let _ = bring(home, coord, ack(t, 1))?;
-    bring(home, coord, ack(t, 2))
-}
-
-/// Opens so many transactions, and carries so many others to their end beside them: how many ended.
-fn ended_beside(
+/// Carries transactions to their end: how many ended.
+fn carry_all(
+    alloc: Global,
     home: &mut HomeMemory,
     coord: &mut Coord,
-    count: u32,
-    rounds: u32,
+    first: u32,
+    end: u32,
 ) -> Result<u32, RowFault>
-    requires { IsLoaded home.old coord.old }
+    requires { IsPlayed home.old coord.old }
 {
-    for t in 0..count {
-        open(home, coord, Txn(t))?;
-    }
     let mut ended: u32 = 0;
-    for t in 0..rounds {
-        if carry(home, coord, Txn(count.saturating_add(t)))? {
+    for t in first..end {
+        if carry(alloc, home, coord, Txn(t))? {
             ended = ended.saturating_add(1);
         }
     }
     Ok(ended)
 }
 
-/// As many transactions as this are opened in a directory of their own, and as many others are carried to their end: how many ended.
+/// Transactions are begun in a directory of their own. So many of them are asked for their commit and stay open, and so many others are carried
+/// to their end beside them: how many ended. All are begun first, since each begin looks through the log.
 pub fn load(alloc: Global, count: u32, rounds: u32) -> Result<u32, RowFault> {
     let mut home = HomeMemory::new(alloc, Vec::new(alloc));
-    let (mut coord, plain) = opened(alloc, &mut home)?;
-    need_all_fit(alloc, &plain.table)?;
-    still_up(&coord)?;
-    ended_beside(&mut home, &mut coord, count, rounds)
+    let mut coord = opened(alloc, &mut home)?;
+    let end = count.saturating_add(rounds);
+    for t in 0..end {
+        begin(alloc, &mut home, &mut coord, Txn(t))?;
+    }
+    for t in 0..count {
+        ask(alloc, &mut home, &mut coord, Txn(t))?;
+    }
+    carry_all(alloc, &mut home, &mut coord, count, end)
 }

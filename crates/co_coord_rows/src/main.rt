@@ -5,10 +5,7 @@
 //! transcript. Only the coordinator is played: an operation makes its member a participant of its transaction, and what else is done at
 //! members comes to nothing. A message is brought whether it was sent or not.
 //!
-//! Other rows are `file a` and `file b` for the digits of a file of the coordinator, `random SEED COUNT` for so many random events, with
-//! how often the answers came, and `load COUNT ROUNDS`.
-//!
-//! Each event is played on the plain coordinator of the definitions too, and a block ends with whether it told the same.
+//! Other rows are `file a` and `file b` for the digits of a file of the coordinator, and `load COUNT ROUNDS`.
 //!
 //! The stored input has the worked rows, and the stored output what is to come of them.
 #![tactic(auto)]
@@ -20,12 +17,9 @@ mod fits;
 mod happening;
 mod load;
 mod opened;
-mod played;
-mod random;
 mod rows;
 mod session;
 mod texts;
-mod writes;
 
 use crate::blocks::put_block;
 use crate::fault::RowFault;

@@ -1,5 +1,6 @@
 //! The transactions that were begun, with their participants.
 use co_base::{Part, Parts, Txn};
+use co_message::Event;
 use co_state::Table;
 use std::alloc::{AllocError, Global};
 
@@ -40,9 +41,17 @@ pub fn operate(
 }
 
 /// The participants of a transaction; none of one that was not begun.
-pub fn parts_of(alloc: Global, sessions: &Sessions, t: Txn) -> Result<Vec<Part>, AllocError> {
+fn parts_of(alloc: Global, sessions: &Sessions, t: Txn) -> Result<Vec<Part>, AllocError> {
     match sessions.get(t) {
         Some(parts) => Vec::from_slice(alloc, parts.as_slice()),
         None => Ok(Vec::new(alloc)),
+    }
+}
+
+/// The participants of the transaction of a commit or an abort.
+pub fn asked(alloc: Global, sessions: &Sessions, event: &Event) -> Result<Vec<Part>, AllocError> {
+    match event {
+        Event::Commit { txn } | Event::Abort { txn } => parts_of(alloc, sessions, *txn),
+        _ => Ok(Vec::new(alloc)),
     }
 }

@@ -1,5 +1,4 @@
 //! What events came to, as items of a transcript, and files as digits.
-use crate::random::Counts;
 use co_base::Node;
 use co_coord::CoordStep;
 use co_message::{Item, ItemKind};
@@ -49,25 +48,6 @@ pub fn put_file(
     let node = Node::Coord(1).byte();
     let digits = hex::encode(alloc, home.bytes(Spot { node, part }))?;
     put_line(digits.as_bytes(), out)
-}
-
-/// Appends how often each answer came in random events.
-pub fn put_counts(alloc: Global, counts: Counts, out: &mut Vec<u8>) -> Result<(), AllocError> {
-    let Counts {
-        begun,
-        committed,
-        ended,
-        stopped,
-        up,
-        filled,
-        differs,
-    } = counts;
-    let first = format!(in alloc; "begun {begun}, committed {committed}, ended {ended}, ")?;
-    out.extend_from_slice(first.as_bytes())?;
-    let second = format!(in alloc;
-        "stopped {stopped}, up {up}, filled {filled}, differs {differs}"
-    )?;
-    put_line(second.as_bytes(), out)
 }
 
 /// Appends how many transactions ended beside open ones.

@@ -1,23 +1,21 @@
 //! The directory of logs over std's files.
-ghost use Rattle.std.specs.Prelude.{◌≡◌, ◌≤◌, ◌^◌, None, option_map, string_bytes, IsErrOf};
+ghost use Rattle.std.specs.Prelude.{◌≡◌, ◌≤◌, ◌^◌, None, Ok, option_map, string_bytes, IfOk, IsErrOf};
 
-use crate::folder;
+use crate::folder::Folder;
 use co_outside::{Home, HomeFault, Spot};
 use std::alloc::Global;
-use std::fmt::Write;
 use std::io::{self, ErrorKind};
-
-/// The most bytes of a file's name behind the directory's, with the slash before it.
-const NAME_ROOM: usize = 8;
 
 /// A directory of real files. It tells nothing of what they hold.
 ///
-/// Before a directory is entered every call fails.
+/// `enter` makes the directory and its missing parents, syncs it and its parent whatever existed before, and locks it against every other home until
+/// another one is entered or this home is dropped. A log file is opened at its first use and kept open: it is then synced before its first bytes are given,
+/// since an earlier process may have left it unsynced. A file that is no plain file, that has gone or was replaced while it was open, or that is the file of another
+/// spot too, is a fault; so is a write that would leave a gap. Before a directory is entered every call fails.
 #[derive(Drop)]
 pub struct HomeStd {
     rt: HostRuntime,
-    entered: Option<String>,
-    path: String,
+    folder: Option<Folder>,
     last_failed: Spot,
     faults: u64,
 }
@@ -28,15 +26,13 @@ impl HomeStd {
 
     /// No directory is entered yet, and no call has failed. Takes no memory.
     pub fn new(rt: HostRuntime) -> HomeStd
-        ensures entered { result.entered ≡ None }
+        ensures folder { result.folder ≡ None }
         ensures faults { result.faults ≡ 0 }
         ensures last_failed { result.last_failed ≡ record { node = 1; part = 0 } }
     {
-        let path = String::new(rt.alloc());
         HomeStd {
             rt,
-            entered: None,
-            path,
+            folder: None,
             last_failed: Spot::FIRST,
             faults: 0,
         }
@@ -48,7 +44,7 @@ impl HomeStd {
         ensures risen { HasRisen self.old.faults self.new.faults }
         ensures count { self.old.faults ≤ self.new.faults }
         ensures named { self.new.last_failed ≡ spot }
-        ensures entered { self.new.entered ≡ self.old.entered }
+        ensures folder { self.new.folder ≡ self.old.folder }
     {
         self.faults = self.faults.saturating_add(1);
         self.last_failed = spot;
@@ -57,8 +53,9 @@ impl HomeStd {
 
     /// The answer of a call that may want memory.
     fn answer<T: Drop>(&mut self, spot: Spot, done: io::Result<T>) -> Result<T, HomeFault>
+        ensures value { IfOk result (λ v. done ≡ Ok v) }
         ensures counted { IsCounted (λ h. h.faults) (λ h. h.last_failed) spot self.old self.new result }
-        ensures entered { self.new.entered ≡ self.old.entered }
+        ensures folder { self.new.folder ≡ self.old.folder }
     {
         match done {
             Ok(value) => Ok(value),
@@ -71,24 +68,13 @@ impl HomeStd {
     fn answer_without_memory(&mut self, spot: Spot, done: io::Result<()>) -> Result<(), HomeFault>
         ensures counted { IsCounted (λ h. h.faults) (λ h. h.last_failed) spot self.old self.new result }
         ensures memory { IsErrOf result HomeFault.Memory → ⊥ }
-        ensures entered { self.new.entered ≡ self.old.entered }
+        ensures folder { self.new.folder ≡ self.old.folder }
     {
         match done {
             Ok(()) => Ok(()),
             Err(_) => Err(self.fail(spot)),
         }
     }
-}
-
-/// Spells the path of a file, in room that was taken when the directory was entered.
-fn spell(path: &mut String, entered: &Option<String>, spot: Spot) -> io::Result<()> {
-    let Some(dir) = entered else {
-        return Err(ErrorKind::Unsupported.into());
-    };
-    path.clear();
-    path.push_str(dir.as_str())?;
-    write!(path, "/{spot}")?;
-    Ok(())
 }
 
 impl Home for HomeStd {
@@ -100,7 +86,7 @@ impl Home for HomeStd {
 
     ghost gives = { λ _ _ _ _. Unit {0} };
 
-    ghost entered = { λ h. option_map string_bytes h.entered };
+    ghost entered = { λ h. option_map (λ f. string_bytes f.name) h.folder };
 
     ghost last_failed = { λ h. h.last_failed };
 
@@ -113,22 +99,18 @@ impl Home for HomeStd {
     ghost told_reach = { λ h s f told. absurd (none_is_no_file f told) };
 
     fn enter(&mut self, alloc: Global, dir: &str) -> Result<(), HomeFault> {
-        let made = folder::make_directory(&self.rt, dir);
-        self.answer(Spot::FIRST, made)?;
-        let entered = String::from_str(alloc, dir)?;
-        self.path = String::with_capacity(alloc, dir.len().saturating_add(NAME_ROOM))?;
-        self.entered = Some(entered);
+        let done = Folder::enter(&self.rt, alloc, dir, &self.folder);
+        let folder = self.answer(Spot::FIRST, done)?;
+        self.folder = Some(folder);
         Ok(())
     }
 
     fn read_all(&mut self, alloc: Global, spot: Spot, most: u32) -> Result<Vec<u8>, HomeFault> {
-        let done = match spell(&mut self.path, &self.entered, spot) {
-            Ok(()) => folder::read(&self.rt, alloc, self.path.as_str(), most),
-            Err(e) => Err(e),
+        let Some(folder) = &mut self.folder else {
+            return Err(self.fail(spot));
         };
-        let mut bytes = self.answer(spot, done)?;
-        bytes.truncate(most as usize);
-        Ok(bytes)
+        let done = folder.read(&self.rt, alloc, spot, most);
+        self.answer(spot, done)
     }
 
     fn write_at(
@@ -138,26 +120,26 @@ impl Home for HomeStd {
         at: u32,
         piece: &[u8],
     ) -> Result<(), HomeFault> {
-        let done = match spell(&mut self.path, &self.entered, spot) {
-            Ok(()) => folder::write(&self.rt, self.path.as_str(), at, piece),
-            Err(e) => Err(e),
+        let Some(folder) = &mut self.folder else {
+            return Err(self.fail(spot));
         };
+        let done = folder.write(&self.rt, spot, at, piece);
         self.answer_without_memory(spot, done)
     }
 
     fn set_len(&mut self, spot: Spot, len: u32) -> Result<(), HomeFault> {
-        let done = match spell(&mut self.path, &self.entered, spot) {
-            Ok(()) => folder::cut(&self.rt, self.path.as_str(), len),
-            Err(e) => Err(e),
+        let Some(folder) = &mut self.folder else {
+            return Err(self.fail(spot));
         };
+        let done = folder.cut(&self.rt, spot, len);
         self.answer_without_memory(spot, done)
     }
 
     fn sync(&mut self, spot: Spot) -> Result<(), HomeFault> {
-        let done = match spell(&mut self.path, &self.entered, spot) {
-            Ok(()) => folder::sync(&self.rt, self.path.as_str()),
-            Err(e) => Err(e),
+        let Some(folder) = &mut self.folder else {
+            return Err(self.fail(spot));
         };
+        let done = folder.sync(&self.rt, spot);
         self.answer_without_memory(spot, done)
     }
 }

@@ -4,7 +4,9 @@
 //! edge where trust in the operating system begins.
 #![tactic(auto)]
 
+mod directory;
 mod folder;
 mod home_std;
+mod log_file;
 
 pub use home_std::HomeStd;

@@ -1,10 +1,12 @@
 use Rattle.co_plain.specs.Coordinator.{coord_begin}
-use Rattle.co_coord_rows.proofs.Keeping.{stays_quiet, same_state}
+use Rattle.co_coord_rows.proofs.Events.{whole_laws, writable_laws, plain_up, played_quietly}
 use Rattle.co_coord_rows.proofs.calls.begin.Goals as goal
 
 pub returns : goal.returns
-returns c = λ home b.
+returns c =
     let x = c.args.coord.now in
-    let step = coord_begin c.args.plain c.args.t in
-    stays_quiet home x c.begin.new.self c.args.plain c.compared.result.plain step c.in_ok-step.step b c.begin.ensures.same c.begin.ensures.log (c.in_ok-step.ensures.did c.args.plain b.stands)
-    (same_state step c.in_ok-plainly.plainly c.compared.result.plain c.compared.ensures c.in_ok-plainly.ensures)
+    let p = c.requires.played in
+    let up = plain_up c.args.home.now x p c.requires.up in
+    let new = c.in_ok-need_new.ensures p.plain p.stands p.whole.waiting in
+    played_quietly c.args.home.now x p c.begin.new.self (coord_begin p.plain c.args.t) c.in_ok-begin.field-0 c.begin.ensures.same c.begin.ensures.log (c.in_ok-begin.ensures.did p.plain p.stands)
+    ((whole_laws c.args.home.now x p).begin c.args.t up new) ((writable_laws c.args.home.now x p).begin c.args.t up new)

@@ -1,13 +1,11 @@
-use Rattle.std.proofs.Common.{ℕ, subst}
 use Rattle.co_plain.specs.Coordinator.{coord_timer}
-use Rattle.co_coord.specs.Standing.{HasDone}
-use Rattle.co_coord_rows.proofs.Keeping.{stays_quiet, same_state}
+use Rattle.co_coord_rows.proofs.Events.{whole_laws, writable_laws, plain_up, played_quietly}
 use Rattle.co_coord_rows.proofs.calls.timer.Goals as goal
 
 pub returns : goal.returns
-returns c = λ home b.
+returns c =
     let x = c.args.coord.now in
-    let step = coord_timer 1 c.args.plain c.args.t in
-    let done = subst (λ (n : ℕ). HasDone (coord_timer n c.args.plain c.args.t) c.in_ok-step.step c.timer.new.self) b.number (c.in_ok-step.ensures.did c.args.plain b.stands) in
-    stays_quiet home x c.timer.new.self c.args.plain c.compared.result.plain step c.in_ok-step.step b c.timer.ensures.same c.timer.ensures.log done
-    (same_state step c.in_ok-plainly.plainly c.compared.result.plain c.compared.ensures c.in_ok-plainly.ensures)
+    let p = c.requires.played in
+    let up = plain_up c.args.home.now x p c.requires.up in
+    played_quietly c.args.home.now x p c.timer.new.self (coord_timer x.number p.plain c.args.t) c.in_ok-timer.field-0 c.timer.ensures.same c.timer.ensures.log (c.in_ok-timer.ensures.did p.plain p.stands)
+    ((whole_laws c.args.home.now x p).timer c.args.t up) ((writable_laws c.args.home.now x p).timer c.args.t up)

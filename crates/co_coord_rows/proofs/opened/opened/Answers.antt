@@ -1,20 +1,29 @@
-use Rattle.std.proofs.Common.{[], sym, subst}
+use Rattle.std.proofs.Common.{ℕ, [], refl, sym, subst, arith}
 use Rattle.co_base.specs.declared.node.Node.TheVariants as node
 use Rattle.co_log.specs.LogView.{LogView}
-use Rattle.co_plain.specs.Opening.{opened_log}
-use Rattle.co_coord.specs.Standing.{RepresentsCoord}
-use Rattle.co_coord_rows.specs.Beside.{IsHeldIn}
+use Rattle.co_record.specs.Format.{most_coordinators}
+use Rattle.co_plain.specs.Opening.{Found, opened_coord, opened_log}
+use Rattle.co_law_node.proofs.CoordEvents.{whole_coord_opened}
+use Rattle.co_law_node.proofs.CoordLaws.{coord_as_told}
+use Rattle.co_law_node.proofs.WritableCoords.{opened_coord_writable}
+use Rattle.co_law_node.specs.WholeMembers.{IsAmong}
+use Rattle.co_law_node.specs.Writable.{IsWritableCoord}
+use Rattle.co_coord_rows.specs.Played.{IsHeldIn}
 use Rattle.co_coord_rows.proofs.Starting.{nothing_past}
 use Rattle.co_coord_rows.proofs.opened.opened.Goals as goal
 
 pub returns : goal.returns
 returns c =
     let m = c.in_ok-log.ensures in
-    let l = opened_log (node.Coord 1) (record { records = []; spare_closed = c.in_ok-log.spare_closed }) in
-    let stands = c.in_ok-coord.ensures.stands l m.stands (nothing_past c.new.result c.new-2.result c.new.ensures c.new-2.ensures) in
+    let found : Found = record { records = []; spare_closed = m.spare_closed } in
+    let own : IsAmong most_coordinators 1 = (omega arith, omega arith) in
+    let numbers = c.in_ok-attach.ensures.numbers in
     record {
-      number = c.in_ok-coord.ensures.numbers.0;
-      members = c.in_ok-coord.ensures.numbers.1;
-      held = subst (λ (v : LogView). IsHeldIn c.made.new.home v) (sym c.in_ok-coord.ensures.log) m.held;
-      stands = subst (RepresentsCoord c.in_ok-coord.coord) (sym c.in_ok-plain.ensures) stands;
+      members = numbers.1;
+      own = subst (IsAmong most_coordinators) (sym numbers.0) own;
+      held = subst (λ (v : LogView). IsHeldIn c.made.new.home v) (sym c.in_ok-attach.ensures.log) m.held;
+      plain = opened_coord 1 found;
+      stands = c.in_ok-attach.ensures.stands (opened_log (node.Coord 1) found) m.stands (nothing_past c.new.result c.new-2.result c.new.ensures c.new-2.ensures);
+      whole = coord_as_told 3 (opened_coord 1 found) (whole_coord_opened 3 1 found refl);
+      writable = subst (λ (n : ℕ). IsWritableCoord n (opened_coord 1 found)) (sym numbers.0) (opened_coord_writable 3 1 found (omega arith) own refl tt);
     }
