@@ -16,3 +16,9 @@ pub mod Leaving
 pub mod CoordLeaving
 pub mod Lefts
 pub mod LeftSteps
+pub mod Disarmed
+pub mod Readers
+pub mod Lacking
+pub mod Exchanging
+pub mod Walks
+pub mod OpenNodes
