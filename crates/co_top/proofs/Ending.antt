@@ -287,6 +287,38 @@ pub on_any : {A E : Type 0} (P : Type 0) (o : Result A E) → P → OnOk o P
 on_any P (Ok x) p = p
 on_any P (Err e) p = tt
 
+-- what follows from what is so where the answer is no error
+pub on_kept : {A E : Type 0} (P Q : Type 0) (o : Result A E) → (P → Q) → OnOk o P → OnOk o Q
+on_kept P Q (Ok x) leads p = leads p
+on_kept P Q (Err e) leads p = tt
+
+-- the error of an answer, and the same error of another one
+error_or : {A E : Type 0} → E → Result A E → E
+error_or none (Ok x) = none
+error_or none (Err e) = e
+
+pub same_error : {A B E : Type 0} (x y : E) (one : Result A E) (other : Result B E) → one ≡ Err y → one ≡ Err x → other ≡ Err x → other ≡ Err y
+unfolding error_or
+same_error x y one other is was also = also ∙ ap Err (ap (error_or x) (sym was ∙ is))
+
+-- where the status names no file at which the directory failed, it met no fault
+pub ended_quiet : (old new : HomeView) (o : Result (Unit {0}) Status) → HasEnded old new o → ((spot : Spot) → o ≡ Err (status.Device spot) → ⊥) → new.faults ≡ old.faults
+ended_quiet old new (Ok u) ended other = ended
+ended_quiet old new (Err status.Done) ended other = ended
+ended_quiet old new (Err status.Usage) ended other = ended
+ended_quiet old new (Err (status.Schedule line what)) ended other = ended
+ended_quiet old new (Err status.Read) ended other = ended
+ended_quiet old new (Err status.Write) ended other = ended
+ended_quiet old new (Err (status.Device spot)) ended other = absurd (other spot refl)
+ended_quiet old new (Err (status.Differs spot at kept read)) ended other = ended
+ended_quiet old new (Err (status.InUse spot)) ended other = ended
+ended_quiet old new (Err (status.BadLog spot at)) ended other = ended
+ended_quiet old new (Err (status.Limit what)) ended other = ended
+ended_quiet old new (Err status.Memory) ended other = ended
+ended_quiet old new (Err (status.OldLog spot)) ended other = ended
+ended_quiet old new (Err (status.NotSerial txn line)) ended other = ended
+ended_quiet old new (Err (status.Transcript line)) ended other = ended
+
 -- the directory failed in this call, where it met no fault before
 pub failed_as : (old new : HomeView) (before : ℕ) (o : Result (Unit {0}) Status) (spot : Spot) → old.faults ≡ before → HasEnded old new o → o ≡ Err (status.Device spot) → HasRisen before new.faults × (new.last_failed ≡ spot)
 failed_as old new before o spot same ended is =

@@ -42,6 +42,8 @@ pub(crate) fn check<S: Source, K: Sink>(alloc: Global, source: &mut S, out: &mut
     ensures own { IsOfCheck result }
     ensures read { result ≡ Status.Read → HasRisen (S.faults source.old) (S.faults source.new) }
     ensures write { result ≡ Status.Write → HasRisen (K.faults out.old) (K.faults out.new) }
+    ensures quiet_source { (result ≡ Status.Read → ⊥) → S.faults source.new ≡ S.faults source.old }
+    ensures quiet_sink { (result ≡ Status.Write → ⊥) → K.faults out.new ≡ K.faults out.old }
 {
     let written = write_check(alloc, source, out);
     status_of_check(written)

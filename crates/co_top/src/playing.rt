@@ -1,6 +1,8 @@
 //! The events of a schedule, one at a time: each is done, and then told.
-ghost use Rattle.std.specs.Prelude.{◌≡◌, ◌≤◌, ◌++◌, ◌∷◌, [], ℕ, Ok, Err, length, IfOk, IsErrOf};
+ghost use Rattle.std.specs.Prelude.{◌≡◌, ◌≤◌, ◌++◌, ◌∷◌, [], ℕ, Ok, Err, length, IfOk, IsErrOf, OnOk};
 ghost use Rattle.co_outside.specs.Faults.{HasRisen};
+ghost use Rattle.co_outside.specs.declared.spot.Spot.{Spot};
+ghost use Rattle.co_disk.specs.Homes.{IsClean};
 ghost use Rattle.co_node.specs.Answers.{seen};
 ghost use Rattle.co_plain.specs.Federation.{Federation};
 ghost use Rattle.co_schedule.specs.Lines.{ahead};
@@ -89,6 +91,7 @@ fn tell_event<E: Engine + Drop, K: Sink, H: Home>(
     ensures told { (s : Federation) → RepresentsWorld E.takes E.stands_for world.old s → IsReady s →
         IsToldOf E.takes E.stands_for s number event (K.told out.old) (K.told out.new) (seen H.file H.reach H.faults H.last_failed home.new) world.new result }
     ensures entered { H.entered home.new ≡ H.entered home.old }
+    ensures clean { OnOk result ((s : Spot) → IsClean (H.file home.old s) → IsClean (H.file home.new s)) }
     ensures ended { HasEnded (seen H.file H.reach H.faults H.last_failed home.old) (seen H.file H.reach H.faults H.last_failed home.new) result }
     ensures failed { IsErrOf result Status.Write → HasRisen (K.faults out.old) (K.faults out.new) }
     ensures quiet { (IsErrOf result Status.Write → ⊥) → K.faults out.new ≡ K.faults out.old }
@@ -115,9 +118,12 @@ pub(crate) fn replay_lines<E: Engine + Drop, S: Source, K: Sink, H: Home>(
     ensures over { (s0 : Federation) → RepresentsWorld E.takes E.stands_for world.old s0 → StaysReady head.now s0 →
         IsOver E.takes E.stands_for head.now s0 (ahead lines.old (S.left source.old)) (K.told out.old) (K.told out.new) (seen H.file H.reach H.faults H.last_failed home.new) world.new result }
     ensures entered { H.entered home.new ≡ H.entered home.old }
+    ensures clean { OnOk result ((s : Spot) → IsClean (H.file home.old s) → IsClean (H.file home.new s)) }
     ensures ended { HasEnded (seen H.file H.reach H.faults H.last_failed home.old) (seen H.file H.reach H.faults H.last_failed home.new) result }
     ensures failed { IsErrOf result Status.Write → HasRisen (K.faults out.old) (K.faults out.new) }
     ensures read { IsErrOf result Status.Read → HasRisen (S.faults source.old) (S.faults source.new) }
+    ensures quiet_source { (IsErrOf result Status.Read → ⊥) → S.faults source.new ≡ S.faults source.old }
+    ensures quiet_sink { (IsErrOf result Status.Write → ⊥) → K.faults out.new ≡ K.faults out.old }
 {
     for number in 2..LINES + 2 {
         match event_of(alloc, lines, source, head, number)? {

@@ -35,6 +35,8 @@ pub(crate) fn records<K: Sink, H: Home>(
     ensures durable { (held : List ℕ) → K.told out.old ≡ Some held → HoldsRecords (H.file home.old) held (K.told out.new) result }
     ensures write { result ≡ Status.Write → HasRisen (K.faults out.old) (K.faults out.new) }
     ensures device { (spot : Spot) → result ≡ Status.Device spot → HasFailed H.faults H.last_failed spot home.old home.new }
+    ensures quiet_sink { (result ≡ Status.Write → ⊥) → K.faults out.new ≡ K.faults out.old }
+    ensures quiet_home { ((spot : Spot) → result ≡ Status.Device spot → ⊥) → H.faults home.new ≡ H.faults home.old }
     ensures files { (s : Spot) → H.file home.new s ≡ H.file home.old s }
     ensures entered { result ≡ Status.Done → H.entered home.new ≡ Some directory.now }
 {

@@ -2,7 +2,7 @@
 ghost use Rattle.std.specs.Prelude.{◌≡◌, ◌≤◌, ◌⊎◌, ◌++◌, ◌∷◌, [], ℕ, List, Some, IfOk, IfErr, IsErrOf, OnOk};
 ghost use Rattle.co_outside.specs.Faults.{HasRisen};
 ghost use Rattle.co_outside.specs.declared.spot.Spot.{Spot};
-ghost use Rattle.co_disk.specs.Homes.{HasFailed};
+ghost use Rattle.co_disk.specs.Homes.{HasFailed, IsClean};
 ghost use Rattle.co_base.specs.declared.head.Head.{Head};
 ghost use Rattle.co_base.specs.declared.head.Kind.{Kind};
 ghost use Rattle.co_message.specs.declared.item.ItemKind.TheVariants as item;
@@ -58,6 +58,7 @@ fn attach<E: Engine + Drop, H: Home>(
     requires kinds { (kind : Kind) → E.takes kind }
     ensures opened { IfOk result (λ r. IsAttachedOver E.takes E.stands_for (H.file home.old) head.now resume r.0 r.1) }
     ensures held { IfOk result (λ r. AreHeld (H.file home.new) (H.reach home.new) r.0) }
+    ensures clean { OnOk result ((s : Spot) → IsClean (H.file home.old s) → IsClean (H.file home.new s)) }
     ensures refused { IfErr result (IsUnopenedAs (H.file home.old) head.now resume) }
     ensures untouched { IfErr result (λ why. IsOfFiles why → (s : Spot) → H.file home.new s ≡ H.file home.old s) }
     ensures entered { H.entered home.new ≡ H.entered home.old }
@@ -81,6 +82,7 @@ fn open<E: Engine + Drop, H: Home>(
     requires kinds { (kind : Kind) → E.takes kind }
     ensures opened { IfOk result (λ r. IsAttachedOver E.takes E.stands_for (H.file home.old) head.now resume r.0 r.1) }
     ensures held { IfOk result (λ r. AreHeld (H.file home.new) (H.reach home.new) r.0) }
+    ensures clean { OnOk result ((s : Spot) → IsClean (H.file home.old s) → IsClean (H.file home.new s)) }
     ensures refused { IfErr result (IsUnopenedAs (H.file home.old) head.now resume) }
     ensures untouched { IfErr result (λ why. IsOfFiles why → (s : Spot) → H.file home.new s ≡ H.file home.old s) }
     ensures entered { OnOk result (H.entered home.new ≡ Some directory.now) }
@@ -160,6 +162,10 @@ fn replayed<E: Engine + Drop, S: Source, K: Sink, H: Home>(
     ensures read { IsErrOf result Status.Read → HasRisen (S.faults source.old) (S.faults source.new) }
     ensures write { IsErrOf result Status.Write → HasRisen (K.faults out.old) (K.faults out.new) }
     ensures device { (spot : Spot) → IsErrOf result (Status.Device spot) → HasFailed H.faults H.last_failed spot home.old home.new }
+    ensures quiet_source { (IsErrOf result Status.Read → ⊥) → S.faults source.new ≡ S.faults source.old }
+    ensures quiet_sink { (IsErrOf result Status.Write → ⊥) → K.faults out.new ≡ K.faults out.old }
+    ensures quiet_home { ((spot : Spot) → IsErrOf result (Status.Device spot) → ⊥) → H.faults home.new ≡ H.faults home.old }
+    ensures clean { OnOk result ((s : Spot) → IsClean (H.file home.old s) → IsClean (H.file home.new s)) }
 {
     let mut lines = Lines::new(alloc, LINE, LINES)?;
     let head = head_of(alloc, &mut lines, source)?;
@@ -185,6 +191,10 @@ pub(crate) fn replay<E: Engine + Drop, S: Source, K: Sink, H: Home>(
     ensures read { result ≡ Status.Read → HasRisen (S.faults source.old) (S.faults source.new) }
     ensures write { result ≡ Status.Write → HasRisen (K.faults out.old) (K.faults out.new) }
     ensures device { (spot : Spot) → result ≡ Status.Device spot → HasFailed H.faults H.last_failed spot home.old home.new }
+    ensures quiet_source { (result ≡ Status.Read → ⊥) → S.faults source.new ≡ S.faults source.old }
+    ensures quiet_sink { (result ≡ Status.Write → ⊥) → K.faults out.new ≡ K.faults out.old }
+    ensures quiet_home { ((spot : Spot) → result ≡ Status.Device spot → ⊥) → H.faults home.new ≡ H.faults home.old }
+    ensures clean { result ≡ Status.Done → (s : Spot) → IsClean (H.file home.old s) → IsClean (H.file home.new s) }
 {
     match replayed::<E, S, K, H>(alloc, directory, resume, source, out, home) {
         Ok(()) => Status::Done,

@@ -2,7 +2,7 @@
 ghost use Rattle.std.specs.Prelude.{◌≡◌, ◌↔◌, ℕ, List, Some, true, false};
 ghost use Rattle.co_outside.specs.declared.spot.Spot.{Spot};
 ghost use Rattle.co_outside.specs.Faults.{HasRisen};
-ghost use Rattle.co_disk.specs.Homes.{HasFailed};
+ghost use Rattle.co_disk.specs.Homes.{HasFailed, IsClean};
 ghost use Rattle.co_durable.specs.Told.{AreTold};
 ghost use Rattle.co_top.specs.Checking.{IsCheckEnd, IsExactCheck};
 ghost use Rattle.co_top.specs.Command.{is_run, is_records, is_check, is_command, resumes, directory_of};
@@ -59,6 +59,9 @@ pub fn run<S: Source, K: Sink, N: Sink, H: Home>(
     ensures read { result ≡ Status.Read → HasRisen (S.faults source.old) (S.faults source.new) }
     ensures write { result ≡ Status.Write → HasRisen (K.faults out.old) (K.faults out.new) }
     ensures device { (spot : Spot) → result ≡ Status.Device spot → HasFailed H.faults H.last_failed spot home.old home.new }
+    ensures quiet_source { (result ≡ Status.Read → ⊥) → S.faults source.new ≡ S.faults source.old }
+    ensures quiet_sink { (result ≡ Status.Write → ⊥) → K.faults out.new ≡ K.faults out.old }
+    ensures quiet_home { ((spot : Spot) → result ≡ Status.Device spot → ⊥) → H.faults home.new ≡ H.faults home.old }
     ensures run { (input held : List ℕ) → is_run words.now ≡ true → S.left source.old ≡ Some input → K.told out.old ≡ Some held →
         IsRunEnd (resumes words.now) input held (H.file home.old) (H.file home.new) (K.told out.new) result }
     ensures causes { is_records words.now ≡ true → HasCause (H.file home.old) result }
@@ -69,6 +72,7 @@ pub fn run<S: Source, K: Sink, N: Sink, H: Home>(
         IsCheckEnd input held (K.told out.new) result }
     ensures judged { (input held : List ℕ) → is_check words.now ≡ true → S.left source.old ≡ Some input → K.told out.old ≡ Some held → IsExactCheck input result }
     ensures kept { is_check words.now ≡ true → home.new ≡ home.old }
+    ensures clean { is_run words.now ≡ true → result ≡ Status.Done → (s : Spot) → IsClean (H.file home.old s) → IsClean (H.file home.new s) }
     ensures entered { is_check words.now ≡ false → result ≡ Status.Done → H.entered home.new ≡ Some (directory_of words.now) }
     ensures notes { (held : List ℕ) → N.told notes.old ≡ Some held → IsNoted held (note_of result) (N.told notes.new) }
 {
@@ -91,6 +95,9 @@ fn command<S: Source, K: Sink, H: Home>(
     ensures read { result ≡ Status.Read → HasRisen (S.faults source.old) (S.faults source.new) }
     ensures write { result ≡ Status.Write → HasRisen (K.faults out.old) (K.faults out.new) }
     ensures device { (spot : Spot) → result ≡ Status.Device spot → HasFailed H.faults H.last_failed spot home.old home.new }
+    ensures quiet_source { (result ≡ Status.Read → ⊥) → S.faults source.new ≡ S.faults source.old }
+    ensures quiet_sink { (result ≡ Status.Write → ⊥) → K.faults out.new ≡ K.faults out.old }
+    ensures quiet_home { ((spot : Spot) → result ≡ Status.Device spot → ⊥) → H.faults home.new ≡ H.faults home.old }
     ensures run { (input held : List ℕ) → is_run words.now ≡ true → S.left source.old ≡ Some input → K.told out.old ≡ Some held →
         IsRunEnd (resumes words.now) input held (H.file home.old) (H.file home.new) (K.told out.new) result }
     ensures causes { is_records words.now ≡ true → HasCause (H.file home.old) result }
@@ -99,6 +106,7 @@ fn command<S: Source, K: Sink, H: Home>(
     ensures checked { (input held : List ℕ) → is_check words.now ≡ true → S.left source.old ≡ Some input → K.told out.old ≡ Some held →
         IsCheckEnd input held (K.told out.new) result }
     ensures kept { is_check words.now ≡ true → home.new ≡ home.old }
+    ensures clean { is_run words.now ≡ true → result ≡ Status.Done → (s : Spot) → IsClean (H.file home.old s) → IsClean (H.file home.new s) }
     ensures entered { is_check words.now ≡ false → result ≡ Status.Done → H.entered home.new ≡ Some (directory_of words.now) }
 {
     match command_of(words) {

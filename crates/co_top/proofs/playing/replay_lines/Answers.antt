@@ -24,6 +24,7 @@ loop-number-init g c = (
   refl,
   refl,
   refl,
+  λ s clean. clean,
 )
 
 pub returns-in_err-event-clause-over : goal.returns-in_err-event-clause-over
@@ -92,4 +93,5 @@ loop-number-preserved g c = (
   c.in_ok-tell_event-in-Some.ensures.ended ∙ c.loop-number.invariant.2,
   c.in_ok-tell_event-in-Some.ensures.quiet (λ z. let e : Ok tt ≡ Err status.Write = z in cc) ∙ c.loop-number.invariant.3,
   c.in_ok-event.ensures.quiet (λ z. let e : Ok c.in_ok-event.field-0 ≡ Err status.Read = z in cc) ∙ c.loop-number.invariant.4,
+  λ s clean. c.in_ok-tell_event-in-Some.ensures.clean s (c.loop-number.invariant.5 s clean),
 )

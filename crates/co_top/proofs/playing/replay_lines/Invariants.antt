@@ -1,5 +1,7 @@
 use Rattle.std.proofs.Common.{◌≡◌}
+use Rattle.co_disk.specs.Homes.{IsClean}
 use Rattle.co_node.specs.Answers.{seen}
+use Rattle.co_outside.specs.declared.spot.Spot.{Spot}
 use Rattle.co_plain.specs.Federation.{Federation}
 use Rattle.co_schedule.specs.Lines.{ahead}
 use Rattle.co_world.specs.Standing.{RepresentsWorld}
@@ -16,3 +18,4 @@ invariant-loop-number g l =
     × (g.H.Home.faults l.home ≡ g.H.Home.faults l.fn.home)
     × (g.K.Sink.faults l.out ≡ g.K.Sink.faults l.fn.out)
     × (g.S.Source.faults l.source ≡ g.S.Source.faults l.fn.source)
+    × ((s : Spot) → IsClean (g.H.Home.file l.fn.home s) → IsClean (g.H.Home.file l.home s))

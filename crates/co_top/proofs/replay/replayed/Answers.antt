@@ -1,4 +1,4 @@
-use Rattle.std.proofs.Common.{◌≡◌, ◌∙◌, ◌++◌, List, ℕ, Option, Some, Err, Result, sym, ap, subst, option_map}
+use Rattle.std.proofs.Common.{◌≡◌, ◌∙◌, ◌++◌, List, ℕ, Option, Some, Err, Result, refl, sym, ap, subst, option_map}
 use Rattle.std.specs.Prelude.{IfErr}
 use Rattle.co_message.specs.declared.item.Item.{Item}
 use Rattle.co_node.specs.Answers.{seen}
@@ -10,7 +10,7 @@ use Rattle.co_top.specs.Ran.{IsRunEnd}
 use Rattle.co_top.specs.Replayed.{status_of, opening_text, IsOpeningTold}
 use Rattle.co_top.specs.declared.status.Status.{Status}
 use Rattle.co_top.specs.declared.status.Status.TheVariants as status
-use Rattle.co_top.proofs.Ending.{over, unopened, opening_over, opening_ends, over_ends, on_any, failed_as}
+use Rattle.co_top.proofs.Ending.{over, unopened, opening_over, opening_ends, over_ends, on_any, on_kept, same_error, ended_quiet, failed_as}
 use Rattle.co_top.proofs.Laws.{ready}
 use Rattle.co_top.proofs.Plays.{err_is, not_err}
 use Rattle.co_top.proofs.replay.replayed.Goals as goal
@@ -89,3 +89,22 @@ returns-clause-device g c = λ spot h.
     failed_as (seen g.H.Home.file g.H.Home.reach g.H.Home.faults g.H.Home.last_failed c.open.new.home) (seen g.H.Home.file g.H.Home.reach g.H.Home.faults g.H.Home.last_failed c.replay_lines.new.home) (g.H.Home.faults c.args.home.now) c.replay_lines.result spot
     (c.in_ok-world.ensures.quiet (λ spot_of e. not_err _ (status.Device spot_of) e)) c.replay_lines.ensures.ended h in
     record { count = f.0; named = f.1 }
+
+pub returns-in_err-head-2-clause-quiet_sink : goal.returns-in_err-head-2-clause-quiet_sink
+returns-in_err-head-2-clause-quiet_sink g c = λ other.
+    c.in_err-head-2.ensures.quiet (λ e. other (same_error c.in_err-head-2.field-0.0 status.Write _ c.from_residual-in_err-head-2.result e refl (err_is c.from_residual-in_err-head-2.result c.in_err-head-2.field-0.0 c.from_residual-in_err-head-2.ensures)))
+
+pub returns-clause-quiet_source : goal.returns-clause-quiet_source
+returns-clause-quiet_source g c = λ other. c.replay_lines.ensures.quiet_source other ∙ c.in_ok-head.ensures.quiet (λ e. not_err _ status.Read e)
+
+pub returns-clause-quiet_sink : goal.returns-clause-quiet_sink
+returns-clause-quiet_sink g c = λ other. c.replay_lines.ensures.quiet_sink other ∙ c.in_ok-head-2.ensures.quiet (λ e. not_err _ status.Write e)
+
+pub returns-clause-quiet_home : goal.returns-clause-quiet_home
+returns-clause-quiet_home g c = λ other.
+    ended_quiet (seen g.H.Home.file g.H.Home.reach g.H.Home.faults g.H.Home.last_failed c.open.new.home) (seen g.H.Home.file g.H.Home.reach g.H.Home.faults g.H.Home.last_failed c.replay_lines.new.home) c.replay_lines.result
+    c.replay_lines.ensures.ended other
+    ∙ c.in_ok-world.ensures.quiet (λ spot e. not_err _ (status.Device spot) e)
+
+pub returns-clause-clean : goal.returns-clause-clean
+returns-clause-clean g c = on_kept _ _ c.replay_lines.result (λ later s is. later s (c.in_ok-world.ensures.clean s is)) c.replay_lines.ensures.clean
