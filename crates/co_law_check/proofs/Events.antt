@@ -1,5 +1,5 @@
 -- What one event leaves of sessions and decisions, beside what its reply tells.
-use Rattle.std.proofs.Common.{◌≡◌, ◌≢◌, ℕ, Bool, true, false, not, ◌==◌, ◌||◌, List, [], ◌∷◌, Option, None, Some, if◌then◌else◌, refl, sym, ap, ◌∙◌, subst}
+use Rattle.std.proofs.Common.{◌≡◌, ℕ, Bool, true, false, not, ◌==◌, ◌||◌, List, [], Option, None, Some, if◌then◌else◌, refl, sym, ap, ◌∙◌}
 use Rattle.std.specs.Option.{is_some}
 use Rattle.co_base.specs.declared.mark.Mark.{Mark}
 use Rattle.co_base.specs.declared.node.Node.{Node}
@@ -13,22 +13,21 @@ use Rattle.co_message.specs.declared.event.Event.{Event}
 use Rattle.co_message.specs.declared.event.Event.TheVariants as event
 use Rattle.co_message.specs.declared.message.Message.{Message}
 use Rattle.co_message.specs.declared.message.Message.TheVariants as message
-use Rattle.co_state.specs.Table.{Table, look, put, holds}
+use Rattle.co_state.specs.Table.{look, put, holds}
 use Rattle.co_state.specs.ReadRule.{operation_reply}
 use Rattle.co_state.specs.LockRule.{lock_blocker}
 use Rattle.co_state.specs.VotingRule.{kept_count}
-use Rattle.co_state.specs.Effects.{with_operation}
 use Rattle.co_plain.specs.Decisions.{told_in}
-use Rattle.co_plain.specs.Federation.{Federation, Stepped, items_of, answers, with_session, message_list, at_member, at_coord, decide_all}
+use Rattle.co_plain.specs.Federation.{Federation, Stepped, items_of, answers, message_list, at_member, at_coord, decide_all}
 use Rattle.co_plain.specs.LocalCommit.{member_local_commit, member_local_abort}
-use Rattle.co_plain.specs.Coordinator.{coord_begin, coord_commit, coord_abort, coord_deliver, coord_timer, coord_resend}
+use Rattle.co_plain.specs.Coordinator.{coord_commit, coord_abort, coord_deliver, coord_timer, coord_resend}
 use Rattle.co_plain.specs.CoordLog.{coord_checkpoint, coord_crash, coord_restart, coord_arm}
 use Rattle.co_plain.specs.Member.{most_operations, member_op, unless_blocked, member_deliver, member_vote, member_timer, member_ask}
 use Rattle.co_plain.specs.MemberLog.{member_checkpoint, member_crash, member_restart, member_arm}
-use Rattle.co_plain.specs.MemberStep.{says, with_engine}
+use Rattle.co_plain.specs.MemberStep.{says}
 use Rattle.co_plain.specs.Numbers.{counted}
-use Rattle.co_plain.specs.Sessions.{Leave, Refuses, Grants, leave_to_visit, leave_to_end, unless_asked, may_visit, begun_by, with_told, asked_to_end, count_at, parts_of}
-use Rattle.co_plain.specs.Step.{up_member, member_step, up_coord, coord_step, is_used, begin_where, local_where, reply_in, entered, operated, operate_with, operate, is_stopped, is_held, marked_asked, coord_answers, local_answers, commit_at, commit_with, abort_at, abort_with, arrives, deliver, timer_at, crash_at, restart_at, arm_at, checkpoint_at, step_line}
+use Rattle.co_plain.specs.Sessions.{Refuses, Grants, leave_to_visit, leave_to_end, may_visit, begun_by, with_told, asked_to_end, count_at, parts_of}
+use Rattle.co_plain.specs.Step.{up_member, member_step, up_coord, coord_step, is_used, begin_where, local_where, reply_in, entered, operated, operate_with, operate, is_stopped, is_held, marked_asked, coord_answers, local_answers, commit_at, commit_with, abort_at, abort_with, arrives, timer_at, crash_at, restart_at, checkpoint_at, step_line}
 use Rattle.co_plain.specs.Wire.{was_sent}
 use Rattle.co_plain.specs.declared.coord_state.CoordState.{CoordState}
 use Rattle.co_plain.specs.declared.coord_step.CoordStep.{CoordStep}

@@ -1,15 +1,14 @@
 -- The transcript of every run over fresh logs is told serially.
-use Rattle.std.proofs.Common.{◌≡◌, ℕ, ◌+◌, Bool, false, List, [], ◌∷◌, ◌++◌, length, Option, None, Some, refl, sym, ap, ◌∙◌, subst}
+use Rattle.std.proofs.Common.{◌≡◌, ℕ, ◌+◌, List, [], length, refl, sym, ap, ◌∙◌, subst}
 use Rattle.std.specs.List.{AllByRecursion}
 use Rattle.std.proofs.lemmas.List.{append-nil}
 use Rattle.co_base.specs.declared.head.Head.{Head}
 use Rattle.co_message.specs.declared.event.Event.{Event}
-use Rattle.co_message.specs.declared.item.ItemKind.TheVariants as item
 use Rattle.co_state.specs.Table.{look, no_entries}
 use Rattle.co_plain.specs.Decisions.{told_in}
 use Rattle.co_plain.specs.Federation.{Federation}
-use Rattle.co_plain.specs.Opening.{Found, opened, opening_items}
-use Rattle.co_plain.specs.Runs.{run, numbered, transcript, lines}
+use Rattle.co_plain.specs.Opening.{Found, opened}
+use Rattle.co_plain.specs.Runs.{run, transcript, lines}
 use Rattle.co_law_base.proofs.Lookups.{look_none}
 use Rattle.co_law_moves.specs.OpenedLogs.{AreOpenable}
 use Rattle.co_law.proofs.EveryRun.{every_acknowledged, every_read}
@@ -17,9 +16,8 @@ use Rattle.co_law.proofs.FreshLogs.{empty_openable}
 use Rattle.co_law.proofs.GoingOn.{lines_true}
 use Rattle.co_replay.specs.Schedule.{HasLine}
 use Rattle.co_replay.specs.Transcript.{run_items}
-use Rattle.co_check.specs.Account.{no_account, unknown, client_in}
-use Rattle.co_check.specs.Shape.{unread, read_from}
-use Rattle.co_check.specs.declared.client.Client.{Client}
+use Rattle.co_check.specs.Account.{no_account, client_in}
+use Rattle.co_check.specs.Shape.{read_from}
 use Rattle.co_check.specs.declared.place.Place.TheVariants.{Behind}
 use Rattle.co_law_check.specs.Told.{by_in, AreAlike, Tells, IsToldSerially}
 use Rattle.co_law_check.proofs.Heads.{read_head}

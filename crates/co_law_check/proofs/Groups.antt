@@ -1,5 +1,5 @@
 -- How the group of an event is read: its line, its marks, its messages and its reply.
-use Rattle.std.proofs.Common.{◌≡◌, ℕ, suc, Bool, true, false, ◌==◌, ◌+◌, List, [], ◌∷◌, ◌++◌, map, Option, None, Some, if◌then◌else◌, refl, sym, ap, ◌∙◌, subst, append_assoc}
+use Rattle.std.proofs.Common.{◌≡◌, ℕ, Bool, true, false, ◌==◌, ◌+◌, List, [], ◌∷◌, ◌++◌, map, Option, None, Some, if◌then◌else◌, refl, sym, ap, ◌∙◌, subst, append_assoc}
 use Rattle.std.proofs.lemmas.List.{map-append}
 use Rattle.co_base.specs.declared.head.Head.{Head}
 use Rattle.co_base.specs.declared.mark.Mark.{Mark}
@@ -16,8 +16,7 @@ use Rattle.co_plain.specs.Runs.{numbered}
 use Rattle.co_plain.specs.declared.session.Decided.{Decided}
 use Rattle.co_plain.specs.declared.session.Session.{Session}
 use Rattle.co_check.specs.Account.{Account, marked, replied}
-use Rattle.co_check.specs.Shape.{Read, read_from, next_of, at_place, in_group, behind, fits}
-use Rattle.co_check.specs.declared.place.Place.{Place}
+use Rattle.co_check.specs.Shape.{Read, read_from, at_place, fits}
 use Rattle.co_check.specs.declared.place.Place.TheVariants.{InGroup, Behind}
 use Rattle.co_law_check.specs.Told.{Tells}
 use Rattle.co_law_check.proofs.Marks.{own, once_before, one_mark}

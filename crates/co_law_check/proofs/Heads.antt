@@ -1,8 +1,7 @@
 -- The group of a head over fresh logs: a header of every node is told, and so the transcript is open.
-use Rattle.std.proofs.Common.{◌≡◌, ℕ, zero, suc, Bool, true, false, ◌&&◌, ◌||◌, ◌==◌, List, [], ◌∷◌, ◌++◌, length, map, Option, None, Some, if◌then◌else◌, refl, sym, ap, ◌∙◌, subst, arith}
+use Rattle.std.proofs.Common.{◌≡◌, ℕ, zero, suc, Bool, true, false, ◌&&◌, ◌||◌, List, [], ◌∷◌, ◌++◌, length, map, None, Some, if◌then◌else◌, refl, sym, ap, ◌∙◌, subst}
 use Rattle.co_base.specs.declared.head.Head.{Head}
 use Rattle.co_base.specs.declared.mark.Mark.{Mark}
-use Rattle.co_base.specs.declared.mark.MarkKind.TheVariants as kind
 use Rattle.co_base.specs.declared.node.Node.{Node}
 use Rattle.co_base.specs.declared.node.Node.TheVariants as node
 use Rattle.co_message.specs.declared.answer.Answer.TheVariants as answer
@@ -13,7 +12,7 @@ use Rattle.co_plain.specs.Opening.{Found, header_mark, member_headers, coord_hea
 use Rattle.co_plain.specs.Runs.{numbered}
 use Rattle.co_plain.specs.Sessions.{same_node}
 use Rattle.co_check.specs.Account.{no_account}
-use Rattle.co_check.specs.Shape.{Read, unread, read_from, at_place, has_node, with_node, is_first_header, with_header, has_members, has_coords, has_headers}
+use Rattle.co_check.specs.Shape.{unread, read_from, at_place, has_node, with_node, is_first_header, with_header, has_members, has_coords, has_headers}
 use Rattle.co_check.specs.declared.place.Place.TheVariants.{InHead, Behind}
 use Rattle.co_law_check.proofs.Marks.{own}
 use Rattle.co_law_check.proofs.Groups.{numbered_more}

@@ -6,3 +6,6 @@ pub mod Heads
 pub mod Serially
 pub mod Fresh
 pub mod Judged
+pub mod Cutting
+pub mod Places
+pub mod Standing

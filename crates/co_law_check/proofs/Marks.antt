@@ -1,5 +1,5 @@
 -- The marks of an event: what they decide, in the account of a transcript as in the federation.
-use Rattle.std.proofs.Common.{◌≡◌, ◌≢◌, ◌⊎◌, inl, inr, ℕ, Bool, true, false, ◌==◌, ◌||◌, List, [], ◌∷◌, Option, None, Some, if◌then◌else◌, refl, sym, ap, ◌∙◌, subst, arith}
+use Rattle.std.proofs.Common.{◌≡◌, ◌≢◌, ℕ, Bool, true, false, ◌==◌, ◌||◌, List, [], ◌∷◌, Option, None, Some, if◌then◌else◌, refl, sym, ap, ◌∙◌, subst, arith}
 use Rattle.std.proofs.lemmas.Bool.{eqb-true, eqb-false}
 use Rattle.std.proofs.lemmas.Bool.Decides.{nat_tests}
 use Rattle.co_base.specs.declared.mark.Mark.{Mark}
@@ -14,9 +14,9 @@ use Rattle.co_plain.specs.Sessions.{same_node}
 use Rattle.co_plain.specs.declared.session.Decided.{Decided}
 use Rattle.co_plain.specs.declared.session.Session.{Session}
 use Rattle.co_law_base.proofs.Lookups.{put_here, put_there}
-use Rattle.co_check.specs.Account.{Account, Committed, client_in, client_of, with_client, unknown, committed_at, commits_at, is_by, marked, marked_by}
+use Rattle.co_check.specs.Account.{Account, client_in, client_of, committed_at, commits_at, is_by, marked, marked_by}
 use Rattle.co_check.specs.declared.client.Client.{Client}
-use Rattle.co_law_check.specs.Told.{by_in, AreAlike, AreDecidedAlike, Tells}
+use Rattle.co_law_check.specs.Told.{by_in, AreAlike, Tells}
 
 -- ---- tables of clients
 

@@ -1,10 +1,8 @@
 -- Decisions that are alike are judged alike: as those of the federation read serially, so do those of the account.
-use Rattle.std.proofs.Common.{◌≡◌, ℕ, suc, List, [], ◌∷◌, ◌++◌, length, map, reverse, refl, sym, ap, ◌∙◌, subst, arith}
+use Rattle.std.proofs.Common.{◌≡◌, ℕ, suc, List, [], ◌∷◌, ◌++◌, length, map, reverse, refl, sym, ap, ◌∙◌, arith}
 use Rattle.std.proofs.lemmas.List.{map-append, reverse-append}
-use Rattle.co_base.specs.declared.reply.Reply.{Reply}
 use Rattle.co_record.specs.declared.record.Record.{Record}
 use Rattle.co_serial.specs.SerialRun.{AllRecords, after, run_whole}
-use Rattle.co_serial.specs.declared.site.Site.{Site}
 use Rattle.co_plain.specs.Decisions.{sites_of, replies_of}
 use Rattle.co_plain.specs.DurableRecords.{durable_records, with_decided}
 use Rattle.co_state.specs.Table.{no_entries}

@@ -1,5 +1,5 @@
 -- The transcript of a run, read event by event.
-use Rattle.std.proofs.Common.{◌≡◌, ◌≢◌, ℕ, suc, Bool, true, false, ◌&&◌, ◌≤◌, ◌+◌, List, [], ◌∷◌, ◌++◌, length, Option, None, Some, refl, sym, ap, ◌∙◌, subst, arith, append_assoc}
+use Rattle.std.proofs.Common.{◌≡◌, ℕ, suc, Bool, true, false, ◌&&◌, ◌+◌, List, [], ◌∷◌, ◌++◌, length, Option, None, Some, refl, sym, ap, ◌∙◌, subst, arith, append_assoc}
 use Rattle.std.specs.Prelude.{nat_le}
 use Rattle.std.proofs.lemmas.Bool.Decides.{nat_tests}
 use Rattle.std.specs.List.{AllByRecursion}
@@ -11,14 +11,13 @@ use Rattle.co_message.specs.declared.answer.Answer.TheVariants as answer
 use Rattle.co_message.specs.declared.event.Event.{Event}
 use Rattle.co_message.specs.declared.event.Event.TheVariants as event
 use Rattle.co_message.specs.declared.item.Item.{Item}
-use Rattle.co_message.specs.declared.item.ItemKind.{ItemKind}
 use Rattle.co_message.specs.declared.item.ItemKind.TheVariants as item
 use Rattle.co_message.specs.declared.message.Message.{Message}
 use Rattle.co_message.specs.declared.message.Message.TheVariants as message
 use Rattle.co_state.specs.Table.{Table, look, put}
 use Rattle.co_schedule.specs.View.{IsWithin, IsNode, IsMessageFor, IsEventFor}
 use Rattle.co_plain.specs.Decisions.{told_in, is_decided}
-use Rattle.co_plain.specs.Federation.{Federation, Stepped, items_of, decide_all}
+use Rattle.co_plain.specs.Federation.{Federation, Stepped, items_of}
 use Rattle.co_plain.specs.Promises.{AreDecidedOnce}
 use Rattle.co_plain.specs.Runs.{run, numbered, transcript, lines}
 use Rattle.co_plain.specs.Sessions.{begun_by, with_told}
@@ -31,12 +30,11 @@ use Rattle.co_check.specs.Account.{Account, client_of, with_client, begun, begun
 use Rattle.co_check.specs.Shape.{Read, read_from, at_place, fits, is_member, is_coord, is_node, is_sendable}
 use Rattle.co_check.specs.declared.client.Answered.{Answered}
 use Rattle.co_check.specs.declared.client.Client.{Client}
-use Rattle.co_check.specs.declared.place.Place.{Place}
-use Rattle.co_check.specs.declared.place.Place.TheVariants.{InGroup, Behind}
+use Rattle.co_check.specs.declared.place.Place.TheVariants.{Behind}
 use Rattle.co_law_check.specs.Told.{by_in, AreAlike, Tells}
 use Rattle.co_law_check.proofs.Marks.{at_each, client_here, client_there, once_before, Becomes}
-use Rattle.co_law_check.proofs.Groups.{ReadMarks, read_marks, read_group}
-use Rattle.co_law_check.proofs.Events.{IsTold, Quiet, Begun, Operated, IsQuiet, IsBegun, IsOperated, event_told}
+use Rattle.co_law_check.proofs.Groups.{read_marks, read_group}
+use Rattle.co_law_check.proofs.Events.{IsTold, Quiet, Begun, Operated, event_told}
 
 -- ---- an event of a schedule fits its head
 

@@ -1,5 +1,5 @@
 -- What a transcript tells of its transactions, beside what the federation keeps of them.
-use Rattle.std.specs.Prelude.{ℕ, Bool, true, false, ◌≡◌, List, [], ◌∷◌, length, map, Option, None, Some, Result, Ok}
+use Rattle.std.specs.Prelude.{ℕ, true, false, ◌≡◌, ◌≤◌, List, [], ◌∷◌, length, map, Option, None, Some, Result, Ok}
 use Rattle.co_base.specs.declared.node.Node.{Node}
 use Rattle.co_message.specs.declared.item.Item.{Item}
 use Rattle.co_serial.specs.Family.{family_of}
@@ -11,6 +11,9 @@ use Rattle.co_plain.specs.Promises.{serial_records}
 use Rattle.co_plain.specs.declared.session.Decided.{Decided}
 use Rattle.co_plain.specs.declared.session.Session.{Session}
 use Rattle.co_plain.specs.declared.session.Told.{Told}
+use Rattle.co_transcript.specs.Items.{IsItem}
+use Rattle.co_transcript.specs.Spelling.{item_text}
+use Rattle.co_check.specs.Checked.{longest}
 use Rattle.co_check.specs.Account.{Account, Committed, client_of}
 use Rattle.co_check.specs.Runs.{sites, replies}
 use Rattle.co_check.specs.Serial.{IsSerial, serial_after}
@@ -62,3 +65,7 @@ pub record IsFoundSerial (answer : Result Verdict CheckFault) (s z : Federation)
   pub is : answer ≡ Ok (verdict.Serial transactions map_left)
   pub count : transactions ≡ length z.decided
   pub records : family_of map_left ≡ serial_records s z.decided
+
+-- an item whose fields are in the sets of its kind, and whose line a checker may read
+abbrev pub IsShortItem : Item → Type 0
+IsShortItem it = IsItem it × (length (item_text it) ≤ longest)

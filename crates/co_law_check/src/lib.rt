@@ -5,4 +5,4 @@
 
 mod laws;
 
-pub use laws::{transcripts_are_found_serial, transcripts_are_serial};
+pub use laws::{items_stand_in_their_text, transcripts_are_found_serial, transcripts_are_serial};
