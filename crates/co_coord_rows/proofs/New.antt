@@ -1,5 +1,5 @@
 -- A transaction that the log has not committed.
-use Rattle.std.proofs.Common.{◌≡◌, ℕ, Bool, true, false, nat_eq, ◌||◌, List, [], ◌∷◌, ◌++◌, refl, sym, ap, ◌∙◌, arith}
+use Rattle.std.proofs.Common.{◌≡◌, ℕ, Bool, false, nat_eq, ◌||◌, List, [], ◌∷◌, ◌++◌, refl, sym, ap, ◌∙◌, arith}
 use Rattle.std.specs.Prelude.{Ok}
 use Rattle.std.specs.FinMap.{keys, contains_key-keys}
 use Rattle.std.specs.Ordering.{nat_cmp, eq_by_cmp}
@@ -15,7 +15,7 @@ use Rattle.co_record.specs.declared.record.Record.{Record}
 use Rattle.co_record.specs.declared.record.Record.TheVariants as log
 use Rattle.co_state.specs.Table.{holds}
 use Rattle.co_state.proofs.Tables.{same_test}
-use Rattle.co_plain.specs.CoordView.{has_commit_of, recovered_commits}
+use Rattle.co_plain.specs.CoordView.{has_commit_of}
 use Rattle.co_plain.specs.MemberView.{Numbers}
 use Rattle.co_law_node.specs.WholeCoords.{EndsAlone}
 

@@ -15,7 +15,7 @@ use Rattle.co_plain.specs.declared.coord_state.CoordState.{CoordState}
 use Rattle.co_law_node.specs.WholeCoords.{IsWholeCoord}
 use Rattle.co_law_node.specs.WholeMembers.{IsAmong}
 use Rattle.co_law_node.specs.Writable.{IsWritableCoord}
-use Rattle.co_coord.specs.Standing.{RepresentsCoord}
+use Rattle.co_coord.specs.Standing.{is_up, RepresentsCoord}
 use Rattle.co_coord.specs.declared.coord.Coord.{Coord}
 
 -- the directory has what the log keeps of its files
@@ -31,6 +31,11 @@ pub record IsPlayed (home : HomeMemory) (coord : Coord) : Type 0 where
   pub stands : RepresentsCoord coord plain
   pub whole : IsWholeCoord 3 plain
   pub writable : IsWritableCoord coord.number plain
+
+-- and it runs
+pub record IsRunning (home : HomeMemory) (coord : Coord) : Type 0 where
+  pub played : IsPlayed home coord
+  pub up : is_up coord ≡ true
 
 -- members of a federation of three, ascending
 abbrev pub AreNamed : List ℕ → Type 0

@@ -2,13 +2,13 @@
 ghost use Rattle.std.specs.Prelude.{OnOk};
 ghost use Rattle.co_coord_rows.specs.Played.{IsPlayed};
 
-use crate::fault::RowFault;
 use crate::happening::{answered, happen};
 use crate::load::load;
 use crate::opened::opened;
 use crate::rows::{cut, event_of, is_of_coordinator, number_of, operation_of};
 use crate::session::{Sessions, asked, operate};
 use crate::texts::{put_ended, put_event, put_file, put_line, put_told};
+use anyhow::Result;
 use co_base::{Head, Parts};
 use co_coord::Coord;
 use co_message::{Answer, Event};
@@ -44,7 +44,7 @@ fn play_event(
     block: &mut Block,
     event: &Event,
     out: &mut Vec<u8>,
-) -> Result<(), RowFault>
+) -> Result<()>
     requires { IsPlayed home.old coord.old }
     ensures { OnOk result (IsPlayed home.new coord.new) }
 {
@@ -67,7 +67,7 @@ fn play_line(
     block: &mut Block,
     row: &[u8],
     out: &mut Vec<u8>,
-) -> Result<(), RowFault>
+) -> Result<()>
     requires { IsPlayed home.old coord.old }
     ensures { OnOk result (IsPlayed home.new coord.new) }
 {
@@ -86,12 +86,7 @@ fn play_line(
 
 /// Appends what a row of another sort comes to: `file a` or `file b` for the digits of a file, `load COUNT ROUNDS` for so many open
 /// transactions and so many that are carried to their end beside them. Whether it is one.
-fn put_other(
-    alloc: Global,
-    home: &HomeMemory,
-    row: &[u8],
-    out: &mut Vec<u8>,
-) -> Result<bool, RowFault> {
+fn put_other(alloc: Global, home: &HomeMemory, row: &[u8], out: &mut Vec<u8>) -> Result<bool> {
     let (word, words) = cut(row);
     if word == b"file".as_slice() {
         let part = if words == b"a".as_slice() { 0 } else { 1 };
@@ -120,7 +115,7 @@ fn play_row(
     block: &mut Block,
     row: &[u8],
     out: &mut Vec<u8>,
-) -> Result<(), RowFault>
+) -> Result<()>
     requires { IsPlayed home.old coord.old }
     ensures { OnOk result (IsPlayed home.new coord.new) }
 {
@@ -131,7 +126,7 @@ fn play_row(
 }
 
 /// Plays the rows of a block on a coordinator over an empty directory.
-pub fn put_block(alloc: Global, rows: &[&[u8]], out: &mut Vec<u8>) -> Result<(), RowFault> {
+pub fn put_block(alloc: Global, rows: &[&[u8]], out: &mut Vec<u8>) -> Result<()> {
     let mut home = HomeMemory::new(alloc, Vec::new(alloc));
     let mut coord = opened(alloc, &mut home)?;
     let mut block = Block {

@@ -7,7 +7,7 @@ ghost use Rattle.co_law_node.specs.WholeCoords.{commits_of, EndsAlone};
 ghost use Rattle.co_coord.specs.Standing.{RepresentsCoord};
 ghost use Rattle.co_coord_rows.specs.Played.{AreNamed, MayName};
 
-use crate::fault::RowFault;
+use anyhow::{Result, bail};
 use co_base::{Part, Txn};
 use co_coord::Coord;
 use co_plain::members_of;
@@ -18,19 +18,19 @@ use std::alloc::Global;
 pub const MEMBERS: u8 = 3;
 
 /// Refuses all but at most two members of the federation, ascending.
-fn need_members(members: &[u8]) -> Result<(), RowFault>
+fn need_members(members: &[u8]) -> Result<()>
     ensures { OnOk result (AreNamed members.now) }
 {
     match members {
         [] => Ok(()),
         [a] if 1 <= *a && *a <= MEMBERS => Ok(()),
         [a, b] if 1 <= *a && *a < *b && *b <= MEMBERS => Ok(()),
-        _ => Err(RowFault::Unfit),
+        _ => bail!("a commit names at most two members, ascending"),
     }
 }
 
 /// Refuses participants that a commit may not name.
-pub fn need_named(alloc: Global, parts: &[Part]) -> Result<(), RowFault>
+pub fn need_named(alloc: Global, parts: &[Part]) -> Result<()>
     ensures { OnOk result (MayName parts.now) }
 {
     let members = members_of(alloc, parts)?;
@@ -38,13 +38,13 @@ pub fn need_named(alloc: Global, parts: &[Part]) -> Result<(), RowFault>
 }
 
 /// Refuses a transaction that the log has committed.
-pub fn need_new(alloc: Global, coord: &Coord, t: Txn) -> Result<(), RowFault>
+pub fn need_new(alloc: Global, coord: &Coord, t: Txn) -> Result<()>
     requires { (y : CoordState) × RepresentsCoord coord.now y }
     ensures { (y : CoordState) → RepresentsCoord coord.now y → EndsAlone y.log.waiting → OnOk result (has_commit_of (commits_of Memory y) t ≡ false) }
 {
     let past = recover_coord(alloc, coord.log().views(), MEMBERS)?;
     if past.seen.as_slice().contains(&t) {
-        return Err(RowFault::Unfit);
+        bail!("the transaction is committed");
     }
     Ok(())
 }

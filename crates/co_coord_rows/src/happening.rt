@@ -1,10 +1,9 @@
 //! Events of the coordinator.
-ghost use Rattle.std.specs.Prelude.{◌≡◌, true, OnOk};
-ghost use Rattle.co_coord.specs.Standing.{is_up};
-ghost use Rattle.co_coord_rows.specs.Played.{IsPlayed};
+ghost use Rattle.std.specs.Prelude.{OnOk};
+ghost use Rattle.co_coord_rows.specs.Played.{IsPlayed, IsRunning};
 
 use crate::calls::{COORD, abort, arm, begin, checkpoint, commit, crash, deliver, restart, timer};
-use crate::fault::RowFault;
+use anyhow::{Result, bail};
 use co_base::{Marks, Node, Part};
 use co_coord::{Coord, CoordStep};
 use co_message::{Answer, Event, Messages};
@@ -27,9 +26,8 @@ fn happen_up(
     coord: &mut Coord,
     parts: &[Part],
     event: &Event,
-) -> Result<CoordStep, RowFault>
-    requires up { is_up coord.old ≡ true }
-    requires played { IsPlayed home.old coord.old }
+) -> Result<CoordStep>
+    requires { IsRunning home.old coord.old }
     ensures { OnOk result (IsPlayed home.new coord.new) }
 {
     match event {
@@ -46,7 +44,7 @@ fn happen_up(
             leaves,
         } => arm(alloc, home, coord, *call, leaves),
         Event::Checkpoint(_) => checkpoint(home, coord),
-        _ => Err(RowFault::Word),
+        _ => bail!("the event is none of a coordinator"),
     }
 }
 
@@ -57,7 +55,7 @@ pub fn happen(
     coord: &mut Coord,
     parts: &[Part],
     event: &Event,
-) -> Result<CoordStep, RowFault>
+) -> Result<CoordStep>
     requires { IsPlayed home.old coord.old }
     ensures { OnOk result (IsPlayed home.new coord.new) }
 {

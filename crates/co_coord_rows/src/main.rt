@@ -12,7 +12,6 @@
 
 mod blocks;
 mod calls;
-mod fault;
 mod fits;
 mod happening;
 mod load;
@@ -22,18 +21,16 @@ mod session;
 mod texts;
 
 use crate::blocks::put_block;
-use crate::fault::RowFault;
 use crate::texts::put_line;
+use anyhow::Result;
 use co_outside::{SinkStd, SourceStd, put_all, read_all};
 use std::alloc::Global;
-use std::io;
-use std::process::ExitCode;
 
 /// The most bytes of the rows.
 const MOST_BYTES: u32 = 0x10_0000;
 
 /// What the rows of a text come to.
-fn told(alloc: Global, text: &[u8]) -> Result<Vec<u8>, RowFault> {
+fn told(alloc: Global, text: &[u8]) -> Result<Vec<u8>> {
     let mut out = Vec::new(alloc);
     let mut rows = Vec::new(alloc);
     for line in text.split(|b| *b == b'\n') {
@@ -51,18 +48,11 @@ fn told(alloc: Global, text: &[u8]) -> Result<Vec<u8>, RowFault> {
     Ok(out)
 }
 
-fn main(rt: HostRuntime) -> io::Result<ExitCode> {
+fn main(rt: HostRuntime) -> Result<()> {
     let alloc = rt.alloc();
     let mut source = SourceStd::new(rt.stdin());
-    let Ok(text) = read_all(alloc, &mut source, MOST_BYTES) else {
-        return Ok(ExitCode::FAILURE);
-    };
-    let Ok(told) = told(alloc, &text) else {
-        return Ok(ExitCode::FAILURE);
-    };
+    let text = read_all(alloc, &mut source, MOST_BYTES)?;
+    let told = told(alloc, &text)?;
     let mut out = SinkStd::new(rt.stdout());
-    match put_all(alloc, &mut out, &told) {
-        Ok(()) => Ok(ExitCode::SUCCESS),
-        Err(_) => Ok(ExitCode::FAILURE),
-    }
+    Ok(put_all(alloc, &mut out, &told)?)
 }

@@ -3,8 +3,8 @@ ghost use Rattle.std.specs.Prelude.{IfOk};
 ghost use Rattle.co_coord_rows.specs.Played.{IsPlayed, IsMadeIn};
 
 use crate::calls::COORD;
-use crate::fault::RowFault;
 use crate::fits::MEMBERS;
+use anyhow::Result;
 use co_base::{Node, Txns};
 use co_coord::Coord;
 use co_log::Log;
@@ -13,7 +13,7 @@ use co_recover::{Commits, CoordPast};
 use std::alloc::Global;
 
 /// The log of the coordinator, made in a directory where it is fresh.
-fn made(alloc: Global, home: &mut HomeMemory) -> Result<Log, RowFault>
+fn made(alloc: Global, home: &mut HomeMemory) -> Result<Log>
     ensures { IfOk result (λ log. IsMadeIn home.new log) }
 {
     let mut log = Log::attach(alloc, home, Node::Coord(COORD), false)?;
@@ -22,7 +22,7 @@ fn made(alloc: Global, home: &mut HomeMemory) -> Result<Log, RowFault>
 }
 
 /// A coordinator over its log in this directory, where it is fresh.
-pub fn opened(alloc: Global, home: &mut HomeMemory) -> Result<Coord, RowFault>
+pub fn opened(alloc: Global, home: &mut HomeMemory) -> Result<Coord>
     ensures { IfOk result (λ coord. IsPlayed home.new coord) }
 {
     let log = made(alloc, home)?;

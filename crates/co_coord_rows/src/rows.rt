@@ -1,5 +1,5 @@
 //! The words of a row, and the event that it spells.
-use crate::fault::RowFault;
+use anyhow::{Result, bail};
 use co_base::{Head, Node, Txn};
 use co_message::{Event, Message};
 use co_schedule::read_line;
@@ -24,10 +24,10 @@ pub fn number_of(word: &[u8]) -> u32 {
 }
 
 /// The event of a line of a schedule.
-pub fn event_of(alloc: Global, head: &Head, row: &[u8]) -> Result<Event, RowFault> {
+pub fn event_of(alloc: Global, head: &Head, row: &[u8]) -> Result<Event> {
     match read_line(row, head) {
         Ok(view) => Ok(view.event(alloc)?),
-        Err(_) => Err(RowFault::Word),
+        Err(_) => bail!("a row is no line of a schedule"),
     }
 }
 

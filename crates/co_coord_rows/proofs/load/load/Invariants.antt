@@ -6,3 +6,6 @@ invariant-loop-t l = IsPlayed l.home l.coord
 
 abbrev pub invariant-loop-t-2 : goal.invariant-loop-t-2
 invariant-loop-t-2 l = IsPlayed l.home l.coord
+
+abbrev pub invariant-loop-t-3 : goal.invariant-loop-t-3
+invariant-loop-t-3 l = IsPlayed l.home l.coord
