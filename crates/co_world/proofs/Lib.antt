@@ -16,3 +16,6 @@ pub mod Leaving
 pub mod CoordLeaving
 pub mod Lefts
 pub mod LeftSteps
+pub mod Disarmed
+pub mod Readers
+pub mod Lacking

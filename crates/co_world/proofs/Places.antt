@@ -16,7 +16,7 @@ set_same [] (suc p) m q e = absurd (let w : None ≡ Some q = e in cc)
 set_same (x ∷ ms) zero m q e = some_is e
 set_same (x ∷ ms) (suc p) m q e = set_same ms p m q e
 
-set_other : {M : Type 0} (ms : List M) (p i : ℕ) (m : M) → p ≢ i → slice_get (set ms p m) i ≡ slice_get ms i
+pub set_other : {M : Type 0} (ms : List M) (p i : ℕ) (m : M) → p ≢ i → slice_get (set ms p m) i ≡ slice_get ms i
 set_other [] p i m h = refl
 set_other (x ∷ ms) zero zero m h = absurd (h refl)
 set_other (x ∷ ms) zero (suc i) m h = refl

@@ -6,3 +6,4 @@ pub mod Telling
 pub mod Attached
 pub mod Counting
 pub mod Left
+pub mod Readings
