@@ -19,3 +19,5 @@ pub mod LeftSteps
 pub mod Disarmed
 pub mod Readers
 pub mod Lacking
+pub mod Exchanging
+pub mod Walks

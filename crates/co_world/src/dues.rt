@@ -79,7 +79,7 @@ impl<E: Engine + Drop> World<E> {
             if let Some(node) = self.timed_at(t) {
                 return Some(Due { txn: t, node });
             }
-            next = self.open_after(Some(t));
+            next = self.open_above(t);
         }
         None
     }

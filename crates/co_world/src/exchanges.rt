@@ -168,9 +168,9 @@ impl<E: Engine + Drop> World<E> {
                     None
                 }
             }
-            ExchangeKind::Prepare | ExchangeKind::Commit | ExchangeKind::Ask => {
-                self.coord_for(kind, t, member)
-            }
+            ExchangeKind::Prepare => self.coord_for(ExchangeKind::Prepare, t, member),
+            ExchangeKind::Commit => self.coord_for(ExchangeKind::Commit, t, member),
+            ExchangeKind::Ask => self.coord_for(ExchangeKind::Ask, t, member),
         }
     }
 
@@ -229,7 +229,7 @@ impl<E: Engine + Drop> World<E> {
             if found.is_some() {
                 return found;
             }
-            next = self.open_after(Some(t));
+            next = self.open_above(t);
         }
         None
     }

@@ -1,5 +1,5 @@
 //! The open transactions of a federation whose nodes are up, in their order.
-ghost use Rattle.std.specs.Prelude.{◌≡◌, length};
+ghost use Rattle.std.specs.Prelude.{◌≡◌, ◌<◌, Some, length};
 ghost use Rattle.co_coord.specs.Reading.{is_above};
 ghost use Rattle.co_member.specs.Reading.{open_after};
 ghost use Rattle.co_plain.specs.Federation.{Federation};
@@ -63,5 +63,14 @@ impl<E: Engine + Drop> World<E> {
         ensures { (s : Federation) → RepresentsWorld E.takes E.stands_for self.now s → result ≡ open_above s after }
     {
         lesser(self.undecided_after(&after), self.tabled_after(&after))
+    }
+
+    /// The least open transaction above one.
+    pub(crate) fn open_above(&self, t: Txn) -> Option<Txn>
+        requires stands { StandsUp E.takes E.stands_for self.now }
+        ensures number { t < 4294967296 }
+        ensures next { (s : Federation) → RepresentsWorld E.takes E.stands_for self.now s → result ≡ open_above s (Some t) }
+    {
+        self.open_after(Some(t))
     }
 }

@@ -1,0 +1,12 @@
+use Rattle.std.proofs.Common.{◌≡◌}
+use Rattle.co_plain.specs.Federation.{Federation}
+use Rattle.co_world.specs.Conditions.{IsReady}
+use Rattle.co_world.specs.Standing.{RepresentsWorld}
+use Rattle.co_world.proofs.Walks.{HasPassed, room, Helped, helped_open}
+use Rattle.co_world.proofs.world.World.first_exchange.Given as goal
+
+abbrev pub invariant-loop-next : goal.invariant-loop-next
+invariant-loop-next g l = (s : Federation) → RepresentsWorld g.E.Engine.takes g.E.Engine.stands_for l.fn.self s → IsReady s → HasPassed s (Helped s) (helped_open s) l.next
+
+abbrev pub decreases-loop-next : goal.decreases-loop-next
+decreases-loop-next g l = room l.next
