@@ -21,3 +21,4 @@ pub mod Readers
 pub mod Lacking
 pub mod Exchanging
 pub mod Walks
+pub mod OpenNodes

@@ -1,0 +1,62 @@
+//! Whether anything is open, also where nodes are down.
+ghost use Rattle.std.specs.Prelude.{◌≡◌, ◌≤◌, ℕ, true, false, None, is_some, length, IfOk};
+ghost use Rattle.co_member.specs.Reading.{open_after};
+ghost use Rattle.co_plain.specs.Federation.{Federation};
+ghost use Rattle.co_plain.specs.Quiet.{IsOpen};
+ghost use Rattle.co_state.specs.Table.{least_where};
+ghost use Rattle.co_world.specs.Conditions.{IsReady};
+ghost use Rattle.co_world.specs.Standing.{RepresentsWorld};
+
+use crate::recovering::{coord_past, member_past};
+use crate::world::World;
+use co_engine::Engine;
+use std::alloc::AllocError;
+
+impl<E: Engine + Drop> World<E> {
+    /// Whether a member has an undecided transaction. Where it is down, its log tells.
+    fn has_undecided(&self, member: u8) -> Result<bool, AllocError>
+        requires member { (1 ≤ member) × (member ≤ length self.now.members.items) }
+        requires stands { (s : Federation) × RepresentsWorld E.takes E.stands_for self.now s × IsReady s }
+        ensures { (s : Federation) → RepresentsWorld E.takes E.stands_for self.now s → IfOk result (λ some. some ≡ is_some (open_after (s.member member).engine None)) }
+    {
+        let node = self.member_at(member);
+        if node.up() {
+            return Ok(node.open_after(None).is_some());
+        }
+        let past = member_past(self.alloc, node.log(), self.coord_count())?;
+        Ok(!past.voted.as_slice().is_empty())
+    }
+
+    /// Whether a coordinator has a transaction in its table. Where it is down, its log tells.
+    fn has_tabled(&self, coord: u8) -> Result<bool, AllocError>
+        requires coord { (1 ≤ coord) × (coord ≤ length self.now.coords.items) }
+        requires stands { (s : Federation) × RepresentsWorld E.takes E.stands_for self.now s × IsReady s }
+        ensures { (s : Federation) → RepresentsWorld E.takes E.stands_for self.now s → IfOk result (λ some. some ≡ is_some (least_where (λ t e. true) (s.coord coord).table)) }
+    {
+        let node = self.coord_at(coord);
+        if node.up() {
+            return Ok(node.open_after(None).is_some());
+        }
+        let past = coord_past(self.alloc, node.log(), self.member_count())?;
+        Ok(!past.committed.as_slice().is_empty())
+    }
+
+    /// Whether a transaction is open. Of a node that is down its log tells; where all are up no log is read, and no memory is taken.
+    pub fn anything_open(&self) -> Result<bool, AllocError>
+        requires stands { (s : Federation) × RepresentsWorld E.takes E.stands_for self.now s × IsReady s }
+        ensures something { (s : Federation) → RepresentsWorld E.takes E.stands_for self.now s → IfOk result (λ some. some ≡ true → (t : ℕ) × IsOpen s t) }
+        ensures nothing { (s : Federation) → RepresentsWorld E.takes E.stands_for self.now s → IfOk result (λ some. some ≡ false → (t : ℕ) → IsOpen s t → ⊥) }
+    {
+        for member in 1..self.member_count() + 1 {
+            if self.has_undecided(member)? {
+                return Ok(true);
+            }
+        }
+        for coord in 1..self.coord_count() + 1 {
+            if self.has_tabled(coord)? {
+                return Ok(true);
+            }
+        }
+        Ok(false)
+    }
+}
