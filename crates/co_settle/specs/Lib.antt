@@ -2,3 +2,4 @@ pub mod Reached
 pub mod Notes
 pub mod Progress
 pub mod Settled
+pub mod Turning

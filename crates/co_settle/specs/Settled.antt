@@ -1,6 +1,7 @@
 -- What settling gives, and what a fault leaves of it.
-use Rattle.std.specs.Prelude.{ℕ, suc, ◌≡◌, ◌≤◌, ◌+◌, List, length, Option}
+use Rattle.std.specs.Prelude.{ℕ, suc, ◌≡◌, ◌≤◌, ◌+◌, List, length, Option, Result, Ok, Err}
 use Rattle.co_base.specs.declared.head.Kind.{Kind}
+use Rattle.co_durable.specs.declared.fault.WorldFault.{WorldFault}
 use Rattle.co_message.specs.declared.event.Event.{Event}
 use Rattle.co_message.specs.declared.item.Item.{Item}
 use Rattle.co_outside.specs.Home.{File}
@@ -30,3 +31,8 @@ pub record IsCutShort (s : Federation) (file : Spot → Option File) : Type 0 wh
   pub events : List Event
   pub settling : IsSettling s events
   pub cut : IsCutIn events (disarmed s) file
+
+-- how settling ends, by its answer
+abbrev pub SettlesAs : {E : Type 0} → (Kind → Type 0) → (E → EngineState → Type 0) → Federation → ℕ → ℕ → World E → ℕ → (Spot → Option File) → Result (List Item) WorldFault → Type 0
+SettlesAs takes stands_for s number before w after file (Ok items) = HasSettled takes stands_for s number before items w after
+SettlesAs takes stands_for s number before w after file (Err fault) = IsCutShort s file

@@ -1,5 +1,5 @@
 //! Messages that an exchange waits for.
-ghost use Rattle.std.specs.Prelude.{◌≡◌, map};
+ghost use Rattle.std.specs.Prelude.{◌≡◌, ◌≤◌, map};
 ghost use Rattle.co_law_settle.specs.SettlingTurns.{note_in};
 ghost use Rattle.co_settle.specs.Notes.{wanted_by, AreInRange};
 
@@ -44,4 +44,24 @@ pub(crate) fn first_wanted(want: Want, member: u8, items: &[Item]) -> Option<Mes
         }
     }
     None
+}
+
+/// The numbers of a transaction and of a count are in their ranges.
+pub(crate) fn numbers_in_range(txn: Txn, count: u16)
+    ensures { (txn ≤ 4294967295) × (count ≤ 65535) }
+{
+    let _numbers = (txn, count);
+}
+
+/// The numbers of a message are in their ranges, as its type says.
+pub(crate) fn in_range(note: &Message)
+    ensures { AreInRange note.now }
+{
+    match note {
+        Message::Prepare { txn, count, .. } => numbers_in_range(*txn, *count),
+        Message::Vote { txn, .. } => numbers_in_range(*txn, 0),
+        Message::Decide { txn, .. } => numbers_in_range(*txn, 0),
+        Message::Ask { txn, .. } => numbers_in_range(*txn, 0),
+        Message::Ack { txn, .. } => numbers_in_range(*txn, 0),
+    }
 }

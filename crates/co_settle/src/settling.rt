@@ -1,12 +1,12 @@
 //! What is open is brought to its end.
-ghost use Rattle.std.specs.Prelude.{◌≡◌, ◌≤◌, IfOk, IfErr, IsErrOf, OnOk, OnErr};
+ghost use Rattle.std.specs.Prelude.{◌≡◌, ◌≤◌};
 ghost use Rattle.co_node.specs.Answers.{seen};
 ghost use Rattle.co_plain.specs.Federation.{Federation};
 ghost use Rattle.co_plain.specs.Quiet.{open_count};
-ghost use Rattle.co_world.specs.Served.{AreServed, HasEndedAs};
 ghost use Rattle.co_world.specs.Standing.{RepresentsWorld, AreHeld};
+ghost use Rattle.co_settle.specs.Progress.{EndsAs};
 ghost use Rattle.co_settle.specs.Reached.{IsReached};
-ghost use Rattle.co_settle.specs.Settled.{HasSettled, IsCutShort};
+ghost use Rattle.co_settle.specs.Settled.{SettlesAs};
 
 use crate::counting::Steps;
 use crate::telling::Told;
@@ -42,11 +42,8 @@ pub fn settle<E: Engine + Drop, H: Home>(
     requires held { AreHeld (H.file home.old) (H.reach home.old) world.old }
     requires stands { (s : Federation) × RepresentsWorld E.takes E.stands_for world.old s × IsReached s × (open_count s ≤ 65536) }
     ensures settled { (s : Federation) → RepresentsWorld E.takes E.stands_for world.old s → IsReached s → open_count s ≤ 65536 →
-        OnOk result (IfOk result (λ items. HasSettled E.takes E.stands_for s number steps.old.count items world.new steps.new.count)) }
-    ensures cut_short { (s : Federation) → RepresentsWorld E.takes E.stands_for world.old s → IsReached s → open_count s ≤ 65536 → OnErr result (IsCutShort s (H.file home.new)) }
-    ensures served { OnOk result (AreServed world.new (seen H.file H.reach H.faults H.last_failed home.old) (seen H.file H.reach H.faults H.last_failed home.new)) }
-    ensures count { IsErrOf result WorldFault.Count → ⊥ }
-    ensures ended { IfErr result (λ fault. HasEndedAs fault (seen H.file H.reach H.faults H.last_failed home.old) (seen H.file H.reach H.faults H.last_failed home.new)) }
+        SettlesAs E.takes E.stands_for s number steps.old.count world.new steps.new.count (H.file home.new) result }
+    ensures ended { EndsAs world.new (seen H.file H.reach H.faults H.last_failed home.old) (seen H.file H.reach H.faults H.last_failed home.new) result }
     ensures entered { H.entered home.new ≡ H.entered home.old }
 {
     world.disarm();

@@ -1,5 +1,5 @@
 //! One event of settling: it is done, told and counted.
-ghost use Rattle.std.specs.Prelude.{◌≡◌, ◌<◌, ◌++◌, ◌∷◌, [], length, map, IfErr, IsErrOf, IfOk, OnOk, OnErr};
+ghost use Rattle.std.specs.Prelude.{◌≡◌, ◌<◌, ◌++◌, ◌∷◌, [], length, OnOk};
 ghost use Rattle.co_message.specs.declared.item.ItemKind.TheVariants as item;
 ghost use Rattle.co_node.specs.Answers.{seen};
 ghost use Rattle.co_plain.specs.Federation.{Federation};
@@ -9,11 +9,10 @@ ghost use Rattle.co_schedule.specs.View.{IsEventFor};
 ghost use Rattle.co_session.specs.Clients.{Clients};
 ghost use Rattle.co_world.specs.Conditions.{IsReady};
 ghost use Rattle.co_world.specs.Counting.{MeetsLimit};
-ghost use Rattle.co_world.specs.Served.{AreServed, HasEndedAs};
 ghost use Rattle.co_world.specs.Standing.{RepresentsWorld, AreHeld};
 ghost use Rattle.co_law_settle.specs.SettlingTurns.{note_in};
 ghost use Rattle.co_settle.specs.Notes.{wanted_by};
-ghost use Rattle.co_settle.specs.Progress.{HasDone, IsCutIn};
+ghost use Rattle.co_settle.specs.Progress.{DoesAll, EndsAs};
 
 use crate::counting::Steps;
 use crate::notes::{Want, first_wanted};
@@ -50,6 +49,13 @@ impl Told {
     }
 }
 
+/// The fault of an event that was not done.
+fn undone(_event: Event, fault: WorldFault) -> WorldFault
+    ensures { result ≡ fault }
+{
+    fault
+}
+
 /// Does an event, tells it, and counts it. Gives the first message that the event sent and that is wanted.
 pub(crate) fn take_step<E: Engine + Drop, H: Home>(
     world: &mut World<E>,
@@ -66,17 +72,18 @@ pub(crate) fn take_step<E: Engine + Drop, H: Home>(
     requires count { steps.old.count < 18446744073709551615 }
     requires held { AreHeld (H.file home.old) (H.reach home.old) world.old }
     requires stands { (s : Federation) × RepresentsWorld E.takes E.stands_for world.old s × IsReady s }
-    ensures done { (s : Federation) → RepresentsWorld E.takes E.stands_for world.old s → IsReady s → OnOk result (HasDone E.takes E.stands_for s (event ∷ []) told.old told.new steps.old steps.new world.new) }
-    ensures note { (s : Federation) → RepresentsWorld E.takes E.stands_for world.old s → IsReady s → IfOk result (λ note. note ≡ note_in (wanted_by want member) (step_line s event).items) }
-    ensures cut { (s : Federation) → RepresentsWorld E.takes E.stands_for world.old s → IsReady s → OnErr result (IsCutIn (event ∷ []) s (H.file home.new)) }
-    ensures served { OnOk result (AreServed world.new (seen H.file H.reach H.faults H.last_failed home.old) (seen H.file H.reach H.faults H.last_failed home.new)) }
-    ensures count { IsErrOf result WorldFault.Count → ⊥ }
-    ensures ended { IfErr result (λ fault. HasEndedAs fault (seen H.file H.reach H.faults H.last_failed home.old) (seen H.file H.reach H.faults H.last_failed home.new)) }
+    ensures did { (s : Federation) → RepresentsWorld E.takes E.stands_for world.old s → IsReady s →
+        DoesAll E.takes E.stands_for s (event ∷ []) told.old told.new steps.old steps.new world.new (H.file home.new) (λ note. note ≡ note_in (wanted_by want member) (step_line s event).items) result }
+    ensures ended { EndsAs world.new (seen H.file H.reach H.faults H.last_failed home.old) (seen H.file H.reach H.faults H.last_failed home.new) result }
     ensures entered { H.entered home.new ≡ H.entered home.old }
 {
-    let items = world.step(home, told.number + 1, &event)?;
-    let note = first_wanted(want, member, items.as_slice());
-    told.tell(event, items)?;
-    steps.count += 1;
-    Ok(note)
+    match world.step(home, told.number + 1, &event) {
+        Ok(items) => {
+            let note = first_wanted(want, member, items.as_slice());
+            told.tell(event, items)?;
+            steps.count += 1;
+            Ok(note)
+        }
+        Err(fault) => Err(undone(event, fault)),
+    }
 }
