@@ -3,7 +3,7 @@ ghost use Rattle.std.specs.Prelude.{◌≡◌, ◌<◌, true, length};
 ghost use Rattle.co_node.specs.Answers.{seen};
 ghost use Rattle.co_plain.specs.Federation.{Federation};
 ghost use Rattle.co_plain.specs.Quiet.{IsEnabled};
-ghost use Rattle.co_world.specs.Readings.{exchange_of};
+ghost use Rattle.co_world.specs.Readings.{exchange_as, exchange_of};
 ghost use Rattle.co_world.specs.Standing.{RepresentsWorld, AreHeld};
 ghost use Rattle.co_law_settle.specs.SettlingTurns.{Exchanges, turn_events, first_event};
 ghost use Rattle.co_settle.specs.Notes.{first_want, next_want, next_note, passed, MayPass};
@@ -11,8 +11,9 @@ ghost use Rattle.co_settle.specs.Progress.{DoesAll, EndsAs};
 ghost use Rattle.co_settle.specs.Reached.{IsReached};
 
 use crate::counting::Steps;
-use crate::notes::{Want, in_range};
+use crate::notes::{Want, in_range, numbers_in_range};
 use crate::telling::{Told, take_step};
+use co_base::Txn;
 use co_durable::WorldFault;
 use co_engine::Engine;
 use co_message::{Event, Message};
@@ -20,15 +21,9 @@ use co_outside::Home;
 use co_world::{Exchange, ExchangeKind, World};
 
 /// The event with which an exchange begins.
-fn first_event(exchange: Exchange) -> Event
-    ensures { result ≡ first_event (exchange_of exchange) }
+fn first_event(kind: ExchangeKind, txn: Txn, member: u8, coord: u8) -> Event
+    ensures { result ≡ first_event (exchange_as kind txn member coord) }
 {
-    let Exchange {
-        kind,
-        txn,
-        member,
-        coord,
-    } = exchange;
     match kind {
         ExchangeKind::Prepare => Event::Resend { txn, coord },
         ExchangeKind::Vote => Event::Vote { txn, member },
@@ -107,10 +102,16 @@ pub(crate) fn do_exchange<E: Engine + Drop, H: Home>(
     ensures ended { EndsAs world.new (seen H.file H.reach H.faults H.last_failed home.old) (seen H.file H.reach H.faults H.last_failed home.new) result }
     ensures entered { H.entered home.new ≡ H.entered home.old }
 {
-    let member = exchange.member;
-    let first = first_want(exchange.kind);
-    let next = next_want(exchange.kind);
-    let event = first_event(exchange);
+    let Exchange {
+        kind,
+        txn,
+        member,
+        coord,
+    } = exchange;
+    numbers_in_range(txn, 0);
+    let event = first_event(kind, txn, member, coord);
+    let first = first_want(kind);
+    let next = next_want(kind);
     let sent = take_step(world, home, told, steps, event, first, member)?;
     let answer = pass_on(world, home, told, steps, sent, next, member)?;
     let _ = pass_on(world, home, told, steps, answer, Want::Nothing, member)?;

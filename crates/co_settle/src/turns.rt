@@ -10,7 +10,7 @@ ghost use Rattle.co_settle.specs.Turning.{TakesTurn};
 
 use crate::counting::Steps;
 use crate::exchanges::do_exchange;
-use crate::notes::Want;
+use crate::notes::{Want, numbers_in_range};
 use crate::telling::{Told, take_step};
 use co_durable::WorldFault;
 use co_engine::Engine;
@@ -35,7 +35,15 @@ pub(crate) fn take_turn<E: Engine + Drop, H: Home>(
     ensures entered { H.entered home.new ≡ H.entered home.old }
 {
     if let Some(node) = world.first_down() {
-        let _ = take_step(world, home, told, steps, Event::Restart(node), Want::Nothing, 0)?;
+        let _ = take_step(
+            world,
+            home,
+            told,
+            steps,
+            Event::Restart(node),
+            Want::Nothing,
+            0,
+        )?;
         return Ok(());
     }
     if let Some(exchange) = world.first_exchange() {
@@ -43,6 +51,7 @@ pub(crate) fn take_turn<E: Engine + Drop, H: Home>(
     }
     match world.first_timer() {
         Some(due) => {
+            numbers_in_range(due.txn, 0);
             let event = Event::Timer {
                 txn: due.txn,
                 node: due.node,
