@@ -105,9 +105,11 @@ returns-clause-did g c = λ s r reached h.
     let one = went_first s reached c.args.exchange h g.E.Engine.takes g.E.Engine.stands_for c.args.told.now c.take_step.new.told c.args.steps.now c.take_step.new.steps c.take_step.new.world c.in_ok-sent.sent c.first_event-event.result c.first_want-first.result c.first_event-event.ensures c.first_want-first.ensures (c.in_ok-sent.ensures.did s r (ready s reached)) in
     let two = went_next s reached c.args.exchange h g.E.Engine.takes g.E.Engine.stands_for c.take_step.new.told c.pass_on.new.told c.take_step.new.steps c.pass_on.new.steps c.pass_on.new.world c.in_ok-sent.sent c.in_ok-answer.answer c.next_want-next.result one.sent_is c.next_want-next.ensures (c.in_ok-answer.ensures.did (after_first s reached c.args.exchange h).state one.done.stands (first_reached s reached c.args.exchange h)) in
     let z = after_passed s reached e h (first_note s e) in
-    let three = c.in_ok-pass_on.ensures.did z two.done.stands (passed_reached s reached e h (first_note s e)) in
-    (all_done s reached e h g.E.Engine.takes g.E.Engine.stands_for c.args.told.now c.take_step.new.told c.pass_on.new.told c.pass_on-2.new.told c.args.steps.now c.take_step.new.steps c.pass_on.new.steps c.pass_on-2.new.steps c.take_step.new.world c.pass_on.new.world c.pass_on-2.new.world one.done two.done
-    (subst (λ o. HasDone g.E.Engine.takes g.E.Engine.stands_for z (passed o) c.pass_on.new.told c.pass_on-2.new.told c.pass_on.new.steps c.pass_on-2.new.steps c.pass_on-2.new.world) two.answer_is three.0), tt)
+    let three = c.in_ok-pass_on.ensures.did z two.done.stands (passed_reached s reached e h (first_note s e)) in (
+      all_done s reached e h g.E.Engine.takes g.E.Engine.stands_for c.args.told.now c.take_step.new.told c.pass_on.new.told c.pass_on-2.new.told c.args.steps.now c.take_step.new.steps c.pass_on.new.steps c.pass_on-2.new.steps c.take_step.new.world c.pass_on.new.world c.pass_on-2.new.world one.done two.done
+          (subst (λ o. HasDone g.E.Engine.takes g.E.Engine.stands_for z (passed o) c.pass_on.new.told c.pass_on-2.new.told c.pass_on.new.steps c.pass_on-2.new.steps c.pass_on-2.new.world) two.answer_is three.0),
+      tt,
+    )
 
 pub returns-clause-ended : goal.returns-clause-ended
 returns-clause-ended g c =

@@ -79,7 +79,7 @@ loop-turn-preserved g c =
           let p = c.loop-turn.invariant.going s r reached few in
           let z = run (lines p.events) (disarmed s) in
           let next = turned g.E.Engine.takes g.E.Engine.stands_for s reached few c.args.number c.loop-turn.told c.take_turn.new.told c.args.steps.now c.loop-turn.steps c.take_turn.new.steps c.loop-turn.world c.take_turn.new.world c.loop-turn._turn p
-              (g.H.Home.file c.take_turn.new.home) (c.in_ok-anything_open.ensures.something z p.done.stands c.if-not-branch.false) (c.in_ok-take_turn.ensures.did z p.done.stands p.reached) in
+          (g.H.Home.file c.take_turn.new.home) (c.in_ok-anything_open.ensures.something z p.done.stands c.if-not-branch.false) (c.in_ok-take_turn.ensures.did z p.done.stands p.reached) in
           let counted = next.counted in
           record { events = next.events; settling = next.settling; done = next.done; reached = next.reached; counted = omega (arith, counted) };
       served = served_later c.loop-turn.world c.take_turn.new.world (seen g.H.Home.file g.H.Home.reach g.H.Home.faults g.H.Home.last_failed c.args.home.now) (seen g.H.Home.file g.H.Home.reach g.H.Home.faults g.H.Home.last_failed c.loop-turn.home)

@@ -24,8 +24,7 @@ returns-in_ok-tell-in-Ok-clause-did g c = λ s r ready.
     let n = c.args.told.now.number in
     let told = c.in_ok-tell-in-Ok.ensures in
     let items = c.in-Ok.ensures.items s r ready in
-    let next : n + 1 ≡ suc n = omega arith in
-    (
+    let next : n + 1 ≡ suc n = omega arith in (
       record {
         number = told.0;
         items = told.1 ∙ append_assoc c.args.told.now.items (numbered (n + 1) (item.Event c.args.event ∷ [])) c.in-Ok.items ∙ ap (λ (xs : List Item). c.args.told.now.items ++ xs) (ap (λ (xs : List Item). numbered (n + 1) (item.Event c.args.event ∷ []) ++ xs) items ∙ one_told n (n + 1) c.args.event s next);

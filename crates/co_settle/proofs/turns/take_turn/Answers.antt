@@ -15,7 +15,7 @@ returns-in_err-take_step-clause-did g c = λ s r reached. (
   Restarts c.in-Some.node,
   (ByRestart c.in-Some.node (c.in-Some.ensures s r), refl),
   cut_as g.E.Engine.takes g.E.Engine.stands_for s (event.Restart c.in-Some.node ∷ []) c.args.told.now c.take_step.new.told c.args.steps.now c.take_step.new.steps c.take_step.new.world (g.H.Home.file c.take_step.new.home) (λ u. Unit {0})
-  c.from_residual.result c.from_residual.ensures.0 (c.in_err-take_step.ensures.did s r (ready s reached)),
+      c.from_residual.result c.from_residual.ensures.0 (c.in_err-take_step.ensures.did s r (ready s reached)),
 )
 
 pub returns-in-Some-clause-did : goal.returns-in-Some-clause-did
@@ -45,13 +45,12 @@ take_step-requires-in-Some-first_timer-clause-stands g c = let w = c.requires.st
 
 pub returns-in_err-take_step-in-Some-first_timer-clause-did : goal.returns-in_err-take_step-in-Some-first_timer-clause-did
 returns-in_err-take_step-in-Some-first_timer-clause-did g c = λ s r reached.
-    let due = c.in-Some-first_timer.due in
-    (
+    let due = c.in-Some-first_timer.due in (
       Fires due.txn due.node,
       (ByTimer due.txn due.node (record { all_up = c.in_default.ensures s r; nothing_helps = c.in_default-first_exchange.ensures s r (ready s reached) }) (c.in-Some-first_timer.ensures s r), refl),
       cut_as g.E.Engine.takes g.E.Engine.stands_for s (event.Timer due.txn due.node ∷ []) c.args.told.now c.take_step-in-Some-first_timer.new.told c.args.steps.now c.take_step-in-Some-first_timer.new.steps c.take_step-in-Some-first_timer.new.world
-      (g.H.Home.file c.take_step-in-Some-first_timer.new.home) (λ u. Unit {0}) c.from_residual-in_err-take_step-in-Some-first_timer.result c.from_residual-in_err-take_step-in-Some-first_timer.ensures.0
-      (c.in_err-take_step-in-Some-first_timer.ensures.did s r (ready s reached)),
+          (g.H.Home.file c.take_step-in-Some-first_timer.new.home) (λ u. Unit {0}) c.from_residual-in_err-take_step-in-Some-first_timer.result c.from_residual-in_err-take_step-in-Some-first_timer.ensures.0
+          (c.in_err-take_step-in-Some-first_timer.ensures.did s r (ready s reached)),
     )
 
 pub unreachable-requires : goal.unreachable-requires
@@ -61,8 +60,7 @@ unreachable-requires g c =
 
 pub returns-clause-did : goal.returns-clause-did
 returns-clause-did g c = λ s r reached.
-    let due = c.in-Some-first_timer.due in
-    (
+    let due = c.in-Some-first_timer.due in (
       Fires due.txn due.node,
       (ByTimer due.txn due.node (record { all_up = c.in_default.ensures s r; nothing_helps = c.in_default-first_exchange.ensures s r (ready s reached) }) (c.in-Some-first_timer.ensures s r), refl),
       ((c.in_ok-take_step-in-Some-first_timer.ensures.did s r (ready s reached)).0, tt),
