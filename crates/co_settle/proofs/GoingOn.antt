@@ -1,0 +1,167 @@
+-- How settling goes on, turn by turn, and how it ends.
+use Rattle.std.proofs.Common.{◌≡◌, ◌⊎◌, inl, inr, ℕ, suc, ◌+◌, ◌*◌, ◌≤◌, ◌<◌, Bool, true, false, List, [], ◌∷◌, ◌++◌, length, Option, None, Some, Result, Ok, Err, refl, sym, ap, ◌∙◌, subst, append-nil, arith}
+use Rattle.std.specs.Result.{IsErr, IsErrAnd}
+use Rattle.std.proofs.lemmas.List.{length-append}
+use Rattle.co_base.specs.declared.head.Kind.{Kind}
+use Rattle.co_durable.specs.declared.fault.WorldFault.{WorldFault}
+use Rattle.co_durable.specs.declared.fault.WorldFault.TheVariants as world
+use Rattle.co_message.specs.declared.event.Event.{Event}
+use Rattle.co_message.specs.declared.event.Event.TheVariants as event
+use Rattle.co_message.specs.declared.item.Item.{Item}
+use Rattle.co_message.specs.declared.message.Message.{Message}
+use Rattle.co_node.specs.Answers.{HomeView}
+use Rattle.co_outside.specs.Home.{File}
+use Rattle.co_outside.specs.declared.spot.Spot.{Spot}
+use Rattle.co_plain.specs.Federation.{Federation, Stepped}
+use Rattle.co_plain.specs.Quiet.{IsOpen, Exchange, Prepares, Votes, Commits, Asks, open_count, settling_bound}
+use Rattle.co_plain.specs.Runs.{run, transcript, lines}
+use Rattle.co_plain.specs.Step.{step_line, disarmed}
+use Rattle.co_state.specs.declared.engine_state.EngineState.{EngineState}
+use Rattle.co_law_settle.proofs.Settled.{goes_on, bounded}
+use Rattle.co_law_settle.specs.SettlingTurns.{Turn, Restarts, Exchanges, Fires, turn_events, first_event, wanted, deliveries, delivers, note_in, IsNext, IsSettling, Settles, SomethingOpen, NothingOpen}
+use Rattle.co_world.proofs.Lefts.{held_left}
+use Rattle.co_world.specs.Left.{AreLeftAs}
+use Rattle.co_world.specs.Served.{AreServed}
+use Rattle.co_world.specs.Standing.{RepresentsWorld, AreHeld}
+use Rattle.co_world.specs.declared.world.World.{World}
+use Rattle.co_settle.specs.Progress.{HasDone, IsCutIn, HasEnded, EndsAs}
+use Rattle.co_settle.specs.Reached.{IsReached}
+use Rattle.co_settle.specs.Settled.{HasSettled, IsCutShort, SettlesAs}
+use Rattle.co_settle.specs.Turning.{TakesTurn}
+use Rattle.co_settle.specs.declared.counting.Steps.{Steps}
+use Rattle.co_settle.specs.declared.telling.Told.{Told}
+use Rattle.co_settle.proofs.Bounded.{few_settling}
+use Rattle.co_settle.proofs.Composing.{cut_later, done_none, done_more, run_on, ended_later}
+use Rattle.co_settle.proofs.Reaching.{NamesNoNode, reached_next, reached_disarmed, own_logs}
+
+-- ---- the events of a turn name no node anew
+
+abbrev AllNameNone : List Event → Type 0
+AllNameNone [] = Unit {0}
+AllNameNone (e ∷ es) = NamesNoNode e × AllNameNone es
+
+reached_all : (es : List Event) (s : Federation) → AllNameNone es → IsReached s → IsReached (run (lines es) s)
+reached_all [] s none r = r
+reached_all (e ∷ es) s none r = reached_all es (step_line s e).state none.1 (reached_next s e r none.0)
+
+delivered_none : (tests : List (Message → Bool)) (z : Stepped) → AllNameNone (deliveries tests z)
+delivered_none [] z = tt
+delivered_none (test ∷ tests) z = by (λ note. delivered_none tests (step_line z.state (event.Deliver note))) (note_in test z.items)
+  where
+    by : ((note : Message) → AllNameNone (deliveries tests (step_line z.state (event.Deliver note)))) → (o : Option Message) → AllNameNone (delivers o (λ note. deliveries tests (step_line z.state (event.Deliver note))))
+    by rest None = tt
+    by rest (Some note) = (λ n k. tt, rest note)
+
+first_none : (e : Exchange) → NamesNoNode (first_event e)
+first_none (Prepares t m c) n k = tt
+first_none (Votes t m) n k = tt
+first_none (Commits t m c) n k = tt
+first_none (Asks t m c) n k = tt
+
+turn_none : (s : Federation) (turn : Turn) → AllNameNone (turn_events s turn)
+turn_none s (Restarts at) = (λ n k. tt, tt)
+turn_none s (Exchanges e) = (first_none e, delivered_none (wanted e) (step_line s (first_event e)))
+turn_none s (Fires t at) = (λ n k. tt, tt)
+
+turn_some : (s : Federation) (turn : Turn) → 1 ≤ length (turn_events s turn)
+turn_some s (Restarts at) = omega arith
+turn_some s (Exchanges e) = omega arith
+turn_some s (Fires t at) = omega arith
+
+-- ---- how far settling came
+
+abbrev pub told_first : ℕ → Told
+told_first number = record { number = number; items = [] }
+
+pub record IsGoing {E : Type 0} (takes : Kind → Type 0) (stands_for : E → EngineState → Type 0) (s : Federation) (number : ℕ) (told : Told) (before steps : Steps) (w : World E) (turns : ℕ) : Type 0 where
+  pub events : List Event
+  pub settling : IsSettling s events
+  pub done : HasDone takes stands_for (disarmed s) events (told_first number) told before steps w
+  pub reached : IsReached (run (lines events) (disarmed s))
+  pub counted : turns ≤ length events
+
+module _ {E : Type 0} (takes : Kind → Type 0) (stands_for : E → EngineState → Type 0) (s : Federation) (r : IsReached s) (few : open_count s ≤ 65536) where
+  abbrev Going : ℕ → Told → Steps → Steps → World E → ℕ → Type 0
+  Going number told before steps w turns = IsGoing takes stands_for s number told before steps w turns
+
+  pub starts : (number : ℕ) (steps : Steps) (w : World E) → RepresentsWorld takes stands_for w (disarmed s) → IsGoing takes stands_for s number (told_first number) steps steps w 0
+  starts number steps w stands =
+      record {
+        events = [];
+        settling = record { turns = []; goes = tt; same = refl };
+        done = done_none takes stands_for (disarmed s) (told_first number) steps w stands;
+        reached = reached_disarmed s r;
+        counted = omega arith;
+      }
+
+  -- its events are no more than their bound
+  pub most : (events : List Event) → IsSettling s events → length events ≤ settling_bound s
+  most events settling =
+      subst (λ z. length events ≤ settling_bound z) r.is
+      (bounded r.kinds r.coords r.found_member r.found_coord r.happened r.openable (own_logs s r) r.true_verdicts r.own r.few_members r.few_coords events (subst (λ z. IsSettling z events) (sym r.is) settling))
+
+  pub short : (number : ℕ) (told : Told) (before steps : Steps) (w : World E) (turns : ℕ) (going : IsGoing takes stands_for s number told before steps w turns) → length going.events ≤ 13172760
+  short number told before steps w turns going = let a = most going.events going.settling in let b = few_settling s r few in omega (arith, a, b)
+
+  -- a turn that was taken
+  pub turned : (number : ℕ) (told next : Told) (before steps after : Steps) (w x : World E) (turns : ℕ) (going : IsGoing takes stands_for s number told before steps w turns) (file : Spot → Option File) →
+      SomethingOpen (run (lines going.events) (disarmed s)) → TakesTurn takes stands_for (run (lines going.events) (disarmed s)) told next steps after x file (Ok tt) → IsGoing takes stands_for s number next before after x (suc turns)
+  turned number told next before steps after w x turns going file some taken =
+      let z = run (lines going.events) (disarmed s) in
+      let es = turn_events z taken.0 in
+      record {
+        events = going.events ++ es;
+        settling = goes_on s going.events taken.0 going.settling some taken.1;
+        done = done_more takes stands_for (disarmed s) going.events es (told_first number) told next before steps after w x going.done taken.2.0;
+        reached = subst IsReached (sym (run_on going.events es (disarmed s))) (reached_all es z (turn_none z taken.0) going.reached);
+        counted = let a = going.counted in let b = turn_some z taken.0 in let l = length-append going.events es in omega (arith, a, b, l);
+      }
+
+  -- a turn that a fault cut short
+  pub cut_turn : (number : ℕ) (told next : Told) (before steps after : Steps) (w x : World E) (turns : ℕ) (going : IsGoing takes stands_for s number told before steps w turns) (file : Spot → Option File) (fault : WorldFault) →
+      SomethingOpen (run (lines going.events) (disarmed s)) → TakesTurn takes stands_for (run (lines going.events) (disarmed s)) told next steps after x file (Err fault) → IsCutShort s file
+  cut_turn number told next before steps after w x turns going file fault some taken =
+      let z = run (lines going.events) (disarmed s) in
+      let es = turn_events z taken.0 in
+      record {
+        events = going.events ++ es;
+        settling = goes_on s going.events taken.0 going.settling some taken.1;
+        cut = cut_later going.events es (disarmed s) file taken.2;
+      }
+
+  -- a fault between two turns
+  pub cut_between : (number : ℕ) (told : Told) (before steps : Steps) (w : World E) (turns : ℕ) (going : IsGoing takes stands_for s number told before steps w turns) (file : Spot → Option File) (reach : Spot → ℕ) → AreHeld file reach w → IsCutShort s file
+  cut_between number told before steps w turns going file reach held =
+      record {
+        events = going.events;
+        settling = going.settling;
+        cut = subst (λ es. IsCutIn es (disarmed s) file) (append-nil going.events)
+            (cut_later going.events [] (disarmed s) file (held_left takes stands_for w (run (lines going.events) (disarmed s)) file reach going.done.stands held));
+      }
+
+  -- nothing is open any more
+  pub settles : (number : ℕ) (told : Told) (before steps : Steps) (w : World E) (turns : ℕ) (going : IsGoing takes stands_for s number told before steps w turns) → NothingOpen (run (lines going.events) (disarmed s)) →
+      HasSettled takes stands_for s number before.count told.items w steps.count
+  settles number told before steps w turns going none =
+      record {
+        events = going.events;
+        settles = record { settling = going.settling; done = none };
+        bounded = most going.events going.settling;
+        told = going.done.items;
+        counted = going.done.counted;
+        stands = going.done.stands;
+      }
+
+  pub cut_as : (number before : ℕ) (w : World E) (after : ℕ) (file : Spot → Option File) (result : Result (List Item) WorldFault) → IsErr result → IsCutShort s file → SettlesAs takes stands_for s number before w after file result
+  cut_as number before w after file (Ok items) err h = absurd (let z : false ≡ true = err in cc)
+  cut_as number before w after file (Err fault) err h = h
+
+-- ---- the directory
+
+pub wants_memory : {A E : Type 0} (w x : World E) (old mid : HomeView) (result : Result A WorldFault) → IsErr result × IsErrAnd result (λ f. f ≡ world.Memory) → AreServed x old mid → EndsAs w old mid result
+wants_memory w x old mid (Ok a) h served = absurd (let z : false ≡ true = h.0 in cc)
+wants_memory w x old mid (Err fault) h served = subst (λ f. HasEnded f old mid) (sym h.1) served.quiet
+
+pub fails_on : {A E : Type 0} (w x : World E) (old mid new : HomeView) (fault : WorldFault) (result : Result A WorldFault) → IsErr result × IsErrAnd result (λ f. f ≡ fault) → AreServed x old mid → HasEnded fault mid new → EndsAs w old new result
+fails_on w x old mid new fault (Ok a) h served ended = absurd (let z : false ≡ true = h.0 in cc)
+fails_on w x old mid new fault (Err f) h served ended = subst (λ k. HasEnded k old new) (sym h.1) (ended_later fault old mid new served.quiet ended)

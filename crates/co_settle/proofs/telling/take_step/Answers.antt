@@ -1,0 +1,45 @@
+use Rattle.std.proofs.Common.{◌≡◌, ◌⊎◌, inl, inr, ℕ, suc, ◌+◌, [], ◌∷◌, ◌++◌, length, Err, refl, sym, ap, ◌∙◌, subst, append_assoc, arith}
+use Rattle.std.specs.Prelude.{List}
+use Rattle.co_durable.specs.declared.fault.WorldFault.{WorldFault}
+use Rattle.co_message.specs.declared.item.Item.{Item}
+use Rattle.co_message.specs.declared.item.ItemKind.TheVariants as item
+use Rattle.co_node.specs.Answers.{seen}
+use Rattle.co_plain.specs.Runs.{numbered}
+use Rattle.co_plain.specs.Step.{step_line}
+use Rattle.co_law_settle.specs.SettlingTurns.{note_in}
+use Rattle.co_world.proofs.Lefts.{held_left}
+use Rattle.co_settle.specs.Notes.{wanted_by}
+use Rattle.co_settle.specs.Progress.{HasEnded}
+use Rattle.co_settle.proofs.Composing.{cut_as, ended_as, one_told, told_notes}
+use Rattle.co_settle.proofs.telling.take_step.Goals as goal
+
+pub returns-in_err-tell-in-Ok-clause-did : goal.returns-in_err-tell-in-Ok-clause-did
+returns-in_err-tell-in-Ok-clause-did g c = λ s r ready.
+    cut_as g.E.Engine.takes g.E.Engine.stands_for s (c.args.event ∷ []) c.args.told.now c.tell.new.self c.args.steps.now c.args.steps.now c.step.new.self (g.H.Home.file c.step.new.home)
+    (λ note. note ≡ note_in (wanted_by c.args.want c.args.member) (step_line s c.args.event).items) c.from_residual.result c.from_residual.ensures.0
+    (inr (held_left g.E.Engine.takes g.E.Engine.stands_for c.step.new.self (step_line s c.args.event).state (g.H.Home.file c.step.new.home) (g.H.Home.reach c.step.new.home) (c.in-Ok.ensures.stands s r ready) c.in-Ok.ensures.served.kept))
+
+pub returns-in_ok-tell-in-Ok-clause-did : goal.returns-in_ok-tell-in-Ok-clause-did
+returns-in_ok-tell-in-Ok-clause-did g c = λ s r ready.
+    let n = c.args.told.now.number in
+    let told = c.in_ok-tell-in-Ok.ensures in
+    let items = c.in-Ok.ensures.items s r ready in
+    let next : n + 1 ≡ suc n = omega arith in (
+      record {
+        number = told.0;
+        items = told.1 ∙ append_assoc c.args.told.now.items (numbered (n + 1) (item.Event c.args.event ∷ [])) c.in-Ok.items ∙ ap (λ (xs : List Item). c.args.told.now.items ++ xs) (ap (λ (xs : List Item). numbered (n + 1) (item.Event c.args.event ∷ []) ++ xs) items ∙ one_told n (n + 1) c.args.event s next);
+        counted = refl;
+        stands = c.in-Ok.ensures.stands s r ready;
+      },
+      c.first_wanted-note.ensures ∙ told_notes (wanted_by c.args.want c.args.member) (n + 1) c.as_slice.result.now (step_line s c.args.event).items (c.as_slice.ensures ∙ items),
+    )
+
+pub returns-in-Err-clause-did : goal.returns-in-Err-clause-did
+returns-in-Err-clause-did g c = λ s r ready. inl (c.in-Err.ensures.left s r ready)
+
+pub returns-in-Err-clause-ended : goal.returns-in-Err-clause-ended
+returns-in-Err-clause-ended g c =
+    let old = seen g.H.Home.file g.H.Home.reach g.H.Home.faults g.H.Home.last_failed c.args.home.now in
+    let new = seen g.H.Home.file g.H.Home.reach g.H.Home.faults g.H.Home.last_failed c.step.new.home in
+    subst (λ (f : WorldFault). HasEnded f old new) (sym c.undone.ensures)
+    (ended_as c.in-Err.fault old new (λ e. c.requires.limit c.args.world.now.sessions (c.in-Err.ensures.count.0 (ap Err e))) c.in-Err.ensures.ended)

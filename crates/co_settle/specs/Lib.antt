@@ -1,0 +1,5 @@
+pub mod Reached
+pub mod Notes
+pub mod Progress
+pub mod Settled
+pub mod Turning

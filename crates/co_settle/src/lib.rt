@@ -1,0 +1,15 @@
+//! Settling: what a run left open is brought to its end, by restarts, exchanges and timers in a fixed order, until nothing is open.
+//!
+//! Each choice is made anew from what the federation tells: the first node that is down is started again; where all are up, the first
+//! exchange that can help is done, and where none can help the first timer fires. A settled federation has decided every transaction.
+#![tactic(auto)]
+
+mod counting;
+mod exchanges;
+mod notes;
+mod settling;
+mod telling;
+mod turns;
+
+pub use counting::Steps;
+pub use settling::settle;

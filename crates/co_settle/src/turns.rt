@@ -1,0 +1,64 @@
+//! One turn of settling: a restart, an exchange or a timer.
+ghost use Rattle.std.specs.Prelude.{◌≡◌, ◌<◌};
+ghost use Rattle.co_node.specs.Answers.{seen};
+ghost use Rattle.co_plain.specs.Federation.{Federation};
+ghost use Rattle.co_world.specs.Standing.{RepresentsWorld, AreHeld};
+ghost use Rattle.co_law_settle.specs.SettlingTurns.{SomethingOpen};
+ghost use Rattle.co_settle.specs.Progress.{EndsAs};
+ghost use Rattle.co_settle.specs.Reached.{IsReached};
+ghost use Rattle.co_settle.specs.Turning.{TakesTurn};
+
+use crate::counting::Steps;
+use crate::exchanges::do_exchange;
+use crate::notes::{Want, numbers_in_range};
+use crate::telling::{Told, take_step};
+use co_durable::WorldFault;
+use co_engine::Engine;
+use co_message::Event;
+use co_outside::Home;
+use co_world::World;
+
+/// Takes the turn that the federation calls for, in which something is open.
+pub(crate) fn take_turn<E: Engine + Drop, H: Home>(
+    world: &mut World<E>,
+    home: &mut H,
+    told: &mut Told,
+    steps: &mut Steps,
+) -> Result<(), WorldFault>
+    requires number { told.old.number < 4294967293 }
+    requires count { steps.old.count < 18446744073709551613 }
+    requires held { AreHeld (H.file home.old) (H.reach home.old) world.old }
+    requires stands { (s : Federation) × RepresentsWorld E.takes E.stands_for world.old s × IsReached s × SomethingOpen s }
+    ensures did { (s : Federation) → RepresentsWorld E.takes E.stands_for world.old s → IsReached s →
+        TakesTurn E.takes E.stands_for s told.old told.new steps.old steps.new world.new (H.file home.new) result }
+    ensures ended { EndsAs world.new (seen H.file H.reach H.faults H.last_failed home.old) (seen H.file H.reach H.faults H.last_failed home.new) result }
+    ensures entered { H.entered home.new ≡ H.entered home.old }
+{
+    if let Some(node) = world.first_down() {
+        let _ = take_step(
+            world,
+            home,
+            told,
+            steps,
+            Event::Restart(node),
+            Want::Nothing,
+            0,
+        )?;
+        return Ok(());
+    }
+    if let Some(exchange) = world.first_exchange() {
+        return do_exchange(world, home, told, steps, exchange);
+    }
+    match world.first_timer() {
+        Some(due) => {
+            numbers_in_range(due.txn, 0);
+            let event = Event::Timer {
+                txn: due.txn,
+                node: due.node,
+            };
+            let _ = take_step(world, home, told, steps, event, Want::Nothing, 0)?;
+            Ok(())
+        }
+        None => unreachable!(),
+    }
+}
