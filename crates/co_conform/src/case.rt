@@ -1,10 +1,10 @@
 //! A case, played.
 use crate::command::ended_of;
 use crate::fault::CaseFault;
-use crate::files::files_of;
+use crate::files::{files_of, put_files};
 use crate::outside::{Settings, home_of, settings_of};
 use crate::tables::{put_cuts, put_faults, put_stops};
-use co_outside::HomeMemory;
+use co_outside::HomeTwist;
 use std::alloc::{AllocError, Global};
 
 /// What a block plays.
@@ -67,13 +67,14 @@ fn input_of(alloc: Global, lines: &[&[u8]]) -> Result<Vec<u8>, AllocError> {
 }
 
 /// Appends the files of the directory where they are not these, which they then are.
-fn put_files(
+fn put_new_files(
     alloc: Global,
-    home: &HomeMemory,
+    home: &mut HomeTwist,
     files: &mut Vec<u8>,
     into: &mut Vec<u8>,
-) -> Result<(), AllocError> {
-    let left = files_of(alloc, home)?;
+) -> Result<(), CaseFault> {
+    let mut left = Vec::new(alloc);
+    put_files(alloc, &files_of(alloc, home)?, &mut left)?;
     if left != *files {
         into.extend_from_slice(&left)?;
         *files = left;
@@ -85,7 +86,7 @@ fn put_files(
 fn put_task(
     alloc: Global,
     settings: &Settings,
-    home: &mut HomeMemory,
+    home: &mut HomeTwist,
     asked: (Task, &[u8]),
     input: Vec<u8>,
     into: &mut Vec<u8>,
@@ -104,7 +105,7 @@ fn put_task(
 fn put_ended(
     alloc: Global,
     settings: &Settings,
-    home: &mut HomeMemory,
+    home: &mut HomeTwist,
     words: &[u8],
     input: Vec<u8>,
     into: &mut Vec<u8>,
@@ -118,7 +119,7 @@ fn put_ended(
 fn put_block(
     alloc: Global,
     settings: &Settings,
-    home: &mut HomeMemory,
+    home: &mut HomeTwist,
     block: &[&[u8]],
     into: &mut Vec<u8>,
 ) -> Result<(), CaseFault> {
@@ -141,11 +142,12 @@ fn put_blocks(
     into: &mut Vec<u8>,
 ) -> Result<(), CaseFault> {
     let mut home = home_of(alloc, settings)?;
-    let mut files = files_of(alloc, &home)?;
+    let mut files = Vec::new(alloc);
+    put_files(alloc, &settings.files, &mut files)?;
     for block in blocks {
         into.extend_from_slice(b"===\n")?;
         put_block(alloc, settings, &mut home, block, into)?;
-        put_files(alloc, &home, &mut files, into)?;
+        put_new_files(alloc, &mut home, &mut files, into)?;
     }
     Ok(())
 }

@@ -1,6 +1,6 @@
 //! One command of a case.
 use crate::outside::{Settings, sink_of, source_of};
-use co_outside::{HomeMemory, SinkMemory, SourceMemory};
+use co_outside::{HomeTwist, SinkMemory, SourceMemory};
 use co_top::{Status, run};
 use std::alloc::{AllocError, Global};
 
@@ -37,7 +37,7 @@ fn status_of(
     alloc: Global,
     line: &[u8],
     outside: &mut Outside,
-    home: &mut HomeMemory,
+    home: &mut HomeTwist,
 ) -> Result<Status, AllocError> {
     let words = words_of(alloc, line)?;
     let Outside { source, out, notes } = outside;
@@ -73,7 +73,7 @@ fn ending_of(alloc: Global, code: u8, note: &[u8]) -> Result<Vec<u8>, AllocError
 pub(crate) fn ended_of(
     alloc: Global,
     settings: &Settings,
-    home: &mut HomeMemory,
+    home: &mut HomeTwist,
     line: &[u8],
     input: Vec<u8>,
 ) -> Result<Ended, AllocError> {

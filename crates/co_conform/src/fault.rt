@@ -6,6 +6,8 @@ use std::alloc::{AllocError, AllocFailed};
 pub(crate) enum CaseFault {
     /// A setting is none, a word is wrong, or a digit of a file.
     Word,
+    /// A file could not be read.
+    Files,
     /// There was no memory.
     Memory,
 }

@@ -1,53 +1,76 @@
 //! The log files of a directory, in hex.
+use crate::fault::CaseFault;
 use crate::words::NODES;
-use co_outside::{HomeMemory, Spot};
+use co_outside::{Home, HomeTwist, Spot};
 use std::alloc::{AllocError, Global};
 
-/// Appends a file, where it has bytes.
-fn put_file(
+/// The most bytes of a file.
+const MOST_BYTES: u32 = 0x1000_0000;
+
+/// A log file: its place and its bytes.
+#[derive(Drop)]
+pub(crate) struct LogFile {
+    pub(crate) spot: Spot,
+    pub(crate) bytes: Vec<u8>,
+}
+
+impl LogFile {
+    /// Appends the file in hex, a line; nothing where it is empty.
+    fn put(&self, alloc: Global, out: &mut Vec<u8>) -> Result<(), AllocError> {
+        if self.bytes.is_empty() {
+            return Ok(());
+        }
+        out.extend_from_slice(self.spot.to_string(alloc)?.as_bytes())?;
+        out.push(b' ')?;
+        out.extend_from_slice(hex::encode(alloc, &self.bytes)?.as_bytes())?;
+        Ok(out.push(b'\n')?)
+    }
+}
+
+/// Appends files in hex.
+pub(crate) fn put_files(
     alloc: Global,
-    home: &HomeMemory,
-    spot: Spot,
+    files: &[LogFile],
     out: &mut Vec<u8>,
 ) -> Result<(), AllocError> {
-    let bytes = home.bytes(spot);
-    if bytes.is_empty() {
-        return Ok(());
+    for file in files {
+        file.put(alloc, out)?;
     }
-    out.extend_from_slice(spot.to_string(alloc)?.as_bytes())?;
-    out.push(b' ')?;
-    out.extend_from_slice(hex::encode(alloc, bytes)?.as_bytes())?;
-    Ok(out.push(b'\n')?)
+    Ok(())
 }
 
-/// The files that have bytes, a line each.
-pub(crate) fn files_of(alloc: Global, home: &HomeMemory) -> Result<Vec<u8>, AllocError> {
-    let mut out = Vec::new(alloc);
+/// The file at a spot.
+fn file_at(alloc: Global, home: &mut HomeTwist, spot: Spot) -> Result<LogFile, CaseFault> {
+    match home.read_all(alloc, spot, MOST_BYTES) {
+        Ok(bytes) => Ok(LogFile { spot, bytes }),
+        Err(_) => Err(CaseFault::Files),
+    }
+}
+
+/// Both files of each node, by the nodes.
+pub(crate) fn files_of(alloc: Global, home: &mut HomeTwist) -> Result<Vec<LogFile>, CaseFault> {
+    let mut files = Vec::new(alloc);
     for node in NODES {
-        put_file(alloc, home, Spot { node, part: 0 }, &mut out)?;
-        put_file(alloc, home, Spot { node, part: 1 }, &mut out)?;
+        files.push(file_at(alloc, home, Spot { node, part: 0 })?)?;
+        files.push(file_at(alloc, home, Spot { node, part: 1 })?)?;
     }
-    Ok(out)
+    Ok(files)
 }
 
-/// Both files of each node that has bytes in one of them.
-pub(crate) fn spots_of(alloc: Global, home: &HomeMemory) -> Result<Vec<Spot>, AllocError> {
+/// Whether one of the files of this node has bytes.
+fn is_used(files: &[LogFile], node: u8) -> bool {
+    files
+        .iter()
+        .any(|file| file.spot.node == node && !file.bytes.is_empty())
+}
+
+/// Both spots of each node that has bytes in one of its files.
+pub(crate) fn spots_of(alloc: Global, files: &[LogFile]) -> Result<Vec<Spot>, AllocError> {
     let mut spots = Vec::new(alloc);
-    for node in NODES {
-        let (a, b) = (Spot { node, part: 0 }, Spot { node, part: 1 });
-        if !(home.bytes(a).is_empty() && home.bytes(b).is_empty()) {
-            spots.push(a)?;
-            spots.push(b)?;
+    for file in files {
+        if is_used(files, file.spot.node) {
+            spots.push(file.spot)?;
         }
     }
     Ok(spots)
-}
-
-/// A directory with the same files.
-pub(crate) fn copy_of(alloc: Global, home: &HomeMemory) -> Result<HomeMemory, AllocError> {
-    let mut copy = HomeMemory::new(alloc, Vec::new(alloc));
-    for spot in &spots_of(alloc, home)? {
-        copy.put(*spot, home.bytes(*spot).to_vec(alloc)?)?;
-    }
-    Ok(copy)
 }

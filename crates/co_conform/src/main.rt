@@ -2,7 +2,8 @@
 //!
 //! Standard input names the files of cases, a line each. A case has blocks of lines, with a line `===` between them. The first block begins with
 //! a title, a line with `#`; behind it stand its settings: `file m1.a HEX` for a log file that is there, and `fail sync m1.a 4`, `take 1` or
-//! `put 1` for a call that fails: of this kind at this file, of the source, of the sink. Each other block is a command over one directory in memory:
+//! `put 1` for a call that fails: of this kind at this file, of the source, of the sink; and `twist m1.a 4 6 2` for a file whose byte at place 4 is read as 6 from its
+//! second read on. Each other block is a command over one directory in memory:
 //! `$` and its words, the lines of its input, `---`, and what it comes to: what it puts, its status with its note, and then, where files changed, each
 //! of them in hex.
 //!

@@ -1,21 +1,33 @@
 //! What a case begins with: the files of its directory, and which calls fail.
 use crate::fault::CaseFault;
+use crate::files::LogFile;
 use crate::words::{call_of, number_of, spot_of, word};
-use co_outside::{FailAt, HomeMemory, SinkMemory, SourceMemory, Spot};
+use co_outside::{FailAt, HomeMemory, HomeTwist, SinkMemory, SourceMemory, Spot};
 use std::alloc::{AllocError, Global};
 
-/// A log file that is there.
-#[derive(Drop)]
-struct LogFile {
+/// A byte that is read wrongly: from this read of the file on, at this place.
+#[derive(Clone, Copy)]
+struct Twist {
     spot: Spot,
-    bytes: Vec<u8>,
+    at: u32,
+    byte: u8,
+    from: u32,
 }
+
+/// No byte is read wrongly.
+const NONE: Twist = Twist {
+    spot: Spot::FIRST,
+    at: 0,
+    byte: 0,
+    from: u32::MAX,
+};
 
 /// The settings of a case.
 #[derive(Drop)]
 pub(crate) struct Settings {
-    files: Vec<LogFile>,
+    pub(crate) files: Vec<LogFile>,
     fail: Vec<FailAt>,
+    twist: Twist,
     take: u32,
     put: u32,
 }
@@ -26,6 +38,7 @@ impl Settings {
         Settings {
             files: Vec::new(alloc),
             fail: Vec::new(alloc),
+            twist: NONE,
             take: 0,
             put: 0,
         }
@@ -53,6 +66,20 @@ impl Settings {
         Ok(self.fail.push(failing)?)
     }
 
+    /// A byte is read wrongly.
+    fn set_twist(&mut self, alloc: Global, words: &[u8]) -> Result<(), CaseFault> {
+        let (name, rest) = word(words);
+        let (at, rest) = word(rest);
+        let (byte, from) = word(rest);
+        self.twist = Twist {
+            spot: spot_of(alloc, name)?,
+            at: number_of(at),
+            byte: number_of(byte).min(255) as u8,
+            from: number_of(from),
+        };
+        Ok(())
+    }
+
     /// One setting.
     fn add(&mut self, alloc: Global, line: &[u8]) -> Result<(), CaseFault> {
         let (kind, rest) = word(line);
@@ -60,6 +87,7 @@ impl Settings {
             b"#" => {}
             b"file" => self.add_file(alloc, rest)?,
             b"fail" => self.add_failure(alloc, rest)?,
+            b"twist" => self.set_twist(alloc, rest)?,
             b"take" => self.take = number_of(rest),
             b"put" => self.put = number_of(rest),
             _ => return Err(CaseFault::Word),
@@ -77,22 +105,30 @@ pub(crate) fn settings_of(alloc: Global, lines: &[&[u8]]) -> Result<Settings, Ca
     Ok(settings)
 }
 
-/// A directory with the files of a case, that fails at these calls.
+/// A directory with these files, that fails at these calls and reads a byte wrongly.
 fn home_with(
     alloc: Global,
-    settings: &Settings,
+    files: &[LogFile],
     fail: Vec<FailAt>,
-) -> Result<HomeMemory, AllocError> {
+    twist: Twist,
+) -> Result<HomeTwist, AllocError> {
     let mut home = HomeMemory::new(alloc, fail);
-    for file in &settings.files {
+    for file in files {
         home.put(file.spot, file.bytes.to_vec(alloc)?)?;
     }
-    Ok(home)
+    let Twist {
+        spot,
+        at,
+        byte,
+        from,
+    } = twist;
+    Ok(HomeTwist::new(home, spot, at, byte, from))
 }
 
 /// The directory of a case.
-pub(crate) fn home_of(alloc: Global, settings: &Settings) -> Result<HomeMemory, AllocError> {
-    home_with(alloc, settings, settings.fail.to_vec(alloc)?)
+pub(crate) fn home_of(alloc: Global, settings: &Settings) -> Result<HomeTwist, AllocError> {
+    let fail = settings.fail.to_vec(alloc)?;
+    home_with(alloc, &settings.files, fail, settings.twist)
 }
 
 /// The directory of a case, where this call fails, and no other.
@@ -100,10 +136,15 @@ pub(crate) fn home_that_fails(
     alloc: Global,
     settings: &Settings,
     failing: FailAt,
-) -> Result<HomeMemory, AllocError> {
+) -> Result<HomeTwist, AllocError> {
     let mut fail = Vec::new(alloc);
     fail.push(failing)?;
-    home_with(alloc, settings, fail)
+    home_with(alloc, &settings.files, fail, NONE)
+}
+
+/// A directory with these files, which does not fail.
+pub(crate) fn home_with_files(alloc: Global, files: &[LogFile]) -> Result<HomeTwist, AllocError> {
+    home_with(alloc, files, Vec::new(alloc), NONE)
 }
 
 /// This number alone, or none where it is 0.

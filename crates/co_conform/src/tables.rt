@@ -1,10 +1,10 @@
 //! Tables: one command over directories that fail, are cut or are stopped, each in turn.
 use crate::command::{Ended, ended_of};
 use crate::fault::CaseFault;
-use crate::files::{copy_of, spots_of};
-use crate::outside::{Settings, home_of, home_that_fails};
+use crate::files::{LogFile, files_of, spots_of};
+use crate::outside::{Settings, home_of, home_that_fails, home_with_files};
 use crate::words::{spot_of, word};
-use co_outside::{FailAt, HomeCall, HomeMemory, Spot};
+use co_outside::{FailAt, HomeCall, HomeTwist, Spot};
 use std::alloc::{AllocError, Global};
 
 /// The kinds of calls of a directory, and their words.
@@ -34,7 +34,7 @@ fn put_joined(before: &[u8], text: &[u8], into: &mut Vec<u8>) -> Result<(), Allo
 fn put_records(
     alloc: Global,
     settings: &Settings,
-    home: &mut HomeMemory,
+    home: &mut HomeTwist,
     into: &mut Vec<u8>,
 ) -> Result<(), AllocError> {
     let ended = ended_of(alloc, settings, home, b"records logs", Vec::new(alloc))?;
@@ -124,7 +124,7 @@ pub(crate) fn put_faults(
     words: &[u8],
     input: &[u8],
     into: &mut Vec<u8>,
-) -> Result<(), AllocError> {
+) -> Result<(), CaseFault> {
     let mut home = home_of(alloc, settings)?;
     let Ended { out: whole, .. } = ended_of(
         alloc,
@@ -139,7 +139,7 @@ pub(crate) fn put_faults(
         input,
         whole: &whole,
     };
-    for spot in &spots_of(alloc, &home)? {
+    for spot in &spots_of(alloc, &files_of(alloc, &mut home)?)? {
         for kind in CALLS {
             put_failing_calls(alloc, faults, *spot, kind, into)?;
         }
@@ -147,20 +147,40 @@ pub(crate) fn put_faults(
     Ok(())
 }
 
+/// The files, where the one at a spot is cut to a length.
+fn with_cut(
+    alloc: Global,
+    files: &[LogFile],
+    spot: Spot,
+    length: usize,
+) -> Result<Vec<LogFile>, AllocError> {
+    let mut cut = Vec::new(alloc);
+    for file in files {
+        let most = if file.spot == spot {
+            length
+        } else {
+            usize::MAX
+        };
+        let bytes = file.bytes.iter().take(most).copied().collect(alloc)?;
+        cut.push(LogFile {
+            spot: file.spot,
+            bytes,
+        })?;
+    }
+    Ok(cut)
+}
+
 /// What a command comes to over a copy of a directory in which this file is cut to this length.
 fn cut_outcome(
     alloc: Global,
     settings: &Settings,
-    home: &HomeMemory,
+    files: &[LogFile],
     cut: (Spot, usize),
     asked: (&[u8], &[u8]),
 ) -> Result<Vec<u8>, AllocError> {
     let (spot, length) = cut;
     let (words, input) = asked;
-    let mut copy = copy_of(alloc, home)?;
-    let bytes = copy.bytes(spot);
-    let front = bytes.get(..length).unwrap_or(bytes).to_vec(alloc)?;
-    copy.put(spot, front)?;
+    let mut copy = home_with_files(alloc, &with_cut(alloc, files, spot, length)?)?;
     let ended = ended_of(alloc, settings, &mut copy, words, input.to_vec(alloc)?)?;
     let mut told = Vec::new(alloc);
     put_joined(b"", &ended.ending, &mut told)?;
@@ -168,28 +188,38 @@ fn cut_outcome(
     Ok(told)
 }
 
+/// The length of the file at a spot.
+fn length_at(files: &[LogFile], spot: Spot) -> usize {
+    match files.iter().find(|file| file.spot == spot) {
+        Some(file) => file.bytes.len(),
+        None => 0,
+    }
+}
+
 /// Appends what a command comes to where a file has each length from 0 to its own: lengths with one outcome in one line.
 pub(crate) fn put_cuts(
     alloc: Global,
     settings: &Settings,
-    home: &HomeMemory,
+    home: &mut HomeTwist,
     words: &[u8],
     input: &[u8],
     into: &mut Vec<u8>,
 ) -> Result<(), CaseFault> {
     let (name, words) = word(words);
     let spot = spot_of(alloc, name)?;
+    let files = files_of(alloc, home)?;
+    let whole = length_at(&files, spot);
     let mut from = 0;
-    let mut outcome = cut_outcome(alloc, settings, home, (spot, 0), (words, input))?;
-    for length in 1..home.bytes(spot).len() + 1 {
-        let next = cut_outcome(alloc, settings, home, (spot, length), (words, input))?;
+    let mut outcome = cut_outcome(alloc, settings, &files, (spot, 0), (words, input))?;
+    for length in 1..whole.saturating_add(1) {
+        let next = cut_outcome(alloc, settings, &files, (spot, length), (words, input))?;
         if next != outcome {
             put_lengths(alloc, from, length - 1, &outcome, into)?;
             from = length;
             outcome = next;
         }
     }
-    Ok(put_lengths(alloc, from, home.bytes(spot).len(), &outcome, into)?)
+    Ok(put_lengths(alloc, from, whole, &outcome, into)?)
 }
 
 /// Appends what files of these lengths come to.
