@@ -7,6 +7,10 @@
 //!
 //! Other rows are `file a` and `file b` for the digits of a file of the coordinator, and `load COUNT ROUNDS`.
 //!
+//! After every row the coordinator stands for some plain one that is whole and writable: that is proved, by the laws of a node, and is what the
+//! next row rests on. What a row asks beside it is tested when it runs: a transaction that is begun has no commit in the log, and the
+//! participants of a commit are members, ascending.
+//!
 //! The stored input has the worked rows, and the stored output what is to come of them.
 #![tactic(auto)]
 
