@@ -6,10 +6,12 @@
 
 mod counting;
 mod exchanges;
+mod laws;
 mod notes;
 mod settling;
 mod telling;
 mod turns;
 
 pub use counting::Steps;
+pub use laws::{events_begin_few, open_ones_are_known, settling_is_short};
 pub use settling::settle;

@@ -13,11 +13,7 @@ use co_recover::{CoordPast, MemberPast, RecoverFault, recover_coord, recover_mem
 use std::alloc::{AllocError, Global};
 
 /// What the records of a member's log tell, which are allowed where they stand.
-pub(crate) fn member_past(
-    alloc: Global,
-    log: &Log,
-    coords: u8,
-) -> Result<MemberPast, AllocError>
+pub(crate) fn member_past(alloc: Global, log: &Log, coords: u8) -> Result<MemberPast, AllocError>
     requires { (owner : Node) × (l : LogState) × RepresentsLog owner log.now l × IsReadable coords l }
     ensures { (owner : Node) (l : LogState) → RepresentsLog owner log.now l → IfOk result (λ past. past ≡ past_of_member (recovered_view l.stable)) }
 {
@@ -29,11 +25,7 @@ pub(crate) fn member_past(
 }
 
 /// What the records of a coordinator's log tell, which are allowed where they stand.
-pub(crate) fn coord_past(
-    alloc: Global,
-    log: &Log,
-    members: u8,
-) -> Result<CoordPast, AllocError>
+pub(crate) fn coord_past(alloc: Global, log: &Log, members: u8) -> Result<CoordPast, AllocError>
     requires { (owner : Node) × (l : LogState) × RepresentsLog owner log.now l × (first_refused_at_coord members (reverse l.stable) ≡ None) }
     ensures { (owner : Node) (l : LogState) → RepresentsLog owner log.now l → IfOk result (λ past. past ≡ past_of_coord (recovered_commits l.stable)) }
 {

@@ -40,7 +40,7 @@ loop-place-2-preserved g c =
     }
 
 returns-all : (g : Over) (c : After-loop-place-2 g) → IsDisarmedTo g.E.Engine.stands_for c.args.self.now c.loop-place-2.self (length c.loop-place-2.self.members.items) (length c.loop-place-2.self.coords.items)
-returns-all g c = 
+returns-all g c =
     let d = c.loop-place-2.invariant in
     let l = d.coords.len in
     let k = c.loop-place.invariant.coords.len in

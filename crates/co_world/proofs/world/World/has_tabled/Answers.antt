@@ -15,8 +15,7 @@ coord_past-requires g c =
     let r = c.requires.stands.1 in
     let ready = c.requires.stands.2 in
     let k = c.args.coord in
-    let n = node.Coord c.coord_at-node.result.now.number in
-    (
+    let n = node.Coord c.coord_at-node.result.now.number in (
       n,
       (s.coord k).log,
       subst (λ (v : LogView). RepresentsLog n v (s.coord k).log) (sym c.log.ensures) (c.coord_at-node.ensures s r).stands.log,

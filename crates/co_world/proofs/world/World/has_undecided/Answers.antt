@@ -15,8 +15,7 @@ member_past-requires g c =
     let r = c.requires.stands.1 in
     let ready = c.requires.stands.2 in
     let k = c.args.member in
-    let n = node.Member c.member_at-node.result.now.number in
-    (
+    let n = node.Member c.member_at-node.result.now.number in (
       n,
       (s.member k).log,
       subst (λ (v : LogView). RepresentsLog n v (s.member k).log) (sym c.log.ensures) (c.member_at-node.ensures s r).stands.log,

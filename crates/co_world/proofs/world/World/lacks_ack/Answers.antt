@@ -21,5 +21,5 @@ returns-then-matches g c = λ s r ready.
     let own = is_coord g.E.Engine.takes g.E.Engine.stands_for c.args.self.now s r c.args.coord c.requires.coord.0 c.requires.coord.1 in
     let here = (c.coord_at-node.ensures s r).stands in
     let at : stage_of (look (s.coord c.args.coord).table c.args.t) ≡ stage.Committed =
-        elim c.match-matches.branch [ in-Committed w ↦ sym (w.in-Committed.ensures (s.coord c.args.coord) here) | in_default w ↦ absurd (let z : true ≡ false = sym c.if-matches.true ∙ w.matches-is in cc) ] in
+    elim c.match-matches.branch [ in-Committed w ↦ sym (w.in-Committed.ensures (s.coord c.args.coord) here) | in_default w ↦ absurd (let z : true ≡ false = sym c.if-matches.true ∙ w.matches-is in cc) ] in
     c.names.ensures ∙ ap (λ o. names o c.args.member) (c.lacks.ensures (s.coord c.args.coord) here) ∙ lacks_ack_is s ready c.args.coord own c.args.t c.args.member c.requires.member at
