@@ -1,10 +1,10 @@
 -- A verdict that is handed over is a decision of the coordinator that asked for the vote.
-use Rattle.std.proofs.Common.{◌≡◌, ℕ, Bool, true, false, Option, None, Some, refl, sym, ap, ◌∙◌}
+use Rattle.std.proofs.Common.{◌≡◌, ℕ, Bool, true, false, Option, None, Some, ap}
 use Rattle.std.specs.Prelude.{is_some}
 use Rattle.co_message.specs.declared.message.Message.TheVariants as message
-use Rattle.co_plain.specs.Federation.{Federation, Stepped}
+use Rattle.co_plain.specs.Federation.{Federation}
 use Rattle.co_plain.specs.Member.{coord_in, coord_of, member_decide}
-use Rattle.co_plain.specs.Step.{step, member_step, up_member, disarmed}
+use Rattle.co_plain.specs.Step.{step, member_step, up_member}
 use Rattle.co_plain.specs.declared.happening.Happening.TheVariants as happening
 use Rattle.co_state.specs.declared.engine_state.Vote.{Vote}
 use Rattle.co_undecided.specs.Kept.{coord_asked}

@@ -1,5 +1,4 @@
-use Rattle.std.proofs.Common.{◌≡◌, ◌∙◌, ◌-◌, sym, ap}
-use Rattle.co_plain.specs.Quiet.{IsMember}
+use Rattle.std.proofs.Common.{◌∙◌, sym}
 use Rattle.co_state.specs.Table.{look}
 use Rattle.co_world.proofs.HandedVerdicts.{asker_is, none_asked}
 use Rattle.co_world.proofs.world.World.asker_of.Goals as goal

@@ -1,4 +1,4 @@
-use Rattle.std.proofs.Common.{◌≡◌, ◌∙◌, ap}
+use Rattle.std.proofs.Common.{◌∙◌, ap}
 use Rattle.co_session.specs.Clients.{carried_of}
 use Rattle.co_state.specs.Table.{look}
 use Rattle.co_world.proofs.world.World.carried.Goals as goal

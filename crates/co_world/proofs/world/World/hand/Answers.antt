@@ -1,4 +1,3 @@
-use Rattle.std.proofs.Common.{◌≡◌, ◌∙◌, sym, ap}
 use Rattle.co_plain.specs.Step.{step, disarmed}
 use Rattle.co_plain.specs.declared.happening.Happening.TheVariants as happening
 use Rattle.co_world.proofs.HandedVerdicts.{handed_is}

@@ -1,4 +1,4 @@
-use Rattle.std.proofs.Common.{◌≡◌, ◌∙◌, ◌-◌, sym}
+use Rattle.std.proofs.Common.{◌∙◌, sym}
 use Rattle.co_world.proofs.world.World.knows.Goals as goal
 
 pub knows-requires : goal.knows-requires
