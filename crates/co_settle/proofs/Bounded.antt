@@ -1,12 +1,12 @@
 -- How many events settling takes at most: no more transactions are open with one member than are open at all.
-use Rattle.std.proofs.Common.{◌≡◌, ◌≢◌, ◌⊎◌, inl, inr, ℕ, zero, suc, ◌≤◌, ◌<◌, ◌+◌, ◌*◌, Bool, true, false, ◌||◌, ◌&&◌, ◌==◌, if◌then◌else◌, T, List, [], ◌∷◌, map, filter, length, Option, None, Some, refl, sym, ap, ◌∙◌, subst, arith}
+use Rattle.std.proofs.Common.{◌≡◌, ◌⊎◌, inl, inr, ℕ, zero, suc, ◌≤◌, ◌*◌, Bool, true, false, ◌||◌, ◌&&◌, ◌==◌, if◌then◌else◌, T, List, [], ◌∷◌, map, filter, length, refl, sym, ap, ◌∙◌, arith}
 use Rattle.std.specs.Option.{is_some}
 use Rattle.std.specs.List.{AllByRecursion, IsDistinct, list_any}
 use Rattle.std.specs.Ordering.{nat_cmp, eq_by_cmp, is_lt, is_eq}
 use Rattle.std.specs.declared.cmp.Ordering.{Ordering}
 use Rattle.std.specs.declared.cmp.Ordering.TheVariants.{Less, Equal, Greater}
 use Rattle.std.specs.Cmp.{eq_by_cmp_equiv, nat_cmp_total}
-use Rattle.std.specs.FinMap.{entries, entries_sorted, keys, contains_key, contains_key-keys}
+use Rattle.std.specs.FinMap.{entries, entries_sorted, keys, contains_key-keys}
 use Rattle.std.specs.FinMap.Entries.{is_sorted, below_all}
 use Rattle.std.proofs.lemmas.Bool.{or_cases, eqb-true, eqb-false}
 use Rattle.std.proofs.lemmas.Cmp.{tied_itself}
@@ -19,9 +19,8 @@ use Rattle.co_plain.specs.MemberView.{Numbers, with_number, with_numbers}
 use Rattle.co_plain.specs.Numbers.{has_number}
 use Rattle.co_plain.specs.Opening.{with_all, union_to}
 use Rattle.co_plain.specs.Quiet.{IsMember, IsOpen, InTable, ActiveAt, VotedAt, open_here, open_numbers, open_between, open_count, open_pairs, settling_bound, sum_to, table_numbers, takes_part}
-use Rattle.co_plain.specs.declared.coord_state.Entry.{Entry}
-use Rattle.co_state.specs.Table.{Table, look, holds, no_entries}
-use Rattle.co_law_base.proofs.Lookups.{look_none, put_here, put_there}
+use Rattle.co_state.specs.Table.{Table, holds, no_entries}
+use Rattle.co_law_base.proofs.Lookups.{look_none, put_there}
 use Rattle.co_law_settle.proofs.OpenSets.{open_counted}
 use Rattle.co_settle.specs.Reached.{IsReached}
 use Rattle.co_settle.proofs.Reaching.{kinds_are}
@@ -46,7 +45,7 @@ pub or_right : (a b : Bool) → b ≡ true → (a || b) ≡ true
 or_right true b e = refl
 or_right false b e = e
 
-laid_cases : (n : Numbers) (ts : List ℕ) (t : ℕ) → holds (with_numbers n ts) t ≡ true → (holds n t ≡ true) ⊎ (has_number ts t ≡ true)
+pub laid_cases : (n : Numbers) (ts : List ℕ) (t : ℕ) → holds (with_numbers n ts) t ≡ true → (holds n t ≡ true) ⊎ (has_number ts t ≡ true)
 laid_cases n [] t h = inl h
 laid_cases n (u ∷ us) t h = by (laid_cases (with_number n u) us t h)
   where

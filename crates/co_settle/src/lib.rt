@@ -13,5 +13,7 @@ mod telling;
 mod turns;
 
 pub use counting::Steps;
-pub use laws::{events_begin_few, open_ones_are_known, settling_is_short};
+pub use laws::{
+    events_begin_few, fresh_runs_leave_few_open, open_ones_are_known, settling_is_short,
+};
 pub use settling::settle;
