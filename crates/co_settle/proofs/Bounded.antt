@@ -1,12 +1,12 @@
 -- How many events settling takes at most: no more transactions are open with one member than are open at all.
-use Rattle.std.proofs.Common.{◌≡◌, ◌≢◌, ◌⊎◌, inl, inr, ℕ, zero, suc, ◌≤◌, ◌<◌, ◌+◌, ◌*◌, Bool, true, false, ◌||◌, ◌&&◌, ◌==◌, if◌then◌else◌, T, List, [], ◌∷◌, map, filter, length, Option, None, Some, refl, sym, ap, ◌∙◌, subst, arith}
+use Rattle.std.proofs.Common.{◌≡◌, ◌⊎◌, inl, inr, ℕ, zero, suc, ◌≤◌, ◌*◌, Bool, true, false, ◌||◌, ◌&&◌, ◌==◌, if◌then◌else◌, T, List, [], ◌∷◌, map, filter, length, refl, sym, ap, ◌∙◌, arith}
 use Rattle.std.specs.Option.{is_some}
 use Rattle.std.specs.List.{AllByRecursion, IsDistinct, list_any}
 use Rattle.std.specs.Ordering.{nat_cmp, eq_by_cmp, is_lt, is_eq}
 use Rattle.std.specs.declared.cmp.Ordering.{Ordering}
 use Rattle.std.specs.declared.cmp.Ordering.TheVariants.{Less, Equal, Greater}
 use Rattle.std.specs.Cmp.{eq_by_cmp_equiv, nat_cmp_total}
-use Rattle.std.specs.FinMap.{entries, entries_sorted, keys, contains_key, contains_key-keys}
+use Rattle.std.specs.FinMap.{entries, entries_sorted, keys, contains_key-keys}
 use Rattle.std.specs.FinMap.Entries.{is_sorted, below_all}
 use Rattle.std.proofs.lemmas.Bool.{or_cases, eqb-true, eqb-false}
 use Rattle.std.proofs.lemmas.Cmp.{tied_itself}
@@ -19,9 +19,8 @@ use Rattle.co_plain.specs.MemberView.{Numbers, with_number, with_numbers}
 use Rattle.co_plain.specs.Numbers.{has_number}
 use Rattle.co_plain.specs.Opening.{with_all, union_to}
 use Rattle.co_plain.specs.Quiet.{IsMember, IsOpen, InTable, ActiveAt, VotedAt, open_here, open_numbers, open_between, open_count, open_pairs, settling_bound, sum_to, table_numbers, takes_part}
-use Rattle.co_plain.specs.declared.coord_state.Entry.{Entry}
-use Rattle.co_state.specs.Table.{Table, look, holds, no_entries}
-use Rattle.co_law_base.proofs.Lookups.{look_none, put_here, put_there}
+use Rattle.co_state.specs.Table.{Table, holds, no_entries}
+use Rattle.co_law_base.proofs.Lookups.{look_none, put_there}
 use Rattle.co_law_settle.proofs.OpenSets.{open_counted}
 use Rattle.co_settle.specs.Reached.{IsReached}
 use Rattle.co_settle.proofs.Reaching.{kinds_are}
@@ -38,15 +37,15 @@ put_cases n u t h = by (u == t) refl
     by true e = inl e
     by false e = inr (sym (ap is_some (put_there n u tt t (eqb-false u t e))) ∙ h)
 
-or_left : (a b : Bool) → a ≡ true → (a || b) ≡ true
+pub or_left : (a b : Bool) → a ≡ true → (a || b) ≡ true
 or_left true b e = refl
 or_left false b e = absurd (let z : false ≡ true = e in cc)
 
-or_right : (a b : Bool) → b ≡ true → (a || b) ≡ true
+pub or_right : (a b : Bool) → b ≡ true → (a || b) ≡ true
 or_right true b e = refl
 or_right false b e = e
 
-laid_cases : (n : Numbers) (ts : List ℕ) (t : ℕ) → holds (with_numbers n ts) t ≡ true → (holds n t ≡ true) ⊎ (has_number ts t ≡ true)
+pub laid_cases : (n : Numbers) (ts : List ℕ) (t : ℕ) → holds (with_numbers n ts) t ≡ true → (holds n t ≡ true) ⊎ (has_number ts t ≡ true)
 laid_cases n [] t h = inl h
 laid_cases n (u ∷ us) t h = by (laid_cases (with_number n u) us t h)
   where
@@ -58,7 +57,7 @@ laid_cases n (u ∷ us) t h = by (laid_cases (with_number n u) us t h)
     by (inl k) = new (put_cases n u t k)
     by (inr k) = inr (or_right (u == t) (has_number us t) k)
 
-member_of : (xs : List ℕ) (t : ℕ) → has_number xs t ≡ true → list_any (eq_by_cmp nat_cmp t) xs ≡ true
+pub member_of : (xs : List ℕ) (t : ℕ) → has_number xs t ≡ true → list_any (eq_by_cmp nat_cmp t) xs ≡ true
 member_of [] t h = absurd (let z : false ≡ true = h in cc)
 member_of (x ∷ xs) t h = by (member_of xs t) (or_cases (x == t) (has_number xs t) h)
   where
@@ -66,17 +65,17 @@ member_of (x ∷ xs) t h = by (member_of xs t) (or_cases (x == t) (has_number xs
     by rest (inl e) = or_left (eq_by_cmp nat_cmp t x) _ (ap (λ k. eq_by_cmp nat_cmp t k) (eqb-true x t e) ∙ ap is_eq (tied_itself nat_cmp_total t))
     by rest (inr k) = or_right (eq_by_cmp nat_cmp t x) _ (rest k)
 
-key_holds : {X : Type 0} (table : Table X) (t : ℕ) → has_number (keys table) t ≡ true → holds table t ≡ true
+pub key_holds : {X : Type 0} (table : Table X) (t : ℕ) → has_number (keys table) t ≡ true → holds table t ≡ true
 key_holds table t h = contains_key-keys table t ∙ member_of (keys table) t h
 
-all_cases : (a b : Numbers) (t : ℕ) → holds (with_all a b) t ≡ true → (holds a t ≡ true) ⊎ (holds b t ≡ true)
+pub all_cases : (a b : Numbers) (t : ℕ) → holds (with_all a b) t ≡ true → (holds a t ≡ true) ⊎ (holds b t ≡ true)
 all_cases a b t h = by (laid_cases a (keys b) t h)
   where
     by : (holds a t ≡ true) ⊎ (has_number (keys b) t ≡ true) → (holds a t ≡ true) ⊎ (holds b t ≡ true)
     by (inl k) = inl k
     by (inr k) = inr (key_holds b t k)
 
-union_cases : {A : Type 0} (n : ℕ) (sets : ℕ → Numbers) (t : ℕ) → ((k : ℕ) → 1 ≤ k → k ≤ n → holds (sets k) t ≡ true → A) → holds (union_to n sets) t ≡ true → A
+pub union_cases : {A : Type 0} (n : ℕ) (sets : ℕ → Numbers) (t : ℕ) → ((k : ℕ) → 1 ≤ k → k ≤ n → holds (sets k) t ≡ true → A) → holds (union_to n sets) t ≡ true → A
 union_cases zero sets t give h = absurd (let z : false ≡ true = sym (no_holds t) ∙ h in cc)
 union_cases {A} (suc n) sets t give h = by (union_cases n sets t (λ k from to q. give k from (omega (arith, to)) q)) (all_cases (union_to n sets) (sets (suc n)) t h)
   where
@@ -84,7 +83,7 @@ union_cases {A} (suc n) sets t give h = by (union_cases n sets t (λ k from to q
     by rest (inl k) = rest k
     by rest (inr k) = give (suc n) (omega arith) (omega arith) k
 
-listed_holds : {X : Type 0} (es : List (ℕ × X)) (t : ℕ) → holds (table_numbers es) t ≡ true → has_number (map (λ e. e.0) es) t ≡ true
+pub listed_holds : {X : Type 0} (es : List (ℕ × X)) (t : ℕ) → holds (table_numbers es) t ≡ true → has_number (map (λ e. e.0) es) t ≡ true
 listed_holds es t h = by (laid_cases no_entries (map (λ e. e.0) es) t h)
   where
     by : (holds (no_entries {X = Unit {0}}) t ≡ true) ⊎ (has_number (map (λ e. e.0) es) t ≡ true) → has_number (map (λ e. e.0) es) t ≡ true
@@ -107,7 +106,7 @@ passing_listed {X} test (e ∷ es) t h = by (passing_listed test es t) (test e.1
 -- ---- what is open with a member is open
 
 module _ (s : Federation) where
-  here_open : (m t : ℕ) → IsMember s m → holds (open_here (s.member m)) t ≡ true → IsOpen s t
+  pub here_open : (m t : ℕ) → IsMember s m → holds (open_here (s.member m)) t ≡ true → IsOpen s t
   here_open m t own h = by (all_cases (table_numbers (entries (s.member m).engine.active)) (table_numbers (entries (s.member m).engine.voted)) t h)
     where
       by : (holds (table_numbers (entries (s.member m).engine.active)) t ≡ true) ⊎ (holds (table_numbers (entries (s.member m).engine.voted)) t ≡ true) → IsOpen s t
@@ -138,7 +137,7 @@ module _ (s : Federation) where
   apart_below k [] h = tt
   apart_below k (e ∷ es) h = let b = both_T (is_lt (nat_cmp k e.0)) (below_all nat_cmp k es) h in (not_tied (nat_cmp k e.0) b.0, apart_below k es b.1)
 
-  distinct_entries : {X : Type 0} (es : List (ℕ × X)) → T (is_sorted nat_cmp es) → IsDistinct (eq_by_cmp nat_cmp) (map (λ e. e.0) es)
+  pub distinct_entries : {X : Type 0} (es : List (ℕ × X)) → T (is_sorted nat_cmp es) → IsDistinct (eq_by_cmp nat_cmp) (map (λ e. e.0) es)
   distinct_entries [] h = IsDistinct-from_sorted nat_cmp [] (sorted_none nat_cmp)
   distinct_entries (e ∷ es) h =
       let b = both_T (below_all nat_cmp e.0 es) (is_sorted nat_cmp es) h in

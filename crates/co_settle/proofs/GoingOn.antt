@@ -1,5 +1,5 @@
 -- How settling goes on, turn by turn, and how it ends.
-use Rattle.std.proofs.Common.{◌≡◌, ◌⊎◌, inl, inr, ℕ, suc, ◌+◌, ◌*◌, ◌≤◌, ◌<◌, Bool, true, false, List, [], ◌∷◌, ◌++◌, length, Option, None, Some, Result, Ok, Err, refl, sym, ap, ◌∙◌, subst, append-nil, arith}
+use Rattle.std.proofs.Common.{◌≡◌, ℕ, suc, ◌≤◌, Bool, true, false, List, [], ◌∷◌, ◌++◌, length, Option, None, Some, Result, Ok, Err, refl, sym, subst, append-nil, arith}
 use Rattle.std.specs.Result.{IsErr, IsErrAnd}
 use Rattle.std.proofs.lemmas.List.{length-append}
 use Rattle.co_base.specs.declared.head.Kind.{Kind}
@@ -13,14 +13,13 @@ use Rattle.co_node.specs.Answers.{HomeView}
 use Rattle.co_outside.specs.Home.{File}
 use Rattle.co_outside.specs.declared.spot.Spot.{Spot}
 use Rattle.co_plain.specs.Federation.{Federation, Stepped}
-use Rattle.co_plain.specs.Quiet.{IsOpen, Exchange, Prepares, Votes, Commits, Asks, open_count, settling_bound}
-use Rattle.co_plain.specs.Runs.{run, transcript, lines}
+use Rattle.co_plain.specs.Quiet.{Exchange, Prepares, Votes, Commits, Asks, open_count, settling_bound}
+use Rattle.co_plain.specs.Runs.{run, lines}
 use Rattle.co_plain.specs.Step.{step_line, disarmed}
 use Rattle.co_state.specs.declared.engine_state.EngineState.{EngineState}
 use Rattle.co_law_settle.proofs.Settled.{goes_on, bounded}
-use Rattle.co_law_settle.specs.SettlingTurns.{Turn, Restarts, Exchanges, Fires, turn_events, first_event, wanted, deliveries, delivers, note_in, IsNext, IsSettling, Settles, SomethingOpen, NothingOpen}
+use Rattle.co_law_settle.specs.SettlingTurns.{Turn, Restarts, Exchanges, Fires, turn_events, first_event, wanted, deliveries, delivers, note_in, IsSettling, SomethingOpen, NothingOpen}
 use Rattle.co_world.proofs.Lefts.{held_left}
-use Rattle.co_world.specs.Left.{AreLeftAs}
 use Rattle.co_world.specs.Served.{AreServed}
 use Rattle.co_world.specs.Standing.{RepresentsWorld, AreHeld}
 use Rattle.co_world.specs.declared.world.World.{World}

@@ -1,7 +1,6 @@
 -- The messages of an exchange: those that the code delivers are those of the turn, and they name nodes of the federation.
 use Rattle.std.proofs.Common.{◌≡◌, ◌≢◌, ◌⊎◌, inl, inr, ℕ, Bool, true, false, ◌==◌, ◌≤◌, if◌then◌else◌, List, [], ◌∷◌, ◌++◌, find, length, Option, None, Some, refl, sym, ap, ◌∙◌, subst, arith}
 use Rattle.std.proofs.lemmas.Bool.{eqb-true}
-use Rattle.co_base.specs.declared.mark.Mark.{Mark}
 use Rattle.co_message.specs.declared.answer.Answer.{Answer}
 use Rattle.co_message.specs.declared.answer.Answer.TheVariants as answer
 use Rattle.co_message.specs.declared.event.Event.{Event}
@@ -15,10 +14,10 @@ use Rattle.co_plain.specs.LogWrite.{outcome_of}
 use Rattle.co_plain.specs.declared.outcome.Outcome.{Outcome}
 use Rattle.co_plain.specs.declared.outcome.Outcome.TheVariants.{Completes, StopsAt}
 use Rattle.co_plain.specs.Runs.{run, lines}
-use Rattle.co_plain.specs.Federation.{Federation, Stepped, answers, at_member, at_coord, items_of, message_list}
+use Rattle.co_plain.specs.Federation.{Federation, Stepped, answers, message_list}
 use Rattle.co_plain.specs.Member.{member_decide, commit_by, abort_by, installed_state}
 use Rattle.co_plain.specs.MemberStep.{standing_of, stopped_member, forced_by}
-use Rattle.co_plain.specs.Quiet.{IsMember, IsCoordinator, IsEnabled}
+use Rattle.co_plain.specs.Quiet.{IsMember, IsEnabled}
 use Rattle.co_plain.specs.Step.{step_line, up_member, up_coord, arrives}
 use Rattle.co_plain.specs.Wire.{was_sent}
 use Rattle.co_plain.specs.declared.coord_step.CoordStep.{CoordStep}
@@ -26,16 +25,16 @@ use Rattle.co_plain.specs.declared.member_state.MemberState.{MemberState}
 use Rattle.co_plain.specs.declared.member_step.MemberStep.{MemberStep}
 use Rattle.co_plain.specs.declared.standing.Standing.{Standing}
 use Rattle.co_plain.specs.declared.standing.Standing.TheVariants.{IsActive, IsVoted, IsInstalled, IsAbsent}
-use Rattle.co_schedule.specs.View.{IsMessageFor, IsEventFor, IsTxn}
+use Rattle.co_schedule.specs.View.{IsEventFor, IsTxn}
 use Rattle.co_law_settle.proofs.Reaching.{note_of, found_sent}
-use Rattle.co_law_settle.specs.SettlingTurns.{note_in, delivers, deliveries, wanted, first_event, turn_events, Exchanges, prepares_member, votes_from, decides_for, asks_from, acks_from}
+use Rattle.co_law_settle.specs.SettlingTurns.{note_in, delivers, deliveries, first_event, turn_events, Exchanges, prepares_member, votes_from, decides_for, asks_from, acks_from}
 use Rattle.co_session.specs.Clients.{Clients}
 use Rattle.co_world.specs.Counting.{MeetsLimit}
 use Rattle.co_world.specs.Readings.{exchange_of, exchange_as}
 use Rattle.co_world.specs.declared.exchanges.Exchange.{Exchange}
 use Rattle.co_world.specs.declared.exchanges.ExchangeKind.{ExchangeKind}
 use Rattle.co_world.specs.declared.exchanges.ExchangeKind.TheVariants as kind
-use Rattle.co_settle.specs.Notes.{wanted_by, first_want, next_want, next_note, passed, AreInRange, AreInHead, IsForHead, MayPass}
+use Rattle.co_settle.specs.Notes.{wanted_by, first_want, next_want, next_note, passed, AreInHead, IsForHead, MayPass}
 use Rattle.co_base.specs.declared.head.Kind.{Kind}
 use Rattle.co_outside.specs.Home.{File}
 use Rattle.co_outside.specs.declared.spot.Spot.{Spot}

@@ -1,17 +1,15 @@
 -- What holds of a federation that a run left: an event can be done, it is reached after each event too, and its messages name its coordinators.
-use Rattle.std.proofs.Common.{◌≡◌, ◌⊎◌, inl, inr, ℕ, Bool, true, false, ◌&&◌, ◌≤◌, nat_le, List, [], ◌∷◌, ◌++◌, length, None, Some, refl, sym, ap, ◌∙◌, subst, arith}
+use Rattle.std.proofs.Common.{◌≡◌, ℕ, Bool, true, false, ◌&&◌, ◌≤◌, nat_le, List, [], ◌∷◌, ◌++◌, length, Some, refl, sym, ap, ◌∙◌, subst, arith}
 use Rattle.std.proofs.lemmas.Bool.Decides.{nat_tests}
 use Rattle.std.proofs.lemmas.Bool.{and_parts}
-use Rattle.co_base.specs.declared.head.Kind.{Kind}
-use Rattle.co_base.specs.declared.node.Node.TheVariants as node
 use Rattle.co_message.specs.declared.event.Event.{Event}
 use Rattle.co_message.specs.declared.message.Message.{Message}
 use Rattle.co_message.specs.declared.message.Message.TheVariants as message
-use Rattle.co_plain.specs.Decisions.{BelongsTo, BegunThere, VotedBefore}
+use Rattle.co_plain.specs.Decisions.{BegunThere, VotedBefore}
 use Rattle.co_plain.specs.Federation.{Federation}
-use Rattle.co_plain.specs.Opening.{Found, opened}
+use Rattle.co_plain.specs.Opening.{opened}
 use Rattle.co_plain.specs.Quiet.{Exchange, IsNode, IsEnabled}
-use Rattle.co_plain.specs.Runs.{run, lines}
+use Rattle.co_plain.specs.Runs.{run}
 use Rattle.co_plain.specs.Settling.{timer_ends, SettlesBy, ByRestart, ByExchange, ByTimer}
 use Rattle.co_base.specs.declared.node.Node.{Node}
 use Rattle.co_law_settle.proofs.First.{settles_by}

@@ -6,10 +6,14 @@
 
 mod counting;
 mod exchanges;
+mod laws;
 mod notes;
 mod settling;
 mod telling;
 mod turns;
 
 pub use counting::Steps;
+pub use laws::{
+    events_begin_few, fresh_runs_leave_few_open, open_ones_are_known, settling_is_short,
+};
 pub use settling::settle;

@@ -1,7 +1,6 @@
 -- The armed stops of the nodes up to a place are taken away.
 use Rattle.std.proofs.Common.{◌≡◌, ◌<◌, ◌≤◌, ◌+◌, ◌≢◌, ◌⊎◌, inl, inr, ℕ, suc, List, length, set, slice_get, Option, None, Some, refl, sym, ap, ◌∙◌, subst, arith, length-set}
 use Rattle.co_base.specs.declared.head.Kind.{Kind}
-use Rattle.co_base.specs.declared.node.Node.{Node}
 use Rattle.co_base.specs.declared.node.Node.TheVariants as node
 use Rattle.co_outside.specs.Home.{File}
 use Rattle.co_outside.specs.declared.spot.Spot.{Spot}
@@ -14,7 +13,6 @@ use Rattle.co_plain.specs.Numbers.{has_number}
 use Rattle.co_plain.specs.Step.{disarmed}
 use Rattle.co_plain.specs.declared.coord_state.CoordState.{CoordState}
 use Rattle.co_plain.specs.declared.member_state.MemberState.{MemberState}
-use Rattle.co_message.specs.declared.message.Message.{Message}
 use Rattle.co_session.specs.Clients.{Clients}
 use Rattle.co_state.specs.declared.engine_state.EngineState.{EngineState}
 use Rattle.co_coord.specs.declared.coord.Coord.{Coord}

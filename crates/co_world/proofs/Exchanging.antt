@@ -4,7 +4,7 @@ use Rattle.std.specs.Prelude.{MatchOption, is_some}
 use Rattle.co_plain.specs.Federation.{Federation}
 use Rattle.co_plain.specs.Quiet.{IsMember, IsCoordinator, IsEnabled, Prepares, Votes, Commits, Asks}
 use Rattle.co_plain.specs.Quiet as plain
-use Rattle.co_plain.specs.Settling.{exchange_txn, exchange_rank, exchange_member, ExchangeBefore, IsFirstExchange}
+use Rattle.co_plain.specs.Settling.{exchange_txn, exchange_rank, exchange_member}
 use Rattle.co_world.specs.Readings.{exchange_as, exchange_of, helps, IsFirstOf}
 use Rattle.co_world.specs.declared.exchanges.Exchange.{Exchange}
 use Rattle.co_world.specs.declared.exchanges.ExchangeKind.{ExchangeKind}

@@ -1,5 +1,5 @@
 -- Whom a coordinator lacks: the first participant from a number on is this one exactly where it is lacking.
-use Rattle.std.proofs.Common.{◌≡◌, ◌≢◌, ◌⊎◌, inl, inr, ℕ, suc, ◌≤◌, ◌<◌, ◌-◌, nat_lt, Bool, true, false, not, ◌&&◌, ◌||◌, ◌==◌, if◌then◌else◌, List, [], ◌∷◌, ◌++◌, find, length, Option, None, Some, refl, sym, ap, ◌∙◌, subst, arith}
+use Rattle.std.proofs.Common.{◌≡◌, ◌≢◌, ◌⊎◌, inl, inr, ℕ, ◌≤◌, ◌<◌, ◌-◌, nat_lt, Bool, true, false, not, ◌&&◌, ◌||◌, ◌==◌, if◌then◌else◌, List, [], ◌∷◌, find, Option, None, Some, refl, sym, ap, ◌∙◌, subst, arith}
 use Rattle.std.specs.List.{AllByRecursion}
 use Rattle.std.specs.Ordering.{nat_cmp}
 use Rattle.std.specs.Cmp.{nat_cmp_is}
@@ -8,12 +8,11 @@ use Rattle.std.proofs.lemmas.Bool.{cases_order, eqb-true, eqb-false}
 use Rattle.std.proofs.lemmas.Bool.Decides.{nat_tests}
 use Rattle.std.proofs.lemmas.Map.Keys.{sorted_head, sorted_tail}
 use Rattle.co_base.specs.Order.{IsAscending}
-use Rattle.co_base.specs.declared.part.Part.{Part}
 use Rattle.co_record.specs.Spelling.{IsWritable}
 use Rattle.co_record.specs.declared.record.Record.{Record}
 use Rattle.co_record.specs.declared.record.Record.TheVariants as log
 use Rattle.co_state.specs.Table.{look}
-use Rattle.co_plain.specs.CoordStep.{has_part, members_of}
+use Rattle.co_plain.specs.CoordStep.{members_of}
 use Rattle.co_plain.specs.CoordView.{recovered_commits}
 use Rattle.co_plain.specs.Federation.{Federation}
 use Rattle.co_plain.specs.Numbers.{has_number}
@@ -25,7 +24,7 @@ use Rattle.co_law_base.proofs.Commits.{commit_cases}
 use Rattle.co_law_base.proofs.Lookups.{is_nothing, look_none, without_cases}
 use Rattle.co_law_base.proofs.Sending.{part_member}
 use Rattle.co_law_node.specs.WholeMembers.{IsAmong}
-use Rattle.co_coord.specs.Reading.{lacking_above, lacking_of, stage_of}
+use Rattle.co_coord.specs.Reading.{lacking_of, stage_of}
 use Rattle.co_coord.specs.declared.reading.Stage.TheVariants as stage
 use Rattle.co_world.specs.Conditions.{IsReady}
 use Rattle.co_world.specs.Readings.{names}

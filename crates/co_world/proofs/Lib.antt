@@ -22,3 +22,4 @@ pub mod Lacking
 pub mod Exchanging
 pub mod Walks
 pub mod OpenNodes
+pub mod HandedVerdicts

@@ -1,5 +1,5 @@
 -- Who has something open: what a node has in memory, or what its log tells while it is down.
-use Rattle.std.proofs.Common.{◌≡◌, ◌⊎◌, inl, inr, ℕ, Bool, true, false, not, ◌||◌, ◌==◌, ◌≤◌, List, [], ◌∷◌, length, map, Option, None, Some, refl, sym, ap, ◌∙◌, subst, arith}
+use Rattle.std.proofs.Common.{◌≡◌, ◌⊎◌, inl, inr, ℕ, Bool, true, false, not, ◌||◌, ◌==◌, ◌≤◌, List, [], ◌∷◌, length, map, Option, None, Some, refl, sym, ap, ◌∙◌, arith}
 use Rattle.std.specs.FinMap.{entries}
 use Rattle.std.specs.Option.{is_some}
 use Rattle.std.proofs.lemmas.Bool.{or_cases}
@@ -22,7 +22,7 @@ use Rattle.co_state.specs.Table.{Table, look, holds, put, no_entries, first_in, 
 use Rattle.co_state.specs.declared.engine_state.EngineState.{EngineState}
 use Rattle.co_law_base.proofs.Lookups.{look_none, put_here, put_there}
 use Rattle.co_member.specs.Reading.{open_after}
-use Rattle.co_undecided.proofs.Least.{IsLeast, least_of_both, table_least, passed}
+use Rattle.co_undecided.proofs.Least.{IsLeast, table_least, passed}
 
 -- ---- what is open in memory
 

@@ -1,21 +1,19 @@
 -- A walk over the open transactions in their order passes over none.
-use Rattle.std.proofs.Common.{◌≡◌, ◌⊎◌, inl, inr, ℕ, zero, suc, ◌<◌, ◌≤◌, ◌-◌, nat_lt, Bool, true, false, ◌||◌, length, Option, None, Some, refl, sym, ap, ◌∙◌, subst, arith}
+use Rattle.std.proofs.Common.{◌≡◌, ◌⊎◌, inl, inr, ℕ, zero, suc, ◌<◌, ◌≤◌, ◌-◌, Bool, true, false, ◌||◌, length, Option, None, Some, refl, sym, ◌∙◌, subst, arith}
 use Rattle.std.proofs.lemmas.Bool.{cases_order, or_cases}
 use Rattle.std.proofs.lemmas.Bool.Decides.{nat_tests}
 use Rattle.co_base.specs.declared.node.Node.{Node}
 use Rattle.co_base.specs.declared.node.Node.TheVariants as node
-use Rattle.co_state.specs.Table.{Table, look, holds, least_where, lesser}
+use Rattle.co_state.specs.Table.{Table, look, holds, least_where}
 use Rattle.co_state.specs.declared.engine_state.EngineState.{EngineState}
 use Rattle.co_plain.specs.Decisions.{votes_for}
 use Rattle.co_plain.specs.Federation.{Federation}
 use Rattle.co_plain.specs.Quiet.{IsNode, IsMember, IsCoordinator, IsOpen, InTable, ActiveAt, VotedAt, IsEnabled, Prepares, Votes, Commits, Asks, lacks_yes, lacks_ack}
 use Rattle.co_plain.specs.Quiet as plain
-use Rattle.co_plain.specs.Settling.{exchange_txn, exchange_rank, exchange_member, ExchangeBefore, IsFirstExchange, IsFirstTimer, timer_ends, is_idle}
+use Rattle.co_plain.specs.Settling.{exchange_txn, ExchangeBefore, IsFirstExchange, IsFirstTimer, timer_ends, is_idle}
 use Rattle.co_plain.specs.declared.coord_state.CoordState.{CoordState}
 use Rattle.co_plain.specs.declared.coord_state.Entry.{Entry}
-use Rattle.co_plain.specs.declared.coord_state.Entry.TheVariants as entry
 use Rattle.co_state.specs.declared.engine_state.Vote.{Vote}
-use Rattle.co_law_base.proofs.Lookups.{holds_found}
 use Rattle.std.specs.Option.{is_some}
 use Rattle.std.proofs.lemmas.Bool.{and_parts}
 use Rattle.co_coord.specs.Reading.{is_above}

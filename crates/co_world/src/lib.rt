@@ -13,6 +13,7 @@ mod dues;
 mod events;
 mod exchanges;
 mod faults;
+mod handing;
 mod members;
 mod opens;
 mod reading;

@@ -1,7 +1,11 @@
 //! What a federation tells of its nodes.
-ghost use Rattle.std.specs.Prelude.{◌≡◌, ◌≤◌, ◌-◌, length, MatchOption};
+ghost use Rattle.std.specs.Prelude.{◌≡◌, ◌≤◌, ◌-◌, true, length, MatchOption};
 ghost use Rattle.co_opening.specs.Nodes.{IsMemberAt, IsCoordAt};
+ghost use Rattle.co_member.specs.Reading.{phase_of};
 ghost use Rattle.co_plain.specs.Federation.{Federation};
+ghost use Rattle.co_plain.specs.MemberStep.{standing_of};
+ghost use Rattle.co_session.specs.Clients.{carried_of};
+ghost use Rattle.co_state.specs.Table.{look};
 ghost use Rattle.co_plain.specs.Quiet.{node_up};
 ghost use Rattle.co_plain.specs.Settling.{IsFirstDown};
 ghost use Rattle.co_schedule.specs.View.{IsNode};
@@ -9,10 +13,11 @@ ghost use Rattle.co_world.specs.Readings.{AllUp};
 ghost use Rattle.co_world.specs.Standing.{RepresentsWorld};
 
 use crate::world::World;
-use co_base::Node;
+use co_base::{Node, Txn};
 use co_coord::Coord;
 use co_engine::Engine;
 use co_member::Member;
+use co_vote::Phase;
 
 impl<E: Engine + Drop> World<E> {
     /// How many members there are.
@@ -76,5 +81,21 @@ impl<E: Engine + Drop> World<E> {
             }
         }
         None
+    }
+
+    /// Where a transaction stands at a member that is up. Takes no memory.
+    pub fn knows(&self, member: u8, t: Txn) -> Phase
+        requires in_head { (1 ≤ member) × (member ≤ length self.now.members.items) }
+        requires up { (s : Federation) × RepresentsWorld E.takes E.stands_for self.now s × ((s.member member).up ≡ true) }
+        ensures { (s : Federation) → RepresentsWorld E.takes E.stands_for self.now s → result ≡ phase_of (standing_of (s.member member) t) }
+    {
+        self.member_at(member).knows(t)
+    }
+
+    /// How many operations of a transaction were answered at a member in this run; none where it was not begun in it. Takes no memory.
+    pub fn carried(&self, t: Txn, member: u8) -> u16
+        ensures { (s : Federation) → RepresentsWorld E.takes E.stands_for self.now s → result ≡ carried_of (look s.sessions t) member }
+    {
+        self.sessions.carried(t, member)
     }
 }

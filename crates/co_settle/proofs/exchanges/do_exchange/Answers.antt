@@ -1,9 +1,9 @@
-use Rattle.std.proofs.Common.{◌≡◌, ◌<◌, ◌≤◌, ◌+◌, [], ◌∷◌, length, sym, ap, ◌∙◌, subst, arith}
+use Rattle.std.proofs.Common.{[], ◌∷◌, subst, arith}
 use Rattle.co_node.specs.Answers.{seen}
 use Rattle.co_settle.specs.Notes.{passed}
 use Rattle.co_settle.specs.Progress.{IsCutIn, HasDone}
-use Rattle.co_settle.proofs.Composing.{cut_as, ends_later, served_later}
-use Rattle.co_settle.proofs.Noting.{after_first, after_passed, first_note, second_note, first_may, second_may, first_reached, passed_reached, first_cut, next_cut, last_cut, all_done, passed_short, may_as, went_first, went_next, events_of, AfterFirst, AfterNext}
+use Rattle.co_settle.proofs.Composing.{cut_as, served_later}
+use Rattle.co_settle.proofs.Noting.{after_first, after_passed, first_note, second_note, first_may, second_may, first_reached, passed_reached, first_cut, next_cut, last_cut, all_done, passed_short, may_as, went_first, went_next, events_of}
 use Rattle.co_settle.proofs.Reaching.{ready}
 use Rattle.co_settle.proofs.exchanges.do_exchange.Goals as goal
 

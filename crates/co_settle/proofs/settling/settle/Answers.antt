@@ -1,11 +1,9 @@
-use Rattle.std.proofs.Common.{◌≡◌, ◌≤◌, ◌<◌, ◌+◌, true, false, not, refl, sym, ap, ◌∙◌, subst, length, arith}
+use Rattle.std.proofs.Common.{refl, sym, ◌∙◌, subst, arith}
 use Rattle.co_node.specs.Answers.{seen}
-use Rattle.co_plain.specs.Quiet.{open_count}
 use Rattle.co_plain.specs.Runs.{run, lines}
 use Rattle.co_plain.specs.Step.{disarmed}
-use Rattle.co_world.specs.Served.{AreServed}
-use Rattle.co_settle.proofs.Composing.{served_later, ended_later}
-use Rattle.co_settle.proofs.GoingOn.{IsGoing, starts, short, turned, cut_turn, cut_between, settles, cut_as, wants_memory, fails_on, told_first}
+use Rattle.co_settle.proofs.Composing.{served_later}
+use Rattle.co_settle.proofs.GoingOn.{IsGoing, starts, short, turned, cut_turn, cut_between, settles, cut_as}
 use Rattle.co_settle.proofs.Reaching.{ready}
 use Rattle.co_settle.proofs.settling.settle.Goals as goal
 

@@ -1,7 +1,7 @@
-use Rattle.std.proofs.Common.{◌≡◌, ◌∷◌, [], Ok, None, refl, sym, ap, subst}
+use Rattle.std.proofs.Common.{◌∷◌, [], refl}
 use Rattle.co_message.specs.declared.event.Event.TheVariants as event
-use Rattle.co_plain.specs.Settling.{IsFirstExchange, SettlesBy, ByRestart, ByExchange, ByTimer}
-use Rattle.co_law_settle.specs.SettlingTurns.{Restarts, Exchanges, Fires, turn_events}
+use Rattle.co_plain.specs.Settling.{ByRestart, ByExchange, ByTimer}
+use Rattle.co_law_settle.specs.SettlingTurns.{Restarts, Exchanges, Fires}
 use Rattle.co_world.specs.Readings.{exchange_of}
 use Rattle.co_settle.proofs.Composing.{cut_as}
 use Rattle.co_settle.proofs.Reaching.{ready, is_stuck}

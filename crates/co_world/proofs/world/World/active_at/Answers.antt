@@ -1,4 +1,4 @@
-use Rattle.std.proofs.Common.{◌≡◌, ◌-◌, arith}
+use Rattle.std.proofs.Common.{◌-◌, arith}
 use Rattle.co_world.proofs.Readers.{member_runs}
 use Rattle.co_world.proofs.world.World.active_at.Goals as goal
 

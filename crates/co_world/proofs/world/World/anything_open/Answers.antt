@@ -1,5 +1,5 @@
-use Rattle.std.proofs.Common.{◌≡◌, ◌⊎◌, inl, inr, ◌∙◌, ◌≤◌, ◌<◌, true, false, sym, ap, subst, arith}
-use Rattle.co_world.proofs.OpenNodes.{undecided_some, tabled_some, member_opens, coord_opens, nothing_opens}
+use Rattle.std.proofs.Common.{◌∙◌, sym, arith}
+use Rattle.co_world.proofs.OpenNodes.{member_opens, coord_opens, nothing_opens}
 use Rattle.co_world.proofs.Readers.{is_member, is_coord}
 use Rattle.co_world.proofs.world.World.anything_open.Goals as goal
 

@@ -1,6 +1,4 @@
-use Rattle.std.proofs.Common.{◌≡◌, ◌<◌, length, slice_get, Some, refl, sym, ap, ◌∙◌, subst, arith}
-use Rattle.co_outside.specs.Home.{File}
-use Rattle.co_outside.specs.declared.spot.Spot.{Spot}
+use Rattle.std.proofs.Common.{◌≡◌, ◌<◌, length, sym, subst, arith}
 use Rattle.co_world.proofs.Disarmed.{IsDisarmedTo, IsDoneTo, MemberDisarmed, CoordDisarmed, one_done, disarmed_stands, disarmed_held}
 use Rattle.co_world.proofs.Places.{at_place}
 use Rattle.co_world.proofs.world.World.disarm.Given.{Over}

@@ -1,6 +1,4 @@
-use Rattle.std.proofs.Common.{◌≡◌, ◌<◌, ◌≤◌, ℕ, length}
-use Rattle.co_plain.specs.Federation.{Federation}
-use Rattle.co_world.specs.Standing.{RepresentsWorld}
+use Rattle.std.proofs.Common.{length}
 use Rattle.co_world.proofs.Disarmed.{IsDisarmedTo}
 use Rattle.co_world.proofs.world.World.disarm.Given as goal
 

@@ -1,4 +1,4 @@
-use Rattle.std.proofs.Common.{◌≡◌, ◌<◌, ◌≤◌, ℕ}
+use Rattle.std.proofs.Common.{◌<◌, ℕ}
 use Rattle.co_plain.specs.Federation.{Federation}
 use Rattle.co_plain.specs.Quiet.{IsEnabled}
 use Rattle.co_world.specs.Conditions.{IsReady}

@@ -1,9 +1,8 @@
-use Rattle.std.proofs.Common.{◌≡◌, ◌<◌, ℕ, Option, None, Some, sym, ap, subst, refl}
+use Rattle.std.proofs.Common.{◌≡◌, ◌<◌, sym, subst, refl}
 use Rattle.co_plain.specs.Quiet.{IsEnabled}
 use Rattle.co_plain.specs.Quiet as plain
 use Rattle.co_plain.specs.Settling.{exchange_txn, IsFirstExchange}
 use Rattle.co_world.specs.Readings.{exchange_of, IsFirstOf}
-use Rattle.co_world.specs.declared.exchanges.Exchange.{Exchange}
 use Rattle.co_world.proofs.Exchanging.{nothing_found, something_found}
 use Rattle.co_world.proofs.Walks.{HasPassed, room, walk_starts, walk_goes_on, walk_rises, first_helps, Helped, helped_open}
 use Rattle.co_world.proofs.world.World.first_exchange.Goals as goal

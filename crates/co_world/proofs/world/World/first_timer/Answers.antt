@@ -1,4 +1,4 @@
-use Rattle.std.proofs.Common.{◌≡◌, ◌<◌, ℕ, true, false, Option, None, Some, sym, ◌∙◌, subst, refl}
+use Rattle.std.proofs.Common.{◌≡◌, ◌<◌, true, false, sym, ◌∙◌, subst}
 use Rattle.std.proofs.lemmas.Bool.{false_from_ne_true}
 use Rattle.co_plain.specs.Settling.{timer_ends}
 use Rattle.co_world.proofs.Walks.{HasPassed, room, walk_starts, walk_goes_on, walk_rises, first_times, Timed, timed_opens}

@@ -1,4 +1,3 @@
-use Rattle.std.proofs.Common.{◌≡◌}
 use Rattle.co_plain.specs.Federation.{Federation}
 use Rattle.co_world.specs.Standing.{RepresentsWorld}
 use Rattle.co_world.proofs.Walks.{HasPassed, room, Timed, timed_opens}

@@ -1,4 +1,4 @@
-use Rattle.std.proofs.Common.{◌≡◌, ◌∙◌, ◌-◌, false, not, sym, ap, subst}
+use Rattle.std.proofs.Common.{◌∙◌, not, sym, ap, subst}
 use Rattle.std.specs.Prelude.{ℕ}
 use Rattle.co_base.specs.declared.node.Node.TheVariants as node
 use Rattle.co_log.specs.LogView.{LogView}

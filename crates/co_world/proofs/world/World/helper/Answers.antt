@@ -1,8 +1,7 @@
-use Rattle.std.proofs.Common.{◌≡◌, sym, ap, subst}
+use Rattle.std.proofs.Common.{◌≡◌, sym, subst}
 use Rattle.std.specs.Prelude.{MatchOption, ℕ}
 use Rattle.co_plain.specs.Quiet.{IsEnabled}
 use Rattle.co_world.specs.Readings.{exchange_as}
-use Rattle.co_world.specs.declared.exchanges.ExchangeKind.{ExchangeKind}
 use Rattle.co_world.specs.declared.exchanges.ExchangeKind.TheVariants as kind
 use Rattle.co_world.proofs.Exchanging.{enabled_with}
 use Rattle.co_world.proofs.Readers.{is_member}

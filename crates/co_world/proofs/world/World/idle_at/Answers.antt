@@ -1,4 +1,4 @@
-use Rattle.std.proofs.Common.{◌≡◌, ◌-◌, arith}
+use Rattle.std.proofs.Common.{◌-◌, arith}
 use Rattle.co_world.proofs.Readers.{coord_runs}
 use Rattle.co_world.proofs.world.World.idle_at.Goals as goal
 

@@ -1,8 +1,6 @@
 use Rattle.std.proofs.Common.{◌≡◌, ◌-◌, ◌∙◌, true, false, sym, ap}
-use Rattle.std.specs.Prelude.{ℕ}
-use Rattle.co_coord.specs.Reading.{stage_of, lacking_of}
+use Rattle.co_coord.specs.Reading.{stage_of}
 use Rattle.co_coord.specs.declared.reading.Stage.TheVariants as stage
-use Rattle.co_plain.specs.Quiet.{IsCoordinator}
 use Rattle.co_state.specs.Table.{look}
 use Rattle.co_world.specs.Readings.{names}
 use Rattle.co_world.proofs.Lacking.{lacks_yes_is}

@@ -1,4 +1,4 @@
-use Rattle.std.proofs.Common.{◌≡◌, ◌-◌}
+use Rattle.std.proofs.Common.{◌-◌}
 use Rattle.co_world.proofs.Readers.{member_runs}
 use Rattle.co_world.proofs.world.World.may_be_asked.Goals as goal
 

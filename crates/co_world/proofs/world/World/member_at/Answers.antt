@@ -1,4 +1,4 @@
-use Rattle.std.proofs.Common.{◌≡◌, ◌<◌, ◌-◌, length, suc, ap, subst, arith}
+use Rattle.std.proofs.Common.{◌≡◌, ◌<◌, ◌-◌, length, suc, subst, arith}
 use Rattle.co_opening.specs.Nodes.{IsMemberAt}
 use Rattle.co_world.proofs.Places.{at_place}
 use Rattle.co_world.proofs.world.World.member_at.Goals as goal

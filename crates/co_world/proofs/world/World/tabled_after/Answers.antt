@@ -1,4 +1,4 @@
-use Rattle.std.proofs.Common.{◌≡◌, ◌≤◌, ◌+◌, ◌-◌, ◌∙◌, ℕ, suc, Option, sym, ap, arith}
+use Rattle.std.proofs.Common.{◌≡◌, ◌+◌, ◌-◌, ◌∙◌, ℕ, suc, Option, sym, ap, arith}
 use Rattle.co_coord.specs.Reading.{is_above}
 use Rattle.co_state.specs.Table.{lesser, least_where}
 use Rattle.co_world.specs.Readings.{least_to}

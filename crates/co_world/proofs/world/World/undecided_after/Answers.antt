@@ -1,6 +1,5 @@
-use Rattle.std.proofs.Common.{◌≡◌, ◌≤◌, ◌+◌, ◌-◌, ◌∙◌, sym, ap, arith}
-use Rattle.co_state.specs.Table.{lesser}
-use Rattle.co_world.proofs.Readers.{member_runs, least_more}
+use Rattle.std.proofs.Common.{◌+◌, ◌-◌, arith}
+use Rattle.co_world.proofs.Readers.{member_runs}
 use Rattle.co_world.proofs.world.World.undecided_after.Goals as goal
 
 pub open_after-requires : goal.open_after-requires

@@ -1,0 +1,70 @@
+//! A verdict that is handed over by another member.
+ghost use Rattle.std.specs.Prelude.{◌≡◌, ◌≤◌, true, length, IfOk, IfErr, IsErrOf, OnOk, OnErr};
+ghost use Rattle.co_node.specs.Answers.{seen};
+ghost use Rattle.co_plain.specs.Federation.{Federation};
+ghost use Rattle.co_plain.specs.Member.{coord_of};
+ghost use Rattle.co_plain.specs.Runs.{numbered};
+ghost use Rattle.co_plain.specs.Step.{disarmed, step};
+ghost use Rattle.co_plain.specs.declared.happening.Happening.TheVariants as happening;
+ghost use Rattle.co_state.specs.Table.{holds};
+ghost use Rattle.co_world.specs.Conditions.{IsReady};
+ghost use Rattle.co_world.specs.Left.{AreLeftBy};
+ghost use Rattle.co_world.specs.Served.{AreServed, HasEndedAs};
+ghost use Rattle.co_world.specs.Standing.{RepresentsWorld, AreHeld};
+
+use crate::calls::MemberCall;
+use crate::world::World;
+use co_base::Txn;
+use co_durable::WorldFault;
+use co_engine::Engine;
+use co_message::{Items, Message};
+use co_outside::Home;
+
+impl<E: Engine + Drop> World<E> {
+    /// The coordinator that asked for the vote of a transaction, which the member has voted.
+    fn asker_of(&self, member: u8, t: Txn) -> u8
+        requires in_head { (1 ≤ member) × (member ≤ length self.now.members.items) }
+        requires voted { (s : Federation) × RepresentsWorld E.takes E.stands_for self.now s × ((s.member member).up ≡ true) × (holds (s.member member).engine.voted t ≡ true) }
+        ensures { (s : Federation) → RepresentsWorld E.takes E.stands_for self.now s → result ≡ coord_of (s.member member) t }
+    {
+        match self.member_at(member).coord_of(t) {
+            Some(coord) => coord,
+            None => unreachable!(),
+        }
+    }
+
+    /// Hands a verdict to a member that is up and has voted the transaction, as a decision that is delivered by the coordinator that asked for
+    /// the vote.
+    ///
+    /// The items bear the number. `Device`, `Differs`, `Full` and `Memory` come as a step says; the other faults never come. Whether the
+    /// verdict is true is the caller's to know.
+    pub fn hand<H: Home>(
+        &mut self,
+        home: &mut H,
+        number: u32,
+        member: u8,
+        t: Txn,
+        commit: bool,
+    ) -> Result<Items, WorldFault>
+        requires in_head { (1 ≤ member) × (member ≤ length self.old.members.items) }
+        requires held { AreHeld (H.file home.old) (H.reach home.old) self.old }
+        requires voted { (s : Federation) × RepresentsWorld E.takes E.stands_for self.old s × ((s.member member).up ≡ true) × (holds (s.member member).engine.voted t ≡ true) }
+        ensures count { IsErrOf result WorldFault.Count → ⊥ }
+        ensures items { (s : Federation) → RepresentsWorld E.takes E.stands_for self.old s → IfOk result (λ items. items ≡ numbered number (step s (happening.Hand t member commit)).items) }
+        ensures stands { (s : Federation) → RepresentsWorld E.takes E.stands_for self.old s → OnOk result (RepresentsWorld E.takes E.stands_for self.new (step s (happening.Hand t member commit)).state) }
+        ensures left { (s : Federation) → RepresentsWorld E.takes E.stands_for self.old s →
+            OnErr result (AreLeftBy (H.file home.new) s (step s (happening.Hand t member commit)).state (step (disarmed s) (happening.Hand t member commit)).state) }
+        ensures served { OnOk result (AreServed self.new (seen H.file H.reach H.faults H.last_failed home.old) (seen H.file H.reach H.faults H.last_failed home.new)) }
+        ensures ended { IfErr result (λ fault. HasEndedAs fault (seen H.file H.reach H.faults H.last_failed home.old) (seen H.file H.reach H.faults H.last_failed home.new)) }
+        ensures entered { H.entered home.new ≡ H.entered home.old }
+    {
+        let coord = self.asker_of(member, t);
+        let decision = Message::Decide {
+            txn: t,
+            coord,
+            member,
+            commit,
+        };
+        self.at_member(home, number, member, MemberCall::Deliver(decision))
+    }
+}
