@@ -47,9 +47,8 @@ def play(program, words, text, shim, number, counted):
 def sweep(name, program, words, text, before, shim, work):
     """Refuses each request in turn; gives how often the run ended for want of memory, and how often as ever."""
     counted, wanting, same, faults = f"{work}/count", 0, 0, []
-    whole = None
-    number = 0
-    while True:
+    whole, number, all_requests = None, 0, 0
+    while number <= all_requests:
         directory = f"{work}/logs"
         shutil.rmtree(directory, ignore_errors=True)
         if before:
@@ -57,7 +56,7 @@ def sweep(name, program, words, text, before, shim, work):
         start = records(program, directory)[0] if before else {}
         code, out, note, requests = play(program, [directory if it == "DIR" else it for it in words], text, shim, number, counted)
         if number == 0:
-            whole = (code, out, note)
+            whole, all_requests = (code, out, note), requests
         elif (code, out, note) == whole:
             same += 1
         else:
@@ -69,9 +68,7 @@ def sweep(name, program, words, text, before, shim, work):
         if number and words[0] == "run" and os.path.isdir(directory):
             faults += [f"request {number}: {it}" for it in left(program, directory, out, start)]
         number += 1
-        if number > requests:
-            break
-    print(f"{name}: {number - 1} requests; {wanting} runs ended for want of memory, {same} as with all of it; {len(faults)} faults")
+    print(f"{name}: {all_requests} requests; {wanting} runs ended for want of memory, {same} as with all of it; {len(faults)} faults")
     return faults
 
 

@@ -236,14 +236,14 @@ fn put_lengths(
     Ok(into.push(b'\n')?)
 }
 
-/// The input with this stop in place of the words `K LEAVES`.
+/// The input with this stop in place of the words `K LEAVES`: the digit of a device call, and an image.
 fn with_stop(alloc: Global, input: &[u8], call: u8, image: &[u8]) -> Result<Vec<u8>, AllocError> {
     let mut whole = Vec::new(alloc);
     for line in input.split_inclusive(|b| *b == b'\n') {
         match line.strip_suffix(b"K LEAVES\n".as_slice()) {
             Some(front) => {
                 whole.extend_from_slice(front)?;
-                whole.push(b'0' + call)?;
+                whole.push(call)?;
                 whole.push(b' ')?;
                 whole.extend_from_slice(image)?;
                 whole.push(b'\n')?;
@@ -278,7 +278,7 @@ fn put_stop(
     let mut home = home_of(alloc, settings)?;
     let input = with_stop(alloc, input, call, image)?;
     let ended = ended_of(alloc, settings, &mut home, words, input)?;
-    into.push(b'0' + call)?;
+    into.push(call)?;
     into.push(b' ')?;
     into.extend_from_slice(image)?;
     put_joined(b"; ", behind_armed(&ended.out), into)?;
@@ -295,7 +295,7 @@ pub(crate) fn put_stops(
     input: &[u8],
     into: &mut Vec<u8>,
 ) -> Result<(), AllocError> {
-    for call in 1..5 {
+    for call in *b"1234" {
         for image in IMAGES {
             put_stop(alloc, settings, words, input, (call, image), into)?;
         }
