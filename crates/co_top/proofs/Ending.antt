@@ -133,7 +133,7 @@ module _ {E : Type 0} (takes : Kind → Type 0) (stands_for : E → EngineState 
       over (Err (status.Limit limit.Transactions)) p =
           let r = has_run p.done in
           let next = p.next text refl in
-          inr (r, left_by r.ran home.file p.files, p.event, next.0, next.1, p.limit)
+          inr (r, left_by r.ran home.file p.files, (p.event, next.0, next.1, p.limit))
       over (Err (status.Limit (limit.Log spot))) p = inr (failed p)
       over (Err status.Memory) p = inr (has_run_in_part p.done, near_left p.done.events p.done.valid p.done.left p.files)
       over (Err (status.OldLog spot)) p = absurd p
