@@ -130,7 +130,10 @@ module _ {E : Type 0} (takes : Kind → Type 0) (stands_for : E → EngineState 
       over (Err (status.BadLog spot place)) p = absurd p
       over (Err (status.Limit (limit.Line line))) p = inr (stopped (status.Limit (limit.Line line)) p)
       over (Err (status.Limit limit.Lines)) p = stopped (status.Limit limit.Lines) p
-      over (Err (status.Limit limit.Transactions)) p = inr (failed p)
+      over (Err (status.Limit limit.Transactions)) p =
+          let r = has_run p.done in
+          let next = p.next text refl in
+          inr (r, left_by r.ran home.file p.files, (p.event, next.0, next.1, p.limit))
       over (Err (status.Limit (limit.Log spot))) p = inr (failed p)
       over (Err status.Memory) p = inr (has_run_in_part p.done, near_left p.done.events p.done.valid p.done.left p.files)
       over (Err (status.OldLog spot)) p = absurd p

@@ -34,10 +34,10 @@ use Rattle.co_world.specs.declared.world.World.{World}
 use Rattle.co_top.proofs.Lists.{map_more, count_more, take_behind}
 use Rattle.co_top.specs.Front.{HasRead, StandsBehind, OneMore, IsNext}
 use Rattle.co_top.specs.Heads.{IsEventRead, IsReadStatus}
-use Rattle.co_top.specs.Played.{IsTold, IsToldInPart, StandsFor, IsLeftNear, HasFailed, HasFailedInPart, HasStopped, IsOver}
+use Rattle.co_top.specs.Played.{IsTold, IsToldInPart, StandsFor, IsLeftNear, HasFailed, HasFailedInPart, HasStopped, IsOver, HasMetLimit}
 use Rattle.co_top.specs.Ends.{of_world}
 use Rattle.co_top.specs.Replayed.{given_back, opening_text, IsUnopenedAs, IsOfFiles, IsOpeningTold}
-use Rattle.co_top.specs.Telling.{event_text, IsPut, IsPutInPart, IsTextPut, HasStepped, HasFaulted, HasEnded, IsToldOf}
+use Rattle.co_top.specs.Telling.{event_text, IsPut, IsPutInPart, IsTextPut, HasStepped, HasFaulted, HasEnded, IsToldOf, IsOneTooMany}
 use Rattle.co_top.specs.declared.status.LimitKind.TheVariants as limit
 use Rattle.co_top.specs.declared.status.Status.{Status}
 use Rattle.co_top.specs.declared.status.Status.TheVariants as status
@@ -133,6 +133,11 @@ module _ (head : Head) (s0 : Federation) (text held told : Option (List ℕ)) (p
     failed : (after : Option (List ℕ)) → HasFaulted z e told after home → HasFailed head s0 text held after home
     failed after o = subst (λ (t : Option (List ℕ)). HasFailed head s0 text held t home) (sym o.0) (record { done = p; files = near o.1 })
 
+    met : (after : Option (List ℕ)) → (after ≡ told) × AreLeftAs home.file z × IsOneTooMany z e → HasMetLimit head s0 text held after home
+    met after o =
+        subst (λ (t : Option (List ℕ)). HasMetLimit head s0 text held t home) (sym o.0)
+        (record { done = p; files = o.1; event = e; next = λ t q. let r = read t q in (r.0, r.1); limit = o.2 })
+
     -- a line that could not be told, or not be done, ends it
     pub told_over : (why : Status) (after : Option (List ℕ)) → IsToldOf takes stands_for z (length p.events + 2) e told after home w (Err why) → IsOver takes stands_for head s0 text held after home w (Err why)
     told_over status.Done after o = absurd o
@@ -146,7 +151,7 @@ module _ (head : Head) (s0 : Federation) (text held told : Option (List ℕ)) (p
     told_over (status.BadLog spot place) after o = absurd o
     told_over (status.Limit (limit.Line number)) after o = absurd o
     told_over (status.Limit limit.Lines) after o = absurd o
-    told_over (status.Limit limit.Transactions) after o = failed after o
+    told_over (status.Limit limit.Transactions) after o = met after o
     told_over (status.Limit (limit.Log spot)) after o = failed after o
     told_over status.Memory after (inl o) = in_part head s0 text held after home (failed after o)
     told_over status.Memory after (inr o) = record { done = told_in_part after o.1; files = inl (files_one o.0) }
@@ -233,15 +238,15 @@ told_as takes stands_for s number e held told home w items (Err (status.Transcri
 
 -- what was not done is not told
 pub untold : {E : Type 0} (takes : Kind → Type 0) (stands_for : E → EngineState → Type 0) (s : Federation) (number : ℕ) (e : Event) (held : Option (List ℕ)) (old new : HomeView) (w : World E) (fault : WorldFault) → HasEndedAs fault old new →
-    AreLeftBy new.file s (step_line s e).state (step_line (disarmed s) e).state → IsToldOf takes stands_for s number e held held new w (Err (of_world fault))
-untold takes stands_for s number e held old new w (world.Device spot) h left = (refl, left)
-untold takes stands_for s number e held old new w (world.Differs spot place kept got) h left = (refl, left)
-untold takes stands_for s number e held old new w (world.InUse spot) h left = absurd h
-untold takes stands_for s number e held old new w (world.Bad spot place) h left = absurd h
-untold takes stands_for s number e held old new w (world.Full spot) h left = (refl, left)
-untold takes stands_for s number e held old new w world.Count h left = (refl, left)
-untold takes stands_for s number e held old new w (world.Old spot) h left = absurd h
-untold takes stands_for s number e held old new w world.Memory h left = inl (refl, left)
+    AreLeftBy new.file s (step_line s e).state (step_line (disarmed s) e).state → AreLeftAs old.file s → (fault ≡ world.Count → IsOneTooMany s e) → IsToldOf takes stands_for s number e held held new w (Err (of_world fault))
+untold takes stands_for s number e held old new w (world.Device spot) h left before met = (refl, left)
+untold takes stands_for s number e held old new w (world.Differs spot place kept got) h left before met = (refl, left)
+untold takes stands_for s number e held old new w (world.InUse spot) h left before met = absurd h
+untold takes stands_for s number e held old new w (world.Bad spot place) h left before met = absurd h
+untold takes stands_for s number e held old new w (world.Full spot) h left before met = (refl, left)
+untold takes stands_for s number e held old new w world.Count h left before met = (refl, subst (λ (v : HomeView). AreLeftAs v.file s) (sym h) before, met refl)
+untold takes stands_for s number e held old new w (world.Old spot) h left before met = absurd h
+untold takes stands_for s number e held old new w world.Memory h left before met = inl (refl, left)
 
 -- how the directory ended
 pub ended_as : (old new : HomeView) (fault : WorldFault) → HasEndedAs fault old new → HasEnded old new (Err (of_world fault))

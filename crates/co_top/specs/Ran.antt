@@ -23,6 +23,7 @@ use Rattle.co_opening.specs.Found.{AreFound, MayRun, AreUnused}
 use Rattle.co_opening.specs.Opened.{IsUnopened}
 use Rattle.co_world.specs.Left.{AreLeftAs}
 use Rattle.co_top.specs.Front.{IsHeaded, StandsBehind, IsNext, IsHeadFault, IsLineFault}
+use Rattle.co_top.specs.Telling.{IsOneTooMany}
 use Rattle.co_top.specs.declared.status.LimitKind.TheVariants as limit
 use Rattle.co_top.specs.declared.status.Status.{Status}
 use Rattle.co_top.specs.declared.status.Status.TheVariants as status
@@ -116,6 +117,10 @@ pub record IsUnopenedFor (resume : Bool) (input : List ℕ) (old : Spot → Opti
   pub headed : IsHeaded input head text
   pub cause : IsUnopened old head resume why
 
+-- the next line is an event that would begin one transaction more than there may be
+abbrev pub IsAtLimit : {resume : Bool} {input : List ℕ} {old : Spot → Option File} → Ran resume input old → Type 0
+IsAtLimit r = (event : Event) × (rest : List ℕ) × IsNext r.head (length r.events) r.rest rest (Some event) × IsOneTooMany (end_of r) event
+
 -- the lines that were done, the files that they left, and why the next one gave no event
 pub record HasStoppedAt (resume : Bool) (input held : List ℕ) (old new : Spot → Option File) (told : Option (List ℕ)) (ended : Status) : Type 0 where
   pub run : HasRun resume input held old told
@@ -138,6 +143,6 @@ IsRunEnd resume input held old new told (status.NotSerial txn line) = ⊥
 IsRunEnd resume input held old new told (status.Transcript line) = ⊥
 IsRunEnd resume input held old new told (status.Limit (limit.Line line)) = (IsAtRest held told old new × IsHeadFault input (status.Limit (limit.Line line))) ⊎ HasStoppedAt resume input held old new told (status.Limit (limit.Line line))
 IsRunEnd resume input held old new told (status.Limit limit.Lines) = HasStoppedAt resume input held old new told (status.Limit limit.Lines)
-IsRunEnd resume input held old new told (status.Limit limit.Transactions) = (IsAtRest held told old new × IsUnopenedFor resume input old world.Count) ⊎ ((done : HasRun resume input held old told) × AreLeftByFault done.ran new)
+IsRunEnd resume input held old new told (status.Limit limit.Transactions) = (IsAtRest held told old new × IsUnopenedFor resume input old world.Count) ⊎ ((done : HasRun resume input held old told) × AreLeftBy done.ran new × IsAtLimit done.ran)
 IsRunEnd resume input held old new told (status.Limit (limit.Log spot)) = (IsAtRest held told old new × IsUnopenedFor resume input old (world.Full spot)) ⊎ ((done : HasRun resume input held old told) × AreLeftByFault done.ran new)
 IsRunEnd resume input held old new told status.Memory = (told ≡ Some held) ⊎ ((done : HasRunInPart resume input held old told) × AreLeftByFault done.ran new)

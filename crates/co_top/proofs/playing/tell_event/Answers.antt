@@ -1,9 +1,10 @@
-use Rattle.std.proofs.Common.{◌≡◌, ◌∙◌, ◌++◌, ◌∷◌, [], List, Err, sym, subst}
+use Rattle.std.proofs.Common.{◌≡◌, ◌∙◌, ◌++◌, ◌∷◌, [], List, Err, sym, ap, subst}
 use Rattle.co_message.specs.declared.item.Item.{Item}
 use Rattle.co_message.specs.declared.item.ItemKind.TheVariants as item
 use Rattle.co_node.specs.Answers.{seen}
 use Rattle.co_plain.specs.Runs.{numbered}
 use Rattle.co_replay.specs.Transcript.{items_text}
+use Rattle.co_world.proofs.Lefts.{held_left}
 use Rattle.co_top.specs.Telling.{IsToldOf, IsTextPut, HasEnded}
 use Rattle.co_top.specs.declared.status.Status.{Status}
 use Rattle.co_top.specs.declared.status.Status.TheVariants as status
@@ -23,7 +24,9 @@ returns-in-Err-clause-told g c = λ s r ready.
     subst (λ (why : Status). IsToldOf g.E.Engine.takes g.E.Engine.stands_for s c.args.number c.args.event (g.K.Sink.told c.args.out.now) (g.K.Sink.told c.args.out.now)
     (seen g.H.Home.file g.H.Home.reach g.H.Home.faults g.H.Home.last_failed c.step.new.home) c.step.new.self (Err why)) (sym c.undone.ensures)
     (untold g.E.Engine.takes g.E.Engine.stands_for s c.args.number c.args.event (g.K.Sink.told c.args.out.now) _ _ c.step.new.self c.in-Err.fault c.in-Err.ensures.ended
-    (c.in-Err.ensures.left s r ready))
+    (c.in-Err.ensures.left s r ready)
+    (held_left g.E.Engine.takes g.E.Engine.stands_for c.args.world.now s (g.H.Home.file c.args.home.now) (g.H.Home.reach c.args.home.now) r c.requires.held)
+    (λ is. record { clients = c.args.world.now.sessions; sessions = r.sessions; used = r.used; limit = c.in-Err.ensures.count.0 (ap Err is) }))
 
 pub returns-in-Err-clause-ended : goal.returns-in-Err-clause-ended
 returns-in-Err-clause-ended g c =
