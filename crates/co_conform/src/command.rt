@@ -1,5 +1,5 @@
 //! One command of a case.
-use crate::outside::{Settings, sink_of, source_of};
+use crate::outside::{Failing, Settings, sink_of, source_of};
 use co_outside::{HomeTwist, SinkMemory, SourceMemory};
 use co_top::{Status, run};
 use std::alloc::{AllocError, Global};
@@ -24,10 +24,10 @@ struct Outside {
 }
 
 /// What a command is run on.
-fn outside_of(alloc: Global, settings: &Settings, input: Vec<u8>) -> Result<Outside, AllocError> {
+fn outside_of(alloc: Global, failing: Failing, input: Vec<u8>) -> Result<Outside, AllocError> {
     Ok(Outside {
-        source: source_of(alloc, settings, input)?,
-        out: sink_of(alloc, settings)?,
+        source: source_of(alloc, failing, input)?,
+        out: sink_of(alloc, failing)?,
         notes: SinkMemory::new(alloc, Vec::new(alloc)),
     })
 }
@@ -69,15 +69,15 @@ fn ending_of(alloc: Global, code: u8, note: &[u8]) -> Result<Vec<u8>, AllocError
     Ok(line)
 }
 
-/// Runs the command of these words on this input.
-pub(crate) fn ended_of(
+/// Runs the command of these words on this input, where these calls of the source and of the sink fail.
+pub(crate) fn ended_where(
     alloc: Global,
-    settings: &Settings,
+    failing: Failing,
     home: &mut HomeTwist,
     line: &[u8],
     input: Vec<u8>,
 ) -> Result<Ended, AllocError> {
-    let mut outside = outside_of(alloc, settings, input)?;
+    let mut outside = outside_of(alloc, failing, input)?;
     let status = status_of(alloc, line, &mut outside, home)?;
     let code = status.code();
     Ok(Ended {
@@ -85,4 +85,15 @@ pub(crate) fn ended_of(
         code,
         ending: ending_of(alloc, code, outside.notes.bytes())?,
     })
+}
+
+/// Runs the command of these words on this input, where the calls of the case fail.
+pub(crate) fn ended_of(
+    alloc: Global,
+    settings: &Settings,
+    home: &mut HomeTwist,
+    line: &[u8],
+    input: Vec<u8>,
+) -> Result<Ended, AllocError> {
+    ended_where(alloc, settings.failing(), home, line, input)
 }

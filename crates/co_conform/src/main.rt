@@ -7,7 +7,7 @@
 //! `$` and its words, the lines of its input, `---`, and what it comes to: what it puts, its status with its note, and then, where files changed, each
 //! of them in hex.
 //!
-//! Three sorts of blocks are tables. `% faults` and the words of a command: each call that it makes of its directory fails, in one run each; a line tells
+//! Three sorts of blocks are tables. `% faults` and the words of a command: each call that it makes of its directory, its source and its sink fails, in one run each; a line tells
 //! the call, the status, the last line that was told, and the records that the files then give. `% cuts m1.a` and the words: the file is cut to each length.
 //! `% stops` and the words: the input has a line `arm NODE K LEAVES`, and the table has each call and five images, with what came behind it.
 //!

@@ -32,7 +32,22 @@ pub(crate) struct Settings {
     put: u32,
 }
 
+/// A call of the source or of the sink that fails; none where it is 0.
+#[derive(Clone, Copy)]
+pub(crate) struct Failing {
+    pub(crate) take: u32,
+    pub(crate) put: u32,
+}
+
 impl Settings {
+    /// Which calls of the source and of the sink fail.
+    pub(crate) fn failing(&self) -> Failing {
+        Failing {
+            take: self.take,
+            put: self.put,
+        }
+    }
+
     /// No file is there, and no call fails.
     fn new(alloc: Global) -> Settings {
         Settings {
@@ -159,13 +174,13 @@ fn alone(alloc: Global, number: u32) -> Result<Vec<u32>, AllocError> {
 /// A source of these bytes.
 pub(crate) fn source_of(
     alloc: Global,
-    settings: &Settings,
+    failing: Failing,
     input: Vec<u8>,
 ) -> Result<SourceMemory, AllocError> {
-    Ok(SourceMemory::new(input, alone(alloc, settings.take)?))
+    Ok(SourceMemory::new(input, alone(alloc, failing.take)?))
 }
 
 /// An empty sink.
-pub(crate) fn sink_of(alloc: Global, settings: &Settings) -> Result<SinkMemory, AllocError> {
-    Ok(SinkMemory::new(alloc, alone(alloc, settings.put)?))
+pub(crate) fn sink_of(alloc: Global, failing: Failing) -> Result<SinkMemory, AllocError> {
+    Ok(SinkMemory::new(alloc, alone(alloc, failing.put)?))
 }

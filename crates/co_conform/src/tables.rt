@@ -1,8 +1,8 @@
 //! Tables: one command over directories that fail, are cut or are stopped, each in turn.
-use crate::command::{Ended, ended_of};
+use crate::command::{Ended, ended_of, ended_where};
 use crate::fault::CaseFault;
 use crate::files::{LogFile, files_of, spots_of};
-use crate::outside::{Settings, home_of, home_that_fails, home_with_files};
+use crate::outside::{Failing, Settings, home_of, home_that_fails, home_with_files};
 use crate::words::{spot_of, word};
 use co_outside::{FailAt, HomeCall, HomeTwist, Spot};
 use std::alloc::{AllocError, Global};
@@ -88,15 +88,65 @@ fn put_failing(
     let FailAt { spot, number, .. } = failing;
     let at = format!(in alloc; " {spot} {number}: ")?;
     into.extend_from_slice(at.as_bytes())?;
+    put_early_end(alloc, faults, &ended, &mut home, into)?;
+    Ok(true)
+}
+
+/// Appends how a run ended early: its status, the last line that it told, and the records that its files then give.
+fn put_early_end(
+    alloc: Global,
+    faults: Faults<'_>,
+    ended: &Ended,
+    home: &mut HomeTwist,
+    into: &mut Vec<u8>,
+) -> Result<(), AllocError> {
     put_joined(b"", &ended.ending, into)?;
     into.extend_from_slice(b"; line ")?;
     into.extend_from_slice(last_line(&ended.out))?;
     if !faults.whole.starts_with(&ended.out) {
         into.extend_from_slice(b" of another text")?;
     }
-    put_records(alloc, faults.settings, &mut home, into)?;
-    into.push(b'\n')?;
+    put_records(alloc, faults.settings, home, into)?;
+    Ok(into.push(b'\n')?)
+}
+
+/// Appends what a run comes to whose source or sink fails at a call, and whether it failed.
+fn put_failing_stream(
+    alloc: Global,
+    faults: Faults<'_>,
+    failing: Failing,
+    into: &mut Vec<u8>,
+) -> Result<bool, AllocError> {
+    let mut home = home_of(alloc, faults.settings)?;
+    let input = faults.input.to_vec(alloc)?;
+    let ended = ended_where(alloc, failing, &mut home, faults.words, input)?;
+    if ended.code != 4 && ended.code != 5 {
+        return Ok(false);
+    }
+    let Failing { take, put } = failing;
+    let call = format!(in alloc; "take {take} put {put}: ")?;
+    into.extend_from_slice(call.as_bytes())?;
+    put_early_end(alloc, faults, &ended, &mut home, into)?;
     Ok(true)
+}
+
+/// Appends what comes of it where each call of the source fails, and then where each call of the sink fails, one in each run.
+fn put_failing_streams(
+    alloc: Global,
+    faults: Faults<'_>,
+    into: &mut Vec<u8>,
+) -> Result<(), AllocError> {
+    for take in 1..u32::MAX {
+        if !put_failing_stream(alloc, faults, Failing { take, put: 0 }, into)? {
+            break;
+        }
+    }
+    for put in 1..u32::MAX {
+        if !put_failing_stream(alloc, faults, Failing { take: 0, put }, into)? {
+            break;
+        }
+    }
+    Ok(())
 }
 
 /// Appends what comes of it where the calls of this kind at this file fail, one in each run.
@@ -117,7 +167,7 @@ fn put_failing_calls(
     Ok(())
 }
 
-/// Appends what comes of a command where each call that it makes of a directory fails, one in each run.
+/// Appends what comes of a command where each call that it makes of its directory, its source and its sink fails, one in each run.
 pub(crate) fn put_faults(
     alloc: Global,
     settings: &Settings,
@@ -144,7 +194,7 @@ pub(crate) fn put_faults(
             put_failing_calls(alloc, faults, *spot, kind, into)?;
         }
     }
-    Ok(())
+    Ok(put_failing_streams(alloc, faults, into)?)
 }
 
 /// The files, where the one at a spot is cut to a length.
