@@ -1,4 +1,1 @@
 pub mod Appended
-pub mod Cut
-pub mod Reading
-pub mod Same

@@ -1,11 +1,6 @@
-//! Whole schedules and whole transcripts: the lines of a text, the events of lines, and the text of
-//! items.
+//! The text of items. What a schedule and a transcript are as a whole is defined in `specs/`.
 #![tactic(auto)]
 
-mod events;
-mod lines;
 mod texts;
 
-pub use events::{ReadEvents, read_events};
-pub use lines::lines_of;
-pub use texts::{put_event, put_items, put_opening, put_told};
+pub use texts::{put_event, put_items};

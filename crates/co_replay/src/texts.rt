@@ -5,7 +5,6 @@ ghost use Rattle.co_message.specs.declared.item.ItemKind.TheVariants as item;
 ghost use Rattle.co_plain.specs.Runs.{numbered};
 ghost use Rattle.co_replay.specs.Transcript.{items_text};
 
-use co_base::Head;
 use co_message::{Event, Item, ItemKind};
 use co_transcript::put_item;
 use std::alloc::AllocError;
@@ -16,16 +15,6 @@ pub fn put_items(items: &[Item], into: &mut Vec<u8>) -> Result<(), AllocError>
 {
     for item in items {
         put_item(item, into)?;
-    }
-    Ok(())
-}
-
-/// Appends the text of what the line of this number told.
-pub fn put_told(number: u32, told: Vec<ItemKind>, into: &mut Vec<u8>) -> Result<(), AllocError>
-    ensures { OnOk result (into.new.items ≡ into.old.items ++ items_text (numbered number told.items)) }
-{
-    for what in told {
-        put_item(&Item { number, what }, into)?;
     }
     Ok(())
 }
@@ -53,16 +42,4 @@ pub fn put_event(number: u32, event: Event, into: &mut Vec<u8>) -> Result<Event,
     };
     put_item(&told, into)?;
     Ok(event_in(told))
-}
-
-/// Appends the text of the first line: the head, and then what opening told.
-pub fn put_opening(head: Head, told: Vec<ItemKind>, into: &mut Vec<u8>) -> Result<(), AllocError>
-    ensures { OnOk result (into.new.items ≡ into.old.items ++ items_text (numbered 1 (item.Head head ∷ told.items))) }
-{
-    let first = Item {
-        number: 1,
-        what: ItemKind::Head(head),
-    };
-    put_item(&first, into)?;
-    put_told(1, told, into)
 }
