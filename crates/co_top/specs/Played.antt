@@ -18,7 +18,7 @@ use Rattle.co_world.specs.Left.{AreLeftAs}
 use Rattle.co_world.specs.Standing.{RepresentsWorld, AreHeld}
 use Rattle.co_world.specs.declared.world.World.{World}
 use Rattle.co_top.specs.Front.{StandsBehind, IsNext, IsLineFault}
-use Rattle.co_top.specs.Telling.{IsOneTooMany}
+use Rattle.co_top.specs.Telling.{HasClientsAtLimit}
 use Rattle.co_top.specs.declared.status.LimitKind.TheVariants as limit
 use Rattle.co_top.specs.declared.status.Status.{Status}
 use Rattle.co_top.specs.declared.status.Status.TheVariants as status
@@ -68,13 +68,13 @@ pub record HasFailedInPart (head : Head) (s0 : Federation) (text held told : Opt
   pub done : IsToldInPart head s0 text held told
   pub files : IsLeftNear head s0 text done.events done.left home.file
 
--- what was told before an event that would begin one transaction more than there may be; the files have what the lines before it left
+-- what was told before an event at which clients meet the limit of transactions; the files have what the lines before it left
 pub record HasMetLimit (head : Head) (s0 : Federation) (text held told : Option (List ℕ)) (home : HomeView) : Type 0 where
   pub done : IsTold head s0 text held told
   pub files : AreLeftAs home.file (run (lines done.events) s0)
   pub event : Event
   pub next : (t : List ℕ) (e : text ≡ Some t) → (rest : List ℕ) × IsNext head (length done.events) (done.left t e).0 rest (Some event)
-  pub limit : IsOneTooMany (run (lines done.events) s0) event
+  pub limit : HasClientsAtLimit (run (lines done.events) s0) event
 
 -- the lines that were done, and why the next one gave no event
 pub record HasStopped {E : Type 0} (takes : Kind → Type 0) (stands_for : E → EngineState → Type 0) (head : Head) (s0 : Federation) (text held told : Option (List ℕ)) (home : HomeView) (w : World E) (ended : Status) : Type 0 where

@@ -54,8 +54,9 @@ pub record HasStepped {E : Type 0} (takes : Kind → Type 0) (stands_for : E →
 abbrev pub HasFaulted : Federation → Event → Option (List ℕ) → Option (List ℕ) → HomeView → Type 0
 HasFaulted s event held told home = (told ≡ held) × AreLeftBy home.file s (step_line s event).state (step_line (disarmed s) event).state
 
--- The event begins a transaction that was not begun before, and as many were as there may be, with those that the opened logs tell of.
-pub record IsOneTooMany (s : Federation) (event : Event) : Type 0 where
+-- Clients with the sessions of the state, to whom the same numbers are used, meet the limit at the event. So it begins a transaction whose number was not
+-- used before. How many numbers the state has is not told by it: that the clients of the program are these is said by the step alone.
+pub record HasClientsAtLimit (s : Federation) (event : Event) : Type 0 where
   pub clients : Clients
   pub sessions : clients.sessions ≡ s.sessions
   pub used : (t : ℕ) → has_number clients.used t ≡ holds s.used t
@@ -69,5 +70,5 @@ IsToldOf takes stands_for s number event held told home w (Err status.Memory) = 
 IsToldOf takes stands_for s number event held told home w (Err (status.Device spot)) = HasFaulted s event held told home
 IsToldOf takes stands_for s number event held told home w (Err (status.Differs spot at kept read)) = HasFaulted s event held told home
 IsToldOf takes stands_for s number event held told home w (Err (status.Limit (limit.Log spot))) = HasFaulted s event held told home
-IsToldOf takes stands_for s number event held told home w (Err (status.Limit limit.Transactions)) = (told ≡ held) × AreLeftAs home.file s × IsOneTooMany s event
+IsToldOf takes stands_for s number event held told home w (Err (status.Limit limit.Transactions)) = (told ≡ held) × AreLeftAs home.file s × HasClientsAtLimit s event
 IsToldOf takes stands_for s number event held told home w (Err _) = ⊥
