@@ -13,7 +13,7 @@ import subprocess
 import sys
 import tempfile
 
-from promises import Reading, records_of
+from promises import Reading, records_of, serve
 
 KINDS = ("lock", "occ", "mv")
 
@@ -169,7 +169,6 @@ def may_be_left(reading, found):
     """The files give the records of what was told as decided, or with one transaction more, which was not told yet."""
     if found == reading.records:
         return reading.end(found)
-    from promises import serve
     for number, operations in reading.operations.items():
         if number not in reading.decided:
             with_it = dict(reading.records)
