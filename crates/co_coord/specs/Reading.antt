@@ -1,5 +1,6 @@
 -- What a coordinator tells of its transactions.
-use Rattle.std.specs.Prelude.{ℕ, Bool, true, not, ◌&&◌, nat_lt, List, find, Option, None, Some}
+use Rattle.std.specs.Prelude.{ℕ, not, ◌&&◌, nat_lt, List, find, Option, None, Some}
+pub use Rattle.co_state.specs.Table.{is_above}
 use Rattle.co_plain.specs.CoordStep.{members_of}
 use Rattle.co_plain.specs.Numbers.{has_number}
 use Rattle.co_plain.specs.declared.coord_state.Entry.{Entry}
@@ -13,11 +14,6 @@ stage_of None = stage.Unknown
 stage_of (Some entry.Idle) = stage.Idle
 stage_of (Some (entry.Collecting parts yeses)) = stage.Collecting
 stage_of (Some (entry.Committed members acks)) = stage.Committed
-
--- above a number, where there is one
-abbrev pub is_above : Option ℕ → ℕ → Bool
-is_above None t = true
-is_above (Some u) t = nat_lt u t
 
 -- the first of the numbers above another one that is not among the given ones
 abbrev pub lacking_above : List ℕ → List ℕ → ℕ → Option ℕ

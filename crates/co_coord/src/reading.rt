@@ -2,8 +2,8 @@
 ghost use Rattle.std.specs.Prelude.{◌≡◌, true};
 ghost use Rattle.co_plain.specs.CoordStep.{members_of};
 ghost use Rattle.co_plain.specs.declared.coord_state.CoordState.{CoordState};
-ghost use Rattle.co_state.specs.Table.{look, holds, least_where};
-ghost use Rattle.co_coord.specs.Reading.{is_above, lacking_above, lacking_of, stage_of};
+ghost use Rattle.co_state.specs.Table.{look, holds, is_above, least_where};
+ghost use Rattle.co_coord.specs.Reading.{lacking_above, lacking_of, stage_of};
 ghost use Rattle.co_coord.specs.Standing.{is_up, RepresentsCoord};
 
 use crate::coord::Coord;
@@ -40,28 +40,6 @@ fn stage_in(table: &Table<Entry>, t: Txn) -> Stage
             },
         ) => Stage::Committed,
     }
-}
-
-/// Whether a transaction is above another one, where there is another one.
-fn is_above(after: &Option<Txn>, t: Txn) -> bool
-    ensures { result ≡ is_above after.now t }
-{
-    match after {
-        None => true,
-        Some(u) => t > *u,
-    }
-}
-
-/// The least transaction of a table above another one.
-fn least_above(table: &Table<Entry>, after: &Option<Txn>) -> Option<Txn>
-    ensures { result ≡ least_where (λ t e. is_above after.now t) table.now }
-{
-    for (t, _) in table.iter() {
-        if is_above(after, *t) {
-            return Some(*t);
-        }
-    }
-    None
 }
 
 /// The first of the numbers above another one that is not among the given ones.
@@ -131,12 +109,12 @@ impl Coord {
         stage_in(self.table(), t)
     }
 
-    /// The least transaction of the table above a number, or the least of all. The table is gone through.
+    /// The least transaction of the table above a number, or the least of all. Takes no memory.
     pub fn open_after(&self, after: Option<Txn>) -> Option<Txn>
         requires up { is_up self.now ≡ true }
         ensures { (y : CoordState) → RepresentsCoord self.now y → result ≡ least_where (λ t e. is_above after t) y.table }
     {
-        least_above(self.table(), &after)
+        self.table().first_above(after)
     }
 
     /// The least participant above a number without a recorded yes of a collecting transaction, or without an acknowledgement of a

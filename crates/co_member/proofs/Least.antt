@@ -4,11 +4,11 @@ use Rattle.std.proofs.lemmas.Bool.Decides.{nat_tests}
 use Rattle.co_state.specs.declared.engine_state.EngineState.{EngineState}
 use Rattle.co_state.specs.declared.engine_state.Operation.{Operation}
 use Rattle.co_state.specs.declared.engine_state.Vote.{Vote}
-use Rattle.co_state.specs.Table.{look}
+use Rattle.co_state.specs.Table.{is_above, look}
 use Rattle.co_undecided.proofs.Least.{IsLeast, least_once, least_of, least_of_both, passed, table_least}
 use Rattle.co_undecided.proofs.Numbered.{by_number}
 use Rattle.co_undecided.specs.Kept.{mark_of, mark_at, next_open}
-use Rattle.co_member.specs.Reading.{is_above, open_after}
+use Rattle.co_member.specs.Reading.{open_after}
 use Rattle.co_member.proofs.Standings.{none_active, none_voted}
 
 abbrev is_open : EngineState → Option ℕ → ℕ → Bool

@@ -1,8 +1,8 @@
 -- What a member tells of its transactions.
-use Rattle.std.specs.Prelude.{ℕ, Bool, true, nat_lt, Option, None, Some, option_map}
+use Rattle.std.specs.Prelude.{ℕ, Option, None, Some, option_map}
 use Rattle.co_state.specs.declared.engine_state.EngineState.{EngineState}
 use Rattle.co_state.specs.declared.verdict.Verdict.{Verdict}
-use Rattle.co_state.specs.Table.{least_where, lesser}
+use Rattle.co_state.specs.Table.{is_above, least_where, lesser}
 use Rattle.co_state.specs.VotingRule.{vote_of}
 use Rattle.co_plain.specs.declared.member_state.AskedMark.{AskedMark}
 use Rattle.co_plain.specs.declared.standing.Standing.{Standing}
@@ -15,11 +15,6 @@ phase_of IsActive = phase.Active
 phase_of IsVoted = phase.Voted
 phase_of IsInstalled = phase.Installed
 phase_of IsAbsent = phase.Absent
-
--- above a number, where there is one
-abbrev pub is_above : Option ℕ → ℕ → Bool
-is_above None t = true
-is_above (Some u) t = nat_lt u t
 
 -- the least undecided transaction above a number, or the least of all
 abbrev pub open_after : EngineState → Option ℕ → Option ℕ

@@ -1,7 +1,7 @@
 //! Lists of member numbers.
 ghost use Rattle.std.specs.Prelude.{◌≡◌, ◌∷◌, IfOk, map};
 ghost use Rattle.co_plain.specs.CoordStep.{has_part, members_of};
-ghost use Rattle.co_plain.specs.Numbers.{counted, has_number, numbers_lacking, first_lacking};
+ghost use Rattle.co_plain.specs.Numbers.{has_number, numbers_lacking, first_lacking};
 
 use co_base::{Bytes, Part};
 use std::alloc::{AllocError, Global};
@@ -52,15 +52,4 @@ pub fn with_number(numbers: Bytes, number: u8) -> Result<Bytes, AllocError>
     let mut items = numbers.into_vec();
     items.insert(0, number)?;
     Ok(Bytes::of(items))
-}
-
-/// A count of 16 bits, which stands still at the end of its type.
-pub fn counted(count: usize) -> u16
-    ensures { result ≡ counted count }
-{
-    if count < 65535 {
-        count as u16
-    } else {
-        u16::MAX
-    }
 }

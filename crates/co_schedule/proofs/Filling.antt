@@ -2,8 +2,8 @@
 use Rattle.std.proofs.Common.{◌≡◌, ℕ, ◌+◌, ◌-◌, ◌<◌, ◌≤◌, Bool, true, false, cond, List, ◌++◌, length, take, drop, Option, None, Some, refl, sym, ap, ◌∙◌, arith, ltb, eqb, append_assoc, length-append, eq-eqb, not}
 use Rattle.std.specs.Prelude.{position}
 use Rattle.std.specs.List.{prefix_len, position_or_len}
-use Rattle.co_schedule.specs.Filling.{IsGrown}
-use Rattle.std.proofs.lemmas.List.{take-append-drop, take_rest}
+use Rattle.co_schedule.specs.Filling.{IsGrown, IsTakenFrom, IsWithin}
+use Rattle.std.proofs.lemmas.List.{take-append-drop, take_rest, length-drop}
 use Rattle.std.proofs.Math.Seq.{drop-append_seam}
 use Rattle.std.proofs.lemmas.List.Folds.{prefix_len-append}
 use Rattle.std.proofs.lemmas.List.Sums.{prefix_len-le-length}
@@ -17,6 +17,28 @@ piece_taken told piece held new bytes front rest e =
 -- nothing was taken
 pub nothing_taken : (told : Option (List ℕ)) (held bytes : List ℕ) → told ≡ Some (drop 0 bytes) → (rest : List ℕ) × (told ≡ Some rest) × (held ++ rest ≡ held ++ bytes)
 nothing_taken told held bytes e = (bytes, e, refl)
+
+-- all that was taken is held, and it fits
+pub held_within : {S : Type 0} (left : S → Option (List ℕ)) (old new : S) (before held : List ℕ) (room : ℕ) → IsTakenFrom left old new before held → length held ≤ room → IsWithin left old new before room
+held_within left old new before held room taken fits bytes after told told_then =
+    let it = taken bytes told in
+    let same : it.0 ≡ after = (let z : Some it.0 ≡ Some after = sym it.1 ∙ told_then in cc) in
+    let size : length held + length after ≡ length before + length bytes = sym (length-append held after) ∙ ap (λ (l : List ℕ). length (held ++ l)) (sym same) ∙ ap length it.2 ∙ length-append before bytes in
+    omega (arith, size, fits)
+
+-- a piece was taken, whether it is held or was lost
+pub piece_within : {S : Type 0} (left : S → Option (List ℕ)) (old new : S) (held : List ℕ) (count room : ℕ) → ((bytes : List ℕ) → left old ≡ Some bytes → left new ≡ Some (drop count bytes)) → length held + count ≤ room → IsWithin left old new held room
+piece_within left old new held count room rest fits bytes after told told_then =
+    let same : drop count bytes ≡ after = (let z : Some (drop count bytes) ≡ Some after = sym (rest bytes told) ∙ told_then in cc) in
+    let size : length after ≡ length bytes - count = ap length (sym same) ∙ length-drop count bytes in
+    omega (arith, size, fits)
+
+-- what was taken first is held, and what was taken then is within the room of it
+pub then_within : {S : Type 0} (left : S → Option (List ℕ)) (old mid new : S) (before held : List ℕ) (room : ℕ) → IsTakenFrom left old mid before held → IsWithin left mid new held room → IsWithin left old new before room
+then_within left old mid new before held room taken bound bytes after told told_then =
+    let it = taken bytes told in
+    let size : length held + length it.0 ≡ length before + length bytes = sym (length-append held it.0) ∙ ap length it.2 ∙ length-append before bytes in
+    omega (arith, size, bound it.0 after it.1 told_then)
 
 placed : (b : Bool) (n i : ℕ) → cond b (Some n) None ≡ Some i → (b ≡ true) × (n ≡ i)
 placed true n i e = (refl, cc)

@@ -1,6 +1,6 @@
 -- What is next where a buffer and what is left lie ahead.
 use Rattle.std.proofs.Common.{◌≡◌, ℕ, ◌+◌, ◌<◌, ◌≤◌, true, false, List, [], ◌∷◌, ◌++◌, length, take, drop, Option, None, Some, Ok, Err, refl, sym, ap, ◌∙◌, arith, ltb, not, length-append}
-use Rattle.std.specs.Prelude.{position, option_map, OnOk, Result}
+use Rattle.std.specs.Prelude.{position, option_map, OnOk, Result, IsErr, IsErrAnd}
 use Rattle.std.specs.List.{position_or_len}
 use Rattle.std.proofs.lemmas.List.{take-append-le, drop-append-le, length-take-le, length-drop}
 use Rattle.std.proofs.lemmas.List.Sums.{prefix_len-le-length}
@@ -8,7 +8,7 @@ use Rattle.std.proofs.lemmas.Bool.{lt-ltb, le-ltb}
 use Rattle.co_schedule.specs.LineText.{is_newline, first_line, behind_line, next_line, short_line}
 use Rattle.co_schedule.specs.declared.fault.LinesFault.TheVariants.{Long, Many}
 use Rattle.co_schedule.specs.Lines.{unread}
-use Rattle.co_schedule.specs.Filling.{IsTakenFrom}
+use Rattle.co_schedule.specs.Filling.{IsTakenFrom, IsWithin}
 use Rattle.co_schedule.specs.declared.lines.Lines.{Lines}
 use Rattle.co_schedule.proofs.Filling.{position_some, position_none, passes_behind, passes_before}
 
@@ -83,6 +83,13 @@ ahead_told held (Some rest) bytes e =
     let same : held ++ rest ≡ bytes = cc in
     (rest, refl, same)
 
+-- no more was taken of what lay ahead than is within the room
+pub ahead_within : {S : Type 0} (left : S → Option (List ℕ)) (old new : S) (held before : List ℕ) (room most : ℕ) (text after : List ℕ) → held ≡ before → option_map (λ rest. before ++ rest) (left old) ≡ Some text → left new ≡ Some after → IsWithin left old new held room → room ≤ most → length text ≤ length after + most
+ahead_within left old new held before room most text after same told told_then bound fits =
+    let first = ahead_told before (left old) text told in
+    let size : length before + length first.0 ≡ length text = sym (length-append before first.0) ∙ ap length first.2 in
+    omega (arith, size, ap length same, bound first.0 after first.1 told_then, fits)
+
 -- the same text lies ahead of a filled buffer
 pub filled_ahead : {S : Type 0} (left : S → Option (List ℕ)) (old new : S) (held filled before text : List ℕ) → held ≡ before → option_map (λ rest. before ++ rest) (left old) ≡ Some text → IsTakenFrom left old new held filled → (rest : List ℕ) × (left new ≡ Some rest) × (filled ++ rest ≡ text) × (bytes : List ℕ) × (left old ≡ Some bytes)
 filled_ahead left old new held filled before text same told taken =
@@ -102,6 +109,15 @@ ahead_then behind told rest text e f = rw e (ap Some f)
 
 pub same_rest : (told : Option (List ℕ)) (rest : List ℕ) → told ≡ Some rest → told ≡ Some [] → rest ≡ []
 same_rest told rest e f = let g : Some rest ≡ Some [] = sym e ∙ f in cc
+
+-- a fault that is handed on is the one that was met
+pub handed_fault : {A E : Type 0} (o : Result A E) (met other : E) → IsErr o × IsErrAnd o (λ e. e ≡ met) → o ≡ Err other → met ≡ other
+handed_fault (Ok x) met other h is = absurd (let z : Ok x ≡ Err other = is in cc)
+handed_fault (Err e) met other h is = let z : Err e ≡ Err other = is in sym h.1 ∙ cc
+
+pub on_fault : {A E : Type 0} (o : Result A E) (met : E) (P : Type 0) → IsErr o × IsErrAnd o (λ e. e ≡ met) → OnOk o P
+on_fault (Ok x) met P h = absurd (let z : false ≡ true = h.0 in cc)
+on_fault (Err e) met P h = tt
 
 -- no more is held than the buffer has room for
 pub unread_held : (reader : Lines) → length (unread reader) ≤ reader.line + 1

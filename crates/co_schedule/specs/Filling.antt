@@ -15,6 +15,10 @@ IsGrown held_old held_new = (piece : List ℕ) × (held_new ≡ held_old ++ piec
 abbrev pub IsTakenFrom : {S : Type 0} → (S → Option (List ℕ)) → S → S → List ℕ → List ℕ → Type 0
 IsTakenFrom left source_old source_new held_old held_new = (bytes : List ℕ) → left source_old ≡ Some bytes → (rest : List ℕ) × (left source_new ≡ Some rest) × (held_new ++ rest ≡ held_old ++ bytes)
 
+-- of what was held and what the source had left, all but so many bytes at most is left
+abbrev pub IsWithin : {S : Type 0} → (S → Option (List ℕ)) → S → S → List ℕ → ℕ → Type 0
+IsWithin left source_old source_new held room = (bytes after : List ℕ) → left source_old ≡ Some bytes → left source_new ≡ Some after → length held + length bytes ≤ length after + room
+
 -- the limits and the count of lines lent are those from before
 pub record HasSameLimits (old new : Lines) : Type 0 where
   pub line : new.line ≡ old.line

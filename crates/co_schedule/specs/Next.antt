@@ -10,12 +10,14 @@ use Rattle.co_schedule.specs.declared.lines.Lines.{Lines}
 use Rattle.co_schedule.specs.contracts.lines.Lines.{the_row}
 
 -- The reader moved behind the next line. Fewer bytes are held behind a line than a line and its newline
--- have, and at every return no more than these. Where the source failed, all that was taken is still
--- ahead, and no whole line of it is held.
+-- have, and at every return no more than these; also no more was taken of what lay ahead than a line and
+-- its newline may have. Where the source failed, all that was taken is still ahead, and no whole line of
+-- it is held.
 pub record HasMoved {A : Type 0} (old : Lines) (left_old left_new : Option (List ℕ)) (result : Result A LinesFault) (new : Lines) : Type 0 where
   pub behind : (text : List ℕ) → ahead old left_old ≡ Some text → OnOk result (ahead new left_new ≡ Some (behind_line text))
   pub few : OnOk result (length (unread new) ≤ most_bytes new)
   pub held : length (unread new) ≤ most_bytes new + 1
+  pub taken : (text after : List ℕ) → ahead old left_old ≡ Some text → left_new ≡ Some after → length text ≤ length after + (most_bytes new + 1)
   pub kept : (text : List ℕ) → ahead old left_old ≡ Some text → IsErrOf result Read → ahead new left_new ≡ Some text
   pub whole : IsErrOf result Read → position is_newline (unread new) ≡ None
   pub limits : (most_bytes new ≡ most_bytes old) × (most_lines new ≡ most_lines old)

@@ -7,6 +7,10 @@ use crate::fault::LinesFault;
 use co_outside::{Source, SourceFault, Taken};
 use std::alloc::{AllocError, Global};
 
+/// The most bytes that are asked of the source at once, also where the buffer has more room: what is left of a piece moves to the front with
+/// each line.
+const PIECE: u32 = 4096;
+
 /// What the buffer holds at its front.
 enum Held {
     // A line, whose newline stands at this place.
@@ -47,7 +51,7 @@ impl Lines {
     ghost use Rattle.co_schedule.specs.Lines.{most_bytes, most_lines, lines_read, unread, shown_line, ahead, next_of, IsRead, lent_then};
     ghost use Rattle.std.specs.Borrow.{sem};
     ghost use Rattle.co_schedule.specs.Next.{HasMoved, EndsAs, IsIdle};
-    ghost use Rattle.co_schedule.specs.Filling.{IsGrown, IsTakenFrom, IsHeld, IsOfSource, HasSameLimits};
+    ghost use Rattle.co_schedule.specs.Filling.{IsGrown, IsTakenFrom, IsWithin, IsHeld, IsOfSource, HasSameLimits};
 
     /// A reader of lines of at most `line` bytes without their newline, at most `lines` of them. Takes
     /// a buffer of `line + 1` bytes.
@@ -85,6 +89,7 @@ impl Lines {
         ensures more { IfOk result (λ some. MatchBool some (IsGrown self.old.buffer.items self.new.buffer.items) (self.new.buffer.items ≡ self.old.buffer.items)) }
         ensures taken { OnOk result (IsTakenFrom S.left source.old source.new self.old.buffer.items self.new.buffer.items) }
         ensures kept { IsErrOf result LinesFault.Read → IsTakenFrom S.left source.old source.new self.old.buffer.items self.new.buffer.items }
+        ensures bound { IsWithin S.left source.old source.new self.old.buffer.items (self.old.line + 1) }
         ensures end { result ≡ Ok false → (bytes : List ℕ) → S.left source.old ≡ Some bytes → S.left source.new ≡ Some [] }
         ensures same { HasSameLimits self.old self.new }
         ensures used { (self.new.used ≡ self.old.used) × (self.new.shown ≡ self.old.shown) }
@@ -95,7 +100,7 @@ impl Lines {
         ensures err { OnErr result (self.new.buffer.items ≡ self.old.buffer.items) }
     {
         let room = self.line + 1 - self.buffer.len() as u32;
-        match source.take(*self.buffer.allocator(), room) {
+        match source.take(*self.buffer.allocator(), room.min(PIECE)) {
             Ok(Taken::Bytes(bytes)) => {
                 self.buffer.extend_from_slice(bytes.as_slice())?;
                 Ok(true)
@@ -116,6 +121,7 @@ impl Lines {
         ensures rest { result ≡ Ok (Some Held.Rest) → (bytes : List ℕ) → S.left source.old ≡ Some bytes → S.left source.new ≡ Some [] }
         ensures taken { OnOk result (IsTakenFrom S.left source.old source.new self.old.buffer.items self.new.buffer.items) }
         ensures kept { IsErrOf result LinesFault.Read → IsTakenFrom S.left source.old source.new self.old.buffer.items self.new.buffer.items }
+        ensures bound { IsWithin S.left source.old source.new self.old.buffer.items (self.old.line + 1) }
         ensures same { HasSameLimits self.old self.new }
         ensures used { (self.new.used ≡ self.old.used) × (self.new.shown ≡ self.old.shown) }
         ensures counts { S.faults source.old ≤ S.faults source.new }
@@ -140,6 +146,7 @@ impl Lines {
         ensures rest { result ≡ Ok Held.Rest → (bytes : List ℕ) → S.left source.old ≡ Some bytes → S.left source.new ≡ Some [] }
         ensures taken { OnOk result (IsTakenFrom S.left source.old source.new self.old.buffer.items self.new.buffer.items) }
         ensures kept { IsErrOf result LinesFault.Read → IsTakenFrom S.left source.old source.new self.old.buffer.items self.new.buffer.items }
+        ensures bound { IsWithin S.left source.old source.new self.old.buffer.items (self.old.line + 1) }
         ensures idle { (end : ℕ) → position is_newline self.old.buffer.items ≡ Some end → source.new ≡ source.old }
         ensures same { HasSameLimits self.old self.new }
         ensures used { (self.new.used ≡ self.old.used) × (self.new.shown ≡ self.old.shown) }
@@ -214,6 +221,7 @@ impl Lines {
         ensures next { (bytes : List ℕ) → ahead self.old (S.left source.old) ≡ Some bytes → IsRead (next_line self.old.line self.old.lines self.old.lent bytes) self.new result }
         ensures behind { (bytes : List ℕ) → ahead self.old (S.left source.old) ≡ Some bytes → OnOk result (ahead self.new (S.left source.new) ≡ Some (behind_line bytes)) }
         ensures kept { (bytes : List ℕ) → ahead self.old (S.left source.old) ≡ Some bytes → IsErrOf result LinesFault.Read → ahead self.new (S.left source.new) ≡ Some bytes }
+        ensures bound { IsWithin S.left source.old source.new self.old.buffer.items (self.old.line + 1) }
         ensures few { OnOk result (unread self.new ≡ []) }
         ensures idle { unread self.old ≢ [] → source.new ≡ source.old }
         ensures none_shown { self.new.shown ≡ None }

@@ -1,3 +1,4 @@
+pub mod Above
 mod Placing
 mod Newest
 pub mod Rows

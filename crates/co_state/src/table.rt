@@ -1,13 +1,14 @@
 //! Tables by transaction number.
-ghost use Rattle.std.specs.Prelude.{◌≡◌, OnOk, OnErr, option_copied, length, ◌==◌};
+ghost use Rattle.std.specs.Prelude.{◌≡◌, OnOk, OnErr, option_copied, length, ◌==◌, filter, nat_lt};
 ghost use Rattle.std.specs.FinMap.{entries};
-ghost use Rattle.co_state.specs.Table.{no_entries, look, put, without, holds};
+ghost use Rattle.co_state.specs.Table.{no_entries, look, put, without, holds, first_of, is_above, least_where};
 
 use co_base::Txn;
 use std::alloc::{AllocError, Global};
 use std::collections::BTreeMap;
-use std::collections::btree_map::Iter;
+use std::collections::btree_map::{Iter, Range};
 use std::marker::Model;
+use std::ops::Bound;
 
 /// A table from transaction numbers to entries. A contract sees the finite map.
 #[derive(Drop)]
@@ -70,6 +71,40 @@ impl<V> Table<V> {
         ensures { result ≡ entries self.now }
     {
         self.entries.iter()
+    }
+
+    /// The entries above a number, ascending.
+    fn above(&self, txn: Txn) -> Range<'_, Txn, V>
+        ensures { result ≡ filter (λ e. nat_lt txn e.0) (entries self.now) }
+    {
+        self.entries
+            .range((Bound::Excluded(&txn), Bound::Unbounded))
+    }
+
+    /// The least number of all.
+    fn first(&self) -> Option<Txn>
+        ensures { result ≡ first_of (entries self.now) }
+    {
+        let (txn, _) = self.iter().next()?;
+        Some(*txn)
+    }
+
+    /// The least number above one.
+    fn next_above(&self, txn: Txn) -> Option<Txn>
+        ensures { result ≡ first_of (filter (λ e. nat_lt txn e.0) (entries self.now)) }
+    {
+        let (next, _) = self.above(txn).next()?;
+        Some(*next)
+    }
+
+    /// The least number that has an entry above another one, or the least of all. Takes no memory.
+    pub fn first_above(&self, after: Option<Txn>) -> Option<Txn>
+        ensures { result ≡ least_where (λ t e. is_above after t) self.now }
+    {
+        match after {
+            Some(txn) => self.next_above(txn),
+            None => self.first(),
+        }
     }
 
     /// Lays in an entry in place of the one of its number. Want of memory leaves the table as it was.

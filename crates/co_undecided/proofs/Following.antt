@@ -16,30 +16,6 @@ use Rattle.co_undecided.specs.declared.entry.Entry.{Entry}
 use Rattle.co_undecided.specs.Kept.{entry_at, entry_of, next_open}
 use Rattle.co_undecided.proofs.Least.{least_once, least_of, least_of_both, passed, table_least}
 
-above_is : (a u : ℕ) → (is_lt (nat_cmp a u) && true) ≡ nat_lt a u
-above_is a u = by (cases_order a u)
-  where
-    by : (a ≡ u) ⊎ ((a < u) ⊎ (u < a)) → (is_lt (nat_cmp a u) && true) ≡ nat_lt a u
-    by (inl q) = ap (λ r. is_lt r && true) (sym (nat_cmp_is a u Equal q)) ∙ grind (arith, nat_tests)
-    by (inr (inl l)) = ap (λ r. is_lt r && true) (sym (nat_cmp_is a u Less l)) ∙ grind (arith, nat_tests)
-    by (inr (inr m)) = ap (λ r. is_lt r && true) (sym (nat_cmp_is a u Greater m)) ∙ grind (arith, nat_tests)
-
-pub between_above : (after : ℕ) (es : List (ℕ × Entry)) → entries_between nat_cmp (Excluded after) Unbounded es ≡ filter (λ e. nat_lt after e.0) es
-between_above after es = λ i. filter (λ (e : ℕ × Entry). above_is after e.0 i) es
-
-abbrev pub first_key : List (ℕ × Entry) → Option ℕ
-first_key [] = None
-first_key (e ∷ es) = Some e.0
-
-pub first_above : (after : ℕ) (es : List (ℕ × Entry)) → first_key (filter (λ e. nat_lt after e.0) es) ≡ first_in (λ u x. nat_lt after u) es
-first_above after [] = refl
-first_above after (e ∷ es) = by (nat_lt after e.0) (first_above after es)
-  where
-    by : (b : Bool) → first_key (filter (λ f. nat_lt after f.0) es) ≡ first_in (λ u x. nat_lt after u) es →
-        first_key (if b then e ∷ filter (λ f. nat_lt after f.0) es else filter (λ f. nat_lt after f.0) es) ≡ (if b then Some e.0 else first_in (λ u x. nat_lt after u) es)
-    by true more = refl
-    by false more = more
-
 pub next_is : (es : Table Entry) (b : EngineState) (asked : Table AskedMark) (after : ℕ) → ((t : ℕ) → look es t ≡ entry_at b asked t) →
     least_where (λ u x. nat_lt after u) es ≡ next_open b after
 next_is es b asked after shown =

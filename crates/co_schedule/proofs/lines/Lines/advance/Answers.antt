@@ -1,9 +1,11 @@
-use Rattle.std.proofs.Common.{◌≡◌, Ok, List, ℕ, [], Result, ap, subst, ◌∙◌}
-use Rattle.co_schedule.specs.LineText.{behind_line}
+use Rattle.std.proofs.Common.{◌≡◌, Ok, List, ℕ, [], Result, ap, subst, ◌∙◌, arith, ◌++◌, drop, Err}
+use Rattle.std.specs.Prelude.{position}
+use Rattle.co_schedule.specs.LineText.{behind_line, is_newline}
 use Rattle.co_schedule.specs.Lines.{IsRead, unread}
 use Rattle.co_schedule.specs.declared.fault.LinesFault.{LinesFault}
+use Rattle.co_schedule.specs.declared.fault.LinesFault.TheVariants.{Read}
 use Rattle.co_schedule.specs.declared.lines.Held.TheVariants.{Rest}
-use Rattle.co_schedule.proofs.NextLine.{filled_ahead, next_same, on_ok, ahead_then, same_rest, unread_held}
+use Rattle.co_schedule.proofs.NextLine.{filled_ahead, ahead_within, handed_fault, on_fault, next_same, on_ok, ahead_then, same_rest, unread_held}
 use Rattle.co_schedule.proofs.lines.Lines.advance.Goals as goal
 
 pub returns-clause-next : goal.returns-clause-next
@@ -21,7 +23,26 @@ returns-clause-moved g c = record {
       on_ok c.show.result _ _ (λ moved. ahead_then (unread c.show.new.self) _ it.0 (behind_line text) it.1 (moved ∙ ap behind_line it.2)) (c.show.ensures.behind it.0 none);
   few = c.show.ensures.few;
   held = unread_held c.show.new.self;
+  taken = λ text after told told_then. ahead_within g.S.Source.left _ _ _ _ _ _ text after c.let_go.ensures.held told told_then c.in_ok-held.ensures.bound
+      (omega (arith, c.in_ok-held.ensures.same.line, c.let_go.ensures.same.line, c.show.ensures.limits.0));
   kept = λ text told fault. absurd (c.show.ensures.source fault);
   whole = λ fault. absurd (c.show.ensures.source fault);
   limits = (c.show.ensures.limits.0 ∙ c.in_ok-held.ensures.same.line ∙ c.let_go.ensures.same.line, c.show.ensures.limits.1 ∙ c.in_ok-held.ensures.same.lines ∙ c.let_go.ensures.same.lines);
 }
+
+pub returns-in_err-held-clause-moved : goal.returns-in_err-held-clause-moved
+returns-in_err-held-clause-moved g c =
+    let none : c.fill.new.self.used ≡ 0 = c.in_err-held.ensures.used.0 ∙ c.let_go.ensures.used.0 in
+    record {
+      behind = λ text told. on_fault c.from_residual.result c.in_err-held.field-0.0 _ c.from_residual.ensures;
+      few = on_fault c.from_residual.result c.in_err-held.field-0.0 _ c.from_residual.ensures;
+      held = unread_held c.fill.new.self;
+      taken = λ text after told told_then. ahead_within g.S.Source.left _ _ _ _ _ _ text after c.let_go.ensures.held told told_then c.in_err-held.ensures.bound
+          (omega (arith, c.in_err-held.ensures.same.line, c.let_go.ensures.same.line));
+      kept = λ text told fault.
+          let same : c.in_err-held.field-0.0 ≡ Read = handed_fault c.from_residual.result c.in_err-held.field-0.0 Read c.from_residual.ensures fault in
+          let it = filled_ahead g.S.Source.left _ _ _ _ _ text c.let_go.ensures.held told (c.in_err-held.ensures.kept (ap Err same)) in
+          ahead_then (unread c.fill.new.self) _ it.0 text it.1 (ap (λ (k : ℕ). drop k c.fill.new.self.buffer.items ++ it.0) none ∙ it.2);
+      whole = λ fault. ap (λ (k : ℕ). position is_newline (drop k c.fill.new.self.buffer.items)) none ∙ c.in_err-held.ensures.whole;
+      limits = (c.in_err-held.ensures.same.line ∙ c.let_go.ensures.same.line, c.in_err-held.ensures.same.lines ∙ c.let_go.ensures.same.lines);
+    }

@@ -2,7 +2,7 @@ use Rattle.std.proofs.Common.{nat_lt, filter, sym, ap, ◌∙◌}
 use Rattle.std.specs.FinMap.{entries, nat_cmp-IsAntisymmetric}
 use Rattle.std.proofs.lemmas.Cmp.{nat_cmp_total}
 use Rattle.co_serial.proofs.MapViews.{view-entries}
-use Rattle.co_undecided.proofs.Following.{between_above}
+use Rattle.co_state.proofs.Above.{between_above}
 use Rattle.co_undecided.proofs.entries.Entries.above.Goals as goal
 
 pub returns : goal.returns
