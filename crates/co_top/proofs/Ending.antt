@@ -21,8 +21,8 @@ use Rattle.co_world.specs.Left.{AreLeftAs}
 use Rattle.co_world.proofs.Lefts.{held_left}
 use Rattle.co_world.specs.Standing.{RepresentsWorld, AreHeld}
 use Rattle.co_world.specs.declared.world.World.{World}
-use Rattle.co_top.specs.Front.{IsHeaded, StandsBehind, AtStart, IsHeadFault}
-use Rattle.co_top.specs.Played.{IsTold, IsToldInPart, StandsFor, IsLeftNear, HasFailed, HasStopped, IsOver}
+use Rattle.co_top.specs.Front.{IsHeaded, StandsBehind, AtStart, IsHeadFault, IsStreamed}
+use Rattle.co_top.specs.Played.{IsTold, IsToldInPart, StandsFor, IsStreamedBehind, IsLeftNear, HasFailed, HasStopped, IsOver}
 use Rattle.co_top.specs.Ran.{Ran, AreLeftBy, AreLeftByFault, HasRun, HasRunInPart, HasStoppedAt, IsRunEnd}
 use Rattle.co_outside.specs.Faults.{HasRisen}
 use Rattle.std.specs.Prelude.{OnOk, IfErr}
@@ -35,6 +35,7 @@ use Rattle.co_top.specs.declared.status.Status.TheVariants as status
 use Rattle.co_top.proofs.Laws.{promised}
 use Rattle.co_top.proofs.Lists.{take_behind}
 use Rattle.co_top.proofs.Left.{left_by, left_by_fault}
+use Rattle.co_top.proofs.Plays.{streamed_behind}
 
 module _ {E : Type 0} (takes : Kind → Type 0) (stands_for : E → EngineState → Type 0) (resume : Bool) (input held : List ℕ) (old : Spot → Option File) (head : Head) (text : List ℕ) (headed : IsHeaded input head text)
     (before : World E) (items : List Item) (at : IsAttachedOver takes stands_for old head resume before items) where
@@ -81,20 +82,20 @@ module _ {E : Type 0} (takes : Kind → Type 0) (stands_for : E → EngineState 
         ∙ ap (take (length (opening_text head items) + p.0)) (sym (all_text events)))),
   )
 
-  module _ (told : Option (List ℕ)) where
+  module _ (now told : Option (List ℕ)) where
     abbrev pub mid : Option (List ℕ)
     mid = Some (held ++ opening_text head items)
 
-    abbrev pub has_run : IsTold head s0 (Some text) mid told → HasRun resume input held old told
-    has_run p =
+    abbrev pub has_run : (p : IsTold head s0 (Some text) mid told) → IsStreamedBehind head (Some text) now p.events p.left → HasRun resume input now held old told
+    has_run p streamed =
         let r = ran p.events p.valid (p.left text refl) in
-        record { ran = r; promises = promised r; transcript = whole_text p.events told (p.whole (held ++ opening_text head items) refl) }
+        record { ran = r; streamed = streamed text refl; promises = promised r; transcript = whole_text p.events told (p.whole (held ++ opening_text head items) refl) }
 
-    abbrev pub has_run_in_part : IsToldInPart head s0 (Some text) mid told → HasRunInPart resume input held old told
-    has_run_in_part p =
+    abbrev pub has_run_in_part : (p : IsToldInPart head s0 (Some text) mid told) → IsStreamedBehind head (Some text) now p.events p.left → HasRunInPart resume input now held old told
+    has_run_in_part p streamed =
         let r = ran p.events p.valid (p.left text refl) in
         let t = part_text p.events told (p.part (held ++ opening_text head items) refl) in
-        record { ran = r; promises = promised r; count = t.0; transcript = t.1 }
+        record { ran = r; streamed = streamed text refl; promises = promised r; count = t.0; transcript = t.1 }
 
     module _ (home : HomeView) (w : World E) where
       files_of : (events : List Event) → StandsFor takes stands_for s0 home w events → AreLeftAs home.file (run (lines events) s0)
@@ -105,25 +106,25 @@ module _ {E : Type 0} (takes : Kind → Type 0) (stands_for : E → EngineState 
       near_left events valid left (inl before) = left_by_fault (ran events valid (left text refl)) home.file (inl before)
       near_left events valid left (inr (event, line, next, either)) = left_by_fault (ran events valid (left text refl)) home.file (inr (event, line, next text refl, either))
 
-      failed : HasFailed head s0 (Some text) mid told home → (done : HasRun resume input held old told) × AreLeftByFault done.ran home.file
-      failed p = (has_run p.done, near_left p.done.events p.done.valid p.done.left p.files)
+      failed : HasFailed head s0 (Some text) now mid told home → (done : HasRun resume input now held old told) × AreLeftByFault done.ran home.file
+      failed p = (has_run p.done p.streamed, near_left p.done.events p.done.valid p.done.left p.files)
 
-      stopped : (ended : Status) → HasStopped takes stands_for head s0 (Some text) mid told home w ended → HasStoppedAt resume input held old home.file told ended
+      stopped : (ended : Status) → HasStopped takes stands_for head s0 (Some text) now mid told home w ended → HasStoppedAt resume input now held old home.file told ended
       stopped ended p =
-          let r = has_run p.done in
+          let r = has_run p.done p.streamed in
           record { run = r; files = left_by r.ran home.file (files_of p.done.events p.stands); cause = p.cause text refl }
 
-      pub over : (result : Result (Unit {0}) Status) → IsOver takes stands_for head s0 (Some text) mid told home w result → IsRunEnd resume input held old home.file told (status_of result)
+      pub over : (result : Result (Unit {0}) Status) → IsOver takes stands_for head s0 (Some text) now mid told home w result → IsRunEnd resume input now held old home.file told (status_of result)
       over (Ok u) p =
-          let r = has_run p.0 in
-          (r, left_by r.ran home.file (files_of p.0.events p.1), p.2 text refl)
+          let r = has_run p.0 p.1 in
+          (r, left_by r.ran home.file (files_of p.0.events p.2), p.3 text refl)
       over (Err status.Done) p = absurd p
       over (Err status.Usage) p = absurd p
       over (Err (status.Schedule line what)) p = inr (stopped (status.Schedule line what) p)
       over (Err status.Read) p = inr (stopped status.Read p)
       over (Err status.Write) p =
-          let r = has_run_in_part p.0 in
-          (r, left_by r.ran home.file (files_of p.0.events p.1))
+          let r = has_run_in_part p.0 p.1 in
+          (r, left_by r.ran home.file (files_of p.0.events p.2))
       over (Err (status.Device spot)) p = inr (failed p)
       over (Err (status.Differs spot place kept read)) p = failed p
       over (Err (status.InUse spot)) p = absurd p
@@ -131,22 +132,23 @@ module _ {E : Type 0} (takes : Kind → Type 0) (stands_for : E → EngineState 
       over (Err (status.Limit (limit.Line line))) p = inr (stopped (status.Limit (limit.Line line)) p)
       over (Err (status.Limit limit.Lines)) p = stopped (status.Limit limit.Lines) p
       over (Err (status.Limit limit.Transactions)) p =
-          let r = has_run p.done in
+          let r = has_run p.done p.streamed in
           let next = p.next text refl in
           inr (r, left_by r.ran home.file p.files, (p.event, next.0, next.1, p.limit))
       over (Err (status.Limit (limit.Log spot))) p = inr (failed p)
-      over (Err status.Memory) p = inr (has_run_in_part p.done, near_left p.done.events p.done.valid p.done.left p.files)
+      over (Err status.Memory) p = inr (has_run_in_part p.done p.streamed, near_left p.done.events p.done.valid p.done.left p.files)
       over (Err (status.OldLog spot)) p = absurd p
       over (Err (status.NotSerial txn number)) p = absurd p
       over (Err (status.Transcript number)) p = absurd p
 
       -- no line was played: a front of the text of the head was put
-      pub first : RepresentsWorld takes stands_for w s0 → AreHeld home.file home.reach w → (count : ℕ) × (told ≡ Some (held ++ take count (opening_text head items))) →
-          (done : HasRunInPart resume input held old told) × AreLeftBy done.ran home.file
-      first stands kept p =
+      pub first : IsStreamed text now → RepresentsWorld takes stands_for w s0 → AreHeld home.file home.reach w → (count : ℕ) × (told ≡ Some (held ++ take count (opening_text head items))) →
+          (done : HasRunInPart resume input now held old told) × AreLeftBy done.ran home.file
+      first streamed stands kept p =
           let r = ran [] tt (text, AtStart text) in (
             record {
               ran = r;
+              streamed = streamed;
               promises = promised r;
               count = p.0;
               transcript = p.1 ∙ ap (λ t. Some (held ++ take p.0 t)) (sym (append-nil (opening_text head items)) ∙ sym (all_text []));
@@ -155,53 +157,53 @@ module _ {E : Type 0} (takes : Kind → Type 0) (stands_for : E → EngineState 
           )
 
 -- nothing was opened
-pub unopened : (resume : Bool) (input held : List ℕ) (old new : Spot → Option File) (told : Option (List ℕ)) (head : Head) (text : List ℕ) → IsHeaded input head text → told ≡ Some held →
-    (why : Status) → IsUnopenedAs old head resume why → (IsOfFiles why → (s : Spot) → new s ≡ old s) → IsRunEnd resume input held old new told why
-unopened resume input held old new told head text headed same status.Done u rest = absurd u
-unopened resume input held old new told head text headed same status.Usage u rest = absurd u
-unopened resume input held old new told head text headed same (status.Schedule line what) u rest = absurd u
-unopened resume input held old new told head text headed same status.Read u rest = absurd u
-unopened resume input held old new told head text headed same status.Write u rest = absurd u
-unopened resume input held old new told head text headed same (status.Device spot) u rest = inl same
-unopened resume input held old new told head text headed same (status.Differs spot place kept read) u rest = absurd u
-unopened resume input held old new told head text headed same (status.InUse spot) u rest = ((same, rest tt), record { head = head; text = text; headed = headed; cause = u })
-unopened resume input held old new told head text headed same (status.BadLog spot place) u rest = ((same, rest tt), record { head = head; text = text; headed = headed; cause = u })
-unopened resume input held old new told head text headed same (status.Limit (limit.Line line)) u rest = absurd u
-unopened resume input held old new told head text headed same (status.Limit limit.Lines) u rest = absurd u
-unopened resume input held old new told head text headed same (status.Limit limit.Transactions) u rest = inl ((same, rest tt), record { head = head; text = text; headed = headed; cause = u })
-unopened resume input held old new told head text headed same (status.Limit (limit.Log spot)) u rest = inl ((same, rest tt), record { head = head; text = text; headed = headed; cause = u })
-unopened resume input held old new told head text headed same status.Memory u rest = inl same
-unopened resume input held old new told head text headed same (status.OldLog spot) u rest = ((same, rest tt), record { head = head; text = text; headed = headed; cause = u })
-unopened resume input held old new told head text headed same (status.NotSerial txn number) u rest = absurd u
-unopened resume input held old new told head text headed same (status.Transcript number) u rest = absurd u
+pub unopened : (resume : Bool) (input : List ℕ) (now : Option (List ℕ)) → IsStreamed input now → (held : List ℕ) (old new : Spot → Option File) (told : Option (List ℕ)) (head : Head) (text : List ℕ) → IsHeaded input head text → told ≡ Some held →
+    (why : Status) → IsUnopenedAs old head resume why → (IsOfFiles why → (s : Spot) → new s ≡ old s) → IsRunEnd resume input now held old new told why
+unopened resume input now streamed held old new told head text headed same status.Done u rest = absurd u
+unopened resume input now streamed held old new told head text headed same status.Usage u rest = absurd u
+unopened resume input now streamed held old new told head text headed same (status.Schedule line what) u rest = absurd u
+unopened resume input now streamed held old new told head text headed same status.Read u rest = absurd u
+unopened resume input now streamed held old new told head text headed same status.Write u rest = absurd u
+unopened resume input now streamed held old new told head text headed same (status.Device spot) u rest = inl (same, streamed)
+unopened resume input now streamed held old new told head text headed same (status.Differs spot place kept read) u rest = absurd u
+unopened resume input now streamed held old new told head text headed same (status.InUse spot) u rest = (((same, streamed), rest tt), record { head = head; text = text; headed = headed; cause = u })
+unopened resume input now streamed held old new told head text headed same (status.BadLog spot place) u rest = (((same, streamed), rest tt), record { head = head; text = text; headed = headed; cause = u })
+unopened resume input now streamed held old new told head text headed same (status.Limit (limit.Line line)) u rest = absurd u
+unopened resume input now streamed held old new told head text headed same (status.Limit limit.Lines) u rest = absurd u
+unopened resume input now streamed held old new told head text headed same (status.Limit limit.Transactions) u rest = inl (((same, streamed), rest tt), record { head = head; text = text; headed = headed; cause = u })
+unopened resume input now streamed held old new told head text headed same (status.Limit (limit.Log spot)) u rest = inl (((same, streamed), rest tt), record { head = head; text = text; headed = headed; cause = u })
+unopened resume input now streamed held old new told head text headed same status.Memory u rest = inl (same, streamed)
+unopened resume input now streamed held old new told head text headed same (status.OldLog spot) u rest = (((same, streamed), rest tt), record { head = head; text = text; headed = headed; cause = u })
+unopened resume input now streamed held old new told head text headed same (status.NotSerial txn number) u rest = absurd u
+unopened resume input now streamed held old new told head text headed same (status.Transcript number) u rest = absurd u
 
 -- the head was not read
-pub unheaded : (resume : Bool) (input held : List ℕ) (old : Spot → Option File) (told : Option (List ℕ)) → told ≡ Some held → (why : Status) → IsHeadFault input why → IsRunEnd resume input held old old told why
-unheaded resume input held old told same status.Done u = absurd u
-unheaded resume input held old told same status.Usage u = absurd u
-unheaded resume input held old told same (status.Schedule line what) u = inl ((same, λ s. refl), u)
-unheaded resume input held old told same status.Read u = inl (same, λ s. refl)
-unheaded resume input held old told same status.Write u = absurd u
-unheaded resume input held old told same (status.Device spot) u = absurd u
-unheaded resume input held old told same (status.Differs spot place kept read) u = absurd u
-unheaded resume input held old told same (status.InUse spot) u = absurd u
-unheaded resume input held old told same (status.BadLog spot place) u = absurd u
-unheaded resume input held old told same (status.Limit (limit.Line line)) u = inl ((same, λ s. refl), u)
-unheaded resume input held old told same (status.Limit limit.Lines) u = absurd u
-unheaded resume input held old told same (status.Limit limit.Transactions) u = absurd u
-unheaded resume input held old told same (status.Limit (limit.Log spot)) u = absurd u
-unheaded resume input held old told same status.Memory u = inl same
-unheaded resume input held old told same (status.OldLog spot) u = absurd u
-unheaded resume input held old told same (status.NotSerial txn number) u = absurd u
-unheaded resume input held old told same (status.Transcript number) u = absurd u
+pub unheaded : (resume : Bool) (input : List ℕ) (now : Option (List ℕ)) → IsStreamed input now → (held : List ℕ) (old : Spot → Option File) (told : Option (List ℕ)) → told ≡ Some held → (why : Status) → IsHeadFault input why → IsRunEnd resume input now held old old told why
+unheaded resume input now streamed held old told same status.Done u = absurd u
+unheaded resume input now streamed held old told same status.Usage u = absurd u
+unheaded resume input now streamed held old told same (status.Schedule line what) u = inl (((same, streamed), λ s. refl), u)
+unheaded resume input now streamed held old told same status.Read u = inl ((same, streamed), λ s. refl)
+unheaded resume input now streamed held old told same status.Write u = absurd u
+unheaded resume input now streamed held old told same (status.Device spot) u = absurd u
+unheaded resume input now streamed held old told same (status.Differs spot place kept read) u = absurd u
+unheaded resume input now streamed held old told same (status.InUse spot) u = absurd u
+unheaded resume input now streamed held old told same (status.BadLog spot place) u = absurd u
+unheaded resume input now streamed held old told same (status.Limit (limit.Line line)) u = inl (((same, streamed), λ s. refl), u)
+unheaded resume input now streamed held old told same (status.Limit limit.Lines) u = absurd u
+unheaded resume input now streamed held old told same (status.Limit limit.Transactions) u = absurd u
+unheaded resume input now streamed held old told same (status.Limit (limit.Log spot)) u = absurd u
+unheaded resume input now streamed held old told same status.Memory u = inl (same, streamed)
+unheaded resume input now streamed held old told same (status.OldLog spot) u = absurd u
+unheaded resume input now streamed held old told same (status.NotSerial txn number) u = absurd u
+unheaded resume input now streamed held old told same (status.Transcript number) u = absurd u
 
 -- the text of the first line was not put whole
-module _ {E : Type 0} (takes : Kind → Type 0) (stands_for : E → EngineState → Type 0) (resume : Bool) (input held : List ℕ) (old : Spot → Option File) (head : Head) (text : List ℕ) (headed : IsHeaded input head text)
+module _ {E : Type 0} (takes : Kind → Type 0) (stands_for : E → EngineState → Type 0) (resume : Bool) (input : List ℕ) (now : Option (List ℕ)) (streamed : IsStreamed input now) (held : List ℕ) (old : Spot → Option File) (head : Head) (text : List ℕ) (headed : IsHeaded input head text)
     (w : World E) (items : List Item) (at : IsAttachedOver takes stands_for old head resume w items) (home : HomeView) (kept : AreHeld home.file home.reach w) (told : Option (List ℕ)) where
-  cut_text : IsPutInPart (opening_text head items) (Some held) told → (done : HasRunInPart resume input held old told) × AreLeftBy done.ran home.file
-  cut_text p = first takes stands_for resume input held old head text headed w items at told home w at.stands kept (p held refl)
+  cut_text : IsPutInPart (opening_text head items) (Some held) told → (done : HasRunInPart resume input now held old told) × AreLeftBy done.ran home.file
+  cut_text p = first takes stands_for resume input held old head text headed w items at now told home w (streamed_behind input text now headed.behind streamed) at.stands kept (p held refl)
 
-  pub opening_over : (why : Status) → IsOpeningTold head items (Some held) told (Err why) → IsRunEnd resume input held old home.file told why
+  pub opening_over : (why : Status) → IsOpeningTold head items (Some held) told (Err why) → IsRunEnd resume input now held old home.file told why
   opening_over status.Done p = absurd p
   opening_over status.Usage p = absurd p
   opening_over (status.Schedule line what) p = absurd p
@@ -267,23 +269,23 @@ opening_ends head items held told (status.OldLog spot) p = tt
 opening_ends head items held told (status.NotSerial txn number) p = absurd p
 opening_ends head items held told (status.Transcript number) p = absurd p
 
-pub over_ends : {E : Type 0} (takes : Kind → Type 0) (stands_for : E → EngineState → Type 0) (head : Head) (s0 : Federation) (text held told : Option (List ℕ)) (home : HomeView) (w : World E) (o : Result (Unit {0}) Status) →
-    IsOver takes stands_for head s0 text held told home w o → IfErr o IsEnding
-over_ends takes stands_for head s text held told home w (Ok u) p = tt
-over_ends takes stands_for head s text held told home w (Err status.Done) p = absurd p
-over_ends takes stands_for head s text held told home w (Err status.Usage) p = absurd p
-over_ends takes stands_for head s text held told home w (Err (status.Schedule line what)) p = tt
-over_ends takes stands_for head s text held told home w (Err status.Read) p = tt
-over_ends takes stands_for head s text held told home w (Err status.Write) p = tt
-over_ends takes stands_for head s text held told home w (Err (status.Device spot)) p = tt
-over_ends takes stands_for head s text held told home w (Err (status.Differs spot place kept read)) p = tt
-over_ends takes stands_for head s text held told home w (Err (status.InUse spot)) p = tt
-over_ends takes stands_for head s text held told home w (Err (status.BadLog spot place)) p = tt
-over_ends takes stands_for head s text held told home w (Err (status.Limit what)) p = tt
-over_ends takes stands_for head s text held told home w (Err status.Memory) p = tt
-over_ends takes stands_for head s text held told home w (Err (status.OldLog spot)) p = tt
-over_ends takes stands_for head s text held told home w (Err (status.NotSerial txn number)) p = absurd p
-over_ends takes stands_for head s text held told home w (Err (status.Transcript number)) p = absurd p
+pub over_ends : {E : Type 0} (takes : Kind → Type 0) (stands_for : E → EngineState → Type 0) (head : Head) (s0 : Federation) (text now held told : Option (List ℕ)) (home : HomeView) (w : World E) (o : Result (Unit {0}) Status) →
+    IsOver takes stands_for head s0 text now held told home w o → IfErr o IsEnding
+over_ends takes stands_for head s text now held told home w (Ok u) p = tt
+over_ends takes stands_for head s text now held told home w (Err status.Done) p = absurd p
+over_ends takes stands_for head s text now held told home w (Err status.Usage) p = absurd p
+over_ends takes stands_for head s text now held told home w (Err (status.Schedule line what)) p = tt
+over_ends takes stands_for head s text now held told home w (Err status.Read) p = tt
+over_ends takes stands_for head s text now held told home w (Err status.Write) p = tt
+over_ends takes stands_for head s text now held told home w (Err (status.Device spot)) p = tt
+over_ends takes stands_for head s text now held told home w (Err (status.Differs spot place kept read)) p = tt
+over_ends takes stands_for head s text now held told home w (Err (status.InUse spot)) p = tt
+over_ends takes stands_for head s text now held told home w (Err (status.BadLog spot place)) p = tt
+over_ends takes stands_for head s text now held told home w (Err (status.Limit what)) p = tt
+over_ends takes stands_for head s text now held told home w (Err status.Memory) p = tt
+over_ends takes stands_for head s text now held told home w (Err (status.OldLog spot)) p = tt
+over_ends takes stands_for head s text now held told home w (Err (status.NotSerial txn number)) p = absurd p
+over_ends takes stands_for head s text now held told home w (Err (status.Transcript number)) p = absurd p
 
 -- what is so whatever the answer is
 pub on_any : {A E : Type 0} (P : Type 0) (o : Result A E) → P → OnOk o P

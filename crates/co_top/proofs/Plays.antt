@@ -1,5 +1,6 @@
 -- One more line is played, or none is.
-use Rattle.std.proofs.Common.{◌≡◌, inl, inr, ℕ, suc, ◌+◌, Bool, true, false, List, [], ◌∷◌, ◌++◌, length, take, Option, None, Some, Result, Ok, Err, refl, sym, ap, ◌∙◌, subst, append-nil, append_assoc, arith}
+use Rattle.std.proofs.Common.{◌≡◌, inl, inr, ℕ, suc, ◌+◌, Bool, true, false, List, [], ◌∷◌, ◌++◌, length, take, Option, None, Some, Result, Ok, Err, refl, sym, ap, ◌∙◌, subst, append-nil, append_assoc, arith, ◌≤◌}
+use Rattle.std.proofs.lemmas.List.{length-drop}
 use Rattle.std.proofs.Math.Seq.{take-length}
 use Rattle.std.specs.Result.{IsErr, IsErrAnd}
 use Rattle.std.specs.List.{AllByRecursion}
@@ -32,9 +33,11 @@ use Rattle.co_world.specs.Standing.{RepresentsWorld}
 use Rattle.co_world.proofs.Lefts.{held_left}
 use Rattle.co_world.specs.declared.world.World.{World}
 use Rattle.co_top.proofs.Lists.{map_more, count_more, take_behind}
-use Rattle.co_top.specs.Front.{HasRead, StandsBehind, OneMore, IsNext}
+use Rattle.co_top.specs.Front.{HasRead, StandsBehind, OneMore, IsNext, IsStreamed}
+use Rattle.co_schedule.specs.LineText.{behind_line, is_newline}
+use Rattle.std.specs.List.{position_or_len}
 use Rattle.co_top.specs.Heads.{IsEventRead, IsReadStatus}
-use Rattle.co_top.specs.Played.{IsTold, IsToldInPart, StandsFor, IsLeftNear, HasFailed, HasFailedInPart, HasStopped, IsOver, HasMetLimit}
+use Rattle.co_top.specs.Played.{IsTold, IsToldInPart, StandsFor, IsStreamedBehind, IsLeftNear, HasFailed, HasFailedInPart, HasStopped, IsOver, HasMetLimit}
 use Rattle.co_top.specs.Ends.{of_world}
 use Rattle.co_top.specs.Replayed.{given_back, opening_text, IsUnopenedAs, IsOfFiles, IsOpeningTold}
 use Rattle.co_top.specs.Telling.{event_text, IsPut, IsPutInPart, IsTextPut, HasStepped, HasFaulted, HasEnded, IsToldOf, HasClientsAtLimit}
@@ -76,8 +79,16 @@ whole_part head s0 text held told p =
       part = λ h q. let all = items_text (transcript 2 p.events s0) in (length all, p.whole h q ∙ ap (λ t. Some (h ++ t)) (sym (take-length all)));
     }
 
-in_part : (head : Head) (s0 : Federation) (text held told : Option (List ℕ)) (home : HomeView) → HasFailed head s0 text held told home → HasFailedInPart head s0 text held told home
-in_part head s0 text held told home f = record { done = whole_part head s0 text held told f.done; files = f.files }
+in_part : (head : Head) (s0 : Federation) (text now held told : Option (List ℕ)) (home : HomeView) → HasFailed head s0 text now held told home → HasFailedInPart head s0 text now held told home
+in_part head s0 text now held told home f = record { done = whole_part head s0 text held told f.done; streamed = f.streamed; files = f.files }
+
+-- what lies behind a line is no longer than what it begins
+pub behind_short : (text rest : List ℕ) → rest ≡ behind_line text → length rest ≤ length text
+behind_short text rest e = omega (arith, ap length e, length-drop (position_or_len is_newline text + 1) text)
+
+-- so no more was taken of it
+pub streamed_behind : (text rest : List ℕ) (now : Option (List ℕ)) → rest ≡ behind_line text → IsStreamed text now → IsStreamed rest now
+streamed_behind text rest now e streamed after told = omega (arith, behind_short text rest e, streamed after told)
 
 module _ (head : Head) (s0 : Federation) (text held told : Option (List ℕ)) (p : IsTold head s0 text held told) (e : Event) (line : HasLine head e) (ahead : Option (List ℕ)) (read : IsReadBehind head text p.events p.left ahead e) where
   abbrev pub es : List Event
@@ -119,7 +130,10 @@ module _ (head : Head) (s0 : Federation) (text held told : Option (List ℕ)) (p
             );
       }
 
-  module _ {E : Type 0} (takes : Kind → Type 0) (stands_for : E → EngineState → Type 0) (home : HomeView) (w : World E) where
+  module _ {E : Type 0} (takes : Kind → Type 0) (stands_for : E → EngineState → Type 0) (home : HomeView) (w : World E) (now : Option (List ℕ)) (streamed : IsStreamedBehind head text now p.events p.left) where
+    streamed_one : IsStreamedBehind head text now es left
+    streamed_one t q = streamed_behind (p.left t q).0 (read t q).0 now (read t q).1.1 (streamed t q)
+
     pub stands_one : HasStepped takes stands_for z e home w → StandsFor takes stands_for s0 home w es
     stands_one st = record { stands = subst (RepresentsWorld takes stands_for w) (sym (run_one p.events e s0)) st.stands; held = st.held }
 
@@ -130,21 +144,21 @@ module _ (head : Head) (s0 : Federation) (text held told : Option (List ℕ)) (p
     near (inl before) = inl before
     near (inr began) = inr (e, line, λ t q. let r = read t q in (r.0, r.1), began)
 
-    failed : (after : Option (List ℕ)) → HasFaulted z e told after home → HasFailed head s0 text held after home
-    failed after o = subst (λ (t : Option (List ℕ)). HasFailed head s0 text held t home) (sym o.0) (record { done = p; files = near o.1 })
+    failed : (after : Option (List ℕ)) → HasFaulted z e told after home → HasFailed head s0 text now held after home
+    failed after o = subst (λ (t : Option (List ℕ)). HasFailed head s0 text now held t home) (sym o.0) (record { done = p; streamed = streamed; files = near o.1 })
 
-    met : (after : Option (List ℕ)) → (after ≡ told) × AreLeftAs home.file z × HasClientsAtLimit z e → HasMetLimit head s0 text held after home
+    met : (after : Option (List ℕ)) → (after ≡ told) × AreLeftAs home.file z × HasClientsAtLimit z e → HasMetLimit head s0 text now held after home
     met after o =
-        subst (λ (t : Option (List ℕ)). HasMetLimit head s0 text held t home) (sym o.0)
-        (record { done = p; files = o.1; event = e; next = λ t q. let r = read t q in (r.0, r.1); limit = o.2 })
+        subst (λ (t : Option (List ℕ)). HasMetLimit head s0 text now held t home) (sym o.0)
+        (record { done = p; streamed = streamed; files = o.1; event = e; next = λ t q. let r = read t q in (r.0, r.1); limit = o.2 })
 
     -- a line that could not be told, or not be done, ends it
-    pub told_over : (why : Status) (after : Option (List ℕ)) → IsToldOf takes stands_for z (length p.events + 2) e told after home w (Err why) → IsOver takes stands_for head s0 text held after home w (Err why)
+    pub told_over : (why : Status) (after : Option (List ℕ)) → IsToldOf takes stands_for z (length p.events + 2) e told after home w (Err why) → IsOver takes stands_for head s0 text now held after home w (Err why)
     told_over status.Done after o = absurd o
     told_over status.Usage after o = absurd o
     told_over (status.Schedule number what) after o = absurd o
     told_over status.Read after o = absurd o
-    told_over status.Write after o = (told_in_part after o.1, stands_one o.0)
+    told_over status.Write after o = (told_in_part after o.1, streamed_one, stands_one o.0)
     told_over (status.Device spot) after o = failed after o
     told_over (status.Differs spot place kept got) after o = failed after o
     told_over (status.InUse spot) after o = absurd o
@@ -153,8 +167,8 @@ module _ (head : Head) (s0 : Federation) (text held told : Option (List ℕ)) (p
     told_over (status.Limit limit.Lines) after o = absurd o
     told_over (status.Limit limit.Transactions) after o = met after o
     told_over (status.Limit (limit.Log spot)) after o = failed after o
-    told_over status.Memory after (inl o) = in_part head s0 text held after home (failed after o)
-    told_over status.Memory after (inr o) = record { done = told_in_part after o.1; files = inl (files_one o.0) }
+    told_over status.Memory after (inl o) = in_part head s0 text now held after home (failed after o)
+    told_over status.Memory after (inr o) = record { done = told_in_part after o.1; streamed = streamed_one; files = inl (files_one o.0) }
     told_over (status.OldLog spot) after o = absurd o
     told_over (status.NotSerial txn at) after o = absurd o
     told_over (status.Transcript at) after o = absurd o
@@ -180,40 +194,40 @@ module _ {E : Type 0} (takes : Kind → Type 0) (stands_for : E → EngineState 
   plays_on e line left_after told_after home_after w_after reader_after read has o =
       record {
         done = told_one head s0 text held told p.done e line left_after read told_after o.1;
-        stands = stands_one head s0 text held told p.done e line left_after read takes stands_for home_after w_after o.0;
+        stands = stands_one head s0 text held told p.done e line left_after read takes stands_for home_after w_after None (λ u q after none. absurd (let z : None ≡ Some after = none in cc)) o.0;
         counted = ap (λ n. n + 1) p.counted ∙ (let q : (length p.done.events + 2) + 1 ≡ suc (length p.done.events) + 2 = omega arith in q) ∙ ap (λ n. n + 2) (sym (count_more p.done.events e));
         read = subst (λ n. HasRead (suc n) reader_after) (sym (count_more p.done.events e)) has;
         is_left = λ t q. (read t q).2;
       }
 
   -- there is no further line
-  pub plays_out : (after : Option (List ℕ)) → ((t : List ℕ) → ahead ≡ Some t → IsEventRead head (length p.done.events) t after (Ok None)) → IsOver takes stands_for head s0 text held told home w (Ok tt)
-  plays_out after f = (p.done, p.stands, λ t q. (f (p.done.left t q).0 (p.is_left t q)).1.0)
+  pub plays_out : (now : Option (List ℕ)) → IsStreamedBehind head text now p.done.events p.done.left → (after : Option (List ℕ)) → ((t : List ℕ) → ahead ≡ Some t → IsEventRead head (length p.done.events) t after (Ok None)) → IsOver takes stands_for head s0 text now held told home w (Ok tt)
+  plays_out now streamed after f = (p.done, streamed, p.stands, λ t q. (f (p.done.left t q).0 (p.is_left t q)).1.0)
 
-  stops : (why : Status) (after : Option (List ℕ)) → ((t : List ℕ) → ahead ≡ Some t → IsEventRead head (length p.done.events) t after (Err why)) → HasStopped takes stands_for head s0 text held told home w why
-  stops why after f = record { done = p.done; stands = p.stands; cause = λ t q. f (p.done.left t q).0 (p.is_left t q) }
+  stops : (now : Option (List ℕ)) → IsStreamedBehind head text now p.done.events p.done.left → (why : Status) (after : Option (List ℕ)) → ((t : List ℕ) → ahead ≡ Some t → IsEventRead head (length p.done.events) t after (Err why)) → HasStopped takes stands_for head s0 text now held told home w why
+  stops now streamed why after f = record { done = p.done; streamed = streamed; stands = p.stands; cause = λ t q. f (p.done.left t q).0 (p.is_left t q) }
 
   -- the next line gave no event
-  pub reads_over : (why : Status) (after : Option (List ℕ)) → IsReadStatus why → ((t : List ℕ) → ahead ≡ Some t → IsEventRead head (length p.done.events) t after (Err why)) →
-      IsOver takes stands_for head s0 text held told home w (Err why)
-  reads_over status.Done after own f = absurd own
-  reads_over status.Usage after own f = absurd own
-  reads_over (status.Schedule at what) after own f = stops (status.Schedule at what) after f
-  reads_over status.Read after own f = stops status.Read after f
-  reads_over status.Write after own f = absurd own
-  reads_over (status.Device spot) after own f = absurd own
-  reads_over (status.Differs spot place kept got) after own f = absurd own
-  reads_over (status.InUse spot) after own f = absurd own
-  reads_over (status.BadLog spot place) after own f = absurd own
-  reads_over (status.Limit (limit.Line at)) after own f = stops (status.Limit (limit.Line at)) after f
-  reads_over (status.Limit limit.Lines) after own f = stops (status.Limit limit.Lines) after f
-  reads_over (status.Limit limit.Transactions) after own f = absurd own
-  reads_over (status.Limit (limit.Log spot)) after own f = absurd own
-  reads_over status.Memory after own f =
-      record { done = whole_part head s0 text held told p.done; files = inl (held_left takes stands_for w (run (lines p.done.events) s0) home.file home.reach p.stands.stands p.stands.held) }
-  reads_over (status.OldLog spot) after own f = absurd own
-  reads_over (status.NotSerial txn at) after own f = absurd own
-  reads_over (status.Transcript at) after own f = absurd own
+  pub reads_over : (now : Option (List ℕ)) → IsStreamedBehind head text now p.done.events p.done.left → (why : Status) (after : Option (List ℕ)) → IsReadStatus why → ((t : List ℕ) → ahead ≡ Some t → IsEventRead head (length p.done.events) t after (Err why)) →
+      IsOver takes stands_for head s0 text now held told home w (Err why)
+  reads_over now streamed status.Done after own f = absurd own
+  reads_over now streamed status.Usage after own f = absurd own
+  reads_over now streamed (status.Schedule at what) after own f = stops now streamed (status.Schedule at what) after f
+  reads_over now streamed status.Read after own f = stops now streamed status.Read after f
+  reads_over now streamed status.Write after own f = absurd own
+  reads_over now streamed (status.Device spot) after own f = absurd own
+  reads_over now streamed (status.Differs spot place kept got) after own f = absurd own
+  reads_over now streamed (status.InUse spot) after own f = absurd own
+  reads_over now streamed (status.BadLog spot place) after own f = absurd own
+  reads_over now streamed (status.Limit (limit.Line at)) after own f = stops now streamed (status.Limit (limit.Line at)) after f
+  reads_over now streamed (status.Limit limit.Lines) after own f = stops now streamed (status.Limit limit.Lines) after f
+  reads_over now streamed (status.Limit limit.Transactions) after own f = absurd own
+  reads_over now streamed (status.Limit (limit.Log spot)) after own f = absurd own
+  reads_over now streamed status.Memory after own f =
+      record { done = whole_part head s0 text held told p.done; streamed = streamed; files = inl (held_left takes stands_for w (run (lines p.done.events) s0) home.file home.reach p.stands.stands p.stands.held) }
+  reads_over now streamed (status.OldLog spot) after own f = absurd own
+  reads_over now streamed (status.NotSerial txn at) after own f = absurd own
+  reads_over now streamed (status.Transcript at) after own f = absurd own
 
 -- ---- one event is told
 

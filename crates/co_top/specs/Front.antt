@@ -1,5 +1,5 @@
 -- The front of a schedule: its head, and the events of the lines behind it that were read.
-use Rattle.std.specs.Prelude.{ℕ, suc, ◌+◌, ◌≡◌, ◌<◌, List, [], ◌∷◌, ◌++◌, length, Option, None, Some, Ok, Err}
+use Rattle.std.specs.Prelude.{ℕ, suc, ◌+◌, ◌≡◌, ◌<◌, ◌≤◌, List, [], ◌∷◌, ◌++◌, length, Option, None, Some, Ok, Err}
 use Rattle.co_base.specs.declared.head.Head.{Head}
 use Rattle.co_message.specs.declared.event.Event.{Event}
 use Rattle.co_replay.specs.Schedule.{HasLine, IsOutside, IsFaultOf}
@@ -59,3 +59,7 @@ IsLineFault head count left _ = ⊥
 abbrev pub IsNext : Head → ℕ → List ℕ → List ℕ → Option Event → Type 0
 IsNext head count left rest None = (left ≡ []) × (rest ≡ [])
 IsNext head count left rest (Some e) = (next_line longest_line most (suc count) left ≡ Ok (Some (line_text e))) × (rest ≡ behind_line left)
+
+-- of the text behind the lines that were done no more was taken than a line and its newline may have
+abbrev pub IsStreamed : List ℕ → Option (List ℕ) → Type 0
+IsStreamed rest left = (after : List ℕ) → left ≡ Some after → length rest ≤ length after + (longest_line + 1)

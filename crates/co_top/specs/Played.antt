@@ -17,7 +17,7 @@ use Rattle.co_world.specs.Conditions.{IsReady}
 use Rattle.co_world.specs.Left.{AreLeftAs}
 use Rattle.co_world.specs.Standing.{RepresentsWorld, AreHeld}
 use Rattle.co_world.specs.declared.world.World.{World}
-use Rattle.co_top.specs.Front.{StandsBehind, IsNext, IsLineFault}
+use Rattle.co_top.specs.Front.{StandsBehind, IsNext, IsLineFault, IsStreamed}
 use Rattle.co_top.specs.Telling.{HasClientsAtLimit}
 use Rattle.co_top.specs.declared.status.LimitKind.TheVariants as limit
 use Rattle.co_top.specs.declared.status.Status.{Status}
@@ -59,41 +59,49 @@ IsLeftNear head s0 text events left file =
     ⊎ ((event : Event) × HasLine head event × ((t : List ℕ) (q : text ≡ Some t) → (rest : List ℕ) × IsNext head (length events) (left t q).0 rest (Some event))
     × (AreLeftAs file (step_line (run (lines events) s0) event).state ⊎ AreLeftAs file (step_line (disarmed (run (lines events) s0)) event).state))
 
+-- no more of the text was taken behind these lines than one line may have, where the source tells what it has left now
+abbrev pub IsStreamedBehind : (head : Head) (text now : Option (List ℕ)) (events : List Event) → ((t : List ℕ) → text ≡ Some t → (rest : List ℕ) × StandsBehind head t events rest) → Type 0
+IsStreamedBehind head text now events left = (t : List ℕ) (q : text ≡ Some t) → IsStreamed (left t q).0 now
+
 -- what was told before an event met a fault, and what the files have then
-pub record HasFailed (head : Head) (s0 : Federation) (text held told : Option (List ℕ)) (home : HomeView) : Type 0 where
+pub record HasFailed (head : Head) (s0 : Federation) (text now held told : Option (List ℕ)) (home : HomeView) : Type 0 where
   pub done : IsTold head s0 text held told
+  pub streamed : IsStreamedBehind head text now done.events done.left
   pub files : IsLeftNear head s0 text done.events done.left home.file
 
-pub record HasFailedInPart (head : Head) (s0 : Federation) (text held told : Option (List ℕ)) (home : HomeView) : Type 0 where
+pub record HasFailedInPart (head : Head) (s0 : Federation) (text now held told : Option (List ℕ)) (home : HomeView) : Type 0 where
   pub done : IsToldInPart head s0 text held told
+  pub streamed : IsStreamedBehind head text now done.events done.left
   pub files : IsLeftNear head s0 text done.events done.left home.file
 
 -- what was told before an event at which clients meet the limit of transactions; the files have what the lines before it left
-pub record HasMetLimit (head : Head) (s0 : Federation) (text held told : Option (List ℕ)) (home : HomeView) : Type 0 where
+pub record HasMetLimit (head : Head) (s0 : Federation) (text now held told : Option (List ℕ)) (home : HomeView) : Type 0 where
   pub done : IsTold head s0 text held told
+  pub streamed : IsStreamedBehind head text now done.events done.left
   pub files : AreLeftAs home.file (run (lines done.events) s0)
   pub event : Event
   pub next : (t : List ℕ) (e : text ≡ Some t) → (rest : List ℕ) × IsNext head (length done.events) (done.left t e).0 rest (Some event)
   pub limit : HasClientsAtLimit (run (lines done.events) s0) event
 
 -- the lines that were done, and why the next one gave no event
-pub record HasStopped {E : Type 0} (takes : Kind → Type 0) (stands_for : E → EngineState → Type 0) (head : Head) (s0 : Federation) (text held told : Option (List ℕ)) (home : HomeView) (w : World E) (ended : Status) : Type 0 where
+pub record HasStopped {E : Type 0} (takes : Kind → Type 0) (stands_for : E → EngineState → Type 0) (head : Head) (s0 : Federation) (text now held told : Option (List ℕ)) (home : HomeView) (w : World E) (ended : Status) : Type 0 where
   pub done : IsTold head s0 text held told
+  pub streamed : IsStreamedBehind head text now done.events done.left
   pub stands : StandsFor takes stands_for s0 home w done.events
   pub cause : (t : List ℕ) (e : text ≡ Some t) → IsLineFault head (length done.events) (done.left t e).0 ended
 
 -- How the lines behind a head end, by the status.
-abbrev pub IsOver : {E : Type 0} → (Kind → Type 0) → (E → EngineState → Type 0) → Head → Federation → Option (List ℕ) → Option (List ℕ) → Option (List ℕ) → HomeView → World E → Result (Unit {0}) Status → Type 0
-IsOver takes stands_for head s0 text held told home w (Ok u) =
-    (done : IsTold head s0 text held told) × StandsFor takes stands_for s0 home w done.events × ((t : List ℕ) (e : text ≡ Some t) → (done.left t e).0 ≡ [])
-IsOver takes stands_for head s0 text held told home w (Err (status.Schedule line what)) = HasStopped takes stands_for head s0 text held told home w (status.Schedule line what)
-IsOver takes stands_for head s0 text held told home w (Err (status.Limit (limit.Line line))) = HasStopped takes stands_for head s0 text held told home w (status.Limit (limit.Line line))
-IsOver takes stands_for head s0 text held told home w (Err (status.Limit limit.Lines)) = HasStopped takes stands_for head s0 text held told home w (status.Limit limit.Lines)
-IsOver takes stands_for head s0 text held told home w (Err status.Read) = HasStopped takes stands_for head s0 text held told home w status.Read
-IsOver takes stands_for head s0 text held told home w (Err status.Write) = (done : IsToldInPart head s0 text held told) × StandsFor takes stands_for s0 home w done.events
-IsOver takes stands_for head s0 text held told home w (Err status.Memory) = HasFailedInPart head s0 text held told home
-IsOver takes stands_for head s0 text held told home w (Err (status.Device spot)) = HasFailed head s0 text held told home
-IsOver takes stands_for head s0 text held told home w (Err (status.Differs spot at kept read)) = HasFailed head s0 text held told home
-IsOver takes stands_for head s0 text held told home w (Err (status.Limit (limit.Log spot))) = HasFailed head s0 text held told home
-IsOver takes stands_for head s0 text held told home w (Err (status.Limit limit.Transactions)) = HasMetLimit head s0 text held told home
-IsOver takes stands_for head s0 text held told home w (Err _) = ⊥
+abbrev pub IsOver : {E : Type 0} → (Kind → Type 0) → (E → EngineState → Type 0) → Head → Federation → Option (List ℕ) → Option (List ℕ) → Option (List ℕ) → Option (List ℕ) → HomeView → World E → Result (Unit {0}) Status → Type 0
+IsOver takes stands_for head s0 text now held told home w (Ok u) =
+    (done : IsTold head s0 text held told) × IsStreamedBehind head text now done.events done.left × StandsFor takes stands_for s0 home w done.events × ((t : List ℕ) (e : text ≡ Some t) → (done.left t e).0 ≡ [])
+IsOver takes stands_for head s0 text now held told home w (Err (status.Schedule line what)) = HasStopped takes stands_for head s0 text now held told home w (status.Schedule line what)
+IsOver takes stands_for head s0 text now held told home w (Err (status.Limit (limit.Line line))) = HasStopped takes stands_for head s0 text now held told home w (status.Limit (limit.Line line))
+IsOver takes stands_for head s0 text now held told home w (Err (status.Limit limit.Lines)) = HasStopped takes stands_for head s0 text now held told home w (status.Limit limit.Lines)
+IsOver takes stands_for head s0 text now held told home w (Err status.Read) = HasStopped takes stands_for head s0 text now held told home w status.Read
+IsOver takes stands_for head s0 text now held told home w (Err status.Write) = (done : IsToldInPart head s0 text held told) × IsStreamedBehind head text now done.events done.left × StandsFor takes stands_for s0 home w done.events
+IsOver takes stands_for head s0 text now held told home w (Err status.Memory) = HasFailedInPart head s0 text now held told home
+IsOver takes stands_for head s0 text now held told home w (Err (status.Device spot)) = HasFailed head s0 text now held told home
+IsOver takes stands_for head s0 text now held told home w (Err (status.Differs spot at kept read)) = HasFailed head s0 text now held told home
+IsOver takes stands_for head s0 text now held told home w (Err (status.Limit (limit.Log spot))) = HasFailed head s0 text now held told home
+IsOver takes stands_for head s0 text now held told home w (Err (status.Limit limit.Transactions)) = HasMetLimit head s0 text now held told home
+IsOver takes stands_for head s0 text now held told home w (Err _) = ⊥

@@ -22,7 +22,7 @@ use Rattle.co_replay.specs.Transcript.{items_text, run_items}
 use Rattle.co_opening.specs.Found.{AreFound, MayRun, AreUnused}
 use Rattle.co_opening.specs.Opened.{IsUnopened}
 use Rattle.co_world.specs.Left.{AreLeftAs}
-use Rattle.co_top.specs.Front.{IsHeaded, StandsBehind, IsNext, IsHeadFault, IsLineFault}
+use Rattle.co_top.specs.Front.{IsHeaded, StandsBehind, IsNext, IsHeadFault, IsLineFault, IsStreamed}
 use Rattle.co_top.specs.Telling.{HasClientsAtLimit}
 use Rattle.co_top.specs.declared.status.LimitKind.TheVariants as limit
 use Rattle.co_top.specs.declared.status.Status.{Status}
@@ -93,22 +93,28 @@ pub record AreLeftByFault {resume : Bool} {input : List ℕ} {old : Spot → Opt
   pub up_to : IsUpToFault r happened
   pub files : AreLeftAfter r happened file
 
--- a run, its promises, and what it told
-pub record HasRun (resume : Bool) (input held : List ℕ) (old : Spot → Option File) (told : Option (List ℕ)) : Type 0 where
+-- a run, its promises, and what it told; and how much of the input it took, where the source tells what it has left
+pub record HasRun (resume : Bool) (input : List ℕ) (left : Option (List ℕ)) (held : List ℕ) (old : Spot → Option File) (told : Option (List ℕ)) : Type 0 where
   pub ran : Ran resume input old
+  pub streamed : IsStreamed ran.rest left
   pub promises : IsSoundlyFound ran → KeepsPromises ran
   pub transcript : told ≡ Some (held ++ text_of ran)
 
 -- so, but a front of the text alone was put
-pub record HasRunInPart (resume : Bool) (input held : List ℕ) (old : Spot → Option File) (told : Option (List ℕ)) : Type 0 where
+pub record HasRunInPart (resume : Bool) (input : List ℕ) (left : Option (List ℕ)) (held : List ℕ) (old : Spot → Option File) (told : Option (List ℕ)) : Type 0 where
   pub ran : Ran resume input old
+  pub streamed : IsStreamed ran.rest left
   pub promises : IsSoundlyFound ran → KeepsPromises ran
   pub count : ℕ
   pub transcript : told ≡ Some (held ++ take count (text_of ran))
 
+-- nothing was put, and of the input no more was taken than its first line may have
+abbrev pub IsUntold : List ℕ → Option (List ℕ) → List ℕ → Option (List ℕ) → Type 0
+IsUntold input left held told = (told ≡ Some held) × IsStreamed input left
+
 -- nothing was put, and no file is changed
-abbrev pub IsAtRest : List ℕ → Option (List ℕ) → (Spot → Option File) → (Spot → Option File) → Type 0
-IsAtRest held told old new = (told ≡ Some held) × ((s : Spot) → new s ≡ old s)
+abbrev pub IsAtRest : List ℕ → Option (List ℕ) → List ℕ → Option (List ℕ) → (Spot → Option File) → (Spot → Option File) → Type 0
+IsAtRest input left held told old new = IsUntold input left held told × ((s : Spot) → new s ≡ old s)
 
 -- why no federation was opened: the head was none, or nothing could be opened in the directory
 pub record IsUnopenedFor (resume : Bool) (input : List ℕ) (old : Spot → Option File) (why : WorldFault) : Type 0 where
@@ -122,27 +128,27 @@ abbrev pub IsAtLimit : {resume : Bool} {input : List ℕ} {old : Spot → Option
 IsAtLimit r = (event : Event) × (rest : List ℕ) × IsNext r.head (length r.events) r.rest rest (Some event) × HasClientsAtLimit (end_of r) event
 
 -- the lines that were done, the files that they left, and why the next one gave no event
-pub record HasStoppedAt (resume : Bool) (input held : List ℕ) (old new : Spot → Option File) (told : Option (List ℕ)) (ended : Status) : Type 0 where
-  pub run : HasRun resume input held old told
+pub record HasStoppedAt (resume : Bool) (input : List ℕ) (left : Option (List ℕ)) (held : List ℕ) (old new : Spot → Option File) (told : Option (List ℕ)) (ended : Status) : Type 0 where
+  pub run : HasRun resume input left held old told
   pub files : AreLeftBy run.ran new
   pub cause : IsLineFault run.ran.head (length run.ran.events) run.ran.rest ended
 
--- How a run ends, by its status: over an input, files and a sink that are told.
-abbrev pub IsRunEnd : Bool → List ℕ → List ℕ → (Spot → Option File) → (Spot → Option File) → Option (List ℕ) → Status → Type 0
-IsRunEnd resume input held old new told status.Done = (done : HasRun resume input held old told) × AreLeftBy done.ran new × (done.ran.rest ≡ [])
-IsRunEnd resume input held old new told status.Usage = ⊥
-IsRunEnd resume input held old new told (status.Schedule line what) = (IsAtRest held told old new × IsHeadFault input (status.Schedule line what)) ⊎ HasStoppedAt resume input held old new told (status.Schedule line what)
-IsRunEnd resume input held old new told status.Read = IsAtRest held told old new ⊎ HasStoppedAt resume input held old new told status.Read
-IsRunEnd resume input held old new told status.Write = (done : HasRunInPart resume input held old told) × AreLeftBy done.ran new
-IsRunEnd resume input held old new told (status.Device spot) = (told ≡ Some held) ⊎ ((done : HasRun resume input held old told) × AreLeftByFault done.ran new)
-IsRunEnd resume input held old new told (status.Differs spot at kept read) = (done : HasRun resume input held old told) × AreLeftByFault done.ran new
-IsRunEnd resume input held old new told (status.InUse spot) = IsAtRest held told old new × IsUnopenedFor resume input old (world.InUse spot)
-IsRunEnd resume input held old new told (status.BadLog spot at) = IsAtRest held told old new × IsUnopenedFor resume input old (world.Bad spot at)
-IsRunEnd resume input held old new told (status.OldLog spot) = IsAtRest held told old new × IsUnopenedFor resume input old (world.Old spot)
-IsRunEnd resume input held old new told (status.NotSerial txn line) = ⊥
-IsRunEnd resume input held old new told (status.Transcript line) = ⊥
-IsRunEnd resume input held old new told (status.Limit (limit.Line line)) = (IsAtRest held told old new × IsHeadFault input (status.Limit (limit.Line line))) ⊎ HasStoppedAt resume input held old new told (status.Limit (limit.Line line))
-IsRunEnd resume input held old new told (status.Limit limit.Lines) = HasStoppedAt resume input held old new told (status.Limit limit.Lines)
-IsRunEnd resume input held old new told (status.Limit limit.Transactions) = (IsAtRest held told old new × IsUnopenedFor resume input old world.Count) ⊎ ((done : HasRun resume input held old told) × AreLeftBy done.ran new × IsAtLimit done.ran)
-IsRunEnd resume input held old new told (status.Limit (limit.Log spot)) = (IsAtRest held told old new × IsUnopenedFor resume input old (world.Full spot)) ⊎ ((done : HasRun resume input held old told) × AreLeftByFault done.ran new)
-IsRunEnd resume input held old new told status.Memory = (told ≡ Some held) ⊎ ((done : HasRunInPart resume input held old told) × AreLeftByFault done.ran new)
+-- How a run ends, by its status: over an input, files and a sink that are told, and what the source has left then.
+abbrev pub IsRunEnd : Bool → List ℕ → Option (List ℕ) → List ℕ → (Spot → Option File) → (Spot → Option File) → Option (List ℕ) → Status → Type 0
+IsRunEnd resume input left held old new told status.Done = (done : HasRun resume input left held old told) × AreLeftBy done.ran new × (done.ran.rest ≡ [])
+IsRunEnd resume input left held old new told status.Usage = ⊥
+IsRunEnd resume input left held old new told (status.Schedule line what) = (IsAtRest input left held told old new × IsHeadFault input (status.Schedule line what)) ⊎ HasStoppedAt resume input left held old new told (status.Schedule line what)
+IsRunEnd resume input left held old new told status.Read = IsAtRest input left held told old new ⊎ HasStoppedAt resume input left held old new told status.Read
+IsRunEnd resume input left held old new told status.Write = (done : HasRunInPart resume input left held old told) × AreLeftBy done.ran new
+IsRunEnd resume input left held old new told (status.Device spot) = IsUntold input left held told ⊎ ((done : HasRun resume input left held old told) × AreLeftByFault done.ran new)
+IsRunEnd resume input left held old new told (status.Differs spot at kept read) = (done : HasRun resume input left held old told) × AreLeftByFault done.ran new
+IsRunEnd resume input left held old new told (status.InUse spot) = IsAtRest input left held told old new × IsUnopenedFor resume input old (world.InUse spot)
+IsRunEnd resume input left held old new told (status.BadLog spot at) = IsAtRest input left held told old new × IsUnopenedFor resume input old (world.Bad spot at)
+IsRunEnd resume input left held old new told (status.OldLog spot) = IsAtRest input left held told old new × IsUnopenedFor resume input old (world.Old spot)
+IsRunEnd resume input left held old new told (status.NotSerial txn line) = ⊥
+IsRunEnd resume input left held old new told (status.Transcript line) = ⊥
+IsRunEnd resume input left held old new told (status.Limit (limit.Line line)) = (IsAtRest input left held told old new × IsHeadFault input (status.Limit (limit.Line line))) ⊎ HasStoppedAt resume input left held old new told (status.Limit (limit.Line line))
+IsRunEnd resume input left held old new told (status.Limit limit.Lines) = HasStoppedAt resume input left held old new told (status.Limit limit.Lines)
+IsRunEnd resume input left held old new told (status.Limit limit.Transactions) = (IsAtRest input left held told old new × IsUnopenedFor resume input old world.Count) ⊎ ((done : HasRun resume input left held old told) × AreLeftBy done.ran new × IsAtLimit done.ran)
+IsRunEnd resume input left held old new told (status.Limit (limit.Log spot)) = (IsAtRest input left held told old new × IsUnopenedFor resume input old (world.Full spot)) ⊎ ((done : HasRun resume input left held old told) × AreLeftByFault done.ran new)
+IsRunEnd resume input left held old new told status.Memory = IsUntold input left held told ⊎ ((done : HasRunInPart resume input left held old told) × AreLeftByFault done.ran new)

@@ -3,7 +3,7 @@ ghost use Rattle.std.specs.Prelude.{◌≡◌, ◌+◌, ◌≤◌, ℕ, suc, Lis
 ghost use Rattle.co_outside.specs.Faults.{HasRisen};
 ghost use Rattle.co_replay.specs.Schedule.{HasLine};
 ghost use Rattle.co_schedule.specs.Lines.{ahead};
-ghost use Rattle.co_top.specs.Front.{HasRead};
+ghost use Rattle.co_top.specs.Front.{HasRead, IsStreamed};
 ghost use Rattle.co_top.specs.Heads.{IsHeadIn, IsEventIn, IsHeadRead, IsEventRead, IsReadStatus, some_of};
 
 use crate::status::{Status, of_line, of_lines};
@@ -31,6 +31,7 @@ pub(crate) fn head_of<S: Source>(
 ) -> Result<Head, Status>
     requires fresh { HasRead 0 lines.old }
     ensures read { (text : List ℕ) → ahead lines.old (S.left source.old) ≡ Some text → IsHeadRead text (ahead lines.new (S.left source.new)) result }
+    ensures streamed { (text : List ℕ) → ahead lines.old (S.left source.old) ≡ Some text → IsStreamed text (S.left source.new) }
     ensures one { OnOk result (HasRead 1 lines.new) }
     ensures own { IfErr result IsReadStatus }
     ensures counts { S.faults source.old ≤ S.faults source.new }
@@ -72,6 +73,7 @@ pub(crate) fn event_of<S: Source>(
     requires read { (count : ℕ) × (number ≡ count + 2) × HasRead (suc count) lines.old }
     ensures read { (count : ℕ) (text : List ℕ) → number ≡ count + 2 → ahead lines.old (S.left source.old) ≡ Some text →
         IsEventRead head.now count text (ahead lines.new (S.left source.new)) result }
+    ensures streamed { (text : List ℕ) → ahead lines.old (S.left source.old) ≡ Some text → IsStreamed text (S.left source.new) }
     ensures valid { IfOk result (λ event. IfSome event (HasLine head.now)) }
     ensures one { (count : ℕ) → number ≡ count + 2 → IfOk result (λ event. IfSome event (λ e. HasRead (suc (suc count)) lines.new)) }
     ensures own { IfErr result IsReadStatus }

@@ -116,7 +116,7 @@ pub(crate) fn replay_lines<E: Engine + Drop, S: Source, K: Sink, H: Home>(
     requires held { AreHeld (H.file home.old) (H.reach home.old) world.old }
     requires stands { (s0 : Federation) × RepresentsWorld E.takes E.stands_for world.old s0 × StaysReady head.now s0 }
     ensures over { (s0 : Federation) → RepresentsWorld E.takes E.stands_for world.old s0 → StaysReady head.now s0 →
-        IsOver E.takes E.stands_for head.now s0 (ahead lines.old (S.left source.old)) (K.told out.old) (K.told out.new) (seen H.file H.reach H.faults H.last_failed home.new) world.new result }
+        IsOver E.takes E.stands_for head.now s0 (ahead lines.old (S.left source.old)) (S.left source.new) (K.told out.old) (K.told out.new) (seen H.file H.reach H.faults H.last_failed home.new) world.new result }
     ensures entered { H.entered home.new ≡ H.entered home.old }
     ensures clean { OnOk result ((s : Spot) → IsClean (H.file home.old s) → IsClean (H.file home.new s)) }
     ensures ended { HasEnded (seen H.file H.reach H.faults H.last_failed home.old) (seen H.file H.reach H.faults H.last_failed home.new) result }

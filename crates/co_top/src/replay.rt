@@ -156,7 +156,7 @@ fn replayed<E: Engine + Drop, S: Source, K: Sink, H: Home>(
 ) -> Result<(), Status>
     requires kinds { (kind : Kind) → E.takes kind }
     ensures end { (input held : List ℕ) → S.left source.old ≡ Some input → K.told out.old ≡ Some held →
-        IsRunEnd resume input held (H.file home.old) (H.file home.new) (K.told out.new) (status_of result) }
+        IsRunEnd resume input (S.left source.new) held (H.file home.old) (H.file home.new) (K.told out.new) (status_of result) }
     ensures own { IfErr result IsEnding }
     ensures entered { OnOk result (H.entered home.new ≡ Some directory.now) }
     ensures read { IsErrOf result Status.Read → HasRisen (S.faults source.old) (S.faults source.new) }
@@ -185,7 +185,7 @@ pub(crate) fn replay<E: Engine + Drop, S: Source, K: Sink, H: Home>(
 ) -> Status
     requires kinds { (kind : Kind) → E.takes kind }
     ensures end { (input held : List ℕ) → S.left source.old ≡ Some input → K.told out.old ≡ Some held →
-        IsRunEnd resume input held (H.file home.old) (H.file home.new) (K.told out.new) result }
+        IsRunEnd resume input (S.left source.new) held (H.file home.old) (H.file home.new) (K.told out.new) result }
     ensures own { result ≡ Status.Usage → ⊥ }
     ensures entered { result ≡ Status.Done → H.entered home.new ≡ Some directory.now }
     ensures read { result ≡ Status.Read → HasRisen (S.faults source.old) (S.faults source.new) }

@@ -63,7 +63,7 @@ pub fn run<S: Source, K: Sink, N: Sink, H: Home>(
     ensures quiet_sink { (result ≡ Status.Write → ⊥) → K.faults out.new ≡ K.faults out.old }
     ensures quiet_home { ((spot : Spot) → result ≡ Status.Device spot → ⊥) → H.faults home.new ≡ H.faults home.old }
     ensures run { (input held : List ℕ) → is_run words.now ≡ true → S.left source.old ≡ Some input → K.told out.old ≡ Some held →
-        IsRunEnd (resumes words.now) input held (H.file home.old) (H.file home.new) (K.told out.new) result }
+        IsRunEnd (resumes words.now) input (S.left source.new) held (H.file home.old) (H.file home.new) (K.told out.new) result }
     ensures causes { is_records words.now ≡ true → HasCause (H.file home.old) result }
     ensures exact { is_records words.now ≡ true → AreTold (H.file home.old) 16 8 → IsExact (H.file home.old) result }
     ensures durable { (held : List ℕ) → is_records words.now ≡ true → K.told out.old ≡ Some held → HoldsRecords (H.file home.old) held (K.told out.new) result }
@@ -99,7 +99,7 @@ fn command<S: Source, K: Sink, H: Home>(
     ensures quiet_sink { (result ≡ Status.Write → ⊥) → K.faults out.new ≡ K.faults out.old }
     ensures quiet_home { ((spot : Spot) → result ≡ Status.Device spot → ⊥) → H.faults home.new ≡ H.faults home.old }
     ensures run { (input held : List ℕ) → is_run words.now ≡ true → S.left source.old ≡ Some input → K.told out.old ≡ Some held →
-        IsRunEnd (resumes words.now) input held (H.file home.old) (H.file home.new) (K.told out.new) result }
+        IsRunEnd (resumes words.now) input (S.left source.new) held (H.file home.old) (H.file home.new) (K.told out.new) result }
     ensures causes { is_records words.now ≡ true → HasCause (H.file home.old) result }
     ensures durable { (held : List ℕ) → is_records words.now ≡ true → K.told out.old ≡ Some held → HoldsRecords (H.file home.old) held (K.told out.new) result }
     ensures files { is_records words.now ≡ true → (s : Spot) → H.file home.new s ≡ H.file home.old s }

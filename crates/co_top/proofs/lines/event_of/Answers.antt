@@ -23,3 +23,15 @@ returns-in-Ok-None-clause-read g c = λ count text n e.
     no_event c.args.head.now count text _
     (sym (λ i. next_line (r.2.bytes i) (r.2.most_are i) (read i) text) ∙ c.in-Ok-None.ensures.next text e ∙ ap (λ z. Ok (option_copied z)) c.in-Ok-None.field-0-is)
     (rw c.in-Ok-None.is at c.next.follows.holds-at-none.0.behind text e)
+
+pub returns-in-Ok-Some-clause-streamed : goal.returns-in-Ok-Some-clause-streamed
+returns-in-Ok-Some-clause-streamed g c = λ text e after told.
+    omega (arith, c.next.follows.holds-at-none.0.taken text after e told, c.next.follows.holds-at-none.0.limits.0, c.requires.read.2.bytes)
+
+pub returns-in-Ok-None-clause-streamed : goal.returns-in-Ok-None-clause-streamed
+returns-in-Ok-None-clause-streamed g c = λ text e after told.
+    omega (arith, c.next.follows.holds-at-none.0.taken text after e told, c.next.follows.holds-at-none.0.limits.0, c.requires.read.2.bytes)
+
+pub returns-in-Err-clause-streamed : goal.returns-in-Err-clause-streamed
+returns-in-Err-clause-streamed g c = λ text e after told.
+    omega (arith, c.next.follows.holds-at-none.0.taken text after e told, c.next.follows.holds-at-none.0.limits.0, c.requires.read.2.bytes)

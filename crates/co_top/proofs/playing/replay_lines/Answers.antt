@@ -32,10 +32,10 @@ returns-in_err-event-clause-over g c = λ s0 r ready.
     let p = c.loop-number.invariant.0 s0 r ready in
     let text = ahead c.args.lines.now (g.S.Source.left c.args.source.now) in
     let home = seen g.H.Home.file g.H.Home.reach g.H.Home.faults g.H.Home.last_failed c.loop-number.home in
-    subst (IsOver g.E.Engine.takes g.E.Engine.stands_for c.args.head.now s0 text (g.K.Sink.told c.args.out.now) (g.K.Sink.told c.loop-number.out) home c.loop-number.world)
+    subst (IsOver g.E.Engine.takes g.E.Engine.stands_for c.args.head.now s0 text (g.S.Source.left c.event_of.new.source) (g.K.Sink.told c.args.out.now) (g.K.Sink.told c.loop-number.out) home c.loop-number.world)
     (sym (err_is c.from_residual.result c.in_err-event.field-0.0 c.from_residual.ensures))
     (reads_over g.E.Engine.takes g.E.Engine.stands_for c.args.head.now s0 text (g.K.Sink.told c.args.out.now) (g.K.Sink.told c.loop-number.out) home c.loop-number.world c.loop-number.number c.loop-number.lines
-    (ahead c.loop-number.lines (g.S.Source.left c.loop-number.source)) p c.in_err-event.field-0.0
+    (ahead c.loop-number.lines (g.S.Source.left c.loop-number.source)) p (g.S.Source.left c.event_of.new.source) (λ t q. c.in_err-event.ensures.streamed (p.done.left t q).0 (p.is_left t q)) c.in_err-event.field-0.0
     (ahead c.event_of.new.lines (g.S.Source.left c.event_of.new.source)) c.in_err-event.ensures.own (λ t e. c.in_err-event.ensures.read (length p.done.events) t p.counted e))
 
 pub tell_event-requires-clause-stands : goal.tell_event-requires-clause-stands
@@ -56,10 +56,10 @@ returns-in_err-tell_event-in-Some-clause-over g c = λ s0 r ready.
     read_behind g.E.Engine.takes g.E.Engine.stands_for c.args.head.now s0 text (g.K.Sink.told c.args.out.now) (g.K.Sink.told c.loop-number.out) _ c.loop-number.world c.loop-number.number c.loop-number.lines
     (ahead c.loop-number.lines (g.S.Source.left c.loop-number.source)) p c.in-Some.event left
     (λ t e. subst (λ o. IsEventRead c.args.head.now (length p.done.events) t left (Ok o)) c.in-Some.is (c.in_ok-event.ensures.read (length p.done.events) t p.counted e)) in
-    subst (IsOver g.E.Engine.takes g.E.Engine.stands_for c.args.head.now s0 text (g.K.Sink.told c.args.out.now) (g.K.Sink.told c.tell_event.new.out) home c.tell_event.new.world)
+    subst (IsOver g.E.Engine.takes g.E.Engine.stands_for c.args.head.now s0 text (g.S.Source.left c.event_of.new.source) (g.K.Sink.told c.args.out.now) (g.K.Sink.told c.tell_event.new.out) home c.tell_event.new.world)
     (sym (err_is c.from_residual-in_err-tell_event-in-Some.result c.in_err-tell_event-in-Some.field-0.0 c.from_residual-in_err-tell_event-in-Some.ensures))
     (told_over c.args.head.now s0 text (g.K.Sink.told c.args.out.now) (g.K.Sink.told c.loop-number.out) p.done c.in-Some.event line left read g.E.Engine.takes g.E.Engine.stands_for home c.tell_event.new.world
-    c.in_err-tell_event-in-Some.field-0.0 (g.K.Sink.told c.tell_event.new.out)
+    (g.S.Source.left c.event_of.new.source) (λ t q. c.in_ok-event.ensures.streamed (p.done.left t q).0 (p.is_left t q)) c.in_err-tell_event-in-Some.field-0.0 (g.K.Sink.told c.tell_event.new.out)
     (subst (λ n. IsToldOf g.E.Engine.takes g.E.Engine.stands_for z n c.in-Some.event (g.K.Sink.told c.loop-number.out) (g.K.Sink.told c.tell_event.new.out) home c.tell_event.new.world (Err c.in_err-tell_event-in-Some.field-0.0))
     p.counted (c.in_err-tell_event-in-Some.ensures.told z p.stands.stands (ready p.done.events p.done.valid).ready)))
 
@@ -68,7 +68,7 @@ returns-in-None-clause-over g c = λ s0 r ready.
     let p = c.loop-number.invariant.0 s0 r ready in
     let left = ahead c.event_of.new.lines (g.S.Source.left c.event_of.new.source) in
     plays_out g.E.Engine.takes g.E.Engine.stands_for c.args.head.now s0 (ahead c.args.lines.now (g.S.Source.left c.args.source.now)) (g.K.Sink.told c.args.out.now) (g.K.Sink.told c.loop-number.out) _ c.loop-number.world
-    c.loop-number.number c.loop-number.lines (ahead c.loop-number.lines (g.S.Source.left c.loop-number.source)) p left
+    c.loop-number.number c.loop-number.lines (ahead c.loop-number.lines (g.S.Source.left c.loop-number.source)) p (g.S.Source.left c.event_of.new.source) (λ t q. c.in_ok-event.ensures.streamed (p.done.left t q).0 (p.is_left t q)) left
     (λ t e. subst (λ o. IsEventRead c.args.head.now (length p.done.events) t left (Ok o)) c.in-None.is (c.in_ok-event.ensures.read (length p.done.events) t p.counted e))
 
 pub loop-number-preserved : goal.loop-number-preserved
