@@ -39,17 +39,17 @@ pub never : (b : Bool) → (b ≡ true → ⊥) → false ≡ b
 never true h = absurd (h refl)
 never false h = refl
 
-pub test-within : (low high n : ℕ) (word : Word) → word ≡ decimal n → low ≤ n → n ≤ high → high < 2 ^ 32 → true ≡ is_number low high word
+pub test-within : (low high n : ℕ) (word : Word) → word ≡ decimal n → low ≤ n → n ≤ high → high < 2 ^ 64 → true ≡ is_number low high word
 test-within low high n word e over under small = rw e (sym (is_number-decimal low high n over under (omega arith)))
 
-pub test-outside : (low high n : ℕ) (word : Word) → word ≡ decimal n → n < 2 ^ 32 → (low ≤ n → n ≤ high → ⊥) → false ≡ is_number low high word
+pub test-outside : (low high n : ℕ) (word : Word) → word ≡ decimal n → n < 2 ^ 64 → (low ≤ n → n ≤ high → ⊥) → false ≡ is_number low high word
 test-outside low high n word e small outside =
     never _ (λ (t : is_number low high word ≡ true).
     let it = is_number-true low high word t in
     let same : digits_value 10 word ≡ n = ap (digits_value 10) e ∙ value_of-decimal n (omega arith) in
     outside (omega (arith, it.0, same)) (omega (arith, it.1, same)))
 
-pub test-nowhere : (low high : ℕ) (word : Word) → ((n : ℕ) → n < 2 ^ 32 → word ≡ decimal n → ⊥) → high < 2 ^ 32 → false ≡ is_number low high word
+pub test-nowhere : (low high : ℕ) (word : Word) → ((n : ℕ) → n < 2 ^ 64 → word ≡ decimal n → ⊥) → high < 2 ^ 64 → false ≡ is_number low high word
 test-nowhere low high word none small =
     never _ (λ (t : is_number low high word ≡ true).
     let it = is_number-true low high word t in

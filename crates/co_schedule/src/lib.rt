@@ -26,6 +26,7 @@ pub use laws::one_line;
 pub use lines::Lines;
 pub use reading::{read_event, read_event_fields, read_line, read_message};
 pub use view::{LeavesView, LineView, key_of, value_of};
+pub use word::long_number_within;
 pub use words::{Piece, Words};
 pub use writing::{
     LONGEST_LINE, append_event, append_head, append_message, append_node, append_number,

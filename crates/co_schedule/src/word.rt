@@ -10,8 +10,8 @@ use co_base::Node;
 use itoa::Buffer;
 use std::str::from_utf8;
 
-fn parsed(word: &[u8]) -> Option<u32>
-    ensures { (number : ℕ) → number < 2 ^ 32 → word.now ≡ decimal number → result ≡ Some number }
+fn parsed(word: &[u8]) -> Option<u64>
+    ensures { (number : ℕ) → number < 2 ^ 64 → word.now ≡ decimal number → result ≡ Some number }
 {
     match from_utf8(word) {
         Ok(text) => text.parse().ok(),
@@ -21,9 +21,9 @@ fn parsed(word: &[u8]) -> Option<u32>
 
 /// The number that the word spells as numbers are written: in decimal digits, without a sign and
 /// without a leading zero.
-pub fn number_of(word: &[u8]) -> Option<u32>
+pub fn number_of(word: &[u8]) -> Option<u64>
     ensures found { IfSome result (λ number. word.now ≡ decimal number) }
-    ensures none { IfNone result ((number : ℕ) → number < 2 ^ 32 → word.now ≡ decimal number → ⊥) }
+    ensures none { IfNone result ((number : ℕ) → number < 2 ^ 64 → word.now ≡ decimal number → ⊥) }
 {
     let number = parsed(word)?;
     let mut buffer = Buffer::new();
@@ -66,14 +66,25 @@ pub fn is_hex_of(word: &[u8]) -> bool
     word.len() % 2 == 0 && are_lower_digits(word)
 }
 
-/// The number from `low` to `high` that the word spells.
-pub fn number_within(word: &[u8], low: u32, high: u32) -> Option<u32>
+/// The number from `low` to `high` that the word spells, of 64 bits.
+pub fn long_number_within(word: &[u8], low: u64, high: u64) -> Option<u64>
     ensures found { IfSome result (λ number. IsWithin low high number × (word.now ≡ decimal number)) }
     ensures test { is_some result ≡ is_number low high word.now }
 {
     match number_of(word) {
         Some(number) if low <= number && number <= high => Some(number),
         _ => None,
+    }
+}
+
+/// The number from `low` to `high` that the word spells.
+pub fn number_within(word: &[u8], low: u32, high: u32) -> Option<u32>
+    ensures found { IfSome result (λ number. IsWithin low high number × (word.now ≡ decimal number)) }
+    ensures test { is_some result ≡ is_number low high word.now }
+{
+    match long_number_within(word, u64::from(low), u64::from(high)) {
+        Some(number) => Some(number as u32),
+        None => None,
     }
 }
 

@@ -9,5 +9,5 @@ returns-in-Err c number small e =
 
 pub returns-in-Ok : goal.returns-in-Ok
 returns-in-Ok c number small e =
-    let it : c.parse.result ≡ Ok number = parse-decimal 32 number _ _ small (omega arith) (c.in-Ok.ensures.cases.0 ∙ e) c.parse.ensures.value.0 in
+    let it : c.parse.result ≡ Ok number = parse-decimal 64 number _ _ small (omega arith) (c.in-Ok.ensures.cases.0 ∙ e) c.parse.ensures.value.0 in
     rw c.ok.ensures.value (rw it refl)
