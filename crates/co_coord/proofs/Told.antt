@@ -44,7 +44,3 @@ never_refused owner log l members at s allowed refused =
     let none = ap (first_refused_at_coord members) (sym (oldest_first owner log l s)) ∙ allowed in
     let clash : None ≡ Some refused.behind = sym none ∙ refused.first in
     absurd cc
-
--- what was recovered is what the stable records tell
-pub recovered_table : (owner : Node) (log : LogView) (l : LogState) (members : ℕ) (past : CoordPast) → (s : RepresentsLog owner log l) → IsCoordRecovery members s.items (Ok past) → table_of past.committed ≡ told_table l
-recovered_table owner log l members past s recovered = table_told l past (recovered.1 ∙ ap (λ (rs : List Record). past_of_coord (recovered_commits rs)) (sym s.stable))
