@@ -1,15 +1,9 @@
 -- Each event of a coordinator whose table and records name such members, counts and numbers answers, sends, marks and leaves such ones. It sends
--- at most 16 messages, and beside the records that waited it tells of at most two.
-use Rattle.std.proofs.Common.{◌≡◌, ℕ, suc, Bool, true, false, not, ◌&&◌, ◌+◌, ◌≤◌, if◌then◌else◌, List, [], ◌∷◌, ◌++◌, length, filter, find, Option, None, Some, refl, sym, subst, arith, length-append}
-use Rattle.std.proofs.lemmas.Bool.Decides.{nat_tests}
-use Rattle.std.proofs.lemmas.List.{length-map}
+-- at most 16 messages, and beside the records that waited it tells of at most one.
+use Rattle.std.proofs.Common.{◌≡◌, ℕ, Bool, true, false, not, ◌&&◌, ◌+◌, ◌≤◌, if◌then◌else◌, List, [], ◌∷◌, ◌++◌, length, Option, None, Some, refl, subst, arith, length-append}
 use Rattle.std.specs.FinMap.{entries}
 use Rattle.std.specs.List.{AllByRecursion}
-use Rattle.std.specs.List.Sorted.{IsStrictlySortedBy}
-use Rattle.std.specs.Ordering.{nat_cmp}
-use Rattle.std.specs.declared.cmp.Ordering.TheVariants.{Less}
 use Rattle.co_base.proofs.Ordered.{sorted_none}
-use Rattle.co_base.specs.Order.{IsAscending}
 use Rattle.co_base.specs.declared.leaves.Leaves.{Leaves}
 use Rattle.co_base.specs.declared.node.Node.TheVariants as node
 use Rattle.co_base.specs.declared.part.Part.{Part}
@@ -22,7 +16,7 @@ use Rattle.co_message.specs.declared.message.Message.TheVariants as message
 use Rattle.co_record.specs.Gate.{batch_is_stable, closes_spare}
 use Rattle.co_record.specs.declared.record.Record.{Record}
 use Rattle.co_record.specs.declared.record.Record.TheVariants as log
-use Rattle.co_schedule.specs.View.{IsWithin, IsTxn, IsCount, IsMessageFor}
+use Rattle.co_schedule.specs.View.{IsWithin, IsTxn, IsMessageFor}
 use Rattle.co_state.specs.Table.{look, put, without}
 use Rattle.co_plain.specs.CoordLog.{commit_onto, commits_onto, coord_spare, coord_stopped_fill, coord_fill_by, coord_close_by, coord_checkpoint_by, coord_checkpoint, coord_crash, coord_restart_by, coord_restart, coord_arm}
 use Rattle.co_plain.specs.CoordStep.{coord_says, coord_sends, with_table, with_coord_log, has_part, members_of, coord_down, stopped_coord, coord_forced_by, force_coord, table_from}
@@ -40,83 +34,10 @@ use Rattle.co_plain.specs.declared.outcome.Outcome.TheVariants.{Completes, Stops
 use Rattle.co_transcript.specs.Items.{IsMark}
 use Rattle.co_law_base.proofs.Commits.{from_cases}
 use Rattle.co_law_base.proofs.ImageRules.{EachEntry}
-use Rattle.co_law_items.proofs.Named.{all_append, all_map, all_filter, Holds, holds_put, holds_without, holds_each}
-use Rattle.co_law_items.proofs.Logs.{AreMembers, IsOutcome, outcome_named, generation_small, IsRecordOf, IsLogOf, unended_named, batched, crashed, marks_named, marks_counted, checkpoint_named}
+use Rattle.co_law_items.proofs.Named.{all_append, all_filter, Holds, holds_put, holds_without, holds_each}
+use Rattle.co_law_items.proofs.Logs.{IsOutcome, outcome_named, generation_small, IsRecordOf, IsLogOf, unended_named, batched, crashed, marks_named, marks_counted, checkpoint_named}
 use Rattle.co_law_items.proofs.Answers.{IsAnswerOf}
-
--- ---- participants
-
-abbrev pub IsPart : Part → Type 0
-IsPart p = IsWithin 1 16 p.member × IsCount p.count
-
-abbrev pub AreParts : List Part → Type 0
-AreParts parts = AllByRecursion IsPart parts × IsAscending (members_of parts)
-
--- ascending numbers between two bounds are no more than there are between them
-few_between : (low high : ℕ) (ms : List ℕ) → low ≤ suc high → IsAscending ms → AllByRecursion (IsWithin low high) ms → length ms + low ≤ suc high
-unfolding IsStrictlySortedBy
-few_between low high [] l a h = omega (arith, l)
-few_between low high (m ∷ ms) l a h =
-    let rest = few_between (suc m) high ms (let up = h.0.1 in omega (arith, up)) a.1 (raised ms a.0 h.1) in
-    let down = h.0.0 in omega (arith, rest, down)
-  where
-    above : (k : ℕ) → nat_cmp m k ≡ Less → suc m ≤ k
-    above k e = grind (arith, nat_tests, e)
-
-    raised : (ks : List ℕ) → AllByRecursion (λ k. nat_cmp m k ≡ Less) ks → AllByRecursion (IsWithin low high) ks → AllByRecursion (IsWithin (suc m) high) ks
-    raised [] a h = tt
-    raised (k ∷ ks) a h = ((above k a.0, h.0.1), raised ks a.1 h.1)
-
-few_members : (ms : List ℕ) → AreMembers ms → length ms ≤ 16
-few_members ms h = let l = few_between 1 16 ms (omega arith) h.1 h.0 in omega (arith, l)
-
-parts_members : (parts : List Part) → AreParts parts → AreMembers (members_of parts)
-parts_members parts h = (all_map IsPart (IsWithin 1 16) (λ p. p.member) (λ p k. k.0) parts h.0, h.1)
-
-few_parts : (parts : List Part) → AreParts parts → length parts ≤ 16
-few_parts parts h = let l = few_members (members_of parts) (parts_members parts h) in let e = length-map parts (λ p. p.member) in omega (arith, l, e)
-
-few_filtered : {A : Type 0} (test : A → Bool) (xs : List A) → length (filter test xs) ≤ length xs
-few_filtered test [] = omega arith
-few_filtered {A} test (x ∷ xs) = by (few_filtered test xs) (test x)
-  where
-    by : length (filter test xs) ≤ length xs → (b : Bool) → length (if b then x ∷ filter test xs else filter test xs) ≤ suc (length xs)
-    by rest true = omega (arith, rest)
-    by rest false = omega (arith, rest)
-
-found_in : (P : ℕ → Type 0) (test : ℕ → Bool) (xs : List ℕ) → AllByRecursion P xs → (m : ℕ) → find test xs ≡ Some m → P m
-found_in P test [] h m e = absurd (let z : None ≡ Some m = e in cc)
-found_in P test (x ∷ xs) h m e = by (found_in P test xs h.1 m) (test x) refl e
-  where
-    by : (find test xs ≡ Some m → P m) → (b : Bool) → test x ≡ b → (if b then Some x else find test xs) ≡ Some m → P m
-    by rest true f g = subst P (let z : Some x ≡ Some m = g in cc) h.0
-    by rest false f g = rest g
-
--- ---- the table
-
--- an entry of the table: who collects lacks somebody
-abbrev pub IsEntry : ℕ → Entry → Type 0
-IsEntry t entry.Idle = IsTxn t
-IsEntry t (entry.Collecting parts yeses) = IsTxn t × AreParts parts × ((m : ℕ) × (first_lacking (members_of parts) yeses ≡ Some m))
-IsEntry t (entry.Committed ms acks) = IsTxn t × AreMembers ms
-
-lacking_named : (parts : List Part) → AreParts parts → (yeses : List ℕ) → ((m : ℕ) × (first_lacking (members_of parts) yeses ≡ Some m)) →
-    IsWithin 1 16 (member_or_none (first_lacking (members_of parts) yeses))
-lacking_named parts h yeses l =
-    subst (λ o. IsWithin 1 16 (member_or_none o)) (sym l.1)
-    (found_in (IsWithin 1 16) (λ n. not (has_number yeses n)) (members_of parts) (parts_members parts h).0 l.0 l.1)
-
-prepares_named : (c t : ℕ) → IsWithin 1 8 c → IsTxn t → (parts : List Part) → AllByRecursion IsPart parts → AllByRecursion (IsMessageFor 16 8) (prepares_to c t parts)
-prepares_named c t own small parts h = all_map IsPart (IsMessageFor 16 8) (λ p. message.Prepare t c p.member p.count) (λ p k. (small, own, k.0, k.1)) parts h
-
-decisions_named : (c t : ℕ) (commit : Bool) → IsWithin 1 8 c → IsTxn t → (ms : List ℕ) → AllByRecursion (IsWithin 1 16) ms → AllByRecursion (IsMessageFor 16 8) (decisions_to c t commit ms)
-decisions_named c t commit own small ms h = all_map (IsWithin 1 16) (IsMessageFor 16 8) (λ m. message.Decide t c m commit) (λ m k. (small, own, k)) ms h
-
-decisions_few : (c t : ℕ) (commit : Bool) (ms : List ℕ) → length ms ≤ 16 → length (decisions_to c t commit ms) ≤ 16
-decisions_few c t commit ms h = let e = length-map ms (λ m. message.Decide t c m commit) in omega (arith, e, h)
-
-prepares_few : (c t : ℕ) (parts : List Part) → length parts ≤ 16 → length (prepares_to c t parts) ≤ 16
-prepares_few c t parts h = let e = length-map parts (λ p. message.Prepare t c p.member p.count) in omega (arith, e, h)
+use Rattle.co_law_items.proofs.Parts.{IsPart, AreParts, few_members, parts_members, few_parts, few_filtered, found_in, IsEntry, lacking_named, prepares_named, decisions_named, decisions_few, prepares_few}
 
 module _ (P : List ℕ → Type 0) where
   pub record IsCoordOf (y : CoordState) : Type 0 where
@@ -130,7 +51,7 @@ module _ (P : List ℕ → Type 0) where
     pub sent : AllByRecursion (IsMessageFor 16 8) did.sent
     pub sent_few : length did.sent ≤ 16
     pub marks : AllByRecursion IsMark did.marks
-    pub few : length did.marks + length did.state.log.waiting ≤ waiting + 2
+    pub few : length did.marks + length did.state.log.waiting ≤ waiting + 1
 
   pub recovered_named : (rs : List Record) → AllByRecursion (IsRecordOf P) rs → Holds IsEntry (table_from (entries (recovered_commits rs).unended))
   recovered_named rs h t e f = by (from_cases (recovered_commits rs).unended t e f)
@@ -146,7 +67,7 @@ module _ (P : List ℕ → Type 0) where
 
   module _ (c : ℕ) (own : IsWithin 1 8 c) where
     -- however a forced write ends
-    coord_forces : (next : CoordState) → IsCoordOf next → (batch : List Record) → AllByRecursion (IsRecordOf P) batch → length batch ≤ 2 →
+    coord_forces : (next : CoordState) → IsCoordOf next → (batch : List Record) → AllByRecursion (IsRecordOf P) batch → length batch ≤ 1 →
         (a : Answer) → IsAnswerOf P a → (sent : List Message) → AllByRecursion (IsMessageFor 16 8) sent → length sent ≤ 16 →
         CoordDid (length next.log.waiting) (force_coord c next batch a sent)
     coord_forces next n batch h short a said sent goes sent_few = by (outcome_of next.log.armed 4) (outcome_named next.log.armed n.log.armed 4)
@@ -157,7 +78,7 @@ module _ (P : List ℕ → Type 0) where
         all : AllByRecursion (IsRecordOf P) out
         all = all_append (IsRecordOf P) batch next.log.waiting h n.log.waiting
 
-        count : length (marks_of (node.Coord c) out) + 0 ≤ length next.log.waiting + 2
+        count : length (marks_of (node.Coord c) out) + 0 ≤ length next.log.waiting + 1
         count = let k = marks_counted (node.Coord c) out in let d = length-append batch next.log.waiting in omega (arith, k, d, short)
 
         stopped : (call : ℕ) → IsWithin 1 4 call → (b : Bool) → CoordDid (length next.log.waiting) (stopped_coord c next call b batch)

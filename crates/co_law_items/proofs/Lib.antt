@@ -3,6 +3,7 @@ pub mod Engines
 pub mod Logs
 pub mod Answers
 pub mod Members
+pub mod Parts
 pub mod Coords
 pub mod Sessions
 pub mod Weights

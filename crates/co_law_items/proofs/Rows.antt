@@ -30,7 +30,7 @@ use Rattle.co_replay.specs.Transcript.{run_items}
 use Rattle.co_transcript.specs.Items.{AreRows, IsReply, IsAnswer, IsTold, IsItem}
 use Rattle.co_transcript.specs.Spelling.{kind_words}
 use Rattle.co_law_engine.proofs.Keys.{same_key_is, same_key_refl}
-use Rattle.co_law_items.specs.Scans.{TellsFewRows, HasFewRows, IsWithinIfScan, HasShortScan, key_written, keys_written}
+use Rattle.co_law_items.specs.Scans.{TellsFewRows, HasFewRows, IsWithinIfScan, HasShortScan, most_numbered, key_written, keys_written}
 use Rattle.co_law_items.proofs.Named.{all_as, IsRowOf}
 use Rattle.co_law_items.proofs.Engines.{IsReplyOf}
 use Rattle.co_law_items.proofs.Logs.{IsRecordOf}
@@ -209,12 +209,12 @@ nothing_written P found fresh m = subst (AllByRecursion (IsRecordOf P)) (sym (fr
 
 -- each item of a run over logs without records names keys that an event of the run wrote
 pub fresh_named : (head : Head) (fm fc : ℕ → Found) (events : List Event) → ((m : ℕ) → (fm m).records ≡ []) → ((c : ℕ) → (fc c).records ≡ []) → AllByRecursion (HasLine head) events →
-    length events ≤ 4294967294 → AllByRecursion (IsItemOf (IsAmongKeys (keys_written events))) (run_items head fm fc events)
+    length events ≤ most_numbered → AllByRecursion (IsItemOf (IsAmongKeys (keys_written events))) (run_items head fm fc events)
 fresh_named head fm fc events fresh_m fresh_c lined few =
     run_named (IsAmongKeys (keys_written events)) head fm fc (nothing_written _ fm fresh_m) (nothing_written _ fc fresh_c) events (events_named head (keys_written events) events lined (λ q k. k)) few
 
 pub fresh_items : (head : Head) (fm fc : ℕ → Found) (events : List Event) → ((m : ℕ) → (fm m).records ≡ []) → ((c : ℕ) → (fc c).records ≡ []) → AllByRecursion (HasLine head) events →
-    length events ≤ 4294967294 → AllByRecursion IsItem (run_items head fm fc events)
+    length events ≤ most_numbered → AllByRecursion IsItem (run_items head fm fc events)
 fresh_items head fm fc events fresh_m fresh_c lined few =
     let all = fresh_named head fm fc events fresh_m fresh_c lined few in
     let w = few_written events in
@@ -225,16 +225,16 @@ all_spelled : (found : ℕ → Found) → ((m : ℕ) → AllByRecursion IsSpelle
 all_spelled found h m = all_as IsSpelled (IsRecordOf IsKey) as_record (found m).records (h m)
 
 pub found_items : (head : Head) (fm fc : ℕ → Found) (events : List Event) → ((m : ℕ) → AllByRecursion IsSpelled (fm m).records) → ((c : ℕ) → AllByRecursion IsSpelled (fc c).records) →
-    AllByRecursion (HasLine head) events → length events ≤ 4294967294 → AllByRecursion HasFewRows (run_items head fm fc events) → AllByRecursion IsItem (run_items head fm fc events)
+    AllByRecursion (HasLine head) events → length events ≤ most_numbered → AllByRecursion HasFewRows (run_items head fm fc events) → AllByRecursion IsItem (run_items head fm fc events)
 found_items head fm fc events written_m written_c lined few rows =
     items_are IsKey (λ key h. h) (run_items head fm fc events) (run_named IsKey head fm fc (all_spelled fm written_m) (all_spelled fc written_c) events (events_texts head events lined) few) rows
 
 pub found_few : (head : Head) (fm fc : ℕ → Found) (events : List Event) → ((m : ℕ) → AllByRecursion IsSpelled (fm m).records) → ((c : ℕ) → AllByRecursion IsSpelled (fc c).records) →
-    AllByRecursion (HasLine head) events → length (run_items head fm fc events) ≤ 26 + 20 * length events
+    AllByRecursion (HasLine head) events → length (run_items head fm fc events) ≤ 26 + 19 * length events
 found_few head fm fc events written_m written_c lined = run_few IsKey head fm fc (all_spelled fm written_m) (all_spelled fc written_c) events (events_texts head events lined)
 
 pub fresh_scans : (head : Head) (fm fc : ℕ → Found) (events : List Event) → ((m : ℕ) → (fm m).records ≡ []) → ((c : ℕ) → (fc c).records ≡ []) → AllByRecursion (HasLine head) events →
-    length events ≤ 4294967294 → AllByRecursion (HasShortScan (32 + 4130 * length (keys_written events))) (run_items head fm fc events)
+    length events ≤ most_numbered → AllByRecursion (HasShortScan (32 + 4130 * length (keys_written events))) (run_items head fm fc events)
 fresh_scans head fm fc events fresh_m fresh_c lined few =
     let w = few_written events in
     scans_short (keys_written events) (omega (arith, w, few)) (run_items head fm fc events) (fresh_named head fm fc events fresh_m fresh_c lined few)

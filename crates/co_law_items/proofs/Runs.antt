@@ -20,6 +20,7 @@ use Rattle.co_plain.specs.Opening.{Found, opened, opening_items}
 use Rattle.co_plain.specs.Runs.{numbered, transcript}
 use Rattle.co_plain.specs.Step.{step_line}
 use Rattle.co_replay.specs.Transcript.{run_items}
+use Rattle.co_law_items.specs.Scans.{most_numbered}
 use Rattle.co_law_items.proofs.Named.{all_append, all_map}
 use Rattle.co_law_items.proofs.Logs.{IsRecordOf}
 use Rattle.co_law_items.proofs.Answers.{IsKindOf}
@@ -87,7 +88,7 @@ module _ (P : List ℕ → Type 0) where
       (transcript_named es (suc n) (step_line s e).state g.state h.1 (omega (arith, small)))
 
   transcript_few : (events : List Event) (n : ℕ) (s : Federation) → IsFederationOf P s → AllByRecursion IsEventOf events →
-      length (transcript n events s) ≤ weight s + 20 * length events
+      length (transcript n events s) ≤ weight s + 19 * length events
   transcript_few [] n s k h = omega arith
   transcript_few (e ∷ es) n s k h =
       let g = goes P s k e h.0.0 h.0.2 in
@@ -108,13 +109,13 @@ module _ (P : List ℕ → Type 0) where
     abbrev first : List ItemKind
     first = item.Head head ∷ opening_items head.kinds head.coords fm fc
 
-    pub run_named : length events ≤ 4294967294 → AllByRecursion IsItemOf (run_items head fm fc events)
+    pub run_named : length events ≤ most_numbered → AllByRecursion IsItemOf (run_items head fm fc events)
     run_named small =
         all_append IsItemOf (numbered 1 first) (transcript 2 events s0)
         (numbers_named 1 (omega arith) first (tt, opening_named P head.kinds head.coords fm fc head.members head.coordinators))
         (transcript_named events 2 s0 start h (omega (arith, small)))
 
-    pub run_few : length (run_items head fm fc events) ≤ 26 + 20 * length events
+    pub run_few : length (run_items head fm fc events) ≤ 26 + 19 * length events
     run_few =
         let a = length-append (numbered 1 first) (transcript 2 events s0) in
         let b : length (numbered 1 first) ≡ length first = length-map first (λ what. record { number = 1; what = what }) in

@@ -15,7 +15,7 @@ use Rattle.co_plain.specs.declared.session.Session.{Session}
 use Rattle.co_plain.specs.declared.session.Told.{Told}
 use Rattle.co_law_base.proofs.Sending.{parts_ascend}
 use Rattle.co_law_items.proofs.Named.{all_as}
-use Rattle.co_law_items.proofs.Coords.{IsPart, AreParts}
+use Rattle.co_law_items.proofs.Parts.{IsPart, AreParts}
 
 -- the member of an operation
 abbrev pub IsToldAt : Told → Type 0

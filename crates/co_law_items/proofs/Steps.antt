@@ -1,5 +1,5 @@
 -- Each event with its line leaves a federation that names such keys, values and numbers alone, and tells of such alone; and beside what waited
--- it tells of at most 19 items.
+-- it tells of at most 18 items.
 use Rattle.std.proofs.Common.{◌≡◌, ℕ, Bool, true, false, not, ◌+◌, ◌≤◌, ◌==◌, if◌then◌else◌, List, [], ◌∷◌, ◌++◌, length, map, Option, None, Some, refl, subst, arith, length-append}
 use Rattle.std.proofs.lemmas.Bool.{eqb-false}
 use Rattle.std.proofs.lemmas.List.{length-map}
@@ -95,7 +95,7 @@ module _ (P : List ℕ → Type 0) where
   pub record Goes (s : Federation) (z : Stepped) : Type 0 where
     pub state : IsFederationOf z.state
     pub items : AllByRecursion (IsKindOf P) z.items
-    pub few : length z.items + weight z.state ≤ weight s + 19
+    pub few : length z.items + weight z.state ≤ weight s + 18
 
   pub counts : (marks : List Mark) (messages : List Message) (a : Answer) → length (items_of marks messages a) ≡ length marks + (length messages + 1)
   counts marks messages a =
@@ -122,7 +122,7 @@ module _ (P : List ℕ → Type 0) where
         one None = omega arith
         one (Some note) = omega arith
 
-        total : length (items_of did.marks (message_list did.sent) did.answer) + weight (with_member s m did.state) ≤ weight s + 19
+        total : length (items_of did.marks (message_list did.sent) did.answer) + weight (with_member s m did.state) ≤ weight s + 18
         total =
             let i = counts did.marks (message_list did.sent) did.answer in
             let l = one did.sent in
@@ -138,7 +138,7 @@ module _ (P : List ℕ → Type 0) where
           few = total;
         }
       where
-        total : length (items_of did.marks did.sent did.answer) + weight (with_coord s c did.state) ≤ weight s + 19
+        total : length (items_of did.marks did.sent did.answer) + weight (with_coord s c did.state) ≤ weight s + 18
         total =
             let i = counts did.marks did.sent did.answer in
             let l = d.sent_few in
@@ -177,7 +177,7 @@ module _ (P : List ℕ → Type 0) where
           few = few;
         }
       where
-        few : 1 + weight (with_session s t (begun_by (node.Member m))) ≤ weight s + 19
+        few : 1 + weight (with_session s t (begun_by (node.Member m))) ≤ weight s + 18
         few = omega arith
     begins_local t m own false false = say (answer.Down (node.Member m)) own
 

@@ -29,9 +29,9 @@ use Rattle.co_transcript.specs.Spelling.{mark_word, cause_word, row_words, answe
 use Rattle.co_law_items.specs.Scans.{IsWithinIfScan, HasShortScan}
 
 abbrev Short : Word → Type 0
-Short w = length w ≤ 4096
+Short w = length w ≤ 32
 
-behind_short : (ws : List Word) → AllByRecursion Short ws → length (behind ws) ≤ 4097 * length ws
+behind_short : (ws : List Word) → AllByRecursion Short ws → length (behind ws) ≤ 33 * length ws
 behind_short [] h = omega arith
 behind_short (w ∷ ws) h = let r = behind_short ws h.1 in let a = length-append (space ∷ w) (behind ws) in let f = h.0 in omega (arith, r, a, f)
 
@@ -122,7 +122,7 @@ behind_line : (words : List Word) → length (behind words) ≤ suc (length (spa
 behind_line [] = omega arith
 behind_line (w ∷ ws) = let a = length-append (space ∷ w) (behind ws) in let b = length-append w (behind ws) in omega (arith, a, b)
 
-module _ (most : ℕ) (enough : 24598 ≤ most) (n : ℕ) (small : n ≤ 4294967295) where
+module _ (most : ℕ) (enough : 8209 ≤ most) (n : ℕ) (small : n ≤ 4294967295) where
   few_words : (form : Word) → length form ≤ 5 → (words : List Word) → AreFewWords words → length (spaced (decimal n ∷ form ∷ words)) ≤ most
   few_words form l words h =
       let a = line_of n small form l words in
@@ -138,7 +138,9 @@ module _ (most : ℕ) (enough : 24598 ≤ most) (n : ℕ) (small : n ≤ 4294967
       length (spaced (decimal n ∷ codes "reply" ∷ answer_words a)) ≤ most
   short_answer (answer.Replied (reply.Rows rows)) h s = s
   short_answer (answer.Replied (reply.Got (Some value))) h s =
-      few_words (codes "reply") (omega arith) (codes "got" ∷ value ∷ []) ((omega arith, (h.0.1, tt)), omega arith)
+      let a = line_of n small (codes "reply") (omega arith) (codes "got" ∷ value ∷ []) in
+      let b = length-append (space ∷ value) [] in
+      let c = h.0.1 in omega (arith, a, b, c, enough)
   short_answer (answer.Replied (reply.Got None)) h s = few_words (codes "reply") (omega arith) (codes "missing" ∷ []) ((omega arith, tt), omega arith)
   short_answer (answer.Replied reply.Done) h s = few_words (codes "reply") (omega arith) (codes "done" ∷ []) ((omega arith, tt), omega arith)
   short_answer a h s = few_words (codes "reply") (omega arith) (answer_words a) (answer_short a h (λ r e. absurd (let z = e in cc)))
@@ -150,7 +152,7 @@ module _ (most : ℕ) (enough : 24598 ≤ most) (n : ℕ) (small : n ≤ 4294967
   short_kind (item.Sent note) h s = few_words (codes "send") (omega arith) (message_words note) (message_short note h)
   short_kind (item.Answered a) h s = short_answer a h s
 
-pub short_item : (most : ℕ) (i : Item) → 24598 ≤ most → IsItem i → HasShortScan most i → length (item_text i) ≤ most
+pub short_item : (most : ℕ) (i : Item) → 8209 ≤ most → IsItem i → HasShortScan most i → length (item_text i) ≤ most
 short_item most i enough h s = short_kind most enough i.number h.0 i.what h.1 s
 
 -- ---- the line of a scan

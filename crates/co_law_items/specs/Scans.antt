@@ -1,4 +1,4 @@
--- What a line of a transcript may be too short for: the reply to a scan of many records; and which keys the events of a schedule write.
+-- How long the reply to a scan is in a transcript, how many events a transcript numbers, and which keys they write.
 use Rattle.std.specs.Prelude.{ℕ, ◌≤◌, List, [], ◌∷◌, ◌++◌, length}
 use Rattle.co_base.specs.declared.reply.Reply.TheVariants as reply
 use Rattle.co_message.specs.declared.answer.Answer.TheVariants as answer
@@ -25,6 +25,10 @@ IsWithinIfScan most _ bytes = Unit {0}
 -- the reply to a scan has a line of at most so many bytes
 abbrev pub HasShortScan : ℕ → Item → Type 0
 HasShortScan most i = IsWithinIfScan most i.what (length (item_text i))
+
+-- so many events have lines whose numbers, behind that of the head, stand in 32 bits
+abbrev pub most_numbered : ℕ
+most_numbered = 4294967294
 
 -- the key that an event writes or erases
 abbrev pub key_written : Event → List (List ℕ)
