@@ -69,3 +69,11 @@ pub record IsFoundSerial (answer : Result Verdict CheckFault) (s z : Federation)
 -- an item whose fields are in the sets of its kind, and whose line a checker may read
 abbrev pub IsShortItem : Item → Type 0
 IsShortItem it = IsItem it × (length (item_text it) ≤ longest)
+
+-- so many events have no more items than a checker reads lines
+abbrev pub most_events : ℕ
+most_events = 883010
+
+-- the records that so many events write stand in one line that a checker reads
+abbrev pub most_writes : ℕ
+most_writes = 4062

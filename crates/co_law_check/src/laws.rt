@@ -12,7 +12,8 @@ ghost use Rattle.co_check.specs.Checked.{IsCheck, StandsBehind, longest};
 ghost use Rattle.co_check.specs.Once.{IsOfText};
 ghost use Rattle.co_check.specs.declared.fault.CheckFault.{CheckFault};
 ghost use Rattle.co_check.specs.declared.verdict.Verdict.{Verdict};
-ghost use Rattle.co_law_check.specs.Told.{IsToldSerially, IsFoundSerial, IsShortItem};
+ghost use Rattle.co_law_items.specs.Scans.{HasShortScan, keys_written};
+ghost use Rattle.co_law_check.specs.Told.{IsToldSerially, IsFoundSerial, IsShortItem, most_events, most_writes};
 
 /// The transcript of every schedule over logs without records is well shaped to its end, and each transaction whose decision it tells was
 /// answered, before that, as when run whole behind the earlier ones (Bernstein, Hadzilacos and Goodman 1987, serializability). It tells of
@@ -26,21 +27,45 @@ pub fn transcripts_are_serial()
 {}
 
 /// So a checker that reads the text of such a transcript finds it serial: it answers so, with the number of decisions and the records of their
-/// serial run, unless the source fails or there is no memory. The items are such as have a line in a transcript, no line has more than
-/// 16,777,216 bytes, and there are no more lines than that.
+/// serial run, unless the source fails or there is no memory. The transcript has at most 16,777,216 lines, and no reply to a scan has more bytes;
+/// every other item has a line that it reads.
 pub fn transcripts_are_found_serial()
     ensures { (head : Head) (found_member found_coord : ℕ → Found) (events : List Event) (answer : Result Verdict CheckFault) →
         ((m : ℕ) → (found_member m).records ≡ []) →
         ((c : ℕ) → (found_coord c).records ≡ []) →
         AllByRecursion (HasLine head) events →
-        AllByRecursion IsShortItem (run_items head found_member found_coord events) →
+        AllByRecursion (HasShortScan longest) (run_items head found_member found_coord events) →
         length (run_items head found_member found_coord events) ≤ longest →
         IsCheck (items_text (run_items head found_member found_coord events)) answer →
         IsOfText answer →
         IsFoundSerial answer (opened head.kinds head.coords found_member found_coord) (run (lines events) (opened head.kinds head.coords found_member found_coord)) }
 {}
 
-/// The text of such items is cut back into them: each stands on a line of its own, behind those before it.
+/// A schedule of at most 883,010 events has no more lines than that, whatever comes of it. So no premise is left of its transcript but that no
+/// reply to a scan has more than 16,777,216 bytes.
+pub fn schedules_are_found_serial()
+    ensures { (head : Head) (found_member found_coord : ℕ → Found) (events : List Event) (answer : Result Verdict CheckFault) →
+        ((m : ℕ) → (found_member m).records ≡ []) →
+        ((c : ℕ) → (found_coord c).records ≡ []) →
+        AllByRecursion (HasLine head) events → length events ≤ most_events →
+        AllByRecursion (HasShortScan longest) (run_items head found_member found_coord events) →
+        IsCheck (items_text (run_items head found_member found_coord events)) answer →
+        IsOfText answer →
+        IsFoundSerial answer (opened head.kinds head.coords found_member found_coord) (run (lines events) (opened head.kinds head.coords found_member found_coord)) }
+{}
+
+/// And where at most 4,062 of the events write or erase, no premise is left of the transcript at all.
+pub fn few_writes_are_found_serial()
+    ensures { (head : Head) (found_member found_coord : ℕ → Found) (events : List Event) (answer : Result Verdict CheckFault) →
+        ((m : ℕ) → (found_member m).records ≡ []) →
+        ((c : ℕ) → (found_coord c).records ≡ []) →
+        AllByRecursion (HasLine head) events → length events ≤ most_events → length (keys_written events) ≤ most_writes →
+        IsCheck (items_text (run_items head found_member found_coord events)) answer →
+        IsOfText answer →
+        IsFoundSerial answer (opened head.kinds head.coords found_member found_coord) (run (lines events) (opened head.kinds head.coords found_member found_coord)) }
+{}
+
+/// The text of items that have such lines is cut back into them: each stands on a line of its own, behind those before it.
 pub fn items_stand_in_their_text()
     ensures { (items : List Item) → AllByRecursion IsShortItem items → length items ≤ longest → StandsBehind (items_text items) items [] }
 {}

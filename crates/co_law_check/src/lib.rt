@@ -5,4 +5,7 @@
 
 mod laws;
 
-pub use laws::{items_stand_in_their_text, transcripts_are_found_serial, transcripts_are_serial};
+pub use laws::{
+    few_writes_are_found_serial, items_stand_in_their_text, schedules_are_found_serial,
+    transcripts_are_found_serial, transcripts_are_serial,
+};

@@ -1,0 +1,14 @@
+pub mod Named
+pub mod Engines
+pub mod Logs
+pub mod Answers
+pub mod Members
+pub mod Parts
+pub mod Coords
+pub mod Sessions
+pub mod Weights
+pub mod Steps
+pub mod Opened
+pub mod Runs
+pub mod Rows
+pub mod Texts
