@@ -30,7 +30,7 @@ use Rattle.co_replay.specs.Transcript.{run_items}
 use Rattle.co_transcript.specs.Items.{AreRows, IsReply, IsAnswer, IsTold, IsItem}
 use Rattle.co_transcript.specs.Spelling.{kind_words}
 use Rattle.co_law_engine.proofs.Keys.{same_key_is, same_key_refl}
-use Rattle.co_law_items.specs.Scans.{TellsFewRows, HasFewRows, IsWithinIfScan, HasShortScan, most_numbered, key_written, keys_written}
+use Rattle.co_law_items.specs.Scans.{TellsFewRows, IsItemOfFewRows, IsWithinIfScan, HasShortScan, most_numbered, key_written, keys_written}
 use Rattle.co_law_items.proofs.Named.{all_as, IsRowOf}
 use Rattle.co_law_items.proofs.Engines.{IsReplyOf}
 use Rattle.co_law_items.proofs.Logs.{IsRecordOf}
@@ -64,9 +64,8 @@ told_is P of (item.Log mark) h few = h
 told_is P of (item.Sent note) h few = h
 told_is P of (item.Answered a) h few = answer_is P of a h few
 
-pub items_are : (P : List ℕ → Type 0) → ((key : List ℕ) → P key → IsKey key) → (items : List Item) → AllByRecursion (IsItemOf P) items → AllByRecursion HasFewRows items → AllByRecursion IsItem items
-items_are P of [] h few = tt
-items_are P of (i ∷ is) h few = ((h.0.0, told_is P of i.what h.0.1 few.0), items_are P of is h.1 few.1)
+item_is : (P : List ℕ → Type 0) → ((key : List ℕ) → P key → IsKey key) → (i : Item) → IsItemOf P i → IsItemOfFewRows i
+item_is P of i h few = (h.0, told_is P of i.what h.1 few)
 
 -- ---- keys that events write
 
@@ -186,9 +185,8 @@ module _ (ks : List (List ℕ)) (few : length ks ≤ 4294967295) where
   kind_few (item.Answered (answer.Replied (reply.Rows rows))) h = let l = rows_few ks rows h.0 h.1 in omega (arith, l, few)
   kind_few _ h = tt
 
-  items_few : (items : List Item) → AllByRecursion (IsItemOf (IsAmongKeys ks)) items → AllByRecursion HasFewRows items
-  items_few [] h = tt
-  items_few (i ∷ is) h = (kind_few i.what h.0.1, items_few is h.1)
+  few_is : (i : Item) → IsItemOf (IsAmongKeys ks) i → IsItem i
+  few_is i h = item_is (IsAmongKeys ks) (λ key k. k.0) i h (kind_few i.what h.1)
 
 -- the line of a scan is as long as its records, which are no more than the keys
 module _ (ks : List (List ℕ)) (few : length ks ≤ 4294967295) where
@@ -218,16 +216,16 @@ pub fresh_items : (head : Head) (fm fc : ℕ → Found) (events : List Event) �
 fresh_items head fm fc events fresh_m fresh_c lined few =
     let all = fresh_named head fm fc events fresh_m fresh_c lined few in
     let w = few_written events in
-    items_are (IsAmongKeys (keys_written events)) (λ key h. h.0) (run_items head fm fc events) all
-    (items_few (keys_written events) (omega (arith, w, few)) (run_items head fm fc events) all)
+    all_as (IsItemOf (IsAmongKeys (keys_written events))) IsItem (few_is (keys_written events) (omega (arith, w, few))) (run_items head fm fc events) all
 
 all_spelled : (found : ℕ → Found) → ((m : ℕ) → AllByRecursion IsSpelled (found m).records) → (m : ℕ) → AllByRecursion (IsRecordOf IsKey) (found m).records
 all_spelled found h m = all_as IsSpelled (IsRecordOf IsKey) as_record (found m).records (h m)
 
 pub found_items : (head : Head) (fm fc : ℕ → Found) (events : List Event) → ((m : ℕ) → AllByRecursion IsSpelled (fm m).records) → ((c : ℕ) → AllByRecursion IsSpelled (fc c).records) →
-    AllByRecursion (HasLine head) events → length events ≤ most_numbered → AllByRecursion HasFewRows (run_items head fm fc events) → AllByRecursion IsItem (run_items head fm fc events)
-found_items head fm fc events written_m written_c lined few rows =
-    items_are IsKey (λ key h. h) (run_items head fm fc events) (run_named IsKey head fm fc (all_spelled fm written_m) (all_spelled fc written_c) events (events_texts head events lined) few) rows
+    AllByRecursion (HasLine head) events → length events ≤ most_numbered → AllByRecursion IsItemOfFewRows (run_items head fm fc events)
+found_items head fm fc events written_m written_c lined few =
+    all_as (IsItemOf IsKey) IsItemOfFewRows (item_is IsKey (λ key h. h)) (run_items head fm fc events)
+    (run_named IsKey head fm fc (all_spelled fm written_m) (all_spelled fc written_c) events (events_texts head events lined) few)
 
 pub found_few : (head : Head) (fm fc : ℕ → Found) (events : List Event) → ((m : ℕ) → AllByRecursion IsSpelled (fm m).records) → ((c : ℕ) → AllByRecursion IsSpelled (fc c).records) →
     AllByRecursion (HasLine head) events → length (run_items head fm fc events) ≤ 26 + 19 * length events

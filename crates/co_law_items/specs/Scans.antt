@@ -7,6 +7,7 @@ use Rattle.co_message.specs.declared.event.Event.TheVariants as event
 use Rattle.co_message.specs.declared.item.Item.{Item}
 use Rattle.co_message.specs.declared.item.ItemKind.{ItemKind}
 use Rattle.co_message.specs.declared.item.ItemKind.TheVariants as item
+use Rattle.co_transcript.specs.Items.{IsItem}
 use Rattle.co_transcript.specs.Spelling.{item_text}
 
 -- the reply to a scan has no more records than a count of 32 bits tells
@@ -17,7 +18,11 @@ TellsFewRows _ = Unit {0}
 abbrev pub HasFewRows : Item → Type 0
 HasFewRows i = TellsFewRows i.what
 
--- whatever its line has to be no longer than, where it is the reply to a scan
+-- an item that has a line, unless it is the reply to a scan of more records
+abbrev pub IsItemOfFewRows : Item → Type 0
+IsItemOfFewRows i = HasFewRows i → IsItem i
+
+-- these bytes are at most so many, where they are the line of the reply to a scan
 abbrev pub IsWithinIfScan : ℕ → ItemKind → ℕ → Type 0
 IsWithinIfScan most (item.Answered (answer.Replied (reply.Rows rows))) bytes = bytes ≤ most
 IsWithinIfScan most _ bytes = Unit {0}

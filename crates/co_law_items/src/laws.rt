@@ -10,7 +10,7 @@ ghost use Rattle.co_replay.specs.Schedule.{HasLine};
 ghost use Rattle.co_replay.specs.Transcript.{run_items};
 ghost use Rattle.co_transcript.specs.Items.{IsItem};
 ghost use Rattle.co_transcript.specs.Spelling.{item_text};
-ghost use Rattle.co_law_items.specs.Scans.{HasFewRows, HasShortScan, keys_written, most_numbered};
+ghost use Rattle.co_law_items.specs.Scans.{IsItemOfFewRows, HasShortScan, keys_written, most_numbered};
 
 /// Each item of a run over logs without records has a line in a transcript: every number, key and value that it tells is in its
 /// set, whatever is lost, repeated, delayed or stopped. The events are such as have a line in a schedule, and so few that their numbers
@@ -30,8 +30,7 @@ pub fn opened_items_have_lines()
         ((m : ℕ) → AllByRecursion IsSpelled (found_member m).records) →
         ((c : ℕ) → AllByRecursion IsSpelled (found_coord c).records) →
         AllByRecursion (HasLine head) events → length events ≤ most_numbered →
-        AllByRecursion HasFewRows (run_items head found_member found_coord events) →
-        AllByRecursion IsItem (run_items head found_member found_coord events) }
+        AllByRecursion IsItemOfFewRows (run_items head found_member found_coord events) }
 {}
 
 /// A run over such logs has at most 19 items for each event, and 26 more: the head, a header for each node and the first answer. Of an event
