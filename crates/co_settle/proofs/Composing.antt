@@ -10,7 +10,7 @@ use Rattle.co_message.specs.declared.item.Item.{Item}
 use Rattle.co_message.specs.declared.item.ItemKind.{ItemKind}
 use Rattle.co_message.specs.declared.item.ItemKind.TheVariants as item
 use Rattle.co_message.specs.declared.message.Message.{Message}
-use Rattle.co_node.specs.Answers.{HomeView}
+use Rattle.co_node.specs.Answers.{HomeView, seen}
 use Rattle.co_outside.specs.Home.{File}
 use Rattle.co_outside.specs.Faults.{HasRisen}
 use Rattle.co_outside.specs.declared.spot.Spot.{Spot}
@@ -23,7 +23,7 @@ use Rattle.co_law.proofs.GoingOn.{transcript_more}
 use Rattle.co_world.specs.Served.{AreServed, HasEndedAs}
 use Rattle.co_world.specs.Standing.{RepresentsWorld}
 use Rattle.co_world.specs.declared.world.World.{World}
-use Rattle.co_settle.specs.Progress.{HasDone, IsCutIn, DoesAll, HasEnded, EndsAs}
+use Rattle.co_settle.specs.Progress.{HasDone, IsCutIn, DoesAll, HasEnded, EndsAs, IsUntoldFor}
 use Rattle.co_settle.specs.declared.counting.Steps.{Steps}
 use Rattle.co_settle.specs.declared.telling.Told.{Told}
 
@@ -91,13 +91,24 @@ ends_later w x old mid new (Err fault) s h = ended_later fault old mid new s.qui
 -- the fault of an event ends settling
 pub ended_as : (fault : WorldFault) (old new : HomeView) → (fault ≡ world.Count → ⊥) → HasEndedAs fault old new → HasEnded fault old new
 ended_as (world.Device spot) old new other h = h
-ended_as (world.Differs spot at kept read) old new other h = h
+ended_as (world.Differs spot at kept read) old new other h = h.0
 ended_as (world.InUse spot) old new other h = h
 ended_as (world.Bad spot at) old new other h = h
 ended_as (world.Full spot) old new other h = h
 ended_as world.Count old new other h = other refl
 ended_as (world.Old spot) old new other h = h
 ended_as world.Memory old new other h = h
+
+-- so what differs was not told
+pub untold_for : {H : Type 0} (file : H → Spot → Option File) (reach : H → Spot → ℕ) (faults : H → ℕ) (last_failed : H → Spot) (fault : WorldFault) (old : H) (new : HomeView) → HasEndedAs fault (seen file reach faults last_failed old) new → IsUntoldFor file fault
+untold_for file reach faults last_failed (world.Device spot) old new h = tt
+untold_for file reach faults last_failed (world.Differs spot at kept read) old new h = (old, h.1)
+untold_for file reach faults last_failed (world.InUse spot) old new h = tt
+untold_for file reach faults last_failed (world.Bad spot at) old new h = tt
+untold_for file reach faults last_failed (world.Full spot) old new h = tt
+untold_for file reach faults last_failed world.Count old new h = tt
+untold_for file reach faults last_failed (world.Old spot) old new h = tt
+untold_for file reach faults last_failed world.Memory old new h = tt
 
 -- ---- one event
 

@@ -1,5 +1,5 @@
 -- How far settling came, and what a fault leaves in the files.
-use Rattle.std.specs.Prelude.{suc, ◌≡◌, ◌+◌, ◌⊎◌, List, [], ◌∷◌, ◌++◌, length, Option, Result, Ok, Err}
+use Rattle.std.specs.Prelude.{suc, ◌≡◌, ◌+◌, ◌⊎◌, List, [], ◌∷◌, ◌++◌, length, Option, None, Result, Ok, Err}
 use Rattle.co_base.specs.declared.head.Kind.{Kind}
 use Rattle.co_durable.specs.declared.fault.WorldFault.{WorldFault}
 use Rattle.co_durable.specs.declared.fault.WorldFault.TheVariants as world
@@ -47,6 +47,11 @@ HasEnded (world.Full spot) old new = new.faults ≡ old.faults
 HasEnded world.Count old new = ⊥
 HasEnded (world.Old spot) old new = ⊥
 HasEnded world.Memory old new = new.faults ≡ old.faults
+
+-- where a file differs from what is kept of it, the directory did not tell it when it was read again
+abbrev pub IsUntoldFor : {H : Type 0} → (H → Spot → Option File) → WorldFault → Type 0
+IsUntoldFor {H = H} file (world.Differs spot at kept read) = (home : H) × (file home spot ≡ None)
+IsUntoldFor file _ = Unit {0}
 
 -- how a call leaves the directory, by its answer
 abbrev pub EndsAs : {A E : Type 0} → World E → HomeView → HomeView → Result A WorldFault → Type 0

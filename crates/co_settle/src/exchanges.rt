@@ -1,5 +1,5 @@
 //! An exchange: its first event, and the messages that it then delivers.
-ghost use Rattle.std.specs.Prelude.{◌≡◌, ◌<◌, true, length};
+ghost use Rattle.std.specs.Prelude.{IfErr, ◌≡◌, ◌<◌, true, length};
 ghost use Rattle.co_node.specs.Answers.{seen};
 ghost use Rattle.co_plain.specs.Federation.{Federation};
 ghost use Rattle.co_plain.specs.Quiet.{IsEnabled};
@@ -7,7 +7,7 @@ ghost use Rattle.co_world.specs.Readings.{exchange_as, exchange_of};
 ghost use Rattle.co_world.specs.Standing.{RepresentsWorld, AreHeld};
 ghost use Rattle.co_law_settle.specs.SettlingTurns.{Exchanges, turn_events, first_event};
 ghost use Rattle.co_settle.specs.Notes.{first_want, next_want, next_note, passed, MayPass};
-ghost use Rattle.co_settle.specs.Progress.{DoesAll, EndsAs};
+ghost use Rattle.co_settle.specs.Progress.{DoesAll, EndsAs, IsUntoldFor};
 ghost use Rattle.co_settle.specs.Reached.{IsReached};
 
 use crate::counting::Steps;
@@ -74,6 +74,7 @@ fn pass_on<E: Engine + Drop, H: Home>(
     ensures did { (s : Federation) → RepresentsWorld E.takes E.stands_for world.old s → IsReached s →
         DoesAll E.takes E.stands_for s (passed sent) told.old told.new steps.old steps.new world.new (H.file home.new) (λ note. note ≡ next_note want member s sent) result }
     ensures ended { EndsAs world.new (seen H.file H.reach H.faults H.last_failed home.old) (seen H.file H.reach H.faults H.last_failed home.new) result }
+    ensures untold { IfErr result (IsUntoldFor H.file) }
     ensures entered { H.entered home.new ≡ H.entered home.old }
 {
     match sent {
@@ -100,6 +101,7 @@ pub(crate) fn do_exchange<E: Engine + Drop, H: Home>(
     ensures did { (s : Federation) → RepresentsWorld E.takes E.stands_for world.old s → IsReached s → IsEnabled s (exchange_of exchange) →
         DoesAll E.takes E.stands_for s (turn_events s (Exchanges (exchange_of exchange))) told.old told.new steps.old steps.new world.new (H.file home.new) (λ u. Unit {0}) result }
     ensures ended { EndsAs world.new (seen H.file H.reach H.faults H.last_failed home.old) (seen H.file H.reach H.faults H.last_failed home.new) result }
+    ensures untold { IfErr result (IsUntoldFor H.file) }
     ensures entered { H.entered home.new ≡ H.entered home.old }
 {
     let Exchange {

@@ -1,10 +1,10 @@
 //! What is open is brought to its end.
-ghost use Rattle.std.specs.Prelude.{◌≡◌, ◌≤◌};
+ghost use Rattle.std.specs.Prelude.{IfErr, ◌≡◌, ◌≤◌};
 ghost use Rattle.co_node.specs.Answers.{seen};
 ghost use Rattle.co_plain.specs.Federation.{Federation};
 ghost use Rattle.co_plain.specs.Quiet.{open_count};
 ghost use Rattle.co_world.specs.Standing.{RepresentsWorld, AreHeld};
-ghost use Rattle.co_settle.specs.Progress.{EndsAs};
+ghost use Rattle.co_settle.specs.Progress.{EndsAs, IsUntoldFor};
 ghost use Rattle.co_settle.specs.Reached.{IsReached};
 ghost use Rattle.co_settle.specs.Settled.{SettlesAs};
 
@@ -44,6 +44,7 @@ pub fn settle<E: Engine + Drop, H: Home>(
     ensures settled { (s : Federation) → RepresentsWorld E.takes E.stands_for world.old s → IsReached s → open_count s ≤ 65536 →
         SettlesAs E.takes E.stands_for s number steps.old.count world.new steps.new.count (H.file home.new) result }
     ensures ended { EndsAs world.new (seen H.file H.reach H.faults H.last_failed home.old) (seen H.file H.reach H.faults H.last_failed home.new) result }
+    ensures untold { IfErr result (IsUntoldFor H.file) }
     ensures entered { H.entered home.new ≡ H.entered home.old }
 {
     world.disarm();

@@ -1,5 +1,5 @@
 //! One event of settling: it is done, told and counted.
-ghost use Rattle.std.specs.Prelude.{◌≡◌, ◌<◌, ◌+◌, ◌++◌, ◌∷◌, [], length, OnOk};
+ghost use Rattle.std.specs.Prelude.{IfErr, ◌≡◌, ◌<◌, ◌+◌, ◌++◌, ◌∷◌, [], length, OnOk};
 ghost use Rattle.co_message.specs.declared.item.ItemKind.TheVariants as item;
 ghost use Rattle.co_node.specs.Answers.{seen};
 ghost use Rattle.co_plain.specs.Federation.{Federation};
@@ -12,7 +12,7 @@ ghost use Rattle.co_world.specs.Counting.{MeetsLimit};
 ghost use Rattle.co_world.specs.Standing.{RepresentsWorld, AreHeld};
 ghost use Rattle.co_law_settle.specs.SettlingTurns.{note_in};
 ghost use Rattle.co_settle.specs.Notes.{wanted_by};
-ghost use Rattle.co_settle.specs.Progress.{DoesAll, EndsAs};
+ghost use Rattle.co_settle.specs.Progress.{DoesAll, EndsAs, IsUntoldFor};
 
 use crate::counting::Steps;
 use crate::notes::{Want, first_wanted};
@@ -75,6 +75,7 @@ pub(crate) fn take_step<E: Engine + Drop, H: Home>(
     ensures did { (s : Federation) → RepresentsWorld E.takes E.stands_for world.old s → IsReady s →
         DoesAll E.takes E.stands_for s (event ∷ []) told.old told.new steps.old steps.new world.new (H.file home.new) (λ note. note ≡ note_in (wanted_by want member) (step_line s event).items) result }
     ensures ended { EndsAs world.new (seen H.file H.reach H.faults H.last_failed home.old) (seen H.file H.reach H.faults H.last_failed home.new) result }
+    ensures untold { IfErr result (IsUntoldFor H.file) }
     ensures entered { H.entered home.new ≡ H.entered home.old }
 {
     match world.step(home, told.number + 1, &event) {

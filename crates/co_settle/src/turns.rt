@@ -1,10 +1,10 @@
 //! One turn of settling: a restart, an exchange or a timer.
-ghost use Rattle.std.specs.Prelude.{◌≡◌, ◌<◌};
+ghost use Rattle.std.specs.Prelude.{IfErr, ◌≡◌, ◌<◌};
 ghost use Rattle.co_node.specs.Answers.{seen};
 ghost use Rattle.co_plain.specs.Federation.{Federation};
 ghost use Rattle.co_world.specs.Standing.{RepresentsWorld, AreHeld};
 ghost use Rattle.co_law_settle.specs.SettlingTurns.{SomethingOpen};
-ghost use Rattle.co_settle.specs.Progress.{EndsAs};
+ghost use Rattle.co_settle.specs.Progress.{EndsAs, IsUntoldFor};
 ghost use Rattle.co_settle.specs.Reached.{IsReached};
 ghost use Rattle.co_settle.specs.Turning.{TakesTurn};
 
@@ -32,6 +32,7 @@ pub(crate) fn take_turn<E: Engine + Drop, H: Home>(
     ensures did { (s : Federation) → RepresentsWorld E.takes E.stands_for world.old s → IsReached s →
         TakesTurn E.takes E.stands_for s told.old told.new steps.old steps.new world.new (H.file home.new) result }
     ensures ended { EndsAs world.new (seen H.file H.reach H.faults H.last_failed home.old) (seen H.file H.reach H.faults H.last_failed home.new) result }
+    ensures untold { IfErr result (IsUntoldFor H.file) }
     ensures entered { H.entered home.new ≡ H.entered home.old }
 {
     if let Some(node) = world.first_down() {

@@ -63,8 +63,8 @@ module _ (head : Head) (fm fc : ℕ → Found) (may : MayRun head.kinds head.coo
     pub whole_after : AreWhole (length head.kinds) head.coords (run hs s0)
     whole_after = are_whole head.kinds head.coords fm fc hs head.some_coord may.own may.members_allowed may.coords_allowed own
 
-    writable : AreWritable (length head.kinds) head.coords (run hs s0)
-    writable =
+    pub writable_after : AreWritable (length head.kinds) head.coords (run hs s0)
+    writable_after =
         are_writable head.kinds head.coords fm fc hs head.some_coord head.coordinators head.members may.own may.members_allowed may.coords_allowed may.members_within
         may.coords_within own
 
@@ -77,7 +77,7 @@ module _ (head : Head) (fm fc : ℕ → Found) (may : MayRun head.kinds head.coo
       record {
         ready = record {
           whole = subst (λ ks. AreWhole (length ks) z.coordinators z) (sym f.kinds) (subst (λ c. AreWhole (length head.kinds) c z) (sym f.coordinators) (whole_after (lines events) own));
-          writable = subst (λ ks. AreWritable (length ks) z.coordinators z) (sym f.kinds) (subst (λ c. AreWritable (length head.kinds) c z) (sym f.coordinators) (writable (lines events) own));
+          writable = subst (λ ks. AreWritable (length ks) z.coordinators z) (sym f.kinds) (subst (λ c. AreWritable (length head.kinds) c z) (sym f.coordinators) (writable_after (lines events) own));
         };
         kinds = f.kinds;
         coordinators = f.coordinators;

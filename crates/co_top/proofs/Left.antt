@@ -39,7 +39,8 @@ use Rattle.co_law.proofs.GoingOn.{lines_true}
 use Rattle.co_world.specs.Left.{AreLeftAs}
 use Rattle.co_top.specs.Front.{IsNext}
 use Rattle.co_top.specs.Ran.{Ran, start_of, end_of, AreLeftAfter, AreLeftBy, AreLeftByFault}
-use Rattle.co_top.proofs.Laws.{all_own, fit_after, whole_after, openable}
+use Rattle.co_top.proofs.Again.{may_again}
+use Rattle.co_top.proofs.Laws.{all_own, fit_after, whole_after, writable_after, openable}
 use Rattle.co_top.proofs.Lists.{or_last}
 use Rattle.co_top.proofs.LeftRecords.{Gathered, gather, same_decided, same_rows}
 
@@ -151,6 +152,12 @@ module _ {resume : Bool} {input : List ℕ} {old : Spot → Option File} (r : Ra
             (serial_records (start_of r) (run hs (start_of r)).decided)
             (every_log r.head.kinds r.head.coords r.found_member r.found_coord hs (openable r sound) (plain.handless (start_of r)));
         sound_logs = λ sound. every_sound r.head.kinds r.head.coords r.found_member r.found_coord hs (openable r sound) (plain.handless (start_of r));
+        may_resume = λ told.
+            let s = run hs (start_of r) in
+            let both = split_told file (member_nodes members) (coord_nodes r.head.coords) told in
+            may_again file r.head.kinds r.head.coords s (whole_after r.head r.found_member r.found_coord r.may hs plain.own) (writable_after r.head r.found_member r.found_coord r.may hs plain.own)
+            (λ m between. left.member m between.0 (omega (arith, between.1, ap length f.kinds)) (told_at file node.Member members m both.0 between))
+            (λ c between. left.coord c between.0 (omega (arith, between.1, f.coordinators)) (told_at file node.Coord r.head.coords c both.1 between));
       }
 
   pub left_by : AreLeftAs file (end_of r) → AreLeftBy r file

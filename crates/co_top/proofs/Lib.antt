@@ -2,6 +2,7 @@ pub mod Recording
 pub mod Lists
 pub mod Laws
 pub mod LeftRecords
+pub mod Again
 pub mod Left
 pub mod Ending
 pub mod Plays

@@ -265,7 +265,7 @@ untold takes stands_for s number e held old new w world.Memory h left before met
 -- how the directory ended
 pub ended_as : (old new : HomeView) (fault : WorldFault) → HasEndedAs fault old new → HasEnded old new (Err (of_world fault))
 ended_as old new (world.Device spot) h = h
-ended_as old new (world.Differs spot place kept got) h = h
+ended_as old new (world.Differs spot place kept got) h = h.0
 ended_as old new (world.InUse spot) h = absurd h
 ended_as old new (world.Bad spot place) h = absurd h
 ended_as old new (world.Full spot) h = h

@@ -67,13 +67,18 @@ pub record KeepsPromises {resume : Bool} {input : List ℕ} {file : Spot → Opt
   pub agreement : MembersAgree (start_of r) (lines r.events)
   pub ordered : IsCommitmentOrdered r.head.kinds (map (λ i. i.what) (transcript 2 r.events (start_of r)))
 
--- What a directory that tells its files has after happenings of this run: what they left in the logs. Where the logs were fresh or sound, the files alone give the
--- records of the serial run in the order of decisions, and they are sound again.
+-- what the files tell of the nodes of a head is such as may be run, so that a resumed run is refused for none of their records
+abbrev pub MayBeResumed : (Spot → Option File) → Head → Type 0
+MayBeResumed file head = (found_member found_coord : ℕ → Found) × AreFound file (length head.kinds) head.coords found_member found_coord × MayRun head.kinds head.coords found_member found_coord
+
+-- What a directory that tells its files has after happenings of this run: what they left in the logs, and it may be run again. Where the logs were fresh or sound, the
+-- files alone give the records of the serial run in the order of decisions, and they are sound again.
 pub record AreLeftAfter {resume : Bool} {input : List ℕ} {old : Spot → Option File} (r : Ran resume input old) (happened : List Happening) (file : Spot → Option File) : Type 0 where
   pub left : AreLeftAs file (run happened (start_of r))
   pub logs_alone : IsSoundlyFound r → files.AreTold file (length r.head.kinds) r.head.coords →
       IsDurable file (length r.head.kinds) r.head.coords (numbered_rows (serial_records (start_of r) (run happened (start_of r)).decided) 1 (length r.head.kinds))
   pub sound_logs : IsSoundlyFound r → LogsStaySound (start_of r) happened
+  pub may_resume : files.AreTold file (length r.head.kinds) r.head.coords → MayBeResumed file r.head
 
 -- the files that a run left
 abbrev pub AreLeftBy : {resume : Bool} {input : List ℕ} {old : Spot → Option File} → Ran resume input old → (Spot → Option File) → Type 0

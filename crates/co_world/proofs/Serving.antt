@@ -9,6 +9,8 @@ use Rattle.co_frame.specs.LogText.{most_log_bytes}
 use Rattle.co_log.specs.Attaching.{IsWithin}
 use Rattle.co_log.specs.LogView.{LogView, IsHeld, HasSpots, spot_of}
 use Rattle.co_log.specs.Others.{OtherFilesStay, OtherNodesStay}
+use Rattle.co_log.specs.Rereading.{IsOfReattach}
+use Rattle.co_log.specs.declared.fault.LogFault.TheVariants as log_fault
 use Rattle.co_log.specs.declared.fault.NodeFault.{NodeFault}
 use Rattle.co_log.specs.declared.fault.NodeFault.TheVariants.{Device, Differs, Full, Memory}
 use Rattle.co_node.specs.Answers.{HomeView, seen, IsAnswered}
@@ -205,10 +207,14 @@ module _ {H : Type 0} (gives : H → Spot → ℕ → List ℕ → Type 0) (file
         quiet = quiet;
       }
 
+  named_untold : (spot : Spot) (at : ℕ) (kept read : Option ℕ) → IsOfReattach gives file reach entered faults log old (log_fault.Differs spot at kept read) → file old spot ≡ None
+  named_untold spot at kept read (inl of) = ap (file old) of.0 ∙ of.1.2.untold
+  named_untold spot at kept read (inr of) = ap (file old) of.fault.0 ∙ of.fault.1.2.untold
+
   reread_ended : (r : Result (Unit {0}) NodeFault) → IsReread gives file reach entered faults last_failed log old new r → IfErr r (λ fault. HasFailedAs fault (seen file reach faults last_failed old) (seen file reach faults last_failed new))
   reread_ended (Ok done) reread = tt
   reread_ended (Err (Device spot)) reread = (reread.1.count, reread.1.named)
-  reread_ended (Err (Differs spot at kept read)) reread = reread.1
+  reread_ended (Err (Differs spot at kept read)) reread = (reread.1, named_untold spot at kept read reread.0)
   reread_ended (Err (Full spot)) reread = absurd reread
   reread_ended (Err Memory) reread = reread
 

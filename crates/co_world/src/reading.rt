@@ -1,10 +1,10 @@
 //! What a federation tells of its nodes.
-ghost use Rattle.std.specs.Prelude.{◌≡◌, ◌≤◌, ◌-◌, true, length, MatchOption};
+ghost use Rattle.std.specs.Prelude.{◌≡◌, ◌≤◌, ◌-◌, true, length, reverse, MatchOption};
 ghost use Rattle.co_opening.specs.Nodes.{IsMemberAt, IsCoordAt};
 ghost use Rattle.co_member.specs.Reading.{phase_of};
 ghost use Rattle.co_plain.specs.Federation.{Federation};
 ghost use Rattle.co_plain.specs.MemberStep.{standing_of};
-ghost use Rattle.co_session.specs.Clients.{carried_of};
+ghost use Rattle.co_session.specs.Clients.{carried_of, told_of};
 ghost use Rattle.co_state.specs.Table.{look};
 ghost use Rattle.co_plain.specs.Quiet.{node_up};
 ghost use Rattle.co_plain.specs.Settling.{IsFirstDown};
@@ -17,6 +17,7 @@ use co_base::{Node, Txn};
 use co_coord::Coord;
 use co_engine::Engine;
 use co_member::Member;
+use co_plain::Told;
 use co_vote::Phase;
 
 impl<E: Engine + Drop> World<E> {
@@ -97,5 +98,13 @@ impl<E: Engine + Drop> World<E> {
         ensures { (s : Federation) → RepresentsWorld E.takes E.stands_for self.now s → result ≡ carried_of (look s.sessions t) member }
     {
         self.sessions.carried(t, member)
+    }
+
+    /// The operations of a transaction that were answered in this run, each with its reply, the first one first; none where it was not begun in
+    /// it. Takes no memory.
+    pub fn told(&self, t: Txn) -> &[Told]
+        ensures { (s : Federation) → RepresentsWorld E.takes E.stands_for self.now s → result.now ≡ reverse (told_of (look s.sessions t)) }
+    {
+        self.sessions.told(t)
     }
 }

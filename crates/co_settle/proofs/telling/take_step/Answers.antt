@@ -9,8 +9,8 @@ use Rattle.co_plain.specs.Step.{step_line}
 use Rattle.co_law_settle.specs.SettlingTurns.{note_in}
 use Rattle.co_world.proofs.Lefts.{held_left}
 use Rattle.co_settle.specs.Notes.{wanted_by}
-use Rattle.co_settle.specs.Progress.{HasEnded}
-use Rattle.co_settle.proofs.Composing.{cut_as, ended_as, one_told, told_notes}
+use Rattle.co_settle.specs.Progress.{HasEnded, IsUntoldFor}
+use Rattle.co_settle.proofs.Composing.{cut_as, ended_as, untold_for, one_told, told_notes}
 use Rattle.co_settle.proofs.telling.take_step.Goals as goal
 
 pub returns-in_err-tell-in-Ok-clause-did : goal.returns-in_err-tell-in-Ok-clause-did
@@ -43,3 +43,8 @@ returns-in-Err-clause-ended g c =
     let new = seen g.H.Home.file g.H.Home.reach g.H.Home.faults g.H.Home.last_failed c.step.new.home in
     subst (λ (f : WorldFault). HasEnded f old new) (sym c.undone.ensures)
     (ended_as c.in-Err.fault old new (λ e. c.requires.limit c.args.world.now.sessions (c.in-Err.ensures.count.0 (ap Err e))) c.in-Err.ensures.ended)
+
+pub returns-in-Err-clause-untold : goal.returns-in-Err-clause-untold
+returns-in-Err-clause-untold g c =
+    subst (λ (f : WorldFault). IsUntoldFor g.H.Home.file f) (sym c.undone.ensures)
+    (untold_for g.H.Home.file g.H.Home.reach g.H.Home.faults g.H.Home.last_failed c.in-Err.fault c.args.home.now (seen g.H.Home.file g.H.Home.reach g.H.Home.faults g.H.Home.last_failed c.step.new.home) c.in-Err.ensures.ended)
