@@ -8,3 +8,4 @@ pub mod Ending
 pub mod Plays
 pub mod Reading
 pub mod Judging
+pub mod Completing

@@ -1,5 +1,6 @@
 -- One line of a schedule is read, or none is there.
 use Rattle.std.proofs.Common.{◌≡◌, ℕ, suc, ◌+◌, ◌<◌, Bool, true, false, nat_lt, if◌then◌else◌, List, [], ◌∷◌, length, Option, None, Some, Result, Ok, Err, refl, sym, ap, ◌∙◌, subst}
+use Rattle.std.proofs.lemmas.Bool.{lt-ltb}
 use Rattle.co_base.specs.declared.head.Head.{Head}
 use Rattle.co_message.specs.declared.event.Event.{Event}
 use Rattle.co_replay.specs.Schedule.{IsOutside, IsFaultOf}
@@ -29,6 +30,19 @@ first_cut lent first line false long e = absurd (let z : Err lines.Many ≡ Ok (
 pub next_is_first : (bytes many lent : ℕ) (left line : List ℕ) → next_line bytes many lent left ≡ Ok (Some line) → line ≡ first_line left
 next_is_first bytes many lent [] line e = absurd (let z : Ok None ≡ Ok (Some line) = e in cc)
 next_is_first bytes many lent (b ∷ bs) line e = first_cut lent (first_line (b ∷ bs)) line (nat_lt lent many) (nat_lt bytes (length (first_line (b ∷ bs)))) e
+
+short_cut : (bytes lent : ℕ) (first line : List ℕ) (few : Bool) → cut lent first few (nat_lt bytes (length first)) ≡ Ok (Some line) → bytes < length first → ⊥
+short_cut bytes lent first line few e long = by few (nat_lt bytes (length first)) (lt-ltb bytes (length first) long) e
+  where
+    by : (a b : Bool) → b ≡ true → cut lent first a b ≡ Ok (Some line) → ⊥
+    by true true t e = let z : Err (lines.Long (lent + 1)) ≡ Ok (Some line) = e in cc
+    by true false t e = let z : false ≡ true = t in cc
+    by false b t e = let z : Err lines.Many ≡ Ok (Some line) = e in cc
+
+-- and it is not long
+pub short_first : (bytes many lent : ℕ) (left line : List ℕ) → next_line bytes many lent left ≡ Ok (Some line) → bytes < length (first_line left) → ⊥
+short_first bytes many lent [] line e long = let z : Ok None ≡ Ok (Some line) = e in cc
+short_first bytes many lent (b ∷ bs) line e long = short_cut bytes lent (first_line (b ∷ bs)) line (nat_lt lent many) e long
 
 none_cut : (lent : ℕ) (first : List ℕ) (few long : Bool) → cut lent first few long ≡ Ok None → ⊥
 none_cut lent first true true e = let z : Err (lines.Long (lent + 1)) ≡ Ok None = e in cc
@@ -67,12 +81,16 @@ no_head text next = (refl, refl, λ head e. let z : [] ≡ head_text head = ap f
 
 -- ---- a line behind the head
 
+-- where a line is next, something is left
+no_more : (lent : ℕ) (text line : List ℕ) → text ≡ [] → next_line longest_line most lent text ≡ Ok (Some line) → ⊥
+no_more lent text line none next = let z : Ok None ≡ Ok (Some line) = sym (ap (next_line longest_line most lent) none) ∙ next in cc
+
 pub event_reads : (head : Head) (count number : ℕ) (text line : List ℕ) (ahead : Option (List ℕ)) (o : Result Event Status) → number ≡ count + 2 → next_line longest_line most (suc count) text ≡ Ok (Some line) →
     ahead ≡ Some (behind_line text) → IsEventIn head number line o → IsEventRead head count text ahead (some_of o)
 event_reads head count number text line ahead (Ok event) n next behind h = (behind_line text, (next ∙ ap (λ l. Ok (Some l)) h.1, refl), behind)
 event_reads head count number text line ahead (Err (status.Schedule at what)) n next behind h =
     let first = next_is_first longest_line most (suc count) text line next in
-    (h.0 ∙ n, (h.1.0, h.1.1, subst (IsOutside head) first h.1.2, subst (λ l. IsFaultOf head l h.1.0) first h.1.3))
+    (h.0 ∙ n, (λ none. no_more (suc count) text line none next), (h.1.0, h.1.1, subst (IsOutside head) first h.1.2, subst (λ l. IsFaultOf head l h.1.0) first h.1.3))
 event_reads head count number text line ahead (Err (status.Limit (limit.Line at))) n next behind h =
     (h.0 ∙ n, subst (λ l. longest_line < length l) (next_is_first longest_line most (suc count) text line next) h.1)
 event_reads head count number text line ahead (Err status.Memory) n next behind h = tt

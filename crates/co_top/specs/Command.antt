@@ -1,10 +1,12 @@
 -- The words of the command line: a command, and mostly the name of a directory, and whether a run is resumed.
-use Rattle.std.specs.Prelude.{ℕ, Bool, true, false, not, ◌==◌, ◌≡◌, ◌&&◌, ◌||◌, nat_eq, List, [], ◌∷◌, codes, if◌then◌else◌}
+use Rattle.std.specs.Prelude.{ℕ, Bool, true, false, not, ◌==◌, ◌≡◌, ◌&&◌, ◌||◌, nat_eq, List, [], ◌∷◌, codes, if◌then◌else◌, Option, None, Some}
 use Rattle.std.specs.Cmp.Lexicographic.{pointwise}
 use Rattle.std.specs.declared.string.String.{String}
+use Rattle.std.specs.Str.Parse.{digits_value}
 use Rattle.std.specs.String.{string_bytes}
+use Rattle.co_schedule.specs.Places.{is_number}
 use Rattle.co_top.specs.declared.words.Command.{Command}
-use Rattle.co_top.specs.declared.words.Command.TheVariants.{Run, Records, Check, Unknown}
+use Rattle.co_top.specs.declared.words.Command.TheVariants.{Run, Records, Check, Trial, Unknown}
 
 -- at least one byte, and the first one is no dash
 abbrev pub is_directory : List ℕ → Bool
@@ -39,8 +41,23 @@ abbrev pub is_check : {A : Type 0} → List (String A) → Bool
 is_check (word ∷ []) = is_word (codes "check") word
 is_check _ = false
 
+-- `trial`, a number of 64 bits, and how many events, from 1 to 60,000
+abbrev pub is_trial : {A : Type 0} → List (String A) → Bool
+is_trial (word ∷ number ∷ events ∷ []) =
+    is_word (codes "trial") word && (is_number 0 18446744073709551615 (string_bytes number) && is_number 1 60000 (string_bytes events))
+is_trial _ = false
+
+-- what its digits are worth
+abbrev pub trial_number : {A : Type 0} → List (String A) → ℕ
+trial_number (word ∷ number ∷ words) = digits_value 10 (string_bytes number)
+trial_number _ = 0
+
+abbrev pub trial_events : {A : Type 0} → List (String A) → ℕ
+trial_events (word ∷ number ∷ events ∷ words) = digits_value 10 (string_bytes events)
+trial_events _ = 0
+
 abbrev pub is_command : {A : Type 0} → List (String A) → Bool
-is_command words = is_run words || (is_records words || is_check words)
+is_command words = is_run words || (is_records words || (is_check words || is_trial words))
 
 -- the word that names the directory
 abbrev pub directory_of : {A : Type 0} → List (String A) → List ℕ
@@ -49,9 +66,24 @@ directory_of (word ∷ []) = []
 directory_of (word ∷ directory ∷ []) = string_bytes directory
 directory_of (word ∷ first ∷ second ∷ words) = if is_word (codes "--resume") first then string_bytes second else string_bytes first
 
+-- the words are this one of the commands alone
+pub record IsOne {A : Type 0} (words : List (String A)) (run records check trial : Bool) : Type 0 where
+  pub as_run : is_run words ≡ run
+  pub as_records : is_records words ≡ records
+  pub as_check : is_check words ≡ check
+  pub as_trial : is_trial words ≡ trial
+
 -- the command that the words are
 abbrev pub IsCommand : {A : Type 0} → List (String A) → Command → Type 0
-IsCommand words (Run directory resume) = (is_run words ≡ true) × (is_records words ≡ false) × (directory.now ≡ directory_of words) × (resume ≡ resumes words) × (is_check words ≡ false)
-IsCommand words (Records directory) = (is_run words ≡ false) × (is_records words ≡ true) × (directory.now ≡ directory_of words) × (is_check words ≡ false)
-IsCommand words Check = (is_run words ≡ false) × (is_records words ≡ false) × (is_check words ≡ true)
-IsCommand words Unknown = (is_run words ≡ false) × (is_records words ≡ false) × (is_check words ≡ false)
+IsCommand words (Run directory resume) = IsOne words true false false false × (directory.now ≡ directory_of words) × (resume ≡ resumes words)
+IsCommand words (Records directory) = IsOne words false true false false × (directory.now ≡ directory_of words)
+IsCommand words Check = IsOne words false false true false
+IsCommand words (Trial number events) = IsOne words false false false true × (number ≡ trial_number words) × (events ≡ trial_events words)
+IsCommand words Unknown = IsOne words false false false false
+
+-- these two words are the number and the events of a trial, or not
+abbrev pub IsTrialOf : {A : Type 0} → String A → String A → Option Command → Type 0
+IsTrialOf number events None = (is_number 0 18446744073709551615 (string_bytes number) && is_number 1 60000 (string_bytes events)) ≡ false
+IsTrialOf number events (Some (Trial n many)) =
+    ((is_number 0 18446744073709551615 (string_bytes number) && is_number 1 60000 (string_bytes events)) ≡ true) × (n ≡ digits_value 10 (string_bytes number)) × (many ≡ digits_value 10 (string_bytes events))
+IsTrialOf number events (Some _) = ⊥

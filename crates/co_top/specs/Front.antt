@@ -1,5 +1,5 @@
 -- The front of a schedule: its head, and the events of the lines behind it that were read.
-use Rattle.std.specs.Prelude.{ℕ, suc, ◌+◌, ◌≡◌, ◌<◌, ◌≤◌, List, [], ◌∷◌, ◌++◌, length, Option, None, Some, Ok, Err}
+use Rattle.std.specs.Prelude.{ℕ, suc, ◌+◌, ◌≡◌, ◌≢◌, ◌<◌, ◌≤◌, List, [], ◌∷◌, ◌++◌, length, Option, None, Some, Ok, Err}
 use Rattle.co_base.specs.declared.head.Head.{Head}
 use Rattle.co_message.specs.declared.event.Event.{Event}
 use Rattle.co_replay.specs.Schedule.{HasLine, IsOutside, IsFaultOf}
@@ -48,7 +48,7 @@ IsHeadFault text _ = ⊥
 -- Why the line behind so many events gave none: it is the line of no event, with this as its first fault from the left; it is long; or it is one
 -- line too many. The source and the memory fail by themselves.
 abbrev pub IsLineFault : Head → ℕ → List ℕ → Status → Type 0
-IsLineFault head count left (status.Schedule line what) = (line ≡ count + 2) × ((why : LineFault) × (of_line line why ≡ status.Schedule line what) × IsOutside head (first_line left) × IsFaultOf head (first_line left) why)
+IsLineFault head count left (status.Schedule line what) = (line ≡ count + 2) × (left ≢ []) × ((why : LineFault) × (of_line line why ≡ status.Schedule line what) × IsOutside head (first_line left) × IsFaultOf head (first_line left) why)
 IsLineFault head count left (status.Limit (limit.Line line)) = (line ≡ count + 2) × (longest_line < length (first_line left))
 IsLineFault head count left (status.Limit limit.Lines) = next_line longest_line most (suc count) left ≡ Err lines.Many
 IsLineFault head count left status.Read = Unit {0}

@@ -8,3 +8,4 @@ pub mod Ran
 pub mod Replayed
 pub mod Records
 pub mod Checking
+pub mod Complete

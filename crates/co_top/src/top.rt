@@ -1,10 +1,11 @@
 //! The top call.
-ghost use Rattle.std.specs.Prelude.{◌≡◌, ◌↔◌, ℕ, List, Some, true, false};
+ghost use Rattle.std.specs.Prelude.{◌≡◌, ◌↔◌, ◌⊎◌, ℕ, List, Some, true, false};
 ghost use Rattle.co_outside.specs.declared.spot.Spot.{Spot};
 ghost use Rattle.co_outside.specs.Faults.{HasRisen};
 ghost use Rattle.co_disk.specs.Homes.{HasFailed, IsClean};
 ghost use Rattle.co_durable.specs.Told.{AreTold};
 ghost use Rattle.co_top.specs.Checking.{IsCheckEnd, IsExactCheck};
+ghost use Rattle.co_top.specs.Complete.{IsUnhindered};
 ghost use Rattle.co_top.specs.Command.{is_run, is_records, is_check, is_command, resumes, directory_of};
 ghost use Rattle.co_top.specs.Ends.{IsNoted, note_of};
 ghost use Rattle.co_top.specs.Ran.{IsRunEnd};
@@ -64,6 +65,9 @@ pub fn run<S: Source, K: Sink, N: Sink, H: Home>(
     ensures quiet_home { ((spot : Spot) → result ≡ Status.Device spot → ⊥) → H.faults home.new ≡ H.faults home.old }
     ensures run { (input held : List ℕ) → is_run words.now ≡ true → S.left source.old ≡ Some input → K.told out.old ≡ Some held →
         IsRunEnd (resumes words.now) input (S.left source.new) held (H.file home.old) (H.file home.new) (K.told out.new) result }
+    ensures complete { (input held : List ℕ) → is_run words.now ≡ true → S.left source.old ≡ Some input → K.told out.old ≡ Some held →
+        IsUnhindered (resumes words.now) input (H.file home.old) (S.faults source.old) (S.faults source.new) (K.faults out.old) (K.faults out.new) (H.faults home.old) (H.faults home.new) result →
+        (result ≡ Status.Done) ⊎ (result ≡ Status.Memory) }
     ensures causes { is_records words.now ≡ true → HasCause (H.file home.old) result }
     ensures exact { is_records words.now ≡ true → AreTold (H.file home.old) 16 8 → IsExact (H.file home.old) result }
     ensures durable { (held : List ℕ) → is_records words.now ≡ true → K.told out.old ≡ Some held → HoldsRecords (H.file home.old) held (K.told out.new) result }

@@ -1,6 +1,11 @@
 //! The words of the command line.
 ghost use Rattle.std.specs.Prelude.{◌≡◌, ◌∷◌, [], true};
-ghost use Rattle.co_top.specs.Command.{IsCommand, is_directory, is_word};
+ghost use Rattle.co_top.specs.Command.{IsCommand, IsTrialOf, is_directory, is_word};
+
+use co_schedule::long_number_within;
+
+/// The most events of a trial.
+const MOST_EVENTS: u64 = 60_000;
 
 /// What the words of the command line ask for.
 #[derive(Clone, Copy, PartialEq, Eq)]
@@ -19,6 +24,13 @@ pub(crate) enum Command<'a> {
     },
     /// The transcript of the source is judged.
     Check,
+    /// A trial is run.
+    Trial {
+        /// The number that its schedule is made from.
+        number: u64,
+        /// How many events the schedule has, 1 to 60,000.
+        events: u32,
+    },
     /// Nothing that is a command.
     Unknown,
 }
@@ -71,10 +83,25 @@ fn of_two<'a>(command: &String, directory: &'a String) -> Command<'a>
     Command::Unknown
 }
 
-/// A command of three words: a run that is resumed, with the name of a directory before the word for that or behind it.
+/// A trial, where these are its number and the number of its events.
+fn trial_of<'a>(number: &String, events: &String) -> Option<Command<'a>>
+    ensures { IsTrialOf number.now events.now result }
+{
+    let number = long_number_within(number.as_bytes(), 0, u64::MAX)?;
+    let events = long_number_within(events.as_bytes(), 1, MOST_EVENTS)?;
+    Some(Command::Trial {
+        number,
+        events: events as u32,
+    })
+}
+
+/// A command of three words: a trial, or a run that is resumed, with the name of a directory before the word for that or behind it.
 fn of_three<'a>(command: &String, first: &'a String, second: &'a String) -> Command<'a>
     ensures { IsCommand (command.now ∷ first.now ∷ second.now ∷ []) result }
 {
+    if is_word(command, b"trial") {
+        return trial_of(first, second).unwrap_or(Command::Unknown);
+    }
     if !is_word(command, b"run") {
         return Command::Unknown;
     }

@@ -1,0 +1,229 @@
+-- A run that nothing hinders comes to its end, or wants memory.
+use Rattle.std.proofs.Common.{◌≡◌, ◌⊎◌, inl, inr, ℕ, zero, suc, ◌≤◌, ◌<◌, Bool, true, false, List, [], ◌∷◌, ◌++◌, length, Option, None, Some, Ok, Err, refl, sym, ap, ◌∙◌, subst, arith}
+use Rattle.co_base.specs.declared.head.Head.{Head}
+use Rattle.co_message.specs.declared.event.Event.{Event}
+use Rattle.co_outside.specs.declared.spot.Spot.{Spot}
+use Rattle.co_outside.specs.Faults.{HasRisen}
+use Rattle.co_outside.specs.Home.{File}
+use Rattle.co_durable.specs.declared.fault.WorldFault.{WorldFault}
+use Rattle.co_durable.specs.declared.fault.WorldFault.TheVariants as world
+use Rattle.co_opening.specs.Opened.{IsUnopened, IsOfFound}
+use Rattle.co_replay.specs.Schedule.{HasLine}
+use Rattle.co_schedule.specs.Limits.{longest_line}
+use Rattle.co_schedule.specs.LineText.{first_line, behind_line, next_line}
+use Rattle.co_schedule.specs.Spelling.{line_text}
+use Rattle.co_schedule.specs.declared.fault.LinesFault.TheVariants as lines
+use Rattle.co_schedule.proofs.HeadUnique.{head_line}
+use Rattle.co_top.specs.Complete.{IsSchedule, IsUnhindered}
+use Rattle.co_top.specs.Front.{IsHeaded, StandsBehind, AtStart, OneMore, IsHeadFault, IsLineFault, most}
+use Rattle.co_top.specs.Ran.{Ran, HasStoppedAt, IsUnopenedFor, IsRunEnd}
+use Rattle.co_top.specs.declared.status.LimitKind.TheVariants as limit
+use Rattle.co_top.specs.declared.status.Status.{Status}
+use Rattle.co_top.specs.declared.status.Status.TheVariants as status
+use Rattle.co_top.proofs.Lists.{count_more}
+use Rattle.co_top.proofs.Reading.{next_is_first, short_first}
+
+-- ---- how far a text is cut
+
+-- what lies behind so many lines
+abbrev pub behind_lines : ℕ → List ℕ → List ℕ
+behind_lines zero text = text
+behind_lines (suc n) text = behind_line (behind_lines n text)
+
+stands_rest : (head : Head) (text : List ℕ) (es : List Event) (rest : List ℕ) → StandsBehind head text es rest → rest ≡ behind_lines (length es) text
+stands_rest head text es rest (AtStart t) = refl
+stands_rest head text es rest (OneMore t left events e before line next) =
+    ap behind_line (stands_rest head t events left before) ∙ ap (λ n. behind_lines n t) (sym (count_more events e))
+
+-- a line that is that of an event lies there
+abbrev IsLineAt : Head → List ℕ → ℕ → Type 0
+IsLineAt head text n = (e : Event) × HasLine head e × (next_line longest_line most (suc n) (behind_lines n text) ≡ Ok (Some (line_text e)))
+
+or_less : (n k : ℕ) → n < suc k → (n < k) ⊎ (n ≡ k)
+or_less n zero l = inr (omega (arith, l))
+or_less zero (suc k) l = inl (omega arith)
+or_less (suc n) (suc k) l = elim (or_less n k (omega (arith, l))) as (λ c. (suc n < suc k) ⊎ (suc n ≡ suc k)) [ inl less ↦ inl (omega (arith, less)) | inr same ↦ inr (ap suc same) ]
+
+line_at : (head : Head) (text : List ℕ) (es : List Event) (rest : List ℕ) → StandsBehind head text es rest → (n : ℕ) → n < length es → IsLineAt head text n
+line_at head text es rest (AtStart t) n less = absurd (omega (arith, less))
+line_at head text es rest (OneMore t left events e before line next) n less =
+    elim (or_less n (length events) (let z : n < length (events ++ e ∷ []) = less in omega (arith, z, count_more events e))) as (λ c. IsLineAt head t n)
+    [ inl earlier ↦ line_at head t events left before n earlier
+    | inr last ↦ (e, line, ap (λ k. next_line longest_line most (suc k) (behind_lines k t)) last ∙ ap (next_line longest_line most (suc (length events))) (sym (stands_rest head t events left before)) ∙ next) ]
+
+-- ---- no line of a schedule ends a run
+
+-- there is no line at the end
+no_line : (lent : ℕ) (line : List ℕ) (text : List ℕ) → text ≡ [] → next_line longest_line most lent text ≡ Ok (Some line) → ⊥
+no_line lent line text none next = let z : Ok None ≡ Ok (Some line) = sym (ap (next_line longest_line most lent) none) ∙ next in cc
+
+-- why a line gives no event is not so of a line of an event
+no_fault : (head : Head) (count : ℕ) (left : List ℕ) (ended : Status) (e : Event) → HasLine head e → next_line longest_line most (suc count) left ≡ Ok (Some (line_text e)) → IsLineFault head count left ended → (ended ≡ status.Read) ⊎ (ended ≡ status.Memory)
+no_fault head count left (status.Schedule line what) e has next fault = absurd (fault.2.2 e has (sym (next_is_first longest_line most (suc count) left (line_text e) next)))
+no_fault head count left (status.Limit (limit.Line line)) e has next fault =
+    absurd (let first : line_text e ≡ first_line left = next_is_first longest_line most (suc count) left (line_text e) next in omega (arith, has.1, fault.1, ap length first))
+no_fault head count left (status.Limit limit.Lines) e has next fault = absurd (let z : Ok (Some (line_text e)) ≡ Err lines.Many = sym next ∙ fault in cc)
+no_fault head count left status.Read e has next fault = inl refl
+no_fault head count left status.Memory e has next fault = inr refl
+no_fault head count left status.Done e has next fault = absurd fault
+no_fault head count left status.Usage e has next fault = absurd fault
+no_fault head count left status.Write e has next fault = absurd fault
+no_fault head count left (status.Device spot) e has next fault = absurd fault
+no_fault head count left (status.Differs spot at kept read) e has next fault = absurd fault
+no_fault head count left (status.InUse spot) e has next fault = absurd fault
+no_fault head count left (status.BadLog spot at) e has next fault = absurd fault
+no_fault head count left (status.Limit limit.Transactions) e has next fault = absurd fault
+no_fault head count left (status.Limit (limit.Log spot)) e has next fault = absurd fault
+no_fault head count left (status.OldLog spot) e has next fault = absurd fault
+no_fault head count left (status.NotSerial txn line) e has next fault = absurd fault
+no_fault head count left (status.Transcript line) e has next fault = absurd fault
+
+-- nor is it at the end
+no_end_fault : (head : Head) (count : ℕ) (left : List ℕ) (ended : Status) → left ≡ [] → IsLineFault head count left ended → (ended ≡ status.Read) ⊎ (ended ≡ status.Memory)
+no_end_fault head count left (status.Schedule line what) none fault = absurd (fault.1 none)
+no_end_fault head count left (status.Limit (limit.Line line)) none fault = absurd (let long : longest_line < length (first_line left) = fault.1 in omega (arith, long, ap (λ (t : List ℕ). length (first_line t)) none))
+no_end_fault head count left (status.Limit limit.Lines) none fault = absurd (let z : Ok None ≡ Err lines.Many = sym (ap (next_line longest_line most (suc count)) none) ∙ fault in cc)
+no_end_fault head count left status.Read none fault = inl refl
+no_end_fault head count left status.Memory none fault = inr refl
+no_end_fault head count left status.Done none fault = absurd fault
+no_end_fault head count left status.Usage none fault = absurd fault
+no_end_fault head count left status.Write none fault = absurd fault
+no_end_fault head count left (status.Device spot) none fault = absurd fault
+no_end_fault head count left (status.Differs spot at kept read) none fault = absurd fault
+no_end_fault head count left (status.InUse spot) none fault = absurd fault
+no_end_fault head count left (status.BadLog spot at) none fault = absurd fault
+no_end_fault head count left (status.Limit limit.Transactions) none fault = absurd fault
+no_end_fault head count left (status.Limit (limit.Log spot)) none fault = absurd fault
+no_end_fault head count left (status.OldLog spot) none fault = absurd fault
+no_end_fault head count left (status.NotSerial txn line) none fault = absurd fault
+no_end_fault head count left (status.Transcript line) none fault = absurd fault
+
+-- ---- a run over a schedule
+
+module _ (input : List ℕ) (schedule : IsSchedule input) where
+  -- the head is no fault
+  no_head_fault : (ended : Status) → IsHeadFault input ended → (ended ≡ status.Read) ⊎ (ended ≡ status.Memory)
+  no_head_fault (status.Schedule line what) fault = absurd (fault.2 schedule.head (sym (next_is_first longest_line most 0 input _ schedule.headed.line)))
+  no_head_fault (status.Limit (limit.Line line)) fault = absurd (short_first longest_line most 0 input _ schedule.headed.line fault.1)
+  no_head_fault status.Read fault = inl refl
+  no_head_fault status.Memory fault = inr refl
+  no_head_fault status.Done fault = absurd fault
+  no_head_fault status.Usage fault = absurd fault
+  no_head_fault status.Write fault = absurd fault
+  no_head_fault (status.Device spot) fault = absurd fault
+  no_head_fault (status.Differs spot at kept read) fault = absurd fault
+  no_head_fault (status.InUse spot) fault = absurd fault
+  no_head_fault (status.BadLog spot at) fault = absurd fault
+  no_head_fault (status.Limit limit.Lines) fault = absurd fault
+  no_head_fault (status.Limit limit.Transactions) fault = absurd fault
+  no_head_fault (status.Limit (limit.Log spot)) fault = absurd fault
+  no_head_fault (status.OldLog spot) fault = absurd fault
+  no_head_fault (status.NotSerial txn line) fault = absurd fault
+  no_head_fault (status.Transcript line) fault = absurd fault
+
+  module _ {resume : Bool} {old : Spot → Option File} (r : Ran resume input old) (ended : Status) (fault : IsLineFault r.head (length r.events) r.rest ended) where
+    same_head : schedule.head ≡ r.head
+    same_head = head_line schedule.head r.head (next_is_first longest_line most 0 input _ schedule.headed.line ∙ sym (next_is_first longest_line most 0 input _ r.headed.line))
+
+    same_text : schedule.text ≡ r.text
+    same_text = schedule.headed.behind ∙ sym r.headed.behind
+
+    whole : StandsBehind r.head r.text schedule.events []
+    whole = subst (λ h. StandsBehind h r.text schedule.events []) same_head (subst (λ t. StandsBehind schedule.head t schedule.events []) same_text schedule.whole)
+
+    rest_is : r.rest ≡ behind_lines (length r.events) r.text
+    rest_is = stands_rest r.head r.text r.events r.rest r.front
+
+    end_is : behind_lines (length schedule.events) r.text ≡ []
+    end_is = sym (stands_rest r.head r.text schedule.events [] whole)
+
+    compared : (n k : ℕ) → (n < k) ⊎ ((n ≡ k) ⊎ (k < n))
+    compared zero zero = inr (inl refl)
+    compared zero (suc k) = inl (omega arith)
+    compared (suc n) zero = inr (inr (omega arith))
+    compared (suc n) (suc k) =
+        elim (compared n k) as (λ c. (suc n < suc k) ⊎ ((suc n ≡ suc k) ⊎ (suc k < suc n)))
+        [ inl less ↦ inl (omega (arith, less)) | inr other ↦ elim other as (λ c. (suc n < suc k) ⊎ ((suc n ≡ suc k) ⊎ (suc k < suc n))) [ inl same ↦ inr (inl (ap suc same)) | inr more ↦ inr (inr (omega (arith, more))) ] ]
+
+    -- a line of a schedule stops no run
+    pub never_stopped : (ended ≡ status.Read) ⊎ (ended ≡ status.Memory)
+    never_stopped =
+        elim (compared (length r.events) (length schedule.events)) as (λ c. (ended ≡ status.Read) ⊎ (ended ≡ status.Memory))
+        [ inl less ↦ let at = line_at r.head r.text schedule.events [] whole (length r.events) less in
+          no_fault r.head (length r.events) r.rest ended at.0 at.1 (ap (next_line longest_line most (suc (length r.events))) rest_is ∙ at.2) fault
+        | inr other ↦ elim other as (λ c. (ended ≡ status.Read) ⊎ (ended ≡ status.Memory))
+          [ inl same ↦ no_end_fault r.head (length r.events) r.rest ended (rest_is ∙ ap (λ n. behind_lines n r.text) same ∙ end_is) fault
+          | inr more ↦ let at = line_at r.head r.text r.events r.rest r.front (length schedule.events) more in
+            absurd (no_line (suc (length schedule.events)) (line_text at.0) (behind_lines (length schedule.events) r.text) end_is at.2) ] ]
+
+  -- how it ends
+  module _ (resume : Bool) (left : Option (List ℕ)) (held : List ℕ) (old new : Spot → Option File) (told : Option (List ℕ))
+      (allowed : (head : Head) (text : List ℕ) → IsHeaded input head text → (why : WorldFault) → IsOfFound why → IsUnopened old head resume why → ⊥) where
+    unopened : (why : WorldFault) → IsOfFound why → IsUnopenedFor resume input old why → ⊥
+    unopened why of u = allowed u.head u.text u.headed why of u.cause
+
+    stopped : (ended : Status) → HasStoppedAt resume input left held old new told ended → (ended ≡ status.Read) ⊎ (ended ≡ status.Memory)
+    stopped ended h = never_stopped h.run.ran ended h.cause
+
+    -- it is done, or wants memory, or has another cause
+    abbrev pub Comes : Status → Type 0
+    Comes (status.Schedule line what) = ⊥
+    Comes (status.Limit (limit.Line line)) = ⊥
+    Comes (status.Limit limit.Lines) = ⊥
+    Comes (status.InUse spot) = ⊥
+    Comes (status.BadLog spot at) = ⊥
+    Comes (status.OldLog spot) = ⊥
+    Comes status.Usage = ⊥
+    Comes (status.NotSerial txn line) = ⊥
+    Comes (status.Transcript line) = ⊥
+    Comes _ = Unit {0}
+
+    other_than : {A : Type 0} (ended : Status) → (ended ≡ status.Read → A) → (ended ≡ status.Memory → A) → (ended ≡ status.Read) ⊎ (ended ≡ status.Memory) → A
+    other_than ended f g (inl e) = f e
+    other_than ended f g (inr e) = g e
+
+    pub comes : (ended : Status) → IsRunEnd resume input left held old new told ended → Comes ended
+    comes status.Done h = tt
+    comes status.Usage h = absurd h
+    comes (status.Schedule line what) (inl h) = other_than (status.Schedule line what) (λ e. let z : status.Schedule line what ≡ status.Read = e in cc) (λ e. let z : status.Schedule line what ≡ status.Memory = e in cc) (no_head_fault (status.Schedule line what) h.1)
+    comes (status.Schedule line what) (inr h) = other_than (status.Schedule line what) (λ e. let z : status.Schedule line what ≡ status.Read = e in cc) (λ e. let z : status.Schedule line what ≡ status.Memory = e in cc) (stopped (status.Schedule line what) h)
+    comes status.Read h = tt
+    comes status.Write h = tt
+    comes (status.Device spot) h = tt
+    comes (status.Differs spot at kept read) h = tt
+    comes (status.InUse spot) h = absurd (unopened (world.InUse spot) tt h.1)
+    comes (status.BadLog spot at) h = absurd (unopened (world.Bad spot at) tt h.1)
+    comes (status.OldLog spot) h = absurd (unopened (world.Old spot) tt h.1)
+    comes (status.NotSerial txn line) h = absurd h
+    comes (status.Transcript line) h = absurd h
+    comes (status.Limit (limit.Line line)) (inl h) = other_than (status.Limit (limit.Line line)) (λ e. let z : status.Limit (limit.Line line) ≡ status.Read = e in cc) (λ e. let z : status.Limit (limit.Line line) ≡ status.Memory = e in cc) (no_head_fault (status.Limit (limit.Line line)) h.1)
+    comes (status.Limit (limit.Line line)) (inr h) = other_than (status.Limit (limit.Line line)) (λ e. let z : status.Limit (limit.Line line) ≡ status.Read = e in cc) (λ e. let z : status.Limit (limit.Line line) ≡ status.Memory = e in cc) (stopped (status.Limit (limit.Line line)) h)
+    comes (status.Limit limit.Lines) h = other_than (status.Limit limit.Lines) (λ e. let z : status.Limit limit.Lines ≡ status.Read = e in cc) (λ e. let z : status.Limit limit.Lines ≡ status.Memory = e in cc) (stopped (status.Limit limit.Lines) h)
+    comes (status.Limit limit.Transactions) h = tt
+    comes (status.Limit (limit.Log spot)) h = tt
+    comes status.Memory h = tt
+
+-- a run that nothing hinders is done, or wants memory
+pub done_or_wanting : (resume : Bool) (input : List ℕ) (left : Option (List ℕ)) (held : List ℕ) (old new : Spot → Option File) (told : Option (List ℕ)) (a b c d e f : ℕ) (ended : Status) →
+    (ended ≡ status.Read → HasRisen a b) → (ended ≡ status.Write → HasRisen c d) → ((spot : Spot) → ended ≡ status.Device spot → HasRisen e f) →
+    IsRunEnd resume input left held old new told ended → IsUnhindered resume input old a b c d e f ended → (ended ≡ status.Done) ⊎ (ended ≡ status.Memory)
+done_or_wanting resume input left held old new told a b c d e f ended read write device h u = by ended refl (comes input u.schedule resume left held old new told u.allowed ended h)
+  where
+    by : (s : Status) → ended ≡ s → Comes input u.schedule resume left held old new told u.allowed s → (ended ≡ status.Done) ⊎ (ended ≡ status.Memory)
+    by status.Done is it = inl is
+    by status.Usage is it = absurd it
+    by (status.Schedule line what) is it = absurd it
+    by status.Read is it = absurd (u.source (read is))
+    by status.Write is it = absurd (u.out (write is))
+    by (status.Device spot) is it = absurd (u.home (device spot is))
+    by (status.Differs spot at kept got) is it = absurd (u.same spot at kept got is)
+    by (status.InUse spot) is it = absurd it
+    by (status.BadLog spot at) is it = absurd it
+    by (status.OldLog spot) is it = absurd it
+    by (status.NotSerial txn line) is it = absurd it
+    by (status.Transcript line) is it = absurd it
+    by (status.Limit (limit.Line line)) is it = absurd it
+    by (status.Limit limit.Lines) is it = absurd it
+    by (status.Limit limit.Transactions) is it = absurd (u.few is)
+    by (status.Limit (limit.Log spot)) is it = absurd (u.room spot is)
+    by status.Memory is it = inr is

@@ -1,0 +1,33 @@
+-- What a run needs to come to its end.
+use Rattle.std.specs.Prelude.{ℕ, Bool, ◌≡◌, List, [], Option}
+use Rattle.co_base.specs.declared.head.Head.{Head}
+use Rattle.co_message.specs.declared.event.Event.{Event}
+use Rattle.co_outside.specs.declared.spot.Spot.{Spot}
+use Rattle.co_outside.specs.Faults.{HasRisen}
+use Rattle.co_outside.specs.Home.{File}
+use Rattle.co_durable.specs.declared.fault.WorldFault.{WorldFault}
+use Rattle.co_opening.specs.Opened.{IsUnopened, IsOfFound}
+use Rattle.co_top.specs.Front.{IsHeaded, StandsBehind}
+use Rattle.co_top.specs.declared.status.LimitKind.TheVariants as limit
+use Rattle.co_top.specs.declared.status.Status.{Status}
+use Rattle.co_top.specs.declared.status.Status.TheVariants as status
+
+-- the whole input is a schedule: a head and the lines of events, each within the limits of lines
+pub record IsSchedule (input : List ℕ) : Type 0 where
+  pub head : Head
+  pub text : List ℕ
+  pub headed : IsHeaded input head text
+  pub events : List Event
+  pub whole : StandsBehind head text events []
+
+-- The input is a schedule, the logs are not refused, neither the source nor the sink nor the directory failed, no file that was read again differs, and the limits of
+-- transactions and of the length of a log file were not met.
+pub record IsUnhindered (resume : Bool) (input : List ℕ) (old : Spot → Option File) (source_old source_new out_old out_new home_old home_new : ℕ) (ended : Status) : Type 0 where
+  pub schedule : IsSchedule input
+  pub allowed : (head : Head) (text : List ℕ) → IsHeaded input head text → (why : WorldFault) → IsOfFound why → IsUnopened old head resume why → ⊥
+  pub source : HasRisen source_old source_new → ⊥
+  pub out : HasRisen out_old out_new → ⊥
+  pub home : HasRisen home_old home_new → ⊥
+  pub same : (spot : Spot) (at : ℕ) (kept read : Option ℕ) → ended ≡ status.Differs spot at kept read → ⊥
+  pub room : (spot : Spot) → ended ≡ status.Limit (limit.Log spot) → ⊥
+  pub few : ended ≡ status.Limit limit.Transactions → ⊥
