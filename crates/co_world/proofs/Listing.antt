@@ -1,12 +1,11 @@
 -- The lists of a federation have exactly what the plain one has, in their order.
-use Rattle.std.proofs.Common.{◌≡◌, ◌⊎◌, inl, inr, ℕ, ◌<◌, ◌≤◌, Bool, true, false, ◌||◌, ◌&&◌, List, length, Option, None, Some, refl, sym, ap, subst, ◌∙◌, arith, ◌↔◌}
+use Rattle.std.proofs.Common.{◌≡◌, ◌⊎◌, inl, inr, ℕ, ◌<◌, Bool, true, false, ◌||◌, ◌&&◌, List, length, Option, None, Some, refl, sym, ap, subst, ◌∙◌, arith, ◌↔◌}
 use Rattle.std.specs.Prelude.{flat_map, AllPairs, Contains, is_some}
 use Rattle.std.specs.FinMap.{keys}
-use Rattle.std.proofs.lemmas.Bool.{and_parts, or_cases}
+use Rattle.std.proofs.lemmas.Bool.{or_cases}
 use Rattle.co_base.specs.Order.{IsAscending}
 use Rattle.co_recover.proofs.Ascending.{keys_ascend}
 use Rattle.co_state.specs.Table.{look, holds, no_entries}
-use Rattle.co_state.specs.declared.engine_state.EngineState.{EngineState}
 use Rattle.co_state.specs.declared.engine_state.Vote.{Vote}
 use Rattle.co_state.specs.declared.verdict.Verdict.{Verdict}
 use Rattle.co_state.specs.declared.verdict.Verdict.TheVariants.{LostOperations, StaleRead, HeldBy, VoteYes}
@@ -20,7 +19,7 @@ use Rattle.co_law_base.proofs.Lookups.{look_none, is_nothing}
 use Rattle.co_world.specs.Listed.{is_undecided, is_undecided_up, any_to, AreNoted, found_to, where_so, doubt_of, doubt_at, IsDoubt, IsDoubtBefore, held_where, wait_of, wait_at, IsWait, IsWaitBefore}
 use Rattle.co_world.specs.declared.doubting.Doubt.{Doubt}
 use Rattle.co_world.specs.declared.waiting.Wait.{Wait}
-use Rattle.co_world.proofs.Pairwise.{IsAt, any_at, any_there, IsFound, found_in, found_there, IsGiven, given_in, given_there, Ascends, found_ascends, given_ascends, pairs_ascend, key_in, in_key}
+use Rattle.co_world.proofs.Pairwise.{any_at, any_there, found_in, found_there, IsGiven, given_in, given_there, found_ascends, given_ascends, pairs_ascend, key_in, in_key}
 
 -- ---- open transactions
 

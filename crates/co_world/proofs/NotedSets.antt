@@ -1,11 +1,11 @@
 -- Sets of numbers to which those that pass a test were added, by a walk over them or from a log.
-use Rattle.std.proofs.Common.{◌≡◌, ◌⊎◌, inl, inr, ℕ, zero, suc, ◌<◌, ◌≤◌, ◌-◌, Bool, true, false, cond, ◌&&◌, ◌||◌, nat_lt, List, [], ◌∷◌, map, Option, None, Some, refl, sym, ap, subst, ◌∙◌, arith}
+use Rattle.std.proofs.Common.{◌≡◌, ◌⊎◌, inl, inr, ℕ, zero, suc, ◌<◌, Bool, true, false, cond, ◌&&◌, ◌||◌, nat_lt, List, [], ◌∷◌, map, Option, None, Some, refl, sym, ap, subst, ◌∙◌, arith}
 use Rattle.std.specs.Prelude.{is_some}
 use Rattle.std.specs.List.{list_any}
 use Rattle.std.specs.Ordering.{nat_cmp, eq_by_cmp}
 use Rattle.std.specs.Cmp.{nat_cmp_total}
-use Rattle.std.specs.FinMap.{entries, keys, get-insert, contains_key-keys}
-use Rattle.std.proofs.lemmas.Bool.{cases_order, and_parts, or_cases}
+use Rattle.std.specs.FinMap.{entries, get-insert, contains_key-keys}
+use Rattle.std.proofs.lemmas.Bool.{cases_order, and_parts}
 use Rattle.std.proofs.lemmas.Bool.Decides.{nat_tests}
 use Rattle.co_base.specs.declared.head.Kind.{Kind}
 use Rattle.co_pairs.specs.declared.prepared.Prepared.{Prepared}
@@ -14,7 +14,7 @@ use Rattle.co_recover.specs.Recovered.{past_of_member, past_of_coord, decided_of
 use Rattle.co_state.specs.Table.{Table, look, holds, put, no_entries, least_where}
 use Rattle.co_state.specs.declared.engine_state.EngineState.{EngineState}
 use Rattle.co_state.specs.declared.engine_state.Vote.{Vote}
-use Rattle.co_plain.specs.CoordStep.{coord_down, table_onto, table_from}
+use Rattle.co_plain.specs.CoordStep.{coord_down, table_onto}
 use Rattle.co_plain.specs.CoordView.{recovered_commits}
 use Rattle.co_plain.specs.MemberStep.{member_down_with}
 use Rattle.co_plain.specs.MemberView.{Numbers, with_number, with_numbers, recovered_view}
@@ -25,7 +25,7 @@ use Rattle.co_plain.specs.declared.log_state.LogState.{LogState}
 use Rattle.co_plain.specs.declared.member_state.MemberState.{MemberState}
 use Rattle.co_coord.specs.Reading.{is_above}
 use Rattle.co_member.specs.Reading.{open_after}
-use Rattle.co_law_base.proofs.Lookups.{apart_by, look_none, put_here, put_there}
+use Rattle.co_law_base.proofs.Lookups.{look_none, put_here, put_there}
 use Rattle.co_undecided.proofs.Least.{IsLeast, least_of, least_of_both, table_least, passed}
 use Rattle.co_world.specs.Listed.{is_undecided, is_undecided_up, any_to, AreNoted}
 use Rattle.co_world.proofs.Walks.{room}

@@ -4,7 +4,6 @@ use Rattle.std.specs.Prelude.{flat_map, option_to_list, AllPairs, Contains}
 use Rattle.std.specs.List.{AllByRecursion, list_any}
 use Rattle.std.specs.List.Sorted.{IsStrictlySortedBy}
 use Rattle.std.specs.Ordering.{nat_cmp, eq_by_cmp}
-use Rattle.std.specs.declared.cmp.Ordering.{Ordering}
 use Rattle.std.specs.declared.cmp.Ordering.TheVariants.{Less}
 use Rattle.std.specs.FinMap.{keys, contains_key-keys}
 use Rattle.std.proofs.lemmas.Bool.{cases_order, or_cases}

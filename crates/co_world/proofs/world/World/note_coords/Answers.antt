@@ -1,4 +1,4 @@
-use Rattle.std.proofs.Common.{◌≡◌, ℕ, suc, ◌+◌, length, sym, ap, ◌∙◌, arith}
+use Rattle.std.proofs.Common.{◌≡◌, suc, ◌+◌, arith}
 use Rattle.co_state.specs.Table.{holds}
 use Rattle.co_world.proofs.NotedSets.{none_noted_yet, one_noted_more, all_noted}
 use Rattle.co_world.proofs.world.World.note_coords.Goals as goal

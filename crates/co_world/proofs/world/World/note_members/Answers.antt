@@ -1,4 +1,4 @@
-use Rattle.std.proofs.Common.{◌≡◌, ℕ, suc, ◌+◌, length, sym, ap, ◌∙◌, arith}
+use Rattle.std.proofs.Common.{◌≡◌, suc, ◌+◌, length, arith}
 use Rattle.co_world.specs.Listed.{is_undecided}
 use Rattle.co_world.proofs.NotedSets.{none_noted_yet, one_noted_more, all_noted}
 use Rattle.co_world.proofs.world.World.note_members.Goals as goal

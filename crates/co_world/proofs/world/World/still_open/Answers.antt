@@ -1,4 +1,4 @@
-use Rattle.std.proofs.Common.{◌≡◌, ◌↔◌, ℕ, length, subst}
+use Rattle.std.proofs.Common.{◌≡◌, ◌↔◌, ℕ, subst}
 use Rattle.std.specs.Prelude.{Contains}
 use Rattle.std.specs.FinMap.{keys}
 use Rattle.std.proofs.lemmas.Result.{IfOk-weaker}
