@@ -28,6 +28,7 @@ use Rattle.co_replay.specs.Transcript.{items_text}
 use Rattle.co_replay.proofs.Appended.{items_text-append}
 use Rattle.co_schedule.specs.declared.lines.Lines.{Lines}
 use Rattle.co_state.specs.declared.engine_state.EngineState.{EngineState}
+use Rattle.co_world.specs.Counting.{MeetsPlainLimit}
 use Rattle.co_world.specs.Left.{AreLeftAs, AreLeftBy}
 use Rattle.co_world.specs.Standing.{RepresentsWorld}
 use Rattle.co_world.proofs.Lefts.{held_left}
@@ -40,7 +41,7 @@ use Rattle.co_top.specs.Heads.{IsEventRead, IsReadStatus}
 use Rattle.co_top.specs.Played.{IsTold, IsToldInPart, StandsFor, IsStreamedBehind, IsLeftNear, HasFailed, HasFailedInPart, HasStopped, IsOver, HasMetLimit}
 use Rattle.co_top.specs.Ends.{of_world}
 use Rattle.co_top.specs.Replayed.{given_back, opening_text, IsUnopenedAs, IsOfFiles, IsOpeningTold}
-use Rattle.co_top.specs.Telling.{event_text, IsPut, IsPutInPart, IsTextPut, HasStepped, HasFaulted, HasEnded, IsToldOf, HasClientsAtLimit}
+use Rattle.co_top.specs.Telling.{event_text, IsPut, IsPutInPart, IsTextPut, HasStepped, HasFaulted, HasEnded, IsToldOf}
 use Rattle.co_top.specs.declared.status.LimitKind.TheVariants as limit
 use Rattle.co_top.specs.declared.status.Status.{Status}
 use Rattle.co_top.specs.declared.status.Status.TheVariants as status
@@ -147,7 +148,7 @@ module _ (head : Head) (s0 : Federation) (text held told : Option (List ℕ)) (p
     failed : (after : Option (List ℕ)) → HasFaulted z e told after home → HasFailed head s0 text now held after home
     failed after o = subst (λ (t : Option (List ℕ)). HasFailed head s0 text now held t home) (sym o.0) (record { done = p; streamed = streamed; files = near o.1 })
 
-    met : (after : Option (List ℕ)) → (after ≡ told) × AreLeftAs home.file z × HasClientsAtLimit z e → HasMetLimit head s0 text now held after home
+    met : (after : Option (List ℕ)) → (after ≡ told) × AreLeftAs home.file z × MeetsPlainLimit z e → HasMetLimit head s0 text now held after home
     met after o =
         subst (λ (t : Option (List ℕ)). HasMetLimit head s0 text now held t home) (sym o.0)
         (record { done = p; streamed = streamed; files = o.1; event = e; next = λ t q. let r = read t q in (r.0, r.1); limit = o.2 })
@@ -252,7 +253,7 @@ told_as takes stands_for s number e held told home w items (Err (status.Transcri
 
 -- what was not done is not told
 pub untold : {E : Type 0} (takes : Kind → Type 0) (stands_for : E → EngineState → Type 0) (s : Federation) (number : ℕ) (e : Event) (held : Option (List ℕ)) (old new : HomeView) (w : World E) (fault : WorldFault) → HasEndedAs fault old new →
-    AreLeftBy new.file s (step_line s e).state (step_line (disarmed s) e).state → AreLeftAs old.file s → (fault ≡ world.Count → HasClientsAtLimit s e) → IsToldOf takes stands_for s number e held held new w (Err (of_world fault))
+    AreLeftBy new.file s (step_line s e).state (step_line (disarmed s) e).state → AreLeftAs old.file s → (fault ≡ world.Count → MeetsPlainLimit s e) → IsToldOf takes stands_for s number e held held new w (Err (of_world fault))
 untold takes stands_for s number e held old new w (world.Device spot) h left before met = (refl, left)
 untold takes stands_for s number e held old new w (world.Differs spot place kept got) h left before met = (refl, left)
 untold takes stands_for s number e held old new w (world.InUse spot) h left before met = absurd h

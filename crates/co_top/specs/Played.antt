@@ -18,7 +18,7 @@ use Rattle.co_world.specs.Left.{AreLeftAs}
 use Rattle.co_world.specs.Standing.{RepresentsWorld, AreHeld}
 use Rattle.co_world.specs.declared.world.World.{World}
 use Rattle.co_top.specs.Front.{StandsBehind, IsNext, IsLineFault, IsStreamed}
-use Rattle.co_top.specs.Telling.{HasClientsAtLimit}
+use Rattle.co_world.specs.Counting.{MeetsPlainLimit}
 use Rattle.co_top.specs.declared.status.LimitKind.TheVariants as limit
 use Rattle.co_top.specs.declared.status.Status.{Status}
 use Rattle.co_top.specs.declared.status.Status.TheVariants as status
@@ -74,14 +74,14 @@ pub record HasFailedInPart (head : Head) (s0 : Federation) (text now held told :
   pub streamed : IsStreamedBehind head text now done.events done.left
   pub files : IsLeftNear head s0 text done.events done.left home.file
 
--- what was told before an event at which clients meet the limit of transactions; the files have what the lines before it left
+-- what was told before an event that meets the limit of transactions; the files have what the lines before it left
 pub record HasMetLimit (head : Head) (s0 : Federation) (text now held told : Option (List ℕ)) (home : HomeView) : Type 0 where
   pub done : IsTold head s0 text held told
   pub streamed : IsStreamedBehind head text now done.events done.left
   pub files : AreLeftAs home.file (run (lines done.events) s0)
   pub event : Event
   pub next : (t : List ℕ) (e : text ≡ Some t) → (rest : List ℕ) × IsNext head (length done.events) (done.left t e).0 rest (Some event)
-  pub limit : HasClientsAtLimit (run (lines done.events) s0) event
+  pub limit : MeetsPlainLimit (run (lines done.events) s0) event
 
 -- the lines that were done, and why the next one gave no event
 pub record HasStopped {E : Type 0} (takes : Kind → Type 0) (stands_for : E → EngineState → Type 0) (head : Head) (s0 : Federation) (text now held told : Option (List ℕ)) (home : HomeView) (w : World E) (ended : Status) : Type 0 where

@@ -23,7 +23,7 @@ use Rattle.co_opening.specs.Found.{AreFound, MayRun, AreUnused}
 use Rattle.co_opening.specs.Opened.{IsUnopened}
 use Rattle.co_world.specs.Left.{AreLeftAs}
 use Rattle.co_top.specs.Front.{IsHeaded, StandsBehind, IsNext, IsHeadFault, IsLineFault, IsStreamed}
-use Rattle.co_top.specs.Telling.{HasClientsAtLimit}
+use Rattle.co_world.specs.Counting.{MeetsPlainLimit}
 use Rattle.co_top.specs.declared.status.LimitKind.TheVariants as limit
 use Rattle.co_top.specs.declared.status.Status.{Status}
 use Rattle.co_top.specs.declared.status.Status.TheVariants as status
@@ -128,9 +128,9 @@ pub record IsUnopenedFor (resume : Bool) (input : List ℕ) (old : Spot → Opti
   pub headed : IsHeaded input head text
   pub cause : IsUnopened old head resume why
 
--- the next line is an event at which clients meet the limit of transactions
+-- the next line begins a transaction whose number is unused, and as many are used as there may be
 abbrev pub IsAtLimit : {resume : Bool} {input : List ℕ} {old : Spot → Option File} → Ran resume input old → Type 0
-IsAtLimit r = (event : Event) × (rest : List ℕ) × IsNext r.head (length r.events) r.rest rest (Some event) × HasClientsAtLimit (end_of r) event
+IsAtLimit r = (event : Event) × (rest : List ℕ) × IsNext r.head (length r.events) r.rest rest (Some event) × MeetsPlainLimit (end_of r) event
 
 -- the lines that were done, the files that they left, and why the next one gave no event
 pub record HasStoppedAt (resume : Bool) (input : List ℕ) (left : Option (List ℕ)) (held : List ℕ) (old new : Spot → Option File) (told : Option (List ℕ)) (ended : Status) : Type 0 where

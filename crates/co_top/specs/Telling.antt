@@ -6,14 +6,11 @@ use Rattle.co_message.specs.declared.item.ItemKind.TheVariants as item
 use Rattle.co_outside.specs.Faults.{HasRisen}
 use Rattle.co_node.specs.Answers.{HomeView}
 use Rattle.co_plain.specs.Federation.{Federation}
-use Rattle.co_plain.specs.Numbers.{has_number}
 use Rattle.co_plain.specs.Runs.{numbered}
 use Rattle.co_plain.specs.Step.{disarmed, step_line}
 use Rattle.co_replay.specs.Transcript.{items_text}
-use Rattle.co_session.specs.Clients.{Clients}
 use Rattle.co_state.specs.declared.engine_state.EngineState.{EngineState}
-use Rattle.co_state.specs.Table.{holds}
-use Rattle.co_world.specs.Counting.{MeetsLimit}
+use Rattle.co_world.specs.Counting.{MeetsPlainLimit}
 use Rattle.co_world.specs.Left.{AreLeftAs, AreLeftBy}
 use Rattle.co_world.specs.Standing.{RepresentsWorld, AreHeld}
 use Rattle.co_world.specs.declared.world.World.{World}
@@ -54,14 +51,6 @@ pub record HasStepped {E : Type 0} (takes : Kind → Type 0) (stands_for : E →
 abbrev pub HasFaulted : Federation → Event → Option (List ℕ) → Option (List ℕ) → HomeView → Type 0
 HasFaulted s event held told home = (told ≡ held) × AreLeftBy home.file s (step_line s event).state (step_line (disarmed s) event).state
 
--- Clients with the sessions of the state, to whom the same numbers are used, meet the limit at the event. So it begins a transaction whose number was not
--- used before. How many numbers the state has is not told by it: that the clients of the program are these is said by the step alone.
-pub record HasClientsAtLimit (s : Federation) (event : Event) : Type 0 where
-  pub clients : Clients
-  pub sessions : clients.sessions ≡ s.sessions
-  pub used : (t : ℕ) → has_number clients.used t ≡ holds s.used t
-  pub limit : MeetsLimit clients event
-
 -- How an event of a line of this number is done and told.
 abbrev pub IsToldOf : {E : Type 0} → (Kind → Type 0) → (E → EngineState → Type 0) → Federation → ℕ → Event → Option (List ℕ) → Option (List ℕ) → HomeView → World E → Result (Unit {0}) Status → Type 0
 IsToldOf takes stands_for s number event held told home w (Ok u) = HasStepped takes stands_for s event home w × IsPut (event_text number event s) held told
@@ -70,5 +59,5 @@ IsToldOf takes stands_for s number event held told home w (Err status.Memory) = 
 IsToldOf takes stands_for s number event held told home w (Err (status.Device spot)) = HasFaulted s event held told home
 IsToldOf takes stands_for s number event held told home w (Err (status.Differs spot at kept read)) = HasFaulted s event held told home
 IsToldOf takes stands_for s number event held told home w (Err (status.Limit (limit.Log spot))) = HasFaulted s event held told home
-IsToldOf takes stands_for s number event held told home w (Err (status.Limit limit.Transactions)) = (told ≡ held) × AreLeftAs home.file s × HasClientsAtLimit s event
+IsToldOf takes stands_for s number event held told home w (Err (status.Limit limit.Transactions)) = (told ≡ held) × AreLeftAs home.file s × MeetsPlainLimit s event
 IsToldOf takes stands_for s number event held told home w (Err _) = ⊥

@@ -26,7 +26,7 @@ returns-in-Err-clause-told g c = λ s r ready.
     (untold g.E.Engine.takes g.E.Engine.stands_for s c.args.number c.args.event (g.K.Sink.told c.args.out.now) _ _ c.step.new.self c.in-Err.fault c.in-Err.ensures.ended
     (c.in-Err.ensures.left s r ready)
     (held_left g.E.Engine.takes g.E.Engine.stands_for c.args.world.now s (g.H.Home.file c.args.home.now) (g.H.Home.reach c.args.home.now) r c.requires.held)
-    (λ is. record { clients = c.args.world.now.sessions; sessions = r.sessions; used = r.used; limit = c.in-Err.ensures.count.0 (ap Err is) }))
+    (λ is. (c.in-Err.ensures.limit s r).0 (ap Err is)))
 
 pub returns-in-Err-clause-ended : goal.returns-in-Err-clause-ended
 returns-in-Err-clause-ended g c =
