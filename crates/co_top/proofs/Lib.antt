@@ -9,3 +9,4 @@ pub mod Plays
 pub mod Reading
 pub mod Judging
 pub mod Completing
+pub mod Trying

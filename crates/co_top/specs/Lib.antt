@@ -9,3 +9,4 @@ pub mod Replayed
 pub mod Records
 pub mod Checking
 pub mod Complete
+pub mod Trials

@@ -8,6 +8,7 @@ mod records;
 mod replay;
 mod status;
 mod top;
+mod trials;
 mod words;
 
 pub use status::{LimitKind, Status};

@@ -1,20 +1,22 @@
 //! The top call.
-ghost use Rattle.std.specs.Prelude.{◌≡◌, ◌↔◌, ◌⊎◌, ℕ, List, Some, true, false};
+ghost use Rattle.std.specs.Prelude.{◌≡◌, ◌↔◌, ◌⊎◌, ◌||◌, ℕ, List, Some, true, false};
 ghost use Rattle.co_outside.specs.declared.spot.Spot.{Spot};
 ghost use Rattle.co_outside.specs.Faults.{HasRisen};
 ghost use Rattle.co_disk.specs.Homes.{HasFailed, IsClean};
 ghost use Rattle.co_durable.specs.Told.{AreTold};
 ghost use Rattle.co_top.specs.Checking.{IsCheckEnd, IsExactCheck};
 ghost use Rattle.co_top.specs.Complete.{IsUnhindered};
-ghost use Rattle.co_top.specs.Command.{is_run, is_records, is_check, is_command, resumes, directory_of};
+ghost use Rattle.co_top.specs.Command.{is_run, is_records, is_check, is_trial, is_command, resumes, directory_of, trial_number, trial_events};
 ghost use Rattle.co_top.specs.Ends.{IsNoted, note_of};
 ghost use Rattle.co_top.specs.Ran.{IsRunEnd};
 ghost use Rattle.co_top.specs.Records.{HasCause, IsExact, HoldsRecords};
+ghost use Rattle.co_top.specs.Trials.{IsTrialEnd};
 
 use crate::checking::check;
 use crate::records::records;
 use crate::replay::replay;
 use crate::status::{Status, put_note};
+use crate::trials::trial;
 use crate::words::{Command, command_of};
 use co_any::AnyEngine;
 use co_outside::{Home, Sink, Source, put_all};
@@ -44,6 +46,12 @@ use std::alloc::Global;
 /// not, and the number of the event of its first such operation. `Transcript` comes at the first line that is no item or breaks the shape, and at the line past the end where the
 /// last event has no reply; `Limit` at a line of more than 16,777,216 bytes and behind as many lines; `Read` and `Write` only where the source or the sink failed. The
 /// directory is not touched.
+///
+/// `trial NUMBER EVENTS` makes a federation of a member of each kind and two coordinators, and a schedule of so many events from the number, runs it over a directory in
+/// memory, settles what is open then, and writes one line of JSON: how many transactions were begun and committed, the SHA-256 of the transcript, whether the durable records
+/// are those of the serial run (they are), the two numbers, how many transactions are open (none), and how many events settling took. NUMBER is 0 to
+/// 18,446,744,073,709,551,615 and EVENTS 1 to 60,000, in decimal digits. It reads nothing, and the directory is not touched; `Limit` comes where a log would be too long, `Write` only where the
+/// sink failed.
 ///
 /// Every other list of words is `Usage`, and changes nothing but the sink of notes.
 pub fn run<S: Source, K: Sink, N: Sink, H: Home>(
@@ -76,8 +84,10 @@ pub fn run<S: Source, K: Sink, N: Sink, H: Home>(
         IsCheckEnd input held (K.told out.new) result }
     ensures judged { (input held : List ℕ) → is_check words.now ≡ true → S.left source.old ≡ Some input → K.told out.old ≡ Some held → IsExactCheck input result }
     ensures kept { is_check words.now ≡ true → home.new ≡ home.old }
+    ensures tried { (held : List ℕ) → is_trial words.now ≡ true → K.told out.old ≡ Some held → IsTrialEnd (trial_number words.now) (trial_events words.now) held (K.told out.new) result }
+    ensures apart { is_trial words.now ≡ true → (source.new ≡ source.old) × (home.new ≡ home.old) }
     ensures clean { is_run words.now ≡ true → result ≡ Status.Done → (s : Spot) → IsClean (H.file home.old s) → IsClean (H.file home.new s) }
-    ensures entered { is_check words.now ≡ false → result ≡ Status.Done → H.entered home.new ≡ Some (directory_of words.now) }
+    ensures entered { (is_run words.now || is_records words.now) ≡ true → result ≡ Status.Done → H.entered home.new ≡ Some (directory_of words.now) }
     ensures notes { (held : List ℕ) → N.told notes.old ≡ Some held → IsNoted held (note_of result) (N.told notes.new) }
 {
     let status = command(alloc, words, source, out, home);
@@ -110,8 +120,10 @@ fn command<S: Source, K: Sink, H: Home>(
     ensures checked { (input held : List ℕ) → is_check words.now ≡ true → S.left source.old ≡ Some input → K.told out.old ≡ Some held →
         IsCheckEnd input held (K.told out.new) result }
     ensures kept { is_check words.now ≡ true → home.new ≡ home.old }
+    ensures tried { (held : List ℕ) → is_trial words.now ≡ true → K.told out.old ≡ Some held → IsTrialEnd (trial_number words.now) (trial_events words.now) held (K.told out.new) result }
+    ensures apart { is_trial words.now ≡ true → (source.new ≡ source.old) × (home.new ≡ home.old) }
     ensures clean { is_run words.now ≡ true → result ≡ Status.Done → (s : Spot) → IsClean (H.file home.old s) → IsClean (H.file home.new s) }
-    ensures entered { is_check words.now ≡ false → result ≡ Status.Done → H.entered home.new ≡ Some (directory_of words.now) }
+    ensures entered { (is_run words.now || is_records words.now) ≡ true → result ≡ Status.Done → H.entered home.new ≡ Some (directory_of words.now) }
 {
     match command_of(words) {
         Command::Run { directory, resume } => {
@@ -119,6 +131,7 @@ fn command<S: Source, K: Sink, H: Home>(
         }
         Command::Records { directory } => records(alloc, directory, out, home),
         Command::Check => check(alloc, source, out),
+        Command::Trial { number, events } => trial(alloc, number, events, out),
         Command::Unknown => Status::Usage,
     }
 }

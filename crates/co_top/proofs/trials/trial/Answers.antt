@@ -1,0 +1,24 @@
+use Rattle.std.proofs.Common.{Err, sym, ap, subst, ◌∙◌}
+use Rattle.co_top.specs.Replayed.{status_of}
+use Rattle.co_top.specs.Trials.{IsTrialEnd}
+use Rattle.co_top.specs.declared.status.Status.TheVariants as status
+use Rattle.co_top.proofs.Trying.{summary_ended, trial_ended, trial_quiet, write_of}
+use Rattle.co_top.proofs.trials.trial.Goals as goal
+
+pub returns-in-Ok-clause-end : goal.returns-in-Ok-clause-end
+returns-in-Ok-clause-end g c = λ held told.
+    subst (λ s. IsTrialEnd c.args.number c.args.events held (g.K.Sink.told c.tell_summary.new.out) s) (sym c.ended.ensures)
+    (summary_ended c.args.number c.args.events c.in-Ok.summary held (g.K.Sink.told c.args.out.now) (g.K.Sink.told c.tell_summary.new.out) c.tell_summary.result c.in-Ok.ensures.summed told c.tell_summary.ensures.told)
+
+pub returns-in-Err-clause-end : goal.returns-in-Err-clause-end
+returns-in-Err-clause-end g c = λ held told.
+    subst (λ s. IsTrialEnd c.args.number c.args.events held (g.K.Sink.told c.args.out.now) s) (sym c.of_trial.ensures) (trial_ended c.args.number c.args.events c.in-Err.fault held (g.K.Sink.told c.args.out.now) told)
+
+pub returns-in-Ok-clause-write : goal.returns-in-Ok-clause-write
+returns-in-Ok-clause-write g c = λ e. c.tell_summary.ensures.failed (write_of c.tell_summary.result (sym c.ended.ensures ∙ e))
+
+pub returns-in-Ok-clause-quiet : goal.returns-in-Ok-clause-quiet
+returns-in-Ok-clause-quiet g c = λ other. c.tell_summary.ensures.quiet (λ e. other (c.ended.ensures ∙ ap status_of e))
+
+pub returns-in-Err-clause-write : goal.returns-in-Err-clause-write
+returns-in-Err-clause-write g c = λ e. absurd (trial_quiet c.in-Err.fault (sym c.of_trial.ensures ∙ e))
