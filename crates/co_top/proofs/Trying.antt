@@ -1,5 +1,6 @@
 -- How a trial ends, by how the line of its summary was put.
-use Rattle.std.proofs.Common.{◌≡◌, ◌≤◌, ◌&&◌, true, inl, inr, ℕ, ◌++◌, List, [], ◌∷◌, take, Option, Some, Result, Ok, Err}
+use Rattle.std.proofs.Common.{◌≡◌, ◌≤◌, ◌&&◌, ◌||◌, Bool, true, false, sym, ◌∙◌, inl, inr, ℕ, ◌++◌, List, [], ◌∷◌, take, Option, Some, Result, Ok, Err, subst}
+use Rattle.co_outside.specs.declared.spot.Spot.{Spot}
 use Rattle.std.specs.Prelude.{codes}
 use Rattle.std.specs.String.{string_bytes}
 use Rattle.std.specs.declared.string.String.{String}
@@ -12,7 +13,7 @@ use Rattle.co_trial.specs.declared.fault.TrialFault.TheVariants as trial
 use Rattle.co_trial.specs.declared.summary.Summary.{Summary}
 use Rattle.co_top.specs.Command.{is_word, is_trial, trial_events}
 use Rattle.co_top.specs.Replayed.{status_of}
-use Rattle.co_top.specs.Trials.{of_trial, IsSummaryTold, IsTrialEnd}
+use Rattle.co_top.specs.Trials.{of_trial, IsSummaryTold, IsOfTrial, IsTrialEnd}
 use Rattle.co_top.specs.declared.status.LimitKind.TheVariants as limit
 use Rattle.co_top.specs.declared.status.Status.{Status}
 use Rattle.co_top.specs.declared.status.Status.TheVariants as status
@@ -40,6 +41,38 @@ pub trial_ended : (number events : ℕ) (fault : TrialFault) (held : List ℕ) (
 trial_ended number events (trial.Full spot) held told same = same
 trial_ended number events trial.Memory held told same = inl same
 
+-- the status is one of a trial
+pub summary_own : (summary : Summary) (before told : Option (List ℕ)) (result : Result (Unit {0}) Status) → IsSummaryTold summary before told result → IsOfTrial (status_of result)
+summary_own summary before told (Ok u) put = tt
+summary_own summary before told (Err status.Write) put = tt
+summary_own summary before told (Err status.Memory) put = tt
+summary_own summary before told (Err status.Done) put = tt
+summary_own summary before told (Err status.Usage) put = absurd put
+summary_own summary before told (Err (status.Schedule line what)) put = absurd put
+summary_own summary before told (Err status.Read) put = absurd put
+summary_own summary before told (Err (status.Device spot)) put = absurd put
+summary_own summary before told (Err (status.Differs spot at kept read)) put = absurd put
+summary_own summary before told (Err (status.InUse spot)) put = absurd put
+summary_own summary before told (Err (status.BadLog spot at)) put = absurd put
+summary_own summary before told (Err (status.OldLog spot)) put = absurd put
+summary_own summary before told (Err (status.NotSerial txn line)) put = absurd put
+summary_own summary before told (Err (status.Transcript line)) put = absurd put
+summary_own summary before told (Err (status.Limit what)) put = absurd put
+
+pub trial_own : (fault : TrialFault) → IsOfTrial (of_trial fault)
+trial_own (trial.Full spot) = tt
+trial_own trial.Memory = tt
+
+-- so it is none of these
+pub not_usage : (s : Status) → IsOfTrial s → s ≡ status.Usage → ⊥
+not_usage s own is = subst IsOfTrial is own
+
+pub not_read : (s : Status) → IsOfTrial s → s ≡ status.Read → ⊥
+not_read s own is = subst IsOfTrial is own
+
+pub not_device : (s : Status) (spot : Spot) → IsOfTrial s → s ≡ status.Device spot → ⊥
+not_device s spot own is = subst IsOfTrial is own
+
 -- and is no failure of the sink
 pub trial_quiet : (fault : TrialFault) → of_trial fault ≡ status.Write → ⊥
 trial_quiet (trial.Full spot) e = let z : status.Limit (limit.Log spot) ≡ status.Write = e in cc
@@ -61,3 +94,10 @@ trial_within (word ∷ number ∷ events ∷ []) e =
     let c = is_number-true 1 60000 (string_bytes events) b.1 in
     (c.0, c.1)
 trial_within (word ∷ number ∷ events ∷ other ∷ words) e = absurd cc
+
+-- a trial is a command
+pub is_a_trial : (run records check trial : Bool) → trial ≡ true → (run || (records || (check || trial))) ≡ false → ⊥
+is_a_trial true records check trial is none = let z : true ≡ false = none in cc
+is_a_trial false true check trial is none = let z : true ≡ false = none in cc
+is_a_trial false false true trial is none = let z : true ≡ false = none in cc
+is_a_trial false false false trial is none = let z : true ≡ false = sym is ∙ none in cc

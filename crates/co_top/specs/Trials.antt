@@ -26,3 +26,11 @@ IsTrialEnd number events held told status.Write = (summary : Summary) × IsTrial
 IsTrialEnd number events held told status.Memory = (told ≡ Some held) ⊎ ((summary : Summary) × IsTrial number events summary × (count : ℕ) × (told ≡ Some (held ++ take count (summary_line summary))))
 IsTrialEnd number events held told (status.Limit (limit.Log spot)) = told ≡ Some held
 IsTrialEnd number events held told _ = ⊥
+
+-- the statuses of a trial
+abbrev pub IsOfTrial : Status → Type 0
+IsOfTrial status.Done = Unit {0}
+IsOfTrial status.Write = Unit {0}
+IsOfTrial status.Memory = Unit {0}
+IsOfTrial (status.Limit (limit.Log spot)) = Unit {0}
+IsOfTrial _ = ⊥

@@ -3,7 +3,7 @@ ghost use Rattle.std.specs.Prelude.{◌≡◌, ◌≤◌, ℕ, List, Some, IfErr
 ghost use Rattle.co_outside.specs.Faults.{HasRisen};
 ghost use Rattle.co_trial.specs.Trials.{IsTrial};
 ghost use Rattle.co_top.specs.Replayed.{status_of};
-ghost use Rattle.co_top.specs.Trials.{of_trial, IsSummaryTold, IsTrialEnd};
+ghost use Rattle.co_top.specs.Trials.{of_trial, IsSummaryTold, IsOfTrial, IsTrialEnd};
 
 use crate::playing::put;
 use crate::status::{LimitKind, Status};
@@ -46,6 +46,7 @@ fn ended(told: Result<(), Status>) -> Status
 pub(crate) fn trial<K: Sink>(alloc: Global, number: u64, events: u32, out: &mut K) -> Status
     requires { (1 ≤ events) × (events ≤ 60000) }
     ensures end { (held : List ℕ) → K.told out.old ≡ Some held → IsTrialEnd number events held (K.told out.new) result }
+    ensures own { IsOfTrial result }
     ensures write { result ≡ Status.Write → HasRisen (K.faults out.old) (K.faults out.new) }
     ensures quiet { (result ≡ Status.Write → ⊥) → K.faults out.new ≡ K.faults out.old }
 {

@@ -1,6 +1,7 @@
 use Rattle.std.proofs.Common.{subst}
+use Rattle.co_top.specs.Command.{is_run, is_records, is_check, is_trial}
 use Rattle.co_top.specs.Ran.{IsRunEnd}
-use Rattle.co_top.proofs.Trying.{trial_within}
+use Rattle.co_top.proofs.Trying.{is_a_trial, trial_within, not_usage, not_read, not_device}
 use Rattle.co_top.proofs.top.command.Goals as goal
 
 pub returns-in-Run-clause-run : goal.returns-in-Run-clause-run
@@ -13,3 +14,18 @@ trial-requires g c =
     let is = c.in-Trial.ensures in
     let within = trial_within c.args.words.now is.0.as_trial in
     (rw is.2 within.0, rw is.2 within.1)
+
+pub returns-in-Trial-clause-usage : goal.returns-in-Trial-clause-usage
+returns-in-Trial-clause-usage g c = (
+  λ e. absurd (not_usage c.trial.result c.trial.ensures.own e),
+  λ none. let is = c.in-Trial.ensures.0 in absurd (is_a_trial (is_run c.args.words.now) (is_records c.args.words.now) (is_check c.args.words.now) (is_trial c.args.words.now) is.as_trial none),
+)
+
+pub returns-in-Trial-clause-untouched : goal.returns-in-Trial-clause-untouched
+returns-in-Trial-clause-untouched g c = λ e. absurd (not_usage c.trial.result c.trial.ensures.own e)
+
+pub returns-in-Trial-clause-read : goal.returns-in-Trial-clause-read
+returns-in-Trial-clause-read g c = λ e. absurd (not_read c.trial.result c.trial.ensures.own e)
+
+pub returns-in-Trial-clause-device : goal.returns-in-Trial-clause-device
+returns-in-Trial-clause-device g c = λ spot e. absurd (not_device c.trial.result spot c.trial.ensures.own e)

@@ -1,8 +1,8 @@
 use Rattle.std.proofs.Common.{Err, sym, ap, subst, ◌∙◌}
 use Rattle.co_top.specs.Replayed.{status_of}
-use Rattle.co_top.specs.Trials.{IsTrialEnd}
+use Rattle.co_top.specs.Trials.{IsOfTrial, IsTrialEnd}
 use Rattle.co_top.specs.declared.status.Status.TheVariants as status
-use Rattle.co_top.proofs.Trying.{summary_ended, trial_ended, trial_quiet, write_of}
+use Rattle.co_top.proofs.Trying.{summary_ended, summary_own, trial_ended, trial_own, trial_quiet, write_of}
 use Rattle.co_top.proofs.trials.trial.Goals as goal
 
 pub returns-in-Ok-clause-end : goal.returns-in-Ok-clause-end
@@ -22,3 +22,9 @@ returns-in-Ok-clause-quiet g c = λ other. c.tell_summary.ensures.quiet (λ e. o
 
 pub returns-in-Err-clause-write : goal.returns-in-Err-clause-write
 returns-in-Err-clause-write g c = λ e. absurd (trial_quiet c.in-Err.fault (sym c.of_trial.ensures ∙ e))
+
+pub returns-in-Ok-clause-own : goal.returns-in-Ok-clause-own
+returns-in-Ok-clause-own g c = subst IsOfTrial (sym c.ended.ensures) (summary_own c.in-Ok.summary (g.K.Sink.told c.args.out.now) (g.K.Sink.told c.tell_summary.new.out) c.tell_summary.result c.tell_summary.ensures.told)
+
+pub returns-in-Err-clause-own : goal.returns-in-Err-clause-own
+returns-in-Err-clause-own g c = subst IsOfTrial (sym c.of_trial.ensures) (trial_own c.in-Err.fault)
