@@ -92,6 +92,7 @@ def main():
         faults += sweep("a resumed run", program, ["run", "--resume", "DIR"], RESUMED, before, shim, work)
         faults += sweep("records", program, ["records", "DIR"], [], before, shim, work)
         transcript = subprocess.run([program, "run", f"{work}/again"], input="\n".join(TRANSFER) + "\n", stdout=subprocess.PIPE, text=True, check=True).stdout
+        faults += sweep("a trial", program, ["trial", "3281911331042271238", "20"], [], None, shim, work)
         faults += sweep("check", program, ["check"], transcript.splitlines(), None, shim, work)
     finally:
         shutil.rmtree(work)
