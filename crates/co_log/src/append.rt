@@ -18,7 +18,7 @@ use crate::writing::write_batch;
 use co_disk::{Disk, DiskFault};
 use co_frame::{MOST_LOG_BYTES, OPEN_GATE, put_batch};
 use co_outside::{Home, Spot};
-use co_record::{Record, put_record};
+use co_record::{LentPrepare, Record, put_prepare, put_record};
 use std::alloc::{AllocError, Global};
 
 /// How a log write that met no fault ended.
@@ -43,15 +43,34 @@ fn put_records(items: &[Record], into: &mut Vec<u8>) -> Result<(), AllocError>
     Ok(())
 }
 
-/// The bytes of these records and then of those.
-fn spell(alloc: Global, front: &[Record], back: &[Record]) -> Result<Vec<u8>, AllocError>
+/// Appends the spellings of prepare records whose sets are lent.
+fn put_lent(items: &[LentPrepare<'_>], into: &mut Vec<u8>) -> Result<(), AllocError>
+    requires { AllByRecursion IsWritable items.now }
+    ensures bytes { OnOk result (into.new.items ≡ into.old.items ++ spelled items.now) }
+    ensures each { OnOk result (AllByRecursion IsSpelled items.now) }
+{
+    for item in items {
+        put_prepare(item, into)?;
+    }
+    Ok(())
+}
+
+/// The bytes of these records, then of the lent ones, and then of those.
+fn spell(
+    alloc: Global,
+    front: &[Record],
+    lent: &[LentPrepare<'_>],
+    back: &[Record],
+) -> Result<Vec<u8>, AllocError>
     requires front { AllByRecursion IsWritable front.now }
+    requires lent { AllByRecursion IsWritable lent.now }
     requires back { AllByRecursion IsWritable back.now }
-    ensures bytes { IfOk result (λ v. v.items ≡ spelled (front.now ++ back.now)) }
-    ensures each { OnOk result (AllByRecursion IsSpelled (front.now ++ back.now)) }
+    ensures bytes { IfOk result (λ v. v.items ≡ spelled (front.now ++ (lent.now ++ back.now))) }
+    ensures each { OnOk result (AllByRecursion IsSpelled (front.now ++ (lent.now ++ back.now))) }
 {
     let mut bytes = Vec::new(alloc);
     put_records(front, &mut bytes)?;
+    put_lent(lent, &mut bytes)?;
     put_records(back, &mut bytes)?;
     Ok(bytes)
 }
@@ -73,25 +92,27 @@ fn gate_after(stable: bool, gate: u32, next: u32) -> u32
     if stable { next } else { gate }
 }
 
-/// The bytes of a batch of these records and then of those, with a closed gate behind it. `Full` comes where the file
+/// The bytes of a batch of these records, then of the lent ones, and then of those, with a closed gate behind it. `Full` comes where the file
 /// would have more than 268,435,456 bytes with it behind the gate at this place.
 fn batch_of(
     alloc: Global,
     spot: Spot,
     gate: u32,
     front: &[Record],
+    lent: &[LentPrepare<'_>],
     back: &[Record],
 ) -> Result<Vec<u8>, LogFault>
-    requires some { 0 < length (front.now ++ back.now) }
+    requires some { 0 < length (front.now ++ (lent.now ++ back.now)) }
     requires front { AllByRecursion IsWritable front.now }
+    requires lent { AllByRecursion IsWritable lent.now }
     requires back { AllByRecursion IsWritable back.now }
-    ensures bytes { IfOk result (λ v. v.items ≡ closed_batch (front.now ++ back.now)) }
-    ensures each { OnOk result (AllByRecursion IsSpelled (front.now ++ back.now)) }
-    ensures short { OnOk result (gate + 6 + length (spelled (front.now ++ back.now)) ≤ 268435456) }
-    ensures full { IsErrOf result (LogFault.Full spot) → IsTooLong gate (front.now ++ back.now) }
+    ensures bytes { IfOk result (λ v. v.items ≡ closed_batch (front.now ++ (lent.now ++ back.now))) }
+    ensures each { OnOk result (AllByRecursion IsSpelled (front.now ++ (lent.now ++ back.now))) }
+    ensures short { OnOk result (gate + 6 + length (spelled (front.now ++ (lent.now ++ back.now))) ≤ 268435456) }
+    ensures full { IsErrOf result (LogFault.Full spot) → IsTooLong gate (front.now ++ (lent.now ++ back.now)) }
     ensures faults { IfErr result (λ e. (e ≡ LogFault.Full spot) ⊎ (e ≡ LogFault.Memory)) }
 {
-    let records = spell(alloc, front, back)?;
+    let records = spell(alloc, front, lent, back)?;
     if gate as usize + 6 + records.len() > MOST_LOG_BYTES {
         return Err(LogFault::Full { spot });
     }
@@ -100,7 +121,7 @@ fn batch_of(
     Ok(batch)
 }
 
-/// Appends these records and then those in one batch behind the gate at a place, and opens it. The memory that the
+/// Appends these records, then the lent ones, and then those in one batch behind the gate at a place, and opens it. The memory that the
 /// batch wants is taken before the first device call. `Full` comes, before any device call, where the file would have
 /// more than 268,435,456 bytes; `Device` only where the home failed; `Memory` before or in the first device call.
 pub(crate) fn append<H: Home>(
@@ -109,6 +130,7 @@ pub(crate) fn append<H: Home>(
     home: &mut H,
     gate: u32,
     front: &[Record],
+    lent: &[LentPrepare<'_>],
     back: &[Record],
     stop: &mut Option<Stop>,
 ) -> Result<Ending, LogFault>
@@ -117,21 +139,22 @@ pub(crate) fn append<H: Home>(
     requires read { IsShort disk.old }
     requires stop { IfSome stop.old (λ s. (1 ≤ s.call) × (s.call ≤ 4)) }
     requires ends { (kept : List (ℕ × Record)) × EndsAt disk.old.state.stable gate kept }
-    requires some { 0 < length (front.now ++ back.now) }
+    requires some { 0 < length (front.now ++ (lent.now ++ back.now)) }
     requires front { AllByRecursion IsWritable front.now }
+    requires lent { AllByRecursion IsWritable lent.now }
     requires back { AllByRecursion IsWritable back.now }
     ensures spot { disk.new.spot ≡ disk.old.spot }
-    ensures ended { (kept : List (ℕ × Record)) → EndsAt disk.old.state.stable gate kept → IfOk result (λ e. IsEnding e stop.old disk.new gate kept (front.now ++ back.now)) }
+    ensures ended { (kept : List (ℕ × Record)) → EndsAt disk.old.state.stable gate kept → IfOk result (λ e. IsEnding e stop.old disk.new gate kept (front.now ++ (lent.now ++ back.now))) }
     ensures disarmed { OnOk result (stop.new ≡ None) }
     ensures stop { IfSome stop.new (λ s. (1 ≤ s.call) × (s.call ≤ 4)) }
     ensures stable { OnOk result (disk.new.state.pending ≡ []) }
     ensures agrees { OnOk result (Agrees (H.file home.new disk.old.spot) (H.reach home.new disk.old.spot) (read_of disk.new.state)) }
     ensures clean { OnOk result (IsClean (H.file home.new disk.old.spot)) }
-    ensures full { IsErrOf result (LogFault.Full disk.old.spot) → IsTooLong gate (front.now ++ back.now) }
-    ensures too_long { IsTooLong gate (front.now ++ back.now) → IsErrOf result (LogFault.Full disk.old.spot) ⊎ IsErrOf result LogFault.Memory }
-    ensures untouched { IsTooLong gate (front.now ++ back.now) → (disk.new ≡ disk.old) × (stop.new ≡ stop.old) × (home.new ≡ home.old) }
-    ensures short { OnOk result (gate + 6 + length (spelled (front.now ++ back.now)) ≤ 268435456) }
-    ensures told { (kept : List (ℕ × Record)) → EndsAt disk.old.state.stable gate kept → OnErr result ((f : File) → H.file home.new disk.old.spot ≡ Some f → OldOrBoth f.bytes gate kept (front.now ++ back.now)) }
+    ensures full { IsErrOf result (LogFault.Full disk.old.spot) → IsTooLong gate (front.now ++ (lent.now ++ back.now)) }
+    ensures too_long { IsTooLong gate (front.now ++ (lent.now ++ back.now)) → IsErrOf result (LogFault.Full disk.old.spot) ⊎ IsErrOf result LogFault.Memory }
+    ensures untouched { IsTooLong gate (front.now ++ (lent.now ++ back.now)) → (disk.new ≡ disk.old) × (stop.new ≡ stop.old) × (home.new ≡ home.old) }
+    ensures short { OnOk result (gate + 6 + length (spelled (front.now ++ (lent.now ++ back.now))) ≤ 268435456) }
+    ensures told { (kept : List (ℕ × Record)) → EndsAt disk.old.state.stable gate kept → OnErr result ((f : File) → H.file home.new disk.old.spot ≡ Some f → OldOrBoth f.bytes gate kept (front.now ++ (lent.now ++ back.now))) }
     ensures memory { (kept : List (ℕ × Record)) → EndsAt disk.old.state.stable gate kept → IsErrOf result LogFault.Memory → (f : File) → H.file home.new disk.old.spot ≡ Some f → EndsAt f.bytes gate kept }
     ensures read { IsShort disk.new }
     ensures within { IsWithin 268435456 (H.file home.new disk.old.spot) }
@@ -140,7 +163,7 @@ pub(crate) fn append<H: Home>(
     ensures device { IsErrOf result (LogFault.Device disk.old.spot) → HasFailed H.faults H.last_failed disk.old.spot home.old home.new }
     ensures quiet { (IsErrOf result (LogFault.Device disk.old.spot) → ⊥) → H.faults home.new ≡ H.faults home.old }
 {
-    let batch = batch_of(alloc, disk.spot(), gate, front, back)?;
+    let batch = batch_of(alloc, disk.spot(), gate, front, lent, back)?;
     let next = gate + batch.len() as u32;
     let stop = stop.take();
     match write_batch(disk, home, gate, &batch, stop) {

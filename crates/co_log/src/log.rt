@@ -1,5 +1,6 @@
 //! The log of a node.
 ghost use Rattle.std.specs.Prelude.{◌≡◌, ◌≤◌, ◌<◌, ◌+◌, ◌++◌, ◌∷◌, ◌==◌, [], ℕ, List, length, OnOk, OnErr, IfOk, IfErr, IsErrOf, Some, None, true, false, ◌⊎◌};
+ghost use Rattle.std.specs.List.{AllByRecursion};
 ghost use Rattle.co_outside.specs.Home.{File};
 ghost use Rattle.co_disk.specs.DiskModel.{read_of};
 ghost use Rattle.co_record.specs.declared.record.Record.{Record};
@@ -14,7 +15,7 @@ use crate::stop::Stop;
 use co_base::{Leaves, Marks, Node};
 use co_disk::Disk;
 use co_outside::{Home, Spot};
-use co_record::{Record, Views, begins_closed};
+use co_record::{LentPrepare, Record, Views, begins_closed};
 use std::alloc::{AllocError, Global};
 use std::marker::Model;
 
@@ -137,6 +138,63 @@ impl Log {
         begins_closed(self.spare.bytes())
     }
 
+    /// Appends the waiting records, then the lent ones, and then those, in one log write, as `force` does one record.
+    fn force_all<H: Home>(
+        &mut self,
+        home: &mut H,
+        lent: &[LentPrepare<'_>],
+        back: &[Record],
+    ) -> Result<Marks, LogFault>
+        requires held { IsHeld (H.file home.old) (H.reach home.old) self.old }
+        requires newest { self.old.version ≡ newest }
+        requires live { (items : List (ℕ × Record)) × IsLive self.old items }
+        requires some { 0 < length (lent.now ++ back.now) }
+        requires lent { AllByRecursion IsWritable lent.now }
+        requires back { AllByRecursion IsWritable back.now }
+        ensures forced { (items : List (ℕ × Record)) → IsLive self.old items → IsForced self.old items (self.old.waiting ++ (lent.now ++ back.now)) self.new result }
+        ensures held { IsDone result → IsHeld (H.file home.new) (H.reach home.new) self.new }
+        ensures clean { IsDone result → IsClean (H.file home.new self.old.current.spot) }
+        ensures full { IsErrOf result (LogFault.Full self.old.current.spot) → IsTooLong self.old.gate (self.old.waiting ++ (lent.now ++ back.now)) }
+        ensures too_long { IsTooLong self.old.gate (self.old.waiting ++ (lent.now ++ back.now)) → IsErrOf result (LogFault.Full self.old.current.spot) ⊎ IsErrOf result LogFault.Memory }
+        ensures untouched { IsTooLong self.old.gate (self.old.waiting ++ (lent.now ++ back.now)) → (self.new ≡ self.old) × (home.new ≡ home.old) }
+        ensures told { (items : List (ℕ × Record)) → IsLive self.old items → (f : File) → H.file home.new self.old.current.spot ≡ Some f → IsDone result ⊎ OldOrBoth f.bytes self.old.gate items (self.old.waiting ++ (lent.now ++ back.now)) }
+        ensures memory { (items : List (ℕ × Record)) → IsLive self.old items → IsErrOf result LogFault.Memory → (f : File) → H.file home.new self.old.current.spot ≡ Some f → EndsAt f.bytes self.old.gate items }
+        ensures current { (items : List (ℕ × Record)) → IsOrdered self.old items → (c s : File) → H.file home.new self.old.current.spot ≡ Some c → H.file home.new self.old.spare.spot ≡ Some s → IsCurrentForced self.old items (self.old.waiting ++ (lent.now ++ back.now)) c.bytes s.bytes result }
+        ensures short { BothWithin (H.file home.new) self.old }
+        ensures faults { IfErr result (IsOfForce self.old.current.spot) }
+        ensures rest { RestStays H.file H.reach H.entered H.faults self.old.current.spot home.old home.new }
+        ensures device { IsErrOf result (LogFault.Device self.old.current.spot) → HasFailed H.faults H.last_failed self.old.current.spot home.old home.new }
+        ensures quiet { (IsErrOf result (LogFault.Device self.old.current.spot) → ⊥) → H.faults home.new ≡ H.faults home.old }
+    {
+        let told = marks(self.alloc, self.node, self.waiting.as_slice(), lent, back)?;
+        let ending = append(
+            self.alloc,
+            &mut self.current,
+            home,
+            self.gate,
+            self.waiting.as_slice(),
+            lent,
+            back,
+            &mut self.stop,
+        )?;
+        self.waiting.clear();
+        match ending {
+            Ending::Whole { next } => {
+                self.gate = next;
+                Ok(told)
+            }
+            Ending::Stopped { call, stable, next } => {
+                self.gate = next;
+                let marks = marks_if(self.alloc, stable, told);
+                Err(LogFault::Stopped {
+                    call,
+                    stable,
+                    marks,
+                })
+            }
+        }
+    }
+
     /// Appends one batch in one log write: the waiting records in order, and then this one, which is a prepare, a
     /// commit, an abort or an end. The current file is of version 2, as the records that are written are. The four device calls are: write the batch with a closed gate behind it, sync, write the open gate before it, sync.
     ///
@@ -165,32 +223,34 @@ impl Log {
         ensures device { IsErrOf result (LogFault.Device self.old.current.spot) → HasFailed H.faults H.last_failed self.old.current.spot home.old home.new }
         ensures quiet { (IsErrOf result (LogFault.Device self.old.current.spot) → ⊥) → H.faults home.new ≡ H.faults home.old }
     {
-        let last = [item];
-        let told = marks(self.alloc, self.node, self.waiting.as_slice(), &last)?;
-        let ending = append(
-            self.alloc,
-            &mut self.current,
-            home,
-            self.gate,
-            self.waiting.as_slice(),
-            &last,
-            &mut self.stop,
-        )?;
-        self.waiting.clear();
-        match ending {
-            Ending::Whole { next } => {
-                self.gate = next;
-                Ok(told)
-            }
-            Ending::Stopped { call, stable, next } => {
-                self.gate = next;
-                let marks = marks_if(self.alloc, stable, told);
-                Err(LogFault::Stopped {
-                    call,
-                    stable,
-                    marks,
-                })
-            }
-        }
+        self.force_all(home, &[], &[item])
+    }
+
+    /// As `force`, of a prepare record whose sets are lent.
+    pub fn force_prepare<H: Home>(
+        &mut self,
+        home: &mut H,
+        item: LentPrepare<'_>,
+    ) -> Result<Marks, LogFault>
+        requires held { IsHeld (H.file home.old) (H.reach home.old) self.old }
+        requires newest { self.old.version ≡ newest }
+        requires live { (items : List (ℕ × Record)) × IsLive self.old items }
+        requires writable { IsWritable item }
+        ensures forced { (items : List (ℕ × Record)) → IsLive self.old items → IsForced self.old items (self.old.waiting ++ item.entry ∷ []) self.new result }
+        ensures held { IsDone result → IsHeld (H.file home.new) (H.reach home.new) self.new }
+        ensures clean { IsDone result → IsClean (H.file home.new self.old.current.spot) }
+        ensures full { IsErrOf result (LogFault.Full self.old.current.spot) → IsTooLong self.old.gate (self.old.waiting ++ item.entry ∷ []) }
+        ensures too_long { IsTooLong self.old.gate (self.old.waiting ++ item.entry ∷ []) → IsErrOf result (LogFault.Full self.old.current.spot) ⊎ IsErrOf result LogFault.Memory }
+        ensures untouched { IsTooLong self.old.gate (self.old.waiting ++ item.entry ∷ []) → (self.new ≡ self.old) × (home.new ≡ home.old) }
+        ensures told { (items : List (ℕ × Record)) → IsLive self.old items → (f : File) → H.file home.new self.old.current.spot ≡ Some f → IsDone result ⊎ OldOrBoth f.bytes self.old.gate items (self.old.waiting ++ item.entry ∷ []) }
+        ensures memory { (items : List (ℕ × Record)) → IsLive self.old items → IsErrOf result LogFault.Memory → (f : File) → H.file home.new self.old.current.spot ≡ Some f → EndsAt f.bytes self.old.gate items }
+        ensures current { (items : List (ℕ × Record)) → IsOrdered self.old items → (c s : File) → H.file home.new self.old.current.spot ≡ Some c → H.file home.new self.old.spare.spot ≡ Some s → IsCurrentForced self.old items (self.old.waiting ++ item.entry ∷ []) c.bytes s.bytes result }
+        ensures short { BothWithin (H.file home.new) self.old }
+        ensures faults { IfErr result (IsOfForce self.old.current.spot) }
+        ensures rest { RestStays H.file H.reach H.entered H.faults self.old.current.spot home.old home.new }
+        ensures device { IsErrOf result (LogFault.Device self.old.current.spot) → HasFailed H.faults H.last_failed self.old.current.spot home.old home.new }
+        ensures quiet { (IsErrOf result (LogFault.Device self.old.current.spot) → ⊥) → H.faults home.new ≡ H.faults home.old }
+    {
+        self.force_all(home, &[item], &[])
     }
 }

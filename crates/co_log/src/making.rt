@@ -56,6 +56,7 @@ impl Log {
             0,
             &header,
             &[],
+            &[],
             &mut unarmed,
         )?;
         match ending {

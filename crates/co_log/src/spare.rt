@@ -86,6 +86,7 @@ impl Log {
             home,
             0,
             &header,
+            &[],
             items,
             &mut self.stop,
         )?;

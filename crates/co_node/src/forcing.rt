@@ -15,7 +15,7 @@ use crate::going::keep_waiting;
 use crate::written::{Written, stopped};
 use co_log::{Log, NodeFault};
 use co_outside::Home;
-use co_record::Record;
+use co_record::{LentPrepare, Record};
 
 /// Forces one record, and the waiting ones in front of it, in one log write.
 ///
@@ -33,6 +33,27 @@ pub fn force<H: Home>(log: &mut Log, home: &mut H, item: Record) -> Result<Writt
     ensures rest { OtherNodesStay H.file H.reach H.entered H.faults log.old.node home.old home.new }
 {
     match log.force(home, item) {
+        Ok(marks) => Ok(Written::Done { marks }),
+        Err(fault) => stopped(fault),
+    }
+}
+
+/// As `force`, of a prepare record whose sets are lent.
+pub fn force_prepare<H: Home>(
+    log: &mut Log,
+    home: &mut H,
+    item: LentPrepare<'_>,
+) -> Result<Written, NodeFault>
+    requires held { IsHeld (H.file home.old) (H.reach home.old) log.old }
+    requires stands { (owner : Node) × (l : LogState) × RepresentsLog owner log.old l }
+    requires item { IsWritable item }
+    ensures written { (owner : Node) (l : LogState) → RepresentsLog owner log.old l → HasWritten (forcing owner l (item.entry ∷ [])) owner l log.new result }
+    ensures answered { (owner : Node) (l : LogState) → RepresentsLog owner log.old l →
+        IsAnswered owner log.old.current.spot (IsTooLong log.old.gate (log.old.waiting ++ item.entry ∷ [])) l.stable (with_batch l (item.entry ∷ [])).stable log.new
+        (seen H.file H.reach H.faults H.last_failed home.old) (seen H.file H.reach H.faults H.last_failed home.new) result }
+    ensures rest { OtherNodesStay H.file H.reach H.entered H.faults log.old.node home.old home.new }
+{
+    match log.force_prepare(home, item) {
         Ok(marks) => Ok(Written::Done { marks }),
         Err(fault) => stopped(fault),
     }

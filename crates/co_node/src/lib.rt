@@ -10,7 +10,7 @@ mod laws;
 mod spare;
 mod written;
 
-pub use forcing::{force, force_both};
+pub use forcing::{force, force_both, force_prepare};
 pub use going::{arm, crash, disarm, keep_waiting, reread};
 pub use laws::{opened_logs_stand, standing_logs_are_told};
 pub use spare::{close, fill, spare_closed};

@@ -10,8 +10,9 @@ ghost use Rattle.co_record.specs.Format.{newest, most_operations, most_members};
 ghost use Rattle.co_record.specs.Spelling.{spelling, IsWritable, IsSpelled, HasParts, key_text, value_text, held_text, change_text, range_text, row_text, txn_text, listed, IsKey, IsValue, IsRange, IsRow, IsChange, IsTxn};
 
 use crate::format::NEWEST_VERSION;
+use crate::lent::LentPrepare;
 use crate::record::Record;
-use co_base::{Bytes, Key, Node, Range, Ranges, Row, Rows, Txn, Txns, Value, Writes, Written};
+use co_base::{Bytes, Key, Node, Range, Row, Rows, Txn, Txns, Value, Writes, Written};
 use std::alloc::AllocError;
 
 /// Appends a key.
@@ -181,26 +182,26 @@ fn put_header(node: Node, generation: u32, into: &mut Vec<u8>) -> Result<(), All
 }
 
 /// Appends the ranges that a transaction read, behind their number.
-fn put_reads(reads: &Ranges, into: &mut Vec<u8>) -> Result<(), AllocError>
+fn put_reads(reads: &[Range], into: &mut Vec<u8>) -> Result<(), AllocError>
     requires { length reads.now ≤ most_operations }
     ensures ok { OnOk result (into.new.items ≡ into.old.items ++ listed w16 range_text reads.now) }
     ensures err { OnErr result (Begins into.old.items into.new.items) }
     ensures each { OnOk result (AllByRecursion IsRange reads.now) }
 {
     put_count(reads.len(), into)?;
-    put_ranges(reads.as_slice(), into)?;
+    put_ranges(reads, into)?;
     Ok(())
 }
 
 /// Appends the writes of a transaction, behind their number.
-fn put_writes(writes: &Writes, into: &mut Vec<u8>) -> Result<(), AllocError>
+fn put_writes(writes: &[Written], into: &mut Vec<u8>) -> Result<(), AllocError>
     requires { length writes.now ≤ most_operations }
     ensures ok { OnOk result (into.new.items ≡ into.old.items ++ listed w16 change_text writes.now) }
     ensures err { OnErr result (Begins into.old.items into.new.items) }
     ensures each { OnOk result (AllByRecursion IsChange writes.now) }
 {
     put_count(writes.len(), into)?;
-    put_changes(writes.as_slice(), into)?;
+    put_changes(writes, into)?;
     Ok(())
 }
 
@@ -214,6 +215,20 @@ fn put_vote(txn: Txn, coord: u8, count: u16, into: &mut Vec<u8>) -> Result<(), A
     put_txn(&txn, into)?;
     into.push(coord)?;
     into.extend_from_slice(&count.to_be_bytes())?;
+    Ok(())
+}
+
+/// Appends the one spelling of a prepare record whose sets are lent, as `put_record` does that of the record that it
+/// stands for.
+pub fn put_prepare(item: &LentPrepare<'_>, into: &mut Vec<u8>) -> Result<(), AllocError>
+    requires { IsWritable item.now }
+    ensures ok { OnOk result (into.new.items ≡ into.old.items ++ spelling newest item.now) }
+    ensures spelled { OnOk result (IsSpelled item.now) }
+    ensures err { OnErr result (Begins into.old.items into.new.items) }
+{
+    put_vote(item.txn, item.coord, item.count, into)?;
+    put_reads(item.reads, into)?;
+    put_writes(item.writes, into)?;
     Ok(())
 }
 
@@ -300,9 +315,8 @@ pub fn put_record(item: &Record, into: &mut Vec<u8>) -> Result<(), AllocError>
             reads,
             writes,
         } => {
-            put_vote(*txn, *coord, *count, into)?;
-            put_reads(reads, into)?;
-            put_writes(writes, into)?;
+            let lent = LentPrepare::new(*txn, *coord, *count, reads.as_slice(), writes.as_slice());
+            put_prepare(&lent, into)?;
         }
         Record::Commit { txn, members } => put_commit(*txn, members, into)?,
         Record::Abort { txn } => put_plain(4, *txn, into)?,

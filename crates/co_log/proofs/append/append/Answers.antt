@@ -7,14 +7,14 @@ use Rattle.co_log.proofs.append.append.Goals as goal
 
 pub returns-in-Ok-clause-ended : goal.returns-in-Ok-clause-ended
 returns-in-Ok-clause-ended g c = λ kept ends.
-    let more = c.args.front.now ++ c.args.back.now in
+    let more = c.args.front.now ++ (c.args.lent.now ++ c.args.back.now) in
     let batch = c.deref.ensures.value ∙ c.in_ok-batch.ensures.bytes in
     let one = is_batch c.args.gate more c.requires.some c.in_ok-batch.ensures.short in
     (sym c.take-stop.ensures.value ∙ c.in-Ok.ensures.passed, omega (arith, c.len.ensures, behind_batch c.args.gate c.in_ok-batch.batch.items more c.in_ok-batch.ensures.bytes), whole_ends c.args.disk.now.state.stable c.deref.result.now c.args.gate kept more c.write_batch.new.disk.state batch c.in-Ok.ensures.done c.in_ok-batch.ensures.each one ends)
 
 pub returns-in-Err-Stopped-clause-ended : goal.returns-in-Err-Stopped-clause-ended
 returns-in-Err-Stopped-clause-ended g c = λ kept ends.
-    let more = c.args.front.now ++ c.args.back.now in
+    let more = c.args.front.now ++ (c.args.lent.now ++ c.args.back.now) in
     let batch = c.deref.ensures.value ∙ c.in_ok-batch.ensures.bytes in
     let one = is_batch c.args.gate more c.requires.some c.in_ok-batch.ensures.short in
     let stopped = c.in-Err-Stopped.ensures.stopped c.in-Err-Stopped.call (search rules) in
@@ -28,14 +28,14 @@ returns-in-Err-Stopped-clause-stable g c = (c.in-Err-Stopped.ensures.stopped c.i
 
 pub returns-in-Err-Device-clause-told : goal.returns-in-Err-Device-clause-told
 returns-in-Err-Device-clause-told g c = λ kept ends f told.
-    let more = c.args.front.now ++ c.args.back.now in
+    let more = c.args.front.now ++ (c.args.lent.now ++ c.args.back.now) in
     let batch = c.deref.ensures.value ∙ c.in_ok-batch.ensures.bytes in
     let one = is_batch c.args.gate more c.requires.some c.in_ok-batch.ensures.short in
     told_ends c.args.disk.now.state.stable c.deref.result.now f.bytes c.args.gate kept more batch c.in_ok-batch.ensures.each one ends (c.in-Err-Device.ensures.image f told)
 
 pub returns-in-Err-Memory-clause-told : goal.returns-in-Err-Memory-clause-told
 returns-in-Err-Memory-clause-told g c = λ kept ends f told.
-    let more = c.args.front.now ++ c.args.back.now in
+    let more = c.args.front.now ++ (c.args.lent.now ++ c.args.back.now) in
     let batch = c.deref.ensures.value ∙ c.in_ok-batch.ensures.bytes in
     let one = is_batch c.args.gate more c.requires.some c.in_ok-batch.ensures.short in
     told_ends c.args.disk.now.state.stable c.deref.result.now f.bytes c.args.gate kept more batch c.in_ok-batch.ensures.each one ends (c.in-Err-Memory.ensures.image f told)
