@@ -1,18 +1,21 @@
 -- What carrying a plan out leaves of the plain member, once its change in memory and its log write were done.
 use Rattle.std.proofs.Common.{◌≡◌, ℕ, Bool, true, false, List, [], ◌∷◌, ◌++◌, refl, sym, ap, subst, ◌∙◌}
-use Rattle.std.specs.Prelude.{Option, None, Some, is_some, if◌then◌else◌, Result, Ok, IfOk}
+use Rattle.std.specs.Prelude.{IsTrue, Option, None, Some, is_some, if◌then◌else◌, Result, Ok, IfOk}
 use Rattle.co_base.specs.declared.head.Kind.{Kind}
 use Rattle.co_base.specs.declared.leaves.Leaves.{Leaves}
 use Rattle.co_base.specs.declared.mark.Mark.{Mark}
 use Rattle.co_base.specs.declared.node.Node.TheVariants as node
+use Rattle.co_log.specs.LogView.{LogView}
 use Rattle.co_log.specs.declared.fault.NodeFault.{NodeFault}
 use Rattle.co_message.specs.declared.answer.Answer.{Answer}
 use Rattle.co_message.specs.declared.answer.Answer.TheVariants as answer
 use Rattle.co_message.specs.declared.message.Message.{Message}
 use Rattle.co_node.specs.NodeLog.{RepresentsLog}
 use Rattle.co_node.specs.Writes.{forcing, HasWritten}
+use Rattle.co_node.specs.declared.written.Written.{Written}
 use Rattle.co_node.specs.declared.written.Written.TheVariants.{Done, Stopped}
 use Rattle.co_plain.specs.LogWrite.{crashed_log, marks_of, outcome_of, with_batch, with_stop}
+use Rattle.co_plain.specs.Member.{prepare_record, voted_state}
 use Rattle.co_plain.specs.MemberLog.{member_arm, member_crash, member_restart, restart_by}
 use Rattle.co_plain.specs.MemberStep.{forced_by, member_down_with, stopped_member, with_log}
 use Rattle.co_plain.specs.MemberView.{recovered_view}
@@ -23,9 +26,11 @@ use Rattle.co_plain.specs.declared.member_step.MemberStep.{MemberStep as PlainSt
 use Rattle.co_plain.specs.declared.outcome.Outcome.{Outcome}
 use Rattle.co_record.specs.Gate.{batch_is_stable}
 use Rattle.co_record.specs.declared.record.Record.{Record}
+use Rattle.co_state.specs.Changes.{sets_of}
+use Rattle.co_state.specs.EngineState.{is_undecided, operations_of, sets_at}
 use Rattle.co_state.specs.declared.engine_state.EngineState.{EngineState}
 use Rattle.co_member.specs.Plans.{changed, carried, carried_out}
-use Rattle.co_member.specs.Standing.{is_up, RepresentsMember, RepresentsRunning, HasDone}
+use Rattle.co_member.specs.Standing.{is_up, RepresentsMember, RepresentsRunning, HasDone, HasEnded, IsSame}
 use Rattle.co_member.specs.Writing.{HasWrittenFor}
 use Rattle.co_member.specs.declared.member.Member.{Member}
 use Rattle.co_member.specs.declared.plan.Change.{Change}
@@ -35,6 +40,7 @@ use Rattle.co_member.specs.declared.plan.Writes.{Writes}
 use Rattle.co_member.specs.declared.plan.Writes.TheVariants.{Nothing, Keeps, Forces, ForcesBoth}
 use Rattle.co_member.specs.declared.running.Running.{Running}
 use Rattle.co_member.specs.declared.step.MemberStep.{MemberStep}
+use Rattle.co_member.proofs.Changing.{cast_sets, cast_undecided}
 
 -- no change of a transaction touches the log, nor whether the member runs
 pub changed_log : (x : MemberState) (t : ℕ) (change : Change) → (changed x t change).log ≡ x.log
@@ -151,6 +157,28 @@ module _ {E : Type 0} (stands_for : E → EngineState → Type 0) where
   stopped_step x after next (Keeps item) a sent call marks number kind none h = absurd h
   stopped_step x after next (Forces item) a sent call marks number kind none h = forced_stopped x after next (item ∷ []) a sent call marks number kind none h
   stopped_step x after next (ForcesBoth first item) a sent call marks number kind none h = forced_stopped x after next (item ∷ first ∷ []) a sent call marks number kind none h
+
+  -- ---- a write that ended
+
+  pub ended_step : (x before after : Member E) (y next : MemberState) (r : Running E) (w : Writes) (a : Answer) (sent : Option Message) (written : Written) (d : MemberStep) → RepresentsMember stands_for x y → is_up x ≡ true → before.number ≡ x.number
+      → before.kind ≡ x.kind → before.running ≡ Some r → next.up ≡ y.up → RepresentsRunning stands_for x.kind r next → HasWrittenFor w (node.Member x.number) next.log before.log (Ok written)
+      → HasEnded a sent written before d after → after.log ≡ before.log → IsSame before after → HasDone stands_for (carried w x.number next a sent) d after
+  ended_step x before after y next r w a sent (Done marks) d s up number kind is stays running h e log same =
+      let step = carried w x.number next a sent in
+      let told : MemberStep = record { answer = a; sent = sent; marks = marks } in
+      subst (λ (k : MemberStep). HasDone stands_for step k after) (sym e.0)
+      (subst (λ (m : Member E). HasDone stands_for step told m) (sym e.1) (done_step x before y next r w a sent marks s up number kind is stays running h))
+  ended_step x before after y next r w a sent (Stopped call marks) d s up number kind is stays running h e log same =
+      subst (λ (k : MemberStep). HasDone stands_for (carried w x.number next a sent) k after) (sym e.0)
+      (stopped_step x after next w a sent call marks (same.number ∙ number) (same.kind ∙ kind ∙ sym running.kind) e.1
+      (subst (λ (v : LogView). HasWrittenFor w (node.Member x.number) next.log v (Ok (Stopped call marks))) (sym log) h))
+
+  -- the record of a vote that was cast, lent from what the member has in memory
+  pub lent_record : (kind : Kind) (o : Option (Running E)) (r u : Running E) (y : MemberState) (t coord count : ℕ) (item : Record) → o ≡ Some r → o ≡ Some u → RepresentsRunning stands_for kind r (voted_state y t coord count)
+      → ((k : Kind) (x : MemberState) → RepresentsRunning stands_for k u x → IsTrue (is_undecided x.engine t) → item ≡ prepare_record t coord count (sets_at x.engine t)) → item ≡ prepare_record t coord count (sets_of (operations_of y.engine t))
+  lent_record kind o r u y t coord count item is other running lends =
+      let here' = subst (λ (v : Running E). RepresentsRunning stands_for kind v (voted_state y t coord count)) (same_here is other) running in
+      lends kind (voted_state y t coord count) here' (cast_undecided y t coord count) ∙ ap (prepare_record t coord count) (cast_sets y t coord count)
 
   -- ---- plans
 

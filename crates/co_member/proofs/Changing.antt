@@ -1,7 +1,9 @@
 -- What a member has in memory after a change of a transaction.
-use Rattle.std.proofs.Common.{◌≡◌, ℕ, false, Option, None, Some, is_some, refl, sym, ap, subst, ◌<◌, ◌⊎◌, inl, inr, ◌∙◌, arith}
+use Rattle.std.proofs.Common.{◌≡◌, ◌||◌, ℕ, true, false, Option, None, Some, is_some, refl, sym, ap, subst, ◌<◌, ◌⊎◌, inl, inr, ◌∙◌, arith}
 use Rattle.co_state.specs.declared.engine_state.EngineState.{EngineState}
 use Rattle.co_base.specs.declared.head.Kind.{Kind}
+use Rattle.co_state.specs.Changes.{sets_of}
+use Rattle.co_state.specs.EngineState.{is_undecided, operations_of, sets_at, sets_in}
 use Rattle.co_state.specs.Effects.{after_drop, after_cast, after_install, install_vote}
 use Rattle.co_state.specs.declared.engine_state.Vote.{Vote}
 use Rattle.co_state.specs.Table.{Table, look, without, holds}
@@ -76,3 +78,14 @@ pub cast_stands : (x : MemberState) (t coord count : ℕ) → standing_of (voted
 cast_stands x t coord count =
     let b = after_cast x.engine t coord count in
     ap (λ a. standing_by a (holds b.voted t) (holds x.committed t)) (ap is_some (gone x.engine.active t)) ∙ ap (λ v. standing_by false v (holds x.committed t)) (ap is_some (here x.engine.voted t _))
+
+-- and keeps what it read and wrote
+pub cast_undecided : (x : MemberState) (t coord count : ℕ) → is_undecided (after_cast x.engine t coord count) t ≡ true
+cast_undecided x t coord count =
+    let b = after_cast x.engine t coord count in
+    ap (λ a. a || holds b.voted t) (ap is_some (gone x.engine.active t)) ∙ ap is_some (here x.engine.voted t _)
+
+pub cast_sets : (x : MemberState) (t coord count : ℕ) → sets_at (after_cast x.engine t coord count) t ≡ sets_of (operations_of x.engine t)
+cast_sets x t coord count =
+    let b = after_cast x.engine t coord count in
+    ap (λ v. sets_in v (operations_of b t)) (here x.engine.voted t _)

@@ -25,6 +25,8 @@ use Rattle.co_plain.specs.declared.standing.Standing.{Standing}
 use Rattle.co_plain.specs.declared.standing.Standing.TheVariants.{IsActive, IsVoted, IsInstalled, IsAbsent}
 use Rattle.co_member.specs.declared.plan.Change.{Change}
 use Rattle.co_member.specs.declared.plan.Change.TheVariants.{Stays, Casts, Drops, Installs, CastsAndInstalls}
+use Rattle.co_member.specs.declared.plan.Course.{Course}
+use Rattle.co_member.specs.declared.plan.Course.TheVariants.{Carries, Grants}
 use Rattle.co_member.specs.declared.plan.Plan.{Plan}
 use Rattle.co_member.specs.declared.plan.Writes.{Writes}
 use Rattle.co_member.specs.declared.plan.Writes.TheVariants.{Nothing, Keeps, Forces, ForcesBoth}
@@ -51,6 +53,11 @@ vote_plan m t coord count kept sets VoteYes =
       answer = answer.Yes;
       sent = Some (message.Vote t m coord true);
     }
+
+-- the plan that a course of this member comes to, by what the transaction read and wrote
+abbrev pub plan_of : Course → ℕ → MemberState → ℕ → Plan
+plan_of (Carries plan) m x t = plan
+plan_of (Grants coord count) m x t = vote_plan m t coord count (kept_count x.engine t) (sets_of (operations_of x.engine t)) VoteYes
 
 -- the ballot on a transaction that this coordinator asked about
 abbrev pub ballot_plan : ℕ → MemberState → ℕ → ℕ → ℕ → Plan

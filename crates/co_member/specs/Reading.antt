@@ -1,5 +1,5 @@
 -- What a member tells of its transactions.
-use Rattle.std.specs.Prelude.{ℕ, Option, None, Some, option_map}
+use Rattle.std.specs.Prelude.{ℕ, Option, option_map}
 use Rattle.co_state.specs.declared.engine_state.EngineState.{EngineState}
 use Rattle.co_state.specs.declared.verdict.Verdict.{Verdict}
 use Rattle.co_state.specs.Table.{is_above, least_where, lesser}

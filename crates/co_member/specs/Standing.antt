@@ -1,12 +1,14 @@
 -- For which plain member a member stands, and what a call of it does.
-use Rattle.std.specs.Prelude.{ℕ, Bool, ◌≡◌, None, Some, is_some, Result, Ok, Err}
+use Rattle.std.specs.Prelude.{ℕ, Bool, ◌≡◌, Option, None, Some, is_some, Result, Ok, Err}
 use Rattle.co_base.specs.declared.head.Kind.{Kind}
 use Rattle.co_base.specs.declared.node.Node.TheVariants as node
 use Rattle.co_log.specs.declared.fault.NodeFault.{NodeFault}
 use Rattle.co_message.specs.declared.answer.Answer.{Answer}
+use Rattle.co_message.specs.declared.answer.Answer.TheVariants as answer
+use Rattle.co_message.specs.declared.message.Message.{Message}
 use Rattle.co_node.specs.NodeLog.{RepresentsLog}
 use Rattle.co_node.specs.declared.written.Written.{Written}
-use Rattle.co_node.specs.declared.written.Written.TheVariants.{Done}
+use Rattle.co_node.specs.declared.written.Written.TheVariants.{Done, Stopped}
 use Rattle.co_plain.specs.MemberStep.{member_down_with, standing_of}
 use Rattle.co_plain.specs.declared.member_state.MemberState.{MemberState}
 use Rattle.co_plain.specs.declared.member_step.MemberStep.{MemberStep as PlainStep}
@@ -55,6 +57,11 @@ pub record IsSame {E : Type 0} (old new : Member E) : Type 0 where
 abbrev pub written_by : Result MemberStep NodeFault → Result Written NodeFault
 written_by (Ok d) = Ok (Done d.marks)
 written_by (Err e) = Err e
+
+-- what is left once a log write ended: the answer and what is sent where it was done, and a member that is down where it was stopped
+abbrev pub HasEnded : {E : Type 0} → Answer → Option Message → Written → Member E → MemberStep → Member E → Type 0
+HasEnded a sent (Done marks) old d new = (d ≡ record { answer = a; sent = sent; marks = marks }) × (new ≡ old)
+HasEnded a sent (Stopped call marks) old d new = (d ≡ record { answer = answer.Stopped call; sent = None; marks = marks }) × (new.running ≡ None)
 
 -- a change is one of a transaction that stands so: a vote is cast by an active one, and a voted one is installed
 abbrev pub Suits : MemberState → ℕ → Change → Type 0

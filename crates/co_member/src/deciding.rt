@@ -62,10 +62,10 @@ impl<E: Engine + Drop> Member<E> {
         // What is read of either file is within its bounds, also where there is no memory.
         let _ = self.log.lengths();
         self.take_note(message);
-        let plan = self
+        let course = self
             .running()
             .deliver_plan(self.alloc, self.number, message)?;
-        self.carry_out(home, txn_of(message), plan)
+        self.follow(home, txn_of(message), course)
     }
 
     /// A vote that is held is tried again.
@@ -85,8 +85,8 @@ impl<E: Engine + Drop> Member<E> {
     {
         // What is read of either file is within its bounds, also where there is no memory.
         let _ = self.log.lengths();
-        let plan = self.running().again_plan(self.alloc, self.number, t)?;
-        self.carry_out(home, t, plan)
+        let course = self.running().again_plan(self.number, t)?;
+        self.follow(home, t, course)
     }
 
     /// The client asks for the commit of a local transaction, which is neither voted nor installed, and carries how many operations it saw answered.

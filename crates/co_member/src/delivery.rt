@@ -3,11 +3,10 @@ ghost use Rattle.std.specs.Prelude.{◌≡◌, [], IfOk};
 ghost use Rattle.co_base.specs.declared.head.Kind.{Kind};
 ghost use Rattle.co_plain.specs.declared.member_state.MemberState.{MemberState};
 ghost use Rattle.co_record.specs.declared.record.Record.TheVariants as log;
-ghost use Rattle.co_member.specs.Conditions.{IsCastableFor};
-ghost use Rattle.co_member.specs.Plans.{commit_plan, abort_plan, decide_plan, deliver_plan, marked, txn_of};
+ghost use Rattle.co_member.specs.Plans.{commit_plan, abort_plan, decide_plan, deliver_plan, marked, plan_of, txn_of};
 ghost use Rattle.co_member.specs.Standing.{RepresentsRunning};
 
-use crate::plan::{Change, Plan, Writes, drops, says, sends};
+use crate::plan::{Change, Course, Plan, Writes, drops, says, sends};
 use crate::running::Running;
 use co_base::{Bytes, Txn};
 use co_engine::Engine;
@@ -120,9 +119,9 @@ impl<E: Engine> Running<E> {
         alloc: Global,
         member: u8,
         message: &Message,
-    ) -> Result<Plan, AllocError>
-        ensures { (kind : Kind) (x : MemberState) → RepresentsRunning E.stands_for kind self.now x → IsCastableFor x message.now →
-            IfOk result (λ plan. plan ≡ deliver_plan member x message.now) }
+    ) -> Result<Course, AllocError>
+        ensures { (kind : Kind) (x : MemberState) → RepresentsRunning E.stands_for kind self.now x →
+            IfOk result (λ course. plan_of course member x (txn_of message.now) ≡ deliver_plan member x message.now) }
     {
         match message {
             Message::Prepare {
@@ -130,15 +129,19 @@ impl<E: Engine> Running<E> {
                 coord,
                 member: _,
                 count,
-            } => self.prepare_plan(alloc, member, *txn, *coord, *count),
+            } => self.prepare_plan(member, *txn, *coord, *count),
             Message::Decide {
                 txn,
                 coord,
                 member: _,
                 commit,
-            } => Ok(decide_plan(alloc, member, *txn, *coord, *commit, self.standing(*txn))),
+            } => {
+                let standing = self.standing(*txn);
+                let plan = decide_plan(alloc, member, *txn, *coord, *commit, standing);
+                Ok(Course::Carries(plan))
+            }
             Message::Vote { .. } | Message::Ask { .. } | Message::Ack { .. } => {
-                Ok(says(Answer::Absent))
+                Ok(Course::Carries(says(Answer::Absent)))
             }
         }
     }

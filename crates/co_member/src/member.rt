@@ -7,22 +7,29 @@ ghost use Rattle.co_log.specs.Others.{OtherNodesStay};
 ghost use Rattle.co_log.specs.declared.fault.NodeFault.TheVariants.{Memory};
 ghost use Rattle.co_message.specs.declared.answer.Answer.TheVariants as answer;
 ghost use Rattle.co_node.specs.Answers.{seen};
+ghost use Rattle.co_plain.specs.Member.{prepare_record};
+ghost use Rattle.co_plain.specs.MemberStep.{standing_of};
 ghost use Rattle.co_plain.specs.declared.member_state.MemberState.{MemberState};
-ghost use Rattle.co_member.specs.Plans.{changed, carried_out};
-ghost use Rattle.co_member.specs.Standing.{is_up, RepresentsMember, RepresentsRunning, HasDone, IsSame, Suits, written_by};
+ghost use Rattle.co_plain.specs.declared.standing.Standing.TheVariants.{IsActive};
+ghost use Rattle.co_record.specs.Spelling.{IsWritable};
+ghost use Rattle.co_state.specs.Changes.{sets_of};
+ghost use Rattle.co_state.specs.EngineState.{operations_of};
+ghost use Rattle.co_member.specs.Plans.{changed, carried_out, plan_of};
+ghost use Rattle.co_member.specs.Standing.{is_up, RepresentsMember, RepresentsRunning, HasDone, HasEnded, IsSame, Suits, written_by};
 ghost use Rattle.co_member.specs.Writing.{MayWrite, IsAnsweredFor};
+ghost use Rattle.co_member.specs.declared.plan.Course.TheVariants.{Grants};
 ghost use Rattle.co_member.specs.declared.plan.Writes.TheVariants.{Nothing};
 ghost use Rattle.co_member.specs.declared.running.Running.{Running};
 
-use crate::plan::{Change, Plan};
+use crate::plan::{Change, Course, Plan};
 use crate::running::Running;
 use crate::step::MemberStep;
 use crate::writing::write;
 use co_base::{Kind, Marks, Txn};
 use co_engine::Engine;
 use co_log::{Log, NodeFault};
-use co_message::Answer;
-use co_node::Written;
+use co_message::{Answer, Message};
+use co_node::{Written, force_prepare};
 use co_outside::Home;
 use std::alloc::{AllocError, Global};
 
@@ -81,6 +88,22 @@ impl<E: Engine + Drop> Member<E> {
         }
     }
 
+    /// What is answered and sent once a log write ended: where it was stopped, nothing is sent and the member is down.
+    fn ended(&mut self, written: Written, answer: Answer, sent: Option<Message>) -> MemberStep
+        ensures ended { HasEnded answer sent written self.old result self.new }
+        ensures log { self.new.log ≡ self.old.log }
+        ensures same { IsSame self.old self.new }
+    {
+        match written {
+            Written::Done { marks } => MemberStep {
+                answer,
+                sent,
+                marks,
+            },
+            Written::Stopped { call, marks } => self.stopped(call, marks),
+        }
+    }
+
     /// Carries a plan out: its change in memory, for which there may be none, and then its log write. What a stopped write leaves is
     /// what the log tells.
     pub(crate) fn carry_out<H: Home>(
@@ -109,13 +132,68 @@ impl<E: Engine + Drop> Member<E> {
             sent,
         } = plan;
         self.change(t, change)?;
-        match write(self.alloc, &mut self.log, home, writes)? {
-            Written::Done { marks } => Ok(MemberStep {
-                answer,
-                sent,
-                marks,
-            }),
-            Written::Stopped { call, marks } => Ok(self.stopped(call, marks)),
+        let written = write(self.alloc, &mut self.log, home, writes)?;
+        Ok(self.ended(written, answer, sent))
+    }
+
+    /// Votes yes for this coordinator, over so many operations: the vote is cast in memory, its record is forced from the sets of the
+    /// transaction, and then it is sent. What a stopped write leaves is what the log tells.
+    fn grant<H: Home>(
+        &mut self,
+        home: &mut H,
+        t: Txn,
+        coord: u8,
+        count: u16,
+    ) -> Result<MemberStep, NodeFault>
+        requires up { is_up self.old ≡ true }
+        requires short { IsShort self.old.log.current × IsShort self.old.log.spare }
+        requires held { IsHeld (H.file home.old) (H.reach home.old) self.old.log }
+        requires stands { (x : MemberState) × RepresentsMember E.stands_for self.old x × (standing_of x t ≡ IsActive) × IsWritable (prepare_record t coord count (sets_of (operations_of x.engine t))) }
+        ensures did { (x : MemberState) → RepresentsMember E.stands_for self.old x → standing_of x t ≡ IsActive →
+            IfOk result (λ d. HasDone E.stands_for (carried_out self.old.number x t (plan_of (Grants coord count) self.old.number x t)) d self.new) }
+        ensures answered { (x : MemberState) → RepresentsMember E.stands_for self.old x → standing_of x t ≡ IsActive →
+            IsAnsweredFor (plan_of (Grants coord count) self.old.number x t).writes (node.Member self.old.number) x.log self.old.log self.new.log
+            (seen H.file H.reach H.faults H.last_failed home.old) (seen H.file H.reach H.faults H.last_failed home.new) (written_by result) }
+        ensures rest { OtherNodesStay H.file H.reach H.entered H.faults self.old.log.node home.old home.new }
+        ensures same { IsSame self.old self.new }
+    {
+        self.change(t, Change::Casts { coord, count })?;
+        let item = match &self.running {
+            Some(running) => running.vote_record(t, coord, count),
+            None => unreachable!(),
+        };
+        let written = force_prepare(&mut self.log, home, item)?;
+        let vote = Message::Vote {
+            txn: t,
+            member: self.number,
+            coord,
+            yes: true,
+        };
+        Ok(self.ended(written, Answer::Yes, Some(vote)))
+    }
+
+    /// Goes on as a course says.
+    pub(crate) fn follow<H: Home>(
+        &mut self,
+        home: &mut H,
+        t: Txn,
+        course: Course,
+    ) -> Result<MemberStep, NodeFault>
+        requires up { is_up self.old ≡ true }
+        requires short { IsShort self.old.log.current × IsShort self.old.log.spare }
+        requires held { IsHeld (H.file home.old) (H.reach home.old) self.old.log }
+        requires stands { (x : MemberState) × RepresentsMember E.stands_for self.old x × Suits x t (plan_of course self.old.number x t).change × MayWrite (plan_of course self.old.number x t).writes }
+        ensures did { (x : MemberState) → RepresentsMember E.stands_for self.old x → Suits x t (plan_of course self.old.number x t).change →
+            IfOk result (λ d. HasDone E.stands_for (carried_out self.old.number x t (plan_of course self.old.number x t)) d self.new) }
+        ensures answered { (x : MemberState) → RepresentsMember E.stands_for self.old x → Suits x t (plan_of course self.old.number x t).change →
+            IsAnsweredFor (plan_of course self.old.number x t).writes (node.Member self.old.number) x.log self.old.log self.new.log
+            (seen H.file H.reach H.faults H.last_failed home.old) (seen H.file H.reach H.faults H.last_failed home.new) (written_by result) }
+        ensures rest { OtherNodesStay H.file H.reach H.entered H.faults self.old.log.node home.old home.new }
+        ensures same { IsSame self.old self.new }
+    {
+        match course {
+            Course::Carries(plan) => self.carry_out(home, t, plan),
+            Course::Grants { coord, count } => self.grant(home, t, coord, count),
         }
     }
 

@@ -56,6 +56,16 @@ pub struct Plan {
     pub sent: Option<Message>,
 }
 
+/// How an event goes on.
+#[derive(Drop)]
+pub(crate) enum Course {
+    /// As this plan says.
+    Carries(Plan),
+    /// With the vote yes, for this coordinator and over so many operations. Its record is forced from the sets of the
+    /// transaction, of which nothing is copied.
+    Grants { coord: u8, count: u16 },
+}
+
 /// An answer alone.
 pub(crate) fn says(answer: Answer) -> Plan
     ensures { result ≡ says answer }

@@ -1,17 +1,14 @@
-use Rattle.std.proofs.Common.{sym, subst, ◌∙◌}
+use Rattle.std.proofs.Common.{sym, subst}
 use Rattle.std.specs.Prelude.{Ok, Err}
 use Rattle.co_base.specs.declared.node.Node.TheVariants as node
 use Rattle.co_log.specs.LogView.{LogView, IsHeld, IsShort}
 use Rattle.co_node.specs.Answers.{seen}
 use Rattle.co_node.specs.NodeLog.{RepresentsLog}
-use Rattle.co_node.specs.declared.written.Written.{Written}
-use Rattle.co_node.specs.declared.written.Written.TheVariants.{Done, Stopped}
 use Rattle.co_plain.specs.declared.log_state.LogState.{LogState}
-use Rattle.co_member.specs.Plans.{carried_out, changed}
-use Rattle.co_member.specs.Standing.{HasDone, written_by}
+use Rattle.co_member.specs.Plans.{changed}
+use Rattle.co_member.specs.Standing.{written_by}
 use Rattle.co_member.specs.Writing.{HasWrittenFor, IsAnsweredFor}
-use Rattle.co_member.specs.declared.step.MemberStep.{MemberStep}
-use Rattle.co_member.proofs.Carrying.{changed_log, changed_up, done_step, stopped_step}
+use Rattle.co_member.proofs.Carrying.{changed_log, changed_up, ended_step}
 use Rattle.co_member.proofs.Directories.{passed_on, wants_memory}
 use Rattle.co_member.proofs.member.Member.carry_out.Goals as goal
 
@@ -34,59 +31,34 @@ write-requires-clause-stands g c =
     let l = c.requires.stands.0.log in
     (n, l, subst (λ (v : LogView). RepresentsLog n v l) (sym c.change.ensures.log) c.requires.stands.1.log)
 
-pub returns-in_err-marks-clause-answered : goal.returns-in_err-marks-clause-answered
-returns-in_err-marks-clause-answered g c = λ y r.
+pub returns-in_err-written-clause-answered : goal.returns-in_err-written-clause-answered
+returns-in_err-written-clause-answered g c = λ y r.
     let n = node.Member c.args.self.now.number in
     let w = c.args.plan.writes in
     let old = seen g.H.Home.file g.H.Home.reach g.H.Home.faults g.H.Home.last_failed c.args.home.now in
     let new = seen g.H.Home.file g.H.Home.reach g.H.Home.faults g.H.Home.last_failed c.write.new.home in
     let here = subst (λ (v : LogView). RepresentsLog n v y.log) (sym c.change.ensures.log) r.log in
-    let left = subst (λ (v : LogView). IsAnsweredFor w n y.log v c.write.new.log old new (Err c.in_err-marks.field-0.0)) c.change.ensures.log (c.in_err-marks.ensures.answered n y.log here) in
-    passed_on n w y.log c.args.self.now.log c.write.new.log old new c.in_err-marks.field-0.0 c.from_residual-in_err-marks.result c.from_residual-in_err-marks.ensures left
+    let left = subst (λ (v : LogView). IsAnsweredFor w n y.log v c.write.new.log old new (Err c.in_err-written.field-0.0)) c.change.ensures.log (c.in_err-written.ensures.answered n y.log here) in
+    passed_on n w y.log c.args.self.now.log c.write.new.log old new c.in_err-written.field-0.0 c.from_residual-in_err-written.result c.from_residual-in_err-written.ensures left
 
-pub returns-in-Done-clause-did : goal.returns-in-Done-clause-did
-returns-in-Done-clause-did g c = λ y r suits.
+pub returns-clause-did : goal.returns-clause-did
+returns-clause-did g c = λ y r suits.
     let x = c.args.self.now in
     let n = node.Member x.number in
     let plan = c.args.plan in
     let next = changed y c.args.t plan.change in
-    let logs = changed_log y c.args.t plan.change in
     let here = subst (λ (v : LogView). RepresentsLog n v y.log) (sym c.change.ensures.log) r.log in
-    let written = subst (λ (o : Written). HasWrittenFor plan.writes n y.log c.write.new.log (Ok o)) c.in-Done.is (c.in_ok-marks.ensures.written n y.log here) in
-    let moved = subst (λ (l : LogState). HasWrittenFor plan.writes n l c.write.new.log (Ok (Done c.in-Done.marks))) (sym logs) written in
+    let moved = subst (λ (l : LogState). HasWrittenFor plan.writes n l c.write.new.log (Ok c.in_ok-written.written)) (sym (changed_log y c.args.t plan.change)) (c.in_ok-written.ensures.written n y.log here) in
     let running = c.in_ok-change.ensures.running y r suits in
-    done_step g.E.Engine.stands_for x (record c.change.new.self { log = c.write.new.log }) y next running.0 plan.writes plan.answer plan.sent c.in-Done.marks r c.requires.up c.change.ensures.same.number c.change.ensures.same.kind running.1 (changed_up y c.args.t plan.change) running.2 moved
+    ended_step g.E.Engine.stands_for x (record c.change.new.self { log = c.write.new.log }) c.ended.new.self y next running.0 plan.writes plan.answer plan.sent c.in_ok-written.written c.ended.result r c.requires.up c.change.ensures.same.number c.change.ensures.same.kind
+    running.1 (changed_up y c.args.t plan.change) running.2 moved c.ended.ensures.ended c.ended.ensures.log c.ended.ensures.same
 
-pub returns-in-Done-clause-answered : goal.returns-in-Done-clause-answered
-returns-in-Done-clause-answered g c = λ y r.
+pub returns-clause-answered : goal.returns-clause-answered
+returns-clause-answered g c = λ y r.
     let n = node.Member c.args.self.now.number in
+    let w = c.args.plan.writes in
     let old = seen g.H.Home.file g.H.Home.reach g.H.Home.faults g.H.Home.last_failed c.args.home.now in
     let new = seen g.H.Home.file g.H.Home.reach g.H.Home.faults g.H.Home.last_failed c.write.new.home in
     let here = subst (λ (v : LogView). RepresentsLog n v y.log) (sym c.change.ensures.log) r.log in
-    subst (λ (v : LogView). IsAnsweredFor c.args.plan.writes n y.log v c.write.new.log old new (Ok c.in_ok-marks.field-0)) c.change.ensures.log (c.in_ok-marks.ensures.answered n y.log here)
-
-pub returns-in-Stopped-clause-did : goal.returns-in-Stopped-clause-did
-returns-in-Stopped-clause-did g c = λ y r suits.
-    let x = c.args.self.now in
-    let n = node.Member x.number in
-    let plan = c.args.plan in
-    let next = changed y c.args.t plan.change in
-    let after = c.stopped.new.self in
-    let logs = changed_log y c.args.t plan.change in
-    let here = subst (λ (v : LogView). RepresentsLog n v y.log) (sym c.change.ensures.log) r.log in
-    let written = subst (λ (o : Written). HasWrittenFor plan.writes n y.log c.write.new.log (Ok o)) c.in-Stopped.is (c.in_ok-marks.ensures.written n y.log here) in
-    let moved = subst (λ (l : LogState). HasWrittenFor plan.writes n l c.write.new.log (Ok (Stopped c.in-Stopped.call c.in-Stopped.marks))) (sym logs) written in
-    let told = subst (λ (v : LogView). HasWrittenFor plan.writes n next.log v (Ok (Stopped c.in-Stopped.call c.in-Stopped.marks))) (sym c.stopped.ensures.log) moved in
-    let running = c.in_ok-change.ensures.running y r suits in
-    let kind = c.stopped.ensures.same.kind ∙ c.change.ensures.same.kind ∙ sym running.2.kind in
-    subst (λ (d : MemberStep). HasDone g.E.Engine.stands_for (carried_out x.number y c.args.t plan) d after) (sym c.stopped.ensures.step)
-    (stopped_step g.E.Engine.stands_for x after next plan.writes plan.answer plan.sent c.in-Stopped.call c.in-Stopped.marks (c.stopped.ensures.same.number ∙ c.change.ensures.same.number) kind c.stopped.ensures.down told)
-
-pub returns-in-Stopped-clause-answered : goal.returns-in-Stopped-clause-answered
-returns-in-Stopped-clause-answered g c = λ y r.
-    let n = node.Member c.args.self.now.number in
-    let old = seen g.H.Home.file g.H.Home.reach g.H.Home.faults g.H.Home.last_failed c.args.home.now in
-    let new = seen g.H.Home.file g.H.Home.reach g.H.Home.faults g.H.Home.last_failed c.write.new.home in
-    let here = subst (λ (v : LogView). RepresentsLog n v y.log) (sym c.change.ensures.log) r.log in
-    let served = subst (λ (v : LogView). IsAnsweredFor c.args.plan.writes n y.log v c.write.new.log old new (Ok c.in_ok-marks.field-0)) c.change.ensures.log (c.in_ok-marks.ensures.answered n y.log here) in
-    subst (λ (v : LogView). IsAnsweredFor c.args.plan.writes n y.log c.args.self.now.log v old new (Ok c.in_ok-marks.field-0)) (sym c.stopped.ensures.log) served
+    let served = subst (λ (v : LogView). IsAnsweredFor w n y.log v c.write.new.log old new (Ok c.in_ok-written.written)) c.change.ensures.log (c.in_ok-written.ensures.answered n y.log here) in
+    subst (λ (v : LogView). IsAnsweredFor w n y.log c.args.self.now.log v old new (Ok c.in_ok-written.written)) (sym c.ended.ensures.log) served

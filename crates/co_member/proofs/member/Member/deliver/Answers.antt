@@ -5,8 +5,9 @@ use Rattle.co_log.specs.LogView.{LogView, IsHeld, IsShort}
 use Rattle.co_node.specs.Answers.{seen}
 use Rattle.co_plain.specs.Member.{member_deliver}
 use Rattle.co_plain.specs.declared.log_state.LogState.{LogState}
-use Rattle.co_member.specs.Plans.{carried_out, deliver_plan, marked, txn_of}
-use Rattle.co_member.specs.Standing.{HasDone, Suits, written_by}
+use Rattle.co_plain.specs.declared.member_state.MemberState.{MemberState}
+use Rattle.co_member.specs.Plans.{carried_out, deliver_plan, marked, plan_of, txn_of}
+use Rattle.co_member.specs.Standing.{HasDone, RepresentsMember, Suits, written_by}
 use Rattle.co_member.specs.Writing.{MayWrite, IsAnsweredFor}
 use Rattle.co_member.specs.declared.plan.Plan.{Plan}
 use Rattle.co_member.proofs.Carrying.{planned}
@@ -15,68 +16,68 @@ use Rattle.co_member.proofs.Steps.{deliver_is}
 use Rattle.co_member.proofs.Writable.{castable_for, deliver_marked, deliver_may, deliver_suits, marked_log}
 use Rattle.co_member.proofs.member.Member.deliver.Goals as goal
 
-pub returns-in_err-plan-clause-answered : goal.returns-in_err-plan-clause-answered
-returns-in_err-plan-clause-answered g c = λ x r.
+pub returns-in_err-course-clause-answered : goal.returns-in_err-course-clause-answered
+returns-in_err-course-clause-answered g c = λ x r.
     let m = c.args.self.now in
     let w = (deliver_plan m.number x c.args.message.now).writes in
     let home = seen g.H.Home.file g.H.Home.reach g.H.Home.faults g.H.Home.last_failed c.args.home.now in
     subst (λ (v : LogView). IsAnsweredFor w (node.Member m.number) x.log m.log v home home (written_by c.from_residual.result)) (sym c.take_note.ensures.log)
     (wants_memory (node.Member m.number) w x.log m.log home c.from_residual.result c.from_residual.ensures r.log c.requires.held c.lengths.ensures.within)
 
-pub carry_out-requires-clause-short : goal.carry_out-requires-clause-short
-carry_out-requires-clause-short g c = subst (λ (v : LogView). IsShort v.current × IsShort v.spare) (sym c.take_note.ensures.log) c.lengths.ensures.within
+pub follow-requires-clause-short : goal.follow-requires-clause-short
+follow-requires-clause-short g c = subst (λ (v : LogView). IsShort v.current × IsShort v.spare) (sym c.take_note.ensures.log) c.lengths.ensures.within
 
-pub carry_out-requires-clause-held : goal.carry_out-requires-clause-held
-carry_out-requires-clause-held g c = subst (λ (v : LogView). IsHeld (g.H.Home.file c.args.home.now) (g.H.Home.reach c.args.home.now) v) (sym c.take_note.ensures.log) c.requires.held
+pub follow-requires-clause-held : goal.follow-requires-clause-held
+follow-requires-clause-held g c = subst (λ (v : LogView). IsHeld (g.H.Home.file c.args.home.now) (g.H.Home.reach c.args.home.now) v) (sym c.take_note.ensures.log) c.requires.held
 
-pub carry_out-requires-clause-stands : goal.carry_out-requires-clause-stands
-carry_out-requires-clause-stands g c =
-    let x = c.requires.stands.0 in
-    (marked x c.args.message.now, c.take_note.ensures.did x c.requires.stands.1)
-
-pub carry_out-requires-clause-writes : goal.carry_out-requires-clause-writes
-carry_out-requires-clause-writes g c =
+pub follow-requires-clause-stands : goal.follow-requires-clause-stands
+follow-requires-clause-stands g c =
     let m = c.args.message.now in
     let n = c.args.self.now.number in
+    let k = c.take_note.new.self.number in
     let x = c.requires.stands.0 in
+    let y = marked x m in
+    let course = c.in_ok-course.course in
     let here = c.take_note.ensures.did x c.requires.stands.1 in
-    let made = c.in_ok-plan.ensures c.take_note.new.self.kind (marked x m) (here.running c.running.result.now c.running.ensures) (castable_for (marked x m) m c.requires.about) in
-    let is = made ∙ ap (λ (k : ℕ). deliver_plan k (marked x m) m) c.take_note.ensures.same.number ∙ deliver_marked n x m in
-    subst (λ (p : Plan). MayWrite p.writes) (sym is) (deliver_may n x m c.requires.stands.2)
+    let made = c.in_ok-course.ensures c.take_note.new.self.kind y (here.running c.running.result.now c.running.ensures) in
+    let is = made ∙ ap (λ (i : ℕ). deliver_plan i y m) c.take_note.ensures.same.number ∙ deliver_marked n x m in
+    let suits = subst (λ (p : Plan). Suits y (txn_of m) p.change) (sym made) (deliver_suits k y m (castable_for y m c.requires.about)) in
+    let may = subst (λ (p : Plan). MayWrite p.writes) (sym is) (deliver_may n x m c.requires.stands.2) in
+    subst (λ (t : ℕ). (z : MemberState) × RepresentsMember g.E.Engine.stands_for c.take_note.new.self z × Suits z t (plan_of course k z t).change × MayWrite (plan_of course k z t).writes) (sym c.txn_of.ensures) (y, here, suits, may)
 
 pub returns-clause-did : goal.returns-clause-did
 returns-clause-did g c = λ x r.
     let m = c.args.message.now in
     let n = c.args.self.now.number in
     let k = c.take_note.new.self.number in
-    let plan = c.in_ok-plan.plan in
+    let course = c.in_ok-course.course in
     let y = marked x m in
     let here = c.take_note.ensures.did x r in
-    let may = castable_for y m c.requires.about in
-    let made = c.in_ok-plan.ensures c.take_note.new.self.kind y (here.running c.running.result.now c.running.ensures) may in
+    let made = c.in_ok-course.ensures c.take_note.new.self.kind y (here.running c.running.result.now c.running.ensures) in
+    let plan = plan_of course k y (txn_of m) in
     let is : plan ≡ deliver_plan n x m = made ∙ ap (λ (i : ℕ). deliver_plan i y m) c.take_note.ensures.same.number ∙ deliver_marked n x m in
-    let suits = subst (λ (p : Plan). Suits y (txn_of m) p.change) (sym made) (deliver_suits k y m may) in
-    let moved = subst (λ (t : ℕ). Suits y t plan.change) (sym c.txn_of.ensures) suits in
-    let done = c.carry_out.ensures.did y here moved in
-    let at = subst (λ (t : ℕ). IfOk c.carry_out.result (λ d. HasDone g.E.Engine.stands_for (carried_out k y t plan) d c.carry_out.new.self)) c.txn_of.ensures done in
-    let by = subst (λ (i : ℕ). IfOk c.carry_out.result (λ d. HasDone g.E.Engine.stands_for (carried_out i y (txn_of m) plan) d c.carry_out.new.self)) c.take_note.ensures.same.number at in
-    planned g.E.Engine.stands_for (member_deliver n x m) n (txn_of m) y (deliver_plan n x m) plan c.carry_out.result c.carry_out.new.self (deliver_is n x m) is by
+    let suits = subst (λ (p : Plan). Suits y (txn_of m) p.change) (sym made) (deliver_suits k y m (castable_for y m c.requires.about)) in
+    let at = subst (λ (t : ℕ). Suits y t (plan_of course k y t).change → IfOk c.follow.result (λ d. HasDone g.E.Engine.stands_for (carried_out k y t (plan_of course k y t)) d c.follow.new.self)) c.txn_of.ensures (c.follow.ensures.did y here) suits in
+    let by = subst (λ (i : ℕ). IfOk c.follow.result (λ d. HasDone g.E.Engine.stands_for (carried_out i y (txn_of m) plan) d c.follow.new.self)) c.take_note.ensures.same.number at in
+    planned g.E.Engine.stands_for (member_deliver n x m) n (txn_of m) y (deliver_plan n x m) plan c.follow.result c.follow.new.self (deliver_is n x m) is by
 
 pub returns-clause-answered : goal.returns-clause-answered
 returns-clause-answered g c = λ x r.
     let m = c.args.message.now in
     let n = c.args.self.now.number in
     let k = c.take_note.new.self.number in
-    let plan = c.in_ok-plan.plan in
+    let course = c.in_ok-course.course in
     let y = marked x m in
     let here = c.take_note.ensures.did x r in
-    let made = c.in_ok-plan.ensures c.take_note.new.self.kind y (here.running c.running.result.now c.running.ensures) (castable_for y m c.requires.about) in
+    let made = c.in_ok-course.ensures c.take_note.new.self.kind y (here.running c.running.result.now c.running.ensures) in
+    let plan = plan_of course k y (txn_of m) in
     let is : plan ≡ deliver_plan n x m = made ∙ ap (λ (i : ℕ). deliver_plan i y m) c.take_note.ensures.same.number ∙ deliver_marked n x m in
+    let suits = subst (λ (p : Plan). Suits y (txn_of m) p.change) (sym made) (deliver_suits k y m (castable_for y m c.requires.about)) in
     let old = seen g.H.Home.file g.H.Home.reach g.H.Home.faults g.H.Home.last_failed c.args.home.now in
-    let new = seen g.H.Home.file g.H.Home.reach g.H.Home.faults g.H.Home.last_failed c.carry_out.new.home in
-    let after = c.carry_out.new.self.log in
-    let result = written_by c.carry_out.result in
-    let first = c.carry_out.ensures.answered y here in
+    let new = seen g.H.Home.file g.H.Home.reach g.H.Home.faults g.H.Home.last_failed c.follow.new.home in
+    let after = c.follow.new.self.log in
+    let result = written_by c.follow.result in
+    let first = subst (λ (t : ℕ). Suits y t (plan_of course k y t).change → IsAnsweredFor (plan_of course k y t).writes (node.Member k) y.log c.take_note.new.self.log after old new result) c.txn_of.ensures (c.follow.ensures.answered y here) suits in
     let second = subst (λ (p : Plan). IsAnsweredFor p.writes (node.Member k) y.log c.take_note.new.self.log after old new result) is first in
     let w = (deliver_plan n x m).writes in
     let third = subst (λ (i : ℕ). IsAnsweredFor w (node.Member i) y.log c.take_note.new.self.log after old new result) c.take_note.ensures.same.number second in

@@ -3,7 +3,7 @@ use Rattle.co_base.specs.declared.node.Node.TheVariants as node
 use Rattle.co_node.specs.Answers.{seen}
 use Rattle.co_plain.specs.Member.{member_vote}
 use Rattle.co_plain.specs.MemberStep.{standing_of}
-use Rattle.co_member.specs.Plans.{again_plan}
+use Rattle.co_member.specs.Plans.{again_plan, plan_of}
 use Rattle.co_member.specs.Standing.{Suits, written_by}
 use Rattle.co_member.specs.Writing.{MayWrite, IsAnsweredFor}
 use Rattle.co_member.specs.declared.plan.Plan.{Plan}
@@ -13,33 +13,37 @@ use Rattle.co_member.proofs.Steps.{vote_is}
 use Rattle.co_member.proofs.Writable.{again_may, again_suits}
 use Rattle.co_member.proofs.member.Member.vote.Goals as goal
 
-pub returns-in_err-plan-clause-answered : goal.returns-in_err-plan-clause-answered
-returns-in_err-plan-clause-answered g c = λ x r.
+pub returns-in_err-course-clause-answered : goal.returns-in_err-course-clause-answered
+returns-in_err-course-clause-answered g c = λ x r.
     let m = c.args.self.now in
     wants_memory (node.Member m.number) (again_plan m.number x c.args.t (standing_of x c.args.t)).writes x.log m.log (seen g.H.Home.file g.H.Home.reach g.H.Home.faults g.H.Home.last_failed c.args.home.now) c.from_residual.result
     c.from_residual.ensures r.log c.requires.held c.lengths.ensures.within
 
-pub carry_out-requires-clause-stands : goal.carry_out-requires-clause-stands
-carry_out-requires-clause-stands g c = (c.requires.stands.0, c.requires.stands.1)
-
-pub carry_out-requires-clause-writes : goal.carry_out-requires-clause-writes
-carry_out-requires-clause-writes g c =
+pub follow-requires-clause-stands : goal.follow-requires-clause-stands
+follow-requires-clause-stands g c =
     let m = c.args.self.now in
+    let t = c.args.t in
     let x = c.requires.stands.0 in
-    let made = c.in_ok-plan.ensures m.kind x (c.requires.stands.1.running c.running.result.now c.running.ensures) in
-    subst (λ (p : Plan). MayWrite p.writes) (sym made) (again_may m.number c.args.t x (standing_of x c.args.t) c.requires.stands.2)
+    let made = c.in_ok-course.ensures m.kind x (c.requires.stands.1.running c.running.result.now c.running.ensures) in (
+      x,
+      c.requires.stands.1,
+      subst (λ (p : Plan). Suits x t p.change) (sym made) (again_suits m.number t x (standing_of x t) refl),
+      subst (λ (p : Plan). MayWrite p.writes) (sym made) (again_may m.number t x (standing_of x t) c.requires.stands.2),
+    )
 
 pub returns-clause-did : goal.returns-clause-did
 returns-clause-did g c = λ x r.
     let m = c.args.self.now in
     let t = c.args.t in
-    let made = c.in_ok-plan.ensures m.kind x (r.running c.running.result.now c.running.ensures) in
+    let made = c.in_ok-course.ensures m.kind x (r.running c.running.result.now c.running.ensures) in
     let suits = subst (λ (p : Plan). Suits x t p.change) (sym made) (again_suits m.number t x (standing_of x t) refl) in
-    planned g.E.Engine.stands_for (member_vote m.number x t) m.number t x (again_plan m.number x t (standing_of x t)) c.in_ok-plan.plan c.carry_out.result c.carry_out.new.self (vote_is m.number t x) made (c.carry_out.ensures.did x r suits)
+    planned g.E.Engine.stands_for (member_vote m.number x t) m.number t x (again_plan m.number x t (standing_of x t)) (plan_of c.in_ok-course.course m.number x t) c.follow.result c.follow.new.self (vote_is m.number t x) made (c.follow.ensures.did x r suits)
 
 pub returns-clause-answered : goal.returns-clause-answered
 returns-clause-answered g c = λ x r.
     let m = c.args.self.now in
-    let made = c.in_ok-plan.ensures m.kind x (r.running c.running.result.now c.running.ensures) in
-    subst (λ (p : Plan). IsAnsweredFor p.writes (node.Member m.number) x.log m.log c.carry_out.new.self.log (seen g.H.Home.file g.H.Home.reach g.H.Home.faults g.H.Home.last_failed c.args.home.now)
-    (seen g.H.Home.file g.H.Home.reach g.H.Home.faults g.H.Home.last_failed c.carry_out.new.home) (written_by c.carry_out.result)) made (c.carry_out.ensures.answered x r)
+    let t = c.args.t in
+    let made = c.in_ok-course.ensures m.kind x (r.running c.running.result.now c.running.ensures) in
+    let suits = subst (λ (p : Plan). Suits x t p.change) (sym made) (again_suits m.number t x (standing_of x t) refl) in
+    subst (λ (p : Plan). IsAnsweredFor p.writes (node.Member m.number) x.log m.log c.follow.new.self.log (seen g.H.Home.file g.H.Home.reach g.H.Home.faults g.H.Home.last_failed c.args.home.now)
+    (seen g.H.Home.file g.H.Home.reach g.H.Home.faults g.H.Home.last_failed c.follow.new.home) (written_by c.follow.result)) made (c.follow.ensures.answered x r suits)

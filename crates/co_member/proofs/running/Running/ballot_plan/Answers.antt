@@ -1,54 +1,43 @@
-use Rattle.std.proofs.Common.{◌≡◌, ◌||◌, ℕ, Some, false, sym, ap, subst, ◌∙◌}
-use Rattle.std.specs.Prelude.{IfOk}
+use Rattle.std.proofs.Common.{ℕ, Some, false, sym, ap, ◌∙◌}
 use Rattle.co_message.specs.declared.answer.Answer.TheVariants as answer
 use Rattle.co_message.specs.declared.message.Message.TheVariants as message
 use Rattle.co_plain.specs.Numbers.{counted}
 use Rattle.co_state.specs.Changes.{sets_of}
-use Rattle.co_state.specs.EngineState.{operations_of, sets_in}
-use Rattle.co_state.specs.Table.{look, holds}
+use Rattle.co_state.specs.EngineState.{operations_of}
 use Rattle.co_state.specs.VotingRule.{kept_count}
-use Rattle.co_state.specs.declared.engine_state.Sets.{Sets}
-use Rattle.co_state.specs.declared.verdict.Verdict.TheVariants.{VoteYes}
-use Rattle.co_undecided.proofs.Standing.{not_held}
 use Rattle.co_vote.specs.Ballots.{verdict_of}
-use Rattle.co_member.specs.Plans.{drops, vote_plan}
-use Rattle.co_member.specs.declared.plan.Plan.{Plan}
+use Rattle.co_member.specs.Plans.{drops, plan_of, vote_plan}
+use Rattle.co_member.specs.declared.plan.Course.{Course}
 use Rattle.co_member.proofs.Changing.{counted_small}
-use Rattle.co_member.proofs.Standings.{held_active}
 use Rattle.co_member.proofs.running.Running.ballot_plan.Goals as goal
 
 pub returns-in-NoLost : goal.returns-in-NoLost
-returns-in-NoLost g c = λ kind x s unvoted may.
+returns-in-NoLost g c = λ kind x s unvoted.
     let b = x.engine in
     let t = c.args.t in
     let v = sym (c.ballot.ensures b x.asked s.undecided unvoted) ∙ ap verdict_of c.in-NoLost.is in
     let kept = sym (counted_small c.kept-kept.result c.kept-kept.type_inv) ∙ ap counted (c.kept-kept.ensures.counted b x.asked s.undecided) in
-    c.refuses.ensures ∙ ap (λ (k : ℕ). drops (answer.NoLost k c.args.count) (Some (message.Vote t c.args.member c.args.coord false))) kept
+    ap (λ (k : Course). plan_of k c.args.member x t) c.refuses.ensures ∙ ap (λ (k : ℕ). drops (answer.NoLost k c.args.count) (Some (message.Vote t c.args.member c.args.coord false))) kept
     ∙ ap (vote_plan c.args.member t c.args.coord c.args.count (kept_count b t) (sets_of (operations_of b t))) (sym v)
 
 pub returns-in_ok-copy-in-NoStale : goal.returns-in_ok-copy-in-NoStale
-returns-in_ok-copy-in-NoStale g c = λ kind x s unvoted may.
+returns-in_ok-copy-in-NoStale g c = λ kind x s unvoted.
     let b = x.engine in
     let t = c.args.t in
     let v = sym (c.ballot.ensures b x.asked s.undecided unvoted) ∙ ap verdict_of c.in-NoStale.is in
-    c.refuses-in-NoStale.ensures ∙ ap (λ key. drops (answer.NoStale key) (Some (message.Vote t c.args.member c.args.coord false))) c.in_ok-copy-in-NoStale.ensures
+    ap (λ (k : Course). plan_of k c.args.member x t) c.refuses-in-NoStale.ensures ∙ ap (λ key. drops (answer.NoStale key) (Some (message.Vote t c.args.member c.args.coord false))) c.in_ok-copy-in-NoStale.ensures
     ∙ ap (vote_plan c.args.member t c.args.coord c.args.count (kept_count b t) (sets_of (operations_of b t))) (sym v)
 
 pub returns-in-Held : goal.returns-in-Held
-returns-in-Held g c = λ kind x s unvoted may.
+returns-in-Held g c = λ kind x s unvoted.
     let b = x.engine in
     let t = c.args.t in
     let v = sym (c.ballot.ensures b x.asked s.undecided unvoted) ∙ ap verdict_of c.in-Held.is in
     c.says.ensures ∙ ap (vote_plan c.args.member t c.args.coord c.args.count (kept_count b t) (sets_of (operations_of b t))) (sym v)
 
 pub returns-in-Yes : goal.returns-in-Yes
-returns-in-Yes g c = λ kind x s unvoted may.
+returns-in-Yes g c = λ kind x s unvoted.
     let b = x.engine in
     let t = c.args.t in
     let v = sym (c.ballot.ensures b x.asked s.undecided unvoted) ∙ ap verdict_of c.in-Yes.is in
-    let active = held_active (holds b.active t) (holds b.voted t) (holds x.committed t) (may v) in
-    let none = not_held (look b.voted t) unvoted in
-    let sets = c.sets.ensures b x.asked s.undecided (ap (λ a. a || holds b.voted t) active) ∙ ap (λ o. sets_in o (operations_of b t)) none in
-    let is = ap (λ (z : Sets). vote_plan c.args.member t c.args.coord c.args.count (kept_count b t) z VoteYes) sets
-    ∙ ap (vote_plan c.args.member t c.args.coord c.args.count (kept_count b t) (sets_of (operations_of b t))) (sym v) in
-    subst (λ (p : Plan). IfOk c.grants.result (λ plan. plan ≡ p)) is (c.grants.ensures (kept_count b t))
+    ap (vote_plan c.args.member t c.args.coord c.args.count (kept_count b t) (sets_of (operations_of b t))) (sym v)
