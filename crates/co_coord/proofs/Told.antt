@@ -1,6 +1,6 @@
 -- What the log of a coordinator tells: its records are lent, they are allowed, and its table is what they tell.
 use Rattle.std.proofs.Common.{◌≡◌, ℕ, List, [], ◌∷◌, refl, sym, ap, subst, ◌∙◌}
-use Rattle.std.specs.Prelude.{map, reverse, Some, None, Ok, Err}
+use Rattle.std.specs.Prelude.{map, reverse, Some, None, Err}
 use Rattle.std.specs.FinMap.{entries}
 use Rattle.std.proofs.lemmas.List.{reverse-reverse}
 use Rattle.co_base.specs.declared.node.Node.{Node}
@@ -13,7 +13,6 @@ use Rattle.co_plain.specs.CoordStep.{table_from}
 use Rattle.co_plain.specs.CoordView.{first_refused_at_coord, recovered_commits}
 use Rattle.co_plain.specs.declared.log_state.LogState.{LogState}
 use Rattle.co_record.specs.Stored.{HasRecords}
-use Rattle.co_record.specs.declared.record.Record.{Record}
 use Rattle.co_recover.specs.Recovered.{decided_of, past_of_coord, records_of, IsCoordRecovery}
 use Rattle.co_recover.specs.declared.past.CoordPast.{CoordPast}
 use Rattle.co_recover.specs.declared.fault.RecoverFault.TheVariants.{Inconsistent}
@@ -44,7 +43,3 @@ never_refused owner log l members at s allowed refused =
     let none = ap (first_refused_at_coord members) (sym (oldest_first owner log l s)) ∙ allowed in
     let clash : None ≡ Some refused.behind = sym none ∙ refused.first in
     absurd cc
-
--- what was recovered is what the stable records tell
-pub recovered_table : (owner : Node) (log : LogView) (l : LogState) (members : ℕ) (past : CoordPast) → (s : RepresentsLog owner log l) → IsCoordRecovery members s.items (Ok past) → table_of past.committed ≡ told_table l
-recovered_table owner log l members past s recovered = table_told l past (recovered.1 ∙ ap (λ (rs : List Record). past_of_coord (recovered_commits rs)) (sym s.stable))

@@ -67,17 +67,26 @@ impl Coord {
         })
     }
 
+    /// What the records of the log tell, also while the coordinator is down. The log is gone through.
+    pub fn past(&self) -> Result<CoordPast, AllocError>
+        requires stands { (y : CoordState) × RepresentsCoord self.now y × MayRestart self.now.members y }
+        ensures { (y : CoordState) → RepresentsCoord self.now y → IfOk result (λ past. past ≡ past_of_coord (recovered_commits y.log.stable)) }
+    {
+        match recover_coord(self.alloc, self.log.views(), self.members) {
+            Ok(past) => Ok(past),
+            Err(RecoverFault::Memory) => Err(AllocError),
+            Err(RecoverFault::Inconsistent { at: _ }) => unreachable!(),
+        }
+    }
+
     /// The table that the log tells.
     fn told_table(&self) -> Result<Table<Entry>, NodeFault>
         requires stands { (y : CoordState) × RepresentsCoord self.now y × MayRestart self.now.members y }
         ensures table { (y : CoordState) → RepresentsCoord self.now y → IfOk result (λ table. table ≡ told_table y.log) }
         ensures memory { IfErr result (λ e. e ≡ Memory) }
     {
-        match recover_coord(self.alloc, self.log.views(), self.members) {
-            Ok(past) => Ok(table_of(self.alloc, past.committed)?),
-            Err(RecoverFault::Memory) => Err(NodeFault::Memory),
-            Err(RecoverFault::Inconsistent { at: _ }) => unreachable!(),
-        }
+        let past = self.past()?;
+        Ok(table_of(self.alloc, past.committed)?)
     }
 }
 

@@ -137,19 +137,31 @@ seen_at members (l ∷ ls) [] place p = absurd p
 seen_at members (l ∷ ls) (s ∷ ss) zero p = p.0.are
 seen_at members (l ∷ ls) (s ∷ ss) (suc place) p = seen_at members ls ss place p.1
 
-module _ (seen : List Numbers) (logs : ℕ → List Record) (same : (c : ℕ) → seen_by seen c ≡ (recovered_commits (logs c)).seen) where
-  laid_votes : (es : List (ℕ × Vote)) (records : Records) → with_decided_votes seen records (map prepared_of es) ≡ with_decided logs records es
-  laid_votes [] records = refl
-  laid_votes (e ∷ es) records =
-      laid_votes es (if holds (seen_by seen e.1.coord) e.0 then with_changes records e.1.sets.writes else records)
-      ∙ ap (λ (numbers : Numbers). with_decided logs (if holds numbers e.0 then with_changes records e.1.sets.writes else records) es) (same e.1.coord)
+module _ (seen : List Numbers) (logs : ℕ → List Record) where
+  -- the commits of the coordinator that asked for a vote are those of its log
+  abbrev pub IsSeen : ℕ × Vote → Type 0
+  IsSeen e = seen_by seen e.1.coord ≡ (recovered_commits (logs e.1.coord)).seen
 
-  past_is_durable : (past : MemberPast) (view : MemberView) → past ≡ past_of_member view → durable_of_past seen past ≡ durable_of logs view
-  past_is_durable past view is =
-      ap (durable_of_past seen) is ∙ ap (λ (records : Records). with_decided_votes seen records (map prepared_of (entries view.voted))) (records_again view.records) ∙ laid_votes (entries view.voted) view.records
+  laid_votes : (es : List (ℕ × Vote)) (records : Records) → AllByRecursion IsSeen es → with_decided_votes seen records (map prepared_of es) ≡ with_decided logs records es
+  laid_votes [] records same = refl
+  laid_votes (e ∷ es) records same =
+      laid_votes es (if holds (seen_by seen e.1.coord) e.0 then with_changes records e.1.sets.writes else records) same.1
+      ∙ ap (λ (numbers : Numbers). with_decided logs (if holds numbers e.0 then with_changes records e.1.sets.writes else records) es) same.0
+
+  -- what a past gives is what the view gives that it was recovered from
+  pub past_is_durable : (past : MemberPast) (view : MemberView) → past ≡ past_of_member view → AllByRecursion IsSeen (entries view.voted) → durable_of_past seen past ≡ durable_of logs view
+  past_is_durable past view is same =
+      ap (durable_of_past seen) is ∙ ap (λ (records : Records). with_decided_votes seen records (map prepared_of (entries view.voted))) (records_again view.records)
+      ∙ laid_votes (entries view.voted) view.records same
+
+module _ (seen : List Numbers) (logs : ℕ → List Record) (same : (c : ℕ) → seen_by seen c ≡ (recovered_commits (logs c)).seen) where
+  all_seen : (es : List (ℕ × Vote)) → AllByRecursion (IsSeen seen logs) es
+  all_seen [] = tt
+  all_seen (e ∷ es) = (same e.1.coord, all_seen es)
 
   member_is_durable : (coords : ℕ) (items : Items) (past : MemberPast) → IsMemberRecovery coords items (Ok past) → all_rows (durable_of_past seen past) ≡ all_rows (durable_of logs (recovered_view (newest_first items)))
-  member_is_durable coords items past r = ap all_rows (past_is_durable past (recovered_view (newest_first items)) r.1)
+  member_is_durable coords items past r =
+      ap all_rows (past_is_durable seen logs past (recovered_view (newest_first items)) r.1 (all_seen (entries (recovered_view (newest_first items)).voted)))
 
   -- the rows of members that stand one after another
   rows_are : (coords : ℕ) (all : AllRecords) (lists : List Items) (pasts : List MemberPast) (member : ℕ) → EachPair (λ items past. IsMemberRecovery coords items (Ok past)) lists pasts

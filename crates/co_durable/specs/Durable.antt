@@ -1,14 +1,11 @@
 -- The durable records of a directory of logs: what the bytes of its files say, and nothing else.
-use Rattle.std.specs.Prelude.{ℕ, zero, suc, ◌-◌, ◌≡◌, ◌⊎◌, List, [], ◌++◌, map, slice_index_or, Option, None, Some}
+use Rattle.std.specs.Prelude.{ℕ, zero, suc, ◌-◌, ◌≡◌, ◌⊎◌, List, [], ◌++◌, map, slice_index_or, Option, None}
 use Rattle.std.specs.List.{AllByRecursion}
 use Rattle.co_base.specs.declared.node.Node.{Node}
 use Rattle.co_outside.specs.declared.spot.Spot.{Spot}
 use Rattle.co_outside.specs.Home.{File}
-use Rattle.co_frame.specs.LogText.{IsLogText, most_log_bytes}
 use Rattle.co_record.specs.declared.record.Record.{Record}
-use Rattle.co_log.specs.Attaching.{IsWithin}
 use Rattle.co_log.specs.LogView.{spot_of}
-use Rattle.co_log.specs.Current.{IsCurrentOf}
 use Rattle.co_serial.specs.Records.{all_rows}
 use Rattle.co_serial.specs.SerialRun.{AllRecords}
 use Rattle.co_plain.specs.DurableRecords.{durable_records}

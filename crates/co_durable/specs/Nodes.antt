@@ -4,9 +4,9 @@ use Rattle.co_base.specs.declared.node.Node.{Node}
 use Rattle.co_base.specs.declared.node.Node.TheVariants.{Member, Coord}
 
 -- so many of a sort, numbered from 1 on
-abbrev pub numbered : (ℕ → Node) → ℕ → List Node
-numbered node zero = []
-numbered node (suc count) = numbered node count ++ node (suc count) ∷ []
+abbrev pub numbered : {A : Type 0} → (ℕ → A) → ℕ → List A
+numbered one zero = []
+numbered one (suc count) = numbered one count ++ one (suc count) ∷ []
 
 abbrev pub member_nodes : ℕ → List Node
 member_nodes count = numbered Member count

@@ -1,10 +1,9 @@
 -- What opened logs tell, and logs with a record that is not allowed at its place.
-use Rattle.std.specs.Prelude.{ℕ, ◌≡◌, List, reverse, Option, None, Ok}
+use Rattle.std.specs.Prelude.{ℕ, ◌≡◌, List, Option, None, Ok}
 use Rattle.co_disk.specs.DiskModel.{read_of}
 use Rattle.co_log.specs.LogView.{LogView}
 use Rattle.co_log.specs.NodeFiles.{Items, newest_first}
 use Rattle.co_outside.specs.declared.spot.Spot.{Spot}
-use Rattle.co_record.specs.declared.record.Record.{Record}
 use Rattle.co_record.specs.Stored.{HasRecords}
 use Rattle.co_plain.specs.MemberView.{Numbers, first_refused_at_member}
 use Rattle.co_plain.specs.CoordView.{recovered_commits, first_refused_at_coord}

@@ -59,8 +59,9 @@ fn push_rows(durable: &mut Durable, member: u8, rows: Vec<Row>) -> Result<(), Al
     Ok(())
 }
 
-/// The durable records of all members, whose logs tell this.
-pub(crate) fn durable_rows(
+/// The durable records of at most 16 members whose logs tell this, of a federation whose coordinators' logs have these commits: members ascending, and keys
+/// ascending.
+pub fn durable_rows(
     alloc: Global,
     pasts: &[MemberPast],
     seen: &[Numbers],

@@ -15,5 +15,7 @@ mod writing;
 pub use durable::{Durable, DurableRow};
 pub use fault::WorldFault;
 pub use laws::directories_are_read_once;
+pub use laying::durable_rows;
 pub use records::read_durable;
+pub use recovering::{Numbers, numbers_from};
 pub use writing::{RecordsFault, write_records};

@@ -13,10 +13,10 @@ use co_state::Table;
 use std::alloc::{AllocError, Global};
 
 /// A set of transaction numbers.
-pub(crate) type Numbers = Table<()>;
+pub type Numbers = Table<()>;
 
 /// The set of these numbers.
-fn numbers_from(alloc: Global, list: &[Txn]) -> Result<Numbers, AllocError>
+pub fn numbers_from(alloc: Global, list: &[Txn]) -> Result<Numbers, AllocError>
     ensures { IfOk result (λ numbers. numbers ≡ numbers_from list.now) }
 {
     let mut numbers = Numbers::new(alloc);

@@ -1,19 +1,25 @@
 //! What a member tells of its transactions.
-ghost use Rattle.std.specs.Prelude.{◌≡◌, true, option_map};
+ghost use Rattle.std.specs.Prelude.{◌≡◌, true, option_map, IfOk};
 ghost use Rattle.co_plain.specs.MemberStep.{standing_of};
+ghost use Rattle.co_plain.specs.MemberView.{recovered_view};
 ghost use Rattle.co_plain.specs.declared.member_state.MemberState.{MemberState};
+ghost use Rattle.co_recover.specs.Recovered.{past_of_member};
 ghost use Rattle.co_state.specs.Table.{look};
 ghost use Rattle.co_undecided.specs.Kept.{coord_asked};
 ghost use Rattle.co_vote.specs.Ballots.{verdict_of};
+ghost use Rattle.co_member.specs.Attaching.{IsReadable};
 ghost use Rattle.co_member.specs.Reading.{phase_of, open_after, verdict_where};
 ghost use Rattle.co_member.specs.Standing.{is_up, RepresentsMember};
 
 use crate::member::Member;
+use crate::restart::recovered;
 use co_base::Txn;
 use co_engine::Engine;
 use co_log::Log;
 use co_plain::Standing;
+use co_recover::MemberPast;
 use co_vote::{Ballot, Phase};
+use std::alloc::AllocError;
 
 /// Where a transaction stands, as its phase.
 fn phase_of(standing: Standing) -> Phase
@@ -81,5 +87,13 @@ impl<E: Engine + Drop> Member<E> {
         ensures { (x : MemberState) → RepresentsMember E.stands_for self.now x → result ≡ coord_asked (look x.engine.voted t) }
     {
         self.running().undecided.coord_of(t)
+    }
+
+    /// What the records of the log tell, also while the member is down. The log is gone through.
+    pub fn past(&self) -> Result<MemberPast, AllocError>
+        requires stands { (x : MemberState) × RepresentsMember E.stands_for self.now x × IsReadable self.now.coords x.log }
+        ensures { (x : MemberState) → RepresentsMember E.stands_for self.now x → IfOk result (λ past. past ≡ past_of_member (recovered_view x.log.stable)) }
+    {
+        recovered(self.alloc, &self.log, self.coords)
     }
 }

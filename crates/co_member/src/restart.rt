@@ -42,7 +42,7 @@ fn numbers_from(alloc: Global, numbers: Txns) -> Result<Table<()>, AllocError>
 }
 
 /// What the records of a log tell, which are allowed where they stand.
-fn recovered(alloc: Global, log: &Log, coords: u8) -> Result<MemberPast, AllocError>
+pub(crate) fn recovered(alloc: Global, log: &Log, coords: u8) -> Result<MemberPast, AllocError>
     requires { (owner : Node) × (l : LogState) × RepresentsLog owner log.now l × IsReadable coords l }
     ensures { (owner : Node) (l : LogState) → RepresentsLog owner log.now l → IfOk result (λ past. past ≡ past_of_member (recovered_view l.stable)) }
 {

@@ -1,10 +1,11 @@
 -- Nodes by their numbers, and lists that go with them.
-use Rattle.std.proofs.Common.{◌≡◌, ◌==◌, Bool, true, false, ℕ, zero, suc, ◌+◌, ◌<◌, List, [], ◌∷◌, ◌++◌, refl, sym, ap, subst, ◌∙◌, append_assoc, arith}
+use Rattle.std.proofs.Common.{◌≡◌, ◌==◌, Bool, true, false, ℕ, zero, suc, ◌<◌, List, [], ◌∷◌, ◌++◌, refl, sym, ap, subst, ◌∙◌, append_assoc, arith}
 use Rattle.std.proofs.lemmas.Bool.{eqb-true, eqb-false}
 use Rattle.std.specs.List.{AllByRecursion}
 use Rattle.co_base.specs.declared.node.Node.{Node}
 use Rattle.co_durable.specs.Nodes.{numbered}
 use Rattle.co_durable.specs.Pairs.{EachPair, FirstWhere}
+use Rattle.co_durable.proofs.Numbered.{front, numbered_front}
 use Rattle.co_opening.specs.From.{AllFrom}
 
 -- behind so many nodes stands the next one, and then others
@@ -32,25 +33,7 @@ first_numbered IsGood IsBad node place count h good bad =
     let b = behind node place count h in
     record { before = numbered node place; first = node (suc place); behind = b.more; split = b.split; good = good; bad = bad }
 
--- the nodes from a number on, from the front
-front : (ℕ → Node) → ℕ → ℕ → List Node
-front node p zero = []
-front node p (suc k) = node (suc p) ∷ front node (suc p) k
-
-front_push : (node : ℕ → Node) (p k : ℕ) → front node p (suc k) ≡ front node p k ++ node (suc (p + k)) ∷ []
-unfolding front
-front_push node p zero = ap (λ n. node (suc n) ∷ []) (let e : p ≡ p + 0 = omega arith in e)
-front_push node p (suc k) =
-    ap (λ (t : List Node). node (suc p) ∷ t) (front_push node (suc p) k) ∙ ap (λ n. node (suc p) ∷ (front node (suc p) k ++ node (suc n) ∷ [])) (let e : suc p + k ≡ p + suc k = omega arith in e)
-
-numbered_front : (node : ℕ → Node) (count : ℕ) → numbered node count ≡ front node 0 count
-unfolding front
-numbered_front node zero = refl
-numbered_front node (suc count) =
-    ap (λ (t : List Node). t ++ node (suc count) ∷ []) (numbered_front node count) ∙ ap (λ n. front node 0 count ++ node (suc n) ∷ []) (let e : count ≡ 0 + count = omega arith in e) ∙ sym (front_push node 0 count)
-
 from_front : {B : Type 0} (R : Node → B → Type 0) (node : ℕ → Node) (p k : ℕ) (ys : List B) → EachPair R (front node p k) ys → AllFrom (λ q y. R (node (suc q)) y) p ys
-unfolding front
 from_front R node p zero [] pairs = tt
 from_front R node p zero (y ∷ ys) pairs = absurd pairs
 from_front R node p (suc k) [] pairs = tt

@@ -13,7 +13,6 @@ use Rattle.co_outside.specs.Home.{File}
 use Rattle.co_log.specs.LogView.{LogView}
 use Rattle.co_plain.specs.Opening.{Found, opened_member, opened_coord, used_numbers, member_headers, coord_headers}
 use Rattle.co_plain.specs.MemberView.{Numbers}
-use Rattle.co_plain.specs.Numbers.{has_number}
 use Rattle.co_recover.specs.declared.past.CoordPast.{CoordPast}
 use Rattle.co_recover.specs.declared.past.MemberPast.{MemberPast}
 use Rattle.co_state.specs.declared.engine_state.EngineState.{EngineState}
@@ -30,7 +29,6 @@ use Rattle.co_opening.specs.declared.nodes.Nodes.{Nodes}
 use Rattle.co_opening.proofs.From.{all_from_first, all_from_map}
 use Rattle.co_opening.proofs.Stays.{own_stays, own_all_stay}
 use Rattle.co_opening.proofs.Judged.{laid_used}
-use Rattle.co_opening.proofs.Laid.{has_keys}
 
 pub opened_nodes : {E : Type 0} (takes : Kind → Type 0) (stands_for : E → EngineState → Type 0) (file : Spot → Option File) (resume : Bool) (head : Head) (member_logs coord_logs : List LogView) (member_pasts : List MemberPast) (coord_pasts : List CoordPast)
     (j : AreJudged file resume head member_logs coord_logs member_pasts coord_pasts) (n : Nodes E) → length n.members.items ≡ length head.kinds → length n.coords.items ≡ length coord_logs
@@ -50,7 +48,7 @@ opened_nodes takes stands_for file resume head member_logs coord_logs member_pas
       coords = few ∙ j.many_coords;
       member = λ p m is. all_from_first (λ q x. IsMemberAt takes stands_for head.coords q x (opened_member head.kinds (suc q) (j.found_member (suc q)))) n.members.items p m ms is;
       coord = λ p c is. all_from_first (λ q y. IsCoordAt (length head.kinds) q y (opened_coord (suc q) (j.found_coord (suc q)))) n.coords.items p c cs is;
-      used = λ t. ap (λ (ts : List ℕ). has_number ts t) are ∙ has_keys numbers t;
+      used = are;
       few = most;
       marks = marks ∙ ap (λ k. member_headers (length head.kinds) j.found_member ++ coord_headers k j.found_coord) j.many_coords;
     }

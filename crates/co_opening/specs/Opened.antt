@@ -5,10 +5,8 @@ use Rattle.co_base.specs.declared.head.Head.{Head}
 use Rattle.co_base.specs.declared.head.Kind.{Kind}
 use Rattle.co_outside.specs.declared.spot.Spot.{Spot}
 use Rattle.co_outside.specs.Home.{File}
-use Rattle.co_plain.specs.Numbers.{has_number}
 use Rattle.co_plain.specs.Opening.{Found, opened_member, opened_coord, used_numbers, member_headers, coord_headers}
 use Rattle.co_state.specs.declared.engine_state.EngineState.{EngineState}
-use Rattle.co_state.specs.Table.{holds}
 use Rattle.co_coord.specs.declared.coord.Coord.{Coord}
 use Rattle.co_member.specs.declared.member.Member.{Member}
 use Rattle.co_durable.specs.declared.fault.WorldFault.{WorldFault}
@@ -34,7 +32,7 @@ pub record AreOpened {E : Type 0} (takes : Kind → Type 0) (stands_for : E → 
   pub coords : length n.coords.items ≡ head.coords
   pub member : (p : ℕ) (m : Member E) → slice_get n.members.items p ≡ Some m → IsMemberAt takes stands_for head.coords p m (opened_member head.kinds (suc p) (found_member (suc p)))
   pub coord : (p : ℕ) (c : Coord) → slice_get n.coords.items p ≡ Some c → IsCoordAt (length head.kinds) p c (opened_coord (suc p) (found_coord (suc p)))
-  pub used : (t : ℕ) → has_number n.used t ≡ holds (used_numbers (length head.kinds) head.coords found_member found_coord) t
+  pub used : n.used ≡ keys (used_numbers (length head.kinds) head.coords found_member found_coord)
   pub few : length n.used ≤ 65536
   pub marks : n.marks ≡ member_headers (length head.kinds) found_member ++ coord_headers head.coords found_coord
 

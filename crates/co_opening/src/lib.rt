@@ -14,4 +14,5 @@ mod opening;
 mod sort;
 
 pub use nodes::Nodes;
+pub use numbers::{lay_votes, numbers_in};
 pub use opening::open_nodes;

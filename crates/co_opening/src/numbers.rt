@@ -27,7 +27,7 @@ fn lay_numbers(used: &mut Table<()>, numbers: &[Txn]) -> Result<(), AllocError>
 }
 
 /// Takes the numbers of these voted transactions into a set.
-fn lay_votes(used: &mut Table<()>, votes: &[Prepared]) -> Result<(), AllocError>
+pub fn lay_votes(used: &mut Table<()>, votes: &[Prepared]) -> Result<(), AllocError>
     ensures { OnOk result (used.new ≡ with_numbers used.old (map (λ vote. vote.txn) votes.now)) }
 {
     for vote in votes {
@@ -65,7 +65,7 @@ fn lay_coords(used: &mut Table<()>, pasts: &[CoordPast]) -> Result<(), AllocErro
 }
 
 /// The numbers of a set, ascending.
-fn numbers_in(alloc: Global, numbers: &Table<()>) -> Result<Txns, AllocError>
+pub fn numbers_in(alloc: Global, numbers: &Table<()>) -> Result<Txns, AllocError>
     ensures { IfOk result (λ list. list ≡ keys numbers.now) }
 {
     let mut list = Vec::new(alloc);

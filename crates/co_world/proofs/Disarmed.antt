@@ -20,6 +20,7 @@ use Rattle.co_coord.specs.Standing.{RepresentsCoord, IsSame as IsSameCoord}
 use Rattle.co_member.specs.declared.member.Member.{Member}
 use Rattle.co_member.specs.Standing.{RepresentsMember, IsSame as IsSameMember}
 use Rattle.co_opening.specs.Nodes.{IsKept}
+use Rattle.co_world.specs.Counting.{AreCounted}
 use Rattle.co_world.specs.Standing.{RepresentsWorld, AreHeld}
 use Rattle.co_world.specs.declared.world.World.{World}
 use Rattle.co_world.proofs.Places.{set_cases, set_other, within_list}
@@ -88,6 +89,7 @@ module _ {E : Type 0} (takes : Kind → Type 0) (stands_for : E → EngineState 
             record { number = x.2.same.number ∙ was.number; members_are = x.2.same.members ∙ was.members_are; stands = x.2.did (s.coord (suc p)) was.stands };
         sessions = ap (λ (x : Clients). x.sessions) d.sessions ∙ r.sessions;
         used = λ t. ap (λ (x : Clients). has_number x.used t) d.sessions ∙ r.used t;
+        counted = subst (λ (x : Clients). AreCounted x s.sessions s.used) (sym d.sessions) r.counted;
         wire = d.wire ∙ r.wire;
         homes = r.homes;
       }

@@ -22,4 +22,9 @@ pub mod Lacking
 pub mod Exchanging
 pub mod Walks
 pub mod OpenNodes
+pub mod Limits
+pub mod LogsAlone
+pub mod NotedSets
+pub mod Pairwise
+pub mod Listing
 pub mod HandedVerdicts

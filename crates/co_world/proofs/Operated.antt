@@ -20,6 +20,7 @@ use Rattle.co_plain.specs.Numbers.{has_number}
 use Rattle.co_plain.specs.declared.member_state.MemberState.{MemberState}
 use Rattle.co_session.specs.Clients.{Clients}
 use Rattle.co_state.specs.declared.engine_state.EngineState.{EngineState}
+use Rattle.co_world.specs.Counting.{AreCounted}
 use Rattle.co_world.specs.Standing.{RepresentsWorld, AreHeld}
 use Rattle.co_world.specs.declared.world.World.{World}
 use Rattle.co_world.specs.Conditions.{IsReady}
@@ -49,6 +50,7 @@ module _ {E : Type 0} (w after : World E) (p : ℕ) (m n : Member E) (changed : 
         coord = λ i c at. r.coord i c (subst (λ (cs : List Coord). slice_get cs i ≡ Some c) changed.coords at);
         sessions = ap (λ (c : Clients). c.sessions) changed.sessions ∙ r.sessions;
         used = λ t. ap (λ (c : Clients). has_number c.used t) changed.sessions ∙ r.used t;
+        counted = subst (λ (c : Clients). AreCounted c s.sessions s.used) (sym changed.sessions) r.counted;
         wire = changed.wire ∙ r.wire;
         homes = r.homes;
       })

@@ -20,6 +20,7 @@ use Rattle.co_member.specs.Standing.{RepresentsMember, HasDone as HasDoneMember,
 use Rattle.co_member.specs.declared.member.Member.{Member}
 use Rattle.co_member.specs.declared.step.MemberStep.{MemberStep}
 use Rattle.co_opening.specs.Nodes.{IsMemberAt, IsCoordAt}
+use Rattle.co_world.specs.Counting.{AreCounted}
 use Rattle.co_world.specs.Calls.{member_does, coord_does, MemberMay, CoordMay}
 use Rattle.co_world.specs.Standing.{RepresentsWorld, AreHeld}
 use Rattle.co_world.specs.Telling.{IsTold, IsToldBy}
@@ -92,6 +93,7 @@ module _ {E : Type 0} (takes : Kind → Type 0) (stands_for : E → EngineState 
           coord = λ i c at. r.coord i c (subst (λ (cs : List Coord). slice_get cs i ≡ Some c) coords at);
           sessions = ap (λ (x : Clients). x.sessions) sessions ∙ r.sessions;
           used = λ t. ap (λ (x : Clients). has_number x.used t) sessions ∙ r.used t;
+          counted = subst (λ (x : Clients). AreCounted x s.sessions s.used) (sym sessions) r.counted;
           wire = wire ∙ r.wire;
           homes = r.homes;
         };
@@ -137,6 +139,7 @@ module _ {E : Type 0} (takes : Kind → Type 0) (stands_for : E → EngineState 
           coord = λ i q at. each i q (subst (λ (cs : List Coord). slice_get cs i ≡ Some q) coords at);
           sessions = ap (λ (x : Clients). x.sessions) sessions ∙ r.sessions;
           used = λ t. ap (λ (x : Clients). has_number x.used t) sessions ∙ r.used t;
+          counted = subst (λ (x : Clients). AreCounted x s.sessions s.used) (sym sessions) r.counted;
           wire = wire ∙ r.wire;
           homes = r.homes;
         };
@@ -164,6 +167,7 @@ module _ {E : Type 0} (takes : Kind → Type 0) (stands_for : E → EngineState 
         coord = r.coord;
         sessions = r.sessions;
         used = r.used;
+        counted = r.counted;
         wire = sent ∙ ap (λ (ms : List Message). send_all ms messages) r.wire;
         homes = r.homes;
       })

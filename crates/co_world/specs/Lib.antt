@@ -7,3 +7,4 @@ pub mod Attached
 pub mod Counting
 pub mod Left
 pub mod Readings
+pub mod Listed

@@ -13,9 +13,10 @@ use Rattle.co_state.specs.Table.{look, holds}
 use Rattle.co_coord.specs.declared.coord.Coord.{Coord}
 use Rattle.co_member.specs.declared.member.Member.{Member}
 use Rattle.co_opening.specs.Nodes.{IsMemberAt, IsCoordAt, AreKept}
+use Rattle.co_world.specs.Counting.{AreCounted}
 use Rattle.co_world.specs.declared.world.World.{World}
 
--- It has a member and a coordinator for each plain one, the same sessions and messages, and the same numbers that may not be begun. The decisions, and
+-- It has a member and a coordinator for each plain one, the same sessions and messages, and the same numbers that may not be begun, each counted once. The decisions, and
 -- the records that the logs had when they were opened, are not kept.
 pub record RepresentsWorld {E : Type 0} (takes : Kind → Type 0) (stands_for : E → EngineState → Type 0) (w : World E) (s : Federation) : Type 0 where
   pub kinds : length w.members.items ≡ length s.kinds
@@ -26,6 +27,7 @@ pub record RepresentsWorld {E : Type 0} (takes : Kind → Type 0) (stands_for : 
   pub coord : (p : ℕ) (c : Coord) → slice_get w.coords.items p ≡ Some c → IsCoordAt (length s.kinds) p c (s.coord (suc p))
   pub sessions : w.sessions.sessions ≡ s.sessions
   pub used : (t : ℕ) → has_number w.sessions.used t ≡ holds s.used t
+  pub counted : AreCounted w.sessions s.sessions s.used
   pub wire : w.wire ≡ s.sent
   -- each session is of a transaction that a node of the federation decides
   pub homes : (t : ℕ) (session : Session) → look s.sessions t ≡ Some session → IsNode (length s.kinds) s.coordinators session.by

@@ -7,7 +7,6 @@ ghost use Rattle.co_state.specs.Table.{least_where};
 ghost use Rattle.co_world.specs.Conditions.{IsReady};
 ghost use Rattle.co_world.specs.Standing.{RepresentsWorld};
 
-use crate::recovering::{coord_past, member_past};
 use crate::world::World;
 use co_engine::Engine;
 use std::alloc::AllocError;
@@ -23,7 +22,7 @@ impl<E: Engine + Drop> World<E> {
         if node.up() {
             return Ok(node.open_after(None).is_some());
         }
-        let past = member_past(self.alloc, node.log(), self.coord_count())?;
+        let past = self.member_past(member)?;
         Ok(!past.voted.as_slice().is_empty())
     }
 
@@ -37,7 +36,7 @@ impl<E: Engine + Drop> World<E> {
         if node.up() {
             return Ok(node.open_after(None).is_some());
         }
-        let past = coord_past(self.alloc, node.log(), self.member_count())?;
+        let past = self.coord_past(coord)?;
         Ok(!past.committed.as_slice().is_empty())
     }
 

@@ -1,37 +1,33 @@
-//! What the logs of nodes tell.
-ghost use Rattle.std.specs.Prelude.{◌≡◌, reverse, None, IfOk};
-ghost use Rattle.co_base.specs.declared.node.Node.{Node};
-ghost use Rattle.co_member.specs.Attaching.{IsReadable};
-ghost use Rattle.co_node.specs.NodeLog.{RepresentsLog};
-ghost use Rattle.co_plain.specs.CoordView.{first_refused_at_coord, recovered_commits};
+//! What the logs of nodes tell, also of nodes that are down.
+ghost use Rattle.std.specs.Prelude.{◌≡◌, ◌≤◌, length, IfOk};
+ghost use Rattle.co_plain.specs.CoordView.{recovered_commits};
+ghost use Rattle.co_plain.specs.Federation.{Federation};
 ghost use Rattle.co_plain.specs.MemberView.{recovered_view};
-ghost use Rattle.co_plain.specs.declared.log_state.LogState.{LogState};
 ghost use Rattle.co_recover.specs.Recovered.{past_of_member, past_of_coord};
+ghost use Rattle.co_world.specs.Conditions.{IsReady};
+ghost use Rattle.co_world.specs.Standing.{RepresentsWorld};
 
-use co_log::Log;
-use co_recover::{CoordPast, MemberPast, RecoverFault, recover_coord, recover_member};
-use std::alloc::{AllocError, Global};
+use crate::world::World;
+use co_engine::Engine;
+use co_recover::{CoordPast, MemberPast};
+use std::alloc::AllocError;
 
-/// What the records of a member's log tell, which are allowed where they stand.
-pub(crate) fn member_past(alloc: Global, log: &Log, coords: u8) -> Result<MemberPast, AllocError>
-    requires { (owner : Node) × (l : LogState) × RepresentsLog owner log.now l × IsReadable coords l }
-    ensures { (owner : Node) (l : LogState) → RepresentsLog owner log.now l → IfOk result (λ past. past ≡ past_of_member (recovered_view l.stable)) }
-{
-    match recover_member(alloc, log.views(), coords) {
-        Ok(past) => Ok(past),
-        Err(RecoverFault::Memory) => Err(AllocError),
-        Err(RecoverFault::Inconsistent { at: _ }) => unreachable!(),
+impl<E: Engine + Drop> World<E> {
+    /// What the records of a member's log tell.
+    pub(crate) fn member_past(&self, member: u8) -> Result<MemberPast, AllocError>
+        requires member { (1 ≤ member) × (member ≤ length self.now.members.items) }
+        requires stands { (s : Federation) × RepresentsWorld E.takes E.stands_for self.now s × IsReady s }
+        ensures { (s : Federation) → RepresentsWorld E.takes E.stands_for self.now s → IfOk result (λ past. past ≡ past_of_member (recovered_view (s.member member).log.stable)) }
+    {
+        self.member_at(member).past()
     }
-}
 
-/// What the records of a coordinator's log tell, which are allowed where they stand.
-pub(crate) fn coord_past(alloc: Global, log: &Log, members: u8) -> Result<CoordPast, AllocError>
-    requires { (owner : Node) × (l : LogState) × RepresentsLog owner log.now l × (first_refused_at_coord members (reverse l.stable) ≡ None) }
-    ensures { (owner : Node) (l : LogState) → RepresentsLog owner log.now l → IfOk result (λ past. past ≡ past_of_coord (recovered_commits l.stable)) }
-{
-    match recover_coord(alloc, log.views(), members) {
-        Ok(past) => Ok(past),
-        Err(RecoverFault::Memory) => Err(AllocError),
-        Err(RecoverFault::Inconsistent { at: _ }) => unreachable!(),
+    /// What the records of a coordinator's log tell.
+    pub(crate) fn coord_past(&self, coord: u8) -> Result<CoordPast, AllocError>
+        requires coord { (1 ≤ coord) × (coord ≤ length self.now.coords.items) }
+        requires stands { (s : Federation) × RepresentsWorld E.takes E.stands_for self.now s × IsReady s }
+        ensures { (s : Federation) → RepresentsWorld E.takes E.stands_for self.now s → IfOk result (λ past. past ≡ past_of_coord (recovered_commits (s.coord coord).log.stable)) }
+    {
+        self.coord_at(coord).past()
     }
 }

@@ -9,7 +9,7 @@ ghost use Rattle.co_plain.specs.Step.{operate, deliver, timer_at, crash_at, rest
 ghost use Rattle.co_schedule.specs.View.{IsEventFor, IsMessageFor, IsNode};
 ghost use Rattle.co_world.specs.Calls.{receiver};
 ghost use Rattle.co_world.specs.Conditions.{IsReady};
-ghost use Rattle.co_world.specs.Counting.{MeetsLimit};
+ghost use Rattle.co_world.specs.Counting.{MeetsLimit, MeetsPlainLimit};
 ghost use Rattle.co_node.specs.Answers.{seen, HomeView};
 ghost use Rattle.co_world.specs.Left.{AreLeftBy};
 ghost use Rattle.co_world.specs.Served.{AreServed, HasEndedAs};
@@ -272,8 +272,8 @@ impl<E: Engine + Drop> World<E> {
 
     /// Does the event of the line of this number, whose nodes are in the head, and whose device call, where it arms a stop, is 1 to 4.
     ///
-    /// The items are what became stable, what was sent and exactly one answer; the event's own item is not among them. `Count` comes where a
-    /// transaction is begun and 65,536 numbers are used; `Device`, `Differs`, `Full` and `Memory` as the node says. `InUse`, `Bad` and `Old`
+    /// The items are what became stable, what was sent and exactly one answer; the event's own item is not among them. `Count` comes exactly where a
+    /// transaction is begun whose number is neither begun nor used, and 65,536 are; `Device`, `Differs`, `Full` and `Memory` as the node says. `InUse`, `Bad` and `Old`
     /// never come. A fault leaves in the files the stable records of before the event, or those that the event leaves, or those that it leaves
     /// where no stop is armed.
     pub fn step<H: Home>(
@@ -286,6 +286,7 @@ impl<E: Engine + Drop> World<E> {
         requires held { AreHeld (H.file home.old) (H.reach home.old) self.old }
         requires stands { (s : Federation) × RepresentsWorld E.takes E.stands_for self.old s × IsReady s }
         ensures count { IsErrOf result WorldFault.Count ↔ MeetsLimit self.old.sessions event.now }
+        ensures limit { (s : Federation) → RepresentsWorld E.takes E.stands_for self.old s → IsErrOf result WorldFault.Count ↔ MeetsPlainLimit s event.now }
         ensures items { (s : Federation) → RepresentsWorld E.takes E.stands_for self.old s → IsReady s → IfOk result (λ items. items ≡ numbered number (step_line s event.now).items) }
         ensures stands { (s : Federation) → RepresentsWorld E.takes E.stands_for self.old s → IsReady s → OnOk result (RepresentsWorld E.takes E.stands_for self.new (step_line s event.now).state) }
         ensures left { (s : Federation) → RepresentsWorld E.takes E.stands_for self.old s → IsReady s → OnErr result (AreLeftBy (H.file home.new) s (step_line s event.now).state (step_line (disarmed s) event.now).state) }

@@ -1,4 +1,4 @@
-use Rattle.std.proofs.Common.{rules, ◌+◌, ◌++◌, Some, ap, ◌∙◌, append_assoc, arith}
+use Rattle.std.proofs.Common.{rules, ◌+◌, ◌++◌, Some, ap, ◌∙◌, append_assoc}
 use Rattle.co_durable.proofs.Fronts.{kept_front, part_front, line_more, on_err, in_err}
 use Rattle.co_durable.proofs.text.put_records.Goals as goal
 

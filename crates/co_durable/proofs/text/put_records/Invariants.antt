@@ -1,4 +1,4 @@
-use Rattle.std.proofs.Common.{◌≡◌, ◌++◌, ◌≤◌, ℕ, List, Some, take}
+use Rattle.std.proofs.Common.{◌≡◌, ◌++◌, ℕ, List, Some, take}
 use Rattle.co_durable.specs.Text.{records_text}
 use Rattle.co_durable.proofs.text.put_records.Given as goal
 

@@ -1,29 +1,6 @@
-use Rattle.std.proofs.Common.{subst, ◌∙◌}
-use Rattle.std.specs.Prelude.{Err}
-use Rattle.co_base.specs.declared.node.Node.TheVariants as node
-use Rattle.co_recover.specs.Recovered.{IsCoordRecovery}
-use Rattle.co_recover.specs.declared.fault.RecoverFault.{RecoverFault}
-use Rattle.co_coord.proofs.Told.{log_records, never_refused, recovered_table}
+use Rattle.std.proofs.Common.{◌∙◌}
+use Rattle.co_coord.proofs.Told.{table_told}
 use Rattle.co_coord.proofs.coord.Coord.told_table.Goals as goal
 
-pub views-requires : goal.views-requires
-views-requires c =
-    let x = c.args.self.now in
-    let r = c.requires.stands.1 in
-    (r.log.items, log_records (node.Coord x.number) x.log c.requires.stands.0.log r.log)
-
-pub unreachable-requires : goal.unreachable-requires
-unreachable-requires c =
-    let x = c.args.self.now in
-    let n = node.Coord x.number in
-    let l = c.requires.stands.0.log in
-    let s = c.requires.stands.1.log in
-    let refused = c.in-Err-Inconsistent.ensures s.items (c.views.ensures s.items (log_records n x.log l s)) in
-    never_refused n x.log l x.members c.in-Err-Inconsistent.field-0-0 s c.requires.stands.2 (subst (λ (f : RecoverFault). IsCoordRecovery x.members s.items (Err f)) c.in-Err-Inconsistent.field-0-is refused)
-
-pub returns-in_ok-table_of-in-Ok-clause-table : goal.returns-in_ok-table_of-in-Ok-clause-table
-returns-in_ok-table_of-in-Ok-clause-table c = λ y r.
-    let x = c.args.self.now in
-    let n = node.Coord x.number in
-    let recovered = c.in-Ok.ensures r.log.items (c.views.ensures r.log.items (log_records n x.log y.log r.log)) in
-    c.in_ok-table_of-in-Ok.ensures ∙ recovered_table n x.log y.log x.members c.in-Ok.past r.log recovered
+pub returns-clause-table : goal.returns-clause-table
+returns-clause-table c = λ y r. c.in_ok-table_of.ensures ∙ table_told y.log c.in_ok-past.past (c.in_ok-past.ensures y r)

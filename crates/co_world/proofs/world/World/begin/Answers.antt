@@ -120,7 +120,7 @@ coord_does-requires-clause-stands g c =
     let up = sym (c.coord_up.ensures s r) ∙ c.if-not-coord_up.false in
     let own = own_coord g.E.Engine.takes g.E.Engine.stands_for c.args.self.now s r c.args.coord c.requires.in_head in (
       with_session s c.args.t (begun_by by),
-      begins g.E.Engine.takes g.E.Engine.stands_for c.args.self.now s r c.begin.new.self c.args.t by c.in_ok-begin.ensures.ok own,
+      begins g.E.Engine.takes g.E.Engine.stands_for c.args.self.now s r c.begin.new.self c.args.t by c.in_ok-begin.ensures.ok (sym c.in_ok-used.ensures.used ∙ c.if-branch.false) (c.in_ok-used.ensures.room c.if-branch.false) own,
       up,
     )
 
@@ -148,7 +148,7 @@ returns-clause-items g c = λ s r.
     let unused = sym (used_alike g.E.Engine.takes g.E.Engine.stands_for c.args.self.now s r c.args.t) ∙ sym c.in_ok-used.ensures.used ∙ c.if-branch.false in
     let up = sym (c.coord_up.ensures s r) ∙ c.if-not-coord_up.false in
     let own = own_coord g.E.Engine.takes g.E.Engine.stands_for c.args.self.now s r c.args.coord c.requires.in_head in
-    let begun = begins g.E.Engine.takes g.E.Engine.stands_for c.args.self.now s r c.begin.new.self c.args.t by c.in_ok-begin.ensures.ok own in
+    let begun = begins g.E.Engine.takes g.E.Engine.stands_for c.args.self.now s r c.begin.new.self c.args.t by c.in_ok-begin.ensures.ok (sym c.in_ok-used.ensures.used ∙ c.if-branch.false) (c.in_ok-used.ensures.room c.if-branch.false) own in
     let plain = with_session s c.args.t (begun_by by) in
     let step = coord_begin (s.coord c.args.coord) c.args.t in
     told_as c.args.number c.tells_of_coord.result (at_coord plain c.args.coord step) (begin_where s c.args.t c.args.coord (is_used s c.args.t) (s.coord c.args.coord).up)
@@ -162,7 +162,7 @@ returns-clause-stands g c = λ s r.
     let unused = sym (used_alike g.E.Engine.takes g.E.Engine.stands_for c.args.self.now s r c.args.t) ∙ sym c.in_ok-used.ensures.used ∙ c.if-branch.false in
     let up = sym (c.coord_up.ensures s r) ∙ c.if-not-coord_up.false in
     let own = own_coord g.E.Engine.takes g.E.Engine.stands_for c.args.self.now s r c.args.coord c.requires.in_head in
-    let begun = begins g.E.Engine.takes g.E.Engine.stands_for c.args.self.now s r c.begin.new.self c.args.t by c.in_ok-begin.ensures.ok own in
+    let begun = begins g.E.Engine.takes g.E.Engine.stands_for c.args.self.now s r c.begin.new.self c.args.t by c.in_ok-begin.ensures.ok (sym c.in_ok-used.ensures.used ∙ c.if-branch.false) (c.in_ok-used.ensures.room c.if-branch.false) own in
     let plain = with_session s c.args.t (begun_by by) in
     let step = coord_begin (s.coord c.args.coord) c.args.t in
     stands_as g.E.Engine.takes g.E.Engine.stands_for c.tells_of_coord.result c.tells_of_coord.new.self (at_coord plain c.args.coord step) (begin_where s c.args.t c.args.coord (is_used s c.args.t) (s.coord c.args.coord).up)
@@ -205,7 +205,7 @@ returns-in_err-did-clause-left g c = λ s r.
     let unused = sym (used_alike g.E.Engine.takes g.E.Engine.stands_for c.args.self.now s r c.args.t) ∙ sym c.in_ok-used.ensures.used ∙ c.if-branch.false in
     let up = sym (c.coord_up.ensures s r) ∙ c.if-not-coord_up.false in
     let own = own_coord g.E.Engine.takes g.E.Engine.stands_for c.args.self.now s r c.args.coord c.requires.in_head in
-    let begun = begins g.E.Engine.takes g.E.Engine.stands_for c.args.self.now s r c.begin.new.self c.args.t by c.in_ok-begin.ensures.ok own in
+    let begun = begins g.E.Engine.takes g.E.Engine.stands_for c.args.self.now s r c.begin.new.self c.args.t by c.in_ok-begin.ensures.ok (sym c.in_ok-used.ensures.used ∙ c.if-branch.false) (c.in_ok-used.ensures.room c.if-branch.false) own in
     let plain = with_session s c.args.t (begun_by by) in
     let step = coord_begin (s.coord c.args.coord) c.args.t in
     let whole = coord_begin (coord_disarmed (s.coord c.args.coord)) c.args.t in
@@ -222,7 +222,7 @@ returns-clause-left g c = λ s r.
     let unused = sym (used_alike g.E.Engine.takes g.E.Engine.stands_for c.args.self.now s r c.args.t) ∙ sym c.in_ok-used.ensures.used ∙ c.if-branch.false in
     let up = sym (c.coord_up.ensures s r) ∙ c.if-not-coord_up.false in
     let own = own_coord g.E.Engine.takes g.E.Engine.stands_for c.args.self.now s r c.args.coord c.requires.in_head in
-    let begun = begins g.E.Engine.takes g.E.Engine.stands_for c.args.self.now s r c.begin.new.self c.args.t by c.in_ok-begin.ensures.ok own in
+    let begun = begins g.E.Engine.takes g.E.Engine.stands_for c.args.self.now s r c.begin.new.self c.args.t by c.in_ok-begin.ensures.ok (sym c.in_ok-used.ensures.used ∙ c.if-branch.false) (c.in_ok-used.ensures.room c.if-branch.false) own in
     let plain = with_session s c.args.t (begun_by by) in
     let step = coord_begin (s.coord c.args.coord) c.args.t in
     let whole = coord_begin (coord_disarmed (s.coord c.args.coord)) c.args.t in

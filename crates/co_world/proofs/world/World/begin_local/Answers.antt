@@ -107,7 +107,7 @@ returns-clause-stands g c = λ s r.
     let unused = sym (used_alike g.E.Engine.takes g.E.Engine.stands_for c.args.self.now s r c.args.t) ∙ sym c.in_ok-used.ensures.used ∙ c.if-branch.false in
     let up = sym (c.member_up.ensures s r) ∙ c.if-not-member_up.false in
     let own = own_member g.E.Engine.takes g.E.Engine.stands_for c.args.self.now s r c.args.member c.requires.in_head in
-    let begun = begins g.E.Engine.takes g.E.Engine.stands_for c.args.self.now s r c.begin.new.self c.args.t by c.in_ok-begin.ensures.ok own in
+    let begun = begins g.E.Engine.takes g.E.Engine.stands_for c.args.self.now s r c.begin.new.self c.args.t by c.in_ok-begin.ensures.ok (sym c.in_ok-used.ensures.used ∙ c.if-branch.false) (c.in_ok-used.ensures.room c.if-branch.false) own in
     answered_stands g.E.Engine.takes g.E.Engine.stands_for c.answers-2.result (record c.args.self.now { sessions = c.begin.new.self }) there answer.Begun (local_where s c.args.t c.args.member (is_used s c.args.t) (s.member c.args.member).up) (λ i. local_where s c.args.t c.args.member (sym unused i) (sym up i)) begun
 
 pub returns-clause-held : goal.returns-clause-held

@@ -12,6 +12,7 @@ use Rattle.co_world.proofs.Acting.{own_member}
 use Rattle.co_world.proofs.Ends.{served_alone}
 use Rattle.co_world.proofs.Ready.{votes_again}
 use Rattle.co_world.proofs.Lefts.{held_left}
+use Rattle.co_world.proofs.Limits.{through, limits_alike}
 use Rattle.co_world.proofs.Leaving.{at_fault}
 use Rattle.co_world.specs.Left.{AreLeftBy}
 use Rattle.co_world.proofs.world.World.step.Goals as goal
@@ -29,6 +30,12 @@ begin-requires-clause-stands g c =
 pub returns-in-Begin-clause-count : goal.returns-in-Begin-clause-count
 returns-in-Begin-clause-count g c =
     subst (λ (e : Event). IsErrOf c.begin.result world.Count ↔ MeetsLimit c.args.self.now.sessions e) (sym c.in-Begin.is) c.begin.ensures.count
+
+pub returns-in-Begin-clause-limit : goal.returns-in-Begin-clause-limit
+returns-in-Begin-clause-limit g c = λ s r.
+    through
+    (subst (λ (e : Event). IsErrOf c.begin.result world.Count ↔ MeetsLimit c.args.self.now.sessions e) (sym c.in-Begin.is) c.begin.ensures.count)
+    (limits_alike g.E.Engine.takes g.E.Engine.stands_for c.args.self.now s r c.args.event.now)
 
 pub returns-in-Begin-clause-items : goal.returns-in-Begin-clause-items
 returns-in-Begin-clause-items g c = λ s r ready.
@@ -53,6 +60,12 @@ begin_local-requires g c =
 pub returns-in-Local-clause-count : goal.returns-in-Local-clause-count
 returns-in-Local-clause-count g c =
     subst (λ (e : Event). IsErrOf c.begin_local.result world.Count ↔ MeetsLimit c.args.self.now.sessions e) (sym c.in-Local.is) c.begin_local.ensures.count
+
+pub returns-in-Local-clause-limit : goal.returns-in-Local-clause-limit
+returns-in-Local-clause-limit g c = λ s r.
+    through
+    (subst (λ (e : Event). IsErrOf c.begin_local.result world.Count ↔ MeetsLimit c.args.self.now.sessions e) (sym c.in-Local.is) c.begin_local.ensures.count)
+    (limits_alike g.E.Engine.takes g.E.Engine.stands_for c.args.self.now s r c.args.event.now)
 
 pub returns-in-Local-clause-items : goal.returns-in-Local-clause-items
 returns-in-Local-clause-items g c = λ s r ready.
@@ -85,6 +98,12 @@ pub returns-in-Read-clause-count : goal.returns-in-Read-clause-count
 returns-in-Read-clause-count g c =
     subst (λ (e : Event). IsErrOf c.reads.result world.Count ↔ MeetsLimit c.args.self.now.sessions e) (sym c.in-Read.is) (c.reads.ensures.count, λ none. absurd none)
 
+pub returns-in-Read-clause-limit : goal.returns-in-Read-clause-limit
+returns-in-Read-clause-limit g c = λ s r.
+    through
+    (subst (λ (e : Event). IsErrOf c.reads.result world.Count ↔ MeetsLimit c.args.self.now.sessions e) (sym c.in-Read.is) (c.reads.ensures.count, λ none. absurd none))
+    (limits_alike g.E.Engine.takes g.E.Engine.stands_for c.args.self.now s r c.args.event.now)
+
 pub returns-in-Read-clause-items : goal.returns-in-Read-clause-items
 returns-in-Read-clause-items g c = λ s r ready.
     subst (λ (e : Event). IfOk c.reads.result (λ items. items ≡ numbered c.args.number (step_line s e).items)) (sym c.in-Read.is) (c.reads.ensures.items s r ready)
@@ -115,6 +134,12 @@ writes-requires-clause-stands g c =
 pub returns-in-Write-clause-count : goal.returns-in-Write-clause-count
 returns-in-Write-clause-count g c =
     subst (λ (e : Event). IsErrOf c.writes.result world.Count ↔ MeetsLimit c.args.self.now.sessions e) (sym c.in-Write.is) (c.writes.ensures.count, λ none. absurd none)
+
+pub returns-in-Write-clause-limit : goal.returns-in-Write-clause-limit
+returns-in-Write-clause-limit g c = λ s r.
+    through
+    (subst (λ (e : Event). IsErrOf c.writes.result world.Count ↔ MeetsLimit c.args.self.now.sessions e) (sym c.in-Write.is) (c.writes.ensures.count, λ none. absurd none))
+    (limits_alike g.E.Engine.takes g.E.Engine.stands_for c.args.self.now s r c.args.event.now)
 
 pub returns-in-Write-clause-items : goal.returns-in-Write-clause-items
 returns-in-Write-clause-items g c = λ s r ready.
@@ -147,6 +172,12 @@ pub returns-in-Erase-clause-count : goal.returns-in-Erase-clause-count
 returns-in-Erase-clause-count g c =
     subst (λ (e : Event). IsErrOf c.erases.result world.Count ↔ MeetsLimit c.args.self.now.sessions e) (sym c.in-Erase.is) (c.erases.ensures.count, λ none. absurd none)
 
+pub returns-in-Erase-clause-limit : goal.returns-in-Erase-clause-limit
+returns-in-Erase-clause-limit g c = λ s r.
+    through
+    (subst (λ (e : Event). IsErrOf c.erases.result world.Count ↔ MeetsLimit c.args.self.now.sessions e) (sym c.in-Erase.is) (c.erases.ensures.count, λ none. absurd none))
+    (limits_alike g.E.Engine.takes g.E.Engine.stands_for c.args.self.now s r c.args.event.now)
+
 pub returns-in-Erase-clause-items : goal.returns-in-Erase-clause-items
 returns-in-Erase-clause-items g c = λ s r ready.
     subst (λ (e : Event). IfOk c.erases.result (λ items. items ≡ numbered c.args.number (step_line s e).items)) (sym c.in-Erase.is) (c.erases.ensures.items s r ready)
@@ -178,6 +209,12 @@ pub returns-in-Scan-clause-count : goal.returns-in-Scan-clause-count
 returns-in-Scan-clause-count g c =
     subst (λ (e : Event). IsErrOf c.scans.result world.Count ↔ MeetsLimit c.args.self.now.sessions e) (sym c.in-Scan.is) (c.scans.ensures.count, λ none. absurd none)
 
+pub returns-in-Scan-clause-limit : goal.returns-in-Scan-clause-limit
+returns-in-Scan-clause-limit g c = λ s r.
+    through
+    (subst (λ (e : Event). IsErrOf c.scans.result world.Count ↔ MeetsLimit c.args.self.now.sessions e) (sym c.in-Scan.is) (c.scans.ensures.count, λ none. absurd none))
+    (limits_alike g.E.Engine.takes g.E.Engine.stands_for c.args.self.now s r c.args.event.now)
+
 pub returns-in-Scan-clause-items : goal.returns-in-Scan-clause-items
 returns-in-Scan-clause-items g c = λ s r ready.
     subst (λ (e : Event). IfOk c.scans.result (λ items. items ≡ numbered c.args.number (step_line s e).items)) (sym c.in-Scan.is) (c.scans.ensures.items s r ready)
@@ -205,6 +242,12 @@ pub returns-in-Commit-clause-count : goal.returns-in-Commit-clause-count
 returns-in-Commit-clause-count g c =
     subst (λ (e : Event). IsErrOf c.end.result world.Count ↔ MeetsLimit c.args.self.now.sessions e) (sym c.in-Commit.is) (c.end.ensures.count, λ none. absurd none)
 
+pub returns-in-Commit-clause-limit : goal.returns-in-Commit-clause-limit
+returns-in-Commit-clause-limit g c = λ s r.
+    through
+    (subst (λ (e : Event). IsErrOf c.end.result world.Count ↔ MeetsLimit c.args.self.now.sessions e) (sym c.in-Commit.is) (c.end.ensures.count, λ none. absurd none))
+    (limits_alike g.E.Engine.takes g.E.Engine.stands_for c.args.self.now s r c.args.event.now)
+
 pub returns-in-Commit-clause-items : goal.returns-in-Commit-clause-items
 returns-in-Commit-clause-items g c = λ s r ready.
     subst (λ (e : Event). IfOk c.end.result (λ items. items ≡ numbered c.args.number (step_line s e).items)) (sym c.in-Commit.is) (c.end.ensures.items s r ready)
@@ -231,6 +274,12 @@ end-requires-in-Abort-clause-stands g c =
 pub returns-in-Abort-clause-count : goal.returns-in-Abort-clause-count
 returns-in-Abort-clause-count g c =
     subst (λ (e : Event). IsErrOf c.end-in-Abort.result world.Count ↔ MeetsLimit c.args.self.now.sessions e) (sym c.in-Abort.is) (c.end-in-Abort.ensures.count, λ none. absurd none)
+
+pub returns-in-Abort-clause-limit : goal.returns-in-Abort-clause-limit
+returns-in-Abort-clause-limit g c = λ s r.
+    through
+    (subst (λ (e : Event). IsErrOf c.end-in-Abort.result world.Count ↔ MeetsLimit c.args.self.now.sessions e) (sym c.in-Abort.is) (c.end-in-Abort.ensures.count, λ none. absurd none))
+    (limits_alike g.E.Engine.takes g.E.Engine.stands_for c.args.self.now s r c.args.event.now)
 
 pub returns-in-Abort-clause-items : goal.returns-in-Abort-clause-items
 returns-in-Abort-clause-items g c = λ s r ready.
@@ -262,6 +311,12 @@ deliver-requires-clause-stands g c =
 pub returns-in-Deliver-clause-count : goal.returns-in-Deliver-clause-count
 returns-in-Deliver-clause-count g c =
     subst (λ (e : Event). IsErrOf c.deliver.result world.Count ↔ MeetsLimit c.args.self.now.sessions e) (sym c.in-Deliver.is) (c.deliver.ensures.count, λ none. absurd none)
+
+pub returns-in-Deliver-clause-limit : goal.returns-in-Deliver-clause-limit
+returns-in-Deliver-clause-limit g c = λ s r.
+    through
+    (subst (λ (e : Event). IsErrOf c.deliver.result world.Count ↔ MeetsLimit c.args.self.now.sessions e) (sym c.in-Deliver.is) (c.deliver.ensures.count, λ none. absurd none))
+    (limits_alike g.E.Engine.takes g.E.Engine.stands_for c.args.self.now s r c.args.event.now)
 
 pub returns-in-Deliver-clause-items : goal.returns-in-Deliver-clause-items
 returns-in-Deliver-clause-items g c = λ s r ready.
@@ -295,6 +350,12 @@ pub returns-in-Vote-clause-count : goal.returns-in-Vote-clause-count
 returns-in-Vote-clause-count g c =
     subst (λ (e : Event). IsErrOf c.at_member.result world.Count ↔ MeetsLimit c.args.self.now.sessions e) (sym c.in-Vote.is) (c.at_member.ensures.count, λ none. absurd none)
 
+pub returns-in-Vote-clause-limit : goal.returns-in-Vote-clause-limit
+returns-in-Vote-clause-limit g c = λ s r.
+    through
+    (subst (λ (e : Event). IsErrOf c.at_member.result world.Count ↔ MeetsLimit c.args.self.now.sessions e) (sym c.in-Vote.is) (c.at_member.ensures.count, λ none. absurd none))
+    (limits_alike g.E.Engine.takes g.E.Engine.stands_for c.args.self.now s r c.args.event.now)
+
 pub returns-in-Vote-clause-items : goal.returns-in-Vote-clause-items
 returns-in-Vote-clause-items g c = λ s r ready.
     subst (λ (e : Event). IfOk c.at_member.result (λ items. items ≡ numbered c.args.number (step_line s e).items)) (sym c.in-Vote.is) (c.at_member.ensures.items s r)
@@ -325,6 +386,12 @@ at_member-requires-in-Ask-clause-stands g c =
 pub returns-in-Ask-clause-count : goal.returns-in-Ask-clause-count
 returns-in-Ask-clause-count g c =
     subst (λ (e : Event). IsErrOf c.at_member-in-Ask.result world.Count ↔ MeetsLimit c.args.self.now.sessions e) (sym c.in-Ask.is) (c.at_member-in-Ask.ensures.count, λ none. absurd none)
+
+pub returns-in-Ask-clause-limit : goal.returns-in-Ask-clause-limit
+returns-in-Ask-clause-limit g c = λ s r.
+    through
+    (subst (λ (e : Event). IsErrOf c.at_member-in-Ask.result world.Count ↔ MeetsLimit c.args.self.now.sessions e) (sym c.in-Ask.is) (c.at_member-in-Ask.ensures.count, λ none. absurd none))
+    (limits_alike g.E.Engine.takes g.E.Engine.stands_for c.args.self.now s r c.args.event.now)
 
 pub returns-in-Ask-clause-items : goal.returns-in-Ask-clause-items
 returns-in-Ask-clause-items g c = λ s r ready.
@@ -357,6 +424,12 @@ pub returns-in-Resend-clause-count : goal.returns-in-Resend-clause-count
 returns-in-Resend-clause-count g c =
     subst (λ (e : Event). IsErrOf c.at_coord.result world.Count ↔ MeetsLimit c.args.self.now.sessions e) (sym c.in-Resend.is) (c.at_coord.ensures.count, λ none. absurd none)
 
+pub returns-in-Resend-clause-limit : goal.returns-in-Resend-clause-limit
+returns-in-Resend-clause-limit g c = λ s r.
+    through
+    (subst (λ (e : Event). IsErrOf c.at_coord.result world.Count ↔ MeetsLimit c.args.self.now.sessions e) (sym c.in-Resend.is) (c.at_coord.ensures.count, λ none. absurd none))
+    (limits_alike g.E.Engine.takes g.E.Engine.stands_for c.args.self.now s r c.args.event.now)
+
 pub returns-in-Resend-clause-items : goal.returns-in-Resend-clause-items
 returns-in-Resend-clause-items g c = λ s r ready.
     subst (λ (e : Event). IfOk c.at_coord.result (λ items. items ≡ numbered c.args.number (step_line s e).items)) (sym c.in-Resend.is) (c.at_coord.ensures.items s r)
@@ -387,6 +460,12 @@ timer-requires-clause-stands g c =
 pub returns-in-Timer-clause-count : goal.returns-in-Timer-clause-count
 returns-in-Timer-clause-count g c =
     subst (λ (e : Event). IsErrOf c.timer.result world.Count ↔ MeetsLimit c.args.self.now.sessions e) (sym c.in-Timer.is) (c.timer.ensures.count, λ none. absurd none)
+
+pub returns-in-Timer-clause-limit : goal.returns-in-Timer-clause-limit
+returns-in-Timer-clause-limit g c = λ s r.
+    through
+    (subst (λ (e : Event). IsErrOf c.timer.result world.Count ↔ MeetsLimit c.args.self.now.sessions e) (sym c.in-Timer.is) (c.timer.ensures.count, λ none. absurd none))
+    (limits_alike g.E.Engine.takes g.E.Engine.stands_for c.args.self.now s r c.args.event.now)
 
 pub returns-in-Timer-clause-items : goal.returns-in-Timer-clause-items
 returns-in-Timer-clause-items g c = λ s r ready.
@@ -419,6 +498,12 @@ pub returns-in-Crash-clause-count : goal.returns-in-Crash-clause-count
 returns-in-Crash-clause-count g c =
     subst (λ (e : Event). IsErrOf c.crash.result world.Count ↔ MeetsLimit c.args.self.now.sessions e) (sym c.in-Crash.is) (c.crash.ensures.count, λ none. absurd none)
 
+pub returns-in-Crash-clause-limit : goal.returns-in-Crash-clause-limit
+returns-in-Crash-clause-limit g c = λ s r.
+    through
+    (subst (λ (e : Event). IsErrOf c.crash.result world.Count ↔ MeetsLimit c.args.self.now.sessions e) (sym c.in-Crash.is) (c.crash.ensures.count, λ none. absurd none))
+    (limits_alike g.E.Engine.takes g.E.Engine.stands_for c.args.self.now s r c.args.event.now)
+
 pub returns-in-Crash-clause-items : goal.returns-in-Crash-clause-items
 returns-in-Crash-clause-items g c = λ s r ready.
     subst (λ (e : Event). IfOk c.crash.result (λ items. items ≡ numbered c.args.number (step_line s e).items)) (sym c.in-Crash.is) (c.crash.ensures.items s r)
@@ -450,6 +535,12 @@ pub returns-in-Restart-clause-count : goal.returns-in-Restart-clause-count
 returns-in-Restart-clause-count g c =
     subst (λ (e : Event). IsErrOf c.restart.result world.Count ↔ MeetsLimit c.args.self.now.sessions e) (sym c.in-Restart.is) (c.restart.ensures.count, λ none. absurd none)
 
+pub returns-in-Restart-clause-limit : goal.returns-in-Restart-clause-limit
+returns-in-Restart-clause-limit g c = λ s r.
+    through
+    (subst (λ (e : Event). IsErrOf c.restart.result world.Count ↔ MeetsLimit c.args.self.now.sessions e) (sym c.in-Restart.is) (c.restart.ensures.count, λ none. absurd none))
+    (limits_alike g.E.Engine.takes g.E.Engine.stands_for c.args.self.now s r c.args.event.now)
+
 pub returns-in-Restart-clause-items : goal.returns-in-Restart-clause-items
 returns-in-Restart-clause-items g c = λ s r ready.
     subst (λ (e : Event). IfOk c.restart.result (λ items. items ≡ numbered c.args.number (step_line s e).items)) (sym c.in-Restart.is) (c.restart.ensures.items s r)
@@ -480,6 +571,12 @@ checkpoint-requires-clause-stands g c =
 pub returns-in-Checkpoint-clause-count : goal.returns-in-Checkpoint-clause-count
 returns-in-Checkpoint-clause-count g c =
     subst (λ (e : Event). IsErrOf c.checkpoint.result world.Count ↔ MeetsLimit c.args.self.now.sessions e) (sym c.in-Checkpoint.is) (c.checkpoint.ensures.count, λ none. absurd none)
+
+pub returns-in-Checkpoint-clause-limit : goal.returns-in-Checkpoint-clause-limit
+returns-in-Checkpoint-clause-limit g c = λ s r.
+    through
+    (subst (λ (e : Event). IsErrOf c.checkpoint.result world.Count ↔ MeetsLimit c.args.self.now.sessions e) (sym c.in-Checkpoint.is) (c.checkpoint.ensures.count, λ none. absurd none))
+    (limits_alike g.E.Engine.takes g.E.Engine.stands_for c.args.self.now s r c.args.event.now)
 
 pub returns-in-Checkpoint-clause-items : goal.returns-in-Checkpoint-clause-items
 returns-in-Checkpoint-clause-items g c = λ s r ready.
@@ -515,6 +612,12 @@ arm-requires-clause-stands g c =
 pub returns-in-Arm-clause-count : goal.returns-in-Arm-clause-count
 returns-in-Arm-clause-count g c =
     subst (λ (e : Event). IsErrOf c.arm.result world.Count ↔ MeetsLimit c.args.self.now.sessions e) (sym c.in-Arm.is) (c.arm.ensures.count, λ none. absurd none)
+
+pub returns-in-Arm-clause-limit : goal.returns-in-Arm-clause-limit
+returns-in-Arm-clause-limit g c = λ s r.
+    through
+    (subst (λ (e : Event). IsErrOf c.arm.result world.Count ↔ MeetsLimit c.args.self.now.sessions e) (sym c.in-Arm.is) (c.arm.ensures.count, λ none. absurd none))
+    (limits_alike g.E.Engine.takes g.E.Engine.stands_for c.args.self.now s r c.args.event.now)
 
 pub returns-in-Arm-clause-items : goal.returns-in-Arm-clause-items
 returns-in-Arm-clause-items g c = λ s r ready.
