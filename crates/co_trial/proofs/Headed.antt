@@ -222,4 +222,3 @@ module _ (n k : ℕ) (s : Federation) (head : IsHeaded n k s) where
   line (event.Restart at) h = restart at
   line (event.Arm at call leaves) h = arm call leaves at
   line (event.Checkpoint at) h = checkpoint at
-

@@ -88,9 +88,7 @@ fn image_has_bytes(leaves: &Leaves)
 {
     match leaves {
         Leaves::Old | Leaves::New => {}
-        Leaves::Filled(bytes) => {
-            bytes_fit(bytes.as_slice())
-        }
+        Leaves::Filled(bytes) => { bytes_fit(bytes.as_slice()) }
     }
 }
 
@@ -112,7 +110,10 @@ pub(crate) fn fields_in_sets(event: &Event)
             key_is_text(key)
         }
         Event::Write {
-            txn, key, value, ..
+            txn,
+            key,
+            value,
+            ..
         } => {
             number_in_range(*txn);
             key_is_text(key);

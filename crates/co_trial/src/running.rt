@@ -131,7 +131,15 @@ fn trial_in<E: Engine + Drop, H: Home>(
     let mut told = Told::new(alloc);
     let mut decisions = Decisions::new(alloc);
     let mut world = open::<E, H>(alloc, home, &mut told)?;
-    let settled = run_events(alloc, number, events, &mut world, home, &mut told, &mut decisions)?;
+    let settled = run_events(
+        alloc,
+        number,
+        events,
+        &mut world,
+        home,
+        &mut told,
+        &mut decisions,
+    )?;
     match sum_up(alloc, number, events, settled, told, &decisions, &world) {
         Ok(summary) => Ok(summary),
         Err(AllocError) => Err(WorldFault::Memory),
@@ -151,12 +159,14 @@ pub fn trial(alloc: Global, number: u64, events: u32) -> Result<Summary, TrialFa
     match trial_in::<AnyEngine, CalmHome>(alloc, &mut home, number, events) {
         Ok(summary) => Ok(summary),
         Err(WorldFault::Full { spot }) => Err(TrialFault::Full { spot }),
-        Err(WorldFault::Differs {
-            spot,
-            at,
-            kept,
-            read,
-        }) => Err(TrialFault::Differs {
+        Err(
+            WorldFault::Differs {
+                spot,
+                at,
+                kept,
+                read,
+            },
+        ) => Err(TrialFault::Differs {
             spot,
             at,
             kept,

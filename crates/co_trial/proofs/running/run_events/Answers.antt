@@ -28,8 +28,7 @@ returns-clause-done g c =
     let p = c.in_ok-play_all.ensures.gone o w.1 w.2 in
     let s = played_to o n k in
     let q = c.in_ok-items.ensures.settled s p.stands (at_end o n k p.valid) (few_open o n k p.valid p.long c.requires.events) in
-    let z = settled_to o n k q.events in
-    (
+    let z = settled_to o n k q.events in (
       o,
       record {
         settling = q.events;

@@ -34,7 +34,7 @@ returns g c =
     let three : length z.kinds ≡ 3 = ap length (kinds_settled o n k d.valid d.settling d.settles ∙ o.kinds) in
     let rows = c.in_ok-durable.ensures z d.stands (ready z r) ∙ ap (numbered_rows (durable_in z) 1) three in
     let compared = subst (λ left. (c.in_ok-equal.equal ≡ true → left ≡ numbered_rows serial 1 3) × (left ≡ numbered_rows serial 1 3 → c.in_ok-equal.equal ≡ true)) rows
-        (subst (λ f. (c.in_ok-equal.equal ≡ true → c.in_ok-durable.durable ≡ numbered_rows f 1 3) × (c.in_ok-durable.durable ≡ numbered_rows f 1 3 → c.in_ok-equal.equal ≡ true)) d.decided.records c.in_ok-equal.ensures) in
+    (subst (λ f. (c.in_ok-equal.equal ≡ true → c.in_ok-durable.durable ≡ numbered_rows f 1 3) × (c.in_ok-durable.durable ≡ numbered_rows f 1 3 → c.in_ok-equal.equal ≡ true)) d.decided.records c.in_ok-equal.ensures) in
     record {
       opened = o;
       settling = d.settling;
