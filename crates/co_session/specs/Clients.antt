@@ -70,3 +70,11 @@ told_of (Some session) = session.told
 
 abbrev pub told_in : Clients → ℕ → List Told
 told_in x t = told_of (look x.sessions t)
+
+-- the node that decides; none where the transaction was not begun
+abbrev pub decider_of : Option Session → Option Node
+decider_of None = None
+decider_of (Some session) = Some session.by
+
+abbrev pub decider_in : Clients → ℕ → Option Node
+decider_in x t = decider_of (look x.sessions t)

@@ -1,7 +1,8 @@
 //! The sessions of this run.
-ghost use Rattle.std.specs.Prelude.{◌≡◌, ◌↔◌, ◌<◌, ◌≤◌, true, false, reverse, OnOk, OnErr, IfOk, IsOk, IsErrOf};
+ghost use Rattle.std.specs.Prelude.{◌≡◌, ◌↔◌, ◌<◌, ◌≤◌, true, false, length, reverse, OnOk, OnErr, IfOk, IsOk, IsErrOf};
+ghost use Rattle.std.specs.FinMap.{keys};
 ghost use Rattle.co_state.specs.Table.{holds};
-ghost use Rattle.co_session.specs.Clients.{is_used, is_full, none_begun, with_begun, with_answered, with_asked, carried_in, parts_in, told_in};
+ghost use Rattle.co_session.specs.Clients.{is_used, is_full, none_begun, with_begun, with_answered, with_asked, carried_in, decider_in, parts_in, told_in};
 ghost use Rattle.co_session.specs.Leaves.{IsLeave, leave_in};
 
 use crate::client::Client;
@@ -125,6 +126,24 @@ impl Sessions {
         match self.begun.get(&t) {
             None => &[],
             Some(client) => client.told(),
+        }
+    }
+
+    /// How many transactions were begun in this run. Takes no memory.
+    pub fn count(&self) -> usize
+        ensures begun { result ≡ length self.now.begun }
+        ensures sessions { result ≡ length (keys self.now.sessions) }
+    {
+        self.begun.len()
+    }
+
+    /// The node that decides the transaction; none where it was not begun in this run. Takes no memory.
+    pub fn decider(&self, t: Txn) -> Option<Node>
+        ensures { result ≡ decider_in self.now t }
+    {
+        match self.begun.get(&t) {
+            None => None,
+            Some(client) => Some(client.by()),
         }
     }
 

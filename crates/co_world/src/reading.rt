@@ -4,7 +4,8 @@ ghost use Rattle.co_opening.specs.Nodes.{IsMemberAt, IsCoordAt};
 ghost use Rattle.co_member.specs.Reading.{phase_of};
 ghost use Rattle.co_plain.specs.Federation.{Federation};
 ghost use Rattle.co_plain.specs.MemberStep.{standing_of};
-ghost use Rattle.co_session.specs.Clients.{carried_of, told_of};
+ghost use Rattle.co_session.specs.Clients.{carried_of, decider_of, told_of};
+ghost use Rattle.std.specs.FinMap.{keys};
 ghost use Rattle.co_state.specs.Table.{look};
 ghost use Rattle.co_plain.specs.Quiet.{node_up};
 ghost use Rattle.co_plain.specs.Settling.{IsFirstDown};
@@ -106,5 +107,20 @@ impl<E: Engine + Drop> World<E> {
         ensures { (s : Federation) → RepresentsWorld E.takes E.stands_for self.now s → result.now ≡ reverse (told_of (look s.sessions t)) }
     {
         self.sessions.told(t)
+    }
+
+    /// How many transactions were begun in this run. Takes no memory.
+    pub fn begun(&self) -> usize
+        ensures begun { result ≡ length self.now.sessions.begun }
+        ensures sessions { (s : Federation) → RepresentsWorld E.takes E.stands_for self.now s → result ≡ length (keys s.sessions) }
+    {
+        self.sessions.count()
+    }
+
+    /// The node that decides a transaction; none where it was not begun in this run. Takes no memory.
+    pub fn decider(&self, t: Txn) -> Option<Node>
+        ensures { (s : Federation) → RepresentsWorld E.takes E.stands_for self.now s → result ≡ decider_of (look s.sessions t) }
+    {
+        self.sessions.decider(t)
     }
 }

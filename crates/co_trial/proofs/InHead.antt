@@ -1,0 +1,13 @@
+-- Messages that are for nodes of the head.
+use Rattle.std.specs.Prelude.{ℕ}
+use Rattle.co_message.specs.declared.message.Message.{Message}
+use Rattle.co_message.specs.declared.message.Message.TheVariants as message
+use Rattle.co_law_runs.specs.OnlyTimers.{IsBetween}
+
+-- to or from a member of so many; and where it acknowledges, to one of so many coordinators
+abbrev pub InHead : ℕ → ℕ → Message → Type 0
+InHead n k (message.Prepare t c m count) = IsBetween m n
+InHead n k (message.Vote t m c granted) = IsBetween m n
+InHead n k (message.Decide t c m commit) = IsBetween m n
+InHead n k (message.Ask t m c) = IsBetween m n
+InHead n k (message.Ack t m c) = IsBetween m n × IsBetween c k

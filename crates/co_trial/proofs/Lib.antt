@@ -1,0 +1,15 @@
+pub mod Calming
+pub mod InHead
+pub mod CoordSends
+pub mod MemberSends
+pub mod Headed
+pub mod Noted
+pub mod KeptSessions
+pub mod Runs
+pub mod Ending
+pub mod Equals
+pub mod MakerFits
+pub mod Unused
+pub mod Going
+pub mod Done
+pub mod Starting

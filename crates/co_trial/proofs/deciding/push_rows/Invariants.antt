@@ -1,0 +1,6 @@
+use Rattle.std.proofs.Common.{◌≡◌, ◌++◌}
+use Rattle.co_durable.specs.Laying.{member_rows}
+use Rattle.co_trial.proofs.deciding.push_rows.Given as goal
+
+abbrev pub invariant-loop-row : goal.invariant-loop-row
+invariant-loop-row l = l.durable ≡ l.initial.durable ++ member_rows l.member l.yielded

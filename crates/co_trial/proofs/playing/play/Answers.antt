@@ -1,0 +1,38 @@
+use Rattle.std.proofs.Common.{◌≡◌, ◌++◌, [], ◌∷◌, List, Err, IsErrOf, subst, ap, ◌∙◌}
+use Rattle.sha2.specs.Hashers.{Holds256}
+use Rattle.co_durable.specs.declared.fault.WorldFault.{WorldFault}
+use Rattle.co_durable.specs.declared.fault.WorldFault.TheVariants as world
+use Rattle.co_message.specs.declared.item.Item.{Item}
+use Rattle.co_message.specs.declared.item.ItemKind.TheVariants as item
+use Rattle.co_node.specs.Answers.{seen}
+use Rattle.co_plain.specs.Federation.{decide_all}
+use Rattle.co_plain.specs.Runs.{numbered}
+use Rattle.co_plain.specs.Step.{step_line}
+use Rattle.co_replay.specs.Transcript.{items_text}
+use Rattle.co_trial.specs.Decisions.{AreRun, marks_of}
+use Rattle.co_trial.proofs.Ending.{ends}
+use Rattle.co_trial.proofs.Runs.{line_noted}
+use Rattle.co_trial.proofs.playing.play.Goals as goal
+
+pub returns-in_ok-note_all-in-Ok-clause-played : goal.returns-in_ok-note_all-in-Ok-clause-played
+returns-in_ok-note_all-in-Ok-clause-played g c = λ s r ready.
+    let z = (step_line s c.args.event).state in
+    let stands = c.in-Ok.ensures.stands s r ready in
+    let items = c.in-Ok.ensures.items s r ready in
+    record {
+      stands = stands;
+      told = λ text h. subst (λ (is : List Item). Holds256 c.tell.new.told.hasher (text ++ items_text (numbered c.args.number (item.Event c.args.event ∷ []) ++ is))) (c.as_slice.ensures ∙ items) (c.in_ok-tell-in-Ok.ensures text h);
+      decided = λ s0 a. subst (AreRun s0 c.note_all.new.self) (ap (λ (is : List Item). decide_all z.sessions s.decided (marks_of is)) (c.as_slice-in-Ok.ensures ∙ items) ∙ line_noted s c.args.event c.args.number)
+          (c.in_ok-note_all-in-Ok.ensures s0 z s.decided stands a);
+    }
+
+is_err : {A : Type 0} (fault : WorldFault) → fault ≡ world.Count → IsErrOf {T = A} (Err fault) world.Count
+is_err fault e = ap Err e
+
+pub returns-in-Err-clause-ended : goal.returns-in-Err-clause-ended
+returns-in-Err-clause-ended g c =
+    let w = c.requires.stands in
+    let old = seen g.H.Home.file g.H.Home.reach g.H.Home.faults g.H.Home.last_failed c.args.home.now in
+    let new = seen g.H.Home.file g.H.Home.reach g.H.Home.faults g.H.Home.last_failed c.step.new.home in
+    ends c.in-Err.fault c.undone.result old new c.undone.ensures c.in-Err.ensures.ended
+    (λ e. w.3 ((c.in-Err.ensures.limit w.0 w.1).0 (is_err c.in-Err.fault e)))

@@ -1,0 +1,178 @@
+//! One trial.
+ghost use Rattle.std.specs.Prelude.{◌≡◌, ◌<◌, ◌≤◌, [], Some, IfOk, OnOk};
+ghost use Rattle.sha2.specs.Hashers.{Holds256};
+ghost use Rattle.co_base.specs.declared.head.Kind.{Kind};
+ghost use Rattle.co_law_settle.specs.SettlingTurns.{NothingOpen};
+ghost use Rattle.co_outside.specs.declared.spot.Spot.{Spot};
+ghost use Rattle.co_outside.specs.Home.{empty_file};
+ghost use Rattle.co_plain.specs.Federation.{Federation};
+ghost use Rattle.co_replay.specs.Transcript.{items_text};
+ghost use Rattle.co_world.specs.Conditions.{IsReady};
+ghost use Rattle.co_world.specs.Standing.{RepresentsWorld, AreHeld};
+ghost use Rattle.co_trial.specs.Decisions.{AreRun};
+ghost use Rattle.co_trial.specs.Ended.{Ended};
+ghost use Rattle.co_trial.specs.Playing.{IsDone};
+ghost use Rattle.co_trial.specs.Trials.{IsTrial, Opened, start_of, opening_told};
+
+use crate::calm::CalmHome;
+use crate::deciding::Decisions;
+use crate::fault::TrialFault;
+use crate::making::trial_head;
+use crate::playing::play_all;
+use crate::summary::Summary;
+use crate::tally::Told;
+use co_any::AnyEngine;
+use co_durable::WorldFault;
+use co_engine::Engine;
+use co_outside::Home;
+use co_settle::{Steps, settle};
+use co_world::World;
+use std::alloc::{AllocError, Global};
+
+/// Runs the events of the trial with this number, and settles it. Gives how many events settling took.
+fn run_events<E: Engine + Drop, H: Home>(
+    alloc: Global,
+    number: u64,
+    events: u32,
+    world: &mut World<E>,
+    home: &mut H,
+    told: &mut Told,
+    decisions: &mut Decisions,
+) -> Result<u64, WorldFault>
+    requires events { events ≤ 60000 }
+    requires held { AreHeld (H.file home.old) (H.reach home.old) world.old }
+    requires stands { (o : Opened) × RepresentsWorld E.takes E.stands_for world.old (start_of o) × AreRun (start_of o) decisions.old (start_of o).decided × Holds256 told.old.hasher (items_text (opening_told o)) }
+    ensures done { IfOk result (λ settled. (o : Opened) × IsDone E.takes E.stands_for o number events told.new decisions.new world.new settled) }
+    ensures ended { Ended (H.faults home.old) (H.faults home.new) result }
+{
+    play_all(alloc, number, events, world, home, told, decisions)?;
+    let mut steps = Steps::new();
+    let items = settle(alloc, world, home, events + 1, &mut steps)?;
+    told.tell_all(items.as_slice())?;
+    decisions.note_all(world, items.as_slice())?;
+    Ok(steps.count())
+}
+
+/// How many transactions are open, where none is.
+fn left_open<E: Engine + Drop>(world: &World<E>) -> Result<u64, AllocError>
+    requires { (s : Federation) × RepresentsWorld E.takes E.stands_for world.now s × IsReady s × NothingOpen s }
+    ensures { IfOk result (λ count. count ≡ 0) }
+{
+    let open = world.still_open()?;
+    Ok(open.as_slice().len() as u64)
+}
+
+/// Sums up a trial that was run to its end.
+fn sum_up<E: Engine + Drop>(
+    alloc: Global,
+    number: u64,
+    events: u32,
+    settled: u64,
+    told: Told,
+    decisions: &Decisions,
+    world: &World<E>,
+) -> Result<Summary, AllocError>
+    requires { (o : Opened) × IsDone E.takes E.stands_for o number events told decisions.now world.now settled }
+    ensures { IfOk result (IsTrial number events) }
+{
+    let durable = world.durable()?;
+    let equal = decisions.leave(alloc, 3, &durable)?;
+    let open = left_open(world)?;
+    let digest = told.digest(alloc)?;
+    Ok(Summary {
+        begun: world.begun() as u64,
+        committed: decisions.count(),
+        digest,
+        equal,
+        events,
+        number,
+        open,
+        settled,
+    })
+}
+
+/// Opens the federation of a trial over an empty directory, and tells its head.
+fn open<E: Engine + Drop, H: Home>(
+    alloc: Global,
+    home: &mut H,
+    told: &mut Told,
+) -> Result<World<E>, WorldFault>
+    requires kinds { (kind : Kind) → E.takes kind }
+    requires empty { (s : Spot) → s.part < 2 → H.file home.old s ≡ Some empty_file }
+    requires nothing { Holds256 told.old.hasher [] }
+    ensures opened { IfOk result (λ world. (o : Opened) × RepresentsWorld E.takes E.stands_for world (start_of o) × Holds256 told.new.hasher (items_text (opening_told o))) }
+    ensures held { IfOk result (AreHeld (H.file home.new) (H.reach home.new)) }
+    ensures ended { Ended (H.faults home.old) (H.faults home.new) result }
+{
+    let head = trial_head(alloc)?;
+    match World::<E>::attach(alloc, home, &head, false) {
+        Ok((world, items)) => {
+            told.tell_head(head)?;
+            told.tell_all(items.as_slice())?;
+            Ok(world)
+        }
+        Err(fault) => Err(fault),
+    }
+}
+
+/// Runs the trial of this number over an empty directory.
+fn trial_in<E: Engine + Drop, H: Home>(
+    alloc: Global,
+    home: &mut H,
+    number: u64,
+    events: u32,
+) -> Result<Summary, WorldFault>
+    requires kinds { (kind : Kind) → E.takes kind }
+    requires few { events ≤ 60000 }
+    requires empty { (s : Spot) → s.part < 2 → H.file home.old s ≡ Some empty_file }
+    ensures trial { IfOk result (IsTrial number events) }
+    ensures ended { Ended (H.faults home.old) (H.faults home.new) result }
+{
+    let mut told = Told::new(alloc);
+    let mut decisions = Decisions::new(alloc);
+    let mut world = open::<E, H>(alloc, home, &mut told)?;
+    let settled = run_events(
+        alloc,
+        number,
+        events,
+        &mut world,
+        home,
+        &mut told,
+        &mut decisions,
+    )?;
+    match sum_up(alloc, number, events, settled, told, &decisions, &world) {
+        Ok(summary) => Ok(summary),
+        Err(AllocError) => Err(WorldFault::Memory),
+    }
+}
+
+/// Runs the trial of this number, with so many events before it is settled, over a directory in memory that never fails.
+///
+/// `Full` comes where a log file would have more than 268,435,456 bytes, `Differs` where a reread file is not what was kept of it, as an event of
+/// the federation says; `Memory` where there was none.
+pub fn trial(alloc: Global, number: u64, events: u32) -> Result<Summary, TrialFault>
+    requires some { 1 ≤ events }
+    requires few { events ≤ 60000 }
+    ensures trial { IfOk result (IsTrial number events) }
+{
+    let mut home = CalmHome::new(alloc);
+    match trial_in::<AnyEngine, CalmHome>(alloc, &mut home, number, events) {
+        Ok(summary) => Ok(summary),
+        Err(WorldFault::Full { spot }) => Err(TrialFault::Full { spot }),
+        Err(
+            WorldFault::Differs {
+                spot,
+                at,
+                kept,
+                read,
+            },
+        ) => Err(TrialFault::Differs {
+            spot,
+            at,
+            kept,
+            read,
+        }),
+        Err(WorldFault::Memory) => Err(TrialFault::Memory),
+        Err(_) => unreachable!(),
+    }
+}
