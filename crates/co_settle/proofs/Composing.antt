@@ -102,7 +102,7 @@ ended_as world.Memory old new other h = h
 -- so what differs was not told
 pub untold_for : {H : Type 0} (file : H → Spot → Option File) (reach : H → Spot → ℕ) (faults : H → ℕ) (last_failed : H → Spot) (fault : WorldFault) (old : H) (new : HomeView) → HasEndedAs fault (seen file reach faults last_failed old) new → IsUntoldFor file fault
 untold_for file reach faults last_failed (world.Device spot) old new h = tt
-untold_for file reach faults last_failed (world.Differs spot at kept read) old new h = (old, h.1)
+untold_for file reach faults last_failed (world.Differs spot at kept read) old new h = (old, h.1, h.2)
 untold_for file reach faults last_failed (world.InUse spot) old new h = tt
 untold_for file reach faults last_failed (world.Bad spot at) old new h = tt
 untold_for file reach faults last_failed (world.Full spot) old new h = tt

@@ -1,5 +1,5 @@
 -- How far settling came, and what a fault leaves in the files.
-use Rattle.std.specs.Prelude.{suc, ◌≡◌, ◌+◌, ◌⊎◌, List, [], ◌∷◌, ◌++◌, length, Option, None, Result, Ok, Err}
+use Rattle.std.specs.Prelude.{suc, ◌≡◌, ◌<◌, ◌+◌, ◌⊎◌, List, [], ◌∷◌, ◌++◌, length, Option, None, Result, Ok, Err}
 use Rattle.co_base.specs.declared.head.Kind.{Kind}
 use Rattle.co_durable.specs.declared.fault.WorldFault.{WorldFault}
 use Rattle.co_durable.specs.declared.fault.WorldFault.TheVariants as world
@@ -50,7 +50,7 @@ HasEnded world.Memory old new = new.faults ≡ old.faults
 
 -- where a file differs from what is kept of it, the directory did not tell it when it was read again
 abbrev pub IsUntoldFor : {H : Type 0} → (H → Spot → Option File) → WorldFault → Type 0
-IsUntoldFor {H = H} file (world.Differs spot at kept read) = (home : H) × (file home spot ≡ None)
+IsUntoldFor {H = H} file (world.Differs spot at kept read) = (home : H) × (file home spot ≡ None) × (spot.part < 2)
 IsUntoldFor file _ = Unit {0}
 
 -- how a call leaves the directory, by its answer

@@ -34,7 +34,7 @@ not_risen risen = let h : min (0 + 1) (2 ^ 64 - 1) ≤ 0 = risen in omega (arith
 -- what makes no call of the directory wants memory, and nothing else
 pub quiet_ended : (fault : WorldFault) (old new : HomeView) → ((v : HomeView) → HasEndedAs fault v v) → (fault ≡ world.Count → ⊥) → new.faults ≡ old.faults → HasEndedAs fault old new
 quiet_ended (world.Device spot) old new ended some quiet = absurd (not_risen ((ended (unfailed old)).0))
-quiet_ended (world.Differs spot at kept read) old new ended some quiet = (quiet, (ended old).1)
+quiet_ended (world.Differs spot at kept read) old new ended some quiet = (quiet, (ended old).1, (ended old).2)
 quiet_ended (world.InUse spot) old new ended some quiet = ended old
 quiet_ended (world.Bad spot at) old new ended some quiet = ended old
 quiet_ended (world.Full spot) old new ended some quiet = quiet

@@ -207,16 +207,23 @@ module _ {H : Type 0} (gives : H → Spot → ℕ → List ℕ → Type 0) (file
         quiet = quiet;
       }
 
-  named_untold : (spot : Spot) (at : ℕ) (kept read : Option ℕ) → IsOfReattach gives file reach entered faults log old (log_fault.Differs spot at kept read) → file old spot ≡ None
-  named_untold spot at kept read (inl of) = ap (file old) of.0 ∙ of.1.2.untold
-  named_untold spot at kept read (inr of) = ap (file old) of.fault.0 ∙ of.fault.1.2.untold
+  -- a file of a log is its part a or its part b
+  in_parts : (spot : Spot) → HasSpots log → (spot ≡ log.current.spot) ⊎ (spot ≡ log.spare.spot) → spot.part < 2
+  in_parts spot (inl are) (inl is) = let p : spot.part ≡ 0 = ap (λ (s : Spot). s.part) (is ∙ are.0) in omega (arith, p)
+  in_parts spot (inl are) (inr is) = let p : spot.part ≡ 1 = ap (λ (s : Spot). s.part) (is ∙ are.1) in omega (arith, p)
+  in_parts spot (inr are) (inl is) = let p : spot.part ≡ 1 = ap (λ (s : Spot). s.part) (is ∙ are.0) in omega (arith, p)
+  in_parts spot (inr are) (inr is) = let p : spot.part ≡ 0 = ap (λ (s : Spot). s.part) (is ∙ are.1) in omega (arith, p)
 
-  reread_ended : (r : Result (Unit {0}) NodeFault) → IsReread gives file reach entered faults last_failed log old new r → IfErr r (λ fault. HasFailedAs fault (seen file reach faults last_failed old) (seen file reach faults last_failed new))
-  reread_ended (Ok done) reread = tt
-  reread_ended (Err (Device spot)) reread = (reread.1.count, reread.1.named)
-  reread_ended (Err (Differs spot at kept read)) reread = (reread.1, named_untold spot at kept read reread.0)
-  reread_ended (Err (Full spot)) reread = absurd reread
-  reread_ended (Err Memory) reread = reread
+  named_untold : (spot : Spot) (at : ℕ) (kept read : Option ℕ) → HasSpots log → IsOfReattach gives file reach entered faults log old (log_fault.Differs spot at kept read) → (file old spot ≡ None) × (spot.part < 2)
+  named_untold spot at kept read spots (inl of) = (ap (file old) of.0 ∙ of.1.2.untold, in_parts spot spots (inl of.0))
+  named_untold spot at kept read spots (inr of) = (ap (file old) of.fault.0 ∙ of.fault.1.2.untold, in_parts spot spots (inr of.fault.0))
+
+  reread_ended : HasSpots log → (r : Result (Unit {0}) NodeFault) → IsReread gives file reach entered faults last_failed log old new r → IfErr r (λ fault. HasFailedAs fault (seen file reach faults last_failed old) (seen file reach faults last_failed new))
+  reread_ended spots (Ok done) reread = tt
+  reread_ended spots (Err (Device spot)) reread = (reread.1.count, reread.1.named)
+  reread_ended spots (Err (Differs spot at kept read)) reread = let untold = named_untold spot at kept read spots reread.0 in (reread.1, untold.0, untold.1)
+  reread_ended spots (Err (Full spot)) reread = absurd reread
+  reread_ended spots (Err Memory) reread = reread
 
   -- a member that was up, or down
   pub member_restarted : {R : Type 0} (owner : Node) (after : LogView) (running : Option R) (out : Result MemberStep NodeFault) → IsLeft owner after → (is_some running ≡ true → IsOk out × (new ≡ old))
@@ -225,11 +232,11 @@ module _ {H : Type 0} (gives : H → Spot → ℕ → List ℕ → Type 0) (file
   member_restarted owner after (Some r) (Ok d) left stays reread = left_served owner after left (ap faults (stays refl).1)
   member_restarted owner after running (Err e) left stays reread = tt
 
-  pub member_unrestarted : {R : Type 0} (running : Option R) (out : Result MemberStep NodeFault) → (is_some running ≡ true → IsOk out × (new ≡ old)) → (running ≡ None → IsReread gives file reach entered faults last_failed log old new (read_by out))
+  pub member_unrestarted : {R : Type 0} → HasSpots log → (running : Option R) (out : Result MemberStep NodeFault) → (is_some running ≡ true → IsOk out × (new ≡ old)) → (running ≡ None → IsReread gives file reach entered faults last_failed log old new (read_by out))
       → IfErr out (λ fault. HasFailedAs fault (seen file reach faults last_failed old) (seen file reach faults last_failed new))
-  member_unrestarted running (Ok d) stays reread = tt
-  member_unrestarted None (Err e) stays reread = reread_ended (Err e) (reread refl)
-  member_unrestarted (Some r) (Err e) stays reread = let h : false ≡ true = (stays refl).0 in absurd cc
+  member_unrestarted spots running (Ok d) stays reread = tt
+  member_unrestarted spots None (Err e) stays reread = reread_ended spots (Err e) (reread refl)
+  member_unrestarted spots (Some r) (Err e) stays reread = let h : false ≡ true = (stays refl).0 in absurd cc
 
   -- so for a coordinator
   pub coord_restarted : (owner : Node) (after : LogView) (up : Bool) (out : Result CoordStep NodeFault) → IsLeft owner after → IsRestarted up gives file reach entered faults last_failed log old new out
@@ -238,8 +245,8 @@ module _ {H : Type 0} (gives : H → Spot → ℕ → List ℕ → Type 0) (file
   coord_restarted owner after false (Ok d) left is = left_served owner after left is.1
   coord_restarted owner after up (Err e) left is = tt
 
-  pub coord_unrestarted : (up : Bool) (out : Result CoordStep NodeFault) → IsRestarted up gives file reach entered faults last_failed log old new out
+  pub coord_unrestarted : HasSpots log → (up : Bool) (out : Result CoordStep NodeFault) → IsRestarted up gives file reach entered faults last_failed log old new out
       → IfErr out (λ fault. HasFailedAs fault (seen file reach faults last_failed old) (seen file reach faults last_failed new))
-  coord_unrestarted up (Ok d) is = tt
-  coord_unrestarted true (Err e) is = let h : false ≡ true = is.0 in absurd cc
-  coord_unrestarted false (Err e) is = reread_ended (Err e) is
+  coord_unrestarted spots up (Ok d) is = tt
+  coord_unrestarted spots true (Err e) is = let h : false ≡ true = is.0 in absurd cc
+  coord_unrestarted spots false (Err e) is = reread_ended spots (Err e) is

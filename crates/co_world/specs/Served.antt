@@ -1,5 +1,5 @@
 -- How a call leaves the directory, by its answer.
-use Rattle.std.specs.Prelude.{◌≡◌, None}
+use Rattle.std.specs.Prelude.{◌≡◌, ◌<◌, None}
 use Rattle.co_outside.specs.declared.spot.Spot.{Spot}
 use Rattle.co_outside.specs.Faults.{HasRisen}
 use Rattle.co_base.specs.declared.node.Node.{Node}
@@ -25,10 +25,10 @@ pub record AreServed {E : Type 0} (w : World E) (old new : HomeView) : Type 0 wh
   pub clean : (s : Spot) → IsClean (old.file s) → IsClean (new.file s)
   pub quiet : new.faults ≡ old.faults
 
--- The directory failed at this file, or no fault was met. Only a file that the directory does not tell can differ from what is kept of it.
+-- The directory failed at this file, or no fault was met. Only a file of a log that the directory does not tell can differ from what is kept of it.
 abbrev pub HasFailedAs : NodeFault → HomeView → HomeView → Type 0
 HasFailedAs (log.Device spot) old new = HasRisen old.faults new.faults × (new.last_failed ≡ spot)
-HasFailedAs (log.Differs spot at kept read) old new = (new.faults ≡ old.faults) × (old.file spot ≡ None)
+HasFailedAs (log.Differs spot at kept read) old new = (new.faults ≡ old.faults) × (old.file spot ≡ None) × (spot.part < 2)
 HasFailedAs (log.Full spot) old new = new.faults ≡ old.faults
 HasFailedAs log.Memory old new = new.faults ≡ old.faults
 
@@ -42,7 +42,7 @@ of_node log.Memory = world.Memory
 -- So is how the directory failed then, and that only an untold file differs. An event is refused for none of the faults of opening; the limit on numbers is met where no call of the directory was made.
 abbrev pub HasEndedAs : WorldFault → HomeView → HomeView → Type 0
 HasEndedAs (world.Device spot) old new = HasRisen old.faults new.faults × (new.last_failed ≡ spot)
-HasEndedAs (world.Differs spot at kept read) old new = (new.faults ≡ old.faults) × (old.file spot ≡ None)
+HasEndedAs (world.Differs spot at kept read) old new = (new.faults ≡ old.faults) × (old.file spot ≡ None) × (spot.part < 2)
 HasEndedAs (world.InUse spot) old new = ⊥
 HasEndedAs (world.Bad spot at) old new = ⊥
 HasEndedAs (world.Full spot) old new = new.faults ≡ old.faults

@@ -107,7 +107,7 @@ pub returns-in-Restart-clause-ended : goal.returns-in-Restart-clause-ended
 returns-in-Restart-clause-ended g c =
     let m = c.args.coord.now in
     let e = c.restart.ensures in
-    coord_unrestarted g.H.Home.gives g.H.Home.file g.H.Home.reach g.H.Home.entered g.H.Home.faults g.H.Home.last_failed m.log c.args.home.now c.restart.new.home (is_up m) c.restart.result e.reread
+    coord_unrestarted g.H.Home.gives g.H.Home.file g.H.Home.reach g.H.Home.entered g.H.Home.faults g.H.Home.last_failed m.log c.args.home.now c.restart.new.home c.requires.kept.held.spots (is_up m) c.restart.result e.reread
 
 pub returns-in-Begin-clause-left : goal.returns-in-Begin-clause-left
 returns-in-Begin-clause-left g c = λ y r.

@@ -132,7 +132,7 @@ pub returns-in-Restart-clause-ended : goal.returns-in-Restart-clause-ended
 returns-in-Restart-clause-ended g c =
     let m = c.args.member.now in
     let e = c.restart.ensures in
-    member_unrestarted g.H.Home.gives g.H.Home.file g.H.Home.reach g.H.Home.entered g.H.Home.faults g.H.Home.last_failed m.log c.args.home.now c.restart.new.home m.running c.restart.result e.stays e.reread
+    member_unrestarted g.H.Home.gives g.H.Home.file g.H.Home.reach g.H.Home.entered g.H.Home.faults g.H.Home.last_failed m.log c.args.home.now c.restart.new.home c.requires.kept.held.spots m.running c.restart.result e.stays e.reread
 
 pub returns-in-Timer-clause-left : goal.returns-in-Timer-clause-left
 returns-in-Timer-clause-left g c = λ x r.
