@@ -1,8 +1,10 @@
 //! What a trial comes to.
 ghost use Rattle.std.specs.Prelude.{◌≡◌, ◌++◌, string_bytes, IfOk, OnOk, OnErr};
-ghost use Rattle.co_trial.specs.Line.{summary_text, summary_line};
+ghost use Rattle.serde_json.specs.View.{view};
+ghost use Rattle.serde_json.specs.Written.{compact_text};
+ghost use Rattle.co_trial.specs.Line.{summary_value, summary_line};
 
-use serde_json::json;
+use serde_json::{Value, json};
 use std::alloc::{AllocError, Global};
 
 /// The summary of a trial.
@@ -27,9 +29,9 @@ pub struct Summary {
 }
 
 impl Summary {
-    /// The text of the summary, without a newline.
-    fn text(&self, alloc: Global) -> Result<String, AllocError>
-        ensures { IfOk result (λ text. string_bytes text ≡ summary_text self.now) }
+    /// What the summary says, as a value of JSON.
+    fn value(&self, alloc: Global) -> Result<Value, AllocError>
+        ensures { IfOk result (λ value. view value ≡ summary_value self.now) }
     {
         let digest = self.digest.as_str();
         json!(in alloc; {
@@ -41,8 +43,14 @@ impl Summary {
             "number": self.number,
             "open": self.open,
             "settled": self.settled
-        })?
-        .to_string(alloc)
+        })
+    }
+
+    /// The text of the summary, without a newline.
+    fn text(&self, alloc: Global) -> Result<String, AllocError>
+        ensures { IfOk result (λ text. string_bytes text ≡ compact_text (summary_value self.now)) }
+    {
+        self.value(alloc)?.to_string(alloc)
     }
 
     /// Appends the one line of the summary: compact JSON and a newline. Want of memory leaves the bytes as they were.
