@@ -1,11 +1,8 @@
 -- A trial at its end.
-use Rattle.std.proofs.Common.{◌≡◌, ℕ, suc, ◌+◌, ◌≤◌, List, [], ◌∷◌, ◌++◌, length, refl, sym, ap, ◌∙◌, subst, append_assoc, arith}
+use Rattle.std.proofs.Common.{◌≡◌, ℕ, suc, ◌+◌, ◌≤◌, List, [], ◌∷◌, ◌++◌, length, refl, sym, ap, ◌∙◌, subst, arith}
 use Rattle.std.specs.List.{AllByRecursion, Contains}
-use Rattle.sha2.specs.Hashers.{Holds256}
-use Rattle.co_durable.specs.Durable.{numbered_rows}
 use Rattle.co_message.specs.declared.event.Event.{Event}
 use Rattle.co_message.specs.declared.event.Event.TheVariants as event
-use Rattle.co_message.specs.declared.item.Item.{Item}
 use Rattle.co_plain.specs.DurableRecords.{durable_in}
 use Rattle.co_plain.specs.Federation.{Federation}
 use Rattle.co_plain.specs.Promises.{serial_records}
@@ -29,7 +26,7 @@ use Rattle.co_settle.proofs.Few.{fresh_few}
 use Rattle.co_settle.proofs.Reaching.{kinds_are}
 use Rattle.co_trial.specs.Making.{first_events}
 use Rattle.co_trial.specs.Trials.{Opened, start_of, opening_told, played_to, settled_to, trial_items}
-use Rattle.co_trial.proofs.Going.{reached, all_own, kinds_same}
+use Rattle.co_trial.proofs.Going.{reached, all_own}
 use Rattle.co_trial.proofs.KeptSessions.{IsSettlingEvent, AreSettlingEvents, of_settling}
 
 names_none : (n k : ℕ) (e : Event) → IsSettlingEvent e → NamesOwnNode n k e

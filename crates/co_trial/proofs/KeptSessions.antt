@@ -10,7 +10,7 @@ use Rattle.co_message.specs.declared.message.Message.TheVariants as message
 use Rattle.co_plain.specs.declared.coord_step.CoordStep.{CoordStep}
 use Rattle.co_plain.specs.declared.member_step.MemberStep.{MemberStep}
 use Rattle.co_plain.specs.Federation.{Federation, Stepped, answers}
-use Rattle.co_plain.specs.Quiet.{Exchange, Prepares, Votes, Commits, Asks}
+use Rattle.co_plain.specs.Quiet.{Prepares, Votes, Commits, Asks}
 use Rattle.co_plain.specs.Runs.{run, lines}
 use Rattle.co_plain.specs.Step.{step_line, disarmed, up_member, up_coord, arrives, timer_at, restart_at}
 use Rattle.co_plain.specs.Wire.{was_sent}

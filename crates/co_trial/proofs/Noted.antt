@@ -11,7 +11,6 @@ use Rattle.co_message.specs.declared.answer.Answer.{Answer}
 use Rattle.co_message.specs.declared.answer.Answer.TheVariants as answer
 use Rattle.co_message.specs.declared.event.Event.{Event}
 use Rattle.co_message.specs.declared.event.Event.TheVariants as event
-use Rattle.co_message.specs.declared.item.ItemKind.{ItemKind}
 use Rattle.co_message.specs.declared.item.ItemKind.TheVariants as item
 use Rattle.co_message.specs.declared.message.Message.{Message}
 use Rattle.co_message.specs.declared.message.Message.TheVariants as message

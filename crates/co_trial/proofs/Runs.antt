@@ -1,5 +1,5 @@
 -- Decisions that are run: marks among items, one after another.
-use Rattle.std.proofs.Common.{◌≡◌, ℕ, suc, ◌+◌, ◌-◌, ◌<◌, zero, Bool, true, false, if◌then◌else◌, List, [], ◌∷◌, ◌++◌, map, length, reverse, drop, get_or, Option, None, Some, refl, sym, ap, ◌∙◌, subst, append_assoc, arith}
+use Rattle.std.proofs.Common.{◌≡◌, ℕ, suc, ◌+◌, ◌-◌, ◌<◌, zero, true, false, if◌then◌else◌, List, [], ◌∷◌, ◌++◌, map, length, reverse, drop, get_or, Option, None, Some, refl, sym, ap, ◌∙◌, subst, append_assoc, arith}
 use Rattle.std.proofs.lemmas.List.{reverse-append}
 use Rattle.co_base.specs.declared.mark.Mark.{Mark}
 use Rattle.co_base.specs.declared.node.Node.{Node}
@@ -9,8 +9,6 @@ use Rattle.co_message.specs.declared.item.ItemKind.{ItemKind}
 use Rattle.co_message.specs.declared.item.ItemKind.TheVariants as item
 use Rattle.co_plain.specs.declared.session.Decided.{Decided}
 use Rattle.co_plain.specs.declared.session.Session.{Session}
-use Rattle.co_plain.specs.declared.session.Told.{Told}
-use Rattle.co_plain.specs.Decisions.{sites_of}
 use Rattle.co_plain.specs.Federation.{Federation, decide_all, decided_where, decided_by_kind}
 use Rattle.co_plain.specs.Promises.{serial_records}
 use Rattle.co_plain.specs.Runs.{run, lines, numbered, transcript}
@@ -23,14 +21,13 @@ use Rattle.co_durable.specs.declared.durable.DurableRow.{DurableRow}
 use Rattle.co_serial.specs.Family.{family_of}
 use Rattle.co_serial.specs.Records.{all_rows}
 use Rattle.co_serial.specs.SerialRun.{AllRecords, after_whole}
-use Rattle.co_serial.specs.declared.site.Site.{Site}
 use Rattle.co_state.specs.Table.{Table, look}
 use Rattle.co_session.specs.Clients.{decider_of, told_of}
 use Rattle.co_law_base.proofs.ToldRuns.{serial_next}
 use Rattle.co_trial.specs.Decisions.{marks_in, marks_of, AreRun}
 use Rattle.co_trial.specs.declared.deciding.Decisions.{Decisions}
 use Rattle.co_trial.proofs.Noted.{line_decides}
-use Rattle.co_trial.proofs.KeptSessions.{AreSettlingEvents, step_keeps_sessions, run_keeps_sessions}
+use Rattle.co_trial.proofs.KeptSessions.{AreSettlingEvents, run_keeps_sessions}
 
 -- ---- one decision
 

@@ -1,6 +1,6 @@
 -- A trial at its start: nothing is in its files, and nothing was decided.
-use Rattle.std.proofs.Common.{◌≡◌, ◌⊎◌, inl, inr, ℕ, ◌<◌, true, false, List, [], length, Option, Some, refl, sym, ap, ◌∙◌, subst, arith}
-use Rattle.std.specs.FinMap.{empty, entries}
+use Rattle.std.proofs.Common.{◌≡◌, ◌⊎◌, inl, inr, ℕ, ◌<◌, true, false, [], length, Option, Some, refl, sym, ap, ◌∙◌, arith}
+use Rattle.std.specs.FinMap.{empty}
 use Rattle.co_durable.specs.declared.fault.WorldFault.{WorldFault}
 use Rattle.co_durable.specs.declared.fault.WorldFault.TheVariants as world
 use Rattle.co_base.specs.declared.head.Head.{Head}
@@ -12,7 +12,6 @@ use Rattle.co_outside.specs.Home.{File, empty_file}
 use Rattle.co_outside.specs.Faults.{HasRisen}
 use Rattle.co_plain.specs.DurableRecords.{starting_records, durable_records, with_decided}
 use Rattle.co_serial.specs.Family.{family_of}
-use Rattle.co_serial.specs.SerialRun.{AllRecords}
 use Rattle.co_state.specs.declared.engine_state.Vote.{Vote}
 use Rattle.co_trial.proofs.Unused.{none_entries}
 use Rattle.co_trial.specs.Decisions.{AreRun}

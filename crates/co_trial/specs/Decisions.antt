@@ -1,5 +1,5 @@
 -- The decided transactions, run whole one by one in the order of their decisions.
-use Rattle.std.specs.Prelude.{ℕ, ◌≡◌, List, [], ◌∷◌, length, map}
+use Rattle.std.specs.Prelude.{◌≡◌, List, [], ◌∷◌, length, map}
 use Rattle.co_base.specs.declared.mark.Mark.{Mark}
 use Rattle.co_message.specs.declared.item.Item.{Item}
 use Rattle.co_message.specs.declared.item.ItemKind.{ItemKind}

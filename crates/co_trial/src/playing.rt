@@ -1,11 +1,12 @@
 //! The events of a trial, one at a time.
-ghost use Rattle.std.specs.Prelude.{◌≡◌, ◌≤◌, ◌∷◌, length, OnOk};
+ghost use Rattle.std.specs.Prelude.{IfErr, ◌≡◌, ◌≤◌, ◌∷◌, length, OnOk};
 ghost use Rattle.co_plain.specs.Federation.{Federation};
 ghost use Rattle.co_schedule.specs.View.{IsEventFor};
 ghost use Rattle.co_world.specs.Conditions.{IsReady};
 ghost use Rattle.co_world.specs.Counting.{MeetsPlainLimit};
 ghost use Rattle.co_world.specs.Standing.{RepresentsWorld, AreHeld};
 ghost use Rattle.co_trial.specs.Decisions.{AreRun};
+ghost use Rattle.co_settle.specs.Progress.{IsUntoldFor};
 ghost use Rattle.co_trial.specs.Ended.{Ended};
 ghost use Rattle.co_trial.specs.Playing.{HasPlayed, HasGone};
 ghost use Rattle.co_trial.specs.Trials.{Opened, start_of};
@@ -57,6 +58,7 @@ fn play<E: Engine + Drop, H: Home>(
         OnOk result (HasPlayed E.takes E.stands_for s number event told.old told.new decisions.old decisions.new world.new) }
     ensures held { OnOk result (AreHeld (H.file home.new) (H.reach home.new) world.new) }
     ensures ended { Ended (H.faults home.old) (H.faults home.new) result }
+    ensures untold { IfErr result (IsUntoldFor H.file) }
 {
     match world.step(home, number, &event) {
         Ok(items) => {
@@ -85,6 +87,7 @@ pub(crate) fn play_all<E: Engine + Drop, H: Home>(
         OnOk result (HasGone E.takes E.stands_for o number events told.old told.new decisions.new world.new) }
     ensures held { OnOk result (AreHeld (H.file home.new) (H.reach home.new) world.new) }
     ensures ended { Ended (H.faults home.old) (H.faults home.new) result }
+    ensures untold { IfErr result (IsUntoldFor H.file) }
 {
     let mut maker = Maker::new(alloc, number);
     for place in 0..events {

@@ -1,5 +1,5 @@
 //! One trial.
-ghost use Rattle.std.specs.Prelude.{◌≡◌, ◌<◌, ◌≤◌, [], Some, IfOk, OnOk};
+ghost use Rattle.std.specs.Prelude.{IfErr, ◌≡◌, ◌<◌, ◌≤◌, [], Some, IfOk, OnOk};
 ghost use Rattle.sha2.specs.Hashers.{Holds256};
 ghost use Rattle.co_base.specs.declared.head.Kind.{Kind};
 ghost use Rattle.co_law_settle.specs.SettlingTurns.{NothingOpen};
@@ -10,6 +10,7 @@ ghost use Rattle.co_replay.specs.Transcript.{items_text};
 ghost use Rattle.co_world.specs.Conditions.{IsReady};
 ghost use Rattle.co_world.specs.Standing.{RepresentsWorld, AreHeld};
 ghost use Rattle.co_trial.specs.Decisions.{AreRun};
+ghost use Rattle.co_settle.specs.Progress.{IsUntoldFor};
 ghost use Rattle.co_trial.specs.Ended.{Ended};
 ghost use Rattle.co_trial.specs.Playing.{IsDone};
 ghost use Rattle.co_trial.specs.Trials.{IsTrial, Opened, start_of, opening_told};
@@ -44,6 +45,7 @@ fn run_events<E: Engine + Drop, H: Home>(
     requires stands { (o : Opened) × RepresentsWorld E.takes E.stands_for world.old (start_of o) × AreRun (start_of o) decisions.old (start_of o).decided × Holds256 told.old.hasher (items_text (opening_told o)) }
     ensures done { IfOk result (λ settled. (o : Opened) × IsDone E.takes E.stands_for o number events told.new decisions.new world.new settled) }
     ensures ended { Ended (H.faults home.old) (H.faults home.new) result }
+    ensures untold { IfErr result (IsUntoldFor H.file) }
 {
     play_all(alloc, number, events, world, home, told, decisions)?;
     let mut steps = Steps::new();
@@ -103,6 +105,7 @@ fn open<E: Engine + Drop, H: Home>(
     ensures opened { IfOk result (λ world. (o : Opened) × RepresentsWorld E.takes E.stands_for world (start_of o) × Holds256 told.new.hasher (items_text (opening_told o))) }
     ensures held { IfOk result (AreHeld (H.file home.new) (H.reach home.new)) }
     ensures ended { Ended (H.faults home.old) (H.faults home.new) result }
+    ensures untold { IfErr result (IsUntoldFor H.file) }
 {
     let head = trial_head(alloc)?;
     match World::<E>::attach(alloc, home, &head, false) {
@@ -127,6 +130,7 @@ fn trial_in<E: Engine + Drop, H: Home>(
     requires empty { (s : Spot) → s.part < 2 → H.file home.old s ≡ Some empty_file }
     ensures trial { IfOk result (IsTrial number events) }
     ensures ended { Ended (H.faults home.old) (H.faults home.new) result }
+    ensures untold { IfErr result (IsUntoldFor H.file) }
 {
     let mut told = Told::new(alloc);
     let mut decisions = Decisions::new(alloc);
@@ -148,8 +152,7 @@ fn trial_in<E: Engine + Drop, H: Home>(
 
 /// Runs the trial of this number, with so many events before it is settled, over a directory in memory that never fails.
 ///
-/// `Full` comes where a log file would have more than 268,435,456 bytes, `Differs` where a reread file is not what was kept of it, as an event of
-/// the federation says; `Memory` where there was none.
+/// `Full` comes where a log file would have more than 268,435,456 bytes, as an event of the federation says; `Memory` where there was none.
 pub fn trial(alloc: Global, number: u64, events: u32) -> Result<Summary, TrialFault>
     requires some { 1 ≤ events }
     requires few { events ≤ 60000 }
@@ -159,19 +162,6 @@ pub fn trial(alloc: Global, number: u64, events: u32) -> Result<Summary, TrialFa
     match trial_in::<AnyEngine, CalmHome>(alloc, &mut home, number, events) {
         Ok(summary) => Ok(summary),
         Err(WorldFault::Full { spot }) => Err(TrialFault::Full { spot }),
-        Err(
-            WorldFault::Differs {
-                spot,
-                at,
-                kept,
-                read,
-            },
-        ) => Err(TrialFault::Differs {
-            spot,
-            at,
-            kept,
-            read,
-        }),
         Err(WorldFault::Memory) => Err(TrialFault::Memory),
         Err(_) => unreachable!(),
     }

@@ -1,4 +1,4 @@
-use Rattle.std.proofs.Common.{◌≡◌, ◌++◌, [], ◌∷◌, List, Err, IsErrOf, subst, ap, ◌∙◌}
+use Rattle.std.proofs.Common.{◌≡◌, ◌++◌, [], ◌∷◌, List, Err, IsErrOf, subst, sym, ap, ◌∙◌}
 use Rattle.sha2.specs.Hashers.{Holds256}
 use Rattle.co_durable.specs.declared.fault.WorldFault.{WorldFault}
 use Rattle.co_durable.specs.declared.fault.WorldFault.TheVariants as world
@@ -10,6 +10,8 @@ use Rattle.co_plain.specs.Runs.{numbered}
 use Rattle.co_plain.specs.Step.{step_line}
 use Rattle.co_replay.specs.Transcript.{items_text}
 use Rattle.co_trial.specs.Decisions.{AreRun, marks_of}
+use Rattle.co_settle.specs.Progress.{IsUntoldFor}
+use Rattle.co_settle.proofs.Composing.{untold_for}
 use Rattle.co_trial.proofs.Ending.{ends}
 use Rattle.co_trial.proofs.Runs.{line_noted}
 use Rattle.co_trial.proofs.playing.play.Goals as goal
@@ -36,3 +38,8 @@ returns-in-Err-clause-ended g c =
     let new = seen g.H.Home.file g.H.Home.reach g.H.Home.faults g.H.Home.last_failed c.step.new.home in
     ends c.in-Err.fault c.undone.result old new c.undone.ensures c.in-Err.ensures.ended
     (λ e. w.3 ((c.in-Err.ensures.limit w.0 w.1).0 (is_err c.in-Err.fault e)))
+
+pub returns-in-Err-clause-untold : goal.returns-in-Err-clause-untold
+returns-in-Err-clause-untold g c =
+    subst (IsUntoldFor g.H.Home.file) (sym c.undone.ensures)
+    (untold_for g.H.Home.file g.H.Home.reach g.H.Home.faults g.H.Home.last_failed c.in-Err.fault c.args.home.now (seen g.H.Home.file g.H.Home.reach g.H.Home.faults g.H.Home.last_failed c.step.new.home) c.in-Err.ensures.ended)

@@ -1,6 +1,5 @@
-use Rattle.std.proofs.Common.{◌≡◌, ◌<◌, ◌+◌, ℕ, length, subst, refl, ap, sym, ◌∙◌, arith}
-use Rattle.co_make.specs.Making.{Making, next_event}
-use Rattle.co_message.specs.declared.message.Message.{Message}
+use Rattle.std.proofs.Common.{◌≡◌, subst, refl, ap, ◌∙◌, arith}
+use Rattle.co_make.specs.Making.{next_event}
 use Rattle.co_trial.specs.Playing.{HasGone}
 use Rattle.co_trial.proofs.Going.{going_none, goes, goes_on, may_play, is_ready, here, es}
 use Rattle.co_trial.proofs.Unused.{no_limit}

@@ -6,6 +6,7 @@ use Rattle.co_plain.specs.Opening.{opening_items}
 use Rattle.co_plain.specs.Runs.{numbered}
 use Rattle.co_replay.specs.Transcript.{items_text}
 use Rattle.co_replay.proofs.Appended.{items_text-append}
+use Rattle.co_trial.proofs.Ending.{unopened_untold}
 use Rattle.co_trial.proofs.Starting.{opening_fault}
 use Rattle.co_trial.proofs.running.open.Goals as goal
 
@@ -36,3 +37,6 @@ pub returns-in-Err-clause-ended : goal.returns-in-Err-clause-ended
 returns-in-Err-clause-ended g c =
     opening_fault (g.H.Home.file c.args.home.now) c.in_ok-head.head c.in-Err.fault (g.H.Home.faults c.args.home.now) (g.H.Home.faults c.attach.new.home) c.requires.empty c.in-Err.ensures.refused
     (λ spot e. (c.in-Err.ensures.device spot (ap Err e)).count)
+
+pub returns-in-Err-clause-untold : goal.returns-in-Err-clause-untold
+returns-in-Err-clause-untold g c = unopened_untold g.H.Home.file (g.H.Home.file c.args.home.now) c.in_ok-head.head _ c.in-Err.fault c.in-Err.ensures.refused

@@ -1,4 +1,4 @@
-use Rattle.std.proofs.Common.{◌≡◌, ◌+◌, ◌++◌, ℕ, suc, List, length, zero-add, subst, ap, sym, ◌∙◌, arith}
+use Rattle.std.proofs.Common.{◌+◌, ◌++◌, suc, List, length, zero-add, subst, ap, ◌∙◌}
 use Rattle.sha2.specs.Hashers.{Holds256}
 use Rattle.co_message.specs.declared.item.Item.{Item}
 use Rattle.co_plain.specs.Federation.{decide_all}

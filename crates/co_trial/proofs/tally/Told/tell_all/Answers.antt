@@ -1,4 +1,4 @@
-use Rattle.std.proofs.Common.{List, ℕ, [], ◌∷◌, ◌++◌, ◌+◌, drop, refl, sym, ap, ◌∙◌, append_assoc, append-nil}
+use Rattle.std.proofs.Common.{List, ℕ, [], ◌∷◌, ◌++◌, ◌+◌, drop, refl, sym, ap, ◌∙◌, append_assoc}
 use Rattle.co_message.specs.declared.item.Item.{Item}
 use Rattle.co_replay.specs.Transcript.{items_text}
 use Rattle.co_replay.proofs.Appended.{items_text-append}
