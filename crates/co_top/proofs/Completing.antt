@@ -1,5 +1,5 @@
 -- A run that nothing hinders comes to its end, or wants memory.
-use Rattle.std.proofs.Common.{◌≡◌, ◌⊎◌, inl, inr, ℕ, zero, suc, ◌≤◌, ◌<◌, Bool, true, false, List, [], ◌∷◌, ◌++◌, length, Option, None, Some, Ok, Err, refl, sym, ap, ◌∙◌, subst, arith}
+use Rattle.std.proofs.Common.{◌≡◌, ◌⊎◌, inl, inr, ℕ, zero, suc, ◌<◌, Bool, List, [], ◌∷◌, ◌++◌, length, Option, None, Some, Ok, Err, refl, sym, ap, ◌∙◌, subst, arith}
 use Rattle.co_base.specs.declared.head.Head.{Head}
 use Rattle.co_message.specs.declared.event.Event.{Event}
 use Rattle.co_outside.specs.declared.spot.Spot.{Spot}
@@ -47,9 +47,10 @@ or_less (suc n) (suc k) l = elim (or_less n k (omega (arith, l))) as (λ c. (suc
 line_at : (head : Head) (text : List ℕ) (es : List Event) (rest : List ℕ) → StandsBehind head text es rest → (n : ℕ) → n < length es → IsLineAt head text n
 line_at head text es rest (AtStart t) n less = absurd (omega (arith, less))
 line_at head text es rest (OneMore t left events e before line next) n less =
-    elim (or_less n (length events) (let z : n < length (events ++ e ∷ []) = less in omega (arith, z, count_more events e))) as (λ c. IsLineAt head t n)
-    [ inl earlier ↦ line_at head t events left before n earlier
-    | inr last ↦ (e, line, ap (λ k. next_line longest_line most (suc k) (behind_lines k t)) last ∙ ap (next_line longest_line most (suc (length events))) (sym (stands_rest head t events left before)) ∙ next) ]
+    elim (or_less n (length events) (let z : n < length (events ++ e ∷ []) = less in omega (arith, z, count_more events e))) as (λ c. IsLineAt head t n) [
+      | inl earlier ↦ line_at head t events left before n earlier
+      | inr last ↦ (e, line, ap (λ k. next_line longest_line most (suc k) (behind_lines k t)) last ∙ ap (next_line longest_line most (suc (length events))) (sym (stands_rest head t events left before)) ∙ next)
+    ]
 
 -- ---- no line of a schedule ends a run
 
@@ -148,13 +149,15 @@ module _ (input : List ℕ) (schedule : IsSchedule input) where
     -- a line of a schedule stops no run
     pub never_stopped : (ended ≡ status.Read) ⊎ (ended ≡ status.Memory)
     never_stopped =
-        elim (compared (length r.events) (length schedule.events)) as (λ c. (ended ≡ status.Read) ⊎ (ended ≡ status.Memory))
-        [ inl less ↦ let at = line_at r.head r.text schedule.events [] whole (length r.events) less in
-          no_fault r.head (length r.events) r.rest ended at.0 at.1 (ap (next_line longest_line most (suc (length r.events))) rest_is ∙ at.2) fault
-        | inr other ↦ elim other as (λ c. (ended ≡ status.Read) ⊎ (ended ≡ status.Memory))
-          [ inl same ↦ no_end_fault r.head (length r.events) r.rest ended (rest_is ∙ ap (λ n. behind_lines n r.text) same ∙ end_is) fault
-          | inr more ↦ let at = line_at r.head r.text r.events r.rest r.front (length schedule.events) more in
-            absurd (no_line (suc (length schedule.events)) (line_text at.0) (behind_lines (length schedule.events) r.text) end_is at.2) ] ]
+        elim (compared (length r.events) (length schedule.events)) as (λ c. (ended ≡ status.Read) ⊎ (ended ≡ status.Memory)) [
+          | inl less ↦ let at = line_at r.head r.text schedule.events [] whole (length r.events) less in
+              no_fault r.head (length r.events) r.rest ended at.0 at.1 (ap (next_line longest_line most (suc (length r.events))) rest_is ∙ at.2) fault
+          | inr other ↦ elim other as (λ c. (ended ≡ status.Read) ⊎ (ended ≡ status.Memory)) [
+            | inl same ↦ no_end_fault r.head (length r.events) r.rest ended (rest_is ∙ ap (λ n. behind_lines n r.text) same ∙ end_is) fault
+            | inr more ↦ let at = line_at r.head r.text r.events r.rest r.front (length schedule.events) more in
+                absurd (no_line (suc (length schedule.events)) (line_text at.0) (behind_lines (length schedule.events) r.text) end_is at.2)
+          ]
+        ]
 
   -- how it ends
   module _ (resume : Bool) (left : Option (List ℕ)) (held : List ℕ) (old new : Spot → Option File) (told : Option (List ℕ))

@@ -1,12 +1,11 @@
 -- How a trial ends, by how the line of its summary was put.
-use Rattle.std.proofs.Common.{◌≡◌, ◌≤◌, ◌&&◌, ◌||◌, Bool, true, false, sym, ◌∙◌, inl, inr, ℕ, ◌++◌, List, [], ◌∷◌, take, Option, Some, Result, Ok, Err, subst}
+use Rattle.std.proofs.Common.{◌≡◌, ◌≤◌, ◌&&◌, ◌||◌, Bool, true, false, sym, ◌∙◌, inl, inr, ℕ, List, [], ◌∷◌, Option, Some, Result, Ok, Err, subst}
 use Rattle.co_outside.specs.declared.spot.Spot.{Spot}
 use Rattle.std.specs.Prelude.{codes}
 use Rattle.std.specs.String.{string_bytes}
 use Rattle.std.specs.declared.string.String.{String}
 use Rattle.co_schedule.proofs.Numbers.{both, is_number-true}
 use Rattle.co_schedule.specs.Places.{is_number}
-use Rattle.co_trial.specs.Line.{summary_line}
 use Rattle.co_trial.specs.Trials.{IsTrial}
 use Rattle.co_trial.specs.declared.fault.TrialFault.{TrialFault}
 use Rattle.co_trial.specs.declared.fault.TrialFault.TheVariants as trial

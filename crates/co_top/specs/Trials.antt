@@ -1,5 +1,5 @@
 -- How a trial ends.
-use Rattle.std.specs.Prelude.{ℕ, ◌≡◌, ◌⊎◌, ◌++◌, List, take, Option, Some, Result, Ok, Err}
+use Rattle.std.specs.Prelude.{ℕ, ◌≡◌, ◌⊎◌, ◌++◌, List, take, Option, Some, Result}
 use Rattle.co_trial.specs.Line.{summary_line}
 use Rattle.co_trial.specs.Trials.{IsTrial}
 use Rattle.co_trial.specs.declared.fault.TrialFault.{TrialFault}

@@ -1,6 +1,7 @@
 use Rattle.std.proofs.Common.{subst}
-use Rattle.co_top.specs.Command.{is_run, is_records, is_check, is_trial}
+use Rattle.co_top.specs.Command.{is_run, is_records, is_check, is_trial, trial_events}
 use Rattle.co_top.specs.Ran.{IsRunEnd}
+use Rattle.co_top.specs.Trials.{IsTrialEnd}
 use Rattle.co_top.proofs.Trying.{is_a_trial, trial_within, not_usage, not_read, not_device}
 use Rattle.co_top.proofs.top.command.Goals as goal
 
@@ -29,3 +30,9 @@ returns-in-Trial-clause-read g c = λ e. absurd (not_read c.trial.result c.trial
 
 pub returns-in-Trial-clause-device : goal.returns-in-Trial-clause-device
 returns-in-Trial-clause-device g c = λ spot e. absurd (not_device c.trial.result spot c.trial.ensures.own e)
+
+pub returns-in-Trial-clause-tried : goal.returns-in-Trial-clause-tried
+returns-in-Trial-clause-tried g c = λ held is told.
+    let e = c.in-Trial.ensures in
+    subst (λ n. IsTrialEnd n (trial_events c.args.words.now) held (g.K.Sink.told c.trial.new.out) c.trial.result) e.1
+    (subst (λ n. IsTrialEnd c.in-Trial.number n held (g.K.Sink.told c.trial.new.out) c.trial.result) e.2 (c.trial.ensures.end held told))

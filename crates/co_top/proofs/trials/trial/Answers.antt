@@ -1,14 +1,13 @@
-use Rattle.std.proofs.Common.{Err, sym, ap, subst, ◌∙◌}
+use Rattle.std.proofs.Common.{sym, ap, subst, ◌∙◌}
 use Rattle.co_top.specs.Replayed.{status_of}
 use Rattle.co_top.specs.Trials.{IsOfTrial, IsTrialEnd}
-use Rattle.co_top.specs.declared.status.Status.TheVariants as status
 use Rattle.co_top.proofs.Trying.{summary_ended, summary_own, trial_ended, trial_own, trial_quiet, write_of}
 use Rattle.co_top.proofs.trials.trial.Goals as goal
 
 pub returns-in-Ok-clause-end : goal.returns-in-Ok-clause-end
 returns-in-Ok-clause-end g c = λ held told.
     subst (λ s. IsTrialEnd c.args.number c.args.events held (g.K.Sink.told c.tell_summary.new.out) s) (sym c.ended.ensures)
-    (summary_ended c.args.number c.args.events c.in-Ok.summary held (g.K.Sink.told c.args.out.now) (g.K.Sink.told c.tell_summary.new.out) c.tell_summary.result c.in-Ok.ensures.summed told c.tell_summary.ensures.told)
+    (summary_ended c.args.number c.args.events c.in-Ok.summary held (g.K.Sink.told c.args.out.now) (g.K.Sink.told c.tell_summary.new.out) c.tell_summary.result c.in-Ok.ensures.trial told c.tell_summary.ensures.told)
 
 pub returns-in-Err-clause-end : goal.returns-in-Err-clause-end
 returns-in-Err-clause-end g c = λ held told.

@@ -1,4 +1,4 @@
-use Rattle.std.proofs.Common.{◌≡◌, ◌∙◌, sym, ap, arith}
+use Rattle.std.proofs.Common.{◌∙◌, sym, ap, arith}
 use Rattle.std.specs.Str.Parse.{digits_value}
 use Rattle.co_schedule.proofs.Numbers.{and_true, value_of-decimal}
 use Rattle.co_top.proofs.words.trial_of.Goals as goal
