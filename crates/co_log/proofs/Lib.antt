@@ -3,6 +3,7 @@ pub mod Files
 pub mod Stops
 pub mod Images
 pub mod Appends
+pub mod Faults
 pub mod Logs
 pub mod Unmade
 pub mod Scans
@@ -15,4 +16,5 @@ pub mod Splits
 pub mod Judged
 pub mod Spots
 pub mod Bounds
+pub mod Sizes
 pub mod Counted

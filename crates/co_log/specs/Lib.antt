@@ -14,3 +14,5 @@ pub mod Rereading
 pub mod Others
 pub mod NodeFaults
 pub mod NodeFiles
+pub mod Sizes
+pub mod Batches

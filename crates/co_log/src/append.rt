@@ -9,7 +9,8 @@ ghost use Rattle.co_record.specs.Spelling.{IsWritable, IsSpelled};
 ghost use Rattle.co_log.specs.Appending.{IsEnding, IsTooLong, IsOfAppend};
 ghost use Rattle.co_log.specs.Attaching.{IsWithin};
 ghost use Rattle.co_log.specs.LogView.{IsShort};
-ghost use Rattle.co_log.specs.BatchWrite.{closed_batch};
+ghost use Rattle.co_log.specs.Batches.{IsBatchAt};
+ghost use Rattle.co_log.specs.Fresh.{IsOfDevice};
 ghost use Rattle.co_log.specs.LogFile.{spelled, opened, EndsAt, OldOrBoth};
 
 use crate::fault::LogFault;
@@ -94,7 +95,7 @@ fn gate_after(stable: bool, gate: u32, next: u32) -> u32
 
 /// The bytes of a batch of these records, then of the lent ones, and then of those, with a closed gate behind it. `Full` comes where the file
 /// would have more than 268,435,456 bytes with it behind the gate at this place.
-fn batch_of(
+pub(crate) fn batch_of(
     alloc: Global,
     spot: Spot,
     gate: u32,
@@ -106,9 +107,7 @@ fn batch_of(
     requires front { AllByRecursion IsWritable front.now }
     requires lent { AllByRecursion IsWritable lent.now }
     requires back { AllByRecursion IsWritable back.now }
-    ensures bytes { IfOk result (λ v. v.items ≡ closed_batch (front.now ++ (lent.now ++ back.now))) }
-    ensures each { OnOk result (AllByRecursion IsSpelled (front.now ++ (lent.now ++ back.now))) }
-    ensures short { OnOk result (gate + 6 + length (spelled (front.now ++ (lent.now ++ back.now))) ≤ 268435456) }
+    ensures batch { IfOk result (λ v. IsBatchAt gate (front.now ++ (lent.now ++ back.now)) v.items) }
     ensures full { IsErrOf result (LogFault.Full spot) → IsTooLong gate (front.now ++ (lent.now ++ back.now)) }
     ensures faults { IfErr result (λ e. (e ≡ LogFault.Full spot) ⊎ (e ≡ LogFault.Memory)) }
 {
@@ -119,6 +118,55 @@ fn batch_of(
     let mut batch = Vec::new(alloc);
     put_batch(&records, &mut batch)?;
     Ok(batch)
+}
+
+/// Lays a batch behind the gate at a place, and opens it. `Device` comes only where the home failed; `Memory` before or in the first device
+/// call.
+pub(crate) fn lay<H: Home>(
+    disk: &mut Disk,
+    home: &mut H,
+    gate: u32,
+    batch: &[u8],
+    stop: &mut Option<Stop>,
+) -> Result<Ending, LogFault>
+    requires agrees { Agrees (H.file home.old disk.old.spot) (H.reach home.old disk.old.spot) (read_of disk.old.state) }
+    requires stable { disk.old.state.pending ≡ [] }
+    requires read { IsShort disk.old }
+    requires stop { IfSome stop.old (λ s. (1 ≤ s.call) × (s.call ≤ 4)) }
+    requires ends { (kept : List (ℕ × Record)) × EndsAt disk.old.state.stable gate kept }
+    requires batch { (items : List Record) × IsBatchAt gate items batch.now }
+    ensures spot { disk.new.spot ≡ disk.old.spot }
+    ensures ended { (items : List Record) (kept : List (ℕ × Record)) → IsBatchAt gate items batch.now → EndsAt disk.old.state.stable gate kept → IfOk result (λ e. IsEnding e stop.old disk.new gate kept items) }
+    ensures disarmed { OnOk result (stop.new ≡ None) }
+    ensures stop { IfSome stop.new (λ s. (1 ≤ s.call) × (s.call ≤ 4)) }
+    ensures stable { OnOk result (disk.new.state.pending ≡ []) }
+    ensures agrees { OnOk result (Agrees (H.file home.new disk.old.spot) (H.reach home.new disk.old.spot) (read_of disk.new.state)) }
+    ensures clean { OnOk result (IsClean (H.file home.new disk.old.spot)) }
+    ensures told { (items : List Record) (kept : List (ℕ × Record)) → IsBatchAt gate items batch.now → EndsAt disk.old.state.stable gate kept → OnErr result ((f : File) → H.file home.new disk.old.spot ≡ Some f → OldOrBoth f.bytes gate kept items) }
+    ensures memory { (kept : List (ℕ × Record)) → EndsAt disk.old.state.stable gate kept → IsErrOf result LogFault.Memory → (f : File) → H.file home.new disk.old.spot ≡ Some f → EndsAt f.bytes gate kept }
+    ensures read { IsShort disk.new }
+    ensures within { IsWithin 268435456 (H.file home.new disk.old.spot) }
+    ensures faults { IfErr result (IsOfDevice disk.old.spot) }
+    ensures rest { RestStays H.file H.reach H.entered H.faults disk.old.spot home.old home.new }
+    ensures device { IsErrOf result (LogFault.Device disk.old.spot) → HasFailed H.faults H.last_failed disk.old.spot home.old home.new }
+    ensures quiet { (IsErrOf result (LogFault.Device disk.old.spot) → ⊥) → H.faults home.new ≡ H.faults home.old }
+{
+    let next = gate + batch.len() as u32;
+    let stop = stop.take();
+    match write_batch(disk, home, gate, batch, stop) {
+        Ok(()) => Ok(Ending::Whole { next }),
+        Err(DiskFault::Stopped { call }) => {
+            let stable = is_opened(disk.bytes(), gate);
+            Ok(Ending::Stopped {
+                call,
+                stable,
+                next: gate_after(stable, gate, next),
+            })
+        }
+        Err(DiskFault::Device) => Err(LogFault::Device { spot: disk.spot() }),
+        Err(DiskFault::Memory) => Err(LogFault::Memory),
+        Err(DiskFault::Differs { .. } | DiskFault::Long) => unreachable!(),
+    }
 }
 
 /// Appends these records, then the lent ones, and then those in one batch behind the gate at a place, and opens it. The memory that the
@@ -164,20 +212,5 @@ pub(crate) fn append<H: Home>(
     ensures quiet { (IsErrOf result (LogFault.Device disk.old.spot) → ⊥) → H.faults home.new ≡ H.faults home.old }
 {
     let batch = batch_of(alloc, disk.spot(), gate, front, lent, back)?;
-    let next = gate + batch.len() as u32;
-    let stop = stop.take();
-    match write_batch(disk, home, gate, &batch, stop) {
-        Ok(()) => Ok(Ending::Whole { next }),
-        Err(DiskFault::Stopped { call }) => {
-            let stable = is_opened(disk.bytes(), gate);
-            Ok(Ending::Stopped {
-                call,
-                stable,
-                next: gate_after(stable, gate, next),
-            })
-        }
-        Err(DiskFault::Device) => Err(LogFault::Device { spot: disk.spot() }),
-        Err(DiskFault::Memory) => Err(LogFault::Memory),
-        Err(DiskFault::Differs { .. } | DiskFault::Long) => unreachable!(),
-    }
+    lay(disk, home, gate, &batch, stop)
 }

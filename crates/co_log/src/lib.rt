@@ -3,6 +3,7 @@
 
 mod append;
 mod attaching;
+mod batch;
 mod closing;
 mod counting;
 mod fault;
@@ -16,6 +17,7 @@ mod spare;
 mod stop;
 mod writing;
 
+pub use batch::SpelledBatch;
 pub use fault::{LogFault, NodeFault, StoppedWrite};
 pub use laws::{
     attached_logs_stand, faults_are_split, files_are_judged_once, files_stay_in_order,

@@ -8,9 +8,7 @@ ghost use Rattle.co_record.specs.Format.{newest};
 ghost use Rattle.co_record.specs.Spelling.{IsWritable};
 ghost use Rattle.co_record.specs.Stored.{HasRecords, HasLeft};
 
-use crate::append::{Ending, append};
 use crate::fault::LogFault;
-use crate::marks::{marks, marks_if};
 use crate::stop::Stop;
 use co_base::{Leaves, Marks, Node};
 use co_disk::Disk;
@@ -166,33 +164,10 @@ impl Log {
         ensures device { IsErrOf result (LogFault.Device self.old.current.spot) → HasFailed H.faults H.last_failed self.old.current.spot home.old home.new }
         ensures quiet { (IsErrOf result (LogFault.Device self.old.current.spot) → ⊥) → H.faults home.new ≡ H.faults home.old }
     {
-        let told = marks(self.alloc, self.node, self.waiting.as_slice(), lent, back)?;
-        let ending = append(
-            self.alloc,
-            &mut self.current,
-            home,
-            self.gate,
-            self.waiting.as_slice(),
-            lent,
-            back,
-            &mut self.stop,
-        )?;
-        self.waiting.clear();
-        match ending {
-            Ending::Whole { next } => {
-                self.gate = next;
-                Ok(told)
-            }
-            Ending::Stopped { call, stable, next } => {
-                self.gate = next;
-                let marks = marks_if(self.alloc, stable, told);
-                Err(LogFault::Stopped {
-                    call,
-                    stable,
-                    marks,
-                })
-            }
-        }
+        // What is read of either file is within its bounds, also where nothing is written.
+        let _ = self.lengths();
+        let batch = self.spell_all(lent, back)?;
+        self.lay_batch(home, batch)
     }
 
     /// Appends one batch in one log write: the waiting records in order, and then this one, which is a prepare, a

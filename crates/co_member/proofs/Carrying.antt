@@ -1,5 +1,5 @@
 -- What carrying a plan out leaves of the plain member, once its change in memory and its log write were done.
-use Rattle.std.proofs.Common.{◌≡◌, ℕ, Bool, true, false, List, [], ◌∷◌, ◌++◌, refl, sym, ap, subst, ◌∙◌}
+use Rattle.std.proofs.Common.{◌≡◌, ◌||◌, ℕ, Bool, true, false, List, [], ◌∷◌, ◌++◌, refl, sym, ap, subst, ◌∙◌, ◌<◌}
 use Rattle.std.specs.Prelude.{IsTrue, Option, None, Some, is_some, if◌then◌else◌, Result, Ok, IfOk}
 use Rattle.co_base.specs.declared.head.Kind.{Kind}
 use Rattle.co_base.specs.declared.leaves.Leaves.{Leaves}
@@ -14,33 +14,41 @@ use Rattle.co_node.specs.NodeLog.{RepresentsLog}
 use Rattle.co_node.specs.Writes.{forcing, HasWritten}
 use Rattle.co_node.specs.declared.written.Written.{Written}
 use Rattle.co_node.specs.declared.written.Written.TheVariants.{Done, Stopped}
+use Rattle.co_plain.specs.LocalCommit.{local_coord}
 use Rattle.co_plain.specs.LogWrite.{crashed_log, marks_of, outcome_of, with_batch, with_stop}
 use Rattle.co_plain.specs.Member.{prepare_record, voted_state}
 use Rattle.co_plain.specs.MemberLog.{member_arm, member_crash, member_restart, restart_by}
-use Rattle.co_plain.specs.MemberStep.{forced_by, member_down_with, stopped_member, with_log}
+use Rattle.co_plain.specs.MemberStep.{forced_by, member_down_with, standing_of, stopped_member, with_log}
 use Rattle.co_plain.specs.MemberView.{recovered_view}
+use Rattle.co_plain.specs.Numbers.{counted}
 use Rattle.co_plain.specs.Opening.{member_with}
 use Rattle.co_plain.specs.declared.log_state.LogState.{LogState}
 use Rattle.co_plain.specs.declared.member_state.MemberState.{MemberState}
 use Rattle.co_plain.specs.declared.member_step.MemberStep.{MemberStep as PlainStep}
 use Rattle.co_plain.specs.declared.outcome.Outcome.{Outcome}
+use Rattle.co_plain.specs.declared.standing.Standing.TheVariants.{IsActive}
+use Rattle.co_undecided.proofs.Standing.{not_held}
 use Rattle.co_record.specs.Gate.{batch_is_stable}
 use Rattle.co_record.specs.declared.record.Record.{Record}
+use Rattle.co_record.specs.declared.record.Record.TheVariants as log
 use Rattle.co_state.specs.Changes.{sets_of}
-use Rattle.co_state.specs.EngineState.{is_undecided, operations_of, sets_at}
+use Rattle.co_state.specs.EngineState.{is_undecided, operations_of, sets_at, sets_in}
+use Rattle.co_state.specs.Table.{holds, look}
 use Rattle.co_state.specs.declared.engine_state.EngineState.{EngineState}
-use Rattle.co_member.specs.Plans.{changed, carried, carried_out}
+use Rattle.co_member.specs.Plans.{changed, carried, carried_out, plan_of}
 use Rattle.co_member.specs.Standing.{is_up, RepresentsMember, RepresentsRunning, HasDone, HasEnded, IsSame}
 use Rattle.co_member.specs.Writing.{HasWrittenFor}
 use Rattle.co_member.specs.declared.member.Member.{Member}
 use Rattle.co_member.specs.declared.plan.Change.{Change}
 use Rattle.co_member.specs.declared.plan.Change.TheVariants.{Stays, Casts, Drops, Installs, CastsAndInstalls}
+use Rattle.co_member.specs.declared.plan.Course.TheVariants.{GrantsLocal}
 use Rattle.co_member.specs.declared.plan.Plan.{Plan}
 use Rattle.co_member.specs.declared.plan.Writes.{Writes}
 use Rattle.co_member.specs.declared.plan.Writes.TheVariants.{Nothing, Keeps, Forces, ForcesBoth}
 use Rattle.co_member.specs.declared.running.Running.{Running}
 use Rattle.co_member.specs.declared.step.MemberStep.{MemberStep}
-use Rattle.co_member.proofs.Changing.{cast_sets, cast_undecided}
+use Rattle.co_member.proofs.Changing.{cast_sets, cast_undecided, counted_small}
+use Rattle.co_member.proofs.Standings.{held_active, unvoted_active}
 
 -- no change of a transaction touches the log, nor whether the member runs
 pub changed_log : (x : MemberState) (t : ℕ) (change : Change) → (changed x t change).log ≡ x.log
@@ -62,6 +70,15 @@ none_here one two = let h : None ≡ Some _ = sym two ∙ one in absurd cc
 
 same_here : {A : Type 0} {a b : A} {o : Option A} → o ≡ Some a → o ≡ Some b → a ≡ b
 same_here one two = let h : Some _ ≡ Some _ = sym one ∙ two in cc
+
+-- what a local commit writes and changes, where its records are these
+pub local_writes : (m t count : ℕ) (x : MemberState) (first item : Record) → count < 65536 → first ≡ prepare_record t local_coord count (sets_of (operations_of x.engine t)) → item ≡ log.Commit t [] → ForcesBoth first item ≡ (plan_of (GrantsLocal count) m x t).writes
+local_writes m t count x first item small prepare commit =
+    ap (λ (r : Record). ForcesBoth r item) prepare ∙ ap (λ (n : ℕ). ForcesBoth (prepare_record t local_coord n (sets_of (operations_of x.engine t))) item) (sym (counted_small count small))
+    ∙ ap (λ (r : Record). ForcesBoth (prepare_record t local_coord (counted count) (sets_of (operations_of x.engine t))) r) commit
+
+pub local_change : (m t count : ℕ) (x : MemberState) → count < 65536 → CastsAndInstalls local_coord count ≡ (plan_of (GrantsLocal count) m x t).change
+local_change m t count x small = ap (λ (n : ℕ). CastsAndInstalls local_coord n) (sym (counted_small count small))
 
 -- the plain member that goes up
 abbrev went_up : MemberState → MemberState
@@ -179,6 +196,16 @@ module _ {E : Type 0} (stands_for : E → EngineState → Type 0) where
   lent_record kind o r u y t coord count item is other running lends =
       let here' = subst (λ (v : Running E). RepresentsRunning stands_for kind v (voted_state y t coord count)) (same_here is other) running in
       lends kind (voted_state y t coord count) here' (cast_undecided y t coord count) ∙ ap (prepare_record t coord count) (cast_sets y t coord count)
+
+  -- the record of a local commit, lent before it is cast
+  pub local_record : (kind : Kind) (u : Running E) (y : MemberState) (t coord count : ℕ) (item : Record) → RepresentsRunning stands_for kind u y → standing_of y t ≡ IsActive
+      → ((k : Kind) (x : MemberState) → RepresentsRunning stands_for k u x → IsTrue (is_undecided x.engine t) → item ≡ prepare_record t coord count (sets_at x.engine t)) → item ≡ prepare_record t coord count (sets_of (operations_of y.engine t))
+  local_record kind u y t coord count item running active lends =
+      let b = y.engine in
+      let held = held_active (holds b.active t) (holds b.voted t) (holds y.committed t) active in
+      let unvoted = unvoted_active (look b.active t) (look b.voted t) (running.undecided.apart t) held in
+      let sets = ap (λ v. sets_in v (operations_of b t)) (not_held (look b.voted t) unvoted) in
+      lends kind y running (ap (λ a. a || holds b.voted t) held) ∙ ap (prepare_record t coord count) sets
 
   -- ---- plans
 

@@ -1,5 +1,5 @@
 -- What the plans of a message, of a held vote and of a local commit write may be written, and their changes are of transactions that stand so.
-use Rattle.std.proofs.Common.{◌≡◌, ◌≤◌, ℕ, Bool, true, false, List, [], ◌∷◌, length, ◌==◌, nat_le, refl, sym, ap, ◌∙◌, arith}
+use Rattle.std.proofs.Common.{◌≡◌, ◌≤◌, ℕ, Bool, true, false, List, [], ◌∷◌, length, ◌==◌, nat_le, refl, sym, ap, subst, ◌∙◌, arith}
 use Rattle.std.specs.Prelude.{Option, None, Some, is_some, if◌then◌else◌}
 use Rattle.std.proofs.lemmas.Bool.Decides.{nat_tests}
 use Rattle.std.specs.List.{AllByRecursion}
@@ -26,9 +26,12 @@ use Rattle.co_plain.specs.declared.member_state.MemberState.{MemberState}
 use Rattle.co_plain.specs.declared.standing.Standing.{Standing}
 use Rattle.co_plain.specs.declared.standing.Standing.TheVariants.{IsActive, IsVoted, IsInstalled, IsAbsent}
 use Rattle.co_member.specs.Conditions.{MayCast, MayTake, MayVote, MayCommit, IsAboutSome, IsCastable, IsCastableFor}
-use Rattle.co_member.specs.Plans.{says, sends, vote_plan, ballot_plan, prepare_plan, asked_plan, again_plan, commit_plan, abort_plan, deliver_plan, marked_by, marked, txn_of, local_vote_plan, local_commit_plan}
+use Rattle.co_member.specs.Plans.{plan_of, says, sends, vote_plan, ballot_plan, prepare_plan, asked_plan, again_plan, commit_plan, abort_plan, deliver_plan, marked_by, marked, txn_of, local_vote_plan, local_commit_plan}
 use Rattle.co_member.specs.Standing.{Suits}
-use Rattle.co_member.specs.Writing.{MayWrite}
+use Rattle.co_member.specs.Writing.{MayWrite, IsSingle, IsSingleIn}
+use Rattle.co_member.specs.declared.plan.Course.{Course}
+use Rattle.co_member.specs.declared.plan.Course.TheVariants.{Carries, Grants, GrantsLocal}
+use Rattle.co_member.specs.declared.plan.Plan.{Plan}
 
 pub nobody : (t : ℕ) → IsWritable (log.Commit t [])
 unfolding IsStrictlySortedBy
@@ -81,6 +84,59 @@ deliver_may m x (message.Decide t coord member false) may = abort_may t (standin
 deliver_may m x (message.Vote t member coord granted) may = tt
 deliver_may m x (message.Ask t member coord) may = tt
 deliver_may m x (message.Ack t member coord) may = tt
+
+-- ---- plans that give the log at most one record
+
+vote_single : (m t coord count kept : ℕ) (sets : Sets) (v : Verdict) → IsSingle (vote_plan m t coord count kept sets v).writes
+vote_single m t coord count kept sets LostOperations = tt
+vote_single m t coord count kept sets (StaleRead key) = tt
+vote_single m t coord count kept sets (HeldBy u) = tt
+vote_single m t coord count kept sets VoteYes = tt
+
+ballot_single : (m t coord count : ℕ) (x : MemberState) → IsSingle (ballot_plan m x t coord count).writes
+ballot_single m t coord count x = vote_single m t coord count (kept_count x.engine t) (sets_of (operations_of x.engine t)) (vote_of x.engine t count)
+
+prepare_single : (m t coord count : ℕ) (x : MemberState) (s : Standing) → IsSingle (prepare_plan m x t coord count s).writes
+prepare_single m t coord count x IsActive = ballot_single m t coord count x
+prepare_single m t coord count x IsVoted = tt
+prepare_single m t coord count x IsInstalled = tt
+prepare_single m t coord count x IsAbsent = ballot_single m t coord count x
+
+asked_single : (m t : ℕ) (x : MemberState) (mark : Option AskedMark) → IsSingle (asked_plan m x t mark).writes
+asked_single m t x None = tt
+asked_single m t x (Some k) = ballot_single m t k.coord k.count x
+
+pub again_single : (m t : ℕ) (x : MemberState) (s : Standing) → IsSingle (again_plan m x t s).writes
+again_single m t x IsActive = asked_single m t x (look x.asked t)
+again_single m t x IsVoted = tt
+again_single m t x IsInstalled = tt
+again_single m t x IsAbsent = tt
+
+commit_single : (m t coord : ℕ) (s : Standing) → IsSingle (commit_plan m t coord s).writes
+commit_single m t coord IsActive = tt
+commit_single m t coord IsVoted = tt
+commit_single m t coord IsInstalled = tt
+commit_single m t coord IsAbsent = tt
+
+abort_single : (t : ℕ) (s : Standing) → IsSingle (abort_plan t s).writes
+abort_single t IsActive = tt
+abort_single t IsVoted = tt
+abort_single t IsInstalled = tt
+abort_single t IsAbsent = tt
+
+pub deliver_single : (m : ℕ) (x : MemberState) (message : Message) → IsSingle (deliver_plan m x message).writes
+deliver_single m x (message.Prepare t coord member count) = prepare_single m t coord count x (standing_of x t)
+deliver_single m x (message.Decide t coord member true) = commit_single m t coord (standing_of x t)
+deliver_single m x (message.Decide t coord member false) = abort_single t (standing_of x t)
+deliver_single m x (message.Vote t member coord granted) = tt
+deliver_single m x (message.Ask t member coord) = tt
+deliver_single m x (message.Ack t member coord) = tt
+
+-- and so a course that comes to one
+pub course_single : (course : Course) (m t : ℕ) (x : MemberState) (plan : Plan) → plan_of course m x t ≡ plan → IsSingle plan.writes → IsSingleIn course
+course_single (Carries carried) m t x plan is single = subst (λ (p : Plan). IsSingle p.writes) (sym is) single
+course_single (Grants coord count) m t x plan is single = tt
+course_single (GrantsLocal count) m t x plan is single = tt
 
 -- ---- the changes of plans
 

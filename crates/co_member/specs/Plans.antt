@@ -26,7 +26,7 @@ use Rattle.co_plain.specs.declared.standing.Standing.TheVariants.{IsActive, IsVo
 use Rattle.co_member.specs.declared.plan.Change.{Change}
 use Rattle.co_member.specs.declared.plan.Change.TheVariants.{Stays, Casts, Drops, Installs, CastsAndInstalls}
 use Rattle.co_member.specs.declared.plan.Course.{Course}
-use Rattle.co_member.specs.declared.plan.Course.TheVariants.{Carries, Grants}
+use Rattle.co_member.specs.declared.plan.Course.TheVariants.{Carries, Grants, GrantsLocal}
 use Rattle.co_member.specs.declared.plan.Plan.{Plan}
 use Rattle.co_member.specs.declared.plan.Writes.{Writes}
 use Rattle.co_member.specs.declared.plan.Writes.TheVariants.{Nothing, Keeps, Forces, ForcesBoth}
@@ -53,11 +53,6 @@ vote_plan m t coord count kept sets VoteYes =
       answer = answer.Yes;
       sent = Some (message.Vote t m coord true);
     }
-
--- the plan that a course of this member comes to, by what the transaction read and wrote
-abbrev pub plan_of : Course → ℕ → MemberState → ℕ → Plan
-plan_of (Carries plan) m x t = plan
-plan_of (Grants coord count) m x t = vote_plan m t coord count (kept_count x.engine t) (sets_of (operations_of x.engine t)) VoteYes
 
 -- the ballot on a transaction that this coordinator asked about
 abbrev pub ballot_plan : ℕ → MemberState → ℕ → ℕ → ℕ → Plan
@@ -174,6 +169,12 @@ local_abort_plan IsActive = drops (answer.Aborted cause.Client) None
 local_abort_plan IsVoted = says answer.Absent
 local_abort_plan IsInstalled = says answer.Absent
 local_abort_plan IsAbsent = says answer.Absent
+
+-- the plan that a course of this member comes to, by what the transaction read and wrote
+abbrev pub plan_of : Course → ℕ → MemberState → ℕ → Plan
+plan_of (Carries plan) m x t = plan
+plan_of (Grants coord count) m x t = vote_plan m t coord count (kept_count x.engine t) (sets_of (operations_of x.engine t)) VoteYes
+plan_of (GrantsLocal count) m x t = local_vote_plan t count (kept_count x.engine t) (sets_of (operations_of x.engine t)) VoteYes
 
 -- ---- carrying a plan out
 

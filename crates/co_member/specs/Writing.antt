@@ -13,6 +13,8 @@ use Rattle.co_node.specs.declared.written.Written.{Written}
 use Rattle.co_node.specs.declared.written.Written.TheVariants.{Done, Stopped}
 use Rattle.co_plain.specs.LogWrite.{with_batch, with_waiting}
 use Rattle.co_plain.specs.declared.log_state.LogState.{LogState}
+use Rattle.co_member.specs.declared.plan.Course.{Course}
+use Rattle.co_member.specs.declared.plan.Course.TheVariants.{Carries, Grants, GrantsLocal}
 use Rattle.co_member.specs.declared.plan.Writes.{Writes}
 use Rattle.co_member.specs.declared.plan.Writes.TheVariants.{Nothing, Keeps, Forces, ForcesBoth}
 
@@ -22,6 +24,19 @@ MayWrite Nothing = Unit {0}
 MayWrite (Keeps r) = IsWritable r × MayWait r
 MayWrite (Forces r) = IsWritable r × IsForcible r
 MayWrite (ForcesBoth first r) = (IsWritable first × MayWait first) × (IsWritable r × IsForcible r)
+
+-- at most one record is given to the log
+abbrev pub IsSingle : Writes → Type 0
+IsSingle Nothing = Unit {0}
+IsSingle (Keeps r) = Unit {0}
+IsSingle (Forces r) = Unit {0}
+IsSingle (ForcesBoth first r) = ⊥
+
+-- so it is by a plan that a course carries out
+abbrev pub IsSingleIn : Course → Type 0
+IsSingleIn (Carries plan) = IsSingle plan.writes
+IsSingleIn (Grants coord count) = Unit {0}
+IsSingleIn (GrantsLocal count) = Unit {0}
 
 -- what is forced, with what waits, would make the file too long
 abbrev pub IsTooLongFor : Writes → LogView → Type 0

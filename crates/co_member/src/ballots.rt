@@ -17,31 +17,10 @@ use crate::running::Running;
 use co_base::Txn;
 use co_engine::Engine;
 use co_message::{Answer, Message};
-use co_pairs::Sets;
 use co_plain::{AskedMark, Standing};
-use co_record::{LentPrepare, Record};
-use co_state::{copy_ranges, copy_writes};
+use co_record::LentPrepare;
 use co_vote::Ballot;
-use std::alloc::{AllocError, Global};
-
-/// The record that a vote forces: what the transaction read and wrote here.
-pub(crate) fn prepare_record(
-    alloc: Global,
-    t: Txn,
-    coord: u8,
-    count: u16,
-    sets: &Sets,
-) -> Result<Record, AllocError>
-    ensures { IfOk result (λ item. item ≡ prepare_record t coord count sets.now) }
-{
-    Ok(Record::Prepare {
-        txn: t,
-        coord,
-        count,
-        reads: copy_ranges(alloc, sets.reads())?,
-        writes: copy_writes(alloc, sets.writes())?,
-    })
-}
+use std::alloc::AllocError;
 
 /// The vote no on a transaction, which is dropped.
 fn refuses(member: u8, t: Txn, coord: u8, answer: Answer) -> Course

@@ -111,8 +111,8 @@ impl<E: Engine + Drop> Member<E> {
     {
         // What is read of either file is within its bounds, also where there is no memory.
         let _ = self.log.lengths();
-        let plan = self.running().local_commit_plan(self.alloc, t, carried)?;
-        self.carry_out(home, t, plan)
+        let course = self.running().local_commit_plan(t, carried)?;
+        self.follow(home, t, course)
     }
 
     /// A crash between two log writes: what was in memory is lost, and the member is down. It makes no call of the directory, takes no

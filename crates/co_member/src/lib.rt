@@ -3,7 +3,8 @@
 //! What it does is data first: a plan, by where the transaction stands and by the ballot on it. A plan says what the log is to get, what
 //! becomes of the transaction, what is answered and what is sent. It is made whole before anything is written, and carried out with its change
 //! in memory first, so that all memory that an event wants is taken before its log write; a stopped write leaves the member down. The record of a vote
-//! yes is forced from the sets that the member keeps, of which nothing is copied. The rules
+//! yes is forced from the sets that the member keeps, of which nothing is copied, and so are the two records of a local commit, which are spelled
+//! out before it is installed. The rules
 //! are those of commitment ordering (Raz, *The principle of commitment ordering*, VLDB 1992) and of two-phase commit with presumed abort (Mohan, Lindsay
 //! and Obermarck, *Transaction Management in the R\* Distributed Database Management System*, TODS 1986).
 #![tactic(auto)]

@@ -6,41 +6,21 @@ ghost use Rattle.co_state.specs.Changes.{sets_of};
 ghost use Rattle.co_state.specs.EngineState.{operations_of};
 ghost use Rattle.co_state.specs.Table.{holds};
 ghost use Rattle.co_state.specs.VotingRule.{vote_of, kept_count};
-ghost use Rattle.co_state.specs.declared.verdict.Verdict.TheVariants.{VoteYes};
-ghost use Rattle.co_member.specs.Conditions.{IsCastable};
-ghost use Rattle.co_member.specs.Plans.{local_vote_plan, local_commit_plan, local_abort_plan};
+ghost use Rattle.co_member.specs.Plans.{plan_of, local_vote_plan, local_commit_plan, local_abort_plan};
 ghost use Rattle.co_member.specs.Standing.{RepresentsRunning};
+ghost use Rattle.co_member.specs.Writing.{IsSingleIn};
 
-use crate::ballots::prepare_record;
-use crate::delivery::commit_record;
-use crate::plan::{Change, Plan, Writes, drops, says};
+use crate::plan::{Course, Plan, drops, says};
 use crate::running::Running;
 use co_base::Txn;
 use co_engine::Engine;
 use co_message::{Answer, Cause};
-use co_pairs::Sets;
 use co_plain::Standing;
 use co_vote::Ballot;
-use std::alloc::{AllocError, Global};
+use std::alloc::AllocError;
 
 /// The coordinator number that stands in the prepare record of a local transaction.
-const LOCAL_COORD: u8 = 1;
-
-/// A local transaction is committed: its prepare record and its commit record are forced in one log write.
-fn commits(alloc: Global, t: Txn, carried: u16, sets: &Sets) -> Result<Plan, AllocError>
-    ensures { (kept : ℕ) → IfOk result (λ plan. plan ≡ local_vote_plan t carried kept sets.now VoteYes) }
-{
-    let prepare = prepare_record(alloc, t, LOCAL_COORD, carried, sets)?;
-    Ok(Plan {
-        writes: Writes::ForcesBoth(prepare, commit_record(alloc, t)),
-        change: Change::CastsAndInstalls {
-            coord: LOCAL_COORD,
-            count: carried,
-        },
-        answer: Answer::Committed,
-        sent: None,
-    })
-}
+pub(crate) const LOCAL_COORD: u8 = 1;
 
 /// The client asks for the abort of a local transaction.
 pub(crate) fn local_abort_plan(standing: Standing) -> Plan
@@ -54,34 +34,35 @@ pub(crate) fn local_abort_plan(standing: Standing) -> Plan
 
 impl<E: Engine> Running<E> {
     /// The ballot on a local transaction that has not voted.
-    fn local_vote_plan(&self, alloc: Global, t: Txn, carried: u16) -> Result<Plan, AllocError>
-        ensures { (kind : Kind) (x : MemberState) → RepresentsRunning E.stands_for kind self.now x → holds x.engine.voted t ≡ false → IsCastable x t carried →
-            IfOk result (λ plan. plan ≡ local_vote_plan t carried (kept_count x.engine t) (sets_of (operations_of x.engine t)) (vote_of x.engine t carried)) }
+    fn local_vote_plan(&self, t: Txn, carried: u16) -> Result<Course, AllocError>
+        ensures plan { (kind : Kind) (m : ℕ) (x : MemberState) → RepresentsRunning E.stands_for kind self.now x → holds x.engine.voted t ≡ false →
+            IfOk result (λ course. plan_of course m x t ≡ local_vote_plan t carried (kept_count x.engine t) (sets_of (operations_of x.engine t)) (vote_of x.engine t carried)) }
+        ensures single { IfOk result IsSingleIn }
     {
         match self.undecided.ballot(t, carried) {
             Ballot::NoLost => {
                 let kept = self.undecided.kept(t);
-                Ok(drops(Answer::NoLost { kept, carried }, None))
+                let answer = Answer::NoLost { kept, carried };
+                Ok(Course::Carries(drops(answer, None)))
             }
-            Ballot::NoStale(key) => Ok(drops(Answer::NoStale(key.copy()?), None)),
-            Ballot::Held(u) => Ok(says(Answer::Held(u))),
-            Ballot::Yes => commits(alloc, t, carried, self.undecided.sets(t)),
+            Ballot::NoStale(key) => {
+                let answer = Answer::NoStale(key.copy()?);
+                Ok(Course::Carries(drops(answer, None)))
+            }
+            Ballot::Held(u) => Ok(Course::Carries(says(Answer::Held(u)))),
+            Ballot::Yes => Ok(Course::GrantsLocal { count: carried }),
         }
     }
 
     /// The client asks for the commit of a local transaction, and carries how many operations it saw answered. One without operations is nowhere.
-    pub(crate) fn local_commit_plan(
-        &self,
-        alloc: Global,
-        t: Txn,
-        carried: u16,
-    ) -> Result<Plan, AllocError>
-        ensures { (kind : Kind) (x : MemberState) → RepresentsRunning E.stands_for kind self.now x → holds x.engine.voted t ≡ false →
-            IfOk result (λ plan. plan ≡ local_commit_plan x t carried) }
+    pub(crate) fn local_commit_plan(&self, t: Txn, carried: u16) -> Result<Course, AllocError>
+        ensures plan { (kind : Kind) (m : ℕ) (x : MemberState) → RepresentsRunning E.stands_for kind self.now x → holds x.engine.voted t ≡ false →
+            IfOk result (λ course. plan_of course m x t ≡ local_commit_plan x t carried) }
+        ensures single { IfOk result IsSingleIn }
     {
         if carried == 0 {
-            return Ok(says(Answer::Absent));
+            return Ok(Course::Carries(says(Answer::Absent)));
         }
-        self.local_vote_plan(alloc, t, carried)
+        self.local_vote_plan(t, carried)
     }
 }

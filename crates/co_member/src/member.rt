@@ -16,11 +16,13 @@ ghost use Rattle.co_state.specs.Changes.{sets_of};
 ghost use Rattle.co_state.specs.EngineState.{operations_of};
 ghost use Rattle.co_member.specs.Plans.{changed, carried_out, plan_of};
 ghost use Rattle.co_member.specs.Standing.{is_up, RepresentsMember, RepresentsRunning, HasDone, HasEnded, IsSame, Suits, written_by};
-ghost use Rattle.co_member.specs.Writing.{MayWrite, IsAnsweredFor};
-ghost use Rattle.co_member.specs.declared.plan.Course.TheVariants.{Grants};
+ghost use Rattle.co_member.specs.Writing.{MayWrite, IsSingle, IsSingleIn, IsAnsweredFor};
+ghost use Rattle.co_member.specs.declared.plan.Course.TheVariants.{Grants, GrantsLocal};
 ghost use Rattle.co_member.specs.declared.plan.Writes.TheVariants.{Nothing};
 ghost use Rattle.co_member.specs.declared.running.Running.{Running};
 
+use crate::delivery::commit_record;
+use crate::local::LOCAL_COORD;
 use crate::plan::{Change, Course, Plan};
 use crate::running::Running;
 use crate::step::MemberStep;
@@ -29,7 +31,7 @@ use co_base::{Kind, Marks, Txn};
 use co_engine::Engine;
 use co_log::{Log, NodeFault};
 use co_message::{Answer, Message};
-use co_node::{Written, force_prepare};
+use co_node::{Written, force_batch, force_prepare, spell_both};
 use co_outside::Home;
 use std::alloc::{AllocError, Global};
 
@@ -117,6 +119,7 @@ impl<E: Engine + Drop> Member<E> {
         requires held { IsHeld (H.file home.old) (H.reach home.old) self.old.log }
         requires stands { (x : MemberState) × RepresentsMember E.stands_for self.old x }
         requires writes { MayWrite plan.writes }
+        requires single { IsSingle plan.writes }
         ensures did { (x : MemberState) → RepresentsMember E.stands_for self.old x → Suits x t plan.change →
             IfOk result (λ d. HasDone E.stands_for (carried_out self.old.number x t plan) d self.new) }
         ensures answered { (x : MemberState) → RepresentsMember E.stands_for self.old x →
@@ -172,6 +175,37 @@ impl<E: Engine + Drop> Member<E> {
         Ok(self.ended(written, Answer::Yes, Some(vote)))
     }
 
+    /// Commits a local transaction, over so many operations: its prepare record and its commit record are spelled out from its sets, then it is
+    /// committed in memory, and then both records are forced. What a stopped write leaves is what the log tells.
+    fn grant_local<H: Home>(
+        &mut self,
+        home: &mut H,
+        t: Txn,
+        count: u16,
+    ) -> Result<MemberStep, NodeFault>
+        requires up { is_up self.old ≡ true }
+        requires short { IsShort self.old.log.current × IsShort self.old.log.spare }
+        requires held { IsHeld (H.file home.old) (H.reach home.old) self.old.log }
+        requires stands { (x : MemberState) × RepresentsMember E.stands_for self.old x × (standing_of x t ≡ IsActive) × MayWrite (plan_of (GrantsLocal count) self.old.number x t).writes }
+        ensures did { (x : MemberState) → RepresentsMember E.stands_for self.old x → standing_of x t ≡ IsActive →
+            IfOk result (λ d. HasDone E.stands_for (carried_out self.old.number x t (plan_of (GrantsLocal count) self.old.number x t)) d self.new) }
+        ensures answered { (x : MemberState) → RepresentsMember E.stands_for self.old x → standing_of x t ≡ IsActive →
+            IsAnsweredFor (plan_of (GrantsLocal count) self.old.number x t).writes (node.Member self.old.number) x.log self.old.log self.new.log
+            (seen H.file H.reach H.faults H.last_failed home.old) (seen H.file H.reach H.faults H.last_failed home.new) (written_by result) }
+        ensures rest { OtherNodesStay H.file H.reach H.entered H.faults self.old.log.node home.old home.new }
+        ensures same { IsSame self.old self.new }
+    {
+        let prepare = self.running().vote_record(t, LOCAL_COORD, count);
+        let batch = spell_both(&self.log, prepare, commit_record(self.alloc, t))?;
+        let change = Change::CastsAndInstalls {
+            coord: LOCAL_COORD,
+            count,
+        };
+        self.change(t, change)?;
+        let written = force_batch(&mut self.log, home, batch)?;
+        Ok(self.ended(written, Answer::Committed, None))
+    }
+
     /// Goes on as a course says.
     pub(crate) fn follow<H: Home>(
         &mut self,
@@ -183,6 +217,7 @@ impl<E: Engine + Drop> Member<E> {
         requires short { IsShort self.old.log.current × IsShort self.old.log.spare }
         requires held { IsHeld (H.file home.old) (H.reach home.old) self.old.log }
         requires stands { (x : MemberState) × RepresentsMember E.stands_for self.old x × Suits x t (plan_of course self.old.number x t).change × MayWrite (plan_of course self.old.number x t).writes }
+        requires single { IsSingleIn course }
         ensures did { (x : MemberState) → RepresentsMember E.stands_for self.old x → Suits x t (plan_of course self.old.number x t).change →
             IfOk result (λ d. HasDone E.stands_for (carried_out self.old.number x t (plan_of course self.old.number x t)) d self.new) }
         ensures answered { (x : MemberState) → RepresentsMember E.stands_for self.old x → Suits x t (plan_of course self.old.number x t).change →
@@ -194,6 +229,7 @@ impl<E: Engine + Drop> Member<E> {
         match course {
             Course::Carries(plan) => self.carry_out(home, t, plan),
             Course::Grants { coord, count } => self.grant(home, t, coord, count),
+            Course::GrantsLocal { count } => self.grant_local(home, t, count),
         }
     }
 

@@ -39,7 +39,8 @@ pub enum Writes {
     Keeps(Record),
     /// This record is forced, and the waiting ones in front of it.
     Forces(Record),
-    /// These two records are forced in one log write, and the waiting ones in front of them.
+    /// These two records are forced in one log write, and the waiting ones in front of them. No plan that is carried out writes so: a local
+    /// commit is granted, from the sets of its transaction.
     ForcesBoth(Record, Record),
 }
 
@@ -64,6 +65,9 @@ pub(crate) enum Course {
     /// With the vote yes, for this coordinator and over so many operations. Its record is forced from the sets of the
     /// transaction, of which nothing is copied.
     Grants { coord: u8, count: u16 },
+    /// With the commit of a local transaction, over so many operations. Its two records are spelled out from the sets of the transaction, of
+    /// which nothing is copied, and forced in one log write.
+    GrantsLocal { count: u16 },
 }
 
 /// An answer alone.

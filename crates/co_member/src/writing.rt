@@ -5,12 +5,12 @@ ghost use Rattle.co_log.specs.Others.{OtherNodesStay};
 ghost use Rattle.co_node.specs.Answers.{seen};
 ghost use Rattle.co_node.specs.NodeLog.{RepresentsLog};
 ghost use Rattle.co_plain.specs.declared.log_state.LogState.{LogState};
-ghost use Rattle.co_member.specs.Writing.{MayWrite, IsAnsweredFor, HasWrittenFor};
+ghost use Rattle.co_member.specs.Writing.{MayWrite, IsSingle, IsAnsweredFor, HasWrittenFor};
 
 use crate::plan::Writes;
 use co_base::Marks;
 use co_log::{Log, NodeFault};
-use co_node::{Written, force, force_both, keep_waiting};
+use co_node::{Written, force, keep_waiting};
 use co_outside::Home;
 use std::alloc::Global;
 
@@ -25,6 +25,7 @@ pub(crate) fn write<H: Home>(
     requires held { IsHeld (H.file home.old) (H.reach home.old) log.old }
     requires stands { (owner : Node) × (l : LogState) × RepresentsLog owner log.old l }
     requires may { MayWrite writes }
+    requires single { IsSingle writes }
     ensures written { (owner : Node) (l : LogState) → RepresentsLog owner log.old l → HasWrittenFor writes owner l log.new result }
     ensures answered { (owner : Node) (l : LogState) → RepresentsLog owner log.old l →
         IsAnsweredFor writes owner l log.old log.new
@@ -42,6 +43,6 @@ pub(crate) fn write<H: Home>(
             })
         }
         Writes::Forces(item) => force(log, home, item),
-        Writes::ForcesBoth(first, item) => force_both(log, home, first, item),
+        Writes::ForcesBoth(_, _) => unreachable!(),
     }
 }

@@ -1,5 +1,5 @@
 -- How a log write ends for the plain log.
-use Rattle.std.proofs.Common.{◌≡◌, ℕ, Bool, true, false, List, [], ◌∷◌, ◌++◌, sym, ap, subst, ◌∙◌, arith}
+use Rattle.std.proofs.Common.{◌≡◌, ℕ, Bool, true, List, [], ◌++◌, sym, ap, subst, ◌∙◌, arith}
 use Rattle.std.specs.Prelude.{reverse, nat_le, ◌≤◌, IfSome, Some, None, Option, option_map, Result, Ok, Err, if◌then◌else◌}
 use Rattle.std.proofs.lemmas.List.{reverse-append, reverse-reverse}
 use Rattle.co_base.specs.declared.leaves.Leaves.{Leaves}
@@ -17,7 +17,7 @@ use Rattle.co_log.specs.Marks.{marks_of as told_of}
 use Rattle.co_plain.specs.declared.log_state.LogState.{LogState}
 use Rattle.co_plain.specs.declared.log_state.Stop.{Stop}
 use Rattle.co_plain.specs.declared.outcome.Outcome.TheVariants.{Completes, StopsAt}
-use Rattle.co_plain.specs.LogWrite.{outcome_of, with_batch, with_waiting, crashed_log, marks_of}
+use Rattle.co_plain.specs.LogWrite.{outcome_of, with_batch, crashed_log, marks_of}
 use Rattle.co_node.specs.NodeLog.{RepresentsLog, plain_stop}
 use Rattle.co_node.specs.Ended.{IsPassedOn}
 use Rattle.co_node.specs.Writes.{forcing, HasWritten}
@@ -42,36 +42,27 @@ within_four owner log l call leaves s is =
     let bound : call ≤ 4 = subst (λ (o : Option LogStop). IfSome o (λ stop. stop.call ≤ 4)) is s.bound in
     grind (arith, bound)
 
--- what a transcript is told of the waiting records and one more
-told_marks : (owner : Node) (log : LogView) (l : LogState) (item : Record) → RepresentsLog owner log l → told_of log.node (log.waiting ++ item ∷ []) ≡ marks_of owner ((item ∷ []) ++ l.waiting)
-told_marks owner log l item s =
-    let back : reverse (item ∷ l.waiting) ≡ log.waiting ++ item ∷ [] = reverse-append (item ∷ []) l.waiting ∙ ap (λ (xs : List Record). xs ++ item ∷ []) (ap reverse s.waiting ∙ reverse-reverse log.waiting) in
-    ap (λ (n : Node). told_of n (log.waiting ++ item ∷ [])) s.owned ∙ ap (told_of owner) (sym back)
+-- what a transcript is told of the waiting records and of these behind them, the oldest first
+told_marks : (owner : Node) (log : LogView) (l : LogState) (forced : List Record) → RepresentsLog owner log l → told_of log.node (log.waiting ++ forced) ≡ marks_of owner (reverse forced ++ l.waiting)
+told_marks owner log l forced s =
+    let waiting : reverse l.waiting ≡ log.waiting = ap reverse s.waiting ∙ reverse-reverse log.waiting in
+    let back : reverse (reverse forced ++ l.waiting) ≡ log.waiting ++ forced =
+    reverse-append (reverse forced) l.waiting ∙ ap (λ (xs : List Record). xs ++ reverse (reverse forced)) waiting ∙ ap (λ (xs : List Record). log.waiting ++ xs) (reverse-reverse forced) in
+    ap (λ (n : Node). told_of n (log.waiting ++ forced)) s.owned ∙ ap (told_of owner) (sym back)
 
-pub force_done : (owner : Node) (log after : LogView) (l : LogState) (item : Record) (marks : List Mark) (s : RepresentsLog owner log l) → IsForced log s.items (log.waiting ++ item ∷ []) after (Ok marks)
-    → HasWritten (forcing owner l (item ∷ [])) owner l after (Ok (written.Done marks))
-force_done owner log after l item marks s f = (unarmed owner log l 4 s f.0, f.1 ∙ told_marks owner log l item s, written_stands true owner log after l item s f.2)
+pub force_done : (owner : Node) (log after : LogView) (l : LogState) (forced : List Record) (marks : List Mark) (s : RepresentsLog owner log l) → IsForced log s.items (log.waiting ++ forced) after (Ok marks)
+    → HasWritten (forcing owner l (reverse forced)) owner l after (Ok (written.Done marks))
+force_done owner log after l forced marks s f = (unarmed owner log l 4 s f.0, f.1 ∙ told_marks owner log l forced s, written_stands true owner log after l forced s f.2)
 
-pub force_ended : (owner : Node) (log after : LogView) (l : LogState) (item : Record) (fault : LogFault) (out : Result Written NodeFault) (s : RepresentsLog owner log l) → IsForced log s.items (log.waiting ++ item ∷ []) after (Err fault) → IsPassedOn fault out → HasWritten (forcing owner l (item ∷ [])) owner l after out
-force_ended owner log after l item (Stopped call stable marks) out s f is =
+pub force_ended : (owner : Node) (log after : LogView) (l : LogState) (forced : List Record) (fault : LogFault) (out : Result Written NodeFault) (s : RepresentsLog owner log l) → IsForced log s.items (log.waiting ++ forced) after (Err fault) → IsPassedOn fault out → HasWritten (forcing owner l (reverse forced)) owner l after out
+force_ended owner log after l forced (Stopped call stable marks) out s f is =
     let leaves = f.0 in
-    let told = ap (λ (b : Bool). if b then told_of log.node (log.waiting ++ item ∷ []) else []) f.2 ∙ ap (λ (ms : List Mark). if batch_is_stable call leaves then ms else []) (told_marks owner log l item s) in
-    let stands = subst (λ (b : Bool). RepresentsLog owner after (crashed_log (if b then with_batch l (item ∷ []) else l))) f.2 (written_stands stable owner log after l item s f.4) in
-    subst (HasWritten (forcing owner l (item ∷ [])) owner l after) (sym is) (leaves, armed_at owner log l 4 call leaves s f.1 (within_four owner log l call leaves s f.1), f.3 ∙ told, stands)
-force_ended owner log after l item (Device spot) out s f is = subst (HasWritten (forcing owner l (item ∷ [])) owner l after) (sym is) tt
-force_ended owner log after l item (Full spot) out s f is = subst (HasWritten (forcing owner l (item ∷ [])) owner l after) (sym is) tt
-force_ended owner log after l item (Differs spot at kept read) out s f is = subst (HasWritten (forcing owner l (item ∷ [])) owner l after) (sym is) tt
-force_ended owner log after l item Memory out s f is = subst (HasWritten (forcing owner l (item ∷ [])) owner l after) (sym is) tt
-force_ended owner log after l item (Bad spot at) out s f is = absurd is
-force_ended owner log after l item (InUse spot) out s f is = absurd is
-
--- two records of which the first one waited
-pub both_written : (owner : Node) (l : LogState) (first item : Record) (after : LogView) (out : Result Written NodeFault) → HasWritten (forcing owner (with_waiting l first) (item ∷ [])) owner (with_waiting l first) after out
-    → HasWritten (forcing owner l (item ∷ first ∷ [])) owner l after out
-both_written owner l first item after (Ok (written.Done marks)) h = h
-both_written owner l first item after (Ok (written.Stopped call marks)) h = (h.0, h.1, h.2, stopped_same (batch_is_stable call h.0) h.3)
-  where
-    stopped_same : (b : Bool) → RepresentsLog owner after (crashed_log (if b then with_batch (with_waiting l first) (item ∷ []) else with_waiting l first)) → RepresentsLog owner after (crashed_log (if b then with_batch l (item ∷ first ∷ []) else l))
-    stopped_same true k = k
-    stopped_same false k = k
-both_written owner l first item after (Err e) h = tt
+    let told = ap (λ (b : Bool). if b then told_of log.node (log.waiting ++ forced) else []) f.2 ∙ ap (λ (ms : List Mark). if batch_is_stable call leaves then ms else []) (told_marks owner log l forced s) in
+    let stands = subst (λ (b : Bool). RepresentsLog owner after (crashed_log (if b then with_batch l (reverse forced) else l))) f.2 (written_stands stable owner log after l forced s f.4) in
+    subst (HasWritten (forcing owner l (reverse forced)) owner l after) (sym is) (leaves, armed_at owner log l 4 call leaves s f.1 (within_four owner log l call leaves s f.1), f.3 ∙ told, stands)
+force_ended owner log after l forced (Device spot) out s f is = subst (HasWritten (forcing owner l (reverse forced)) owner l after) (sym is) tt
+force_ended owner log after l forced (Full spot) out s f is = subst (HasWritten (forcing owner l (reverse forced)) owner l after) (sym is) tt
+force_ended owner log after l forced (Differs spot at kept read) out s f is = subst (HasWritten (forcing owner l (reverse forced)) owner l after) (sym is) tt
+force_ended owner log after l forced Memory out s f is = subst (HasWritten (forcing owner l (reverse forced)) owner l after) (sym is) tt
+force_ended owner log after l forced (Bad spot at) out s f is = absurd is
+force_ended owner log after l forced (InUse spot) out s f is = absurd is

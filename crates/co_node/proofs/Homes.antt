@@ -24,6 +24,7 @@ use Rattle.co_log.specs.declared.fault.NodeFault.TheVariants as node
 use Rattle.co_log.proofs.Spots.{spots_apart, current_only, spare_only}
 use Rattle.co_node.specs.Answers.{HomeView, seen, AreTold, AreWithin, LeftAs, IsServed, IsAnswered}
 use Rattle.co_node.specs.Ended.{IsPassedOn}
+use Rattle.co_node.specs.Sizes.{IsOverlong}
 use Rattle.co_node.specs.declared.written.Written.{Written}
 
 same_file : {a b : File} {o : Option File} → o ≡ Some a → o ≡ Some b → b.bytes ≡ a.bytes
@@ -126,6 +127,7 @@ pub record Wrote {H T : Type 0} (file : H → Spot → Option File) (reach : H �
   pub held : IsDone result → IsHeld (file new) (reach new) after
   pub clean : IsDone result → IsClean (file new at)
   pub full : IsErrOf result (Full at) → long
+  pub overlong : long → IsOverlong that
   pub too_long : long → IsErrOf result (Full at) ⊎ IsErrOf result Memory
   pub untouched : long → new ≡ old
   pub broken : IsErrOf result (Device at) → LeftAs (file new) log.node this that
@@ -178,7 +180,7 @@ module _ {H : Type 0} (file : H → Spot → Option File) (reach : H → Spot �
       none (inr e) = absurd cc
   fault_answered T (Full spot) out of w is =
       let l = w.full (ap (λ (s : Spot). Err (Full s)) of) in
-      subst (IsAnswered log.node at long this that after (seen file reach faults last_failed old) (seen file reach faults last_failed new)) (sym is) (record { spot = of; long = l; untouched = ap (seen file reach faults last_failed) (w.untouched l) })
+      subst (IsAnswered log.node at long this that after (seen file reach faults last_failed old) (seen file reach faults last_failed new)) (sym is) (record { spot = of; long = l; overlong = w.overlong l; untouched = ap (seen file reach faults last_failed) (w.untouched l) })
   fault_answered T Memory out of w is =
       subst (IsAnswered log.node at long this that after (seen file reach faults last_failed old) (seen file reach faults last_failed new)) (sym is) (record { left = w.wanting refl; quiet = w.quiet (λ e. absurd cc) })
   fault_answered T (Bad spot place) out of w is = absurd of

@@ -1,7 +1,7 @@
 -- After each log write the log of a node stands for what the write leaves of the plain log.
 use Rattle.std.proofs.Common.{◌≡◌, ℕ, ◌+◌, ◌<◌, Bool, true, false, List, [], ◌∷◌, ◌++◌, sym, ap, subst, ◌∙◌, arith}
 use Rattle.std.specs.Prelude.{reverse, length, slice_get, ◌≤◌, Option, Some, None, option_map, IfSome, if◌then◌else◌}
-use Rattle.std.proofs.lemmas.List.{reverse-append, reverse-reverse}
+use Rattle.std.proofs.lemmas.List.{append_assoc, reverse-append, reverse-reverse}
 use Rattle.co_base.specs.declared.node.Node.{Node}
 use Rattle.co_disk.specs.DiskView.{DiskView}
 use Rattle.co_record.specs.declared.record.Record.{Record}
@@ -27,38 +27,39 @@ use Rattle.co_node.specs.Writes.{filled_with}
 pub none_armed : {o : Option LogStop} → o ≡ None → IfSome o (λ stop. stop.call ≤ 4)
 none_armed is = subst (λ (o : Option LogStop). IfSome o (λ stop. stop.call ≤ 4)) (sym is) tt
 
--- the forced record is the newest, then come the waiting ones, then those before
-onto : (old waiting : List Record) (item : Record) → reverse (old ++ (waiting ++ item ∷ [])) ≡ item ∷ (reverse waiting ++ reverse old)
-onto old waiting item = reverse-append old (waiting ++ item ∷ []) ∙ ap (λ (xs : List Record). xs ++ reverse old) (reverse-append waiting (item ∷ []))
+-- the forced records are the newest, then come the waiting ones, then those before
+onto : (old waiting forced : List Record) → reverse (old ++ (waiting ++ forced)) ≡ reverse forced ++ (reverse waiting ++ reverse old)
+onto old waiting forced =
+    reverse-append old (waiting ++ forced) ∙ ap (λ (xs : List Record). xs ++ reverse old) (reverse-append waiting forced) ∙ append_assoc (reverse forced) (reverse waiting) (reverse old)
 
--- the records, newest first, after a write that added the waiting ones and one more
-pub next_newest : (owner : Node) (log : LogView) (l : LogState) (item : Record) (s : RepresentsLog owner log l) → newest_first (next_items true log.gate s.items (log.waiting ++ item ∷ [])) ≡ (with_batch l (item ∷ [])).stable
-next_newest owner log l item s =
-    let all = ap reverse (next_records true log.gate s.items (log.waiting ++ item ∷ [])) ∙ onto (records_of s.items) log.waiting item in
-    all ∙ ap (λ (xs : List Record). item ∷ (xs ++ newest_first s.items)) (sym s.waiting) ∙ ap (λ (xs : List Record). item ∷ (l.waiting ++ xs)) (sym s.stable)
+-- the records, newest first, after a write that added the waiting ones and these behind them, the oldest first
+pub next_newest : (owner : Node) (log : LogView) (l : LogState) (forced : List Record) (s : RepresentsLog owner log l) → newest_first (next_items true log.gate s.items (log.waiting ++ forced)) ≡ (with_batch l (reverse forced)).stable
+next_newest owner log l forced s =
+    let all = ap reverse (next_records true log.gate s.items (log.waiting ++ forced)) ∙ onto (records_of s.items) log.waiting forced in
+    all ∙ ap (λ (xs : List Record). reverse forced ++ (xs ++ newest_first s.items)) (sym s.waiting) ∙ ap (λ (xs : List Record). reverse forced ++ (l.waiting ++ xs)) (sym s.stable)
 
--- a log write that added the waiting records and one more, or did not and took the waiting ones away
-pub written_stands : (stable : Bool) (owner : Node) (log after : LogView) (l : LogState) (item : Record) (s : RepresentsLog owner log l)
-    → IsWritten stable log s.items (log.waiting ++ item ∷ []) after → RepresentsLog owner after (crashed_log (if stable then with_batch l (item ∷ []) else l))
-written_stands true owner log after l item s w =
-    let more = log.waiting ++ item ∷ [] in
+-- a log write that added the waiting records and these behind them, or did not and took the waiting ones away
+pub written_stands : (stable : Bool) (owner : Node) (log after : LogView) (l : LogState) (forced : List Record) (s : RepresentsLog owner log l)
+    → IsWritten stable log s.items (log.waiting ++ forced) after → RepresentsLog owner after (crashed_log (if stable then with_batch l (reverse forced) else l))
+written_stands true owner log after l forced s w =
+    let more = log.waiting ++ forced in
     record {
       owned = w.node ∙ s.owned;
       latest = w.version ∙ s.latest;
       items = next_items true log.gate s.items more;
       ordered = written_ordered true log after s.items more s.ordered w;
-      stable = sym (next_newest owner log l item s);
+      stable = sym (next_newest owner log l forced s);
       waiting = ap reverse (sym w.waiting);
       armed = ap (option_map plain_stop) (sym w.disarmed);
       bound = none_armed w.disarmed;
       spare = s.spare ∙ ap (λ (d : DiskView). begins_closed d.state.stable) (sym w.spare);
     }
-written_stands false owner log after l item s w =
+written_stands false owner log after l forced s w =
     record {
       owned = w.node ∙ s.owned;
       latest = w.version ∙ s.latest;
       items = s.items;
-      ordered = written_ordered false log after s.items (log.waiting ++ item ∷ []) s.ordered w;
+      ordered = written_ordered false log after s.items (log.waiting ++ forced) s.ordered w;
       stable = s.stable;
       waiting = ap reverse (sym w.waiting);
       armed = ap (option_map plain_stop) (sym w.disarmed);
@@ -104,7 +105,7 @@ generation_is owner log l s =
     let whole = ap (λ (xs : List Record). generation_in (slice_get xs 0)) (reverse-reverse (records_of s.items)) in
     back ∙ whole ∙ first_generation log.node log.generation s.items s.ordered.header
 
-generation_within : (owner : Node) (version generation gate : ℕ) (batches : List (List ℕ)) (items : Items) → BeginsWith owner generation items → HoldRecords version gate batches items → generation < 4294967296
+pub generation_within : (owner : Node) (version generation gate : ℕ) (batches : List (List ℕ)) (items : Items) → BeginsWith owner generation items → HoldRecords version gate batches items → generation < 4294967296
 generation_within owner version generation gate batches [] begins holds = absurd begins
 generation_within owner version generation gate batches (x ∷ items) begins holds = (subst (λ (y : ℕ × Record). IsSpelledIn version y.1) begins (first_spelled version gate batches x items holds)).1
 

@@ -12,6 +12,7 @@ use Rattle.co_log.specs.LogView.{LogView, IsHeld, spot_of}
 use Rattle.co_log.specs.NodeFiles.{Items, newest_first, HasRecordsIn}
 use Rattle.co_log.specs.declared.fault.NodeFault.{NodeFault}
 use Rattle.co_log.specs.declared.fault.NodeFault.TheVariants.{Device, Differs, Full, Memory}
+use Rattle.co_node.specs.Sizes.{IsOverlong}
 use Rattle.co_node.specs.declared.written.Written.{Written}
 
 -- What contracts see of a directory: its files where it tells them, how far each reaches, how often it has failed, and
@@ -57,10 +58,11 @@ pub record IsFailed (node : Node) (at named : Spot) (this that : List Record) (o
   pub last : new.last_failed ≡ named
   pub left : LeftAs new.file node this that
 
--- The file would be too long, and nothing changed.
-pub record IsRefused (at named : Spot) (cause : Type 0) (old new : HomeView) : Type 0 where
+-- The file would be too long, also by the records that the completed write would leave, and nothing changed.
+pub record IsRefused (at named : Spot) (cause : Type 0) (that : List Record) (old new : HomeView) : Type 0 where
   pub spot : named ≡ at
   pub long : cause
+  pub overlong : IsOverlong that
   pub untouched : new ≡ old
 
 -- There was no memory; the files have the old records, and no fault was met.
@@ -74,5 +76,5 @@ abbrev pub IsAnswered : Node → Spot → Type 0 → List Record → List Record
 IsAnswered node at long this that log old new (Ok written) = (long → ⊥) × IsServed node log old new
 IsAnswered node at long this that log old new (Err (Device spot)) = (long → ⊥) × IsFailed node at spot this that old new
 IsAnswered node at long this that log old new (Err (Differs spot place kept read)) = ⊥
-IsAnswered node at long this that log old new (Err (Full spot)) = IsRefused at spot long old new
+IsAnswered node at long this that log old new (Err (Full spot)) = IsRefused at spot long that old new
 IsAnswered node at long this that log old new (Err Memory) = IsWanting node this old new

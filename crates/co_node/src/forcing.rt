@@ -1,19 +1,21 @@
 //! Records that are forced.
-ghost use Rattle.std.specs.Prelude.{◌≡◌, ◌++◌, ◌∷◌, []};
+ghost use Rattle.std.specs.Prelude.{◌≡◌, ◌++◌, ◌∷◌, [], List, reverse};
 ghost use Rattle.co_base.specs.declared.node.Node.{Node};
 ghost use Rattle.co_record.specs.Spelling.{IsWritable};
+ghost use Rattle.co_record.specs.declared.record.Record.{Record};
 ghost use Rattle.co_log.specs.Appending.{IsTooLong};
-ghost use Rattle.co_log.specs.LogView.{IsForcible, IsHeld, MayWait};
+ghost use Rattle.co_log.specs.Batches.{IsBatchOf};
+ghost use Rattle.co_log.specs.LogView.{IsForcible, IsHeld};
 ghost use Rattle.co_log.specs.Others.{OtherNodesStay};
 ghost use Rattle.co_plain.specs.LogWrite.{with_batch};
 ghost use Rattle.co_plain.specs.declared.log_state.LogState.{LogState};
 ghost use Rattle.co_node.specs.Answers.{seen, IsAnswered};
+ghost use Rattle.co_node.specs.Batches.{AreSpelledOut};
 ghost use Rattle.co_node.specs.NodeLog.{RepresentsLog};
 ghost use Rattle.co_node.specs.Writes.{forcing, HasWritten};
 
-use crate::going::keep_waiting;
 use crate::written::{Written, stopped};
-use co_log::{Log, NodeFault};
+use co_log::{Log, LogFault, NodeFault, SpelledBatch};
 use co_outside::Home;
 use co_record::{LentPrepare, Record};
 
@@ -59,27 +61,53 @@ pub fn force_prepare<H: Home>(
     }
 }
 
-/// Forces two records, and the waiting ones in front of them, in one log write: the first one is a prepare, an abort or an end.
+/// Spells out the waiting records, then a prepare record whose sets are lent, and then this one, for one log write of all of them. Nothing
+/// changes, and nothing of the sets is kept but what is spelled.
 ///
-/// As `force`; where there is no memory for the first record nothing changed.
-pub fn force_both<H: Home>(
+/// `Full` comes where the file would have more than 268,435,456 bytes, and `Memory` where there was none.
+pub fn spell_both(
+    log: &Log,
+    prepare: LentPrepare<'_>,
+    item: Record,
+) -> Result<SpelledBatch, NodeFault>
+    requires prepare { IsWritable prepare }
+    requires item { IsWritable item }
+    ensures { AreSpelledOut log.now (prepare.entry ∷ item ∷ []) result }
+{
+    match log.spell_both(prepare, item) {
+        Ok(batch) => Ok(batch),
+        Err(LogFault::Full { spot }) => Err(NodeFault::Full { spot }),
+        Err(LogFault::Memory) => Err(NodeFault::Memory),
+        Err(
+            LogFault::Device { .. }
+            | LogFault::Stopped { .. }
+            | LogFault::Bad { .. }
+            | LogFault::Differs { .. }
+            | LogFault::InUse { .. },
+        ) => unreachable!(),
+    }
+}
+
+/// Forces the records that were spelled out for the log as it stands, in one log write.
+///
+/// It is done, or stopped in the armed device call, as in `force`. `Device` comes where the directory failed, and only there; `Memory` leaves
+/// the old records; no other fault comes.
+pub fn force_batch<H: Home>(
     log: &mut Log,
     home: &mut H,
-    first: Record,
-    item: Record,
+    batch: SpelledBatch,
 ) -> Result<Written, NodeFault>
     requires held { IsHeld (H.file home.old) (H.reach home.old) log.old }
     requires stands { (owner : Node) × (l : LogState) × RepresentsLog owner log.old l }
-    requires first { IsWritable first × MayWait first }
-    requires item { IsWritable item × IsForcible item }
-    ensures written { (owner : Node) (l : LogState) → RepresentsLog owner log.old l → HasWritten (forcing owner l (item ∷ first ∷ [])) owner l log.new result }
-    ensures answered { (owner : Node) (l : LogState) → RepresentsLog owner log.old l →
-        IsAnswered owner log.old.current.spot (IsTooLong log.old.gate (log.old.waiting ++ first ∷ item ∷ [])) l.stable (with_batch l (item ∷ first ∷ [])).stable log.new
+    requires batch { (more : List Record) × IsBatchOf log.old more batch }
+    ensures written { (owner : Node) (l : LogState) (more : List Record) → RepresentsLog owner log.old l → IsBatchOf log.old more batch → HasWritten (forcing owner l (reverse more)) owner l log.new result }
+    ensures answered { (owner : Node) (l : LogState) (more : List Record) → RepresentsLog owner log.old l → IsBatchOf log.old more batch →
+        IsAnswered owner log.old.current.spot (IsTooLong log.old.gate (log.old.waiting ++ more)) l.stable (with_batch l (reverse more)).stable log.new
         (seen H.file H.reach H.faults H.last_failed home.old) (seen H.file H.reach H.faults H.last_failed home.new) result }
     ensures rest { OtherNodesStay H.file H.reach H.entered H.faults log.old.node home.old home.new }
 {
-    // What is read of either file is within its bounds, also where there is no memory.
-    let _ = log.lengths();
-    keep_waiting(log, first)?;
-    force(log, home, item)
+    match log.force_batch(home, batch) {
+        Ok(marks) => Ok(Written::Done { marks }),
+        Err(fault) => stopped(fault),
+    }
 }

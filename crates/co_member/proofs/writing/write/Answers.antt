@@ -33,12 +33,3 @@ returns-in-Forces-clause-answered g c = λ owner l s.
     let old = seen g.H.Home.file g.H.Home.reach g.H.Home.faults g.H.Home.last_failed c.args.home.now in
     let new = seen g.H.Home.file g.H.Home.reach g.H.Home.faults g.H.Home.last_failed c.force.new.home in
     subst (λ (w : Writes). IsAnsweredFor w owner l c.args.log.now c.force.new.log old new c.force.result) (sym c.in-Forces.is) (c.force.ensures.answered owner l s)
-
-pub returns-in-ForcesBoth-clause-written : goal.returns-in-ForcesBoth-clause-written
-returns-in-ForcesBoth-clause-written g c = λ owner l s. subst (λ (w : Writes). HasWrittenFor w owner l c.force_both.new.log c.force_both.result) (sym c.in-ForcesBoth.is) (c.force_both.ensures.written owner l s)
-
-pub returns-in-ForcesBoth-clause-answered : goal.returns-in-ForcesBoth-clause-answered
-returns-in-ForcesBoth-clause-answered g c = λ owner l s.
-    let old = seen g.H.Home.file g.H.Home.reach g.H.Home.faults g.H.Home.last_failed c.args.home.now in
-    let new = seen g.H.Home.file g.H.Home.reach g.H.Home.faults g.H.Home.last_failed c.force_both.new.home in
-    subst (λ (w : Writes). IsAnsweredFor w owner l c.args.log.now c.force_both.new.log old new c.force_both.result) (sym c.in-ForcesBoth.is) (c.force_both.ensures.answered owner l s)

@@ -1,4 +1,4 @@
-use Rattle.std.proofs.Common.{◌++◌, ◌∷◌, [], sym, refl, subst, inl, inr, true}
+use Rattle.std.proofs.Common.{◌++◌, ◌∷◌, [], sym, refl, subst, inl, inr, true, arith}
 use Rattle.std.specs.Prelude.{Err}
 use Rattle.co_base.specs.declared.node.Node.{Node}
 use Rattle.co_log.specs.Appending.{IsTooLong}
@@ -7,23 +7,24 @@ use Rattle.co_plain.specs.LogWrite.{with_batch}
 use Rattle.co_node.specs.Answers.{seen, IsAnswered}
 use Rattle.co_node.proofs.Ended.{force_done, force_ended}
 use Rattle.co_node.proofs.Homes.{Wrote, fault_answered, forced_left, forced_wants, old_records, told_of}
+use Rattle.co_node.proofs.Sizes.{forced_is_overlong}
 use Rattle.co_node.proofs.Standing.{next_newest}
 use Rattle.co_node.proofs.forcing.force.Goals as goal
 
 pub returns-in-Ok-clause-written : goal.returns-in-Ok-clause-written
 returns-in-Ok-clause-written g c = λ owner l s.
-    force_done owner c.args.log.now c.force.new.self l c.args.item c.in-Ok.marks s (c.in-Ok.ensures.forced s.items s.ordered.live)
+    force_done owner c.args.log.now c.force.new.self l (c.args.item ∷ []) c.in-Ok.marks s (c.in-Ok.ensures.forced s.items s.ordered.live)
 
 pub returns-in-Err-clause-written : goal.returns-in-Err-clause-written
 returns-in-Err-clause-written g c = λ owner l s.
-    force_ended owner c.args.log.now c.force.new.self l c.args.item c.in-Err.fault c.stopped.result s (c.in-Err.ensures.forced s.items s.ordered.live) c.stopped.ensures
+    force_ended owner c.args.log.now c.force.new.self l (c.args.item ∷ []) c.in-Err.fault c.stopped.result s (c.in-Err.ensures.forced s.items s.ordered.live) c.stopped.ensures
 
 pub returns-in-Err-clause-answered : goal.returns-in-Err-clause-answered
 returns-in-Err-clause-answered g c = λ owner l s.
     let log = c.args.log.now in
     let file = g.H.Home.file c.force.new.home in
     let more = log.waiting ++ c.args.item ∷ [] in
-    let both = next_newest owner log l c.args.item s in
+    let both = next_newest owner log l (c.args.item ∷ []) s in
     let wrote : Wrote g.H.Home.file g.H.Home.reach g.H.Home.entered g.H.Home.faults g.H.Home.last_failed log c.force.new.self log.current.spot (IsTooLong log.gate more) l.stable (with_batch l (c.args.item ∷ [])).stable c.args.home.now c.force.new.home (Err c.in-Err.fault) =
     record {
       spots = c.requires.held.spots;
@@ -31,6 +32,7 @@ returns-in-Err-clause-answered g c = λ owner l s.
       held = c.in-Err.ensures.held;
       clean = c.in-Err.ensures.clean;
       full = c.in-Err.ensures.full;
+      overlong = forced_is_overlong owner log l (c.args.item ∷ []) s (omega arith);
       too_long = c.in-Err.ensures.too_long;
       untouched = λ long. (c.in-Err.ensures.untouched long).1;
       broken = λ is told.

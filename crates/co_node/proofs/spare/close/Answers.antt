@@ -27,6 +27,7 @@ returns-in-Err-clause-answered g c = λ owner l s.
       held = c.in-Err.ensures.held;
       clean = c.in-Err.ensures.clean;
       full = never_full log.spare.spot c.in-Err.fault c.in-Err.ensures.faults;
+      overlong = λ long. absurd long;
       too_long = λ long. absurd long;
       untouched = λ long. absurd long;
       broken = λ is told. left told;

@@ -9,6 +9,7 @@ use Rattle.co_node.specs.Answers.{seen, IsAnswered}
 use Rattle.co_node.specs.Writes.{filled_with}
 use Rattle.co_node.proofs.Homes.{Wrote, fault_answered, filled_left, filled_wants, memory_answered, new_records, not_done, not_failed, not_stopped, old_records, told_of}
 use Rattle.co_node.proofs.Opened.{left_before}
+use Rattle.co_node.proofs.Sizes.{filled_is_overlong}
 use Rattle.co_node.proofs.Spares.{fill_done, fill_ended}
 use Rattle.co_node.proofs.Standing.{filled_newest, next_is}
 use Rattle.co_node.proofs.spare.fill.Goals as goal
@@ -50,6 +51,7 @@ returns-in-Err-clause-answered g c = λ owner l s.
       held = c.in-Err.ensures.held;
       clean = c.in-Err.ensures.clean;
       full = c.in-Err.ensures.full;
+      overlong = filled_is_overlong owner log l items s;
       too_long = c.in-Err.ensures.overfull;
       untouched = λ long. (c.in-Err.ensures.untouched long).1;
       broken = λ is told.

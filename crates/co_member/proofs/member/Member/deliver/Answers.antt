@@ -13,7 +13,7 @@ use Rattle.co_member.specs.declared.plan.Plan.{Plan}
 use Rattle.co_member.proofs.Carrying.{planned}
 use Rattle.co_member.proofs.Directories.{wants_memory}
 use Rattle.co_member.proofs.Steps.{deliver_is}
-use Rattle.co_member.proofs.Writable.{castable_for, deliver_marked, deliver_may, deliver_suits, marked_log}
+use Rattle.co_member.proofs.Writable.{castable_for, course_single, deliver_marked, deliver_may, deliver_single, deliver_suits, marked_log}
 use Rattle.co_member.proofs.member.Member.deliver.Goals as goal
 
 pub returns-in_err-course-clause-answered : goal.returns-in_err-course-clause-answered
@@ -44,6 +44,15 @@ follow-requires-clause-stands g c =
     let suits = subst (λ (p : Plan). Suits y (txn_of m) p.change) (sym made) (deliver_suits k y m (castable_for y m c.requires.about)) in
     let may = subst (λ (p : Plan). MayWrite p.writes) (sym is) (deliver_may n x m c.requires.stands.2) in
     subst (λ (t : ℕ). (z : MemberState) × RepresentsMember g.E.Engine.stands_for c.take_note.new.self z × Suits z t (plan_of course k z t).change × MayWrite (plan_of course k z t).writes) (sym c.txn_of.ensures) (y, here, suits, may)
+
+pub follow-requires-clause-single : goal.follow-requires-clause-single
+follow-requires-clause-single g c =
+    let m = c.args.message.now in
+    let k = c.take_note.new.self.number in
+    let y = marked c.requires.stands.0 m in
+    let here = c.take_note.ensures.did c.requires.stands.0 c.requires.stands.1 in
+    let made = c.in_ok-course.ensures c.take_note.new.self.kind y (here.running c.running.result.now c.running.ensures) in
+    course_single c.in_ok-course.course k (txn_of m) y (deliver_plan k y m) made (deliver_single k y m)
 
 pub returns-clause-did : goal.returns-clause-did
 returns-clause-did g c = λ x r.

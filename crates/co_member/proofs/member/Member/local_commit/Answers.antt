@@ -2,7 +2,7 @@ use Rattle.std.proofs.Common.{sym, subst}
 use Rattle.co_base.specs.declared.node.Node.TheVariants as node
 use Rattle.co_node.specs.Answers.{seen}
 use Rattle.co_plain.specs.LocalCommit.{member_local_commit}
-use Rattle.co_member.specs.Plans.{local_commit_plan}
+use Rattle.co_member.specs.Plans.{local_commit_plan, plan_of}
 use Rattle.co_member.specs.Standing.{Suits, written_by}
 use Rattle.co_member.specs.Writing.{MayWrite, IsAnsweredFor}
 use Rattle.co_member.specs.declared.plan.Plan.{Plan}
@@ -13,20 +13,23 @@ use Rattle.co_member.proofs.Steps.{local_commit_is}
 use Rattle.co_member.proofs.Writable.{local_commit_may, local_commit_suits}
 use Rattle.co_member.proofs.member.Member.local_commit.Goals as goal
 
-pub returns-in_err-plan-clause-answered : goal.returns-in_err-plan-clause-answered
-returns-in_err-plan-clause-answered g c = λ x r.
+pub returns-in_err-course-clause-answered : goal.returns-in_err-course-clause-answered
+returns-in_err-course-clause-answered g c = λ x r.
     let m = c.args.self.now in
     wants_memory (node.Member m.number) (local_commit_plan x c.args.t c.args.carried).writes x.log m.log (seen g.H.Home.file g.H.Home.reach g.H.Home.faults g.H.Home.last_failed c.args.home.now) c.from_residual.result
     c.from_residual.ensures r.log c.requires.held c.lengths.ensures.within
 
-pub carry_out-requires-clause-stands : goal.carry_out-requires-clause-stands
-carry_out-requires-clause-stands g c = (c.requires.stands.0, c.requires.stands.1)
-
-pub carry_out-requires-clause-writes : goal.carry_out-requires-clause-writes
-carry_out-requires-clause-writes g c =
+pub follow-requires-clause-stands : goal.follow-requires-clause-stands
+follow-requires-clause-stands g c =
+    let m = c.args.self.now in
+    let t = c.args.t in
     let x = c.requires.stands.0 in
-    let made = c.in_ok-plan.ensures c.args.self.now.kind x (c.requires.stands.1.running c.running.result.now c.running.ensures) c.requires.stands.2 in
-    subst (λ (p : Plan). MayWrite p.writes) (sym made) (local_commit_may x c.args.t c.args.carried c.requires.stands.3)
+    let made = c.in_ok-course.ensures.plan m.kind m.number x (c.requires.stands.1.running c.running.result.now c.running.ensures) c.requires.stands.2 in (
+      x,
+      c.requires.stands.1,
+      subst (λ (p : Plan). Suits x t p.change) (sym made) (local_commit_suits x t c.args.carried),
+      subst (λ (p : Plan). MayWrite p.writes) (sym made) (local_commit_may x t c.args.carried c.requires.stands.3),
+    )
 
 pub returns-clause-did : goal.returns-clause-did
 returns-clause-did g c = λ x r.
@@ -35,17 +38,19 @@ returns-clause-did g c = λ x r.
     let running = r.running c.running.result.now c.running.ensures in
     let first = c.requires.stands.1.running c.running.result.now c.running.ensures in
     let unvoted = unvoted_alike g.E.Engine.stands_for c.running.result.now.undecided c.requires.stands.0.engine x.engine c.requires.stands.0.asked x.asked t first.undecided running.undecided c.requires.stands.2 in
-    let made = c.in_ok-plan.ensures m.kind x running unvoted in
+    let made = c.in_ok-course.ensures.plan m.kind m.number x running unvoted in
     let suits = subst (λ (p : Plan). Suits x t p.change) (sym made) (local_commit_suits x t c.args.carried) in
-    planned g.E.Engine.stands_for (member_local_commit m.number x t c.args.carried) m.number t x (local_commit_plan x t c.args.carried) c.in_ok-plan.plan c.carry_out.result c.carry_out.new.self (local_commit_is m.number t c.args.carried x) made
-    (c.carry_out.ensures.did x r suits)
+    planned g.E.Engine.stands_for (member_local_commit m.number x t c.args.carried) m.number t x (local_commit_plan x t c.args.carried) (plan_of c.in_ok-course.course m.number x t) c.follow.result c.follow.new.self (local_commit_is m.number t c.args.carried x) made
+    (c.follow.ensures.did x r suits)
 
 pub returns-clause-answered : goal.returns-clause-answered
 returns-clause-answered g c = λ x r.
     let m = c.args.self.now in
+    let t = c.args.t in
     let running = r.running c.running.result.now c.running.ensures in
     let first = c.requires.stands.1.running c.running.result.now c.running.ensures in
-    let unvoted = unvoted_alike g.E.Engine.stands_for c.running.result.now.undecided c.requires.stands.0.engine x.engine c.requires.stands.0.asked x.asked c.args.t first.undecided running.undecided c.requires.stands.2 in
-    let made = c.in_ok-plan.ensures m.kind x running unvoted in
-    subst (λ (p : Plan). IsAnsweredFor p.writes (node.Member m.number) x.log m.log c.carry_out.new.self.log (seen g.H.Home.file g.H.Home.reach g.H.Home.faults g.H.Home.last_failed c.args.home.now)
-    (seen g.H.Home.file g.H.Home.reach g.H.Home.faults g.H.Home.last_failed c.carry_out.new.home) (written_by c.carry_out.result)) made (c.carry_out.ensures.answered x r)
+    let unvoted = unvoted_alike g.E.Engine.stands_for c.running.result.now.undecided c.requires.stands.0.engine x.engine c.requires.stands.0.asked x.asked t first.undecided running.undecided c.requires.stands.2 in
+    let made = c.in_ok-course.ensures.plan m.kind m.number x running unvoted in
+    let suits = subst (λ (p : Plan). Suits x t p.change) (sym made) (local_commit_suits x t c.args.carried) in
+    subst (λ (p : Plan). IsAnsweredFor p.writes (node.Member m.number) x.log m.log c.follow.new.self.log (seen g.H.Home.file g.H.Home.reach g.H.Home.faults g.H.Home.last_failed c.args.home.now)
+    (seen g.H.Home.file g.H.Home.reach g.H.Home.faults g.H.Home.last_failed c.follow.new.home) (written_by c.follow.result)) made (c.follow.ensures.answered x r suits)

@@ -10,7 +10,7 @@ use Rattle.co_member.specs.declared.plan.Plan.{Plan}
 use Rattle.co_member.proofs.Carrying.{planned}
 use Rattle.co_member.proofs.Directories.{wants_memory}
 use Rattle.co_member.proofs.Steps.{vote_is}
-use Rattle.co_member.proofs.Writable.{again_may, again_suits}
+use Rattle.co_member.proofs.Writable.{again_may, again_single, again_suits, course_single}
 use Rattle.co_member.proofs.member.Member.vote.Goals as goal
 
 pub returns-in_err-course-clause-answered : goal.returns-in_err-course-clause-answered
@@ -30,6 +30,14 @@ follow-requires-clause-stands g c =
       subst (λ (p : Plan). Suits x t p.change) (sym made) (again_suits m.number t x (standing_of x t) refl),
       subst (λ (p : Plan). MayWrite p.writes) (sym made) (again_may m.number t x (standing_of x t) c.requires.stands.2),
     )
+
+pub follow-requires-clause-single : goal.follow-requires-clause-single
+follow-requires-clause-single g c =
+    let m = c.args.self.now in
+    let t = c.args.t in
+    let x = c.requires.stands.0 in
+    let made = c.in_ok-course.ensures m.kind x (c.requires.stands.1.running c.running.result.now c.running.ensures) in
+    course_single c.in_ok-course.course m.number t x (again_plan m.number x t (standing_of x t)) made (again_single m.number t x (standing_of x t))
 
 pub returns-clause-did : goal.returns-clause-did
 returns-clause-did g c = λ x r.

@@ -1,0 +1,58 @@
+-- Records that are spelled out for a log as one batch, and what the log write of a batch leaves.
+use Rattle.std.specs.Prelude.{ℕ, ◌≡◌, ◌+◌, ◌≤◌, ◌<◌, ◌⊎◌, List, ◌++◌, length, Option, Some, Result, Ok, Err, IfErr, IsErrOf}
+use Rattle.std.specs.List.{AllByRecursion}
+use Rattle.co_base.specs.declared.mark.Mark.{Mark}
+use Rattle.co_outside.specs.Home.{File}
+use Rattle.co_outside.specs.declared.spot.Spot.{Spot}
+use Rattle.co_disk.specs.Homes.{IsClean, RestStays, HasFailed}
+use Rattle.co_record.specs.declared.record.Record.{Record}
+use Rattle.co_record.specs.Spelling.{IsSpelled}
+use Rattle.co_log.specs.declared.batch.SpelledBatch.{SpelledBatch}
+use Rattle.co_log.specs.declared.fault.LogFault.{LogFault}
+use Rattle.co_log.specs.declared.fault.LogFault.TheVariants.{Device, Stopped, Bad, Differs, Full, InUse, Memory}
+use Rattle.co_log.specs.Appending.{IsTooLong}
+use Rattle.co_log.specs.BatchWrite.{closed_batch}
+use Rattle.co_log.specs.Current.{IsOrdered, IsCurrentForced}
+use Rattle.co_log.specs.Forcing.{IsForced, IsDone, IsOfForce}
+use Rattle.co_log.specs.LogFile.{spelled, EndsAt, OldOrBoth}
+use Rattle.co_log.specs.LogView.{LogView, IsLive, IsHeld}
+use Rattle.co_log.specs.Marks.{marks_of}
+use Rattle.co_log.specs.Others.{BothWithin}
+
+-- These bytes are the batch of these records, with a closed gate behind it, and a file whose gate stands at this place is not too long with them.
+pub record IsBatchAt (gate : ℕ) (items : List Record) (bytes : List ℕ) : Type 0 where
+  pub some : 0 < length items
+  pub text : bytes ≡ closed_batch items
+  pub each : AllByRecursion IsSpelled items
+  pub short : gate + 6 + length (spelled items) ≤ 268435456
+
+-- a batch of the waiting records of a log and of these behind them, with the marks of all of them
+pub record IsBatchOf (log : LogView) (more : List Record) (made : SpelledBatch) : Type 0 where
+  pub batch : IsBatchAt log.gate (log.waiting ++ more) made.bytes.items
+  pub told : made.told ≡ marks_of log.node (log.waiting ++ more)
+
+-- How these records are spelled out for a log, by the answer: they are, or its file would be too long, or there was no memory.
+abbrev pub AreSpelledFor : LogView → List Record → Result SpelledBatch LogFault → Type 0
+AreSpelledFor log more (Ok batch) = IsBatchOf log more batch
+AreSpelledFor log more (Err (Device spot)) = ⊥
+AreSpelledFor log more (Err (Stopped call stable marks)) = ⊥
+AreSpelledFor log more (Err (Bad spot at)) = ⊥
+AreSpelledFor log more (Err (Differs spot at kept read)) = ⊥
+AreSpelledFor log more (Err (Full spot)) = (spot ≡ log.current.spot) × IsTooLong log.gate (log.waiting ++ more)
+AreSpelledFor log more (Err (InUse spot)) = ⊥
+AreSpelledFor log more (Err Memory) = Unit {0}
+
+-- What the log write of the waiting records and of these behind them leaves of the log and of the home, by the answer. It is never refused.
+pub record HasForced {H : Type 0} (file : H → Spot → Option File) (reach : H → Spot → ℕ) (entered : H → Option (List ℕ)) (faults : H → ℕ) (last_failed : H → Spot) (log after : LogView) (more : List Record) (old new : H) (result : Result (List Mark) LogFault) : Type 0 where
+  pub forced : (items : List (ℕ × Record)) → IsLive log items → IsForced log items (log.waiting ++ more) after result
+  pub held : IsDone result → IsHeld (file new) (reach new) after
+  pub clean : IsDone result → IsClean (file new log.current.spot)
+  pub full : IsErrOf result (Full log.current.spot) → ⊥
+  pub told : (items : List (ℕ × Record)) → IsLive log items → (f : File) → file new log.current.spot ≡ Some f → IsDone result ⊎ OldOrBoth f.bytes log.gate items (log.waiting ++ more)
+  pub memory : (items : List (ℕ × Record)) → IsLive log items → IsErrOf result Memory → (f : File) → file new log.current.spot ≡ Some f → EndsAt f.bytes log.gate items
+  pub current : (items : List (ℕ × Record)) → IsOrdered log items → (c s : File) → file new log.current.spot ≡ Some c → file new log.spare.spot ≡ Some s → IsCurrentForced log items (log.waiting ++ more) c.bytes s.bytes result
+  pub short : BothWithin (file new) log
+  pub of : IfErr result (IsOfForce log.current.spot)
+  pub rest : RestStays file reach entered faults log.current.spot old new
+  pub device : IsErrOf result (Device log.current.spot) → HasFailed faults last_failed log.current.spot old new
+  pub quiet : (IsErrOf result (Device log.current.spot) → ⊥) → faults new ≡ faults old
