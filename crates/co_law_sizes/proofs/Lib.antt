@@ -1,0 +1,12 @@
+pub mod Weights
+pub mod Bytes
+pub mod Dumps
+pub mod Records
+pub mod LightMembers
+pub mod MemberSpares
+pub mod MemberEvents
+pub mod LightCoords
+pub mod CoordEvents
+pub mod ToldSessions
+pub mod Steps
+pub mod Runs
