@@ -6,7 +6,7 @@ use Rattle.co_durable.specs.declared.fault.WorldFault.{WorldFault}
 use Rattle.co_durable.specs.declared.fault.WorldFault.TheVariants as world
 use Rattle.co_node.specs.Answers.{HomeView}
 use Rattle.co_opening.specs.Nodes.{AreKept}
-use Rattle.co_world.specs.Served.{AreServed, HasEndedAs}
+use Rattle.co_world.specs.Served.{AreServed, HasEndedAs, IsOfNoFile}
 use Rattle.co_world.specs.declared.world.World.{World}
 
 module _ {A : Type 0} where
@@ -48,3 +48,19 @@ module _ {A : Type 0} where
   pub served_alone : {E : Type 0} (result : Result A WorldFault) (w : World E) (v : HomeView) → OnOk result (AreKept v.file v.reach w.members.items w.coords.items) → OnOk result (AreServed w v v)
   served_alone (Ok a) w v kept = record { kept = kept; clean = λ s clean. clean; quiet = refl }
   served_alone (Err fault) w v kept = tt
+
+  -- a fault that no file has leaves the directory as it was
+  pub unserved : (result : Result A WorldFault) (v : HomeView) → IfErr result IsOfNoFile → IfErr result (λ fault. HasEndedAs fault v v)
+  unserved (Ok a) v of = tt
+  unserved (Err world.Count) v of = refl
+  unserved (Err world.Memory) v of = refl
+  unserved (Err (world.Device spot)) v of = absurd of
+  unserved (Err (world.Differs spot at kept read)) v of = absurd of
+  unserved (Err (world.InUse spot)) v of = absurd of
+  unserved (Err (world.Bad spot at)) v of = absurd of
+  unserved (Err (world.Full spot)) v of = absurd of
+  unserved (Err (world.Old spot)) v of = absurd of
+
+  pub of_memory : (result : Result A WorldFault) → IfErr result (λ fault. fault ≡ world.Memory) → IfErr result IsOfNoFile
+  of_memory (Ok a) memory = tt
+  of_memory (Err fault) memory = subst IsOfNoFile (sym memory) tt

@@ -1,6 +1,6 @@
 -- What the log write of an event leaves of the stable records of its node, where no stop is armed.
 use Rattle.std.proofs.Common.{◌≡◌, ◌⊎◌, ℕ, Bool, true, false, List, [], ◌∷◌, ◌++◌, refl, sym, ap, subst, ◌∙◌, inl, inr}
-use Rattle.std.specs.Prelude.{Option, None, Some, Result, Ok, Err, IsOk, OnErr}
+use Rattle.std.specs.Prelude.{Option, None, Some, is_some, Result, Ok, Err, IsOk, IfErr}
 use Rattle.co_base.specs.declared.node.Node.{Node}
 use Rattle.co_base.specs.declared.node.Node.TheVariants as node
 use Rattle.co_log.specs.LogView.{LogView}
@@ -44,7 +44,9 @@ use Rattle.co_member.specs.declared.plan.Plan.{Plan}
 use Rattle.co_member.specs.declared.plan.Writes.{Writes}
 use Rattle.co_member.specs.declared.plan.Writes.TheVariants.{Nothing, Keeps, Forces, ForcesBoth}
 use Rattle.co_member.specs.declared.step.MemberStep.{MemberStep}
-use Rattle.co_world.specs.Left.{member_disarmed}
+use Rattle.co_node.specs.Rereading.{IsReread}
+use Rattle.co_member.specs.Attaching.{read_by}
+use Rattle.co_world.specs.Left.{IsFullWith, IsLeftBy, member_disarmed}
 
 -- ---- a plan that is carried out where no stop is armed
 
@@ -128,28 +130,24 @@ kept_left owner file reach log l that s kept told =
     let here = told_records owner file reach log l s kept.held kept.within told in
     (here.0, here.1, inl here.2)
 
-pub at_fault : {A F : Type 0} (out : Result A F) {P : Type 0} → P → OnErr out P
-at_fault (Ok d) p = tt
-at_fault (Err e) p = p
-
 module _ (owner : Node) (at : Spot) (long : Type 0) (this that : List Record) (log : LogView) (old new : HomeView) where
-  pub fault_left : (e : NodeFault) → IsAnswered owner at long this that log old new (Err e) → LeftAs old.file owner this that → LeftAs new.file owner this that
-  fault_left (Device spot) answered before = answered.1.left
+  pub fault_left : (e : NodeFault) → IsAnswered owner at long this that log old new (Err e) → LeftAs old.file owner this that → IsLeftBy new.file owner this that e
+  fault_left (Device spot) answered before = (answered.1.left, tt)
   fault_left (Differs spot place kept read) answered before = absurd answered
-  fault_left (Full spot) answered before = subst (λ (v : HomeView). LeftAs v.file owner this that) (sym answered.untouched) before
-  fault_left Memory answered before = λ told. let h = answered.left told in (h.0, h.1, inl (either h.2))
+  fault_left (Full spot) answered before = (subst (λ (v : HomeView). LeftAs v.file owner this that) (sym answered.untouched) before, answered.overlong)
+  fault_left Memory answered before = (λ told. let h = answered.left told in (h.0, h.1, inl (either h.2)), tt)
     where
       either : {X : Type 0} → X ⊎ X → X
       either (inl x) = x
       either (inr x) = x
 
-  pub member_left : (out : Result MemberStep NodeFault) (completed : List Record) → that ≡ completed → IsAnswered owner at long this that log old new (written_by out) → LeftAs old.file owner this that → OnErr out (LeftAs new.file owner this completed)
+  pub member_left : (out : Result MemberStep NodeFault) (completed : List Record) → that ≡ completed → IsAnswered owner at long this that log old new (written_by out) → LeftAs old.file owner this that → IfErr out (IsLeftBy new.file owner this completed)
   member_left (Ok d) completed same answered before = tt
-  member_left (Err e) completed same answered before = subst (λ (rs : List Record). LeftAs new.file owner this rs) same (fault_left e answered before)
+  member_left (Err e) completed same answered before = subst (λ (rs : List Record). IsLeftBy new.file owner this rs e) same (fault_left e answered before)
 
 -- the two steps of a checkpoint
 checkpoint_by_left : (m : ℕ) (x : MemberState) (log after : LogView) (old new : HomeView) (out : Result MemberStep NodeFault) (closed : Bool) → IsAnsweredIn closed m x log after old new (written_by out) → ((that : List Record) → LeftAs old.file (node.Member m) x.log.stable that)
-    → OnErr out (LeftAs new.file (node.Member m) x.log.stable (checkpoint_by m (member_disarmed x) closed).state.log.stable)
+    → IfErr out (IsLeftBy new.file (node.Member m) x.log.stable (checkpoint_by m (member_disarmed x) closed).state.log.stable)
 checkpoint_by_left m x log after old new out false answered before =
     member_left (node.Member m) log.spare.spot ⊥ x.log.stable x.log.stable after old new out x.log.stable refl answered (before x.log.stable)
 checkpoint_by_left m x log after old new out true answered before =
@@ -157,26 +155,54 @@ checkpoint_by_left m x log after old new out true answered before =
     member_left (node.Member m) log.spare.spot (IsOverfull log (spare_items x)) x.log.stable that after old new out that refl answered (before that)
 
 pub checkpoint_left : (m : ℕ) (x : MemberState) (log after : LogView) (old new : HomeView) (out : Result MemberStep NodeFault) → IsCheckpointed m x log after old new (written_by out) → ((that : List Record) → LeftAs old.file (node.Member m) x.log.stable that)
-    → OnErr out (LeftAs new.file (node.Member m) x.log.stable (member_checkpoint m (member_disarmed x)).state.log.stable)
+    → IfErr out (IsLeftBy new.file (node.Member m) x.log.stable (member_checkpoint m (member_disarmed x)).state.log.stable)
 checkpoint_left m x log after old new out answered before = checkpoint_by_left m x log after old new out x.log.spare_closed answered before
 
 -- ---- by the calls of a member
 
 pub plan_left : (w : Writes) (owner : Node) (l : LogState) (log after : LogView) (old new : HomeView) (out : Result MemberStep NodeFault) (completed : List Record) → stable_after w l ≡ completed → RepresentsLog owner log l → IsKept old.file old.reach owner log
-    → IsAnsweredFor w owner l log after old new (written_by out) → OnErr out (LeftAs new.file owner l.stable completed)
+    → IsAnsweredFor w owner l log after old new (written_by out) → IfErr out (IsLeftBy new.file owner l.stable completed)
 plan_left w owner l log after old new out completed same stands kept answered =
     member_left owner log.current.spot (IsTooLongFor w log) l.stable (stable_after w l) after old new out completed same answered (kept_left owner old.file old.reach log l (stable_after w l) stands kept)
 
-pub still_left : {A : Type 0} (out : Result A NodeFault) (owner : Node) (file : Spot → Option File) (reach : Spot → ℕ) (log : LogView) (l : LogState) (that : List Record) → RepresentsLog owner log l → IsKept file reach owner log → OnErr out (LeftAs file owner l.stable that)
-still_left out owner file reach log l that stands kept = at_fault out (kept_left owner file reach log l that stands kept)
+-- there was no memory, and nothing was written
+pub still_left : {A : Type 0} (out : Result A NodeFault) (owner : Node) (file : Spot → Option File) (reach : Spot → ℕ) (log : LogView) (l : LogState) (that : List Record) → IfErr out (λ e. e ≡ Memory) → RepresentsLog owner log l → IsKept file reach owner log →
+    IfErr out (IsLeftBy file owner l.stable that)
+still_left (Ok d) owner file reach log l that memory stands kept = tt
+still_left (Err e) owner file reach log l that memory stands kept = subst (IsLeftBy file owner l.stable that) (sym memory) (kept_left owner file reach log l that stands kept, tt)
 
-pub never_left : {A : Type 0} (out : Result A NodeFault) (P : Type 0) → IsOk out → OnErr out P
+pub never_left : {A : Type 0} (out : Result A NodeFault) (P : NodeFault → Type 0) → IsOk out → IfErr out P
 never_left (Ok d) P done = tt
 never_left (Err e) P done = absurd cc
 
--- a restart leaves the files of its node
-pub restart_left : {A : Type 0} (out : Result A NodeFault) (owner : Node) (file after : Spot → Option File) (reach further : Spot → ℕ) (log : LogView) (l : LogState) (that : List Record) → RepresentsLog owner log l → IsKept file reach owner log
-    → after log.current.spot ≡ file log.current.spot → after log.spare.spot ≡ file log.spare.spot → OtherFilesStay log.node file after reach further → OnErr out (LeftAs after owner l.stable that)
-restart_left out owner file after reach further log l that stands kept current spare stay =
+-- a restart leaves the files of its node, and writes nothing
+abbrev pub IsNotFull : NodeFault → Type 0
+IsNotFull (Device spot) = Unit {0}
+IsNotFull (Differs spot place kept read) = Unit {0}
+IsNotFull (Full spot) = ⊥
+IsNotFull Memory = Unit {0}
+
+not_full : (records : List Record) (e : NodeFault) → IsNotFull e → IsFullWith records e
+not_full records (Device spot) h = tt
+not_full records (Differs spot place kept read) h = tt
+not_full records (Full spot) h = absurd h
+not_full records Memory h = tt
+
+pub restart_left : {A : Type 0} (out : Result A NodeFault) (owner : Node) (file after : Spot → Option File) (reach further : Spot → ℕ) (log : LogView) (l : LogState) (that : List Record) → IfErr out IsNotFull → RepresentsLog owner log l → IsKept file reach owner log
+    → after log.current.spot ≡ file log.current.spot → after log.spare.spot ≡ file log.spare.spot → OtherFilesStay log.node file after reach further → IfErr out (IsLeftBy after owner l.stable that)
+restart_left (Ok d) owner file after reach further log l that read stands kept current spare stay = tt
+restart_left (Err e) owner file after reach further log l that read stands kept current spare stay =
     let same = files_stay owner log file after reach further stands.owned kept.held.spots current spare (subst (λ (n : Node). OtherFilesStay n file after reach further) stands.owned stay) in
-    at_fault out (subst (λ (f : Spot → Option File). LeftAs f owner l.stable that) (sym (λ i s. same s i)) (kept_left owner file reach log l that stands kept))
+    (subst (λ (f : Spot → Option File). LeftAs f owner l.stable that) (sym (λ i s. same s i)) (kept_left owner file reach log l that stands kept), not_full that e read)
+
+module _ {H : Type 0} (gives : H → Spot → ℕ → List ℕ → Type 0) (file : H → Spot → Option File) (reach : H → Spot → ℕ) (entered : H → Option (List ℕ)) (faults : H → ℕ) (last_failed : H → Spot) (log : LogView) (old new : H) where
+  pub reread_alone : (e : NodeFault) → IsReread gives file reach entered faults last_failed log old new (Err e) → IsNotFull e
+  reread_alone (Device spot) reread = tt
+  reread_alone (Differs spot place kept read) reread = tt
+  reread_alone (Full spot) reread = absurd reread
+  reread_alone Memory reread = tt
+
+  pub member_read : {R : Type 0} (running : Option R) (out : Result MemberStep NodeFault) → (is_some running ≡ true → IsOk out × (new ≡ old)) → (running ≡ None → IsReread gives file reach entered faults last_failed log old new (read_by out)) → IfErr out IsNotFull
+  member_read running (Ok d) stays reread = tt
+  member_read None (Err e) stays reread = reread_alone e (reread refl)
+  member_read (Some r) (Err e) stays reread = let h : false ≡ true = (stays refl).0 in absurd cc

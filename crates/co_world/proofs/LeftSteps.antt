@@ -1,6 +1,6 @@
 -- What a fault leaves behind an event: sessions are in no file, and a step told in another way leaves the same.
-use Rattle.std.proofs.Common.{◌≡◌, ◌⊎◌, ℕ, Bool, true, false, not, Option, Result, sym, subst, inl, inr}
-use Rattle.std.specs.Prelude.{OnErr}
+use Rattle.std.proofs.Common.{◌≡◌, ℕ, Bool, true, false, not, Option, Result, sym, subst}
+use Rattle.std.specs.Prelude.{IfErr}
 use Rattle.co_durable.specs.declared.fault.WorldFault.{WorldFault}
 use Rattle.co_outside.specs.Home.{File}
 use Rattle.co_outside.specs.declared.spot.Spot.{Spot}
@@ -11,21 +11,27 @@ use Rattle.co_plain.specs.declared.coord_step.CoordStep.{CoordStep as PlainCoord
 use Rattle.co_plain.specs.declared.member_state.MemberState.{MemberState}
 use Rattle.co_plain.specs.declared.member_step.MemberStep.{MemberStep as PlainMemberStep}
 use Rattle.co_plain.specs.declared.session.Session.{Session}
-use Rattle.co_world.specs.Left.{AreLeftAs, AreLeftBy}
-use Rattle.co_world.proofs.Lefts.{noted_left}
+use Rattle.co_world.specs.Left.{HasOverlong, OverlongMember, OverlongCoord, AreLeftAs, AreLeftBy, AreLeftWith}
+use Rattle.co_world.proofs.Lefts.{either_left, noted_left, noted_overlong}
 
 -- ---- a step told in another way
 
-pub left_as : {A : Type 0} (out : Result A WorldFault) (file : Spot → Option File) (before : Federation) (after then whole all : Stepped) → after ≡ then → whole ≡ all → OnErr out (AreLeftBy file before after.state whole.state) →
-    OnErr out (AreLeftBy file before then.state all.state)
+pub left_as : {A : Type 0} (out : Result A WorldFault) (file : Spot → Option File) (before : Federation) (after then whole all : Stepped) → after ≡ then → whole ≡ all → IfErr out (AreLeftBy file before after.state whole.state) →
+    IfErr out (AreLeftBy file before then.state all.state)
 left_as out file before after then whole all one two left =
-    subst (λ (d : Stepped). OnErr out (AreLeftBy file before then.state d.state)) two (subst (λ (d : Stepped). OnErr out (AreLeftBy file before d.state whole.state)) one left)
+    subst (λ (d : Stepped). IfErr out (AreLeftBy file before then.state d.state)) two (subst (λ (d : Stepped). IfErr out (AreLeftBy file before d.state whole.state)) one left)
 
 module _ (file : Spot → Option File) (s : Federation) where
   -- ---- what a node did, whatever its answer
 
   pub at_coord_left : (c : ℕ) (did : PlainCoordStep) → AreLeftAs file (with_coord s c did.state) → AreLeftAs file (at_coord s c did).state
   at_coord_left c did left = noted_left file (with_coord s c did.state) did.marks did.sent left
+
+  pub at_coord_overlong : (c : ℕ) (did : PlainCoordStep) → HasOverlong (with_coord s c did.state) → HasOverlong (at_coord s c did).state
+  at_coord_overlong c did long = noted_overlong (with_coord s c did.state) did.marks did.sent long
+
+  pub at_member_overlong : (m : ℕ) (did : PlainMemberStep) → HasOverlong (with_member s m did.state) → HasOverlong (at_member s m did).state
+  at_member_overlong m did long = noted_overlong (with_member s m did.state) did.marks (message_list did.sent) long
 
   pub at_member_left : (m : ℕ) (did : PlainMemberStep) → AreLeftAs file (with_member s m did.state) → AreLeftAs file (at_member s m did).state
   at_member_left m did left = noted_left file (with_member s m did.state) did.marks (message_list did.sent) left
@@ -36,10 +42,11 @@ module _ (file : Spot → Option File) (s : Federation) where
   unbegun_left t session left = record { member = left.member; coord = left.coord }
 
   -- by a coordinator that meets a fault
-  pub begun_left : (t : ℕ) (session : Session) (c : ℕ) (after : Federation) (did : PlainCoordStep) → AreLeftAs file (with_session s t session) ⊎ AreLeftAs file (with_coord (disarmed (with_session s t session)) c did.state) →
-      AreLeftBy file s after (at_coord (with_session (disarmed s) t session) c did).state
-  begun_left t session c after did (inl old) = inl (unbegun_left t session old)
-  begun_left t session c after did (inr new) = inr (inr (noted_left file (with_coord (disarmed (with_session s t session)) c did.state) did.marks did.sent new))
+  pub begun_left : (t : ℕ) (session : Session) (c : ℕ) (after : Federation) (did : PlainCoordStep) (fault : WorldFault) → AreLeftWith file (with_session s t session) (with_coord (disarmed (with_session s t session)) c did.state) fault →
+      AreLeftBy file s after (at_coord (with_session (disarmed s) t session) c did).state fault
+  begun_left t session c after did fault left =
+      let other = with_coord (disarmed (with_session s t session)) c did.state in
+      either_left file s (with_session s t session) after (at_coord (with_session (disarmed s) t session) c did).state other fault (unbegun_left t session) (noted_left file other did.marks did.sent) (noted_overlong other did.marks did.sent) left
 
   -- ---- a transaction is ended
 
@@ -62,3 +69,25 @@ module _ (file : Spot → Option File) (s : Federation) where
       let b = not (is_held did.answer) in
       let done = noted_left file (with_member (marked_asked s t session b) m did.state) did.marks (message_list did.sent) (marked_member_left t session b m did.state left) in
       subst (λ (k : Bool). AreLeftAs file (local_answers s t session m k did).state) (sym is) done
+
+  marked_coord_overlong : (t : ℕ) (session : Session) (b : Bool) (c : ℕ) (y : CoordState) → HasOverlong (with_coord s c y) → HasOverlong (with_coord (marked_asked s t session b) c y)
+  marked_coord_overlong t session true c y (OverlongMember m low high long) = OverlongMember m low high long
+  marked_coord_overlong t session true c y (OverlongCoord k low high long) = OverlongCoord k low high long
+  marked_coord_overlong t session false c y long = long
+
+  marked_member_overlong : (t : ℕ) (session : Session) (b : Bool) (m : ℕ) (x : MemberState) → HasOverlong (with_member s m x) → HasOverlong (with_member (marked_asked s t session b) m x)
+  marked_member_overlong t session true m x (OverlongMember k low high long) = OverlongMember k low high long
+  marked_member_overlong t session true m x (OverlongCoord c low high long) = OverlongCoord c low high long
+  marked_member_overlong t session false m x long = long
+
+  pub coord_answers_overlong : (t : ℕ) (session : Session) (c : ℕ) (up : Bool) (did : PlainCoordStep) → up ≡ true → HasOverlong (with_coord s c did.state) → HasOverlong (coord_answers s t session c up did).state
+  coord_answers_overlong t session c up did is long =
+      let b = not (is_stopped did.answer) in
+      let done = noted_overlong (with_coord (marked_asked s t session b) c did.state) did.marks did.sent (marked_coord_overlong t session b c did.state long) in
+      subst (λ (k : Bool). HasOverlong (coord_answers s t session c k did).state) (sym is) done
+
+  pub local_answers_overlong : (t : ℕ) (session : Session) (m : ℕ) (up : Bool) (did : PlainMemberStep) → up ≡ true → HasOverlong (with_member s m did.state) → HasOverlong (local_answers s t session m up did).state
+  local_answers_overlong t session m up did is long =
+      let b = not (is_held did.answer) in
+      let done = noted_overlong (with_member (marked_asked s t session b) m did.state) did.marks (message_list did.sent) (marked_member_overlong t session b m did.state long) in
+      subst (λ (k : Bool). HasOverlong (local_answers s t session m k did).state) (sym is) done

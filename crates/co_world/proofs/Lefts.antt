@@ -10,6 +10,13 @@ use Rattle.co_log.specs.NodeFiles.{Items, newest_first, HasRecordsIn}
 use Rattle.co_log.specs.Others.{OtherFilesStay}
 use Rattle.co_node.proofs.Opened.{told_records}
 use Rattle.co_node.specs.Answers.{AreTold, LeftAs}
+use Rattle.co_node.specs.Sizes.{IsOverlong}
+use Rattle.co_log.specs.declared.fault.NodeFault.{NodeFault}
+use Rattle.co_log.specs.declared.fault.NodeFault.TheVariants as log
+use Rattle.co_durable.specs.declared.fault.WorldFault.{WorldFault}
+use Rattle.co_durable.specs.declared.fault.WorldFault.TheVariants as world
+use Rattle.std.specs.Prelude.{IfErr, Result, Ok, Err}
+use Rattle.co_world.specs.Served.{IsOfNoFile, of_node}
 use Rattle.co_outside.specs.Home.{File}
 use Rattle.co_outside.specs.declared.spot.Spot.{Spot}
 use Rattle.co_base.specs.declared.mark.Mark.{Mark}
@@ -33,7 +40,7 @@ use Rattle.co_record.specs.declared.record.Record.{Record}
 use Rattle.co_state.specs.declared.engine_state.EngineState.{EngineState}
 use Rattle.co_coord.specs.declared.coord.Coord.{Coord}
 use Rattle.co_member.specs.declared.member.Member.{Member}
-use Rattle.co_world.specs.Left.{HasStable, AreLeftAs, AreLeftBy, member_disarmed, coord_disarmed}
+use Rattle.co_world.specs.Left.{HasStable, HasOverlong, OverlongMember, OverlongCoord, IsFullWith, IsFullIn, IsLeftBy, AreLeftAs, AreLeftBy, AreLeftNear, AreLeftWith, member_disarmed, coord_disarmed}
 use Rattle.co_world.specs.Standing.{RepresentsWorld, AreHeld}
 use Rattle.co_world.specs.declared.world.World.{World}
 
@@ -201,42 +208,62 @@ module _ (s : Federation) (few : AreFew s) (file after : Spot → Option File) (
           (coord_left_as k (with_coord (disarmed s) k y) from to stay refl refl (λ i other. ap (λ (z : CoordState). z.log.stable) (at_other (disarmed s).coord k i y other)) (λ m. refl)
           (subst (λ (z : CoordState). HasStable after (node.Coord k) z.log.stable) (sym (at_same (disarmed s).coord k y)) new))
 
+-- a fault of a node that is told as one of the federation
+full_with : (s : Federation) (records : List Record) → (IsOverlong records → HasOverlong s) → (fault : NodeFault) → IsFullWith records fault → IsFullIn s (of_node fault)
+full_with s records so (log.Device spot) full = tt
+full_with s records so (log.Differs spot at kept read) full = tt
+full_with s records so (log.Full spot) full = so full
+full_with s records so log.Memory full = tt
+
 module _ {E : Type 0} (takes : Kind → Type 0) (stands_for : E → EngineState → Type 0) (w : World E) (s : Federation) (stands : RepresentsWorld takes stands_for w s) (file after : Spot → Option File) (reach further : Spot → ℕ) (held : AreHeld file reach w) where
   -- a fault at the member of a number
   pub member_fault : (k p : ℕ) (m : Member E) (call : MemberCall) → suc p ≡ k → slice_get w.members.items p ≡ Some m → OtherFilesStay (node.Member m.number) file after reach further
-      → ((x : MemberState) → RepresentsMember stands_for m x → LeftAs after (node.Member m.number) x.log.stable (member_does m.number call (member_disarmed x)).state.log.stable)
-      → AreLeftAs after s ⊎ AreLeftAs after (with_member (disarmed s) k (member_does k call (member_disarmed (s.member k))).state)
-  member_fault k p m call next is stay left =
+      → (fault : NodeFault) → ((x : MemberState) → RepresentsMember stands_for m x → IsLeftBy after (node.Member m.number) x.log.stable (member_does m.number call (member_disarmed x)).state.log.stable fault)
+      → AreLeftWith after s (with_member (disarmed s) k (member_does k call (member_disarmed (s.member k))).state) (of_node fault)
+  member_fault k p m call next is stay fault left =
       let here = stands.member p m is in
       let number : m.number ≡ k = here.number ∙ next in
       let below = within_list w.members.items p m is in
       let few : AreFew s = record { members = stands.few_members; coords = stands.few_coordinators } in
       let at_p = left (s.member (suc p)) here.stands in
-      let at_number = subst (λ (j : ℕ). LeftAs after (node.Member j) (s.member (suc p)).log.stable (member_does j call (member_disarmed (s.member (suc p)))).state.log.stable) number at_p in
-      let at_k = subst (λ (j : ℕ). LeftAs after (node.Member k) (s.member j).log.stable (member_does k call (member_disarmed (s.member j))).state.log.stable) next at_number in
-      member_fault_left s few file after reach further (held_left takes stands_for w s file reach stands held) k (member_does k call (member_disarmed (s.member k))).state (omega (arith, next)) (omega (arith, below, stands.kinds, next))
-      (subst (λ (j : ℕ). OtherFilesStay (node.Member j) file after reach further) number stay) at_k
+      let at_number = subst (λ (j : ℕ). IsLeftBy after (node.Member j) (s.member (suc p)).log.stable (member_does j call (member_disarmed (s.member (suc p)))).state.log.stable fault) number at_p in
+      let at_k = subst (λ (j : ℕ). IsLeftBy after (node.Member k) (s.member j).log.stable (member_does k call (member_disarmed (s.member j))).state.log.stable fault) next at_number in
+      let x = (member_does k call (member_disarmed (s.member k))).state in
+      let low : 1 ≤ k = omega (arith, next) in
+      let high : k ≤ length s.kinds = omega (arith, below, stands.kinds, next) in (
+        member_fault_left s few file after reach further (held_left takes stands_for w s file reach stands held) k x low high (subst (λ (j : ℕ). OtherFilesStay (node.Member j) file after reach further) number stay) at_k.0,
+        full_with (with_member (disarmed s) k x) x.log.stable (λ long. OverlongMember k low high (subst (λ (y : MemberState). IsOverlong y.log.stable) (sym (at_same (disarmed s).member k x)) long)) fault at_k.1,
+      )
 
   -- so for a coordinator
   pub coord_fault : (k p : ℕ) (c : Coord) (call : CoordCall) → suc p ≡ k → slice_get w.coords.items p ≡ Some c → OtherFilesStay (node.Coord c.number) file after reach further
-      → ((y : CoordState) → RepresentsCoord c y → LeftAs after (node.Coord c.number) y.log.stable (coord_does c.number call (coord_disarmed y)).state.log.stable)
-      → AreLeftAs after s ⊎ AreLeftAs after (with_coord (disarmed s) k (coord_does k call (coord_disarmed (s.coord k))).state)
-  coord_fault k p c call next is stay left =
+      → (fault : NodeFault) → ((y : CoordState) → RepresentsCoord c y → IsLeftBy after (node.Coord c.number) y.log.stable (coord_does c.number call (coord_disarmed y)).state.log.stable fault)
+      → AreLeftWith after s (with_coord (disarmed s) k (coord_does k call (coord_disarmed (s.coord k))).state) (of_node fault)
+  coord_fault k p c call next is stay fault left =
       let here = stands.coord p c is in
       let number : c.number ≡ k = here.number ∙ next in
       let below = within_list w.coords.items p c is in
       let few : AreFew s = record { members = stands.few_members; coords = stands.few_coordinators } in
       let at_p = left (s.coord (suc p)) here.stands in
-      let at_number = subst (λ (j : ℕ). LeftAs after (node.Coord j) (s.coord (suc p)).log.stable (coord_does j call (coord_disarmed (s.coord (suc p)))).state.log.stable) number at_p in
-      let at_k = subst (λ (j : ℕ). LeftAs after (node.Coord k) (s.coord j).log.stable (coord_does k call (coord_disarmed (s.coord j))).state.log.stable) next at_number in
-      coord_fault_left s few file after reach further (held_left takes stands_for w s file reach stands held) k (coord_does k call (coord_disarmed (s.coord k))).state (omega (arith, next)) (omega (arith, below, stands.coordinators, next))
-      (subst (λ (j : ℕ). OtherFilesStay (node.Coord j) file after reach further) number stay) at_k
+      let at_number = subst (λ (j : ℕ). IsLeftBy after (node.Coord j) (s.coord (suc p)).log.stable (coord_does j call (coord_disarmed (s.coord (suc p)))).state.log.stable fault) number at_p in
+      let at_k = subst (λ (j : ℕ). IsLeftBy after (node.Coord k) (s.coord j).log.stable (coord_does k call (coord_disarmed (s.coord j))).state.log.stable fault) next at_number in
+      let y = (coord_does k call (coord_disarmed (s.coord k))).state in
+      let low : 1 ≤ k = omega (arith, next) in
+      let high : k ≤ s.coordinators = omega (arith, below, stands.coordinators, next) in (
+        coord_fault_left s few file after reach further (held_left takes stands_for w s file reach stands held) k y low high (subst (λ (j : ℕ). OtherFilesStay (node.Coord j) file after reach further) number stay) at_k.0,
+        full_with (with_coord (disarmed s) k y) y.log.stable (λ long. OverlongCoord k low high (subst (λ (z : CoordState). IsOverlong z.log.stable) (sym (at_same (disarmed s).coord k y)) long)) fault at_k.1,
+      )
 
 -- ---- a step of the federation
 
 -- decisions and messages are in no file
 pub noted_left : (file : Spot → Option File) (s : Federation) (marks : List Mark) (messages : List Message) → AreLeftAs file s → AreLeftAs file (noted s marks messages)
 noted_left file s marks messages left = record { member = left.member; coord = left.coord }
+
+-- nor are they in a log
+pub noted_overlong : (s : Federation) (marks : List Mark) (messages : List Message) → HasOverlong s → HasOverlong (noted s marks messages)
+noted_overlong s marks messages (OverlongMember m low high long) = OverlongMember m low high long
+noted_overlong s marks messages (OverlongCoord c low high long) = OverlongCoord c low high long
 
 pub member_step_left : (file : Spot → Option File) (s : Federation) (k : ℕ) (up : Bool) (did : PlainMemberStep) → up ≡ true → AreLeftAs file (with_member s k did.state) → AreLeftAs file (up_member s k up did).state
 member_step_left file s k up did is left =
@@ -246,7 +273,45 @@ pub coord_step_left : (file : Spot → Option File) (s : Federation) (k : ℕ) (
 coord_step_left file s k up did is left =
     subst (λ (b : Bool). AreLeftAs file (up_coord s k b did).state) (sym is) (noted_left file (with_coord s k did.state) did.marks did.sent left)
 
--- a fault at a node that was up
-pub either_left : (file : Spot → Option File) (before after completed other : Federation) → (AreLeftAs file other → AreLeftAs file completed) → AreLeftAs file before ⊎ AreLeftAs file other → AreLeftBy file before after completed
-either_left file before after completed other so (inl old) = inl old
-either_left file before after completed other so (inr new) = inr (inr (so new))
+pub member_step_overlong : (s : Federation) (k : ℕ) (up : Bool) (did : PlainMemberStep) → up ≡ true → HasOverlong (with_member s k did.state) → HasOverlong (up_member s k up did).state
+member_step_overlong s k up did is long =
+    subst (λ (b : Bool). HasOverlong (up_member s k b did).state) (sym is) (noted_overlong (with_member s k did.state) did.marks (message_list did.sent) long)
+
+pub coord_step_overlong : (s : Federation) (k : ℕ) (up : Bool) (did : PlainCoordStep) → up ≡ true → HasOverlong (with_coord s k did.state) → HasOverlong (up_coord s k up did).state
+coord_step_overlong s k up did is long =
+    subst (λ (b : Bool). HasOverlong (up_coord s k b did).state) (sym is) (noted_overlong (with_coord s k did.state) did.marks did.sent long)
+
+full_as : (s t : Federation) → (HasOverlong s → HasOverlong t) → (fault : WorldFault) → IsFullIn s fault → IsFullIn t fault
+full_as s t so (world.Device spot) full = tt
+full_as s t so (world.Differs spot at kept read) full = tt
+full_as s t so (world.InUse spot) full = tt
+full_as s t so (world.Bad spot at) full = tt
+full_as s t so (world.Full spot) full = so full
+full_as s t so world.Count full = tt
+full_as s t so (world.Old spot) full = tt
+full_as s t so world.Memory full = tt
+
+-- what came of an event has the logs that its node left
+pub either_left : (file : Spot → Option File) (before start after completed other : Federation) (fault : WorldFault) → (AreLeftAs file start → AreLeftAs file before) → (AreLeftAs file other → AreLeftAs file completed) → (HasOverlong other → HasOverlong completed) →
+    AreLeftWith file start other fault → AreLeftBy file before after completed fault
+either_left file before start after completed other fault was so long left = (by left.0, full_as other completed long fault left.1)
+  where
+    by : AreLeftAs file start ⊎ AreLeftAs file other → AreLeftNear file before after completed
+    by (inl old) = inl (was old)
+    by (inr new) = inr (inr (so new))
+
+-- there was no memory, or a number too many
+pub unserved_left : {A : Type 0} (out : Result A WorldFault) (file : Spot → Option File) (before after completed : Federation) → IfErr out IsOfNoFile → AreLeftNear file before after completed → IfErr out (AreLeftBy file before after completed)
+unserved_left (Ok a) file before after completed of left = tt
+unserved_left (Err world.Count) file before after completed of left = (left, tt)
+unserved_left (Err world.Memory) file before after completed of left = (left, tt)
+unserved_left (Err (world.Device spot)) file before after completed of left = absurd of
+unserved_left (Err (world.Differs spot at kept read)) file before after completed of left = absurd of
+unserved_left (Err (world.InUse spot)) file before after completed of left = absurd of
+unserved_left (Err (world.Bad spot at)) file before after completed of left = absurd of
+unserved_left (Err (world.Full spot)) file before after completed of left = absurd of
+unserved_left (Err (world.Old spot)) file before after completed of left = absurd of
+
+pub wanting_left : {A : Type 0} (out : Result A WorldFault) (file : Spot → Option File) (before after completed : Federation) → IfErr out (λ fault. fault ≡ world.Memory) → AreLeftNear file before after completed → IfErr out (AreLeftBy file before after completed)
+wanting_left (Ok a) file before after completed memory left = tt
+wanting_left (Err fault) file before after completed memory left = subst (AreLeftBy file before after completed) (sym memory) (left, tt)

@@ -1,10 +1,13 @@
 -- What a federation tells of the plain one that it stands for.
-use Rattle.std.specs.Prelude.{ℕ, zero, suc, Bool, true, false, ◌≡◌, ◌<◌, ◌≤◌, ◌⊎◌, ◌==◌, length, Option, None, Some}
+use Rattle.std.specs.Prelude.{ℕ, zero, suc, Bool, true, false, ◌||◌, ◌≡◌, ◌<◌, ◌≤◌, ◌⊎◌, ◌==◌, length, Option, None, Some}
 use Rattle.co_base.specs.declared.head.Kind.{Kind}
 use Rattle.co_base.specs.declared.node.Node.{Node}
 use Rattle.co_base.specs.declared.node.Node.TheVariants as node
 use Rattle.co_state.specs.declared.engine_state.EngineState.{EngineState}
-use Rattle.co_state.specs.Table.{least_where, lesser}
+use Rattle.co_state.specs.Table.{look, holds, least_where, lesser}
+use Rattle.co_plain.specs.declared.coord_state.Entry.{Entry}
+use Rattle.co_plain.specs.declared.coord_state.Entry.TheVariants as entry
+use Rattle.co_plain.specs.declared.member_state.MemberState.{MemberState}
 use Rattle.co_plain.specs.Federation.{Federation}
 use Rattle.co_plain.specs.Quiet.{IsNode, IsMember, IsCoordinator, node_up, IsEnabled, prepare_helps, vote_helps, commit_helps, ask_helps, Prepares, Votes, Commits, Asks}
 use Rattle.co_plain.specs.Quiet as plain
@@ -48,6 +51,22 @@ pub record IsFirstOf (s : Federation) (t : ℕ) (e : plain.Exchange) : Type 0 wh
   pub about : exchange_txn e ≡ t
   pub enabled : IsEnabled s e
   pub others : (other : plain.Exchange) → exchange_txn other ≡ t → (exchange_rank other < exchange_rank e) ⊎ ((exchange_rank other ≡ exchange_rank e) × (exchange_member other < exchange_member e)) → IsEnabled s other → ⊥
+
+-- voted at a member, or asked for its vote there
+abbrev pub busy_at : MemberState → ℕ → Bool
+busy_at x t = holds x.engine.voted t || holds x.asked t
+
+-- in the table of a coordinator, and not idle
+abbrev pub busy_in : Option Entry → Bool
+busy_in None = false
+busy_in (Some entry.Idle) = false
+busy_in (Some (entry.Collecting parts yeses)) = true
+busy_in (Some (entry.Committed members acks)) = true
+
+-- busy: an exchange can be about it
+pub data IsBusy (s : Federation) (t : ℕ) : Type 0 where
+  BusyAt : (m : ℕ) → IsMember s m → busy_at (s.member m) t ≡ true → IsBusy s t
+  BusyIn : (c : ℕ) → IsCoordinator s c → busy_in (look (s.coord c).table t) ≡ true → IsBusy s t
 
 -- the node at which a timer ends the transaction: a coordinator where it is idle, else the least member where it is active
 pub record IsFirstAt (s : Federation) (t : ℕ) (at : Node) : Type 0 where

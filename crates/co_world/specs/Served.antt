@@ -49,3 +49,14 @@ HasEndedAs (world.Full spot) old new = new.faults ≡ old.faults
 HasEndedAs world.Count old new = new ≡ old
 HasEndedAs (world.Old spot) old new = ⊥
 HasEndedAs world.Memory old new = new.faults ≡ old.faults
+
+-- a fault that no file has: the limit on numbers is met, or there is no memory
+abbrev pub IsOfNoFile : WorldFault → Type 0
+IsOfNoFile (world.Device spot) = ⊥
+IsOfNoFile (world.Differs spot at kept read) = ⊥
+IsOfNoFile (world.InUse spot) = ⊥
+IsOfNoFile (world.Bad spot at) = ⊥
+IsOfNoFile (world.Full spot) = ⊥
+IsOfNoFile world.Count = Unit {0}
+IsOfNoFile (world.Old spot) = ⊥
+IsOfNoFile world.Memory = Unit {0}

@@ -1,5 +1,5 @@
 //! What clients ask: to begin, to operate and to end.
-ghost use Rattle.std.specs.Prelude.{◌≡◌, ◌≤◌, ◌<◌, ℕ, Option, true, false, Some, length, IfOk, IfErr, IsErrOf, OnOk, OnErr, ◌↔◌};
+ghost use Rattle.std.specs.Prelude.{◌≡◌, ◌≤◌, ◌<◌, ℕ, Option, true, false, Some, length, IfOk, IfErr, IsErrOf, OnOk, ◌↔◌};
 ghost use Rattle.co_base.specs.declared.reply.Reply.{Reply};
 ghost use Rattle.co_durable.specs.declared.fault.WorldFault.TheVariants as world;
 ghost use Rattle.co_message.specs.declared.answer.Answer.{Answer};
@@ -18,9 +18,9 @@ ghost use Rattle.co_state.specs.Table.{look, holds};
 ghost use Rattle.co_world.specs.Calls.{coord_asked, coord_does, member_asked, member_does, ended};
 ghost use Rattle.co_world.specs.Conditions.{IsReady};
 ghost use Rattle.co_world.specs.Counting.{IsOneMore};
-ghost use Rattle.co_node.specs.Answers.{seen, HomeView};
+ghost use Rattle.co_node.specs.Answers.{seen};
 ghost use Rattle.co_world.specs.Left.{AreLeftBy, member_disarmed, coord_disarmed};
-ghost use Rattle.co_world.specs.Served.{AreServed, HasEndedAs};
+ghost use Rattle.co_world.specs.Served.{AreServed, HasEndedAs, IsOfNoFile};
 ghost use Rattle.co_world.specs.Standing.{RepresentsWorld, AreHeld};
 
 use crate::calls::{CoordCall, MemberCall};
@@ -138,7 +138,7 @@ impl<E: Engine + Drop> World<E> {
         ensures items { (s : Federation) → RepresentsWorld E.takes E.stands_for self.old s → IfOk result (λ items. items ≡ numbered number (step_line s (event.Begin t coord)).items) }
         ensures stands { (s : Federation) → RepresentsWorld E.takes E.stands_for self.old s → OnOk result (RepresentsWorld E.takes E.stands_for self.new (step_line s (event.Begin t coord)).state) }
         ensures left { (s : Federation) → RepresentsWorld E.takes E.stands_for self.old s →
-            OnErr result (AreLeftBy (H.file home.new) s (step_line s (event.Begin t coord)).state (step_line (disarmed s) (event.Begin t coord)).state) }
+            IfErr result (AreLeftBy (H.file home.new) s (step_line s (event.Begin t coord)).state (step_line (disarmed s) (event.Begin t coord)).state) }
         ensures served { OnOk result (AreServed self.new (seen H.file H.reach H.faults H.last_failed home.old) (seen H.file H.reach H.faults H.last_failed home.new)) }
         ensures ended { IfErr result (λ fault. HasEndedAs fault (seen H.file H.reach H.faults H.last_failed home.old) (seen H.file H.reach H.faults H.last_failed home.new)) }
         ensures entered { H.entered home.new ≡ H.entered home.old }
@@ -166,7 +166,7 @@ impl<E: Engine + Drop> World<E> {
         ensures items { (s : Federation) → RepresentsWorld E.takes E.stands_for self.old s → IfOk result (λ items. items ≡ numbered number (step_line s (event.Local t member)).items) }
         ensures stands { (s : Federation) → RepresentsWorld E.takes E.stands_for self.old s → OnOk result (RepresentsWorld E.takes E.stands_for self.new (step_line s (event.Local t member)).state) }
         ensures held { (file : Spot → Option File) (reach : Spot → ℕ) → AreHeld file reach self.old → OnOk result (AreHeld file reach self.new) }
-        ensures ended { (v : HomeView) → IfErr result (λ fault. HasEndedAs fault v v) }
+        ensures ended { IfErr result IsOfNoFile }
     {
         if self.used(t)? {
             return self.answers(number, Answer::Used);
@@ -188,11 +188,10 @@ impl<E: Engine + Drop> World<E> {
     ) -> Result<Items, WorldFault>
         requires in_head { (1 ≤ member) × (member ≤ length self.old.members.items) }
         requires stands { (s : Federation) × RepresentsWorld E.takes E.stands_for self.old s × IsReady s }
-        ensures count { IsErrOf result WorldFault.Count → ⊥ }
         ensures items { (s : Federation) → RepresentsWorld E.takes E.stands_for self.old s → IsReady s → IfOk result (λ items. items ≡ numbered number (operate s t member op).items) }
         ensures stands { (s : Federation) → RepresentsWorld E.takes E.stands_for self.old s → IsReady s → OnOk result (RepresentsWorld E.takes E.stands_for self.new (operate s t member op).state) }
         ensures held { (file : Spot → Option File) (reach : Spot → ℕ) → AreHeld file reach self.old → OnOk result (AreHeld file reach self.new) }
-        ensures ended { (v : HomeView) → IfErr result (λ fault. HasEndedAs fault v v) }
+        ensures memory { IfErr result (λ fault. fault ≡ WorldFault.Memory) }
     {
         match self.sessions.may_act(t, Some(member)) {
             Ok(_) => self.operated(number, t, member, op),
@@ -204,11 +203,10 @@ impl<E: Engine + Drop> World<E> {
     fn operated(&mut self, number: u32, t: Txn, member: u8, op: Op) -> Result<Items, WorldFault>
         requires in_head { (1 ≤ member) × (member ≤ length self.old.members.items) }
         requires stands { (s : Federation) × RepresentsWorld E.takes E.stands_for self.old s × IsReady s × ((session : Session) × (leave_to_visit (look s.sessions t) member ≡ Grants session)) }
-        ensures count { IsErrOf result WorldFault.Count → ⊥ }
         ensures items { (s : Federation) → RepresentsWorld E.takes E.stands_for self.old s → IsReady s → (session : Session) → leave_to_visit (look s.sessions t) member ≡ Grants session → IfOk result (λ items. items ≡ numbered number (operate s t member op).items) }
         ensures stands { (s : Federation) → RepresentsWorld E.takes E.stands_for self.old s → IsReady s → (session : Session) → leave_to_visit (look s.sessions t) member ≡ Grants session → OnOk result (RepresentsWorld E.takes E.stands_for self.new (operate s t member op).state) }
         ensures held { (file : Spot → Option File) (reach : Spot → ℕ) → AreHeld file reach self.old → OnOk result (AreHeld file reach self.new) }
-        ensures ended { (v : HomeView) → IfErr result (λ fault. HasEndedAs fault v v) }
+        ensures memory { IfErr result (λ fault. fault ≡ WorldFault.Memory) }
     {
         if !self.member_up(member) {
             return self.answers(number, Answer::Down(Node::Member(member)));
@@ -279,7 +277,7 @@ impl<E: Engine + Drop> World<E> {
         ensures items { (s : Federation) → RepresentsWorld E.takes E.stands_for self.old s → IsReady s → IfOk result (λ items. items ≡ numbered number (ended s t ending).items) }
         ensures stands { (s : Federation) → RepresentsWorld E.takes E.stands_for self.old s → IsReady s → OnOk result (RepresentsWorld E.takes E.stands_for self.new (ended s t ending).state) }
         ensures left { (s : Federation) → RepresentsWorld E.takes E.stands_for self.old s → IsReady s →
-            OnErr result (AreLeftBy (H.file home.new) s (ended s t ending).state (ended (disarmed s) t ending).state) }
+            IfErr result (AreLeftBy (H.file home.new) s (ended s t ending).state (ended (disarmed s) t ending).state) }
         ensures served { OnOk result (AreServed self.new (seen H.file H.reach H.faults H.last_failed home.old) (seen H.file H.reach H.faults H.last_failed home.new)) }
         ensures ended { IfErr result (λ fault. HasEndedAs fault (seen H.file H.reach H.faults H.last_failed home.old) (seen H.file H.reach H.faults H.last_failed home.new)) }
         ensures entered { H.entered home.new ≡ H.entered home.old }
@@ -307,7 +305,7 @@ impl<E: Engine + Drop> World<E> {
         ensures items { (s : Federation) → RepresentsWorld E.takes E.stands_for self.old s → (session : Session) → look s.sessions t ≡ Some session → IfOk result (λ items. items ≡ numbered number (coord_answers s t session coord (s.coord coord).up (coord_does coord (coord_asked ending t (parts_of session.told)) (s.coord coord))).items) }
         ensures stands { (s : Federation) → RepresentsWorld E.takes E.stands_for self.old s → (session : Session) → look s.sessions t ≡ Some session → OnOk result (RepresentsWorld E.takes E.stands_for self.new (coord_answers s t session coord (s.coord coord).up (coord_does coord (coord_asked ending t (parts_of session.told)) (s.coord coord))).state) }
         ensures left { (s : Federation) → RepresentsWorld E.takes E.stands_for self.old s → (session : Session) → look s.sessions t ≡ Some session →
-            OnErr result (AreLeftBy (H.file home.new) s
+            IfErr result (AreLeftBy (H.file home.new) s
             (coord_answers s t session coord (s.coord coord).up (coord_does coord (coord_asked ending t (parts_of session.told)) (s.coord coord))).state
             (coord_answers (disarmed s) t session coord (s.coord coord).up (coord_does coord (coord_asked ending t (parts_of session.told)) (coord_disarmed (s.coord coord)))).state) }
         ensures served { OnOk result (AreServed self.new (seen H.file H.reach H.faults H.last_failed home.old) (seen H.file H.reach H.faults H.last_failed home.new)) }
@@ -339,7 +337,7 @@ impl<E: Engine + Drop> World<E> {
         ensures items { (s : Federation) → RepresentsWorld E.takes E.stands_for self.old s → (session : Session) → look s.sessions t ≡ Some session → IfOk result (λ items. items ≡ numbered number (local_answers s t session member (s.member member).up (member_does member (member_asked ending t (count_at session.told member)) (s.member member))).items) }
         ensures stands { (s : Federation) → RepresentsWorld E.takes E.stands_for self.old s → (session : Session) → look s.sessions t ≡ Some session → OnOk result (RepresentsWorld E.takes E.stands_for self.new (local_answers s t session member (s.member member).up (member_does member (member_asked ending t (count_at session.told member)) (s.member member))).state) }
         ensures left { (s : Federation) → RepresentsWorld E.takes E.stands_for self.old s → (session : Session) → look s.sessions t ≡ Some session →
-            OnErr result (AreLeftBy (H.file home.new) s
+            IfErr result (AreLeftBy (H.file home.new) s
             (local_answers s t session member (s.member member).up (member_does member (member_asked ending t (count_at session.told member)) (s.member member))).state
             (local_answers (disarmed s) t session member (s.member member).up (member_does member (member_asked ending t (count_at session.told member)) (member_disarmed (s.member member)))).state) }
         ensures served { OnOk result (AreServed self.new (seen H.file H.reach H.faults H.last_failed home.old) (seen H.file H.reach H.faults H.last_failed home.new)) }

@@ -1,13 +1,13 @@
 //! What one coordinator does.
-ghost use Rattle.std.specs.Prelude.{◌≡◌, IfOk, IfErr, OnOk, OnErr};
+ghost use Rattle.std.specs.Prelude.{◌≡◌, IfOk, IfErr, OnOk};
 ghost use Rattle.co_base.specs.declared.node.Node.TheVariants as node;
 ghost use Rattle.co_log.specs.Others.{OtherNodesStay};
 ghost use Rattle.co_coord.specs.Standing.{RepresentsCoord, HasDone, IsSame};
-ghost use Rattle.co_node.specs.Answers.{seen, LeftAs};
+ghost use Rattle.co_node.specs.Answers.{seen};
 ghost use Rattle.co_plain.specs.declared.coord_state.CoordState.{CoordState};
 ghost use Rattle.co_world.specs.Calls.{coord_does, CoordMay};
 ghost use Rattle.co_opening.specs.Nodes.{IsKept};
-ghost use Rattle.co_world.specs.Left.{coord_disarmed};
+ghost use Rattle.co_world.specs.Left.{IsLeftBy, coord_disarmed};
 ghost use Rattle.co_world.specs.Served.{IsServed, HasFailedAs};
 
 use crate::calls::CoordCall;
@@ -31,7 +31,7 @@ pub(crate) fn coord_does<H: Home>(
         (seen H.file H.reach H.faults H.last_failed home.old) (seen H.file H.reach H.faults H.last_failed home.new)) }
     ensures ended { IfErr result (λ fault. HasFailedAs fault
         (seen H.file H.reach H.faults H.last_failed home.old) (seen H.file H.reach H.faults H.last_failed home.new)) }
-    ensures left { (y : CoordState) → RepresentsCoord coord.old y → OnErr result (LeftAs (H.file home.new) (node.Coord coord.old.number) y.log.stable
+    ensures left { (y : CoordState) → RepresentsCoord coord.old y → IfErr result (IsLeftBy (H.file home.new) (node.Coord coord.old.number) y.log.stable
         (coord_does coord.old.number call (coord_disarmed y)).state.log.stable) }
     ensures rest { OtherNodesStay H.file H.reach H.entered H.faults (node.Coord coord.old.number) home.old home.new }
     ensures same { IsSame coord.old coord.new }

@@ -1,12 +1,12 @@
 //! An event at one node, as a step of the federation.
-ghost use Rattle.std.specs.Prelude.{◌≡◌, ◌≤◌, ℕ, Option, length, IfOk, IfErr, IsErrOf, OnOk, OnErr, true};
+ghost use Rattle.std.specs.Prelude.{◌≡◌, ◌≤◌, ℕ, Option, length, IfOk, IfErr, IsErrOf, OnOk, true};
 ghost use Rattle.co_outside.specs.Home.{File};
 ghost use Rattle.co_outside.specs.declared.spot.Spot.{Spot};
 ghost use Rattle.co_plain.specs.Federation.{Federation, noted, items_of, message_list};
 ghost use Rattle.co_plain.specs.Runs.{numbered};
 ghost use Rattle.co_plain.specs.Step.{member_step, coord_step, disarmed};
 ghost use Rattle.co_world.specs.Calls.{member_does, coord_does, MemberMay, CoordMay};
-ghost use Rattle.co_node.specs.Answers.{seen, HomeView};
+ghost use Rattle.co_node.specs.Answers.{seen};
 ghost use Rattle.co_world.specs.Left.{AreLeftBy};
 ghost use Rattle.co_world.specs.Served.{AreServed, HasEndedAs};
 ghost use Rattle.co_world.specs.Standing.{RepresentsWorld, AreHeld};
@@ -41,11 +41,10 @@ impl<E: Engine + Drop> World<E> {
         number: u32,
         did: MemberStep,
     ) -> Result<Items, WorldFault>
-        ensures count { IsErrOf result WorldFault.Count → ⊥ }
         ensures items { IfOk result (λ items. items ≡ numbered number (items_of did.marks (message_list did.sent) did.answer)) }
         ensures stands { (s : Federation) → RepresentsWorld E.takes E.stands_for self.old s → OnOk result (RepresentsWorld E.takes E.stands_for self.new (noted s did.marks (message_list did.sent))) }
         ensures held { (file : Spot → Option File) (reach : Spot → ℕ) → AreHeld file reach self.old → OnOk result (AreHeld file reach self.new) }
-        ensures ended { (v : HomeView) → IfErr result (λ fault. HasEndedAs fault v v) }
+        ensures memory { IfErr result (λ fault. fault ≡ WorldFault.Memory) }
     {
         let MemberStep {
             answer,
@@ -62,11 +61,10 @@ impl<E: Engine + Drop> World<E> {
         number: u32,
         did: CoordStep,
     ) -> Result<Items, WorldFault>
-        ensures count { IsErrOf result WorldFault.Count → ⊥ }
         ensures items { IfOk result (λ items. items ≡ numbered number (items_of did.marks did.sent did.answer)) }
         ensures stands { (s : Federation) → RepresentsWorld E.takes E.stands_for self.old s → OnOk result (RepresentsWorld E.takes E.stands_for self.new (noted s did.marks did.sent)) }
         ensures held { (file : Spot → Option File) (reach : Spot → ℕ) → AreHeld file reach self.old → OnOk result (AreHeld file reach self.new) }
-        ensures ended { (v : HomeView) → IfErr result (λ fault. HasEndedAs fault v v) }
+        ensures memory { IfErr result (λ fault. fault ≡ WorldFault.Memory) }
     {
         let CoordStep {
             answer,
@@ -91,7 +89,7 @@ impl<E: Engine + Drop> World<E> {
         ensures items { (s : Federation) → RepresentsWorld E.takes E.stands_for self.old s → IfOk result (λ items. items ≡ numbered number (member_step s member (member_does member call)).items) }
         ensures stands { (s : Federation) → RepresentsWorld E.takes E.stands_for self.old s → OnOk result (RepresentsWorld E.takes E.stands_for self.new (member_step s member (member_does member call)).state) }
         ensures left { (s : Federation) → RepresentsWorld E.takes E.stands_for self.old s →
-            OnErr result (AreLeftBy (H.file home.new) s (member_step s member (member_does member call)).state (member_step (disarmed s) member (member_does member call)).state) }
+            IfErr result (AreLeftBy (H.file home.new) s (member_step s member (member_does member call)).state (member_step (disarmed s) member (member_does member call)).state) }
         ensures served { OnOk result (AreServed self.new (seen H.file H.reach H.faults H.last_failed home.old) (seen H.file H.reach H.faults H.last_failed home.new)) }
         ensures ended { IfErr result (λ fault. HasEndedAs fault (seen H.file H.reach H.faults H.last_failed home.old) (seen H.file H.reach H.faults H.last_failed home.new)) }
         ensures entered { H.entered home.new ≡ H.entered home.old }
@@ -118,7 +116,7 @@ impl<E: Engine + Drop> World<E> {
         ensures items { (s : Federation) → RepresentsWorld E.takes E.stands_for self.old s → IfOk result (λ items. items ≡ numbered number (coord_step s coord (coord_does coord call)).items) }
         ensures stands { (s : Federation) → RepresentsWorld E.takes E.stands_for self.old s → OnOk result (RepresentsWorld E.takes E.stands_for self.new (coord_step s coord (coord_does coord call)).state) }
         ensures left { (s : Federation) → RepresentsWorld E.takes E.stands_for self.old s →
-            OnErr result (AreLeftBy (H.file home.new) s (coord_step s coord (coord_does coord call)).state (coord_step (disarmed s) coord (coord_does coord call)).state) }
+            IfErr result (AreLeftBy (H.file home.new) s (coord_step s coord (coord_does coord call)).state (coord_step (disarmed s) coord (coord_does coord call)).state) }
         ensures served { OnOk result (AreServed self.new (seen H.file H.reach H.faults H.last_failed home.old) (seen H.file H.reach H.faults H.last_failed home.new)) }
         ensures ended { IfErr result (λ fault. HasEndedAs fault (seen H.file H.reach H.faults H.last_failed home.old) (seen H.file H.reach H.faults H.last_failed home.new)) }
         ensures entered { H.entered home.new ≡ H.entered home.old }

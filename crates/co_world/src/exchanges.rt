@@ -194,8 +194,9 @@ impl<E: Engine + Drop> World<E> {
         None
     }
 
-    /// The first exchange that can help the transaction: by its kind, and then by its member.
-    fn exchange_with(&self, t: Txn) -> Option<Exchange>
+    /// The first exchange that can help one transaction, where no node is down: by its kind, and then by its member; none where none can help
+    /// it. Takes no memory.
+    pub fn exchange_with(&self, t: Txn) -> Option<Exchange>
         requires stands { StandsUp E.takes E.stands_for self.now }
         ensures { (s : Federation) → RepresentsWorld E.takes E.stands_for self.now s → IsReady s →
             MatchOption result ((e : plain.Exchange) → exchange_txn e ≡ t → IsEnabled s e → ⊥)

@@ -6,6 +6,7 @@
 
 mod alone;
 mod attaching;
+mod busy;
 mod calls;
 mod clients;
 mod coords;

@@ -1,13 +1,13 @@
 //! What one member does.
-ghost use Rattle.std.specs.Prelude.{◌≡◌, IfOk, IfErr, OnOk, OnErr};
+ghost use Rattle.std.specs.Prelude.{◌≡◌, IfOk, IfErr, OnOk};
 ghost use Rattle.co_base.specs.declared.node.Node.TheVariants as node;
 ghost use Rattle.co_log.specs.Others.{OtherNodesStay};
 ghost use Rattle.co_member.specs.Standing.{RepresentsMember, HasDone, IsSame};
-ghost use Rattle.co_node.specs.Answers.{seen, LeftAs};
+ghost use Rattle.co_node.specs.Answers.{seen};
 ghost use Rattle.co_plain.specs.declared.member_state.MemberState.{MemberState};
 ghost use Rattle.co_world.specs.Calls.{member_does, MemberMay};
 ghost use Rattle.co_opening.specs.Nodes.{IsKept};
-ghost use Rattle.co_world.specs.Left.{member_disarmed};
+ghost use Rattle.co_world.specs.Left.{IsLeftBy, member_disarmed};
 ghost use Rattle.co_world.specs.Served.{IsServed, HasFailedAs};
 
 use crate::calls::MemberCall;
@@ -33,7 +33,7 @@ pub(crate) fn member_does<E: Engine + Drop, H: Home>(
         (seen H.file H.reach H.faults H.last_failed home.old) (seen H.file H.reach H.faults H.last_failed home.new)) }
     ensures ended { IfErr result (λ fault. HasFailedAs fault
         (seen H.file H.reach H.faults H.last_failed home.old) (seen H.file H.reach H.faults H.last_failed home.new)) }
-    ensures left { (x : MemberState) → RepresentsMember E.stands_for member.old x → OnErr result (LeftAs (H.file home.new) (node.Member member.old.number) x.log.stable
+    ensures left { (x : MemberState) → RepresentsMember E.stands_for member.old x → IfErr result (IsLeftBy (H.file home.new) (node.Member member.old.number) x.log.stable
         (member_does member.old.number call (member_disarmed x)).state.log.stable) }
     ensures rest { OtherNodesStay H.file H.reach H.entered H.faults (node.Member member.old.number) home.old home.new }
     ensures same { IsSame member.old member.new }

@@ -1,5 +1,5 @@
 //! One event of a schedule line.
-ghost use Rattle.std.specs.Prelude.{◌≡◌, ◌≤◌, ℕ, Option, length, IfOk, IfErr, IsErrOf, OnOk, OnErr, ◌↔◌};
+ghost use Rattle.std.specs.Prelude.{◌≡◌, ◌≤◌, ℕ, Option, length, IfOk, IfErr, IsErrOf, OnOk, ◌↔◌};
 ghost use Rattle.co_base.specs.declared.op.Op.TheVariants as op;
 ghost use Rattle.co_outside.specs.Home.{File};
 ghost use Rattle.co_outside.specs.declared.spot.Spot.{Spot};
@@ -10,7 +10,7 @@ ghost use Rattle.co_schedule.specs.View.{IsEventFor, IsMessageFor, IsNode};
 ghost use Rattle.co_world.specs.Calls.{receiver};
 ghost use Rattle.co_world.specs.Conditions.{IsReady};
 ghost use Rattle.co_world.specs.Counting.{MeetsLimit, MeetsPlainLimit};
-ghost use Rattle.co_node.specs.Answers.{seen, HomeView};
+ghost use Rattle.co_node.specs.Answers.{seen};
 ghost use Rattle.co_world.specs.Left.{AreLeftBy};
 ghost use Rattle.co_world.specs.Served.{AreServed, HasEndedAs};
 ghost use Rattle.co_world.specs.Standing.{RepresentsWorld, AreHeld};
@@ -54,11 +54,10 @@ impl<E: Engine + Drop> World<E> {
     fn reads(&mut self, number: u32, t: Txn, member: u8, key: &Key) -> Result<Items, WorldFault>
         requires in_head { (1 ≤ member) × (member ≤ length self.old.members.items) }
         requires stands { (s : Federation) × RepresentsWorld E.takes E.stands_for self.old s × IsReady s }
-        ensures count { IsErrOf result WorldFault.Count → ⊥ }
         ensures items { (s : Federation) → RepresentsWorld E.takes E.stands_for self.old s → IsReady s → IfOk result (λ items. items ≡ numbered number (operate s t member (op.Read key.now)).items) }
         ensures stands { (s : Federation) → RepresentsWorld E.takes E.stands_for self.old s → IsReady s → OnOk result (RepresentsWorld E.takes E.stands_for self.new (operate s t member (op.Read key.now)).state) }
         ensures held { (file : Spot → Option File) (reach : Spot → ℕ) → AreHeld file reach self.old → OnOk result (AreHeld file reach self.new) }
-        ensures ended { (v : HomeView) → IfErr result (λ fault. HasEndedAs fault v v) }
+        ensures memory { IfErr result (λ fault. fault ≡ WorldFault.Memory) }
     {
         self.operate(number, t, member, Op::Read(key.copy()?))
     }
@@ -74,11 +73,10 @@ impl<E: Engine + Drop> World<E> {
     ) -> Result<Items, WorldFault>
         requires in_head { (1 ≤ member) × (member ≤ length self.old.members.items) }
         requires stands { (s : Federation) × RepresentsWorld E.takes E.stands_for self.old s × IsReady s }
-        ensures count { IsErrOf result WorldFault.Count → ⊥ }
         ensures items { (s : Federation) → RepresentsWorld E.takes E.stands_for self.old s → IsReady s → IfOk result (λ items. items ≡ numbered number (operate s t member (op.Write key.now value.now)).items) }
         ensures stands { (s : Federation) → RepresentsWorld E.takes E.stands_for self.old s → IsReady s → OnOk result (RepresentsWorld E.takes E.stands_for self.new (operate s t member (op.Write key.now value.now)).state) }
         ensures held { (file : Spot → Option File) (reach : Spot → ℕ) → AreHeld file reach self.old → OnOk result (AreHeld file reach self.new) }
-        ensures ended { (v : HomeView) → IfErr result (λ fault. HasEndedAs fault v v) }
+        ensures memory { IfErr result (λ fault. fault ≡ WorldFault.Memory) }
     {
         self.operate(number, t, member, Op::Write(key.copy()?, value.copy()?))
     }
@@ -87,11 +85,10 @@ impl<E: Engine + Drop> World<E> {
     fn erases(&mut self, number: u32, t: Txn, member: u8, key: &Key) -> Result<Items, WorldFault>
         requires in_head { (1 ≤ member) × (member ≤ length self.old.members.items) }
         requires stands { (s : Federation) × RepresentsWorld E.takes E.stands_for self.old s × IsReady s }
-        ensures count { IsErrOf result WorldFault.Count → ⊥ }
         ensures items { (s : Federation) → RepresentsWorld E.takes E.stands_for self.old s → IsReady s → IfOk result (λ items. items ≡ numbered number (operate s t member (op.Erase key.now)).items) }
         ensures stands { (s : Federation) → RepresentsWorld E.takes E.stands_for self.old s → IsReady s → OnOk result (RepresentsWorld E.takes E.stands_for self.new (operate s t member (op.Erase key.now)).state) }
         ensures held { (file : Spot → Option File) (reach : Spot → ℕ) → AreHeld file reach self.old → OnOk result (AreHeld file reach self.new) }
-        ensures ended { (v : HomeView) → IfErr result (λ fault. HasEndedAs fault v v) }
+        ensures memory { IfErr result (λ fault. fault ≡ WorldFault.Memory) }
     {
         self.operate(number, t, member, Op::Erase(key.copy()?))
     }
@@ -100,11 +97,10 @@ impl<E: Engine + Drop> World<E> {
     fn scans(&mut self, number: u32, t: Txn, member: u8, range: &Range) -> Result<Items, WorldFault>
         requires in_head { (1 ≤ member) × (member ≤ length self.old.members.items) }
         requires stands { (s : Federation) × RepresentsWorld E.takes E.stands_for self.old s × IsReady s }
-        ensures count { IsErrOf result WorldFault.Count → ⊥ }
         ensures items { (s : Federation) → RepresentsWorld E.takes E.stands_for self.old s → IsReady s → IfOk result (λ items. items ≡ numbered number (operate s t member (op.Scan range.now)).items) }
         ensures stands { (s : Federation) → RepresentsWorld E.takes E.stands_for self.old s → IsReady s → OnOk result (RepresentsWorld E.takes E.stands_for self.new (operate s t member (op.Scan range.now)).state) }
         ensures held { (file : Spot → Option File) (reach : Spot → ℕ) → AreHeld file reach self.old → OnOk result (AreHeld file reach self.new) }
-        ensures ended { (v : HomeView) → IfErr result (λ fault. HasEndedAs fault v v) }
+        ensures memory { IfErr result (λ fault. fault ≡ WorldFault.Memory) }
     {
         self.operate(number, t, member, Op::Scan(range.copy()?))
     }
@@ -122,7 +118,7 @@ impl<E: Engine + Drop> World<E> {
         ensures count { IsErrOf result WorldFault.Count → ⊥ }
         ensures items { (s : Federation) → RepresentsWorld E.takes E.stands_for self.old s → IsReady s → IfOk result (λ items. items ≡ numbered number (deliver s message).items) }
         ensures stands { (s : Federation) → RepresentsWorld E.takes E.stands_for self.old s → IsReady s → OnOk result (RepresentsWorld E.takes E.stands_for self.new (deliver s message).state) }
-        ensures left { (s : Federation) → RepresentsWorld E.takes E.stands_for self.old s → IsReady s → OnErr result (AreLeftBy (H.file home.new) s (deliver s message).state (deliver (disarmed s) message).state) }
+        ensures left { (s : Federation) → RepresentsWorld E.takes E.stands_for self.old s → IsReady s → IfErr result (AreLeftBy (H.file home.new) s (deliver s message).state (deliver (disarmed s) message).state) }
         ensures served { OnOk result (AreServed self.new (seen H.file H.reach H.faults H.last_failed home.old) (seen H.file H.reach H.faults H.last_failed home.new)) }
         ensures ended { IfErr result (λ fault. HasEndedAs fault (seen H.file H.reach H.faults H.last_failed home.old) (seen H.file H.reach H.faults H.last_failed home.new)) }
         ensures entered { H.entered home.new ≡ H.entered home.old }
@@ -154,7 +150,7 @@ impl<E: Engine + Drop> World<E> {
         ensures count { IsErrOf result WorldFault.Count → ⊥ }
         ensures items { (s : Federation) → RepresentsWorld E.takes E.stands_for self.old s → IfOk result (λ items. items ≡ numbered number (timer_at s t node).items) }
         ensures stands { (s : Federation) → RepresentsWorld E.takes E.stands_for self.old s → OnOk result (RepresentsWorld E.takes E.stands_for self.new (timer_at s t node).state) }
-        ensures left { (s : Federation) → RepresentsWorld E.takes E.stands_for self.old s → OnErr result (AreLeftBy (H.file home.new) s (timer_at s t node).state (timer_at (disarmed s) t node).state) }
+        ensures left { (s : Federation) → RepresentsWorld E.takes E.stands_for self.old s → IfErr result (AreLeftBy (H.file home.new) s (timer_at s t node).state (timer_at (disarmed s) t node).state) }
         ensures served { OnOk result (AreServed self.new (seen H.file H.reach H.faults H.last_failed home.old) (seen H.file H.reach H.faults H.last_failed home.new)) }
         ensures ended { IfErr result (λ fault. HasEndedAs fault (seen H.file H.reach H.faults H.last_failed home.old) (seen H.file H.reach H.faults H.last_failed home.new)) }
         ensures entered { H.entered home.new ≡ H.entered home.old }
@@ -173,7 +169,7 @@ impl<E: Engine + Drop> World<E> {
         ensures count { IsErrOf result WorldFault.Count → ⊥ }
         ensures items { (s : Federation) → RepresentsWorld E.takes E.stands_for self.old s → IfOk result (λ items. items ≡ numbered number (crash_at s node).items) }
         ensures stands { (s : Federation) → RepresentsWorld E.takes E.stands_for self.old s → OnOk result (RepresentsWorld E.takes E.stands_for self.new (crash_at s node).state) }
-        ensures left { (s : Federation) → RepresentsWorld E.takes E.stands_for self.old s → OnErr result (AreLeftBy (H.file home.new) s (crash_at s node).state (crash_at (disarmed s) node).state) }
+        ensures left { (s : Federation) → RepresentsWorld E.takes E.stands_for self.old s → IfErr result (AreLeftBy (H.file home.new) s (crash_at s node).state (crash_at (disarmed s) node).state) }
         ensures served { OnOk result (AreServed self.new (seen H.file H.reach H.faults H.last_failed home.old) (seen H.file H.reach H.faults H.last_failed home.new)) }
         ensures ended { IfErr result (λ fault. HasEndedAs fault (seen H.file H.reach H.faults H.last_failed home.old) (seen H.file H.reach H.faults H.last_failed home.new)) }
         ensures entered { H.entered home.new ≡ H.entered home.old }
@@ -197,7 +193,7 @@ impl<E: Engine + Drop> World<E> {
         ensures count { IsErrOf result WorldFault.Count → ⊥ }
         ensures items { (s : Federation) → RepresentsWorld E.takes E.stands_for self.old s → IfOk result (λ items. items ≡ numbered number (restart_at s node).items) }
         ensures stands { (s : Federation) → RepresentsWorld E.takes E.stands_for self.old s → OnOk result (RepresentsWorld E.takes E.stands_for self.new (restart_at s node).state) }
-        ensures left { (s : Federation) → RepresentsWorld E.takes E.stands_for self.old s → OnErr result (AreLeftBy (H.file home.new) s (restart_at s node).state (restart_at (disarmed s) node).state) }
+        ensures left { (s : Federation) → RepresentsWorld E.takes E.stands_for self.old s → IfErr result (AreLeftBy (H.file home.new) s (restart_at s node).state (restart_at (disarmed s) node).state) }
         ensures served { OnOk result (AreServed self.new (seen H.file H.reach H.faults H.last_failed home.old) (seen H.file H.reach H.faults H.last_failed home.new)) }
         ensures ended { IfErr result (λ fault. HasEndedAs fault (seen H.file H.reach H.faults H.last_failed home.old) (seen H.file H.reach H.faults H.last_failed home.new)) }
         ensures entered { H.entered home.new ≡ H.entered home.old }
@@ -230,7 +226,7 @@ impl<E: Engine + Drop> World<E> {
         ensures count { IsErrOf result WorldFault.Count → ⊥ }
         ensures items { (s : Federation) → RepresentsWorld E.takes E.stands_for self.old s → IfOk result (λ items. items ≡ numbered number (arm_at s call leaves.now node).items) }
         ensures stands { (s : Federation) → RepresentsWorld E.takes E.stands_for self.old s → OnOk result (RepresentsWorld E.takes E.stands_for self.new (arm_at s call leaves.now node).state) }
-        ensures left { (s : Federation) → RepresentsWorld E.takes E.stands_for self.old s → OnErr result (AreLeftBy (H.file home.new) s (arm_at s call leaves.now node).state (arm_at (disarmed s) call leaves.now node).state) }
+        ensures left { (s : Federation) → RepresentsWorld E.takes E.stands_for self.old s → IfErr result (AreLeftBy (H.file home.new) s (arm_at s call leaves.now node).state (arm_at (disarmed s) call leaves.now node).state) }
         ensures served { OnOk result (AreServed self.new (seen H.file H.reach H.faults H.last_failed home.old) (seen H.file H.reach H.faults H.last_failed home.new)) }
         ensures ended { IfErr result (λ fault. HasEndedAs fault (seen H.file H.reach H.faults H.last_failed home.old) (seen H.file H.reach H.faults H.last_failed home.new)) }
         ensures entered { H.entered home.new ≡ H.entered home.old }
@@ -259,7 +255,7 @@ impl<E: Engine + Drop> World<E> {
         ensures count { IsErrOf result WorldFault.Count → ⊥ }
         ensures items { (s : Federation) → RepresentsWorld E.takes E.stands_for self.old s → IfOk result (λ items. items ≡ numbered number (checkpoint_at s node).items) }
         ensures stands { (s : Federation) → RepresentsWorld E.takes E.stands_for self.old s → OnOk result (RepresentsWorld E.takes E.stands_for self.new (checkpoint_at s node).state) }
-        ensures left { (s : Federation) → RepresentsWorld E.takes E.stands_for self.old s → OnErr result (AreLeftBy (H.file home.new) s (checkpoint_at s node).state (checkpoint_at (disarmed s) node).state) }
+        ensures left { (s : Federation) → RepresentsWorld E.takes E.stands_for self.old s → IfErr result (AreLeftBy (H.file home.new) s (checkpoint_at s node).state (checkpoint_at (disarmed s) node).state) }
         ensures served { OnOk result (AreServed self.new (seen H.file H.reach H.faults H.last_failed home.old) (seen H.file H.reach H.faults H.last_failed home.new)) }
         ensures ended { IfErr result (λ fault. HasEndedAs fault (seen H.file H.reach H.faults H.last_failed home.old) (seen H.file H.reach H.faults H.last_failed home.new)) }
         ensures entered { H.entered home.new ≡ H.entered home.old }
@@ -289,7 +285,7 @@ impl<E: Engine + Drop> World<E> {
         ensures limit { (s : Federation) → RepresentsWorld E.takes E.stands_for self.old s → IsErrOf result WorldFault.Count ↔ MeetsPlainLimit s event.now }
         ensures items { (s : Federation) → RepresentsWorld E.takes E.stands_for self.old s → IsReady s → IfOk result (λ items. items ≡ numbered number (step_line s event.now).items) }
         ensures stands { (s : Federation) → RepresentsWorld E.takes E.stands_for self.old s → IsReady s → OnOk result (RepresentsWorld E.takes E.stands_for self.new (step_line s event.now).state) }
-        ensures left { (s : Federation) → RepresentsWorld E.takes E.stands_for self.old s → IsReady s → OnErr result (AreLeftBy (H.file home.new) s (step_line s event.now).state (step_line (disarmed s) event.now).state) }
+        ensures left { (s : Federation) → RepresentsWorld E.takes E.stands_for self.old s → IsReady s → IfErr result (AreLeftBy (H.file home.new) s (step_line s event.now).state (step_line (disarmed s) event.now).state) }
         ensures served { OnOk result (AreServed self.new (seen H.file H.reach H.faults H.last_failed home.old) (seen H.file H.reach H.faults H.last_failed home.new)) }
         ensures ended { IfErr result (λ fault. HasEndedAs fault (seen H.file H.reach H.faults H.last_failed home.old) (seen H.file H.reach H.faults H.last_failed home.new)) }
         ensures entered { H.entered home.new ≡ H.entered home.old }

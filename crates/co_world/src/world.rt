@@ -1,5 +1,5 @@
 //! The federation, and what one of its nodes does in it.
-ghost use Rattle.std.specs.Prelude.{◌≡◌, ◌⊎◌, ◌≤◌, ℕ, Option, length, IfOk, IfErr, IsErrOf, OnOk, OnErr};
+ghost use Rattle.std.specs.Prelude.{◌≡◌, ◌≤◌, ℕ, Option, length, IfOk, IfErr, IsErrOf, OnOk};
 ghost use Rattle.co_outside.specs.Home.{File};
 ghost use Rattle.co_outside.specs.declared.spot.Spot.{Spot};
 ghost use Rattle.co_plain.specs.Federation.{Federation, answers, with_member, with_coord, noted, items_of};
@@ -7,8 +7,8 @@ ghost use Rattle.co_plain.specs.Runs.{numbered};
 ghost use Rattle.co_plain.specs.Step.{disarmed};
 ghost use Rattle.co_plain.specs.Wire.{send_all};
 ghost use Rattle.co_world.specs.Calls.{member_does, coord_does, MemberMay, CoordMay};
-ghost use Rattle.co_node.specs.Answers.{seen, HomeView};
-ghost use Rattle.co_world.specs.Left.{AreLeftAs, member_disarmed, coord_disarmed};
+ghost use Rattle.co_node.specs.Answers.{seen};
+ghost use Rattle.co_world.specs.Left.{AreLeftWith, member_disarmed, coord_disarmed};
 ghost use Rattle.co_world.specs.Served.{AreServed, HasEndedAs};
 ghost use Rattle.co_world.specs.Standing.{RepresentsWorld, AreHeld};
 ghost use Rattle.co_world.specs.Telling.{IsTold, IsToldBy};
@@ -68,9 +68,8 @@ impl<E: Engine + Drop> World<E> {
 
     /// An answer that changes nothing.
     pub(crate) fn answers(&self, number: u32, answer: Answer) -> Result<Items, WorldFault>
-        ensures count { IsErrOf result WorldFault.Count → ⊥ }
         ensures items { (s : Federation) → IfOk result (λ items. items ≡ numbered number (answers s answer).items) }
-        ensures ended { (v : HomeView) → IfErr result (λ fault. HasEndedAs fault v v) }
+        ensures memory { IfErr result (λ fault. fault ≡ WorldFault.Memory) }
     {
         Ok(items_of(self.alloc, number, &[], &[], answer)?)
     }
@@ -91,7 +90,7 @@ impl<E: Engine + Drop> World<E> {
         ensures stands { (s : Federation) → RepresentsWorld E.takes E.stands_for self.old s →
             OnOk result (RepresentsWorld E.takes E.stands_for self.new (with_member s member (member_does member call (s.member member)).state)) }
         ensures left { (s : Federation) → RepresentsWorld E.takes E.stands_for self.old s →
-            OnErr result (AreLeftAs (H.file home.new) s ⊎ AreLeftAs (H.file home.new) (with_member (disarmed s) member (member_does member call (member_disarmed (s.member member))).state)) }
+            IfErr result (AreLeftWith (H.file home.new) s (with_member (disarmed s) member (member_does member call (member_disarmed (s.member member))).state)) }
         ensures served { OnOk result (AreServed self.new (seen H.file H.reach H.faults H.last_failed home.old) (seen H.file H.reach H.faults H.last_failed home.new)) }
         ensures ended { IfErr result (λ fault. HasEndedAs fault (seen H.file H.reach H.faults H.last_failed home.old) (seen H.file H.reach H.faults H.last_failed home.new)) }
         ensures entered { H.entered home.new ≡ H.entered home.old }
@@ -118,7 +117,7 @@ impl<E: Engine + Drop> World<E> {
         ensures stands { (s : Federation) → RepresentsWorld E.takes E.stands_for self.old s →
             OnOk result (RepresentsWorld E.takes E.stands_for self.new (with_coord s coord (coord_does coord call (s.coord coord)).state)) }
         ensures left { (s : Federation) → RepresentsWorld E.takes E.stands_for self.old s →
-            OnErr result (AreLeftAs (H.file home.new) s ⊎ AreLeftAs (H.file home.new) (with_coord (disarmed s) coord (coord_does coord call (coord_disarmed (s.coord coord))).state)) }
+            IfErr result (AreLeftWith (H.file home.new) s (with_coord (disarmed s) coord (coord_does coord call (coord_disarmed (s.coord coord))).state)) }
         ensures served { OnOk result (AreServed self.new (seen H.file H.reach H.faults H.last_failed home.old) (seen H.file H.reach H.faults H.last_failed home.new)) }
         ensures ended { IfErr result (λ fault. HasEndedAs fault (seen H.file H.reach H.faults H.last_failed home.old) (seen H.file H.reach H.faults H.last_failed home.new)) }
         ensures entered { H.entered home.new ≡ H.entered home.old }
@@ -148,11 +147,10 @@ impl<E: Engine + Drop> World<E> {
         messages: &[Message],
         answer: Answer,
     ) -> Result<Items, WorldFault>
-        ensures count { IsErrOf result WorldFault.Count → ⊥ }
         ensures items { IfOk result (λ items. items ≡ numbered number (items_of marks.now messages.now answer)) }
         ensures stands { (s : Federation) → RepresentsWorld E.takes E.stands_for self.old s → OnOk result (RepresentsWorld E.takes E.stands_for self.new (noted s marks.now messages.now)) }
         ensures held { (file : Spot → Option File) (reach : Spot → ℕ) → AreHeld file reach self.old → OnOk result (AreHeld file reach self.new) }
-        ensures ended { (v : HomeView) → IfErr result (λ fault. HasEndedAs fault v v) }
+        ensures memory { IfErr result (λ fault. fault ≡ WorldFault.Memory) }
     {
         self.send(messages)?;
         Ok(items_of(self.alloc, number, marks, messages, answer)?)

@@ -5,15 +5,15 @@ use Rattle.co_coord.specs.Plans.{commit_plan, deliver_plan, txn_of}
 use Rattle.co_coord.specs.Standing.{is_up}
 use Rattle.co_log.specs.Others.{OtherNodesStay}
 use Rattle.std.proofs.Common.{List, sym, ap, ◌∙◌}
-use Rattle.std.specs.Prelude.{OnErr}
+use Rattle.std.specs.Prelude.{IfErr}
 use Rattle.co_base.specs.declared.part.Part.{Part}
-use Rattle.co_node.specs.Answers.{seen, LeftAs}
+use Rattle.co_node.specs.Answers.{seen}
 use Rattle.co_state.specs.Table.{look}
 use Rattle.co_plain.specs.Coordinator.{coord_commit, coord_deliver}
 use Rattle.co_world.specs.Calls.{coord_does, CoordMay}
-use Rattle.co_world.specs.Left.{coord_disarmed}
+use Rattle.co_world.specs.Left.{IsLeftBy, coord_disarmed}
 use Rattle.co_world.proofs.Leaving.{kept_left, never_left, restart_left, still_left}
-use Rattle.co_world.proofs.CoordLeaving.{checkpoint_left, commit_stable, deliver_stable, plan_left}
+use Rattle.co_world.proofs.CoordLeaving.{checkpoint_left, commit_stable, coord_read, deliver_stable, plan_left}
 use Rattle.co_world.specs.declared.calls.CoordCall.{CoordCall}
 use Rattle.co_world.proofs.Serving.{IsLeft, coord_checkpoint_ended, coord_checkpoint_served, coord_restarted, coord_unrestarted, coord_plan_ended, coord_plan_served}
 use Rattle.co_world.proofs.coords.coord_does.Goals as goal
@@ -113,42 +113,42 @@ pub returns-in-Begin-clause-left : goal.returns-in-Begin-clause-left
 returns-in-Begin-clause-left g c = λ y r.
     let m = c.args.coord.now in
     let n = node.Coord m.number in
-    subst (λ (k : CoordCall). OnErr c.begin.result (LeftAs (g.H.Home.file c.args.home.now) n y.log.stable (coord_does m.number k (coord_disarmed y)).state.log.stable)) (sym c.in-Begin.is)
-    (still_left c.begin.result n (g.H.Home.file c.args.home.now) (g.H.Home.reach c.args.home.now) m.log y.log _ r.log c.requires.kept)
+    subst (λ (k : CoordCall). IfErr c.begin.result (IsLeftBy (g.H.Home.file c.args.home.now) n y.log.stable (coord_does m.number k (coord_disarmed y)).state.log.stable)) (sym c.in-Begin.is)
+    (still_left c.begin.result n (g.H.Home.file c.args.home.now) (g.H.Home.reach c.args.home.now) m.log y.log _ c.begin.ensures.memory r.log c.requires.kept)
 
 pub returns-in-Abort-clause-left : goal.returns-in-Abort-clause-left
 returns-in-Abort-clause-left g c = λ y r.
     let m = c.args.coord.now in
     let n = node.Coord m.number in
-    subst (λ (k : CoordCall). OnErr c.abort.result (LeftAs (g.H.Home.file c.args.home.now) n y.log.stable (coord_does m.number k (coord_disarmed y)).state.log.stable)) (sym c.in-Abort.is)
-    (still_left c.abort.result n (g.H.Home.file c.args.home.now) (g.H.Home.reach c.args.home.now) m.log y.log _ r.log c.requires.kept)
+    subst (λ (k : CoordCall). IfErr c.abort.result (IsLeftBy (g.H.Home.file c.args.home.now) n y.log.stable (coord_does m.number k (coord_disarmed y)).state.log.stable)) (sym c.in-Abort.is)
+    (still_left c.abort.result n (g.H.Home.file c.args.home.now) (g.H.Home.reach c.args.home.now) m.log y.log _ c.abort.ensures.memory r.log c.requires.kept)
 
 pub returns-in-Timer-clause-left : goal.returns-in-Timer-clause-left
 returns-in-Timer-clause-left g c = λ y r.
     let m = c.args.coord.now in
     let n = node.Coord m.number in
-    subst (λ (k : CoordCall). OnErr c.timer.result (LeftAs (g.H.Home.file c.args.home.now) n y.log.stable (coord_does m.number k (coord_disarmed y)).state.log.stable)) (sym c.in-Timer.is)
-    (still_left c.timer.result n (g.H.Home.file c.args.home.now) (g.H.Home.reach c.args.home.now) m.log y.log _ r.log c.requires.kept)
+    subst (λ (k : CoordCall). IfErr c.timer.result (IsLeftBy (g.H.Home.file c.args.home.now) n y.log.stable (coord_does m.number k (coord_disarmed y)).state.log.stable)) (sym c.in-Timer.is)
+    (still_left c.timer.result n (g.H.Home.file c.args.home.now) (g.H.Home.reach c.args.home.now) m.log y.log _ c.timer.ensures.memory r.log c.requires.kept)
 
 pub returns-in-Resend-clause-left : goal.returns-in-Resend-clause-left
 returns-in-Resend-clause-left g c = λ y r.
     let m = c.args.coord.now in
     let n = node.Coord m.number in
-    subst (λ (k : CoordCall). OnErr c.resend.result (LeftAs (g.H.Home.file c.args.home.now) n y.log.stable (coord_does m.number k (coord_disarmed y)).state.log.stable)) (sym c.in-Resend.is)
-    (still_left c.resend.result n (g.H.Home.file c.args.home.now) (g.H.Home.reach c.args.home.now) m.log y.log _ r.log c.requires.kept)
+    subst (λ (k : CoordCall). IfErr c.resend.result (IsLeftBy (g.H.Home.file c.args.home.now) n y.log.stable (coord_does m.number k (coord_disarmed y)).state.log.stable)) (sym c.in-Resend.is)
+    (still_left c.resend.result n (g.H.Home.file c.args.home.now) (g.H.Home.reach c.args.home.now) m.log y.log _ c.resend.ensures.memory r.log c.requires.kept)
 
 pub returns-in-Deliver-clause-left : goal.returns-in-Deliver-clause-left
 returns-in-Deliver-clause-left g c = λ y r.
     let m = c.args.coord.now in
     let n = node.Coord m.number in
-    subst (λ (k : CoordCall). OnErr c.deliver.result (LeftAs (g.H.Home.file c.deliver.new.home) n y.log.stable (coord_does m.number k (coord_disarmed y)).state.log.stable)) (sym c.in-Deliver.is)
+    subst (λ (k : CoordCall). IfErr c.deliver.result (IsLeftBy (g.H.Home.file c.deliver.new.home) n y.log.stable (coord_does m.number k (coord_disarmed y)).state.log.stable)) (sym c.in-Deliver.is)
     (plan_left (deliver_plan m.number c.in-Deliver.message (look y.table (txn_of c.in-Deliver.message))).writes n y m.log c.deliver.new.self.log (seen g.H.Home.file g.H.Home.reach g.H.Home.faults g.H.Home.last_failed c.args.home.now) (seen g.H.Home.file g.H.Home.reach g.H.Home.faults g.H.Home.last_failed c.deliver.new.home) c.deliver.result (coord_deliver m.number (coord_disarmed y) c.in-Deliver.message).state.log.stable (deliver_stable m.number y c.in-Deliver.message) r.log c.requires.kept (c.deliver.ensures.answered y r))
 
 pub returns-in-Commit-clause-left : goal.returns-in-Commit-clause-left
 returns-in-Commit-clause-left g c = λ y r.
     let m = c.args.coord.now in
     let n = node.Coord m.number in
-    subst (λ (k : CoordCall). OnErr c.commit.result (LeftAs (g.H.Home.file c.commit.new.home) n y.log.stable (coord_does m.number k (coord_disarmed y)).state.log.stable)) (sym c.in-Commit.is)
+    subst (λ (k : CoordCall). IfErr c.commit.result (IsLeftBy (g.H.Home.file c.commit.new.home) n y.log.stable (coord_does m.number k (coord_disarmed y)).state.log.stable)) (sym c.in-Commit.is)
     (plan_left (commit_plan m.number c.in-Commit.txn c.as_slice.result.now (look y.table c.in-Commit.txn)).writes n y m.log c.commit.new.self.log (seen g.H.Home.file g.H.Home.reach g.H.Home.faults g.H.Home.last_failed c.args.home.now) (seen g.H.Home.file g.H.Home.reach g.H.Home.faults g.H.Home.last_failed c.commit.new.home) c.commit.result (coord_commit m.number (coord_disarmed y) c.in-Commit.txn c.in-Commit.parts).state.log.stable
     (commit_stable m.number c.in-Commit.txn y c.as_slice.result.now ∙ ap (λ (parts : List Part). (coord_commit m.number (coord_disarmed y) c.in-Commit.txn parts).state.log.stable) c.as_slice.ensures) r.log c.requires.kept (c.commit.ensures.answered y r))
 
@@ -156,19 +156,19 @@ pub returns-in-Checkpoint-clause-left : goal.returns-in-Checkpoint-clause-left
 returns-in-Checkpoint-clause-left g c = λ y r.
     let m = c.args.coord.now in
     let n = node.Coord m.number in
-    subst (λ (k : CoordCall). OnErr c.checkpoint.result (LeftAs (g.H.Home.file c.checkpoint.new.home) n y.log.stable (coord_does m.number k (coord_disarmed y)).state.log.stable)) (sym c.in-Checkpoint.is)
+    subst (λ (k : CoordCall). IfErr c.checkpoint.result (IsLeftBy (g.H.Home.file c.checkpoint.new.home) n y.log.stable (coord_does m.number k (coord_disarmed y)).state.log.stable)) (sym c.in-Checkpoint.is)
     (checkpoint_left m.number y m.log c.checkpoint.new.self.log (seen g.H.Home.file g.H.Home.reach g.H.Home.faults g.H.Home.last_failed c.args.home.now) (seen g.H.Home.file g.H.Home.reach g.H.Home.faults g.H.Home.last_failed c.checkpoint.new.home) c.checkpoint.result (c.checkpoint.ensures.answered y r) (λ that. kept_left n (g.H.Home.file c.args.home.now) (g.H.Home.reach c.args.home.now) m.log y.log that r.log c.requires.kept))
 
 pub returns-in-Crash-clause-left : goal.returns-in-Crash-clause-left
 returns-in-Crash-clause-left g c = λ y r.
     let m = c.args.coord.now in
     let n = node.Coord m.number in
-    subst (λ (k : CoordCall). OnErr c.crash.result (LeftAs (g.H.Home.file c.crash.new.home) n y.log.stable (coord_does m.number k (coord_disarmed y)).state.log.stable)) (sym c.in-Crash.is)
+    subst (λ (k : CoordCall). IfErr c.crash.result (IsLeftBy (g.H.Home.file c.crash.new.home) n y.log.stable (coord_does m.number k (coord_disarmed y)).state.log.stable)) (sym c.in-Crash.is)
     (never_left c.crash.result _ c.crash.ensures.done)
 
 pub returns-in-Restart-clause-left : goal.returns-in-Restart-clause-left
 returns-in-Restart-clause-left g c = λ y r.
     let m = c.args.coord.now in
     let n = node.Coord m.number in
-    subst (λ (k : CoordCall). OnErr c.restart.result (LeftAs (g.H.Home.file c.restart.new.home) n y.log.stable (coord_does m.number k (coord_disarmed y)).state.log.stable)) (sym c.in-Restart.is)
-    (restart_left c.restart.result n (g.H.Home.file c.args.home.now) (g.H.Home.file c.restart.new.home) (g.H.Home.reach c.args.home.now) (g.H.Home.reach c.restart.new.home) m.log y.log _ r.log c.requires.kept c.restart.ensures.files.0 c.restart.ensures.files.1 c.restart.ensures.rest.others)
+    subst (λ (k : CoordCall). IfErr c.restart.result (IsLeftBy (g.H.Home.file c.restart.new.home) n y.log.stable (coord_does m.number k (coord_disarmed y)).state.log.stable)) (sym c.in-Restart.is)
+    (restart_left c.restart.result n (g.H.Home.file c.args.home.now) (g.H.Home.file c.restart.new.home) (g.H.Home.reach c.args.home.now) (g.H.Home.reach c.restart.new.home) m.log y.log _ (coord_read g.H.Home.gives g.H.Home.file g.H.Home.reach g.H.Home.entered g.H.Home.faults g.H.Home.last_failed m.log c.args.home.now c.restart.new.home (is_up m) c.restart.result c.restart.ensures.reread) r.log c.requires.kept c.restart.ensures.files.0 c.restart.ensures.files.1 c.restart.ensures.rest.others)

@@ -5,8 +5,7 @@ use Rattle.co_plain.specs.Step.{arm_at, disarmed}
 use Rattle.co_schedule.specs.View.{IsNode}
 use Rattle.co_world.proofs.Ends.{passed_memory, wants_memory, no_limit}
 use Rattle.co_world.proofs.Told.{told_as, stands_as}
-use Rattle.co_world.proofs.Lefts.{held_left}
-use Rattle.co_world.proofs.Leaving.{at_fault}
+use Rattle.co_world.proofs.Lefts.{held_left, wanting_left}
 use Rattle.co_world.proofs.LeftSteps.{left_as}
 use Rattle.co_world.proofs.world.World.arm.Goals as goal
 
@@ -82,7 +81,7 @@ returns-in-Coord-clause-ended g c =
 
 pub returns-in_err-leaves-clause-left : goal.returns-in_err-leaves-clause-left
 returns-in_err-leaves-clause-left g c = λ s r.
-    at_fault c.from_residual.result (inl (held_left g.E.Engine.takes g.E.Engine.stands_for c.args.self.now s (g.H.Home.file c.args.home.now) (g.H.Home.reach c.args.home.now) r c.requires.held))
+    wanting_left c.from_residual.result _ _ _ _ (passed_memory _ c.from_residual.result c.from_residual.ensures refl) (inl (held_left g.E.Engine.takes g.E.Engine.stands_for c.args.self.now s (g.H.Home.file c.args.home.now) (g.H.Home.reach c.args.home.now) r c.requires.held))
 
 pub returns-in-Member-clause-left : goal.returns-in-Member-clause-left
 returns-in-Member-clause-left g c = λ s r.

@@ -6,13 +6,13 @@ use Rattle.co_plain.specs.Runs.{numbered}
 use Rattle.co_plain.specs.Step.{disarmed, up_member}
 use Rattle.co_state.proofs.Tables.{on_ok}
 use Rattle.co_world.specs.Calls.{member_does}
-use Rattle.co_world.specs.Left.{member_disarmed}
+use Rattle.co_world.specs.Left.{member_disarmed, AreLeftBy}
 use Rattle.co_world.specs.Served.{AreServed}
 use Rattle.co_world.specs.Standing.{AreHeld, RepresentsWorld}
-use Rattle.co_world.proofs.Ending.{told_ended}
-use Rattle.co_world.proofs.Leaving.{at_fault}
-use Rattle.co_world.proofs.Lefts.{either_left, held_left, member_step_left}
+use Rattle.co_world.proofs.Lefts.{either_left, held_left, member_step_left, wanting_left, member_step_overlong}
 use Rattle.co_world.proofs.Steps.{member_is_down, member_is_up, member_noted}
+use Rattle.co_world.proofs.Ends.{wants_memory}
+use Rattle.co_world.proofs.Ending.{passed_on}
 use Rattle.co_world.proofs.world.World.at_member.Goals as goal
 
 pub returns-then-not-member_up-clause-items : goal.returns-then-not-member_up-clause-items
@@ -49,11 +49,11 @@ pub returns-clause-ended : goal.returns-clause-ended
 returns-clause-ended g c =
     let old = seen g.H.Home.file g.H.Home.reach g.H.Home.faults g.H.Home.last_failed c.args.home.now in
     let new = seen g.H.Home.file g.H.Home.reach g.H.Home.faults g.H.Home.last_failed c.member_does.new.home in
-    told_ended c.tells_of_member.result old new c.tells_of_member.ensures.ended c.tells_of_member.ensures.count c.in_ok-did.ensures.served.quiet
+    wants_memory c.tells_of_member.result old new c.in_ok-did.ensures.served.quiet c.tells_of_member.ensures.memory
 
 pub returns-then-not-member_up-clause-left : goal.returns-then-not-member_up-clause-left
 returns-then-not-member_up-clause-left g c = λ s r.
-    at_fault c.answers.result (inl (held_left g.E.Engine.takes g.E.Engine.stands_for c.args.self.now s (g.H.Home.file c.args.home.now) (g.H.Home.reach c.args.home.now) r c.requires.held))
+    wanting_left c.answers.result _ _ _ _ c.answers.ensures.memory (inl (held_left g.E.Engine.takes g.E.Engine.stands_for c.args.self.now s (g.H.Home.file c.args.home.now) (g.H.Home.reach c.args.home.now) r c.requires.held))
 
 pub returns-in_err-did-clause-left : goal.returns-in_err-did-clause-left
 returns-in_err-did-clause-left g c = λ s r.
@@ -62,8 +62,11 @@ returns-in_err-did-clause-left g c = λ s r.
     let up : (s.member k).up ≡ true = sym (c.member_up.ensures s r) ∙ c.if-not-member_up.false in
     let step = member_does k c.args.call (s.member k) in
     let whole = member_does k c.args.call (member_disarmed (s.member k)) in
-    at_fault c.from_residual.result
-    (either_left file s (up_member s k (s.member k).up step).state (up_member (disarmed s) k (s.member k).up whole).state (with_member (disarmed s) k whole.state) (member_step_left file (disarmed s) k (s.member k).up whole up) (c.in_err-did.ensures.left s r))
+    let fault = c.in_err-did.field-0.0 in
+    let after = (up_member s k (s.member k).up step).state in
+    let completed = (up_member (disarmed s) k (s.member k).up whole).state in
+    passed_on c.from_residual.result fault (AreLeftBy file s after completed) c.from_residual.ensures
+    (either_left file s s after completed (with_member (disarmed s) k whole.state) fault (λ left. left) (member_step_left file (disarmed s) k (s.member k).up whole up) (member_step_overlong (disarmed s) k (s.member k).up whole up) (c.in_err-did.ensures.left s r))
 
 pub returns-clause-left : goal.returns-clause-left
 returns-clause-left g c = λ s r.
@@ -72,4 +75,4 @@ returns-clause-left g c = λ s r.
     let up : (s.member k).up ≡ true = sym (c.member_up.ensures s r) ∙ c.if-not-member_up.false in
     let step = member_does k c.args.call (s.member k) in
     let now = held_left g.E.Engine.takes g.E.Engine.stands_for c.member_does.new.self (with_member s k step.state) file (g.H.Home.reach c.member_does.new.home) (c.in_ok-did.ensures.stands s r) c.in_ok-did.ensures.served.kept in
-    at_fault c.tells_of_member.result (inr (inl (member_step_left file s k (s.member k).up step up now)))
+    wanting_left c.tells_of_member.result _ _ _ _ c.tells_of_member.ensures.memory (inr (inl (member_step_left file s k (s.member k).up step up now)))

@@ -9,15 +9,14 @@ use Rattle.co_plain.specs.Federation.{answers, with_session, with_coord, at_coor
 use Rattle.co_plain.specs.Sessions.{begun_by}
 use Rattle.co_plain.specs.Step.{is_used, begin_where, disarmed}
 use Rattle.co_session.specs.Clients.{is_used as is_used_in}
-use Rattle.co_world.specs.Served.{HasEndedAs}
+use Rattle.co_world.specs.Served.{HasEndedAs, IsOfNoFile}
 use Rattle.co_world.proofs.Acting.{used_alike, begins, own_coord}
 use Rattle.co_world.proofs.Ends.{errs_as, passed, passed_limit, passed_memory, wants_memory, no_limit, served_alone, served_after, all_ok}
-use Rattle.co_world.proofs.Ending.{told_ended}
 use Rattle.co_world.proofs.Told.{told_as, stands_as, answered_stands, coord_told, coord_stands}
-use Rattle.co_world.proofs.Lefts.{held_left}
-use Rattle.co_world.proofs.Leaving.{at_fault}
+use Rattle.co_world.proofs.Lefts.{held_left, wanting_left, unserved_left}
 use Rattle.co_world.proofs.LeftSteps.{at_coord_left, begun_left, left_as}
-use Rattle.co_world.specs.Left.{coord_disarmed}
+use Rattle.co_world.specs.Left.{coord_disarmed, AreLeftBy}
+use Rattle.co_world.proofs.Ending.{passed_on}
 use Rattle.co_world.proofs.world.World.begin.Goals as goal
 
 -- ---- the number is used, or there are too many
@@ -36,7 +35,7 @@ returns-in_err-used-clause-ended g c =
 pub returns-then-branch-clause-count : goal.returns-then-branch-clause-count
 returns-then-branch-clause-count g c =
     let used = sym c.in_ok-used.ensures.used ∙ c.if-branch.true in
-    (λ is. absurd (c.answers.ensures.count is), λ more. apart_by (is_used_in c.args.self.now.sessions c.args.t) used more.0)
+    (λ is. absurd (no_limit c.answers.result c.answers.ensures.memory is), λ more. apart_by (is_used_in c.args.self.now.sessions c.args.t) used more.0)
 
 pub returns-then-branch-clause-items : goal.returns-then-branch-clause-items
 returns-then-branch-clause-items g c = λ s r.
@@ -57,14 +56,14 @@ returns-then-branch-clause-served g c =
 pub returns-then-branch-clause-ended : goal.returns-then-branch-clause-ended
 returns-then-branch-clause-ended g c =
     let old = seen g.H.Home.file g.H.Home.reach g.H.Home.faults g.H.Home.last_failed c.args.home.now in
-    c.answers.ensures.ended old
+    wants_memory c.answers.result old old refl c.answers.ensures.memory
 
 -- ---- the coordinator is down
 
 pub returns-then-not-coord_up-clause-count : goal.returns-then-not-coord_up-clause-count
 returns-then-not-coord_up-clause-count g c =
     let room = c.in_ok-used.ensures.room c.if-branch.false in
-    (λ is. absurd (c.answers-then-not-coord_up.ensures.count is), λ more. apart_by _ more.1 room)
+    (λ is. absurd (no_limit c.answers-then-not-coord_up.result c.answers-then-not-coord_up.ensures.memory is), λ more. apart_by _ more.1 room)
 
 pub returns-then-not-coord_up-clause-items : goal.returns-then-not-coord_up-clause-items
 returns-then-not-coord_up-clause-items g c = λ s r.
@@ -87,7 +86,7 @@ returns-then-not-coord_up-clause-served g c =
 pub returns-then-not-coord_up-clause-ended : goal.returns-then-not-coord_up-clause-ended
 returns-then-not-coord_up-clause-ended g c =
     let old = seen g.H.Home.file g.H.Home.reach g.H.Home.faults g.H.Home.last_failed c.args.home.now in
-    c.answers-then-not-coord_up.ensures.ended old
+    wants_memory c.answers-then-not-coord_up.result old old refl c.answers-then-not-coord_up.ensures.memory
 
 -- ---- the number is used up, and the coordinator begins
 
@@ -140,7 +139,7 @@ returns-in_err-did-clause-ended g c =
 pub returns-clause-count : goal.returns-clause-count
 returns-clause-count g c =
     let room = c.in_ok-used.ensures.room c.if-branch.false in
-    (λ is. absurd (c.tells_of_coord.ensures.count is), λ more. apart_by _ more.1 room)
+    (λ is. absurd (no_limit c.tells_of_coord.result c.tells_of_coord.ensures.memory is), λ more. apart_by _ more.1 room)
 
 pub returns-clause-items : goal.returns-clause-items
 returns-clause-items g c = λ s r.
@@ -181,23 +180,23 @@ pub returns-clause-ended : goal.returns-clause-ended
 returns-clause-ended g c =
     let old = seen g.H.Home.file g.H.Home.reach g.H.Home.faults g.H.Home.last_failed c.args.home.now in
     let new = seen g.H.Home.file g.H.Home.reach g.H.Home.faults g.H.Home.last_failed c.coord_does.new.home in
-    told_ended c.tells_of_coord.result old new c.tells_of_coord.ensures.ended c.tells_of_coord.ensures.count c.in_ok-did.ensures.served.quiet
+    wants_memory c.tells_of_coord.result old new c.in_ok-did.ensures.served.quiet c.tells_of_coord.ensures.memory
 
 pub returns-in_err-used-clause-left : goal.returns-in_err-used-clause-left
 returns-in_err-used-clause-left g c = λ s r.
-    at_fault c.from_residual.result (inl (held_left g.E.Engine.takes g.E.Engine.stands_for c.args.self.now s (g.H.Home.file c.args.home.now) (g.H.Home.reach c.args.home.now) r c.requires.held))
+    unserved_left c.from_residual.result _ _ _ _ (passed_on c.from_residual.result c.in_err-used.field-0.0 IsOfNoFile c.from_residual.ensures (subst IsOfNoFile (sym c.in_err-used.ensures.count.0) tt)) (inl (held_left g.E.Engine.takes g.E.Engine.stands_for c.args.self.now s (g.H.Home.file c.args.home.now) (g.H.Home.reach c.args.home.now) r c.requires.held))
 
 pub returns-then-branch-clause-left : goal.returns-then-branch-clause-left
 returns-then-branch-clause-left g c = λ s r.
-    at_fault c.answers.result (inl (held_left g.E.Engine.takes g.E.Engine.stands_for c.args.self.now s (g.H.Home.file c.args.home.now) (g.H.Home.reach c.args.home.now) r c.requires.held))
+    wanting_left c.answers.result _ _ _ _ c.answers.ensures.memory (inl (held_left g.E.Engine.takes g.E.Engine.stands_for c.args.self.now s (g.H.Home.file c.args.home.now) (g.H.Home.reach c.args.home.now) r c.requires.held))
 
 pub returns-then-not-coord_up-clause-left : goal.returns-then-not-coord_up-clause-left
 returns-then-not-coord_up-clause-left g c = λ s r.
-    at_fault c.answers-then-not-coord_up.result (inl (held_left g.E.Engine.takes g.E.Engine.stands_for c.args.self.now s (g.H.Home.file c.args.home.now) (g.H.Home.reach c.args.home.now) r c.requires.held))
+    wanting_left c.answers-then-not-coord_up.result _ _ _ _ c.answers-then-not-coord_up.ensures.memory (inl (held_left g.E.Engine.takes g.E.Engine.stands_for c.args.self.now s (g.H.Home.file c.args.home.now) (g.H.Home.reach c.args.home.now) r c.requires.held))
 
 pub returns-in_err-begin-clause-left : goal.returns-in_err-begin-clause-left
 returns-in_err-begin-clause-left g c = λ s r.
-    at_fault c.from_residual-in_err-begin.result (inl (held_left g.E.Engine.takes g.E.Engine.stands_for c.args.self.now s (g.H.Home.file c.args.home.now) (g.H.Home.reach c.args.home.now) r c.requires.held))
+    wanting_left c.from_residual-in_err-begin.result _ _ _ _ (passed_memory _ c.from_residual-in_err-begin.result c.from_residual-in_err-begin.ensures refl) (inl (held_left g.E.Engine.takes g.E.Engine.stands_for c.args.self.now s (g.H.Home.file c.args.home.now) (g.H.Home.reach c.args.home.now) r c.requires.held))
 
 pub returns-in_err-did-clause-left : goal.returns-in_err-did-clause-left
 returns-in_err-did-clause-left g c = λ s r.
@@ -214,7 +213,7 @@ returns-in_err-did-clause-left g c = λ s r.
     let all = at_coord (with_session (disarmed s) c.args.t (begun_by by)) c.args.coord whole in
     left_as c.from_residual-in_err-did.result file s first (begin_where s c.args.t c.args.coord (is_used s c.args.t) (s.coord c.args.coord).up) all (begin_where (disarmed s) c.args.t c.args.coord (is_used s c.args.t) (s.coord c.args.coord).up)
     (λ i. begin_where s c.args.t c.args.coord (sym unused i) (sym up i)) (λ i. begin_where (disarmed s) c.args.t c.args.coord (sym unused i) (sym up i))
-    (at_fault c.from_residual-in_err-did.result (begun_left file s c.args.t (begun_by by) c.args.coord first.state whole (c.in_err-did.ensures.left plain begun)))
+    (passed_on c.from_residual-in_err-did.result c.in_err-did.field-0.0 (AreLeftBy file s first.state all.state) c.from_residual-in_err-did.ensures (begun_left file s c.args.t (begun_by by) c.args.coord first.state whole c.in_err-did.field-0.0 (c.in_err-did.ensures.left plain begun)))
 
 pub returns-clause-left : goal.returns-clause-left
 returns-clause-left g c = λ s r.
@@ -232,4 +231,4 @@ returns-clause-left g c = λ s r.
     let now = held_left g.E.Engine.takes g.E.Engine.stands_for c.coord_does.new.self (with_coord plain c.args.coord step.state) (g.H.Home.file c.coord_does.new.home) (g.H.Home.reach c.coord_does.new.home) (c.in_ok-did.ensures.stands plain begun) c.in_ok-did.ensures.served.kept in
     left_as c.tells_of_coord.result file s first (begin_where s c.args.t c.args.coord (is_used s c.args.t) (s.coord c.args.coord).up) all (begin_where (disarmed s) c.args.t c.args.coord (is_used s c.args.t) (s.coord c.args.coord).up)
     (λ i. begin_where s c.args.t c.args.coord (sym unused i) (sym up i)) (λ i. begin_where (disarmed s) c.args.t c.args.coord (sym unused i) (sym up i))
-    (at_fault c.tells_of_coord.result (inr (inl (at_coord_left file plain c.args.coord step now))))
+    (wanting_left c.tells_of_coord.result _ _ _ _ c.tells_of_coord.ensures.memory (inr (inl (at_coord_left file plain c.args.coord step now))))

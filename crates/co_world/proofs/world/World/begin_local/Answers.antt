@@ -1,16 +1,16 @@
 use Rattle.std.proofs.Common.{Bool, Err, refl, sym, ap, ◌∙◌, subst}
 use Rattle.co_base.specs.declared.node.Node.TheVariants as node
-use Rattle.co_durable.specs.declared.fault.WorldFault.{WorldFault}
 use Rattle.co_law_base.proofs.Lookups.{apart_by}
 use Rattle.co_message.specs.declared.answer.Answer.TheVariants as answer
 use Rattle.co_plain.specs.Federation.{answers, with_session}
 use Rattle.co_plain.specs.Sessions.{begun_by}
 use Rattle.co_plain.specs.Step.{is_used, local_where}
 use Rattle.co_session.specs.Clients.{is_used as is_used_in}
-use Rattle.co_world.specs.Served.{HasEndedAs}
+use Rattle.co_world.specs.Served.{IsOfNoFile}
 use Rattle.co_world.proofs.Acting.{used_alike, begins, own_member}
-use Rattle.co_world.proofs.Ends.{errs_as, passed, passed_memory, wants_memory, no_limit, all_ok}
+use Rattle.co_world.proofs.Ends.{errs_as, passed_memory, no_limit, all_ok, of_memory}
 use Rattle.co_world.proofs.Told.{told_as, answered_stands}
+use Rattle.co_world.proofs.Ending.{passed_on}
 use Rattle.co_world.proofs.world.World.begin_local.Goals as goal
 
 pub returns-in_err-used-clause-count : goal.returns-in_err-used-clause-count
@@ -19,13 +19,13 @@ returns-in_err-used-clause-count g c =
     (λ is. (why.1, why.2), λ more. errs_as c.in_err-used.field-0.0 c.from_residual.result c.from_residual.ensures ∙ ap Err why.0)
 
 pub returns-in_err-used-clause-ended : goal.returns-in_err-used-clause-ended
-returns-in_err-used-clause-ended g c = λ v.
-    passed c.in_err-used.field-0.0 c.from_residual.result v v c.from_residual.ensures (subst (λ (f : WorldFault). HasEndedAs f v v) (sym c.in_err-used.ensures.count.0) refl)
+returns-in_err-used-clause-ended g c =
+    passed_on c.from_residual.result c.in_err-used.field-0.0 IsOfNoFile c.from_residual.ensures (subst IsOfNoFile (sym c.in_err-used.ensures.count.0) tt)
 
 pub returns-then-branch-clause-count : goal.returns-then-branch-clause-count
 returns-then-branch-clause-count g c =
     let used = sym c.in_ok-used.ensures.used ∙ c.if-branch.true in
-    (λ is. absurd (c.answers.ensures.count is), λ more. apart_by (is_used_in c.args.self.now.sessions c.args.t) used more.0)
+    (λ is. absurd (no_limit c.answers.result c.answers.ensures.memory is), λ more. apart_by (is_used_in c.args.self.now.sessions c.args.t) used more.0)
 
 pub returns-then-branch-clause-items : goal.returns-then-branch-clause-items
 returns-then-branch-clause-items g c = λ s r.
@@ -42,13 +42,13 @@ returns-then-branch-clause-held g c = λ file reach held.
     all_ok c.answers.result held
 
 pub returns-then-branch-clause-ended : goal.returns-then-branch-clause-ended
-returns-then-branch-clause-ended g c = λ v.
-    c.answers.ensures.ended v
+returns-then-branch-clause-ended g c =
+    of_memory c.answers.result c.answers.ensures.memory
 
 pub returns-then-not-member_up-clause-count : goal.returns-then-not-member_up-clause-count
 returns-then-not-member_up-clause-count g c =
     let room = c.in_ok-used.ensures.room c.if-branch.false in
-    (λ is. absurd (c.answers-then-not-member_up.ensures.count is), λ more. apart_by _ more.1 room)
+    (λ is. absurd (no_limit c.answers-then-not-member_up.result c.answers-then-not-member_up.ensures.memory is), λ more. apart_by _ more.1 room)
 
 pub returns-then-not-member_up-clause-items : goal.returns-then-not-member_up-clause-items
 returns-then-not-member_up-clause-items g c = λ s r.
@@ -67,8 +67,8 @@ returns-then-not-member_up-clause-held g c = λ file reach held.
     all_ok c.answers-then-not-member_up.result held
 
 pub returns-then-not-member_up-clause-ended : goal.returns-then-not-member_up-clause-ended
-returns-then-not-member_up-clause-ended g c = λ v.
-    c.answers-then-not-member_up.ensures.ended v
+returns-then-not-member_up-clause-ended g c =
+    of_memory c.answers-then-not-member_up.result c.answers-then-not-member_up.ensures.memory
 
 pub begin-requires-clause-unused : goal.begin-requires-clause-unused
 begin-requires-clause-unused g c =
@@ -84,13 +84,13 @@ returns-in_err-begin-clause-count g c =
     (λ is. absurd (no_limit c.from_residual-in_err-begin.result (passed_memory _ c.from_residual-in_err-begin.result c.from_residual-in_err-begin.ensures refl) is), λ more. apart_by _ more.1 room)
 
 pub returns-in_err-begin-clause-ended : goal.returns-in_err-begin-clause-ended
-returns-in_err-begin-clause-ended g c = λ v.
-    wants_memory c.from_residual-in_err-begin.result v v refl (passed_memory _ c.from_residual-in_err-begin.result c.from_residual-in_err-begin.ensures refl)
+returns-in_err-begin-clause-ended g c =
+    of_memory c.from_residual-in_err-begin.result (passed_memory _ c.from_residual-in_err-begin.result c.from_residual-in_err-begin.ensures refl)
 
 pub returns-clause-count : goal.returns-clause-count
 returns-clause-count g c =
     let room = c.in_ok-used.ensures.room c.if-branch.false in
-    (λ is. absurd (c.answers-2.ensures.count is), λ more. apart_by _ more.1 room)
+    (λ is. absurd (no_limit c.answers-2.result c.answers-2.ensures.memory is), λ more. apart_by _ more.1 room)
 
 pub returns-clause-items : goal.returns-clause-items
 returns-clause-items g c = λ s r.
@@ -115,5 +115,5 @@ returns-clause-held g c = λ file reach held.
     all_ok c.answers-2.result (record { member = held.member; coord = held.coord })
 
 pub returns-clause-ended : goal.returns-clause-ended
-returns-clause-ended g c = λ v.
-    c.answers-2.ensures.ended v
+returns-clause-ended g c =
+    of_memory c.answers-2.result c.answers-2.ensures.memory

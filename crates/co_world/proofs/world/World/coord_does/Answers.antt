@@ -2,7 +2,10 @@ use Rattle.std.proofs.Common.{◌≡◌, ◌<◌, ◌-◌, length, suc, refl, sy
 use Rattle.std.specs.Prelude.{ℕ}
 use Rattle.std.specs.Vec.{with_item}
 use Rattle.co_node.specs.Answers.{seen}
-use Rattle.co_world.specs.Calls.{CoordMay}
+use Rattle.co_world.specs.Calls.{CoordMay, coord_does}
+use Rattle.co_plain.specs.Federation.{with_coord}
+use Rattle.co_plain.specs.Step.{disarmed}
+use Rattle.co_world.specs.Left.{AreLeftWith, coord_disarmed}
 use Rattle.co_world.proofs.Kept.{kept_by_coord}
 use Rattle.co_world.proofs.Lefts.{coord_fault}
 use Rattle.co_world.proofs.Places.{at_place}
@@ -65,4 +68,5 @@ returns-in-Err-clause-left g c = λ s r.
     let place : c.from.result - 1 < length w.coords.items = omega arith in
     let next : suc (c.from.result - 1) ≡ c.args.coord = omega arith in
     let here = at_place w.coords.items (c.from.result - 1) c.index_mut.result.now place c.index_mut.ensures.value in
-    coord_fault g.E.Engine.takes g.E.Engine.stands_for w s r (g.H.Home.file c.args.home.now) (g.H.Home.file c.coord_does.new.home) (g.H.Home.reach c.args.home.now) (g.H.Home.reach c.coord_does.new.home) c.requires.held c.args.coord (c.from.result - 1) c.index_mut.result.now c.args.call next here c.in-Err.ensures.rest.others c.in-Err.ensures.left
+    subst (AreLeftWith (g.H.Home.file c.coord_does.new.home) s (with_coord (disarmed s) c.args.coord (coord_does c.args.coord c.args.call (coord_disarmed (s.coord c.args.coord))).state)) (sym c.of_node.ensures)
+    (coord_fault g.E.Engine.takes g.E.Engine.stands_for w s r (g.H.Home.file c.args.home.now) (g.H.Home.file c.coord_does.new.home) (g.H.Home.reach c.args.home.now) (g.H.Home.reach c.coord_does.new.home) c.requires.held c.args.coord (c.from.result - 1) c.index_mut.result.now c.args.call next here c.in-Err.ensures.rest.others c.in-Err.fault c.in-Err.ensures.left)

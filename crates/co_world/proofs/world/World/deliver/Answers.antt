@@ -10,11 +10,10 @@ use Rattle.co_plain.specs.Federation.{answers}
 use Rattle.co_plain.specs.Step.{deliver, disarmed}
 use Rattle.co_schedule.specs.View.{IsNode}
 use Rattle.co_world.proofs.Acting.{own_coord, own_member}
-use Rattle.co_world.proofs.Ends.{served_alone, all_ok}
+use Rattle.co_world.proofs.Ends.{served_alone, all_ok, wants_memory, no_limit}
 use Rattle.co_world.proofs.Ready.{takes_note, hears_note}
 use Rattle.co_world.proofs.Told.{told_as, stands_as, answered_stands}
-use Rattle.co_world.proofs.Lefts.{held_left}
-use Rattle.co_world.proofs.Leaving.{at_fault}
+use Rattle.co_world.proofs.Lefts.{held_left, wanting_left}
 use Rattle.co_world.proofs.LeftSteps.{left_as}
 use Rattle.co_world.proofs.world.World.deliver.Goals as goal
 
@@ -89,7 +88,7 @@ returns-in-Coord-clause-ended g c =
 
 pub returns-in-Err-clause-count : goal.returns-in-Err-clause-count
 returns-in-Err-clause-count g c =
-    c.answers.ensures.count
+    no_limit c.answers.result c.answers.ensures.memory
 
 pub returns-in-Err-clause-items : goal.returns-in-Err-clause-items
 returns-in-Err-clause-items g c = λ s r ready.
@@ -107,7 +106,7 @@ returns-in-Err-clause-served g c =
 
 pub returns-in-Err-clause-ended : goal.returns-in-Err-clause-ended
 returns-in-Err-clause-ended g c =
-    c.answers.ensures.ended (seen g.H.Home.file g.H.Home.reach g.H.Home.faults g.H.Home.last_failed c.args.home.now)
+    wants_memory c.answers.result (seen g.H.Home.file g.H.Home.reach g.H.Home.faults g.H.Home.last_failed c.args.home.now) (seen g.H.Home.file g.H.Home.reach g.H.Home.faults g.H.Home.last_failed c.args.home.now) refl c.answers.ensures.memory
 
 pub returns-in-Member-clause-left : goal.returns-in-Member-clause-left
 returns-in-Member-clause-left g c = λ s r ready.
@@ -123,4 +122,4 @@ returns-in-Coord-clause-left g c = λ s r ready.
 
 pub returns-in-Err-clause-left : goal.returns-in-Err-clause-left
 returns-in-Err-clause-left g c = λ s r ready.
-    at_fault c.answers.result (inl (held_left g.E.Engine.takes g.E.Engine.stands_for c.args.self.now s (g.H.Home.file c.args.home.now) (g.H.Home.reach c.args.home.now) r c.requires.held))
+    wanting_left c.answers.result _ _ _ _ c.answers.ensures.memory (inl (held_left g.E.Engine.takes g.E.Engine.stands_for c.args.self.now s (g.H.Home.file c.args.home.now) (g.H.Home.reach c.args.home.now) r c.requires.held))

@@ -1,4 +1,4 @@
-use Rattle.std.proofs.Common.{◌≡◌, Bool, not, length, Err, refl, sym, ap, ◌∙◌, subst, inl, inr, true, ◌⊎◌}
+use Rattle.std.proofs.Common.{◌≡◌, Bool, not, length, Err, refl, sym, ap, ◌∙◌, subst, inl, inr, true}
 use Rattle.co_base.specs.declared.node.Node.TheVariants as node
 use Rattle.co_message.specs.declared.answer.Answer.{Answer}
 use Rattle.co_message.specs.declared.answer.Answer.TheVariants as answer
@@ -16,18 +16,17 @@ use Rattle.co_world.specs.Standing.{RepresentsWorld}
 use Rattle.co_world.proofs.Acting.{begun_here}
 use Rattle.co_world.proofs.ClientSteps.{marked_by_coord}
 use Rattle.co_world.proofs.Ends.{passed, passed_limit, passed_memory, wants_memory, no_limit, served_alone, served_after, all_ok}
-use Rattle.co_world.proofs.Ending.{told_ended}
 use Rattle.co_world.proofs.Ready.{ends_at_coord}
 use Rattle.co_world.proofs.Told.{told_as, stands_as, answered_stands, coord_told, coord_stands}
-use Rattle.co_world.proofs.Lefts.{either_left, held_left}
-use Rattle.co_world.proofs.Leaving.{at_fault}
-use Rattle.co_world.proofs.LeftSteps.{coord_answers_left}
-use Rattle.co_world.specs.Left.{AreLeftAs, coord_disarmed}
+use Rattle.co_world.proofs.Lefts.{either_left, held_left, wanting_left}
+use Rattle.co_world.proofs.LeftSteps.{coord_answers_left, coord_answers_overlong}
+use Rattle.co_world.specs.Left.{coord_disarmed, AreLeftBy, AreLeftWith}
+use Rattle.co_world.proofs.Ending.{passed_on}
 use Rattle.co_world.proofs.world.World.end_at_coord.Goals as goal
 
 pub returns-then-not-coord_up-clause-count : goal.returns-then-not-coord_up-clause-count
 returns-then-not-coord_up-clause-count g c =
-    c.answers.ensures.count
+    no_limit c.answers.result c.answers.ensures.memory
 
 pub returns-then-not-coord_up-clause-items : goal.returns-then-not-coord_up-clause-items
 returns-then-not-coord_up-clause-items g c = λ s r session here.
@@ -47,7 +46,7 @@ returns-then-not-coord_up-clause-served g c =
 
 pub returns-then-not-coord_up-clause-ended : goal.returns-then-not-coord_up-clause-ended
 returns-then-not-coord_up-clause-ended g c =
-    c.answers.ensures.ended (seen g.H.Home.file g.H.Home.reach g.H.Home.faults g.H.Home.last_failed c.args.home.now)
+    wants_memory c.answers.result (seen g.H.Home.file g.H.Home.reach g.H.Home.faults g.H.Home.last_failed c.args.home.now) (seen g.H.Home.file g.H.Home.reach g.H.Home.faults g.H.Home.last_failed c.args.home.now) refl c.answers.ensures.memory
 
 pub parts-requires : goal.parts-requires
 parts-requires g c =
@@ -124,15 +123,15 @@ returns-clause-served g c =
 
 pub returns-clause-ended : goal.returns-clause-ended
 returns-clause-ended g c =
-    told_ended c.tells_of_coord.result (seen g.H.Home.file g.H.Home.reach g.H.Home.faults g.H.Home.last_failed c.args.home.now) (seen g.H.Home.file g.H.Home.reach g.H.Home.faults g.H.Home.last_failed c.coord_does.new.home) c.tells_of_coord.ensures.ended c.tells_of_coord.ensures.count c.in_ok-did.ensures.served.quiet
+    wants_memory c.tells_of_coord.result (seen g.H.Home.file g.H.Home.reach g.H.Home.faults g.H.Home.last_failed c.args.home.now) (seen g.H.Home.file g.H.Home.reach g.H.Home.faults g.H.Home.last_failed c.coord_does.new.home) c.in_ok-did.ensures.served.quiet c.tells_of_coord.ensures.memory
 
 pub returns-then-not-coord_up-clause-left : goal.returns-then-not-coord_up-clause-left
 returns-then-not-coord_up-clause-left g c = λ s r session here.
-    at_fault c.answers.result (inl (held_left g.E.Engine.takes g.E.Engine.stands_for c.args.self.now s (g.H.Home.file c.args.home.now) (g.H.Home.reach c.args.home.now) r c.requires.held))
+    wanting_left c.answers.result _ _ _ _ c.answers.ensures.memory (inl (held_left g.E.Engine.takes g.E.Engine.stands_for c.args.self.now s (g.H.Home.file c.args.home.now) (g.H.Home.reach c.args.home.now) r c.requires.held))
 
 pub returns-in_err-parts-clause-left : goal.returns-in_err-parts-clause-left
 returns-in_err-parts-clause-left g c = λ s r session here.
-    at_fault c.from_residual.result (inl (held_left g.E.Engine.takes g.E.Engine.stands_for c.args.self.now s (g.H.Home.file c.args.home.now) (g.H.Home.reach c.args.home.now) r c.requires.held))
+    wanting_left c.from_residual.result _ _ _ _ (passed_memory _ c.from_residual.result c.from_residual.ensures refl) (inl (held_left g.E.Engine.takes g.E.Engine.stands_for c.args.self.now s (g.H.Home.file c.args.home.now) (g.H.Home.reach c.args.home.now) r c.requires.held))
 
 pub returns-in_err-did-clause-left : goal.returns-in_err-did-clause-left
 returns-in_err-did-clause-left g c = λ s r session here.
@@ -144,9 +143,12 @@ returns-in_err-did-clause-left g c = λ s r session here.
     let whole = coord_does k asked (coord_disarmed (s.coord k)) in
     let up : (s.coord k).up ≡ true = sym (c.coord_up.ensures s r) ∙ c.if-not-coord_up.false in
     let file = g.H.Home.file c.coord_does.new.home in
-    let left : AreLeftAs file s ⊎ AreLeftAs file (with_coord (disarmed s) k whole.state) = subst (λ (j : CoordCall). AreLeftAs file s ⊎ AreLeftAs file (with_coord (disarmed s) k (coord_does k j (coord_disarmed (s.coord k))).state)) asks (c.in_err-did.ensures.left s r) in
-    at_fault c.from_residual-in_err-did.result
-    (either_left file s (coord_answers s c.args.t session k (s.coord k).up step).state (coord_answers (disarmed s) c.args.t session k (s.coord k).up whole).state (with_coord (disarmed s) k whole.state) (coord_answers_left file (disarmed s) c.args.t session k (s.coord k).up whole up) left)
+    let fault = c.in_err-did.field-0.0 in
+    let left : AreLeftWith file s (with_coord (disarmed s) k whole.state) fault = subst (λ (j : CoordCall). AreLeftWith file s (with_coord (disarmed s) k (coord_does k j (coord_disarmed (s.coord k))).state) fault) asks (c.in_err-did.ensures.left s r) in
+    let after = (coord_answers s c.args.t session k (s.coord k).up step).state in
+    let completed = (coord_answers (disarmed s) c.args.t session k (s.coord k).up whole).state in
+    passed_on c.from_residual-in_err-did.result fault (AreLeftBy file s after completed) c.from_residual-in_err-did.ensures
+    (either_left file s s after completed (with_coord (disarmed s) k whole.state) fault (λ before. before) (coord_answers_left file (disarmed s) c.args.t session k (s.coord k).up whole up) (coord_answers_overlong file (disarmed s) c.args.t session k (s.coord k).up whole up) left)
 
 pub returns-clause-left : goal.returns-clause-left
 returns-clause-left g c = λ s r session here.
@@ -160,4 +162,4 @@ returns-clause-left g c = λ s r session here.
     let file = g.H.Home.file c.coord_does.new.home in
     let stood : RepresentsWorld g.E.Engine.takes g.E.Engine.stands_for c.coord_does.new.self (with_coord s k step.state) = subst (λ (j : CoordCall). RepresentsWorld g.E.Engine.takes g.E.Engine.stands_for c.coord_does.new.self (with_coord s k (coord_does k j (s.coord k)).state)) asks (c.in_ok-did.ensures.stands s r) in
     let now = held_left g.E.Engine.takes g.E.Engine.stands_for c.coord_does.new.self (with_coord s k step.state) file (g.H.Home.reach c.coord_does.new.home) stood c.in_ok-did.ensures.served.kept in
-    at_fault c.tells_of_coord.result (inr (inl (coord_answers_left file s c.args.t session k (s.coord k).up step up now)))
+    wanting_left c.tells_of_coord.result _ _ _ _ c.tells_of_coord.ensures.memory (inr (inl (coord_answers_left file s c.args.t session k (s.coord k).up step up now)))

@@ -1,4 +1,4 @@
-use Rattle.std.proofs.Common.{◌≡◌, Bool, not, Option, Err, sym, ap, ◌∙◌, subst, inl, inr, true, ◌⊎◌}
+use Rattle.std.proofs.Common.{◌≡◌, Bool, not, Option, Err, sym, ap, ◌∙◌, subst, inl, inr, true, refl}
 use Rattle.co_base.specs.declared.node.Node.TheVariants as node
 use Rattle.co_message.specs.declared.answer.Answer.{Answer}
 use Rattle.co_message.specs.declared.answer.Answer.TheVariants as answer
@@ -15,19 +15,18 @@ use Rattle.co_world.specs.Calls.{member_asked, member_does, MemberMay}
 use Rattle.co_world.specs.Standing.{RepresentsWorld}
 use Rattle.co_world.proofs.Acting.{begun_here, may_end, own_member}
 use Rattle.co_world.proofs.ClientSteps.{marked_by_member}
-use Rattle.co_world.proofs.Ends.{passed, passed_limit, served_alone, served_after, all_ok}
-use Rattle.co_world.proofs.Ending.{told_ended}
+use Rattle.co_world.proofs.Ends.{passed, passed_limit, served_alone, served_after, all_ok, wants_memory, no_limit}
 use Rattle.co_world.proofs.Ready.{ends_alone}
 use Rattle.co_world.proofs.Told.{told_as, stands_as, answered_stands, member_told, member_stands}
-use Rattle.co_world.proofs.Lefts.{either_left, held_left}
-use Rattle.co_world.proofs.Leaving.{at_fault}
-use Rattle.co_world.proofs.LeftSteps.{local_answers_left}
-use Rattle.co_world.specs.Left.{AreLeftAs, member_disarmed}
+use Rattle.co_world.proofs.Lefts.{either_left, held_left, wanting_left}
+use Rattle.co_world.proofs.LeftSteps.{local_answers_left, local_answers_overlong}
+use Rattle.co_world.specs.Left.{member_disarmed, AreLeftBy, AreLeftWith}
+use Rattle.co_world.proofs.Ending.{passed_on}
 use Rattle.co_world.proofs.world.World.end_at_member.Goals as goal
 
 pub returns-then-not-member_up-clause-count : goal.returns-then-not-member_up-clause-count
 returns-then-not-member_up-clause-count g c =
-    c.answers.ensures.count
+    no_limit c.answers.result c.answers.ensures.memory
 
 pub returns-then-not-member_up-clause-items : goal.returns-then-not-member_up-clause-items
 returns-then-not-member_up-clause-items g c = λ s r session here.
@@ -47,7 +46,7 @@ returns-then-not-member_up-clause-served g c =
 
 pub returns-then-not-member_up-clause-ended : goal.returns-then-not-member_up-clause-ended
 returns-then-not-member_up-clause-ended g c =
-    c.answers.ensures.ended (seen g.H.Home.file g.H.Home.reach g.H.Home.faults g.H.Home.last_failed c.args.home.now)
+    wants_memory c.answers.result (seen g.H.Home.file g.H.Home.reach g.H.Home.faults g.H.Home.last_failed c.args.home.now) (seen g.H.Home.file g.H.Home.reach g.H.Home.faults g.H.Home.last_failed c.args.home.now) refl c.answers.ensures.memory
 
 pub member_does-requires-clause-stands : goal.member_does-requires-clause-stands
 member_does-requires-clause-stands g c =
@@ -111,11 +110,11 @@ returns-clause-served g c =
 
 pub returns-clause-ended : goal.returns-clause-ended
 returns-clause-ended g c =
-    told_ended c.tells_of_member.result (seen g.H.Home.file g.H.Home.reach g.H.Home.faults g.H.Home.last_failed c.args.home.now) (seen g.H.Home.file g.H.Home.reach g.H.Home.faults g.H.Home.last_failed c.member_does.new.home) c.tells_of_member.ensures.ended c.tells_of_member.ensures.count c.in_ok-did.ensures.served.quiet
+    wants_memory c.tells_of_member.result (seen g.H.Home.file g.H.Home.reach g.H.Home.faults g.H.Home.last_failed c.args.home.now) (seen g.H.Home.file g.H.Home.reach g.H.Home.faults g.H.Home.last_failed c.member_does.new.home) c.in_ok-did.ensures.served.quiet c.tells_of_member.ensures.memory
 
 pub returns-then-not-member_up-clause-left : goal.returns-then-not-member_up-clause-left
 returns-then-not-member_up-clause-left g c = λ s r session here.
-    at_fault c.answers.result (inl (held_left g.E.Engine.takes g.E.Engine.stands_for c.args.self.now s (g.H.Home.file c.args.home.now) (g.H.Home.reach c.args.home.now) r c.requires.held))
+    wanting_left c.answers.result _ _ _ _ c.answers.ensures.memory (inl (held_left g.E.Engine.takes g.E.Engine.stands_for c.args.self.now s (g.H.Home.file c.args.home.now) (g.H.Home.reach c.args.home.now) r c.requires.held))
 
 pub returns-in_err-did-clause-left : goal.returns-in_err-did-clause-left
 returns-in_err-did-clause-left g c = λ s r session here.
@@ -127,9 +126,12 @@ returns-in_err-did-clause-left g c = λ s r session here.
     let whole = member_does k asked (member_disarmed (s.member k)) in
     let up : (s.member k).up ≡ true = sym (c.member_up.ensures s r) ∙ c.if-not-member_up.false in
     let file = g.H.Home.file c.member_does.new.home in
-    let left : AreLeftAs file s ⊎ AreLeftAs file (with_member (disarmed s) k whole.state) = subst (λ (j : MemberCall). AreLeftAs file s ⊎ AreLeftAs file (with_member (disarmed s) k (member_does k j (member_disarmed (s.member k))).state)) asks (c.in_err-did.ensures.left s r) in
-    at_fault c.from_residual.result
-    (either_left file s (local_answers s c.args.t session k (s.member k).up step).state (local_answers (disarmed s) c.args.t session k (s.member k).up whole).state (with_member (disarmed s) k whole.state) (local_answers_left file (disarmed s) c.args.t session k (s.member k).up whole up) left)
+    let fault = c.in_err-did.field-0.0 in
+    let left : AreLeftWith file s (with_member (disarmed s) k whole.state) fault = subst (λ (j : MemberCall). AreLeftWith file s (with_member (disarmed s) k (member_does k j (member_disarmed (s.member k))).state) fault) asks (c.in_err-did.ensures.left s r) in
+    let after = (local_answers s c.args.t session k (s.member k).up step).state in
+    let completed = (local_answers (disarmed s) c.args.t session k (s.member k).up whole).state in
+    passed_on c.from_residual.result fault (AreLeftBy file s after completed) c.from_residual.ensures
+    (either_left file s s after completed (with_member (disarmed s) k whole.state) fault (λ before. before) (local_answers_left file (disarmed s) c.args.t session k (s.member k).up whole up) (local_answers_overlong file (disarmed s) c.args.t session k (s.member k).up whole up) left)
 
 pub returns-clause-left : goal.returns-clause-left
 returns-clause-left g c = λ s r session here.
@@ -143,4 +145,4 @@ returns-clause-left g c = λ s r session here.
     let file = g.H.Home.file c.member_does.new.home in
     let stood : RepresentsWorld g.E.Engine.takes g.E.Engine.stands_for c.member_does.new.self (with_member s k step.state) = subst (λ (j : MemberCall). RepresentsWorld g.E.Engine.takes g.E.Engine.stands_for c.member_does.new.self (with_member s k (member_does k j (s.member k)).state)) asks (c.in_ok-did.ensures.stands s r) in
     let now = held_left g.E.Engine.takes g.E.Engine.stands_for c.member_does.new.self (with_member s k step.state) file (g.H.Home.reach c.member_does.new.home) stood c.in_ok-did.ensures.served.kept in
-    at_fault c.tells_of_member.result (inr (inl (local_answers_left file s c.args.t session k (s.member k).up step up now)))
+    wanting_left c.tells_of_member.result _ _ _ _ c.tells_of_member.ensures.memory (inr (inl (local_answers_left file s c.args.t session k (s.member k).up step up now)))

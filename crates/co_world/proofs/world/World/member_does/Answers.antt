@@ -2,7 +2,10 @@ use Rattle.std.proofs.Common.{◌≡◌, ◌<◌, ◌-◌, length, suc, refl, sy
 use Rattle.std.specs.Prelude.{ℕ}
 use Rattle.std.specs.Vec.{with_item}
 use Rattle.co_node.specs.Answers.{seen}
-use Rattle.co_world.specs.Calls.{MemberMay}
+use Rattle.co_world.specs.Calls.{MemberMay, member_does}
+use Rattle.co_plain.specs.Federation.{with_member}
+use Rattle.co_plain.specs.Step.{disarmed}
+use Rattle.co_world.specs.Left.{AreLeftWith, member_disarmed}
 use Rattle.co_world.proofs.Kept.{kept_by_member}
 use Rattle.co_world.proofs.Lefts.{member_fault}
 use Rattle.co_world.proofs.Places.{at_place}
@@ -73,4 +76,5 @@ returns-in-Err-clause-left g c = λ s r.
     let place : c.from.result - 1 < length w.members.items = omega arith in
     let next : suc (c.from.result - 1) ≡ c.args.member = omega arith in
     let here = at_place w.members.items (c.from.result - 1) c.index_mut.result.now place c.index_mut.ensures.value in
-    member_fault g.E.Engine.takes g.E.Engine.stands_for w s r (g.H.Home.file c.args.home.now) (g.H.Home.file c.member_does.new.home) (g.H.Home.reach c.args.home.now) (g.H.Home.reach c.member_does.new.home) c.requires.held c.args.member (c.from.result - 1) c.index_mut.result.now c.args.call next here c.in-Err.ensures.rest.others c.in-Err.ensures.left
+    subst (AreLeftWith (g.H.Home.file c.member_does.new.home) s (with_member (disarmed s) c.args.member (member_does c.args.member c.args.call (member_disarmed (s.member c.args.member))).state)) (sym c.of_node.ensures)
+    (member_fault g.E.Engine.takes g.E.Engine.stands_for w s r (g.H.Home.file c.args.home.now) (g.H.Home.file c.member_does.new.home) (g.H.Home.reach c.args.home.now) (g.H.Home.reach c.member_does.new.home) c.requires.held c.args.member (c.from.result - 1) c.index_mut.result.now c.args.call next here c.in-Err.ensures.rest.others c.in-Err.fault c.in-Err.ensures.left)

@@ -30,10 +30,6 @@ returns-in-Ok-clause-stands g c = λ s r ready.
     let l = granted (leave_in c.args.self.now.sessions c.args.t (Some c.args.member)) c.in-Ok.field-0 c.in-Ok.ensures.leave in
     c.operated.ensures.stands s r ready l.session (sym (leave_alike g.E.Engine.takes g.E.Engine.stands_for c.args.self.now s r c.args.t (Some c.args.member)) ∙ l.is)
 
-pub returns-in-Err-clause-count : goal.returns-in-Err-clause-count
-returns-in-Err-clause-count g c =
-    c.answers.ensures.count
-
 pub returns-in-Err-clause-items : goal.returns-in-Err-clause-items
 returns-in-Err-clause-items g c = λ s r ready.
     let l = refused (leave_in c.args.self.now.sessions c.args.t (Some c.args.member)) c.in-Err.fault c.in-Err.ensures.leave in
@@ -52,6 +48,6 @@ pub returns-in-Err-clause-held : goal.returns-in-Err-clause-held
 returns-in-Err-clause-held g c = λ file reach held.
     all_ok c.answers.result held
 
-pub returns-in-Err-clause-ended : goal.returns-in-Err-clause-ended
-returns-in-Err-clause-ended g c = λ v.
-    c.answers.ensures.ended v
+pub returns-in-Err-clause-memory : goal.returns-in-Err-clause-memory
+returns-in-Err-clause-memory g c =
+    c.answers.ensures.memory

@@ -1,4 +1,4 @@
-use Rattle.std.proofs.Common.{◌≡◌, ◌≤◌, ◌<◌, ℕ, length, Option, refl, sym, ap, ◌∙◌, subst, arith}
+use Rattle.std.proofs.Common.{◌≡◌, ◌≤◌, ◌<◌, ℕ, length, Option, sym, ap, ◌∙◌, subst, arith}
 use Rattle.std.specs.Prelude.{IfOk, OnOk}
 use Rattle.co_base.specs.declared.node.Node.TheVariants as node
 use Rattle.co_message.specs.declared.answer.Answer.{Answer}
@@ -15,14 +15,10 @@ use Rattle.co_state.specs.Table.{Table, look, holds}
 use Rattle.co_world.specs.Standing.{RepresentsWorld}
 use Rattle.co_world.proofs.Acting.{begun_here, visit_granted, own_member}
 use Rattle.co_world.proofs.ClientSteps.{operate_down, operate_up}
-use Rattle.co_world.proofs.Ends.{passed_memory, wants_memory, no_limit, all_ok}
+use Rattle.co_world.proofs.Ends.{passed_memory, all_ok}
 use Rattle.co_world.proofs.Ready.{replied_few}
 use Rattle.co_world.proofs.Told.{told_as, answered_stands}
 use Rattle.co_world.proofs.world.World.operated.Goals as goal
-
-pub returns-then-not-member_up-clause-count : goal.returns-then-not-member_up-clause-count
-returns-then-not-member_up-clause-count g c =
-    c.answers.ensures.count
 
 pub returns-then-not-member_up-clause-items : goal.returns-then-not-member_up-clause-items
 returns-then-not-member_up-clause-items g c = λ s r ready session may.
@@ -40,9 +36,9 @@ pub returns-then-not-member_up-clause-held : goal.returns-then-not-member_up-cla
 returns-then-not-member_up-clause-held g c = λ file reach held.
     all_ok c.answers.result held
 
-pub returns-then-not-member_up-clause-ended : goal.returns-then-not-member_up-clause-ended
-returns-then-not-member_up-clause-ended g c = λ v.
-    c.answers.ensures.ended v
+pub returns-then-not-member_up-clause-memory : goal.returns-then-not-member_up-clause-memory
+returns-then-not-member_up-clause-memory g c =
+    c.answers.ensures.memory
 
 pub op_at-requires-clause-stands : goal.op_at-requires-clause-stands
 op_at-requires-clause-stands g c =
@@ -54,13 +50,9 @@ op_at-requires-clause-stands g c =
     let up = sym (c.member_up.ensures s r) ∙ c.if-not-member_up.false in
     (s, session, r, ready, up, may)
 
-pub returns-in_err-answer-clause-count : goal.returns-in_err-answer-clause-count
-returns-in_err-answer-clause-count g c =
-    no_limit c.from_residual.result (passed_memory c.in_err-answer.field-0.0 c.from_residual.result c.from_residual.ensures c.in_err-answer.ensures.memory)
-
-pub returns-in_err-answer-clause-ended : goal.returns-in_err-answer-clause-ended
-returns-in_err-answer-clause-ended g c = λ v.
-    wants_memory c.from_residual.result v v refl (passed_memory c.in_err-answer.field-0.0 c.from_residual.result c.from_residual.ensures c.in_err-answer.ensures.memory)
+pub returns-in_err-answer-clause-memory : goal.returns-in_err-answer-clause-memory
+returns-in_err-answer-clause-memory g c =
+    passed_memory c.in_err-answer.field-0.0 c.from_residual.result c.from_residual.ensures c.in_err-answer.ensures.memory
 
 pub enter-requires-clause-in_head : goal.enter-requires-clause-in_head
 enter-requires-clause-in_head g c =
@@ -92,17 +84,9 @@ enter-requires-clause-count g c = λ reply is.
     let told = c.in_ok-answer.ensures.answer s r ready session may in
     subst (λ (n : ℕ). n < 1024) (sym carried) (replied_few (s.member c.args.member) c.args.t (count_at session.told c.args.member) c.args.op reply few (ap reply_in (sym told) ∙ is))
 
-pub returns-in_err-enter-clause-count : goal.returns-in_err-enter-clause-count
-returns-in_err-enter-clause-count g c =
-    no_limit c.from_residual-in_err-enter.result (passed_memory c.in_err-enter.field-0.0 c.from_residual-in_err-enter.result c.from_residual-in_err-enter.ensures c.in_err-enter.ensures.memory)
-
-pub returns-in_err-enter-clause-ended : goal.returns-in_err-enter-clause-ended
-returns-in_err-enter-clause-ended g c = λ v.
-    wants_memory c.from_residual-in_err-enter.result v v refl (passed_memory c.in_err-enter.field-0.0 c.from_residual-in_err-enter.result c.from_residual-in_err-enter.ensures c.in_err-enter.ensures.memory)
-
-pub returns-clause-count : goal.returns-clause-count
-returns-clause-count g c =
-    c.answers-2.ensures.count
+pub returns-in_err-enter-clause-memory : goal.returns-in_err-enter-clause-memory
+returns-in_err-enter-clause-memory g c =
+    passed_memory c.in_err-enter.field-0.0 c.from_residual-in_err-enter.result c.from_residual-in_err-enter.ensures c.in_err-enter.ensures.memory
 
 pub returns-clause-items : goal.returns-clause-items
 returns-clause-items g c = λ s r ready session may.
@@ -125,6 +109,6 @@ pub returns-clause-held : goal.returns-clause-held
 returns-clause-held g c = λ file reach held.
     all_ok c.answers-2.result (c.in_ok-enter.ensures.held file reach (c.in_ok-answer.ensures.held file reach held))
 
-pub returns-clause-ended : goal.returns-clause-ended
-returns-clause-ended g c = λ v.
-    c.answers-2.ensures.ended v
+pub returns-clause-memory : goal.returns-clause-memory
+returns-clause-memory g c =
+    c.answers-2.ensures.memory

@@ -1,5 +1,5 @@
 use Rattle.std.proofs.Common.{◌≡◌, Err, length, sym, ap, subst, inl, inr}
-use Rattle.std.specs.Prelude.{IfOk, OnOk, OnErr}
+use Rattle.std.specs.Prelude.{IfOk, OnOk, IfErr}
 use Rattle.co_base.specs.declared.node.Node.{Node}
 use Rattle.co_node.specs.Answers.{seen}
 use Rattle.co_plain.specs.Federation.{with_member, with_coord, at_member, at_coord}
@@ -9,14 +9,13 @@ use Rattle.co_plain.specs.Runs.{numbered}
 use Rattle.co_plain.specs.Step.{restart_at, disarmed}
 use Rattle.co_schedule.specs.View.{IsNode}
 use Rattle.co_world.specs.Standing.{RepresentsWorld}
-use Rattle.co_world.proofs.Ends.{passed, passed_limit, served_after}
-use Rattle.co_world.proofs.Ending.{told_ended}
+use Rattle.co_world.proofs.Ends.{passed, passed_limit, served_after, wants_memory, no_limit}
 use Rattle.co_world.proofs.Ready.{restarts_member, restarts_coord}
 use Rattle.co_world.proofs.Told.{coord_told, coord_stands, member_told, member_stands}
-use Rattle.co_world.proofs.Lefts.{either_left, held_left}
-use Rattle.co_world.proofs.Leaving.{at_fault}
-use Rattle.co_world.proofs.LeftSteps.{at_coord_left, at_member_left}
+use Rattle.co_world.proofs.Lefts.{either_left, held_left, wanting_left}
+use Rattle.co_world.proofs.LeftSteps.{at_coord_left, at_member_left, at_member_overlong, at_coord_overlong}
 use Rattle.co_world.specs.Left.{AreLeftBy, coord_disarmed, member_disarmed}
+use Rattle.co_world.proofs.Ending.{passed_on}
 use Rattle.co_world.proofs.world.World.restart.Goals as goal
 
 pub member_does-requires-clause-in_head : goal.member_does-requires-clause-in_head
@@ -40,7 +39,7 @@ returns-in_err-did-in-Member-clause-ended g c =
 
 pub returns-in_ok-did-in-Member-clause-count : goal.returns-in_ok-did-in-Member-clause-count
 returns-in_ok-did-in-Member-clause-count g c =
-    c.tells_of_member.ensures.count
+    no_limit c.tells_of_member.result c.tells_of_member.ensures.memory
 
 pub returns-in_ok-did-in-Member-clause-items : goal.returns-in_ok-did-in-Member-clause-items
 returns-in_ok-did-in-Member-clause-items g c = λ s r.
@@ -56,7 +55,7 @@ returns-in_ok-did-in-Member-clause-served g c =
 
 pub returns-in_ok-did-in-Member-clause-ended : goal.returns-in_ok-did-in-Member-clause-ended
 returns-in_ok-did-in-Member-clause-ended g c =
-    told_ended c.tells_of_member.result (seen g.H.Home.file g.H.Home.reach g.H.Home.faults g.H.Home.last_failed c.args.home.now) (seen g.H.Home.file g.H.Home.reach g.H.Home.faults g.H.Home.last_failed c.member_does.new.home) c.tells_of_member.ensures.ended c.tells_of_member.ensures.count c.in_ok-did-in-Member.ensures.served.quiet
+    wants_memory c.tells_of_member.result (seen g.H.Home.file g.H.Home.reach g.H.Home.faults g.H.Home.last_failed c.args.home.now) (seen g.H.Home.file g.H.Home.reach g.H.Home.faults g.H.Home.last_failed c.member_does.new.home) c.in_ok-did-in-Member.ensures.served.quiet c.tells_of_member.ensures.memory
 
 pub coord_does-requires-clause-in_head : goal.coord_does-requires-clause-in_head
 coord_does-requires-clause-in_head g c =
@@ -79,7 +78,7 @@ returns-in_err-did-in-Coord-clause-ended g c =
 
 pub returns-in_ok-did-in-Coord-clause-count : goal.returns-in_ok-did-in-Coord-clause-count
 returns-in_ok-did-in-Coord-clause-count g c =
-    c.tells_of_coord.ensures.count
+    no_limit c.tells_of_coord.result c.tells_of_coord.ensures.memory
 
 pub returns-in_ok-did-in-Coord-clause-items : goal.returns-in_ok-did-in-Coord-clause-items
 returns-in_ok-did-in-Coord-clause-items g c = λ s r.
@@ -95,7 +94,7 @@ returns-in_ok-did-in-Coord-clause-served g c =
 
 pub returns-in_ok-did-in-Coord-clause-ended : goal.returns-in_ok-did-in-Coord-clause-ended
 returns-in_ok-did-in-Coord-clause-ended g c =
-    told_ended c.tells_of_coord.result (seen g.H.Home.file g.H.Home.reach g.H.Home.faults g.H.Home.last_failed c.args.home.now) (seen g.H.Home.file g.H.Home.reach g.H.Home.faults g.H.Home.last_failed c.coord_does.new.home) c.tells_of_coord.ensures.ended c.tells_of_coord.ensures.count c.in_ok-did-in-Coord.ensures.served.quiet
+    wants_memory c.tells_of_coord.result (seen g.H.Home.file g.H.Home.reach g.H.Home.faults g.H.Home.last_failed c.args.home.now) (seen g.H.Home.file g.H.Home.reach g.H.Home.faults g.H.Home.last_failed c.coord_does.new.home) c.in_ok-did-in-Coord.ensures.served.quiet c.tells_of_coord.ensures.memory
 
 pub returns-in_err-did-in-Member-clause-left : goal.returns-in_err-did-in-Member-clause-left
 returns-in_err-did-in-Member-clause-left g c = λ s r.
@@ -103,8 +102,12 @@ returns-in_err-did-in-Member-clause-left g c = λ s r.
     let file = g.H.Home.file c.member_does.new.home in
     let step = member_restart (s.member k) in
     let whole = member_restart (member_disarmed (s.member k)) in
-    subst (λ (n : Node). OnErr c.from_residual.result (AreLeftBy file s (restart_at s n).state (restart_at (disarmed s) n).state)) (sym c.in-Member.is)
-    (at_fault c.from_residual.result (either_left file s (at_member s k step).state (at_member (disarmed s) k whole).state (with_member (disarmed s) k whole.state) (at_member_left file (disarmed s) k whole) (c.in_err-did-in-Member.ensures.left s r)))
+    let fault = c.in_err-did-in-Member.field-0.0 in
+    let after = (at_member s k step).state in
+    let completed = (at_member (disarmed s) k whole).state in
+    subst (λ (n : Node). IfErr c.from_residual.result (AreLeftBy file s (restart_at s n).state (restart_at (disarmed s) n).state)) (sym c.in-Member.is)
+    (passed_on c.from_residual.result fault (AreLeftBy file s after completed) c.from_residual.ensures
+    (either_left file s s after completed (with_member (disarmed s) k whole.state) fault (λ left. left) (at_member_left file (disarmed s) k whole) (at_member_overlong file (disarmed s) k whole) (c.in_err-did-in-Member.ensures.left s r)))
 
 pub returns-in_ok-did-in-Member-clause-left : goal.returns-in_ok-did-in-Member-clause-left
 returns-in_ok-did-in-Member-clause-left g c = λ s r.
@@ -112,7 +115,7 @@ returns-in_ok-did-in-Member-clause-left g c = λ s r.
     let file = g.H.Home.file c.member_does.new.home in
     let step = member_restart (s.member k) in
     let now = held_left g.E.Engine.takes g.E.Engine.stands_for c.member_does.new.self (with_member s k step.state) file (g.H.Home.reach c.member_does.new.home) (c.in_ok-did-in-Member.ensures.stands s r) c.in_ok-did-in-Member.ensures.served.kept in
-    subst (λ (n : Node). OnErr c.tells_of_member.result (AreLeftBy file s (restart_at s n).state (restart_at (disarmed s) n).state)) (sym c.in-Member.is) (at_fault c.tells_of_member.result (inr (inl (at_member_left file s k step now))))
+    subst (λ (n : Node). IfErr c.tells_of_member.result (AreLeftBy file s (restart_at s n).state (restart_at (disarmed s) n).state)) (sym c.in-Member.is) (wanting_left c.tells_of_member.result _ _ _ _ c.tells_of_member.ensures.memory (inr (inl (at_member_left file s k step now))))
 
 pub returns-in_err-did-in-Coord-clause-left : goal.returns-in_err-did-in-Coord-clause-left
 returns-in_err-did-in-Coord-clause-left g c = λ s r.
@@ -120,8 +123,12 @@ returns-in_err-did-in-Coord-clause-left g c = λ s r.
     let file = g.H.Home.file c.coord_does.new.home in
     let step = coord_restart (s.coord k) in
     let whole = coord_restart (coord_disarmed (s.coord k)) in
-    subst (λ (n : Node). OnErr c.from_residual-in_err-did-in-Coord.result (AreLeftBy file s (restart_at s n).state (restart_at (disarmed s) n).state)) (sym c.in-Coord.is)
-    (at_fault c.from_residual-in_err-did-in-Coord.result (either_left file s (at_coord s k step).state (at_coord (disarmed s) k whole).state (with_coord (disarmed s) k whole.state) (at_coord_left file (disarmed s) k whole) (c.in_err-did-in-Coord.ensures.left s r)))
+    let fault = c.in_err-did-in-Coord.field-0.0 in
+    let after = (at_coord s k step).state in
+    let completed = (at_coord (disarmed s) k whole).state in
+    subst (λ (n : Node). IfErr c.from_residual-in_err-did-in-Coord.result (AreLeftBy file s (restart_at s n).state (restart_at (disarmed s) n).state)) (sym c.in-Coord.is)
+    (passed_on c.from_residual-in_err-did-in-Coord.result fault (AreLeftBy file s after completed) c.from_residual-in_err-did-in-Coord.ensures
+    (either_left file s s after completed (with_coord (disarmed s) k whole.state) fault (λ left. left) (at_coord_left file (disarmed s) k whole) (at_coord_overlong file (disarmed s) k whole) (c.in_err-did-in-Coord.ensures.left s r)))
 
 pub returns-in_ok-did-in-Coord-clause-left : goal.returns-in_ok-did-in-Coord-clause-left
 returns-in_ok-did-in-Coord-clause-left g c = λ s r.
@@ -129,4 +136,4 @@ returns-in_ok-did-in-Coord-clause-left g c = λ s r.
     let file = g.H.Home.file c.coord_does.new.home in
     let step = coord_restart (s.coord k) in
     let now = held_left g.E.Engine.takes g.E.Engine.stands_for c.coord_does.new.self (with_coord s k step.state) file (g.H.Home.reach c.coord_does.new.home) (c.in_ok-did-in-Coord.ensures.stands s r) c.in_ok-did-in-Coord.ensures.served.kept in
-    subst (λ (n : Node). OnErr c.tells_of_coord.result (AreLeftBy file s (restart_at s n).state (restart_at (disarmed s) n).state)) (sym c.in-Coord.is) (at_fault c.tells_of_coord.result (inr (inl (at_coord_left file s k step now))))
+    subst (λ (n : Node). IfErr c.tells_of_coord.result (AreLeftBy file s (restart_at s n).state (restart_at (disarmed s) n).state)) (sym c.in-Coord.is) (wanting_left c.tells_of_coord.result _ _ _ _ c.tells_of_coord.ensures.memory (inr (inl (at_coord_left file s k step now))))

@@ -5,20 +5,12 @@ use Rattle.co_base.specs.declared.range.Range.{Range}
 use Rattle.co_plain.specs.Step.{operate}
 use Rattle.co_plain.specs.Runs.{numbered}
 use Rattle.co_world.specs.Standing.{RepresentsWorld}
-use Rattle.co_world.proofs.Ends.{passed_memory, wants_memory, no_limit}
+use Rattle.co_world.proofs.Ends.{passed_memory}
 use Rattle.co_world.proofs.world.World.scans.Goals as goal
 
-pub returns-in_err-copy-clause-count : goal.returns-in_err-copy-clause-count
-returns-in_err-copy-clause-count g c =
-    no_limit c.from_residual.result (passed_memory _ c.from_residual.result c.from_residual.ensures refl)
-
-pub returns-in_err-copy-clause-ended : goal.returns-in_err-copy-clause-ended
-returns-in_err-copy-clause-ended g c = λ v.
-    wants_memory c.from_residual.result v v refl (passed_memory _ c.from_residual.result c.from_residual.ensures refl)
-
-pub returns-clause-count : goal.returns-clause-count
-returns-clause-count g c =
-    c.operate.ensures.count
+pub returns-in_err-copy-clause-memory : goal.returns-in_err-copy-clause-memory
+returns-in_err-copy-clause-memory g c =
+    passed_memory _ c.from_residual.result c.from_residual.ensures refl
 
 pub returns-clause-items : goal.returns-clause-items
 returns-clause-items g c = λ s r ready.
@@ -32,6 +24,6 @@ pub returns-clause-held : goal.returns-clause-held
 returns-clause-held g c =
     c.operate.ensures.held
 
-pub returns-clause-ended : goal.returns-clause-ended
-returns-clause-ended g c =
-    c.operate.ensures.ended
+pub returns-clause-memory : goal.returns-clause-memory
+returns-clause-memory g c =
+    c.operate.ensures.memory

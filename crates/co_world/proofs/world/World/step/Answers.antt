@@ -1,5 +1,5 @@
-use Rattle.std.proofs.Common.{◌≡◌, length, sym, subst, inl}
-use Rattle.std.specs.Prelude.{IfOk, OnOk, IsErrOf, ◌↔◌, OnErr}
+use Rattle.std.proofs.Common.{◌≡◌, length, sym, subst, inl, refl}
+use Rattle.std.specs.Prelude.{IfOk, OnOk, IsErrOf, ◌↔◌, IfErr}
 use Rattle.co_durable.specs.declared.fault.WorldFault.TheVariants as world
 use Rattle.co_world.specs.Counting.{MeetsLimit}
 use Rattle.co_message.specs.declared.event.Event.{Event}
@@ -9,11 +9,10 @@ use Rattle.co_plain.specs.Step.{step_line, disarmed}
 use Rattle.co_schedule.specs.View.{IsEventFor}
 use Rattle.co_world.specs.Standing.{RepresentsWorld}
 use Rattle.co_world.proofs.Acting.{own_member}
-use Rattle.co_world.proofs.Ends.{served_alone}
+use Rattle.co_world.proofs.Ends.{served_alone, wants_memory, no_limit, unserved}
 use Rattle.co_world.proofs.Ready.{votes_again}
-use Rattle.co_world.proofs.Lefts.{held_left}
+use Rattle.co_world.proofs.Lefts.{held_left, wanting_left, unserved_left}
 use Rattle.co_world.proofs.Limits.{through, limits_alike}
-use Rattle.co_world.proofs.Leaving.{at_fault}
 use Rattle.co_world.specs.Left.{AreLeftBy}
 use Rattle.co_world.proofs.world.World.step.Goals as goal
 
@@ -81,7 +80,7 @@ returns-in-Local-clause-served g c =
 
 pub returns-in-Local-clause-ended : goal.returns-in-Local-clause-ended
 returns-in-Local-clause-ended g c =
-    c.begin_local.ensures.ended (seen g.H.Home.file g.H.Home.reach g.H.Home.faults g.H.Home.last_failed c.args.home.now)
+    unserved c.begin_local.result (seen g.H.Home.file g.H.Home.reach g.H.Home.faults g.H.Home.last_failed c.args.home.now) c.begin_local.ensures.ended
 
 pub reads-requires-clause-in_head : goal.reads-requires-clause-in_head
 reads-requires-clause-in_head g c =
@@ -96,12 +95,12 @@ reads-requires-clause-stands g c =
 
 pub returns-in-Read-clause-count : goal.returns-in-Read-clause-count
 returns-in-Read-clause-count g c =
-    subst (λ (e : Event). IsErrOf c.reads.result world.Count ↔ MeetsLimit c.args.self.now.sessions e) (sym c.in-Read.is) (c.reads.ensures.count, λ none. absurd none)
+    subst (λ (e : Event). IsErrOf c.reads.result world.Count ↔ MeetsLimit c.args.self.now.sessions e) (sym c.in-Read.is) (no_limit c.reads.result c.reads.ensures.memory, λ none. absurd none)
 
 pub returns-in-Read-clause-limit : goal.returns-in-Read-clause-limit
 returns-in-Read-clause-limit g c = λ s r.
     through
-    (subst (λ (e : Event). IsErrOf c.reads.result world.Count ↔ MeetsLimit c.args.self.now.sessions e) (sym c.in-Read.is) (c.reads.ensures.count, λ none. absurd none))
+    (subst (λ (e : Event). IsErrOf c.reads.result world.Count ↔ MeetsLimit c.args.self.now.sessions e) (sym c.in-Read.is) (no_limit c.reads.result c.reads.ensures.memory, λ none. absurd none))
     (limits_alike g.E.Engine.takes g.E.Engine.stands_for c.args.self.now s r c.args.event.now)
 
 pub returns-in-Read-clause-items : goal.returns-in-Read-clause-items
@@ -118,7 +117,7 @@ returns-in-Read-clause-served g c =
 
 pub returns-in-Read-clause-ended : goal.returns-in-Read-clause-ended
 returns-in-Read-clause-ended g c =
-    c.reads.ensures.ended (seen g.H.Home.file g.H.Home.reach g.H.Home.faults g.H.Home.last_failed c.args.home.now)
+    wants_memory c.reads.result (seen g.H.Home.file g.H.Home.reach g.H.Home.faults g.H.Home.last_failed c.args.home.now) (seen g.H.Home.file g.H.Home.reach g.H.Home.faults g.H.Home.last_failed c.args.home.now) refl c.reads.ensures.memory
 
 pub writes-requires-clause-in_head : goal.writes-requires-clause-in_head
 writes-requires-clause-in_head g c =
@@ -133,12 +132,12 @@ writes-requires-clause-stands g c =
 
 pub returns-in-Write-clause-count : goal.returns-in-Write-clause-count
 returns-in-Write-clause-count g c =
-    subst (λ (e : Event). IsErrOf c.writes.result world.Count ↔ MeetsLimit c.args.self.now.sessions e) (sym c.in-Write.is) (c.writes.ensures.count, λ none. absurd none)
+    subst (λ (e : Event). IsErrOf c.writes.result world.Count ↔ MeetsLimit c.args.self.now.sessions e) (sym c.in-Write.is) (no_limit c.writes.result c.writes.ensures.memory, λ none. absurd none)
 
 pub returns-in-Write-clause-limit : goal.returns-in-Write-clause-limit
 returns-in-Write-clause-limit g c = λ s r.
     through
-    (subst (λ (e : Event). IsErrOf c.writes.result world.Count ↔ MeetsLimit c.args.self.now.sessions e) (sym c.in-Write.is) (c.writes.ensures.count, λ none. absurd none))
+    (subst (λ (e : Event). IsErrOf c.writes.result world.Count ↔ MeetsLimit c.args.self.now.sessions e) (sym c.in-Write.is) (no_limit c.writes.result c.writes.ensures.memory, λ none. absurd none))
     (limits_alike g.E.Engine.takes g.E.Engine.stands_for c.args.self.now s r c.args.event.now)
 
 pub returns-in-Write-clause-items : goal.returns-in-Write-clause-items
@@ -155,7 +154,7 @@ returns-in-Write-clause-served g c =
 
 pub returns-in-Write-clause-ended : goal.returns-in-Write-clause-ended
 returns-in-Write-clause-ended g c =
-    c.writes.ensures.ended (seen g.H.Home.file g.H.Home.reach g.H.Home.faults g.H.Home.last_failed c.args.home.now)
+    wants_memory c.writes.result (seen g.H.Home.file g.H.Home.reach g.H.Home.faults g.H.Home.last_failed c.args.home.now) (seen g.H.Home.file g.H.Home.reach g.H.Home.faults g.H.Home.last_failed c.args.home.now) refl c.writes.ensures.memory
 
 pub erases-requires-clause-in_head : goal.erases-requires-clause-in_head
 erases-requires-clause-in_head g c =
@@ -170,12 +169,12 @@ erases-requires-clause-stands g c =
 
 pub returns-in-Erase-clause-count : goal.returns-in-Erase-clause-count
 returns-in-Erase-clause-count g c =
-    subst (λ (e : Event). IsErrOf c.erases.result world.Count ↔ MeetsLimit c.args.self.now.sessions e) (sym c.in-Erase.is) (c.erases.ensures.count, λ none. absurd none)
+    subst (λ (e : Event). IsErrOf c.erases.result world.Count ↔ MeetsLimit c.args.self.now.sessions e) (sym c.in-Erase.is) (no_limit c.erases.result c.erases.ensures.memory, λ none. absurd none)
 
 pub returns-in-Erase-clause-limit : goal.returns-in-Erase-clause-limit
 returns-in-Erase-clause-limit g c = λ s r.
     through
-    (subst (λ (e : Event). IsErrOf c.erases.result world.Count ↔ MeetsLimit c.args.self.now.sessions e) (sym c.in-Erase.is) (c.erases.ensures.count, λ none. absurd none))
+    (subst (λ (e : Event). IsErrOf c.erases.result world.Count ↔ MeetsLimit c.args.self.now.sessions e) (sym c.in-Erase.is) (no_limit c.erases.result c.erases.ensures.memory, λ none. absurd none))
     (limits_alike g.E.Engine.takes g.E.Engine.stands_for c.args.self.now s r c.args.event.now)
 
 pub returns-in-Erase-clause-items : goal.returns-in-Erase-clause-items
@@ -192,7 +191,7 @@ returns-in-Erase-clause-served g c =
 
 pub returns-in-Erase-clause-ended : goal.returns-in-Erase-clause-ended
 returns-in-Erase-clause-ended g c =
-    c.erases.ensures.ended (seen g.H.Home.file g.H.Home.reach g.H.Home.faults g.H.Home.last_failed c.args.home.now)
+    wants_memory c.erases.result (seen g.H.Home.file g.H.Home.reach g.H.Home.faults g.H.Home.last_failed c.args.home.now) (seen g.H.Home.file g.H.Home.reach g.H.Home.faults g.H.Home.last_failed c.args.home.now) refl c.erases.ensures.memory
 
 pub scans-requires-clause-in_head : goal.scans-requires-clause-in_head
 scans-requires-clause-in_head g c =
@@ -207,12 +206,12 @@ scans-requires-clause-stands g c =
 
 pub returns-in-Scan-clause-count : goal.returns-in-Scan-clause-count
 returns-in-Scan-clause-count g c =
-    subst (λ (e : Event). IsErrOf c.scans.result world.Count ↔ MeetsLimit c.args.self.now.sessions e) (sym c.in-Scan.is) (c.scans.ensures.count, λ none. absurd none)
+    subst (λ (e : Event). IsErrOf c.scans.result world.Count ↔ MeetsLimit c.args.self.now.sessions e) (sym c.in-Scan.is) (no_limit c.scans.result c.scans.ensures.memory, λ none. absurd none)
 
 pub returns-in-Scan-clause-limit : goal.returns-in-Scan-clause-limit
 returns-in-Scan-clause-limit g c = λ s r.
     through
-    (subst (λ (e : Event). IsErrOf c.scans.result world.Count ↔ MeetsLimit c.args.self.now.sessions e) (sym c.in-Scan.is) (c.scans.ensures.count, λ none. absurd none))
+    (subst (λ (e : Event). IsErrOf c.scans.result world.Count ↔ MeetsLimit c.args.self.now.sessions e) (sym c.in-Scan.is) (no_limit c.scans.result c.scans.ensures.memory, λ none. absurd none))
     (limits_alike g.E.Engine.takes g.E.Engine.stands_for c.args.self.now s r c.args.event.now)
 
 pub returns-in-Scan-clause-items : goal.returns-in-Scan-clause-items
@@ -229,7 +228,7 @@ returns-in-Scan-clause-served g c =
 
 pub returns-in-Scan-clause-ended : goal.returns-in-Scan-clause-ended
 returns-in-Scan-clause-ended g c =
-    c.scans.ensures.ended (seen g.H.Home.file g.H.Home.reach g.H.Home.faults g.H.Home.last_failed c.args.home.now)
+    wants_memory c.scans.result (seen g.H.Home.file g.H.Home.reach g.H.Home.faults g.H.Home.last_failed c.args.home.now) (seen g.H.Home.file g.H.Home.reach g.H.Home.faults g.H.Home.last_failed c.args.home.now) refl c.scans.ensures.memory
 
 pub end-requires-clause-stands : goal.end-requires-clause-stands
 end-requires-clause-stands g c =
@@ -637,68 +636,68 @@ returns-in-Arm-clause-ended g c =
 
 pub returns-in-Begin-clause-left : goal.returns-in-Begin-clause-left
 returns-in-Begin-clause-left g c = λ s r ready.
-    subst (λ (e : Event). OnErr c.begin.result (AreLeftBy (g.H.Home.file c.begin.new.home) s (step_line s e).state (step_line (disarmed s) e).state)) (sym c.in-Begin.is) (c.begin.ensures.left s r)
+    subst (λ (e : Event). IfErr c.begin.result (AreLeftBy (g.H.Home.file c.begin.new.home) s (step_line s e).state (step_line (disarmed s) e).state)) (sym c.in-Begin.is) (c.begin.ensures.left s r)
 
 pub returns-in-Local-clause-left : goal.returns-in-Local-clause-left
 returns-in-Local-clause-left g c = λ s r ready.
-    at_fault c.begin_local.result (inl (held_left g.E.Engine.takes g.E.Engine.stands_for c.args.self.now s (g.H.Home.file c.args.home.now) (g.H.Home.reach c.args.home.now) r c.requires.held))
+    unserved_left c.begin_local.result _ _ _ _ c.begin_local.ensures.ended (inl (held_left g.E.Engine.takes g.E.Engine.stands_for c.args.self.now s (g.H.Home.file c.args.home.now) (g.H.Home.reach c.args.home.now) r c.requires.held))
 
 pub returns-in-Read-clause-left : goal.returns-in-Read-clause-left
 returns-in-Read-clause-left g c = λ s r ready.
-    at_fault c.reads.result (inl (held_left g.E.Engine.takes g.E.Engine.stands_for c.args.self.now s (g.H.Home.file c.args.home.now) (g.H.Home.reach c.args.home.now) r c.requires.held))
+    wanting_left c.reads.result _ _ _ _ c.reads.ensures.memory (inl (held_left g.E.Engine.takes g.E.Engine.stands_for c.args.self.now s (g.H.Home.file c.args.home.now) (g.H.Home.reach c.args.home.now) r c.requires.held))
 
 pub returns-in-Write-clause-left : goal.returns-in-Write-clause-left
 returns-in-Write-clause-left g c = λ s r ready.
-    at_fault c.writes.result (inl (held_left g.E.Engine.takes g.E.Engine.stands_for c.args.self.now s (g.H.Home.file c.args.home.now) (g.H.Home.reach c.args.home.now) r c.requires.held))
+    wanting_left c.writes.result _ _ _ _ c.writes.ensures.memory (inl (held_left g.E.Engine.takes g.E.Engine.stands_for c.args.self.now s (g.H.Home.file c.args.home.now) (g.H.Home.reach c.args.home.now) r c.requires.held))
 
 pub returns-in-Erase-clause-left : goal.returns-in-Erase-clause-left
 returns-in-Erase-clause-left g c = λ s r ready.
-    at_fault c.erases.result (inl (held_left g.E.Engine.takes g.E.Engine.stands_for c.args.self.now s (g.H.Home.file c.args.home.now) (g.H.Home.reach c.args.home.now) r c.requires.held))
+    wanting_left c.erases.result _ _ _ _ c.erases.ensures.memory (inl (held_left g.E.Engine.takes g.E.Engine.stands_for c.args.self.now s (g.H.Home.file c.args.home.now) (g.H.Home.reach c.args.home.now) r c.requires.held))
 
 pub returns-in-Scan-clause-left : goal.returns-in-Scan-clause-left
 returns-in-Scan-clause-left g c = λ s r ready.
-    at_fault c.scans.result (inl (held_left g.E.Engine.takes g.E.Engine.stands_for c.args.self.now s (g.H.Home.file c.args.home.now) (g.H.Home.reach c.args.home.now) r c.requires.held))
+    wanting_left c.scans.result _ _ _ _ c.scans.ensures.memory (inl (held_left g.E.Engine.takes g.E.Engine.stands_for c.args.self.now s (g.H.Home.file c.args.home.now) (g.H.Home.reach c.args.home.now) r c.requires.held))
 
 pub returns-in-Commit-clause-left : goal.returns-in-Commit-clause-left
 returns-in-Commit-clause-left g c = λ s r ready.
-    subst (λ (e : Event). OnErr c.end.result (AreLeftBy (g.H.Home.file c.end.new.home) s (step_line s e).state (step_line (disarmed s) e).state)) (sym c.in-Commit.is) (c.end.ensures.left s r ready)
+    subst (λ (e : Event). IfErr c.end.result (AreLeftBy (g.H.Home.file c.end.new.home) s (step_line s e).state (step_line (disarmed s) e).state)) (sym c.in-Commit.is) (c.end.ensures.left s r ready)
 
 pub returns-in-Abort-clause-left : goal.returns-in-Abort-clause-left
 returns-in-Abort-clause-left g c = λ s r ready.
-    subst (λ (e : Event). OnErr c.end-in-Abort.result (AreLeftBy (g.H.Home.file c.end-in-Abort.new.home) s (step_line s e).state (step_line (disarmed s) e).state)) (sym c.in-Abort.is) (c.end-in-Abort.ensures.left s r ready)
+    subst (λ (e : Event). IfErr c.end-in-Abort.result (AreLeftBy (g.H.Home.file c.end-in-Abort.new.home) s (step_line s e).state (step_line (disarmed s) e).state)) (sym c.in-Abort.is) (c.end-in-Abort.ensures.left s r ready)
 
 pub returns-in-Deliver-clause-left : goal.returns-in-Deliver-clause-left
 returns-in-Deliver-clause-left g c = λ s r ready.
-    subst (λ (e : Event). OnErr c.deliver.result (AreLeftBy (g.H.Home.file c.deliver.new.home) s (step_line s e).state (step_line (disarmed s) e).state)) (sym c.in-Deliver.is) (c.deliver.ensures.left s r ready)
+    subst (λ (e : Event). IfErr c.deliver.result (AreLeftBy (g.H.Home.file c.deliver.new.home) s (step_line s e).state (step_line (disarmed s) e).state)) (sym c.in-Deliver.is) (c.deliver.ensures.left s r ready)
 
 pub returns-in-Vote-clause-left : goal.returns-in-Vote-clause-left
 returns-in-Vote-clause-left g c = λ s r ready.
-    subst (λ (e : Event). OnErr c.at_member.result (AreLeftBy (g.H.Home.file c.at_member.new.home) s (step_line s e).state (step_line (disarmed s) e).state)) (sym c.in-Vote.is) (c.at_member.ensures.left s r)
+    subst (λ (e : Event). IfErr c.at_member.result (AreLeftBy (g.H.Home.file c.at_member.new.home) s (step_line s e).state (step_line (disarmed s) e).state)) (sym c.in-Vote.is) (c.at_member.ensures.left s r)
 
 pub returns-in-Timer-clause-left : goal.returns-in-Timer-clause-left
 returns-in-Timer-clause-left g c = λ s r ready.
-    subst (λ (e : Event). OnErr c.timer.result (AreLeftBy (g.H.Home.file c.timer.new.home) s (step_line s e).state (step_line (disarmed s) e).state)) (sym c.in-Timer.is) (c.timer.ensures.left s r)
+    subst (λ (e : Event). IfErr c.timer.result (AreLeftBy (g.H.Home.file c.timer.new.home) s (step_line s e).state (step_line (disarmed s) e).state)) (sym c.in-Timer.is) (c.timer.ensures.left s r)
 
 pub returns-in-Ask-clause-left : goal.returns-in-Ask-clause-left
 returns-in-Ask-clause-left g c = λ s r ready.
-    subst (λ (e : Event). OnErr c.at_member-in-Ask.result (AreLeftBy (g.H.Home.file c.at_member-in-Ask.new.home) s (step_line s e).state (step_line (disarmed s) e).state)) (sym c.in-Ask.is) (c.at_member-in-Ask.ensures.left s r)
+    subst (λ (e : Event). IfErr c.at_member-in-Ask.result (AreLeftBy (g.H.Home.file c.at_member-in-Ask.new.home) s (step_line s e).state (step_line (disarmed s) e).state)) (sym c.in-Ask.is) (c.at_member-in-Ask.ensures.left s r)
 
 pub returns-in-Resend-clause-left : goal.returns-in-Resend-clause-left
 returns-in-Resend-clause-left g c = λ s r ready.
-    subst (λ (e : Event). OnErr c.at_coord.result (AreLeftBy (g.H.Home.file c.at_coord.new.home) s (step_line s e).state (step_line (disarmed s) e).state)) (sym c.in-Resend.is) (c.at_coord.ensures.left s r)
+    subst (λ (e : Event). IfErr c.at_coord.result (AreLeftBy (g.H.Home.file c.at_coord.new.home) s (step_line s e).state (step_line (disarmed s) e).state)) (sym c.in-Resend.is) (c.at_coord.ensures.left s r)
 
 pub returns-in-Crash-clause-left : goal.returns-in-Crash-clause-left
 returns-in-Crash-clause-left g c = λ s r ready.
-    subst (λ (e : Event). OnErr c.crash.result (AreLeftBy (g.H.Home.file c.crash.new.home) s (step_line s e).state (step_line (disarmed s) e).state)) (sym c.in-Crash.is) (c.crash.ensures.left s r)
+    subst (λ (e : Event). IfErr c.crash.result (AreLeftBy (g.H.Home.file c.crash.new.home) s (step_line s e).state (step_line (disarmed s) e).state)) (sym c.in-Crash.is) (c.crash.ensures.left s r)
 
 pub returns-in-Restart-clause-left : goal.returns-in-Restart-clause-left
 returns-in-Restart-clause-left g c = λ s r ready.
-    subst (λ (e : Event). OnErr c.restart.result (AreLeftBy (g.H.Home.file c.restart.new.home) s (step_line s e).state (step_line (disarmed s) e).state)) (sym c.in-Restart.is) (c.restart.ensures.left s r)
+    subst (λ (e : Event). IfErr c.restart.result (AreLeftBy (g.H.Home.file c.restart.new.home) s (step_line s e).state (step_line (disarmed s) e).state)) (sym c.in-Restart.is) (c.restart.ensures.left s r)
 
 pub returns-in-Arm-clause-left : goal.returns-in-Arm-clause-left
 returns-in-Arm-clause-left g c = λ s r ready.
-    subst (λ (e : Event). OnErr c.arm.result (AreLeftBy (g.H.Home.file c.arm.new.home) s (step_line s e).state (step_line (disarmed s) e).state)) (sym c.in-Arm.is) (c.arm.ensures.left s r)
+    subst (λ (e : Event). IfErr c.arm.result (AreLeftBy (g.H.Home.file c.arm.new.home) s (step_line s e).state (step_line (disarmed s) e).state)) (sym c.in-Arm.is) (c.arm.ensures.left s r)
 
 pub returns-in-Checkpoint-clause-left : goal.returns-in-Checkpoint-clause-left
 returns-in-Checkpoint-clause-left g c = λ s r ready.
-    subst (λ (e : Event). OnErr c.checkpoint.result (AreLeftBy (g.H.Home.file c.checkpoint.new.home) s (step_line s e).state (step_line (disarmed s) e).state)) (sym c.in-Checkpoint.is) (c.checkpoint.ensures.left s r)
+    subst (λ (e : Event). IfErr c.checkpoint.result (AreLeftBy (g.H.Home.file c.checkpoint.new.home) s (step_line s e).state (step_line (disarmed s) e).state)) (sym c.in-Checkpoint.is) (c.checkpoint.ensures.left s r)
