@@ -1,5 +1,5 @@
 -- What the events of settling leave at one member, at one transaction.
-use Rattle.std.proofs.Common.{◌≡◌, ℕ, Bool, true, false, ◌≤◌, [], ◌∷◌, Option, None, Some, refl, sym, ap, ◌∙◌, subst, arith}
+use Rattle.std.proofs.Common.{◌≡◌, ℕ, Bool, true, false, ◌||◌, ◌≤◌, [], ◌∷◌, Option, None, Some, refl, sym, ap, ◌∙◌, subst, arith}
 use Rattle.std.specs.Option.{is_some}
 use Rattle.co_message.specs.declared.answer.Answer.TheVariants as answer
 use Rattle.co_message.specs.declared.message.Message.TheVariants as message
@@ -19,6 +19,7 @@ use Rattle.co_plain.specs.MemberStep.{with_log, dropped, forced_by}
 use Rattle.co_plain.specs.Member.{prepare_record, voted_state, installed_state, with_mark, vote_by}
 use Rattle.co_plain.specs.Quiet.{is_free}
 use Rattle.co_law_base.proofs.Lookups.{put_here, put_there, without_here, without_there}
+use Rattle.co_law_settle.specs.Busy.{busy_at}
 use Rattle.co_law_settle.specs.SettlingMeasure.{weight, weight_at}
 use Rattle.co_law_settle.proofs.Falling.{MemberFalls, weight_least}
 
@@ -28,11 +29,12 @@ falls_twice t x y z f g =
       unarmed = g.unarmed;
       up = λ u. g.up (f.up u);
       others = λ u n a b. g.others u n a b ∙ f.others u n a b;
+      as_busy = λ u n. g.as_busy u n ∙ f.as_busy u n;
       falls = λ a b. let p = f.falls a b in let q = g.falls a b in omega (arith, p, q);
     }
 
 pub member_same : (t : ℕ) (x : MemberState) → x.log.armed ≡ None → MemberFalls t x x
-member_same t x e = record { unarmed = e; up = λ u. u; others = λ u n a b. refl; falls = λ a b. omega arith }
+member_same t x e = record { unarmed = e; up = λ u. u; others = λ u n a b. refl; as_busy = λ u n. refl; falls = λ a b. omega arith }
 
 mark_lowers : (active asked voted a b k : Bool) → active ≡ true → k ≡ true → weight active k voted a b ≤ weight active asked voted a b
 mark_lowers true true voted a b true e h = omega arith
@@ -65,9 +67,14 @@ module _ (x : MemberState) (t : ℕ) where
         unarmed = e;
         up = λ u. u;
         others = λ u n a b i. weight (is_some (without_there x.engine.active t u n i)) (is_some (without_there x.asked t u n i)) (is_some (without_there x.engine.voted t u n i)) a b;
+        as_busy = λ u n i. is_some (without_there x.engine.voted t u n i) || is_some (without_there x.asked t u n i);
         falls = λ a b. subst (λ k. k ≤ weight_at x t a b) (sym (dropped_weight l a b))
             (weight_least (holds x.engine.active t) (holds x.asked t) (holds x.engine.voted t) a b (holds (without x.asked t) t));
       }
+
+  -- nor is it busy
+  pub dropped_idle : (l : LogState) → busy_at (with_log (dropped x t) l) t ≡ false
+  dropped_idle l = λ i. is_some (without_here x.engine.voted t i) || is_some (without_here x.asked t i)
 
   -- a marked one was asked
   pub marked_weight : (c n : ℕ) → holds x.engine.active t ≡ true → (a b : Bool) → weight_at (with_mark x t c n) t a b ≡ 2
@@ -79,6 +86,7 @@ module _ (x : MemberState) (t : ℕ) where
         unarmed = e;
         up = λ u. u;
         others = λ u k a b i. weight (holds x.engine.active u) (is_some (put_there x.asked t (record { coord = c; count = n }) u k i)) (holds x.engine.voted u) a b;
+        as_busy = λ u k i. holds x.engine.voted u || is_some (put_there x.asked t (record { coord = c; count = n }) u k i);
         falls = λ a b. mark_lowers (holds x.engine.active t) (holds x.asked t) (holds x.engine.voted t) a b
             (holds (put x.asked t (record { coord = c; count = n })) t) h (ap is_some (put_here x.asked t (record { coord = c; count = n })));
       }
@@ -96,6 +104,7 @@ module _ (x : MemberState) (t : ℕ) where
         up = λ u. u;
         others = λ u k a b i. weight (is_some (without_there x.engine.active t u k i)) (is_some (without_there x.asked t u k i))
             (is_some (put_there x.engine.voted t (record { coord = c; count = n; sets = sets_of (operations_of x.engine t) }) u k i)) a b;
+        as_busy = λ u k i. is_some (put_there x.engine.voted t (record { coord = c; count = n; sets = sets_of (operations_of x.engine t) }) u k i) || is_some (without_there x.asked t u k i);
         falls = λ a b. subst (λ k. k ≤ weight_at x t a b) (sym (voted_weight c n l a b))
             (vote_lowers (holds x.engine.active t) (holds x.asked t) (holds x.engine.voted t) a b (holds (without x.asked t) t) h);
       }
@@ -118,6 +127,7 @@ module _ (x : MemberState) (t : ℕ) (vote : Vote) (l : LogState) (v : look x.en
         unarmed = e;
         up = λ u. u;
         others = λ u n a b. weight_after u a b ∙ ap (λ o. weight (holds x.engine.active u) (holds x.asked u) (is_some o) a b) (without_there x.engine.voted t u n);
+        as_busy = λ u n. ap (λ z. holds z.voted u || holds x.asked u) engine_after ∙ ap (λ o. is_some o || holds x.asked u) (without_there x.engine.voted t u n);
         falls = λ a b. subst (λ k. k ≤ weight_at x t a b) (sym (installed_weight a b))
             (subst (λ k. weight (holds x.engine.active t) (holds x.asked t) false a b ≤ weight (holds x.engine.active t) (holds x.asked t) k a b) (sym (ap is_some v))
             (install_lowers (holds x.engine.active t) (holds x.asked t) a b));

@@ -16,6 +16,7 @@ use Rattle.co_law_base.proofs.Facts.{Facts}
 use Rattle.co_law_base.proofs.Carrying.{at_each}
 use Rattle.co_law_runs.proofs.Fitting.{FitSessions}
 use Rattle.co_law_runs.proofs.InQuiet.{OpenedFit}
+use Rattle.co_law_settle.specs.Busy.{busy_at, busy_in, IsBusy, BusyAt, BusyIn}
 use Rattle.co_law_settle.specs.SettlingTurns.{AllUp}
 use Rattle.co_law_settle.specs.SettlingMeasure.{any_to, yes_lacking, ack_lacking, weight, weight_at, left_between, left_idle}
 
@@ -112,6 +113,7 @@ pub record MemberFalls (t : ℕ) (x y : MemberState) : Type 0 where
   pub unarmed : y.log.armed ≡ None
   pub up : x.up ≡ true → y.up ≡ true
   pub others : (u : ℕ) → t ≢ u → (a b : Bool) → weight_at y u a b ≡ weight_at x u a b
+  pub as_busy : (u : ℕ) → t ≢ u → busy_at y u ≡ busy_at x u
   pub falls : (a b : Bool) → weight_at y t a b ≤ weight_at x t a b
 
 module _ (s : Federation) (m t : ℕ) (did : MemberStep) (f : MemberFalls t (s.member m) did.state) where
@@ -140,6 +142,18 @@ module _ (s : Federation) (m t : ℕ) (did : MemberStep) (f : MemberFalls t (s.m
       here : (j u : ℕ) (a b : Bool) → weight_at (with_at s.member m did.state j) u a b ≤ weight_at (s.member j) u a b
       here = at_each (λ j x. (u : ℕ) (a b : Bool) → weight_at x u a b ≤ weight_at (s.member j) u a b) s.member m did.state
           (λ u a b. same u a b (t == u) refl) (λ j u a b. omega arith)
+
+  -- no other one becomes busy
+  pub member_wakes : (P : ℕ → Type 0) → (IsMember s m → busy_at did.state t ≡ true → P t) → ((u : ℕ) → IsBusy s u → P u) → (u : ℕ) → IsBusy (at_member s m did).state u → P u
+  member_wakes P own rest u (BusyIn c i k) = rest u (BusyIn c i k)
+  member_wakes P own rest u (BusyAt j i k) = here j i k
+    where
+      by : (b : Bool) → (t == u) ≡ b → IsMember s m → busy_at did.state u ≡ true → P u
+      by true e i k = subst P (eqb-true t u e) (own i (subst (λ v. busy_at did.state v ≡ true) (sym (eqb-true t u e)) k))
+      by false e i k = rest u (BusyAt m i (sym (f.as_busy u (eqb-false t u e)) ∙ k))
+
+      here : (j : ℕ) → IsMember s j → busy_at (with_at s.member m did.state j) u ≡ true → P u
+      here = at_each (λ j x. IsMember s j → busy_at x u ≡ true → P u) s.member m did.state (by (t == u) refl) (λ j i k. rest u (BusyAt j i k))
 
 -- A coordinator changes at one transaction.
 pub record CoordFalls (s : Federation) (t : ℕ) (x y : CoordState) : Type 0 where
@@ -212,3 +226,15 @@ module _ (s : Federation) (c t : ℕ) (did : CoordStep) (f : CoordFalls s t (s.c
 
       idle : (u : ℕ) → left_idle (at_coord s c did).state u ≤ left_idle s u
       idle u = one_falls _ _ (λ h. never (some_entry is_idle (λ v. ⊥) (λ v e k. inl (subst (λ w. is_idle (look (s.coord c).table w) ≡ true) e (f.idles (subst (λ w. is_idle (look did.state.table w) ≡ true) (sym e) k)))) u h))
+
+  -- no other one becomes busy
+  pub coord_wakes : (P : ℕ → Type 0) → (IsCoordinator s c → busy_in (look did.state.table t) ≡ true → P t) → ((u : ℕ) → IsBusy s u → P u) → (u : ℕ) → IsBusy (at_coord s c did).state u → P u
+  coord_wakes P own rest u (BusyAt m i k) = rest u (BusyAt m i k)
+  coord_wakes P own rest u (BusyIn d i k) = here d i k
+    where
+      by : (b : Bool) → (t == u) ≡ b → IsCoordinator s c → busy_in (look did.state.table u) ≡ true → P u
+      by true e i k = subst P (eqb-true t u e) (own i (subst (λ v. busy_in (look did.state.table v) ≡ true) (sym (eqb-true t u e)) k))
+      by false e i k = rest u (BusyIn c i (ap busy_in (sym (f.others u (eqb-false t u e))) ∙ k))
+
+      here : (d : ℕ) → IsCoordinator s d → busy_in (look (with_at s.coord c did.state d).table u) ≡ true → P u
+      here = at_each (λ d y. IsCoordinator s d → busy_in (look y.table u) ≡ true → P u) s.coord c did.state (by (t == u) refl) (λ d i k. rest u (BusyIn d i k))

@@ -1,4 +1,5 @@
 pub mod Falling
+pub mod Busy
 pub mod Homes
 pub mod Reaching
 pub mod AtMember

@@ -16,13 +16,14 @@ use Rattle.co_plain.specs.Coordinator.{coord_vote}
 use Rattle.co_plain.specs.Wire.{was_sent}
 use Rattle.co_plain.specs.Federation.{Federation, Stepped, at_member, at_coord, answers}
 use Rattle.co_plain.specs.Step.{step_line, up_coord, arrives}
-use Rattle.co_plain.specs.Quiet.{IsCoordinator, lacks_yes, lacks_ack}
+use Rattle.co_plain.specs.Quiet.{IsMember, IsCoordinator, lacks_yes, lacks_ack}
 use Rattle.co_law_base.proofs.Facts.{Facts}
 use Rattle.co_law_base.proofs.Carrying.{at_here}
 use Rattle.co_law_moves.proofs.Steps.{step_keeps}
+use Rattle.co_law_settle.specs.Busy.{busy_at, busy_in, IsBusy}
 use Rattle.co_law_settle.specs.SettlingTurns.{AllUp, IsServed}
 use Rattle.co_law_settle.specs.SettlingMeasure.{any_to, yes_lacking, ack_lacking, weight_at, left_between, left_idle, RaisesNothing}
-use Rattle.co_law_settle.proofs.Falling.{Calm, Falls, falls_on, any_found, found_any, weight_falls, MemberFalls, member_calm, member_up, member_falls, CoordFalls, coord_calm, coord_up, coord_falls}
+use Rattle.co_law_settle.proofs.Falling.{Calm, Falls, falls_on, any_found, found_any, weight_falls, MemberFalls, member_calm, member_up, member_falls, member_wakes, CoordFalls, coord_calm, coord_up, coord_falls, coord_wakes}
 use Rattle.co_law_settle.proofs.Homes.{Homes, elsewhere}
 use Rattle.co_law_settle.proofs.Reaching.{Reaches, reaches_end}
 use Rattle.co_law_settle.proofs.AtCoord.{VoteNoted, yes_noted, no_noted}
@@ -32,6 +33,7 @@ pub record Next (s z : Federation) : Type 0 where
   pub calm : Calm z
   pub up : AllUp z
   pub falls : Falls s z
+  pub busy : (u : ℕ) → IsBusy z u → IsBusy s u
 
 -- and less is left there
 pub record Lowered (s : Federation) (t m : ℕ) (z : Federation) : Type 0 where
@@ -42,20 +44,24 @@ module _ (s w : Federation) (n : Next s w) where
   facts_after : (e : Event) (z : Stepped) → step_line w e ≡ z → Facts z.state
   facts_after e z h = subst (λ k. Facts k.state) h (step_keeps w n.calm.facts (happening.Line e) tt)
 
-  pub member_next : (m t : ℕ) (e : Event) (did : MemberStep) → step_line w e ≡ at_member w m did → MemberFalls t (w.member m) did.state → Next s (at_member w m did).state
-  member_next m t e did h f =
+  pub member_next : (m t : ℕ) (e : Event) (did : MemberStep) → step_line w e ≡ at_member w m did → MemberFalls t (w.member m) did.state →
+      (IsMember w m → busy_at did.state t ≡ true → IsBusy s t) → Next s (at_member w m did).state
+  member_next m t e did h f own =
       record {
         calm = member_calm w m t did f n.calm (facts_after e (at_member w m did) h);
         up = member_up w m t did f n.up;
         falls = falls_on s w _ n.falls (member_falls w m t did f);
+        busy = member_wakes w m t did f (IsBusy s) own n.busy;
       }
 
-  pub coord_next : (c t : ℕ) (e : Event) (did : CoordStep) → step_line w e ≡ at_coord w c did → CoordFalls w t (w.coord c) did.state → Next s (at_coord w c did).state
-  coord_next c t e did h f =
+  pub coord_next : (c t : ℕ) (e : Event) (did : CoordStep) → step_line w e ≡ at_coord w c did → CoordFalls w t (w.coord c) did.state →
+      (IsCoordinator w c → busy_in (look did.state.table t) ≡ true → IsBusy s t) → Next s (at_coord w c did).state
+  coord_next c t e did h f own =
       record {
         calm = coord_calm w c t did f n.calm (facts_after e (at_coord w c did) h);
         up = coord_up w c t did f n.up;
         falls = falls_on s w _ n.falls (coord_falls w c t did f);
+        busy = coord_wakes w c t did f (IsBusy s) own n.busy;
       }
 
 -- a step of a member, or of a coordinator, at one transaction raises nothing
@@ -106,10 +112,10 @@ pub record AfterVote (w z : Federation) (t c m : ℕ) (granted : Bool) : Type 0 
   pub gone : granted ≡ false → lacks_yes (look (w.coord c).table t) m ≡ true → look (z.coord c).table t ≡ None
 
 -- the last event of a prepare and of a vote
-pub vote_delivered : (s w : Federation) → Next s w → (t c m : ℕ) (granted : Bool) → IsCoordinator w c → was_sent w.sent (message.Vote t m c granted) ≡ true → Homes w t c →
+pub vote_delivered : (s w : Federation) → Next s w → (t c m : ℕ) → IsBusy s t → (granted : Bool) → IsCoordinator w c → was_sent w.sent (message.Vote t m c granted) ≡ true → Homes w t c →
     ((z : Federation) → AfterVote w z t c m granted → suc (left_between z t m) ≤ left_between s t m) →
     IsServed w (event.Deliver (message.Vote t m c granted)) × RaisesNothing w (event.Deliver (message.Vote t m c granted)) × Reaches (Lowered s t m) [] (step_line w (event.Deliver (message.Vote t m c granted)))
-vote_delivered s w n t c m granted i sent home lower =
+vote_delivered s w n t c m busy granted i sent home lower =
     ((sent, n.up (node.Coord c) i), coord_raises w c t (event.Deliver (message.Vote t m c granted)) did arrived v.falls, reaches_end (Lowered s t m) (step_line w (event.Deliver (message.Vote t m c granted))) (subst (λ z. Lowered s t m z.state) (sym arrived) lowered))
   where
     did : CoordStep
@@ -126,7 +132,7 @@ vote_delivered s w n t c m granted i sent home lower =
     v = noted granted sent
 
     next : Next s (at_coord w c did).state
-    next = coord_next s w n c t (event.Deliver (message.Vote t m c granted)) did arrived v.falls
+    next = coord_next s w n c t (event.Deliver (message.Vote t m c granted)) did arrived v.falls (λ j k. busy)
 
     here : (at_coord w c did).state.coord c ≡ did.state
     here = at_here w.coord c did.state

@@ -31,6 +31,7 @@ use Rattle.co_plain.specs.Quiet.{IsMember, IsCoordinator, Commits, Asks, IsEnabl
 use Rattle.co_law_base.proofs.Facts.{Facts}
 use Rattle.co_law_base.proofs.Carrying.{at_here, votes_held}
 use Rattle.co_law_base.proofs.Lookups.{holds_found}
+use Rattle.co_law_settle.specs.Busy.{busy_in, IsBusy, BusyAt, BusyIn}
 use Rattle.co_law_settle.specs.SettlingTurns.{AllUp, decides_for, acks_from, asks_from, wanted}
 use Rattle.co_law_settle.specs.SettlingMeasure.{weight, weight_at, left_between, yes_lacking, ack_lacking}
 use Rattle.co_law_settle.proofs.Falling.{Calm, MemberFalls}
@@ -94,8 +95,11 @@ module _ (s : Federation) (calm : Calm s) (up : AllUp s) where
     resent : step_line s (event.Resend t c) ≡ at_coord s c did1
     resent = λ j. up_coord s c (up (node.Coord c) k j) (resend_entry c (s.coord c) t (o j))
 
+    busy : IsBusy s t
+    busy = BusyIn c k (ap busy_in o)
+
     next1 : Next s (at_coord s c did1).state
-    next1 = coord_next s s (here s calm up) c t (event.Resend t c) did1 resent (coord_same s t (s.coord c) (calm.coords c))
+    next1 = coord_next s s (here s calm up) c t (event.Resend t c) did1 resent (coord_same s t (s.coord c) (calm.coords c)) (λ j b. busy)
 
     found : find (decides_for m) (decisions_to c t true (numbers_lacking ms acks)) ≡ Some (message.Decide t c m true)
     found = found_commit t c m ms acks lacks
@@ -135,7 +139,7 @@ module _ (s : Federation) (calm : Calm s) (up : AllUp s) where
         w2 = (at_member (at_coord s c did1).state m did).state
 
         next2 : Next s (at_member (at_coord s c did1).state m did).state
-        next2 = member_next s (at_coord s c did1).state next1 m t (event.Deliver (message.Decide t c m true)) did e f
+        next2 = member_next s (at_coord s c did1).state next1 m t (event.Deliver (message.Decide t c m true)) did e f (λ j b. busy)
 
         sends2 : find (acks_from m) (message_list did.sent) ≡ Some (message.Ack t m c)
         sends2 = ap (λ l. find (acks_from m) (message_list l)) sends ∙ ap (λ b. if b then Some (message.Ack t m c) else None) (eq-eqb m m refl)
@@ -158,7 +162,7 @@ module _ (s : Federation) (calm : Calm s) (up : AllUp s) where
         noted = ack_noted (at_member (at_coord s c did1).state m did).state next2.calm.facts c t m (next2.calm.coords c) ms acks still lacks
 
         next3 : Next s (at_coord (at_member (at_coord s c did1).state m did).state c did3).state
-        next3 = coord_next s (at_member (at_coord s c did1).state m did).state next2 c t (event.Deliver (message.Ack t m c)) did3 acked noted.falls
+        next3 = coord_next s (at_member (at_coord s c did1).state m did).state next2 c t (event.Deliver (message.Ack t m c)) did3 acked noted.falls (λ j b. busy)
 
         lowered : Lowered s t m (at_coord (at_member (at_coord s c did1).state m did).state c did3).state
         lowered = record { next = next3; lower = lower }
@@ -243,6 +247,9 @@ module _ (s : Federation) (calm : Calm s) (up : AllUp s) where
         by None e h = absurd (let z : false ≡ true = h in cc)
         by (Some vote) e h = ap coord_in e ∙ eqb-true vote.coord c h
 
+    waits : IsBusy s t
+    waits = BusyAt m i (or_left _ _ voted)
+
     abbrev asks1 : MemberStep
     asks1 = ask_by m (s.member m) t IsVoted
 
@@ -253,7 +260,7 @@ module _ (s : Federation) (calm : Calm s) (up : AllUp s) where
     asked = λ j. up_member s m (up (node.Member m) i j) (ask_by m (s.member m) t (standing j))
 
     next1' : Next s s1
-    next1' = member_next s s (here s calm up) m t (event.Ask t m) asks1 asked (member_same t (s.member m) (calm.members m))
+    next1' = member_next s s (here s calm up) m t (event.Ask t m) asks1 asked (member_same t (s.member m) (calm.members m)) (λ j b. waits)
 
     finds1 : find (asks_from m) (message_list asks1.sent) ≡ Some (message.Ask t m c)
     finds1 = ap (λ d. if m == m then Some (message.Ask t m d) else None) named ∙ ap (λ b. if b then Some (message.Ask t m c) else None) (eq-eqb m m refl)
@@ -271,7 +278,7 @@ module _ (s : Federation) (calm : Calm s) (up : AllUp s) where
     s2 = (at_coord s1 c (ask_entry c (s.coord c) t m None)).state
 
     next2' : Next s s2
-    next2' = coord_next s s1 next1' c t (event.Deliver (message.Ask t m c)) answers2 answered (coord_same s1 t (s.coord c) (calm.coords c))
+    next2' = coord_next s s1 next1' c t (event.Deliver (message.Ask t m c)) answers2 answered (coord_same s1 t (s.coord c) (calm.coords c)) (λ j b. waits)
 
     finds2 : find (decides_for m) answers2.sent ≡ Some (message.Decide t c m false)
     finds2 = ap (λ b. if b then Some (message.Decide t c m false) else None) (eq-eqb m m refl)
@@ -294,7 +301,7 @@ module _ (s : Federation) (calm : Calm s) (up : AllUp s) where
 
     next3' : Next s (at_member s2 m drops3).state
     next3' = member_next s s2 next2' m t (event.Deliver (message.Decide t c m false)) drops3 dropped_there
-        (dropped_falls (s2.member m) t (with_waiting (s2.member m).log (log.Abort t)) (next2'.calm.members m))
+        (dropped_falls (s2.member m) t (with_waiting (s2.member m).log (log.Abort t)) (next2'.calm.members m)) (λ j b. waits)
 
     asking_lower : suc (left_between (at_member s2 m drops3).state t m) ≤ left_between s t m
     asking_lower =

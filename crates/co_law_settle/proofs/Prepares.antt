@@ -37,6 +37,7 @@ use Rattle.co_law_base.proofs.Facts.{rest_of, belongs}
 use Rattle.co_law_base.proofs.Carrying.{at_here}
 use Rattle.co_law_moves.proofs.MemberEvents.{active_is, voted_is, absent_is, votes_own}
 use Rattle.co_law_runs.proofs.InQuiet.{belongs_fits}
+use Rattle.co_law_settle.specs.Busy.{busy_in, IsBusy, BusyAt, BusyIn}
 use Rattle.co_law_settle.specs.SettlingTurns.{AllUp, prepares_member, votes_from, note_in, IsServed, wanted, first_event}
 use Rattle.co_law_settle.specs.SettlingMeasure.{RaisesNothing, weight, weight_at, left_between, yes_lacking, ack_lacking}
 use Rattle.co_law_settle.proofs.Falling.{Calm, falls_same, MemberFalls}
@@ -118,7 +119,7 @@ few_left k false true = omega arith
 few_left k false false = omega arith
 
 -- a member's step that sends a vote, and the delivery of it
-module _ (s w : Federation) (n : Next s w) (t c m : ℕ) (i : IsCoordinator w c) (home : Homes w t c) where
+module _ (s w : Federation) (n : Next s w) (t c m : ℕ) (busy : IsBusy s t) (i : IsCoordinator w c) (home : Homes w t c) where
   pub vote_follows : (e : Event) (did : MemberStep) (granted : Bool) → step_line w e ≡ at_member w m did → MemberFalls t (w.member m) did.state →
       did.sent ≡ Some (message.Vote t m c granted) →
       ((z : Federation) → AfterVote (at_member w m did).state z t c m granted →
@@ -140,7 +141,7 @@ module _ (s w : Federation) (n : Next s w) (t c m : ℕ) (i : IsCoordinator w c)
 
       last : IsServed (at_member w m did).state (event.Deliver (message.Vote t m c granted)) × RaisesNothing (at_member w m did).state (event.Deliver (message.Vote t m c granted)) ×
           Reaches (Lowered s t m) [] (step_line (at_member w m did).state (event.Deliver (message.Vote t m c granted)))
-      last = vote_delivered s (at_member w m did).state (member_next s w n m t e did same f) t c m granted i
+      last = vote_delivered s (at_member w m did).state (member_next s w n m t e did same f (λ j k. busy)) t c m busy granted i
           (found_sent (votes_from m) w.sent (message_list did.sent) (message.Vote t m c granted) found) home less
 
 voted_apart : (a v c : Bool) → standing_by a v c ≡ IsVoted → (a ≡ false) × (v ≡ true)
@@ -162,7 +163,7 @@ absent_loses x t n h l = by (look x.engine.active t) refl h
 
 module _ (s : Federation) (calm : Calm s) (up : AllUp s) where
   pub here : Next s s
-  here = record { calm = calm; up = up; falls = falls_same s }
+  here = record { calm = calm; up = up; falls = falls_same s; busy = λ u h. h }
 
   module _ (t m c : ℕ) (i : IsMember s m) (k : IsCoordinator s c) (parts : List Part) (yeses : List ℕ) (o : look (s.coord c).table t ≡ Some (entry.Collecting parts yeses))
       (lacks : (has_part parts m && not (has_number yeses m)) ≡ true) (n : ℕ)
@@ -173,8 +174,11 @@ module _ (s : Federation) (calm : Calm s) (up : AllUp s) where
     resent : step_line s (event.Resend t c) ≡ at_coord s c did1
     resent = λ j. up_coord s c (up (node.Coord c) k j) (resend_entry c (s.coord c) t (o j))
 
+    busy : IsBusy s t
+    busy = BusyIn c k (ap busy_in o)
+
     next1 : Next s (at_coord s c did1).state
-    next1 = coord_next s s here c t (event.Resend t c) did1 resent (coord_same s t (s.coord c) (calm.coords c))
+    next1 = coord_next s s here c t (event.Resend t c) did1 resent (coord_same s t (s.coord c) (calm.coords c)) (λ j b. busy)
 
     sent1 : was_sent (at_coord s c did1).state.sent (message.Prepare t c m n) ≡ true
     sent1 = found_sent (prepares_member m) s.sent (prepares_to c t (parts_lacking parts yeses)) (message.Prepare t c m n) found
@@ -198,7 +202,7 @@ module _ (s : Federation) (calm : Calm s) (up : AllUp s) where
         ((a b : Bool) → weight_at did.state t a b ≡ weight false j false a b) →
         Reaches (Lowered s t m) (votes_from m ∷ []) (at_member (at_coord s c did1).state m did)
     no_sent did j e f sends w =
-        vote_follows s (at_coord s c did1).state next1 t c m k home (event.Deliver (message.Prepare t c m n)) did false e f sends
+        vote_follows s (at_coord s c did1).state next1 t c m busy k home (event.Deliver (message.Prepare t c m n)) did false e f sends
         (λ z a.
         let gone = a.gone refl (ap (λ e. lacks_yes e m) still ∙ lacks) in
         let now = w (lacks_yes (look (z.coord c).table t) m) (lacks_ack (look (z.coord c).table t) m) in
@@ -213,7 +217,7 @@ module _ (s : Federation) (calm : Calm s) (up : AllUp s) where
         ((a b : Bool) → weight_at did.state t a b ≡ weight false j true a b) → (holds (s.member m).engine.active t || holds (s.member m).engine.voted t) ≡ true →
         Reaches (Lowered s t m) (votes_from m ∷ []) (at_member (at_coord s c did1).state m did)
     yes_sent did j e f sends w stood =
-        vote_follows s (at_coord s c did1).state next1 t c m k home (event.Deliver (message.Prepare t c m n)) did true e f sends
+        vote_follows s (at_coord s c did1).state next1 t c m busy k home (event.Deliver (message.Prepare t c m n)) did true e f sends
         (λ z a.
         let now = w (lacks_yes (look (z.coord c).table t) m) (lacks_ack (look (z.coord c).table t) m) in
         let one = voted_left j (lacks_yes (look (z.coord c).table t) m) (lacks_ack (look (z.coord c).table t) m) a.recorded in
@@ -269,7 +273,7 @@ module _ (s : Federation) (calm : Calm s) (up : AllUp s) where
         (record { next = next2; lower = lower })
       where
         next2 : Next s (at_member (at_coord s c did1).state m did).state
-        next2 = member_next s (at_coord s c did1).state next1 m t (event.Deliver (message.Prepare t c m n)) did e (active_falls a did (Holds v d sends))
+        next2 = member_next s (at_coord s c did1).state next1 m t (event.Deliver (message.Prepare t c m n)) did e (active_falls a did (Holds v d sends)) (λ j b. busy)
 
         lower : suc (left_between (at_member (at_coord s c did1).state m did).state t m) ≤ left_between s t m
         lower =
@@ -343,6 +347,9 @@ module _ (s : Federation) (calm : Calm s) (up : AllUp s) where
       was : left_between s t m ≡ 2
       was = asked_left (holds (s.member m).engine.active t) (holds (s.member m).asked t) (holds (s.member m).engine.voted t) (yes_lacking s t m) (ack_lacking s t m) a (ap is_some e)
 
+      busy : IsBusy s t
+      busy = BusyAt m i (or_right (holds (s.member m).engine.voted t) _ (ap is_some e))
+
       own : IsCoordinator s mark.coord
       own = belongs_fits s calm.sessions calm.opened t mark.coord home
 
@@ -353,14 +360,14 @@ module _ (s : Federation) (calm : Calm s) (up : AllUp s) where
 
       by : VoteDid m (s.member m) t mark.coord mark.count v did → Reaches (Lowered s t m) (votes_from m ∷ []) (at_member s m did)
       by (SaysNo h sends) =
-          vote_follows s s here t mark.coord m own (inl home) (event.Vote t m) did false same (fits (SaysNo h sends)) sends
+          vote_follows s s here t mark.coord m busy own (inl home) (event.Vote t m) did false same (fits (SaysNo h sends)) sends
           (λ z k.
           let now = ap (λ x. weight_at x t (lacks_yes (look (z.coord mark.coord).table t) m) (lacks_ack (look (z.coord mark.coord).table t) m)) h
           ∙ dropped_weight (s.member m) t (s.member m).log (lacks_yes (look (z.coord mark.coord).table t) m) (lacks_ack (look (z.coord mark.coord).table t) m) in
           let few = few_left (holds (without (s.member m).asked t) t) (lacks_yes (look (z.coord mark.coord).table t) m) (lacks_ack (look (z.coord mark.coord).table t) m) in
           omega (arith, now, few, was))
       by (SaysYes l u h sends) =
-          vote_follows s s here t mark.coord m own (inl home) (event.Vote t m) did true same (fits (SaysYes l u h sends)) sends
+          vote_follows s s here t mark.coord m busy own (inl home) (event.Vote t m) did true same (fits (SaysYes l u h sends)) sends
           (λ z k.
           let now = ap (λ x. weight_at x t (lacks_yes (look (z.coord mark.coord).table t) m) (lacks_ack (look (z.coord mark.coord).table t) m)) h
           ∙ voted_weight (s.member m) t mark.coord mark.count l (lacks_yes (look (z.coord mark.coord).table t) m) (lacks_ack (look (z.coord mark.coord).table t) m) in

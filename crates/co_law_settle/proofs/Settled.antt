@@ -38,7 +38,8 @@ use Rattle.co_law_runs.proofs.Fitting.{Fit, FitSessions, run_fits}
 use Rattle.co_law_runs.proofs.InQuiet.{OpenedFit}
 use Rattle.co_law_moves.specs.OpenedLogs.{AreOpenable}
 use Rattle.co_law_moves.proofs.Start.{start_facts}
-use Rattle.co_law_settle.specs.SettlingTurns.{AllUp, Turn, Exchanges, turn_events, AreServed, IsServed, IsAnswered, goes_to, node_arrives, CanTurn, IsUnarmed, IsNext, SomethingOpen, NothingOpen, AreTurns, turns_events, IsSettling, Settles}
+use Rattle.co_law_settle.specs.Busy.{IsBusy}
+use Rattle.co_law_settle.specs.SettlingTurns.{AllUp, Turn, Exchanges, turn_events, after_turn, AreServed, IsServed, IsAnswered, goes_to, node_arrives, CanTurn, IsUnarmed, IsNext, SomethingOpen, NothingOpen, AreTurns, turns_events, IsSettling, Settles}
 use Rattle.co_law_settle.specs.SettlingMeasure.{AreCounted, TurnLowers, pairs_in, numbers_in_state, events_left}
 use Rattle.co_law_settle.specs.SettledRecords.{HoldsSerially}
 use Rattle.co_law_settle.proofs.Falling.{Calm}
@@ -46,7 +47,7 @@ use Rattle.co_law_settle.proofs.OpenSets.{pair_counted, idle_counted, left_most}
 use Rattle.co_law_settle.proofs.Counting.{most_down}
 use Rattle.co_law_settle.proofs.First.{settles_by}
 use Rattle.co_law_settle.proofs.Lowering.{deliver_is}
-use Rattle.co_law_settle.proofs.Turns.{exchanged, can_done, TurnsDone, turns_done, one_more}
+use Rattle.co_law_settle.proofs.Turns.{exchanged, can_done, next_done, TurnsDone, turns_done, one_more}
 use Rattle.co_law_settle.proofs.Ending.{settles_from}
 use Rattle.co_law_settle.proofs.QuietTimers.{quiet_timers}
 use Rattle.co_law_settle.proofs.OneWay.{one_way}
@@ -134,6 +135,11 @@ module _ (kinds : List Kind) (coords : ℕ) (fm fc : ℕ → Found) (hs : List H
   pub lowers : IsUnarmed (run hs (opened kinds coords fm fc)) → (turn : Turn) → CanTurn (run hs (opened kinds coords fm fc)) turn → TurnLowers (run hs (opened kinds coords fm fc)) turn
   lowers u turn can = (can_done (run hs (opened kinds coords fm fc)) (calm_at u) turn can).lowers
 
+  -- no turn makes a transaction busy
+  pub wakes : IsUnarmed (run hs (opened kinds coords fm fc)) → (turn : Turn) → CanTurn (run hs (opened kinds coords fm fc)) turn → (t : ℕ) → IsBusy (after_turn (run hs (opened kinds coords fm fc)) turn) t →
+      IsBusy (run hs (opened kinds coords fm fc)) t
+  wakes u turn can = (can_done (run hs (opened kinds coords fm fc)) (calm_at u) turn can).busy
+
   -- settling so far
   so_far : (turns : List Turn) → AreTurns turns (disarmed (run hs (opened kinds coords fm fc))) →
       TurnsDone (pairs_in (run hs (opened kinds coords fm fc))) (numbers_in_state (run hs (opened kinds coords fm fc))) (disarmed (run hs (opened kinds coords fm fc)))
@@ -159,13 +165,21 @@ module _ (kinds : List Kind) (coords : ℕ) (fm fc : ℕ → Found) (hs : List H
       let end = settles_from (pairs_in s) (numbers_in_state s) (events_left (pairs_in s) (numbers_in_state s) s) s calm (counted s) (omega arith) in
       (turns_events end.turns s, record { settling = record { turns = end.turns; goes = end.goes; same = refl }; done = end.done })
 
+  calm_after : (events : List Event) → IsSettling (run hs (opened kinds coords fm fc)) events → Calm (run (lines events) (disarmed (run hs (opened kinds coords fm fc))))
+  calm_after events settling = subst (λ l. Calm (run (lines l) (disarmed (run hs (opened kinds coords fm fc))))) (sym settling.same) (so_far settling.turns settling.goes).calm
+
+  -- nor does settling, however far it has come
+  pub settling_wakes : (events : List Event) → IsSettling (run hs (opened kinds coords fm fc)) events → (turn : Turn) → IsNext (run (lines events) (disarmed (run hs (opened kinds coords fm fc)))) turn → (t : ℕ) →
+      IsBusy (after_turn (run (lines events) (disarmed (run hs (opened kinds coords fm fc)))) turn) t → IsBusy (run (lines events) (disarmed (run hs (opened kinds coords fm fc)))) t
+  settling_wakes events settling turn next = (next_done (run (lines events) (disarmed (run hs (opened kinds coords fm fc)))) (calm_after events settling) turn next).busy
+
   -- however far settling has come
   pub next_turn : (events : List Event) → IsSettling (run hs (opened kinds coords fm fc)) events → (t : ℕ) → IsOpen (run (lines events) (disarmed (run hs (opened kinds coords fm fc)))) t →
       SettlesBy (run (lines events) (disarmed (run hs (opened kinds coords fm fc))))
   next_turn events settling t open' = settles_by (run (lines events) (disarmed (run hs (opened kinds coords fm fc)))) now.facts now.sessions now.opened t open'
     where
       now : Calm (run (lines events) (disarmed (run hs (opened kinds coords fm fc))))
-      now = subst (λ l. Calm (run (lines l) (disarmed (run hs (opened kinds coords fm fc))))) (sym settling.same) (so_far settling.turns settling.goes).calm
+      now = calm_after events settling
 
   -- two ways to settle are one
   pub one_settling : (events others : List Event) → Settles (run hs (opened kinds coords fm fc)) events → Settles (run hs (opened kinds coords fm fc)) others → events ≡ others

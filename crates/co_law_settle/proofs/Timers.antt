@@ -22,11 +22,12 @@ use Rattle.co_law_base.proofs.Facts.{Facts}
 use Rattle.co_law_base.proofs.Carrying.{at_here}
 use Rattle.co_law_base.proofs.Lookups.{without_here}
 use Rattle.co_law_moves.proofs.Steps.{step_keeps}
+use Rattle.co_law_settle.specs.Busy.{busy_in, IsBusy, BusyAt, BusyIn}
 use Rattle.co_law_settle.specs.SettlingTurns.{AllUp}
 use Rattle.co_law_settle.specs.SettlingMeasure.{any_to, weight, left_between, left_idle, yes_lacking, ack_lacking, weight_at}
-use Rattle.co_law_settle.proofs.Falling.{Calm, Falls, any_found, found_any, MemberFalls, member_calm, member_falls, CoordFalls, coord_calm, coord_falls}
+use Rattle.co_law_settle.proofs.Falling.{Calm, Falls, any_found, found_any, MemberFalls, member_calm, member_falls, member_wakes, CoordFalls, coord_calm, coord_falls, coord_wakes}
 use Rattle.co_law_settle.proofs.Homes.{in_table, elsewhere}
-use Rattle.co_law_settle.proofs.AtMember.{dropped_falls, dropped_weight}
+use Rattle.co_law_settle.proofs.AtMember.{dropped_falls, dropped_weight, dropped_idle}
 use Rattle.co_law_settle.proofs.AtCoord.{idle_ends}
 use Rattle.co_law_settle.proofs.Lowering.{Next, Lowered, member_next, coord_next}
 use Rattle.co_law_settle.proofs.Prepares.{here, few_left}
@@ -53,6 +54,7 @@ module _ (s : Federation) (calm : Calm s) (up : AllUp s) where
 
       next : Next s (at_member s m did).state
       next = member_next s s (here s calm up) m t (event.Timer t (node.Member m)) did same (dropped_falls (s.member m) t (s.member m).log (calm.members m))
+          (λ j b. absurd (let z : false ≡ true = sym (dropped_idle (s.member m) t (s.member m).log) ∙ b in cc))
 
       lower : suc (left_between (at_member s m did).state t m) ≤ left_between s t m
       lower =
@@ -73,6 +75,7 @@ module _ (s : Federation) (calm : Calm s) (up : AllUp s) where
 
       next : Next s (at_coord s c did).state
       next = coord_next s s (here s calm up) c t (event.Timer t (node.Coord c)) did same (idle_ends s calm.facts c t 0 (calm.coords c))
+          (λ j b. absurd (let z : false ≡ true = sym (ap busy_in (without_here (s.coord c).table t)) ∙ b in cc))
 
       z : Federation
       z = (at_coord s c (timer_entry c (s.coord c) t (Some entry.Idle))).state
@@ -99,11 +102,16 @@ module _ (s : Federation) (calm : Calm s) (up : AllUp s) where
 pub record Restarted (s z : Federation) : Type 0 where
   pub calm : Calm z
   pub falls : Falls s z
+  pub busy : (u : ℕ) → IsBusy z u → IsBusy s u
 
 module _ (s : Federation) (calm : Calm s) where
   pub member_restarts : (m : ℕ) → (s.member m).up ≡ false → Restarted s (at_member s m (restart_by (s.member m) false)).state
   member_restarts m d =
-      record { calm = member_calm s m 0 did same calm (subst (λ k. Facts k.state) is (step_keeps s calm.facts (happening.Line (event.Restart (node.Member m))) tt)); falls = member_falls s m 0 did same }
+      record {
+        calm = member_calm s m 0 did same calm (subst (λ k. Facts k.state) is (step_keeps s calm.facts (happening.Line (event.Restart (node.Member m))) tt));
+        falls = member_falls s m 0 did same;
+        busy = member_wakes s m 0 did same (IsBusy s) (λ i b. BusyAt m i b) (λ u h. h);
+      }
     where
       did : MemberStep
       did = restart_by (s.member m) false
@@ -112,11 +120,15 @@ module _ (s : Federation) (calm : Calm s) where
       is = ap (λ b. at_member s m (restart_by (s.member m) b)) d
 
       same : MemberFalls 0 (s.member m) did.state
-      same = record { unarmed = calm.members m; up = λ u. refl; others = λ u n a b. refl; falls = λ a b. omega arith }
+      same = record { unarmed = calm.members m; up = λ u. refl; others = λ u n a b. refl; as_busy = λ u n. refl; falls = λ a b. omega arith }
 
   pub coord_restarts : (c : ℕ) → (s.coord c).up ≡ false → Restarted s (at_coord s c (coord_restart_by (s.coord c) false)).state
   coord_restarts c d =
-      record { calm = coord_calm s c 0 did same calm (subst (λ k. Facts k.state) is (step_keeps s calm.facts (happening.Line (event.Restart (node.Coord c))) tt)); falls = coord_falls s c 0 did same }
+      record {
+        calm = coord_calm s c 0 did same calm (subst (λ k. Facts k.state) is (step_keeps s calm.facts (happening.Line (event.Restart (node.Coord c))) tt));
+        falls = coord_falls s c 0 did same;
+        busy = coord_wakes s c 0 did same (IsBusy s) (λ i b. BusyIn c i b) (λ u h. h);
+      }
     where
       did : CoordStep
       did = coord_restart_by (s.coord c) false

@@ -18,6 +18,7 @@ use Rattle.co_plain.specs.Runs.{run, lines}
 use Rattle.co_plain.specs.Quiet.{IsMember, IsNode, node_up, Exchange, Prepares, Votes, Commits, Asks, IsEnabled}
 use Rattle.co_plain.specs.Settling.{exchange_txn, exchange_member, timer_ends, is_idle, SettlesBy, ByRestart, ByExchange, ByTimer}
 use Rattle.co_law_base.proofs.Carrying.{at_each, at_here}
+use Rattle.co_law_settle.specs.Busy.{IsBusy}
 use Rattle.co_law_settle.specs.SettlingTurns.{AllUp, Turn, Restarts, Exchanges, Fires, first_event, wanted, turn_events, after_turn, turn_of, IsNext, CanTurn, AreTurns, turns_events, SomethingOpen}
 use Rattle.co_law_settle.specs.SettlingMeasure.{RaiseNothing, left_of, one_down, down_count, events_left, AreCounted, TurnLowers, lowered_by}
 use Rattle.co_law_settle.proofs.Falling.{Calm, Falls}
@@ -45,6 +46,7 @@ few_wanted (Asks t m c) = omega arith
 pub record Done (s : Federation) (turn : Turn) : Type 0 where
   pub calm : Calm (after_turn s turn)
   pub falls : Falls s (after_turn s turn)
+  pub busy : (u : ℕ) → IsBusy (after_turn s turn) u → IsBusy s u
   pub lowers : TurnLowers s turn
 
 -- a turn after which all nodes are up, and that lowers what is left
@@ -54,6 +56,7 @@ all_up_done s turn few one each n lower =
     record {
       calm = n.calm;
       falls = n.falls;
+      busy = n.busy;
       lowers = record {
         each = each;
         lowers = λ pairs numbers c. let l = lower pairs numbers c in omega (arith, l, one);
@@ -92,6 +95,7 @@ restart_done s z at same r down =
     record {
       calm = subst Calm (sym same) r.calm;
       falls = falls;
+      busy = subst (λ w. (u : ℕ) → IsBusy w u → IsBusy s u) (sym same) r.busy;
       lowers = record {
         each = ((falls.between, falls.idle), tt);
         lowers = λ pairs numbers c. let l = left_falls pairs numbers s (after_turn s (Restarts at)) falls in omega (arith, l);

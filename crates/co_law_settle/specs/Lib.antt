@@ -1,3 +1,4 @@
 pub mod SettlingTurns
 pub mod SettlingMeasure
 pub mod SettledRecords
+pub mod Busy

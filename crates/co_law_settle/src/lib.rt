@@ -13,6 +13,6 @@ pub use settling::{
     timers_stand_in_quiet_states,
 };
 pub use turn::{
-    events_are_answered, exchanges_are_served, settling_is_never_stuck, turns_lower,
-    what_is_left_is_counted,
+    events_are_answered, exchanges_are_of_busy_ones, exchanges_are_served, settling_is_never_stuck,
+    turns_lower, turns_make_none_busy, what_is_left_is_counted,
 };

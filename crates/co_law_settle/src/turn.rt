@@ -7,11 +7,12 @@ ghost use Rattle.co_plain.specs.Federation.{Federation};
 ghost use Rattle.co_plain.specs.Opening.{Found, opened};
 ghost use Rattle.co_plain.specs.Quiet.{IsOpen, IsEnabled, Exchange, open_pairs, open_count};
 ghost use Rattle.co_plain.specs.Runs.{run};
-ghost use Rattle.co_plain.specs.Settling.{SettlesBy};
+ghost use Rattle.co_plain.specs.Settling.{SettlesBy, exchange_txn};
 ghost use Rattle.co_law_moves.specs.HandedVerdicts.{AreTrueVerdicts};
 ghost use Rattle.co_law_runs.specs.OnlyTimers.{AreOwn, AreOwnLogs};
 ghost use Rattle.co_law_moves.specs.OpenedLogs.{AreOpenable};
-ghost use Rattle.co_law_settle.specs.SettlingTurns.{Turn, Exchanges, turn_events, AllUp, CanTurn, IsUnarmed, IsServed, IsAnswered, AreServed};
+ghost use Rattle.co_law_settle.specs.Busy.{IsBusy};
+ghost use Rattle.co_law_settle.specs.SettlingTurns.{Turn, Exchanges, turn_events, after_turn, AllUp, CanTurn, IsUnarmed, IsServed, IsAnswered, AreServed};
 ghost use Rattle.co_law_settle.specs.SettlingMeasure.{AreCounted, TurnLowers, left_of, pairs_in, numbers_in_state};
 
 /// In every state of a run where something is open there is a next turn: a first node that is down; or, where all are up,
@@ -57,6 +58,26 @@ pub fn turns_lower()
         IsUnarmed (run hs (opened kinds coords found_member found_coord)) →
         CanTurn (run hs (opened kinds coords found_member found_coord)) turn →
         TurnLowers (run hs (opened kinds coords found_member found_coord)) turn }
+{}
+
+/// An exchange that can help is of a busy transaction: one that is collecting or committed at a coordinator, voted at a
+/// member, or asked for its vote there.
+pub fn exchanges_are_of_busy_ones()
+    ensures { (s : Federation) (e : Exchange) → IsEnabled s e → IsBusy s (exchange_txn e) }
+{}
+
+/// Where no stop is armed, no turn makes a transaction busy that was not. So while settling goes on, an exchange can help no
+/// transaction but those that were busy when it began.
+pub fn turns_make_none_busy()
+    ensures { (kinds : List Kind) (coords : ℕ) (found_member found_coord : ℕ → Found) (hs : List Happening) (turn : Turn) (t : ℕ) →
+        AreOpenable kinds coords found_member found_coord →
+        AreOwnLogs kinds coords found_member found_coord →
+        AreTrueVerdicts hs (opened kinds coords found_member found_coord) →
+        AreOwn (length kinds) coords hs →
+        IsUnarmed (run hs (opened kinds coords found_member found_coord)) →
+        CanTurn (run hs (opened kinds coords found_member found_coord)) turn →
+        IsBusy (after_turn (run hs (opened kinds coords found_member found_coord)) turn) t →
+        IsBusy (run hs (opened kinds coords found_member found_coord)) t }
 {}
 
 /// In every state, reached by a run or not: what is left is among the open pairs and the open transactions, at most three

@@ -1,5 +1,5 @@
 -- How many events settling takes at most: no more transactions are open with one member than are open at all.
-use Rattle.std.proofs.Common.{◌≡◌, ◌⊎◌, inl, inr, ℕ, zero, suc, ◌≤◌, ◌*◌, Bool, true, false, ◌||◌, ◌&&◌, ◌==◌, if◌then◌else◌, T, List, [], ◌∷◌, map, filter, length, refl, sym, ap, ◌∙◌, arith}
+use Rattle.std.proofs.Common.{◌≡◌, ◌⊎◌, inl, inr, ℕ, zero, suc, ◌≤◌, ◌+◌, ◌*◌, Bool, true, false, ◌||◌, ◌&&◌, ◌==◌, if◌then◌else◌, T, List, [], ◌∷◌, map, filter, length, refl, sym, ap, ◌∙◌, arith}
 use Rattle.std.specs.Option.{is_some}
 use Rattle.std.specs.List.{AllByRecursion, IsDistinct, list_any}
 use Rattle.std.specs.Ordering.{nat_cmp, eq_by_cmp, is_lt, is_eq}
@@ -155,13 +155,11 @@ sum_most (suc n) counts most each =
     let last = each (suc n) (omega arith) (omega arith) in
     omega (arith, rest, last)
 
-pub few_settling : (s : Federation) → IsReached s → open_count s ≤ 65536 → settling_bound s ≤ 13172760
-few_settling s r few =
+pub most_settling : (s : Federation) (members most : ℕ) → length s.kinds ≤ members → open_count s ≤ most → settling_bound s ≤ 24 + 3 * ((4 * members + 3) * most)
+most_settling s members most kinds few =
     let pairs : open_pairs s ≤ length s.kinds * open_count s = sum_most (length s.kinds) (λ m. length (keys (open_between s m))) (open_count s) (λ m from to. between_few s m (from, to)) in
-    let kinds = ap length (kinds_are s r) in
-    let members = r.few_members in
-    let product : length s.kinds * open_count s ≤ 1048576 = most_product (length s.kinds) (open_count s) (omega (arith, kinds, members)) few in
+    let product : length s.kinds * open_count s ≤ members * most = mul-le-mul kinds few in
     omega (arith, pairs, product, few)
-  where
-    most_product : (n t : ℕ) → n ≤ 16 → t ≤ 65536 → n * t ≤ 1048576
-    most_product n t a b = let p = mul-le-mul a b in omega (arith, p)
+
+pub few_settling : (s : Federation) → IsReached s → open_count s ≤ 65536 → settling_bound s ≤ 13172760
+few_settling s r few = let kinds = ap length (kinds_are s r) in let members = r.few_members in most_settling s 16 65536 (omega (arith, kinds, members)) few

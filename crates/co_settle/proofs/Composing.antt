@@ -1,6 +1,6 @@
 -- Calls one behind the other.
 use Rattle.std.proofs.Common.{◌≡◌, inl, inr, ℕ, suc, Bool, true, false, map, ◌+◌, List, [], ◌∷◌, ◌++◌, length, Option, Result, Ok, Err, refl, sym, ap, ◌∙◌, subst, append_assoc, append-nil, arith}
-use Rattle.std.specs.Result.{IsErr, IsOk}
+use Rattle.std.specs.Result.{IsErr, IsErrAnd, IsOk}
 use Rattle.std.proofs.lemmas.List.{length-append}
 use Rattle.co_base.specs.declared.head.Kind.{Kind}
 use Rattle.co_durable.specs.declared.fault.WorldFault.{WorldFault}
@@ -16,10 +16,11 @@ use Rattle.co_outside.specs.Faults.{HasRisen}
 use Rattle.co_outside.specs.declared.spot.Spot.{Spot}
 use Rattle.co_plain.specs.Federation.{Federation}
 use Rattle.co_plain.specs.Runs.{run, numbered, transcript, lines}
-use Rattle.co_plain.specs.Step.{step_line}
+use Rattle.co_plain.specs.Step.{disarmed, step_line}
 use Rattle.co_state.specs.declared.engine_state.EngineState.{EngineState}
 use Rattle.co_law_settle.specs.SettlingTurns.{note_in}
 use Rattle.co_law.proofs.GoingOn.{transcript_more}
+use Rattle.co_world.specs.Left.{IsFullIn}
 use Rattle.co_world.specs.Served.{AreServed, HasEndedAs}
 use Rattle.co_world.specs.Standing.{RepresentsWorld}
 use Rattle.co_world.specs.declared.world.World.{World}
@@ -33,16 +34,16 @@ run_on (e ∷ es) more s = run_on es more (step_line s e).state
 
 -- ---- a fault behind events that were done
 
-pub cut_later : (es more : List Event) (s : Federation) (file : Spot → Option File) → IsCutIn more (run (lines es) s) file → IsCutIn (es ++ more) s file
-cut_later [] more s file h = h
-cut_later (e ∷ es) more s file h = inr (cut_later es more (step_line s e).state file h)
+pub cut_later : (es more : List Event) (s : Federation) (file : Spot → Option File) (fault : WorldFault) → IsCutIn more (run (lines es) s) file fault → IsCutIn (es ++ more) s file fault
+cut_later [] more s file fault h = h
+cut_later (e ∷ es) more s file fault h = inr (cut_later es more (step_line s e).state file fault h)
 
 -- and before others
-pub cut_before : (es more : List Event) (s : Federation) (file : Spot → Option File) → IsCutIn es s file → IsCutIn (es ++ more) s file
-cut_before [] [] s file h = h
-cut_before [] (x ∷ xs) s file h = inl (inl h)
-cut_before (e ∷ es) more s file (inl h) = inl h
-cut_before (e ∷ es) more s file (inr h) = inr (cut_before es more (step_line s e).state file h)
+pub cut_before : (es more : List Event) (s : Federation) (file : Spot → Option File) (fault : WorldFault) → IsCutIn es s file fault → IsCutIn (es ++ more) s file fault
+cut_before [] [] s file fault h = h
+cut_before [] (x ∷ xs) s file fault h = inl (inl h.0, subst (IsFullIn (step_line (disarmed s) x).state) (sym h.1) tt)
+cut_before (e ∷ es) more s file fault (inl h) = inl h
+cut_before (e ∷ es) more s file fault (inr h) = inr (cut_before es more (step_line s e).state file fault h)
 
 -- ---- events behind events
 
@@ -67,7 +68,7 @@ module _ {E : Type 0} (takes : Kind → Type 0) (stands_for : E → EngineState 
   pub does_more : {B : Type 0} (s : Federation) (es more : List Event) (a b c : Told) (i j k : Steps) (w x : World E) (file : Spot → Option File) (P : B → Type 0) (result : Result B WorldFault) →
       HasDone takes stands_for s es a b i j w → DoesAll takes stands_for (run (lines es) s) more b c j k x file P result → DoesAll takes stands_for s (es ++ more) a c i k x file P result
   does_more s es more a b c i j k w x file P (Ok v) d e = (done_more s es more a b c i j k w x d e.0, e.1)
-  does_more s es more a b c i j k w x file P (Err fault) d e = cut_later es more s file e
+  does_more s es more a b c i j k w x file P (Err fault) d e = cut_later es more s file fault e
 
 -- ---- the directory
 
@@ -124,10 +125,10 @@ told_notes test number items told same = ap (note_in test) (ap (map (λ i. i.wha
 
 module _ {E : Type 0} (takes : Kind → Type 0) (stands_for : E → EngineState → Type 0) where
   -- a call that failed
-  pub cut_as : {A : Type 0} (s : Federation) (events : List Event) (a b : Told) (i j : Steps) (w : World E) (file : Spot → Option File) (P : A → Type 0) (result : Result A WorldFault) → IsErr result → IsCutIn events s file →
+  pub cut_as : {A : Type 0} (s : Federation) (events : List Event) (a b : Told) (i j : Steps) (w : World E) (file : Spot → Option File) (P : A → Type 0) (result : Result A WorldFault) → (fault : WorldFault) → IsErr result × IsErrAnd result (λ e. e ≡ fault) → IsCutIn events s file fault →
       DoesAll takes stands_for s events a b i j w file P result
-  cut_as s events a b i j w file P (Ok v) err h = absurd (let z : false ≡ true = err in cc)
-  cut_as s events a b i j w file P (Err fault) err h = h
+  cut_as s events a b i j w file P (Ok v) fault is h = absurd (let z : false ≡ true = is.0 in cc)
+  cut_as s events a b i j w file P (Err e) fault is h = subst (IsCutIn events s file) (sym is.1) h
 
   -- what was given does not count
   pub does_any : {A B : Type 0} (s : Federation) (events : List Event) (a b : Told) (i j : Steps) (w : World E) (file : Spot → Option File) (P : A → Type 0) (result : Result A WorldFault) (v : B) →

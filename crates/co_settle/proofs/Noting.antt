@@ -41,6 +41,7 @@ use Rattle.co_outside.specs.declared.spot.Spot.{Spot}
 use Rattle.co_state.specs.declared.engine_state.EngineState.{EngineState}
 use Rattle.co_world.specs.Standing.{RepresentsWorld}
 use Rattle.co_world.specs.declared.world.World.{World}
+use Rattle.co_durable.specs.declared.fault.WorldFault.{WorldFault}
 use Rattle.co_settle.specs.Progress.{HasDone, IsCutIn}
 use Rattle.co_settle.specs.declared.counting.Steps.{Steps}
 use Rattle.co_settle.specs.declared.telling.Told.{Told}
@@ -376,14 +377,14 @@ module _ (s : Federation) (r : IsReached s) (e : Exchange) (h : IsEnabled s (exc
   abbrev start : List Event
   start = first_event (exchange_of e) ∷ []
 
-  pub first_cut : (file : Spot → Option File) → IsCutIn start s file → IsCutIn events_of s file
-  first_cut file cut = subst (λ es. IsCutIn es s file) (exchange_events s e) (cut_before start (passed (first_note s e) ++ passed (second_note s e)) s file cut)
+  pub first_cut : (file : Spot → Option File) (fault : WorldFault) → IsCutIn start s file fault → IsCutIn events_of s file fault
+  first_cut file fault cut = subst (λ es. IsCutIn es s file fault) (exchange_events s e) (cut_before start (passed (first_note s e) ++ passed (second_note s e)) s file fault cut)
 
-  pub next_cut : (file : Spot → Option File) → IsCutIn (passed (first_note s e)) after_first.state file → IsCutIn events_of s file
-  next_cut file cut = subst (λ es. IsCutIn es s file) (exchange_events s e) (cut_later start (passed (first_note s e) ++ passed (second_note s e)) s file (cut_before (passed (first_note s e)) (passed (second_note s e)) after_first.state file cut))
+  pub next_cut : (file : Spot → Option File) (fault : WorldFault) → IsCutIn (passed (first_note s e)) after_first.state file fault → IsCutIn events_of s file fault
+  next_cut file fault cut = subst (λ es. IsCutIn es s file fault) (exchange_events s e) (cut_later start (passed (first_note s e) ++ passed (second_note s e)) s file fault (cut_before (passed (first_note s e)) (passed (second_note s e)) after_first.state file fault cut))
 
-  pub last_cut : (file : Spot → Option File) → IsCutIn (passed (second_note s e)) (after_passed (first_note s e)) file → IsCutIn events_of s file
-  last_cut file cut = subst (λ es. IsCutIn es s file) (exchange_events s e) (cut_later start (passed (first_note s e) ++ passed (second_note s e)) s file (cut_later (passed (first_note s e)) (passed (second_note s e)) after_first.state file cut))
+  pub last_cut : (file : Spot → Option File) (fault : WorldFault) → IsCutIn (passed (second_note s e)) (after_passed (first_note s e)) file fault → IsCutIn events_of s file fault
+  last_cut file fault cut = subst (λ es. IsCutIn es s file fault) (exchange_events s e) (cut_later start (passed (first_note s e) ++ passed (second_note s e)) s file fault (cut_later (passed (first_note s e)) (passed (second_note s e)) after_first.state file fault cut))
 
   pub all_done : {E : Type 0} (takes : Kind → Type 0) (stands_for : E → EngineState → Type 0) (a b c d : Told) (i j k l : Steps) (w x y : World E) → HasDone takes stands_for s start a b i j w →
       HasDone takes stands_for after_first.state (passed (first_note s e)) b c j k x → HasDone takes stands_for (after_passed (first_note s e)) (passed (second_note s e)) c d k l y → HasDone takes stands_for s events_of a d i l y

@@ -1,4 +1,5 @@
 pub mod Reached
+pub mod Busy
 pub mod Notes
 pub mod Progress
 pub mod Settled

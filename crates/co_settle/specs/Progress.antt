@@ -26,16 +26,16 @@ pub record HasDone {E : Type 0} (takes : Kind → Type 0) (stands_for : E → En
   pub counted : after.count ≡ before.count + length events
   pub stands : RepresentsWorld takes stands_for w (run (lines events) s)
 
--- A fault came before the first of these events, in one of them, or behind the last: the files have what the events before it left, or what was left of
--- the one that it came in.
-abbrev pub IsCutIn : List Event → Federation → (Spot → Option File) → Type 0
-IsCutIn [] s file = AreLeftAs file s
-IsCutIn (e ∷ es) s file = AreLeftBy file s (step_line s e).state (step_line (disarmed s) e).state ⊎ IsCutIn es (step_line s e).state file
+-- A fault came in one of these events: the files have what was left of it, and a file is said to be too long only where it would leave a log that is. Before the
+-- first, between two and behind the last there can only be no memory; then the files have what the events before left.
+abbrev pub IsCutIn : List Event → Federation → (Spot → Option File) → WorldFault → Type 0
+IsCutIn [] s file fault = AreLeftAs file s × (fault ≡ world.Memory)
+IsCutIn (e ∷ es) s file fault = AreLeftBy file s (step_line s e).state (step_line (disarmed s) e).state fault ⊎ IsCutIn es (step_line s e).state file fault
 
 -- how a call ends that does these events, by its answer
 abbrev pub DoesAll : {A E : Type 0} → (Kind → Type 0) → (E → EngineState → Type 0) → Federation → List Event → Told → Told → Steps → Steps → World E → (Spot → Option File) → (A → Type 0) → Result A WorldFault → Type 0
 DoesAll takes stands_for s events old new before after w file Gives (Ok a) = HasDone takes stands_for s events old new before after w × Gives a
-DoesAll takes stands_for s events old new before after w file Gives (Err fault) = IsCutIn events s file
+DoesAll takes stands_for s events old new before after w file Gives (Err fault) = IsCutIn events s file fault
 
 -- How the directory failed, by the fault; no fault of opening ever comes, and the limit on transactions is not met.
 abbrev pub HasEnded : WorldFault → HomeView → HomeView → Type 0

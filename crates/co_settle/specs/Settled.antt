@@ -27,12 +27,12 @@ pub record HasSettled {E : Type 0} (takes : Kind → Type 0) (stands_for : E →
   pub stands : RepresentsWorld takes stands_for w (run (lines events) (disarmed s))
 
 -- a fault came in these events of settling
-pub record IsCutShort (s : Federation) (file : Spot → Option File) : Type 0 where
+pub record IsCutShort (s : Federation) (file : Spot → Option File) (fault : WorldFault) : Type 0 where
   pub events : List Event
   pub settling : IsSettling s events
-  pub cut : IsCutIn events (disarmed s) file
+  pub cut : IsCutIn events (disarmed s) file fault
 
 -- how settling ends, by its answer
 abbrev pub SettlesAs : {E : Type 0} → (Kind → Type 0) → (E → EngineState → Type 0) → Federation → ℕ → ℕ → World E → ℕ → (Spot → Option File) → Result (List Item) WorldFault → Type 0
 SettlesAs takes stands_for s number before w after file (Ok items) = HasSettled takes stands_for s number before items w after
-SettlesAs takes stands_for s number before w after file (Err fault) = IsCutShort s file
+SettlesAs takes stands_for s number before w after file (Err fault) = IsCutShort s file fault

@@ -1,5 +1,5 @@
 //! How many transactions may be open, and so how many events settling takes.
-ghost use Rattle.std.specs.Prelude.{ℕ, List, true, ◌||◌, ◌≡◌, ◌≤◌, ◌+◌, length};
+ghost use Rattle.std.specs.Prelude.{ℕ, List, true, ◌||◌, ◌≡◌, ◌≤◌, ◌+◌, ◌*◌, length};
 ghost use Rattle.std.specs.FinMap.{keys};
 ghost use Rattle.co_base.specs.declared.head.Kind.{Kind};
 ghost use Rattle.co_message.specs.declared.event.Event.{Event};
@@ -30,7 +30,10 @@ pub fn fresh_runs_leave_few_open()
         open_count (run (lines events) (opened kinds coords found_member found_coord)) ≤ length events }
 {}
 
-/// Settling a federation of at most 16 members with at most 65,536 open transactions takes 13,172,760 events at most.
+/// The events of settling are bounded by the members and by what is open: a federation of at most 16 members with at most
+/// 65,536 open transactions takes 13,172,760 events at most.
 pub fn settling_is_short()
-    ensures { (s : Federation) → IsReached s → open_count s ≤ 65536 → settling_bound s ≤ 13172760 }
+    ensures each { (s : Federation) (members most : ℕ) → length s.kinds ≤ members → open_count s ≤ most →
+        settling_bound s ≤ 24 + 3 * ((4 * members + 3) * most) }
+    ensures largest { (s : Federation) → IsReached s → open_count s ≤ 65536 → settling_bound s ≤ 13172760 }
 {}

@@ -1,9 +1,11 @@
 //! Settling: what a run left open is brought to its end, by restarts, exchanges and timers in a fixed order, until nothing is open.
 //!
 //! Each choice is made anew from what the federation tells: the first node that is down is started again; where all are up, the first
-//! exchange that can help is done, and where none can help the first timer fires. A settled federation has decided every transaction.
+//! exchange that can help is done, and where none can help the first timer fires. An exchange is sought among the transactions alone that
+//! were busy when all nodes were up, so that one that nobody asked to end costs no more than its timers. A settled federation has decided every transaction.
 #![tactic(auto)]
 
+mod candidates;
 mod counting;
 mod exchanges;
 mod laws;

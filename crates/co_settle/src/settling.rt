@@ -8,6 +8,7 @@ ghost use Rattle.co_settle.specs.Progress.{EndsAs, IsUntoldFor};
 ghost use Rattle.co_settle.specs.Reached.{IsReached};
 ghost use Rattle.co_settle.specs.Settled.{SettlesAs};
 
+use crate::candidates::Candidates;
 use crate::counting::Steps;
 use crate::telling::Told;
 use crate::turns::take_turn;
@@ -52,11 +53,13 @@ pub fn settle<E: Engine + Drop, H: Home>(
         number,
         items: Items::new(alloc),
     };
+    let mut candidates = Candidates::new();
     for _turn in 0..TURNS {
         if !world.anything_open()? {
             return Ok(told.items);
         }
-        take_turn(world, home, &mut told, steps)?;
+        candidates.collect(alloc, world)?;
+        take_turn(world, home, &mut told, steps, &mut candidates)?;
     }
     unreachable!()
 }

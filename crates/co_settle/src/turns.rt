@@ -4,10 +4,12 @@ ghost use Rattle.co_node.specs.Answers.{seen};
 ghost use Rattle.co_plain.specs.Federation.{Federation};
 ghost use Rattle.co_world.specs.Standing.{RepresentsWorld, AreHeld};
 ghost use Rattle.co_law_settle.specs.SettlingTurns.{SomethingOpen};
+ghost use Rattle.co_settle.specs.Busy.{AreKnown};
 ghost use Rattle.co_settle.specs.Progress.{EndsAs, IsUntoldFor};
 ghost use Rattle.co_settle.specs.Reached.{IsReached};
 ghost use Rattle.co_settle.specs.Turning.{TakesTurn};
 
+use crate::candidates::Candidates;
 use crate::counting::Steps;
 use crate::exchanges::do_exchange;
 use crate::notes::{Want, numbers_in_range};
@@ -24,13 +26,15 @@ pub(crate) fn take_turn<E: Engine + Drop, H: Home>(
     home: &mut H,
     told: &mut Told,
     steps: &mut Steps,
+    candidates: &mut Candidates,
 ) -> Result<(), WorldFault>
     requires number { told.old.number < 4294967293 }
     requires count { steps.old.count < 18446744073709551613 }
     requires held { AreHeld (H.file home.old) (H.reach home.old) world.old }
-    requires stands { (s : Federation) × RepresentsWorld E.takes E.stands_for world.old s × IsReached s × SomethingOpen s }
-    ensures did { (s : Federation) → RepresentsWorld E.takes E.stands_for world.old s → IsReached s →
+    requires stands { (s : Federation) × RepresentsWorld E.takes E.stands_for world.old s × IsReached s × SomethingOpen s × AreKnown s candidates.old.numbers }
+    ensures did { (s : Federation) → RepresentsWorld E.takes E.stands_for world.old s → IsReached s → AreKnown s candidates.old.numbers →
         TakesTurn E.takes E.stands_for s told.old told.new steps.old steps.new world.new (H.file home.new) result }
+    ensures busy { (s : Federation) → RepresentsWorld E.takes E.stands_for world.old s → IsReached s → AreKnown s candidates.old.numbers → AreKnown s candidates.new.numbers }
     ensures ended { EndsAs world.new (seen H.file H.reach H.faults H.last_failed home.old) (seen H.file H.reach H.faults H.last_failed home.new) result }
     ensures untold { IfErr result (IsUntoldFor H.file) }
     ensures entered { H.entered home.new ≡ H.entered home.old }
@@ -47,7 +51,7 @@ pub(crate) fn take_turn<E: Engine + Drop, H: Home>(
         )?;
         return Ok(());
     }
-    if let Some(exchange) = world.first_exchange() {
+    if let Some(exchange) = candidates.first_exchange(world) {
         return do_exchange(world, home, told, steps, exchange);
     }
     match world.first_timer() {

@@ -14,8 +14,8 @@ pub returns-in_err-sent-clause-did : goal.returns-in_err-sent-clause-did
 returns-in_err-sent-clause-did g c = λ s r reached h.
     let e = c.args.exchange in
     let file = g.H.Home.file c.take_step.new.home in
-    cut_as g.E.Engine.takes g.E.Engine.stands_for s (events_of s reached e h) c.args.told.now c.take_step.new.told c.args.steps.now c.take_step.new.steps c.take_step.new.world file (λ u. Unit {0}) c.from_residual.result c.from_residual.ensures.0
-    (first_cut s reached e h file (subst (λ v. IsCutIn (v ∷ []) s file) c.first_event-event.ensures (c.in_err-sent.ensures.did s r (ready s reached))))
+    cut_as g.E.Engine.takes g.E.Engine.stands_for s (events_of s reached e h) c.args.told.now c.take_step.new.told c.args.steps.now c.take_step.new.steps c.take_step.new.world file (λ u. Unit {0}) c.from_residual.result c.in_err-sent.field-0.0 c.from_residual.ensures
+    (first_cut s reached e h file c.in_err-sent.field-0.0 (subst (λ v. IsCutIn (v ∷ []) s file c.in_err-sent.field-0.0) c.first_event-event.ensures (c.in_err-sent.ensures.did s r (ready s reached))))
 
 pub pass_on-requires-clause-in_head : goal.pass_on-requires-clause-in_head
 pass_on-requires-clause-in_head g c =
@@ -50,8 +50,8 @@ returns-in_err-answer-clause-did g c = λ s r reached h.
     let e = c.args.exchange in
     let file = g.H.Home.file c.pass_on.new.home in
     let one = went_first s reached c.args.exchange h g.E.Engine.takes g.E.Engine.stands_for c.args.told.now c.take_step.new.told c.args.steps.now c.take_step.new.steps c.take_step.new.world c.in_ok-sent.sent c.first_event-event.result c.first_want-first.result c.first_event-event.ensures c.first_want-first.ensures (c.in_ok-sent.ensures.did s r (ready s reached)) in
-    cut_as g.E.Engine.takes g.E.Engine.stands_for s (events_of s reached e h) c.args.told.now c.pass_on.new.told c.args.steps.now c.pass_on.new.steps c.pass_on.new.world file (λ u. Unit {0}) c.from_residual-in_err-answer.result c.from_residual-in_err-answer.ensures.0
-    (next_cut s reached e h file (subst (λ o. IsCutIn (passed o) (after_first s reached e h).state file) one.sent_is (c.in_err-answer.ensures.did (after_first s reached e h).state one.done.stands (first_reached s reached e h))))
+    cut_as g.E.Engine.takes g.E.Engine.stands_for s (events_of s reached e h) c.args.told.now c.pass_on.new.told c.args.steps.now c.pass_on.new.steps c.pass_on.new.world file (λ u. Unit {0}) c.from_residual-in_err-answer.result c.in_err-answer.field-0.0 c.from_residual-in_err-answer.ensures
+    (next_cut s reached e h file c.in_err-answer.field-0.0 (subst (λ o. IsCutIn (passed o) (after_first s reached e h).state file c.in_err-answer.field-0.0) one.sent_is (c.in_err-answer.ensures.did (after_first s reached e h).state one.done.stands (first_reached s reached e h))))
 
 pub pass_on-requires-2-clause-in_head : goal.pass_on-requires-2-clause-in_head
 pass_on-requires-2-clause-in_head g c =
@@ -96,8 +96,8 @@ returns-in_err-pass_on-clause-did g c = λ s r reached h.
     let one = went_first s reached c.args.exchange h g.E.Engine.takes g.E.Engine.stands_for c.args.told.now c.take_step.new.told c.args.steps.now c.take_step.new.steps c.take_step.new.world c.in_ok-sent.sent c.first_event-event.result c.first_want-first.result c.first_event-event.ensures c.first_want-first.ensures (c.in_ok-sent.ensures.did s r (ready s reached)) in
     let two = went_next s reached c.args.exchange h g.E.Engine.takes g.E.Engine.stands_for c.take_step.new.told c.pass_on.new.told c.take_step.new.steps c.pass_on.new.steps c.pass_on.new.world c.in_ok-sent.sent c.in_ok-answer.answer c.next_want-next.result one.sent_is c.next_want-next.ensures (c.in_ok-answer.ensures.did (after_first s reached c.args.exchange h).state one.done.stands (first_reached s reached c.args.exchange h)) in
     let z = after_passed s reached e h (first_note s e) in
-    cut_as g.E.Engine.takes g.E.Engine.stands_for s (events_of s reached e h) c.args.told.now c.pass_on-2.new.told c.args.steps.now c.pass_on-2.new.steps c.pass_on-2.new.world file (λ u. Unit {0}) c.from_residual-in_err-pass_on.result c.from_residual-in_err-pass_on.ensures.0
-    (last_cut s reached e h file (subst (λ o. IsCutIn (passed o) z file) two.answer_is (c.in_err-pass_on.ensures.did z two.done.stands (passed_reached s reached e h (first_note s e)))))
+    cut_as g.E.Engine.takes g.E.Engine.stands_for s (events_of s reached e h) c.args.told.now c.pass_on-2.new.told c.args.steps.now c.pass_on-2.new.steps c.pass_on-2.new.world file (λ u. Unit {0}) c.from_residual-in_err-pass_on.result c.in_err-pass_on.field-0.0 c.from_residual-in_err-pass_on.ensures
+    (last_cut s reached e h file c.in_err-pass_on.field-0.0 (subst (λ o. IsCutIn (passed o) z file c.in_err-pass_on.field-0.0) two.answer_is (c.in_err-pass_on.ensures.did z two.done.stands (passed_reached s reached e h (first_note s e)))))
 
 pub returns-clause-did : goal.returns-clause-did
 returns-clause-did g c = λ s r reached h.

@@ -11,7 +11,7 @@ use Rattle.co_settle.proofs.settling.settle.Given as goal
 abbrev pub invariant-loop-turn : goal.invariant-loop-turn
 invariant-loop-turn g l = record {
   going : (s : Federation) → RepresentsWorld g.E.Engine.takes g.E.Engine.stands_for l.fn.world s → IsReached s → open_count s ≤ 65536 →
-      IsGoing g.E.Engine.takes g.E.Engine.stands_for s l.fn.number l.told l.fn.steps l.steps l.world l._turn;
+      IsGoing g.E.Engine.takes g.E.Engine.stands_for s l.fn.number l.told l.fn.steps l.steps l.world l.candidates.numbers l._turn;
   served : AreServed l.world (seen g.H.Home.file g.H.Home.reach g.H.Home.faults g.H.Home.last_failed l.fn.home) (seen g.H.Home.file g.H.Home.reach g.H.Home.faults g.H.Home.last_failed l.home);
   entered : g.H.Home.entered l.home ≡ g.H.Home.entered l.fn.home;
 }

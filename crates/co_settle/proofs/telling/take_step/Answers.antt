@@ -1,6 +1,7 @@
 use Rattle.std.proofs.Common.{◌≡◌, inl, inr, suc, ◌+◌, [], ◌∷◌, ◌++◌, Err, refl, sym, ap, ◌∙◌, subst, append_assoc, arith}
 use Rattle.std.specs.Prelude.{List}
 use Rattle.co_durable.specs.declared.fault.WorldFault.{WorldFault}
+use Rattle.co_durable.specs.declared.fault.WorldFault.TheVariants as world
 use Rattle.co_message.specs.declared.item.Item.{Item}
 use Rattle.co_message.specs.declared.item.ItemKind.TheVariants as item
 use Rattle.co_node.specs.Answers.{seen}
@@ -9,15 +10,15 @@ use Rattle.co_plain.specs.Step.{step_line}
 use Rattle.co_law_settle.specs.SettlingTurns.{note_in}
 use Rattle.co_world.proofs.Lefts.{held_left}
 use Rattle.co_settle.specs.Notes.{wanted_by}
-use Rattle.co_settle.specs.Progress.{HasEnded, IsUntoldFor}
+use Rattle.co_settle.specs.Progress.{IsCutIn, HasEnded, IsUntoldFor}
 use Rattle.co_settle.proofs.Composing.{cut_as, ended_as, untold_for, one_told, told_notes}
 use Rattle.co_settle.proofs.telling.take_step.Goals as goal
 
 pub returns-in_err-tell-in-Ok-clause-did : goal.returns-in_err-tell-in-Ok-clause-did
 returns-in_err-tell-in-Ok-clause-did g c = λ s r ready.
     cut_as g.E.Engine.takes g.E.Engine.stands_for s (c.args.event ∷ []) c.args.told.now c.tell.new.self c.args.steps.now c.args.steps.now c.step.new.self (g.H.Home.file c.step.new.home)
-    (λ note. note ≡ note_in (wanted_by c.args.want c.args.member) (step_line s c.args.event).items) c.from_residual.result c.from_residual.ensures.0
-    (inr (held_left g.E.Engine.takes g.E.Engine.stands_for c.step.new.self (step_line s c.args.event).state (g.H.Home.file c.step.new.home) (g.H.Home.reach c.step.new.home) (c.in-Ok.ensures.stands s r ready) c.in-Ok.ensures.served.kept))
+    (λ note. note ≡ note_in (wanted_by c.args.want c.args.member) (step_line s c.args.event).items) c.from_residual.result world.Memory c.from_residual.ensures
+    (inr (held_left g.E.Engine.takes g.E.Engine.stands_for c.step.new.self (step_line s c.args.event).state (g.H.Home.file c.step.new.home) (g.H.Home.reach c.step.new.home) (c.in-Ok.ensures.stands s r ready) c.in-Ok.ensures.served.kept, refl))
 
 pub returns-in_ok-tell-in-Ok-clause-did : goal.returns-in_ok-tell-in-Ok-clause-did
 returns-in_ok-tell-in-Ok-clause-did g c = λ s r ready.
@@ -35,7 +36,8 @@ returns-in_ok-tell-in-Ok-clause-did g c = λ s r ready.
     )
 
 pub returns-in-Err-clause-did : goal.returns-in-Err-clause-did
-returns-in-Err-clause-did g c = λ s r ready. inl (c.in-Err.ensures.left s r ready)
+returns-in-Err-clause-did g c = λ s r ready.
+    subst (IsCutIn (c.args.event ∷ []) s (g.H.Home.file c.step.new.home)) (sym c.undone.ensures) (inl (c.in-Err.ensures.left s r ready))
 
 pub returns-in-Err-clause-ended : goal.returns-in-Err-clause-ended
 returns-in-Err-clause-ended g c =
