@@ -1,5 +1,5 @@
 -- How far a trial went: the events that were made, done and told.
-use Rattle.std.proofs.Common.{◌≡◌, ℕ, suc, ◌+◌, List, [], ◌∷◌, ◌++◌, length, Bool, true, false, ◌||◌, refl, sym, ap, ◌∙◌, subst, append_assoc, append-nil, arith}
+use Rattle.std.proofs.Common.{◌≡◌, ℕ, suc, ◌+◌, ◌<◌, List, [], ◌∷◌, ◌++◌, length, Bool, true, false, ◌||◌, refl, sym, ap, ◌∙◌, subst, append_assoc, append-nil, arith}
 use Rattle.std.specs.List.{AllByRecursion}
 use Rattle.std.proofs.lemmas.Bool.{or_left, or_right}
 use Rattle.std.proofs.lemmas.List.{length_push}
@@ -43,10 +43,11 @@ use Rattle.co_trial.specs.declared.deciding.Decisions.{Decisions}
 use Rattle.co_trial.specs.declared.tally.Told.{Told}
 use Rattle.co_settle.specs.Notes.{IsForHead}
 use Rattle.co_law_settle.proofs.Reaching.{sent_now}
-use Rattle.co_trial.specs.Making.{HasFields}
+use Rattle.co_trial.specs.Making.{HasFields, IsShort}
 use Rattle.co_trial.proofs.Headed.{AreInHead, IsHeaded, line}
 use Rattle.co_trial.proofs.InHead.{InHead}
 use Rattle.co_trial.proofs.MakerFits.{Fits, next_fits, event_fits}
+use Rattle.co_trial.proofs.ShortEvents.{next_short}
 
 -- ---- lists of events
 
@@ -64,9 +65,9 @@ text_one es e s =
     ∙ items_text-append (transcript 2 es s) (transcript (2 + length es) (e ∷ []) z)
     ∙ ap (λ (is : List Item). items_text (transcript 2 es s) ++ items_text is) {y = numbered (2 + length es) (item.Event e ∷ (step_line z e).items)} (append-nil _)
 
-one_valid : (n k : ℕ) (es : List Event) (e : Event) → AllByRecursion (IsEventFor n k) es → IsEventFor n k e → AllByRecursion (IsEventFor n k) (es ++ e ∷ [])
-one_valid n k [] e all one = (one, tt)
-one_valid n k (x ∷ xs) e all one = (all.0, one_valid n k xs e all.1 one)
+one_more_has : (P : Event → Type 0) (es : List Event) (e : Event) → AllByRecursion P es → P e → AllByRecursion P (es ++ e ∷ [])
+one_more_has P [] e all one = (one, tt)
+one_more_has P (x ∷ xs) e all one = (all.0, one_more_has P xs e all.1 one)
 
 names_own : (n k : ℕ) (e : Event) → IsEventFor n k e → NamesOwnNode n k e
 names_own n k (event.Begin t c) h = h.1
@@ -167,6 +168,7 @@ module _ (o : Opened) where
     pub told : (text : List ℕ) → Holds256 before.hasher text → Holds256 after.hasher (text ++ items_text (transcript 2 es (start_of o)))
     pub decided : AreRun (start_of o) d (run (lines es) (start_of o)).decided
     pub valid : AllByRecursion (IsEventFor members coords) es
+    pub short : AllByRecursion IsShort es
     pub headed : AreInHead members coords (run (lines es) (start_of o))
     pub made : maker.made ≡ place
     pub long : length es ≡ place
@@ -185,13 +187,14 @@ module _ (o : Opened) where
           told = λ text h. subst (Holds256 told.hasher) (sym (append-nil text)) h;
           decided = run;
           valid = tt;
+          short = tt;
           headed = λ note h. absurd (let q : false ≡ true = h in cc);
           made = ap (λ m. m.made) is;
           long = refl;
         }
 
     pub goes : (place : ℕ) (before after : Told) (d : Decisions) (maker : Making) (w : World E) → GoesTo takes stands_for number place before after d maker w → HasGone takes stands_for o number place before after d w
-    goes place before after d maker w g = record { stands = g.stands; told = g.told; decided = g.decided; valid = g.valid; long = g.long }
+    goes place before after d maker w g = record { stands = g.stands; told = g.told; decided = g.decided; valid = g.valid; short = g.short; long = g.long }
 
     module _ (place : ℕ) (before after : Told) (d : Decisions) (maker : Making) (w : World E) (g : GoesTo takes stands_for number place before after d maker w) where
       abbrev pub es : List Event
@@ -238,8 +241,11 @@ module _ (o : Opened) where
             subst (λ n. IsEventFor n (length w.coords.items) e) (sym (g.stands.kinds ∙ ap length (kinds_same es g.valid)))
             (subst (λ k. IsEventFor members k e) (sym (g.stands.coordinators ∙ coords_same es g.valid)) event_for)
 
-        pub goes_on : (now : Told) (new : Decisions) (x : World E) → HasPlayed takes stands_for here (place + 2) e after now d new x → GoesTo takes stands_for number (place + 1) before now new next x
-        goes_on now new x p =
+        pub short_next : place < 60000 → IsShort e
+        short_next few = subst IsShort (sym (ap (λ p. p.0) is)) (next_short w.wire maker (omega (arith, few, g.made)))
+
+        pub goes_on : (now : Told) (new : Decisions) (x : World E) → place < 60000 → HasPlayed takes stands_for here (place + 2) e after now d new x → GoesTo takes stands_for number (place + 1) before now new next x
+        goes_on now new x few p =
             subst (λ n. GoesTo takes stands_for number n before now new next x) (let q : suc place ≡ place + 1 = omega arith in q)
             (subst (λ q. IsGoing takes stands_for (es ++ q.0 ∷ []) q.1 (suc place) before now new next x) step_is one)
           where
@@ -250,7 +256,8 @@ module _ (o : Opened) where
                   stands = subst (RepresentsWorld takes stands_for x) (sym (run_one es e (start_of o))) p.stands;
                   told = λ text h. subst (Holds256 now.hasher) (append_assoc text (items_text (transcript 2 es (start_of o))) _ ∙ ap (λ t. text ++ t) (ap (λ n. items_text (transcript 2 es (start_of o)) ++ items_text (numbered n (item.Event e ∷ (step_line here e).items))) count ∙ sym (text_one es e (start_of o)))) (p.told (text ++ items_text (transcript 2 es (start_of o))) (g.told text h));
                   decided = subst (λ z. AreRun (start_of o) new z.decided) (sym (run_one es e (start_of o))) (p.decided (start_of o) g.decided);
-                  valid = one_valid members coords es e g.valid event_for;
+                  valid = one_more_has (IsEventFor members coords) es e g.valid event_for;
+                  short = one_more_has IsShort es e g.short (short_next few);
                   headed = next_in_head es g.valid e g.headed event_for;
                   made = fits.1 ∙ (let q : maker.made + 1 ≡ suc place = omega (arith, g.made) in q);
                   long = length_push es e ∙ (let q : length es + 1 ≡ suc place = omega (arith, g.long) in q);

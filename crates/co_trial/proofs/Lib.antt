@@ -9,7 +9,9 @@ pub mod Runs
 pub mod Ending
 pub mod Equals
 pub mod MakerFits
+pub mod ShortEvents
 pub mod Unused
 pub mod Going
 pub mod Done
+pub mod Rooms
 pub mod Starting

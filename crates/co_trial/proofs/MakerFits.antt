@@ -80,7 +80,7 @@ nodes_if false x y h k = k
 
 -- ---- choices
 
-picked_made : (count : ℕ) (m : Making) → (picked count m).1.made ≡ m.made
+pub picked_made : (count : ℕ) (m : Making) → (picked count m).1.made ≡ m.made
 unfolding picked
 picked_made count m = refl
 

@@ -37,7 +37,7 @@ pub opening_fault : (file : Spot → Option File) (head : Head) (fault : WorldFa
 opening_fault file head (world.Device spot) before after none h device = device spot refl
 opening_fault file head (world.Differs spot at kept read) before after none h device = absurd h
 opening_fault file head (world.Bad spot at) before after none h device = absurd (let z : false ≡ true = h.0 in cc)
-opening_fault file head (world.Full spot) before after none h device = tt
+opening_fault file head (world.Full spot) before after none h device = absurd (let z : false ≡ true = h.0 in cc)
 opening_fault file head world.Count before after none h device = absurd (let z : false ≡ true = h.0 in cc)
 opening_fault file head (world.Old spot) before after none h device = absurd (let z : false ≡ true = h.0 in cc)
 opening_fault file head world.Memory before after none h device = tt

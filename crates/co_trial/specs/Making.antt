@@ -1,9 +1,10 @@
 -- The events that the maker of a number makes, each from the messages that were sent before it; and what is known of an event by its type.
-use Rattle.std.specs.Prelude.{ℕ, zero, suc, ◌≡◌, false, List, [], ◌∷◌, ◌++◌}
+use Rattle.std.specs.Prelude.{ℕ, zero, suc, ◌≡◌, ◌≤◌, false, List, [], ◌∷◌, ◌++◌}
 use Rattle.std.specs.Ordering.{is_gt}
 use Rattle.co_base.specs.Letters.{IsText, most_value_bytes}
 use Rattle.co_base.specs.Order.{key_cmp}
 use Rattle.co_base.specs.Span.{Span}
+use Rattle.co_law_sizes.specs.LogRoom.{event_bytes}
 use Rattle.co_make.specs.Making.{Making, making_of, next_event}
 use Rattle.co_message.specs.declared.event.Event.{Event}
 use Rattle.co_message.specs.declared.event.Event.TheVariants as event
@@ -33,6 +34,12 @@ first_made s0 number (suc count) = one_more s0 (first_made s0 number count)
 
 abbrev pub first_events : Federation → ℕ → ℕ → List Event
 first_events s0 number count = (first_made s0 number count).events
+
+-- ---- the bytes of an operation
+
+-- It takes so few bytes in the record of a vote: a key has three bytes, and a value has six at most.
+abbrev pub IsShort : Event → Type 0
+IsShort e = event_bytes e ≤ 13
 
 -- ---- fields that are in their sets
 

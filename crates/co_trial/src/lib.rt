@@ -5,13 +5,11 @@
 
 mod calm;
 mod deciding;
-mod fault;
 mod making;
 mod playing;
 mod running;
 mod summary;
 mod tally;
 
-pub use fault::TrialFault;
 pub use running::trial;
 pub use summary::Summary;

@@ -8,7 +8,7 @@ ghost use Rattle.co_world.specs.Standing.{RepresentsWorld, AreHeld};
 ghost use Rattle.co_trial.specs.Decisions.{AreRun};
 ghost use Rattle.co_settle.specs.Progress.{IsUntoldFor};
 ghost use Rattle.co_trial.specs.Ended.{Ended};
-ghost use Rattle.co_trial.specs.Playing.{HasPlayed, HasGone};
+ghost use Rattle.co_trial.specs.Playing.{HasRoom, HasPlayed, HasGone};
 ghost use Rattle.co_trial.specs.Trials.{Opened, start_of};
 ghost use Rattle.std.specs.Prelude.{ℕ, List, [], ◌++◌};
 ghost use Rattle.sha2.specs.Hashers.{Holds256};
@@ -53,7 +53,7 @@ fn play<E: Engine + Drop, H: Home>(
 ) -> Result<(), WorldFault>
     requires event { IsEventFor (length world.old.members.items) (length world.old.coords.items) event }
     requires held { AreHeld (H.file home.old) (H.reach home.old) world.old }
-    requires stands { (s : Federation) × RepresentsWorld E.takes E.stands_for world.old s × IsReady s × (MeetsPlainLimit s event → ⊥) }
+    requires stands { (s : Federation) × RepresentsWorld E.takes E.stands_for world.old s × IsReady s × (MeetsPlainLimit s event → ⊥) × HasRoom s event }
     ensures played { (s : Federation) → RepresentsWorld E.takes E.stands_for world.old s → IsReady s →
         OnOk result (HasPlayed E.takes E.stands_for s number event told.old told.new decisions.old decisions.new world.new) }
     ensures held { OnOk result (AreHeld (H.file home.new) (H.reach home.new) world.new) }

@@ -17,7 +17,6 @@ ghost use Rattle.co_trial.specs.Trials.{IsTrial, Opened, start_of, opening_told}
 
 use crate::calm::CalmHome;
 use crate::deciding::Decisions;
-use crate::fault::TrialFault;
 use crate::making::trial_head;
 use crate::playing::play_all;
 use crate::summary::Summary;
@@ -150,10 +149,10 @@ fn trial_in<E: Engine + Drop, H: Home>(
     }
 }
 
-/// Runs the trial of this number, with so many events before it is settled, over a directory in memory that never fails.
+/// Runs the trial of this number, with so many events before it is settled, over a directory in memory that never fails. No log gets too long.
 ///
-/// `Full` comes where a log file would have more than 268,435,456 bytes, as an event of the federation says; `Memory` where there was none.
-pub fn trial(alloc: Global, number: u64, events: u32) -> Result<Summary, TrialFault>
+/// There is an error only where there was no memory.
+pub fn trial(alloc: Global, number: u64, events: u32) -> Result<Summary, AllocError>
     requires some { 1 ≤ events }
     requires few { events ≤ 60000 }
     ensures trial { IfOk result (IsTrial number events) }
@@ -161,8 +160,7 @@ pub fn trial(alloc: Global, number: u64, events: u32) -> Result<Summary, TrialFa
     let mut home = CalmHome::new(alloc);
     match trial_in::<AnyEngine, CalmHome>(alloc, &mut home, number, events) {
         Ok(summary) => Ok(summary),
-        Err(WorldFault::Full { spot }) => Err(TrialFault::Full { spot }),
-        Err(WorldFault::Memory) => Err(TrialFault::Memory),
+        Err(WorldFault::Memory) => Err(AllocError),
         Err(_) => unreachable!(),
     }
 }

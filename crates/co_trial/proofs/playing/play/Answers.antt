@@ -7,7 +7,7 @@ use Rattle.co_message.specs.declared.item.ItemKind.TheVariants as item
 use Rattle.co_node.specs.Answers.{seen}
 use Rattle.co_plain.specs.Federation.{decide_all}
 use Rattle.co_plain.specs.Runs.{numbered}
-use Rattle.co_plain.specs.Step.{step_line}
+use Rattle.co_plain.specs.Step.{step_line, disarmed}
 use Rattle.co_replay.specs.Transcript.{items_text}
 use Rattle.co_trial.specs.Decisions.{AreRun, marks_of}
 use Rattle.co_settle.specs.Progress.{IsUntoldFor}
@@ -36,8 +36,8 @@ returns-in-Err-clause-ended g c =
     let w = c.requires.stands in
     let old = seen g.H.Home.file g.H.Home.reach g.H.Home.faults g.H.Home.last_failed c.args.home.now in
     let new = seen g.H.Home.file g.H.Home.reach g.H.Home.faults g.H.Home.last_failed c.step.new.home in
-    ends c.in-Err.fault c.undone.result old new c.undone.ensures c.in-Err.ensures.ended
-    (λ e. w.3 ((c.in-Err.ensures.limit w.0 w.1).0 (is_err c.in-Err.fault e)))
+    ends c.in-Err.fault c.undone.result (step_line (disarmed w.0) c.args.event).state old new c.undone.ensures c.in-Err.ensures.ended
+    (λ e. w.3 ((c.in-Err.ensures.limit w.0 w.1).0 (is_err c.in-Err.fault e))) (c.in-Err.ensures.left w.0 w.1 w.2).1 w.4
 
 pub returns-in-Err-clause-untold : goal.returns-in-Err-clause-untold
 returns-in-Err-clause-untold g c =

@@ -1,7 +1,8 @@
 use Rattle.std.proofs.Common.{◌≡◌, subst, refl, ap, ◌∙◌, arith}
 use Rattle.co_make.specs.Making.{next_event}
 use Rattle.co_trial.specs.Playing.{HasGone}
-use Rattle.co_trial.proofs.Going.{going_none, goes, goes_on, may_play, is_ready, here, es}
+use Rattle.co_trial.proofs.Going.{going_none, goes, goes_on, short_next, may_play, is_ready, here, es}
+use Rattle.co_trial.proofs.Rooms.{line_has_room}
 use Rattle.co_trial.proofs.Unused.{no_limit}
 use Rattle.co_trial.proofs.playing.play_all.Goals as goal
 
@@ -31,6 +32,10 @@ play-requires-clause-stands g c =
       p.stands,
       is_ready w.0 g.E.Engine.takes g.E.Engine.stands_for c.args.number c.loop-place.place c.args.told.now c.loop-place.told c.loop-place.decisions c.loop-place.maker c.loop-place.world p,
       no_limit w.0.head.kinds w.0.head.coords w.0.found_member w.0.found_coord w.0.unused (es w.0 g.E.Engine.takes g.E.Engine.stands_for c.args.number c.loop-place.place c.args.told.now c.loop-place.told c.loop-place.decisions c.loop-place.maker c.loop-place.world p) c.in_ok-event.event (omega (arith, few, below, long)),
+      line_has_room w.0 (es w.0 g.E.Engine.takes g.E.Engine.stands_for c.args.number c.loop-place.place c.args.told.now c.loop-place.told c.loop-place.decisions c.loop-place.maker c.loop-place.world p) c.in_ok-event.event p.short
+          (short_next w.0 g.E.Engine.takes g.E.Engine.stands_for c.args.number c.loop-place.place c.args.told.now c.loop-place.told c.loop-place.decisions c.loop-place.maker c.loop-place.world p c.in_ok-event.event c.next.new.self
+          (c.in_ok-event.ensures ∙ ap (λ sent. next_event sent c.loop-place.maker) c.wire.ensures) c.fields_in_sets.ensures (omega (arith, few, below)))
+          (omega (arith, few, below, long)),
     )
 
 pub loop-place-preserved : goal.loop-place-preserved
@@ -39,7 +44,7 @@ loop-place-preserved g c =
       going = λ o stands run.
           let p = c.loop-place.invariant.going o stands run in
           goes_on o g.E.Engine.takes g.E.Engine.stands_for c.args.number c.loop-place.place c.args.told.now c.loop-place.told c.loop-place.decisions c.loop-place.maker c.loop-place.world p c.in_ok-event.event c.next.new.self
-          (c.in_ok-event.ensures ∙ ap (λ sent. next_event sent c.loop-place.maker) c.wire.ensures) c.fields_in_sets.ensures c.play.new.told c.play.new.decisions c.play.new.world
+          (c.in_ok-event.ensures ∙ ap (λ sent. next_event sent c.loop-place.maker) c.wire.ensures) c.fields_in_sets.ensures c.play.new.told c.play.new.decisions c.play.new.world (let few = c.requires.events in let below = c.loop-place-test.true in omega (arith, few, below))
           (c.in_ok-play.ensures.played (here o g.E.Engine.takes g.E.Engine.stands_for c.args.number c.loop-place.place c.args.told.now c.loop-place.told c.loop-place.decisions c.loop-place.maker c.loop-place.world p) p.stands
           (is_ready o g.E.Engine.takes g.E.Engine.stands_for c.args.number c.loop-place.place c.args.told.now c.loop-place.told c.loop-place.decisions c.loop-place.maker c.loop-place.world p));
       held = c.in_ok-play.ensures.held;

@@ -1,15 +1,19 @@
 use Rattle.std.proofs.Common.{◌+◌, ◌++◌, suc, List, length, zero-add, subst, ap, ◌∙◌}
 use Rattle.sha2.specs.Hashers.{Holds256}
 use Rattle.co_message.specs.declared.item.Item.{Item}
+use Rattle.co_node.specs.Answers.{seen}
 use Rattle.co_plain.specs.Federation.{decide_all}
 use Rattle.co_plain.specs.Runs.{transcript}
 use Rattle.co_plain.specs.Step.{disarmed}
 use Rattle.co_replay.specs.Transcript.{items_text}
+use Rattle.co_settle.specs.Settled.{IsCutShort}
 use Rattle.co_trial.specs.Decisions.{AreRun, marks_of}
 use Rattle.co_trial.specs.Making.{first_events}
 use Rattle.co_trial.specs.Trials.{start_of, opening_told, played_to, settled_to}
 use Rattle.co_trial.proofs.Done.{at_end, few_open, whole_text}
+use Rattle.co_trial.proofs.Ending.{settling_fault}
 use Rattle.co_trial.proofs.KeptSessions.{of_settling}
+use Rattle.co_trial.proofs.Rooms.{settling_never_full}
 use Rattle.co_trial.proofs.Runs.{settling_noted}
 use Rattle.co_trial.proofs.running.run_events.Goals as goal
 
@@ -18,6 +22,23 @@ settle-requires-clause-stands g c =
     let w = c.requires.stands in
     let p = c.in_ok-play_all.ensures.gone w.0 w.1 w.2 in
     (played_to w.0 c.args.number c.args.events, p.stands, at_end w.0 c.args.number c.args.events p.valid, few_open w.0 c.args.number c.args.events p.valid p.long c.requires.events)
+
+pub returns-in_err-items-clause-ended : goal.returns-in_err-items-clause-ended
+returns-in_err-items-clause-ended g c =
+    let w = c.requires.stands in
+    let o = w.0 in
+    let n = c.args.number in
+    let k = c.args.events in
+    let p = c.in_ok-play_all.ensures.gone o w.1 w.2 in
+    let s = played_to o n k in
+    let file = g.H.Home.file c.settle.new.home in
+    let fault = c.in_err-items.field-0.0 in
+    let cut = c.in_err-items.ensures.settled s p.stands (at_end o n k p.valid) (few_open o n k p.valid p.long c.requires.events) in
+    settling_fault c.from_residual-in_err-items.result fault (g.H.Home.faults c.args.home.now)
+    (seen g.H.Home.file g.H.Home.reach g.H.Home.faults g.H.Home.last_failed c.play_all.new.home) (seen g.H.Home.file g.H.Home.reach g.H.Home.faults g.H.Home.last_failed c.settle.new.home)
+    c.from_residual-in_err-items.ensures c.in_ok-play_all.ensures.ended c.in_err-items.ensures.ended
+    (λ spot e. settling_never_full o g.E.Engine.takes g.E.Engine.stands_for n k c.args.told.now c.play_all.new.told c.play_all.new.decisions c.play_all.new.world p c.requires.events file spot
+    (subst (IsCutShort s file) e cut))
 
 pub returns-clause-done : goal.returns-clause-done
 returns-clause-done g c =
