@@ -16,7 +16,7 @@ use Rattle.co_schedule.specs.declared.fault.LinesFault.TheVariants as lines
 use Rattle.co_schedule.proofs.HeadUnique.{head_line}
 use Rattle.co_top.specs.Complete.{IsSchedule, IsUnhindered}
 use Rattle.co_top.specs.Front.{IsHeaded, StandsBehind, AtStart, OneMore, IsHeadFault, IsLineFault, most}
-use Rattle.co_top.specs.Ran.{Ran, HasStoppedAt, IsUnopenedFor, IsRunEnd}
+use Rattle.co_top.specs.Ran.{Ran, HasStoppedAt, IsUnopenedFor, IsAtLimit, IsOutgrown, IsRunEnd}
 use Rattle.co_top.specs.declared.status.LimitKind.TheVariants as limit
 use Rattle.co_top.specs.declared.status.Status.{Status}
 use Rattle.co_top.specs.declared.status.Status.TheVariants as status
@@ -161,7 +161,8 @@ module _ (input : List ℕ) (schedule : IsSchedule input) where
 
   -- how it ends
   module _ (resume : Bool) (left : Option (List ℕ)) (held : List ℕ) (old new : Spot → Option File) (told : Option (List ℕ))
-      (allowed : (head : Head) (text : List ℕ) → IsHeaded input head text → (why : WorldFault) → IsOfFound why → IsUnopened old head resume why → ⊥) where
+      (allowed : (head : Head) (text : List ℕ) → IsHeaded input head text → (why : WorldFault) → IsOfFound why → IsUnopened old head resume why → ⊥)
+      (room : (r : Ran resume input old) → IsOutgrown r → ⊥) (few : (r : Ran resume input old) → IsAtLimit r → ⊥) where
     unopened : (why : WorldFault) → IsOfFound why → IsUnopenedFor resume input old why → ⊥
     unopened why of u = allowed u.head u.text u.headed why of u.cause
 
@@ -171,8 +172,7 @@ module _ (input : List ℕ) (schedule : IsSchedule input) where
     -- it is done, or wants memory, or has another cause
     abbrev pub Comes : Status → Type 0
     Comes (status.Schedule line what) = ⊥
-    Comes (status.Limit (limit.Line line)) = ⊥
-    Comes (status.Limit limit.Lines) = ⊥
+    Comes (status.Limit what) = ⊥
     Comes (status.InUse spot) = ⊥
     Comes (status.BadLog spot at) = ⊥
     Comes (status.OldLog spot) = ⊥
@@ -202,17 +202,19 @@ module _ (input : List ℕ) (schedule : IsSchedule input) where
     comes (status.Limit (limit.Line line)) (inl h) = other_than (status.Limit (limit.Line line)) (λ e. let z : status.Limit (limit.Line line) ≡ status.Read = e in cc) (λ e. let z : status.Limit (limit.Line line) ≡ status.Memory = e in cc) (no_head_fault (status.Limit (limit.Line line)) h.1)
     comes (status.Limit (limit.Line line)) (inr h) = other_than (status.Limit (limit.Line line)) (λ e. let z : status.Limit (limit.Line line) ≡ status.Read = e in cc) (λ e. let z : status.Limit (limit.Line line) ≡ status.Memory = e in cc) (stopped (status.Limit (limit.Line line)) h)
     comes (status.Limit limit.Lines) h = other_than (status.Limit limit.Lines) (λ e. let z : status.Limit limit.Lines ≡ status.Read = e in cc) (λ e. let z : status.Limit limit.Lines ≡ status.Memory = e in cc) (stopped (status.Limit limit.Lines) h)
-    comes (status.Limit limit.Transactions) h = tt
-    comes (status.Limit (limit.Log spot)) h = tt
+    comes (status.Limit limit.Transactions) (inl h) = absurd (unopened world.Count tt h.1)
+    comes (status.Limit limit.Transactions) (inr h) = absurd (few h.0.ran h.2)
+    comes (status.Limit (limit.Log spot)) (inl h) = absurd (unopened (world.Full spot) tt h.1)
+    comes (status.Limit (limit.Log spot)) (inr h) = absurd (room h.0.ran h.2)
     comes status.Memory h = tt
 
 -- a run that nothing hinders is done, or wants memory
 pub done_or_wanting : (resume : Bool) (input : List ℕ) (left : Option (List ℕ)) (held : List ℕ) (old new : Spot → Option File) (told : Option (List ℕ)) (a b c d e f : ℕ) (ended : Status) →
     (ended ≡ status.Read → HasRisen a b) → (ended ≡ status.Write → HasRisen c d) → ((spot : Spot) → ended ≡ status.Device spot → HasRisen e f) →
     IsRunEnd resume input left held old new told ended → IsUnhindered resume input old a b c d e f ended → (ended ≡ status.Done) ⊎ (ended ≡ status.Memory)
-done_or_wanting resume input left held old new told a b c d e f ended read write device h u = by ended refl (comes input u.schedule resume left held old new told u.allowed ended h)
+done_or_wanting resume input left held old new told a b c d e f ended read write device h u = by ended refl (comes input u.schedule resume left held old new told u.allowed u.room u.few ended h)
   where
-    by : (s : Status) → ended ≡ s → Comes input u.schedule resume left held old new told u.allowed s → (ended ≡ status.Done) ⊎ (ended ≡ status.Memory)
+    by : (s : Status) → ended ≡ s → Comes input u.schedule resume left held old new told u.allowed u.room u.few s → (ended ≡ status.Done) ⊎ (ended ≡ status.Memory)
     by status.Done is it = inl is
     by status.Usage is it = absurd it
     by (status.Schedule line what) is it = absurd it
@@ -225,8 +227,5 @@ done_or_wanting resume input left held old new told a b c d e f ended read write
     by (status.OldLog spot) is it = absurd it
     by (status.NotSerial txn line) is it = absurd it
     by (status.Transcript line) is it = absurd it
-    by (status.Limit (limit.Line line)) is it = absurd it
-    by (status.Limit limit.Lines) is it = absurd it
-    by (status.Limit limit.Transactions) is it = absurd (u.few is)
-    by (status.Limit (limit.Log spot)) is it = absurd (u.room spot is)
+    by (status.Limit what) is it = absurd it
     by status.Memory is it = inr is

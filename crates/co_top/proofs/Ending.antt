@@ -135,7 +135,10 @@ module _ {E : Type 0} (takes : Kind → Type 0) (stands_for : E → EngineState 
           let r = has_run p.done p.streamed in
           let next = p.next text refl in
           inr (r, left_by r.ran home.file p.files, (p.event, next.0, next.1, p.limit))
-      over (Err (status.Limit (limit.Log spot))) p = inr (failed p)
+      over (Err (status.Limit (limit.Log spot))) p =
+          let f = p.failed in
+          let next = p.next text refl in
+          inr (has_run f.done f.streamed, near_left f.done.events f.done.valid f.done.left f.files, (p.event, next.0, next.1, p.outgrows))
       over (Err status.Memory) p = inr (has_run_in_part p.done p.streamed, near_left p.done.events p.done.valid p.done.left p.files)
       over (Err (status.OldLog spot)) p = absurd p
       over (Err (status.NotSerial txn number)) p = absurd p

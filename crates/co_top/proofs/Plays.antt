@@ -29,7 +29,7 @@ use Rattle.co_replay.proofs.Appended.{items_text-append}
 use Rattle.co_schedule.specs.declared.lines.Lines.{Lines}
 use Rattle.co_state.specs.declared.engine_state.EngineState.{EngineState}
 use Rattle.co_world.specs.Counting.{MeetsPlainLimit}
-use Rattle.co_world.specs.Left.{AreLeftAs, AreLeftBy}
+use Rattle.co_world.specs.Left.{AreLeftAs, AreLeftBy, AreLeftNear}
 use Rattle.co_world.specs.Standing.{RepresentsWorld}
 use Rattle.co_world.proofs.Lefts.{held_left}
 use Rattle.co_world.specs.declared.world.World.{World}
@@ -38,10 +38,10 @@ use Rattle.co_top.specs.Front.{HasRead, StandsBehind, OneMore, IsNext, IsStreame
 use Rattle.co_schedule.specs.LineText.{behind_line, is_newline}
 use Rattle.std.specs.List.{position_or_len}
 use Rattle.co_top.specs.Heads.{IsEventRead, IsReadStatus}
-use Rattle.co_top.specs.Played.{IsTold, IsToldInPart, StandsFor, IsStreamedBehind, IsLeftNear, HasFailed, HasFailedInPart, HasStopped, IsOver, HasMetLimit}
+use Rattle.co_top.specs.Played.{IsTold, IsToldInPart, StandsFor, IsStreamedBehind, IsLeftNear, HasFailed, HasFailedInPart, HasOutgrown, HasStopped, IsOver, HasMetLimit}
 use Rattle.co_top.specs.Ends.{of_world}
 use Rattle.co_top.specs.Replayed.{given_back, opening_text, IsUnopenedAs, IsOfFiles, IsOpeningTold}
-use Rattle.co_top.specs.Telling.{event_text, IsPut, IsPutInPart, IsTextPut, HasStepped, HasFaulted, HasEnded, IsToldOf}
+use Rattle.co_top.specs.Telling.{Outgrows, event_text, IsPut, IsPutInPart, IsTextPut, HasStepped, HasFaulted, HasEnded, IsToldOf}
 use Rattle.co_top.specs.declared.status.LimitKind.TheVariants as limit
 use Rattle.co_top.specs.declared.status.Status.{Status}
 use Rattle.co_top.specs.declared.status.Status.TheVariants as status
@@ -141,7 +141,7 @@ module _ (head : Head) (s0 : Federation) (text held told : Option (List ℕ)) (p
     files_one : HasStepped takes stands_for z e home w → AreLeftAs home.file (run (lines es) s0)
     files_one st = let f = stands_one st in held_left takes stands_for w (run (lines es) s0) home.file home.reach f.stands f.held
 
-    near : AreLeftBy home.file z (step_line z e).state (step_line (disarmed z) e).state → IsLeftNear head s0 text p.events p.left home.file
+    near : AreLeftNear home.file z (step_line z e).state (step_line (disarmed z) e).state → IsLeftNear head s0 text p.events p.left home.file
     near (inl before) = inl before
     near (inr began) = inr (e, line, λ t q. let r = read t q in (r.0, r.1), began)
 
@@ -152,6 +152,11 @@ module _ (head : Head) (s0 : Federation) (text held told : Option (List ℕ)) (p
     met after o =
         subst (λ (t : Option (List ℕ)). HasMetLimit head s0 text now held t home) (sym o.0)
         (record { done = p; streamed = streamed; files = o.1; event = e; next = λ t q. let r = read t q in (r.0, r.1); limit = o.2 })
+
+    outgrown : (after : Option (List ℕ)) → HasFaulted z e told after home → Outgrows z e → HasOutgrown head s0 text now held after home
+    outgrown after o long =
+        subst (λ (t : Option (List ℕ)). HasOutgrown head s0 text now held t home) (sym o.0)
+        (record { failed = record { done = p; streamed = streamed; files = near o.1 }; event = e; next = λ t q. let r = read t q in (r.0, r.1); outgrows = long })
 
     -- a line that could not be told, or not be done, ends it
     pub told_over : (why : Status) (after : Option (List ℕ)) → IsToldOf takes stands_for z (length p.events + 2) e told after home w (Err why) → IsOver takes stands_for head s0 text now held after home w (Err why)
@@ -167,7 +172,7 @@ module _ (head : Head) (s0 : Federation) (text held told : Option (List ℕ)) (p
     told_over (status.Limit (limit.Line number)) after o = absurd o
     told_over (status.Limit limit.Lines) after o = absurd o
     told_over (status.Limit limit.Transactions) after o = met after o
-    told_over (status.Limit (limit.Log spot)) after o = failed after o
+    told_over (status.Limit (limit.Log spot)) after o = outgrown after o.0 o.1
     told_over status.Memory after (inl o) = in_part head s0 text now held after home (failed after o)
     told_over status.Memory after (inr o) = record { done = told_in_part after o.1; streamed = streamed_one; files = inl (files_one o.0) }
     told_over (status.OldLog spot) after o = absurd o
@@ -253,15 +258,15 @@ told_as takes stands_for s number e held told home w items (Err (status.Transcri
 
 -- what was not done is not told
 pub untold : {E : Type 0} (takes : Kind → Type 0) (stands_for : E → EngineState → Type 0) (s : Federation) (number : ℕ) (e : Event) (held : Option (List ℕ)) (old new : HomeView) (w : World E) (fault : WorldFault) → HasEndedAs fault old new →
-    AreLeftBy new.file s (step_line s e).state (step_line (disarmed s) e).state → AreLeftAs old.file s → (fault ≡ world.Count → MeetsPlainLimit s e) → IsToldOf takes stands_for s number e held held new w (Err (of_world fault))
-untold takes stands_for s number e held old new w (world.Device spot) h left before met = (refl, left)
-untold takes stands_for s number e held old new w (world.Differs spot place kept got) h left before met = (refl, left)
+    AreLeftBy new.file s (step_line s e).state (step_line (disarmed s) e).state fault → AreLeftAs old.file s → (fault ≡ world.Count → MeetsPlainLimit s e) → IsToldOf takes stands_for s number e held held new w (Err (of_world fault))
+untold takes stands_for s number e held old new w (world.Device spot) h left before met = (refl, left.0)
+untold takes stands_for s number e held old new w (world.Differs spot place kept got) h left before met = (refl, left.0)
 untold takes stands_for s number e held old new w (world.InUse spot) h left before met = absurd h
 untold takes stands_for s number e held old new w (world.Bad spot place) h left before met = absurd h
-untold takes stands_for s number e held old new w (world.Full spot) h left before met = (refl, left)
+untold takes stands_for s number e held old new w (world.Full spot) h left before met = ((refl, left.0), left.1)
 untold takes stands_for s number e held old new w world.Count h left before met = (refl, subst (λ (v : HomeView). AreLeftAs v.file s) (sym h) before, met refl)
 untold takes stands_for s number e held old new w (world.Old spot) h left before met = absurd h
-untold takes stands_for s number e held old new w world.Memory h left before met = inl (refl, left)
+untold takes stands_for s number e held old new w world.Memory h left before met = inl (refl, left.0)
 
 -- how the directory ended
 pub ended_as : (old new : HomeView) (fault : WorldFault) → HasEndedAs fault old new → HasEnded old new (Err (of_world fault))

@@ -7,13 +7,10 @@ use Rattle.std.specs.declared.string.String.{String}
 use Rattle.co_schedule.proofs.Numbers.{both, is_number-true}
 use Rattle.co_schedule.specs.Places.{is_number}
 use Rattle.co_trial.specs.Trials.{IsTrial}
-use Rattle.co_trial.specs.declared.fault.TrialFault.{TrialFault}
-use Rattle.co_trial.specs.declared.fault.TrialFault.TheVariants as trial
 use Rattle.co_trial.specs.declared.summary.Summary.{Summary}
 use Rattle.co_top.specs.Command.{is_word, is_trial, trial_events}
 use Rattle.co_top.specs.Replayed.{status_of}
-use Rattle.co_top.specs.Trials.{of_trial, IsSummaryTold, IsOfTrial, IsTrialEnd}
-use Rattle.co_top.specs.declared.status.LimitKind.TheVariants as limit
+use Rattle.co_top.specs.Trials.{IsSummaryTold, IsOfTrial, IsTrialEnd}
 use Rattle.co_top.specs.declared.status.Status.{Status}
 use Rattle.co_top.specs.declared.status.Status.TheVariants as status
 
@@ -35,11 +32,6 @@ summary_ended number events summary held before told (Err (status.NotSerial txn 
 summary_ended number events summary held before told (Err (status.Transcript line)) is same put = absurd put
 summary_ended number events summary held before told (Err (status.Limit what)) is same put = absurd put
 
--- a trial without a summary puts nothing
-pub trial_ended : (number events : ℕ) (fault : TrialFault) (held : List ℕ) (told : Option (List ℕ)) → told ≡ Some held → IsTrialEnd number events held told (of_trial fault)
-trial_ended number events (trial.Full spot) held told same = same
-trial_ended number events trial.Memory held told same = inl same
-
 -- the status is one of a trial
 pub summary_own : (summary : Summary) (before told : Option (List ℕ)) (result : Result (Unit {0}) Status) → IsSummaryTold summary before told result → IsOfTrial (status_of result)
 summary_own summary before told (Ok u) put = tt
@@ -58,10 +50,6 @@ summary_own summary before told (Err (status.NotSerial txn line)) put = absurd p
 summary_own summary before told (Err (status.Transcript line)) put = absurd put
 summary_own summary before told (Err (status.Limit what)) put = absurd put
 
-pub trial_own : (fault : TrialFault) → IsOfTrial (of_trial fault)
-trial_own (trial.Full spot) = tt
-trial_own trial.Memory = tt
-
 -- so it is none of these
 pub not_usage : (s : Status) → IsOfTrial s → s ≡ status.Usage → ⊥
 not_usage s own is = subst IsOfTrial is own
@@ -71,11 +59,6 @@ not_read s own is = subst IsOfTrial is own
 
 pub not_device : (s : Status) (spot : Spot) → IsOfTrial s → s ≡ status.Device spot → ⊥
 not_device s spot own is = subst IsOfTrial is own
-
--- and is no failure of the sink
-pub trial_quiet : (fault : TrialFault) → of_trial fault ≡ status.Write → ⊥
-trial_quiet (trial.Full spot) e = let z : status.Limit (limit.Log spot) ≡ status.Write = e in cc
-trial_quiet trial.Memory e = let z : status.Memory ≡ status.Write = e in cc
 
 -- the status is that of the sink where that failed
 pub write_of : (result : Result (Unit {0}) Status) → status_of result ≡ status.Write → result ≡ Err status.Write

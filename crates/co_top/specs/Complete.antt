@@ -8,7 +8,7 @@ use Rattle.co_outside.specs.Home.{File}
 use Rattle.co_durable.specs.declared.fault.WorldFault.{WorldFault}
 use Rattle.co_opening.specs.Opened.{IsUnopened, IsOfFound}
 use Rattle.co_top.specs.Front.{IsHeaded, StandsBehind}
-use Rattle.co_top.specs.declared.status.LimitKind.TheVariants as limit
+use Rattle.co_top.specs.Ran.{Ran, IsAtLimit, IsOutgrown}
 use Rattle.co_top.specs.declared.status.Status.{Status}
 use Rattle.co_top.specs.declared.status.Status.TheVariants as status
 
@@ -20,8 +20,8 @@ pub record IsSchedule (input : List ℕ) : Type 0 where
   pub events : List Event
   pub whole : StandsBehind head text events []
 
--- The input is a schedule, the logs are not refused, neither the source nor the sink nor the directory failed, no file that was read again differs, and the limits of
--- transactions and of the length of a log file were not met.
+-- The input is a schedule, the logs are not refused, neither the source nor the sink nor the directory failed, no file that was read again differs, and no line of
+-- the run would leave a log too long or begin one transaction too many.
 pub record IsUnhindered (resume : Bool) (input : List ℕ) (old : Spot → Option File) (source_old source_new out_old out_new home_old home_new : ℕ) (ended : Status) : Type 0 where
   pub schedule : IsSchedule input
   pub allowed : (head : Head) (text : List ℕ) → IsHeaded input head text → (why : WorldFault) → IsOfFound why → IsUnopened old head resume why → ⊥
@@ -29,5 +29,5 @@ pub record IsUnhindered (resume : Bool) (input : List ℕ) (old : Spot → Optio
   pub out : HasRisen out_old out_new → ⊥
   pub home : HasRisen home_old home_new → ⊥
   pub same : (spot : Spot) (at : ℕ) (kept read : Option ℕ) → ended ≡ status.Differs spot at kept read → ⊥
-  pub room : (spot : Spot) → ended ≡ status.Limit (limit.Log spot) → ⊥
-  pub few : ended ≡ status.Limit limit.Transactions → ⊥
+  pub room : (r : Ran resume input old) → IsOutgrown r → ⊥
+  pub few : (r : Ran resume input old) → IsAtLimit r → ⊥

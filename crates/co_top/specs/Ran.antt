@@ -24,6 +24,7 @@ use Rattle.co_opening.specs.Opened.{IsUnopened}
 use Rattle.co_world.specs.Left.{AreLeftAs}
 use Rattle.co_top.specs.Front.{IsHeaded, StandsBehind, IsNext, IsHeadFault, IsLineFault, IsStreamed}
 use Rattle.co_world.specs.Counting.{MeetsPlainLimit}
+use Rattle.co_top.specs.Telling.{Outgrows}
 use Rattle.co_top.specs.declared.status.LimitKind.TheVariants as limit
 use Rattle.co_top.specs.declared.status.Status.{Status}
 use Rattle.co_top.specs.declared.status.Status.TheVariants as status
@@ -132,6 +133,10 @@ pub record IsUnopenedFor (resume : Bool) (input : List ℕ) (old : Spot → Opti
 abbrev pub IsAtLimit : {resume : Bool} {input : List ℕ} {old : Spot → Option File} → Ran resume input old → Type 0
 IsAtLimit r = (event : Event) × (rest : List ℕ) × IsNext r.head (length r.events) r.rest rest (Some event) × MeetsPlainLimit (end_of r) event
 
+-- the event of the next line would leave a log that is too long, were no stop armed
+abbrev pub IsOutgrown : {resume : Bool} {input : List ℕ} {old : Spot → Option File} → Ran resume input old → Type 0
+IsOutgrown r = (event : Event) × (rest : List ℕ) × IsNext r.head (length r.events) r.rest rest (Some event) × Outgrows (end_of r) event
+
 -- the lines that were done, the files that they left, and why the next one gave no event
 pub record HasStoppedAt (resume : Bool) (input : List ℕ) (left : Option (List ℕ)) (held : List ℕ) (old new : Spot → Option File) (told : Option (List ℕ)) (ended : Status) : Type 0 where
   pub run : HasRun resume input left held old told
@@ -155,5 +160,5 @@ IsRunEnd resume input left held old new told (status.Transcript line) = ⊥
 IsRunEnd resume input left held old new told (status.Limit (limit.Line line)) = (IsAtRest input left held told old new × IsHeadFault input (status.Limit (limit.Line line))) ⊎ HasStoppedAt resume input left held old new told (status.Limit (limit.Line line))
 IsRunEnd resume input left held old new told (status.Limit limit.Lines) = HasStoppedAt resume input left held old new told (status.Limit limit.Lines)
 IsRunEnd resume input left held old new told (status.Limit limit.Transactions) = (IsAtRest input left held told old new × IsUnopenedFor resume input old world.Count) ⊎ ((done : HasRun resume input left held old told) × AreLeftBy done.ran new × IsAtLimit done.ran)
-IsRunEnd resume input left held old new told (status.Limit (limit.Log spot)) = (IsAtRest input left held told old new × IsUnopenedFor resume input old (world.Full spot)) ⊎ ((done : HasRun resume input left held old told) × AreLeftByFault done.ran new)
+IsRunEnd resume input left held old new told (status.Limit (limit.Log spot)) = (IsAtRest input left held told old new × IsUnopenedFor resume input old (world.Full spot)) ⊎ ((done : HasRun resume input left held old told) × AreLeftByFault done.ran new × IsOutgrown done.ran)
 IsRunEnd resume input left held old new told status.Memory = IsUntold input left held told ⊎ ((done : HasRunInPart resume input left held old told) × AreLeftByFault done.ran new)

@@ -11,7 +11,7 @@ use Rattle.co_plain.specs.Step.{disarmed, step_line}
 use Rattle.co_replay.specs.Transcript.{items_text}
 use Rattle.co_state.specs.declared.engine_state.EngineState.{EngineState}
 use Rattle.co_world.specs.Counting.{MeetsPlainLimit}
-use Rattle.co_world.specs.Left.{AreLeftAs, AreLeftBy}
+use Rattle.co_world.specs.Left.{AreLeftAs, AreLeftNear, HasOverlong}
 use Rattle.co_world.specs.Standing.{RepresentsWorld, AreHeld}
 use Rattle.co_world.specs.declared.world.World.{World}
 use Rattle.co_top.specs.declared.status.LimitKind.TheVariants as limit
@@ -49,7 +49,11 @@ pub record HasStepped {E : Type 0} (takes : Kind → Type 0) (stands_for : E →
 
 -- nothing was told, and the files have what a fault of the event may leave
 abbrev pub HasFaulted : Federation → Event → Option (List ℕ) → Option (List ℕ) → HomeView → Type 0
-HasFaulted s event held told home = (told ≡ held) × AreLeftBy home.file s (step_line s event).state (step_line (disarmed s) event).state
+HasFaulted s event held told home = (told ≡ held) × AreLeftNear home.file s (step_line s event).state (step_line (disarmed s) event).state
+
+-- the event would leave a log that is too long
+abbrev pub Outgrows : Federation → Event → Type 0
+Outgrows s event = HasOverlong (step_line (disarmed s) event).state
 
 -- How an event of a line of this number is done and told.
 abbrev pub IsToldOf : {E : Type 0} → (Kind → Type 0) → (E → EngineState → Type 0) → Federation → ℕ → Event → Option (List ℕ) → Option (List ℕ) → HomeView → World E → Result (Unit {0}) Status → Type 0
@@ -58,6 +62,6 @@ IsToldOf takes stands_for s number event held told home w (Err status.Write) = H
 IsToldOf takes stands_for s number event held told home w (Err status.Memory) = HasFaulted s event held told home ⊎ (HasStepped takes stands_for s event home w × IsPutInPart (event_text number event s) held told)
 IsToldOf takes stands_for s number event held told home w (Err (status.Device spot)) = HasFaulted s event held told home
 IsToldOf takes stands_for s number event held told home w (Err (status.Differs spot at kept read)) = HasFaulted s event held told home
-IsToldOf takes stands_for s number event held told home w (Err (status.Limit (limit.Log spot))) = HasFaulted s event held told home
+IsToldOf takes stands_for s number event held told home w (Err (status.Limit (limit.Log spot))) = HasFaulted s event held told home × Outgrows s event
 IsToldOf takes stands_for s number event held told home w (Err (status.Limit limit.Transactions)) = (told ≡ held) × AreLeftAs home.file s × MeetsPlainLimit s event
 IsToldOf takes stands_for s number event held told home w (Err _) = ⊥

@@ -3,23 +3,13 @@ ghost use Rattle.std.specs.Prelude.{◌≡◌, ◌≤◌, ℕ, List, Some, IfErr
 ghost use Rattle.co_outside.specs.Faults.{HasRisen};
 ghost use Rattle.co_trial.specs.Trials.{IsTrial};
 ghost use Rattle.co_top.specs.Replayed.{status_of};
-ghost use Rattle.co_top.specs.Trials.{of_trial, IsSummaryTold, IsOfTrial, IsTrialEnd};
+ghost use Rattle.co_top.specs.Trials.{IsSummaryTold, IsOfTrial, IsTrialEnd};
 
 use crate::playing::put;
-use crate::status::{LimitKind, Status};
+use crate::status::Status;
 use co_outside::Sink;
-use co_trial::{Summary, TrialFault};
-use std::alloc::Global;
-
-/// The status of a trial that has no summary.
-fn of_trial(fault: TrialFault) -> Status
-    ensures { result ≡ of_trial fault }
-{
-    match fault {
-        TrialFault::Full { spot } => Status::Limit(LimitKind::Log { spot }),
-        TrialFault::Memory => Status::Memory,
-    }
-}
+use co_trial::Summary;
+use std::alloc::{AllocError, Global};
 
 /// Puts the line of a summary.
 fn tell_summary<K: Sink>(alloc: Global, out: &mut K, summary: &Summary) -> Result<(), Status>
@@ -52,6 +42,6 @@ pub(crate) fn trial<K: Sink>(alloc: Global, number: u64, events: u32, out: &mut 
 {
     match co_trial::trial(alloc, number, events) {
         Ok(summary) => ended(tell_summary(alloc, out, &summary)),
-        Err(fault) => of_trial(fault),
+        Err(AllocError) => Status::Memory,
     }
 }

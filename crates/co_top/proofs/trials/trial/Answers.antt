@@ -1,7 +1,8 @@
-use Rattle.std.proofs.Common.{sym, ap, subst, ◌∙◌}
+use Rattle.std.proofs.Common.{◌≡◌, sym, ap, subst, ◌∙◌, inl}
 use Rattle.co_top.specs.Replayed.{status_of}
 use Rattle.co_top.specs.Trials.{IsOfTrial, IsTrialEnd}
-use Rattle.co_top.proofs.Trying.{summary_ended, summary_own, trial_ended, trial_own, trial_quiet, write_of}
+use Rattle.co_top.specs.declared.status.Status.TheVariants as status
+use Rattle.co_top.proofs.Trying.{summary_ended, summary_own, write_of}
 use Rattle.co_top.proofs.trials.trial.Goals as goal
 
 pub returns-in-Ok-clause-end : goal.returns-in-Ok-clause-end
@@ -11,7 +12,7 @@ returns-in-Ok-clause-end g c = λ held told.
 
 pub returns-in-Err-clause-end : goal.returns-in-Err-clause-end
 returns-in-Err-clause-end g c = λ held told.
-    subst (λ s. IsTrialEnd c.args.number c.args.events held (g.K.Sink.told c.args.out.now) s) (sym c.of_trial.ensures) (trial_ended c.args.number c.args.events c.in-Err.fault held (g.K.Sink.told c.args.out.now) told)
+    inl told
 
 pub returns-in-Ok-clause-write : goal.returns-in-Ok-clause-write
 returns-in-Ok-clause-write g c = λ e. c.tell_summary.ensures.failed (write_of c.tell_summary.result (sym c.ended.ensures ∙ e))
@@ -19,11 +20,8 @@ returns-in-Ok-clause-write g c = λ e. c.tell_summary.ensures.failed (write_of c
 pub returns-in-Ok-clause-quiet : goal.returns-in-Ok-clause-quiet
 returns-in-Ok-clause-quiet g c = λ other. c.tell_summary.ensures.quiet (λ e. other (c.ended.ensures ∙ ap status_of e))
 
-pub returns-in-Err-clause-write : goal.returns-in-Err-clause-write
-returns-in-Err-clause-write g c = λ e. absurd (trial_quiet c.in-Err.fault (sym c.of_trial.ensures ∙ e))
-
 pub returns-in-Ok-clause-own : goal.returns-in-Ok-clause-own
 returns-in-Ok-clause-own g c = subst IsOfTrial (sym c.ended.ensures) (summary_own c.in-Ok.summary (g.K.Sink.told c.args.out.now) (g.K.Sink.told c.tell_summary.new.out) c.tell_summary.result c.tell_summary.ensures.told)
 
-pub returns-in-Err-clause-own : goal.returns-in-Err-clause-own
-returns-in-Err-clause-own g c = subst IsOfTrial (sym c.of_trial.ensures) (trial_own c.in-Err.fault)
+pub returns-in-Err-clause-write : goal.returns-in-Err-clause-write
+returns-in-Err-clause-write g c = λ e. absurd (let z : status.Memory ≡ status.Write = e in cc)
