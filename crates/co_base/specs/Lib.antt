@@ -3,3 +3,4 @@ pub mod Order
 pub mod Span
 pub mod Nodes
 pub mod RowOrder
+pub mod Parts

@@ -5,6 +5,7 @@
 //! contract sees each as what it stands for: text as its bytes, a list as a list.
 #![tactic(auto)]
 
+mod copies;
 mod fault;
 mod head;
 mod key;
@@ -24,6 +25,7 @@ mod txns;
 mod value;
 mod written;
 
+pub use copies::{copy_bytes, copy_rows};
 pub use fault::BaseFault;
 pub use head::{Head, Kind, Kinds};
 pub use key::Key;
@@ -31,7 +33,7 @@ pub use leaves::{Bytes, Leaves};
 pub use mark::{Mark, MarkKind, Marks};
 pub use node::Node;
 pub use op::Op;
-pub use part::{Part, Parts};
+pub use part::{Part, Parts, count_among, count_one};
 pub use range::{Range, Ranges};
 pub use reply::{Replies, Reply};
 pub use row::Row;

@@ -15,12 +15,12 @@ ghost use Rattle.co_coord.specs.Standing.{is_up, RepresentsCoord, HasDone, IsSam
 
 use crate::coord::Coord;
 use crate::step::CoordStep;
-use co_base::Marks;
+use co_base::{Marks, copy_bytes};
 use co_log::NodeFault;
 use co_message::{Answer, Messages};
 use co_node::{Written, close, fill, spare_closed};
 use co_outside::Home;
-use co_plain::{Entry, copy_bytes};
+use co_plain::Entry;
 use co_record::Record;
 use co_state::Table;
 use std::alloc::{AllocError, Global};

@@ -8,9 +8,9 @@ ghost use Rattle.co_coord.specs.Plans.{sends, commits, decides, yes_plan, no_pla
 
 use crate::messages::{aborts, copy_parts, decisions_to, waits};
 use crate::plan::{Change, Plan, Writes, says, sends};
-use co_base::{Bytes, Part, Txn};
+use co_base::{Bytes, Part, Txn, copy_bytes};
 use co_message::{Answer, Cause, Message, Messages};
-use co_plain::{Entry, copy_bytes, first_lacking, has_number, has_part, members_of, with_number};
+use co_plain::{Entry, first_lacking, has_number, has_part, members_of, with_number};
 use co_record::Record;
 use co_state::Table;
 use std::alloc::{AllocError, Global};

@@ -4,11 +4,10 @@ ghost use Rattle.co_coord_rows.specs.Played.{IsPlayed, IsRunning};
 
 use crate::fits::{need_named, need_new};
 use anyhow::{Result, bail};
-use co_base::{Leaves, Part, Txn};
+use co_base::{Leaves, Part, Txn, copy_bytes};
 use co_coord::{Coord, CoordStep};
 use co_message::Message;
 use co_outside::HomeMemory;
-use co_plain::copy_bytes;
 use std::alloc::Global;
 
 /// The number of the coordinator.

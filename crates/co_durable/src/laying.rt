@@ -6,9 +6,8 @@ ghost use Rattle.co_durable.specs.Laying.{seen_by, with_decided_votes, durable_o
 
 use crate::durable::{Durable, DurableRow};
 use crate::recovering::Numbers;
-use co_base::{Row, Rows, Txn};
+use co_base::{Row, Rows, Txn, copy_rows};
 use co_pairs::Prepared;
-use co_plain::copy_rows;
 use co_recover::MemberPast;
 use co_serial::RecordMap;
 use co_state::records_from;

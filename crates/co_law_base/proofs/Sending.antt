@@ -21,7 +21,8 @@ use Rattle.co_plain.specs.declared.coord_state.Entry.TheVariants as entry
 use Rattle.co_plain.specs.declared.session.Told.{Told}
 use Rattle.co_plain.specs.Numbers.{has_number}
 use Rattle.co_plain.specs.CoordStep.{has_part, members_of}
-use Rattle.co_plain.specs.Sessions.{with_part, parts_of, count_at}
+use Rattle.co_base.specs.Parts.{with_part}
+use Rattle.co_plain.specs.Sessions.{parts_of, count_at}
 use Rattle.co_plain.specs.Decisions.{votes_for, told_of}
 use Rattle.co_plain.specs.Wire.{was_sent, send_one}
 use Rattle.co_plain.specs.Federation.{Federation}

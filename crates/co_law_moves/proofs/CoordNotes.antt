@@ -13,7 +13,8 @@ use Rattle.co_plain.specs.declared.session.Told.{Told}
 use Rattle.co_plain.specs.Numbers.{has_number, numbers_lacking}
 use Rattle.co_plain.specs.CoordStep.{has_part}
 use Rattle.co_plain.specs.Coordinator.{prepares_to, decisions_to}
-use Rattle.co_plain.specs.Sessions.{count_at, with_part, parts_of}
+use Rattle.co_base.specs.Parts.{with_part}
+use Rattle.co_plain.specs.Sessions.{count_at, parts_of}
 use Rattle.co_plain.specs.Federation.{Federation}
 use Rattle.co_plain.specs.Decisions.{told_of}
 use Rattle.co_plain.specs.Moves.{Send, effect}

@@ -11,7 +11,8 @@ use Rattle.co_base.specs.declared.part.Part.{Part}
 use Rattle.co_state.specs.Table.{Table, look, put}
 use Rattle.co_plain.specs.declared.session.Session.{Session}
 use Rattle.co_plain.specs.declared.session.Told.{Told}
-use Rattle.co_plain.specs.Sessions.{parts_of, with_part, begun_by, with_told, asked_to_end}
+use Rattle.co_base.specs.Parts.{with_part}
+use Rattle.co_plain.specs.Sessions.{parts_of, begun_by, with_told, asked_to_end}
 use Rattle.co_law_sizes.proofs.Weights.{weighs, held, insert_weighs}
 
 -- the operations that a client was told of, while it may still ask for the end

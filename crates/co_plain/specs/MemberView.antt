@@ -1,6 +1,6 @@
 -- What a member holds, seen in two ways that agree: what its memory has, and what its log tells (redo and
 -- undo recovery, Bernstein, Hadzilacos and Goodman 1987). Both are views, and change by the same words.
-use Rattle.std.specs.Prelude.{ℕ, Bool, true, false, not, ◌&&◌, ◌||◌, ◌==◌, nat_le, suc, List, [], ◌∷◌, if◌then◌else◌, Option, None, Some, is_none}
+use Rattle.std.specs.Prelude.{ℕ, Bool, true, false, not, ◌&&◌, ◌==◌, nat_le, suc, List, [], ◌∷◌, if◌then◌else◌, Option, None, Some, is_none}
 use Rattle.std.specs.FinMap.{empty}
 use Rattle.co_base.specs.declared.head.Kind.{Kind}
 use Rattle.co_record.specs.declared.record.Record.{Record}

@@ -1,10 +1,9 @@
 -- The clients' side: what was answered, how often at which member, and who may still act.
 use Rattle.std.specs.Prelude.{ℕ, Bool, true, false, ◌+◌, ◌==◌, List, [], ◌∷◌, if◌then◌else◌, Option, None, Some}
-use Rattle.std.specs.Ordering.{nat_cmp}
-use Rattle.std.specs.FinMap.Entries.{by_order}
 use Rattle.co_base.specs.declared.node.Node.{Node}
 use Rattle.co_base.specs.declared.node.Node.TheVariants as node
 use Rattle.co_base.specs.declared.part.Part.{Part}
+use Rattle.co_base.specs.Parts.{with_part}
 use Rattle.co_message.specs.declared.answer.Answer.{Answer}
 use Rattle.co_message.specs.declared.answer.Answer.TheVariants as answer
 use Rattle.co_plain.specs.declared.session.Session.{Session}
@@ -20,24 +19,10 @@ abbrev pub count_at : List Told → ℕ → ℕ
 count_at [] m = 0
 count_at (o ∷ os) m = if o.site.member == m then count_at os m + 1 else count_at os m
 
--- one more operation at a member, among the participants in ascending order
-abbrev pub with_part : ℕ → List Part → List Part
-with_part m [] = record { member = m; count = 1 } ∷ []
-with_part m (p ∷ ps) =
-    by_order (nat_cmp m p.member)
-    (record { member = m; count = 1 } ∷ p ∷ ps)
-    (record { member = p.member; count = p.count + 1 } ∷ ps)
-    (p ∷ with_part m ps)
-
 -- the participants, ascending by member, each with its count
 abbrev pub parts_of : List Told → List Part
 parts_of [] = []
 parts_of (o ∷ os) = with_part o.site.member (parts_of os)
-
--- the count of a member among participants; none of one that is absent
-abbrev pub count_among : List Part → ℕ → ℕ
-count_among [] m = 0
-count_among (p ∷ ps) m = if p.member == m then p.count else count_among ps m
 
 abbrev pub same_node : Node → Node → Bool
 same_node (node.Member m) (node.Member n) = m == n

@@ -8,8 +8,6 @@
 mod coord_state;
 mod coord_step;
 mod coord_view;
-mod copies;
-mod count;
 mod happening;
 mod log_state;
 mod member_state;
@@ -23,8 +21,6 @@ mod standing;
 pub use coord_state::{CoordState, Entry};
 pub use coord_step::CoordStep;
 pub use coord_view::CoordView;
-pub use copies::{copy_bytes, copy_rows};
-pub use count::{count_among, count_one};
 pub use happening::Happening;
 pub use log_state::{LogState, Stop};
 pub use member_state::{AskedMark, MemberState};

@@ -9,8 +9,8 @@ ghost use Rattle.co_recover.specs.Recovered.{coord_next, commits_of, past_of_coo
 
 use crate::fault::RecoverFault;
 use crate::past::{Commits, CoordPast, Decided};
-use co_base::{Bytes, Txn, Txns};
-use co_plain::{CoordView, copy_bytes};
+use co_base::{Bytes, Txn, Txns, copy_bytes};
+use co_plain::CoordView;
 use co_record::{MemberWalk, RecordView, Views};
 use co_state::Table;
 use std::alloc::{AllocError, Global};

@@ -4,8 +4,8 @@ ghost use Rattle.co_plain.specs.Sessions.{count_at, parts_of, begun_by, with_tol
 ghost use Rattle.co_session.specs.Leaves.{IsLeave, leave_of, may_be_at};
 
 use crate::fault::SessionFault;
-use co_base::{Node, Part, Parts};
-use co_plain::{Told, count_among, count_one};
+use co_base::{Node, Part, Parts, count_among, count_one};
+use co_plain::Told;
 use std::alloc::{AllocError, Global};
 use std::marker::Model;
 

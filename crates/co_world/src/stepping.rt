@@ -18,12 +18,11 @@ ghost use Rattle.co_world.specs.Standing.{RepresentsWorld, AreHeld};
 use crate::calls::{CoordCall, MemberCall};
 use crate::clients::Ending;
 use crate::world::World;
-use co_base::{Key, Leaves, Node, Op, Range, Txn, Value};
+use co_base::{Key, Leaves, Node, Op, Range, Txn, Value, copy_bytes};
 use co_durable::WorldFault;
 use co_engine::Engine;
 use co_message::{Answer, Event, Items, Message};
 use co_outside::Home;
-use co_plain::copy_bytes;
 use std::alloc::{AllocError, Global};
 
 /// An equal choice of a crash image.

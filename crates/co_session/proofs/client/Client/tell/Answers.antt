@@ -1,6 +1,6 @@
 use Rattle.std.proofs.Common.{◌≡◌, ◌∙◌, ap, arith, reverse}
 use Rattle.co_plain.specs.Sessions.{count_at}
-use Rattle.co_plain.specs.Sessions.{count_among}
+use Rattle.co_base.specs.Parts.{count_among}
 use Rattle.co_plain.proofs.Counts.{counts_told}
 use Rattle.co_session.proofs.client.Client.tell.Goals as goal
 

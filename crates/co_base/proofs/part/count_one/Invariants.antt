@@ -1,7 +1,6 @@
 use Rattle.std.proofs.Common.{◌≡◌, ◌++◌, take, drop}
-use Rattle.co_plain.specs.Sessions.{with_part}
-use Rattle.co_plain.specs.Sessions.{count_among}
-use Rattle.co_plain.proofs.count.count_one.Given as goal
+use Rattle.co_base.specs.Parts.{count_among, with_part}
+use Rattle.co_base.proofs.part.count_one.Given as goal
 
 abbrev pub invariant-loop-place : goal.invariant-loop-place
 invariant-loop-place l = (l.parts.items ≡ l.fn.parts.items) × (count_among (drop l.place l.parts.items) l.fn.member ≡ count_among l.fn.parts.items l.fn.member)

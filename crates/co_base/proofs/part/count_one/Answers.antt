@@ -1,6 +1,6 @@
 use Rattle.std.proofs.Common.{◌∙◌, rules}
-use Rattle.co_plain.proofs.Counts.{counted_at}
-use Rattle.co_plain.proofs.count.count_one.Goals as goal
+use Rattle.co_base.proofs.Parts.{counted_at}
+use Rattle.co_base.proofs.part.count_one.Goals as goal
 
 pub returns-then-part-member-clause-ok : goal.returns-then-part-member-clause-ok
 returns-then-part-member-clause-ok c =

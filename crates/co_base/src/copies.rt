@@ -1,7 +1,8 @@
-//! Equal lists.
+//! Equal lists of records and of bytes.
 ghost use Rattle.std.specs.Prelude.{◌≡◌, IfOk};
 
-use co_base::{Bytes, Row};
+use crate::leaves::Bytes;
+use crate::row::Row;
 use std::alloc::{AllocError, Global};
 
 /// Equal records.
