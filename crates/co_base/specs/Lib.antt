@@ -4,3 +4,4 @@ pub mod Span
 pub mod Nodes
 pub mod RowOrder
 pub mod Parts
+pub mod Lent

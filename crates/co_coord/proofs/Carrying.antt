@@ -19,7 +19,7 @@ use Rattle.co_plain.specs.declared.coord_state.Entry.{Entry}
 use Rattle.co_plain.specs.declared.coord_step.CoordStep.{CoordStep as PlainStep}
 use Rattle.co_plain.specs.declared.log_state.LogState.{LogState}
 use Rattle.co_plain.specs.declared.outcome.Outcome.{Outcome}
-use Rattle.co_record.specs.Gate.{batch_is_stable}
+use Rattle.co_frame.specs.Gate.{batch_is_stable}
 use Rattle.co_record.specs.declared.record.Record.{Record}
 use Rattle.co_state.specs.Table.{Table, look}
 use Rattle.co_coord.specs.Plans.{changed, carried, carried_out}

@@ -13,7 +13,7 @@ use Rattle.co_plain.specs.LogWrite.{checkpoint_marks, crashed_log, generation_of
 use Rattle.co_plain.specs.Numbers.{next_generation}
 use Rattle.co_plain.specs.declared.coord_state.CoordState.{CoordState}
 use Rattle.co_plain.specs.declared.outcome.Outcome.{Outcome}
-use Rattle.co_record.specs.Gate.{batch_is_stable, closes_spare}
+use Rattle.co_frame.specs.Gate.{batch_is_stable, closes_spare}
 use Rattle.co_record.specs.declared.record.Record.{Record}
 use Rattle.co_coord.specs.Restating.{restated}
 use Rattle.co_coord.specs.Standing.{is_up, RepresentsCoord, HasDone}

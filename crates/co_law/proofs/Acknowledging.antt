@@ -27,7 +27,7 @@ use Rattle.co_plain.specs.declared.outcome.Outcome.TheVariants.{Completes, Stops
 use Rattle.co_plain.specs.declared.session.Session.{Session}
 use Rattle.co_plain.specs.Numbers.{first_lacking, has_number}
 use Rattle.co_plain.specs.LogWrite.{marks_of, outcome_of}
-use Rattle.co_record.specs.Gate.{batch_is_stable}
+use Rattle.co_frame.specs.Gate.{batch_is_stable}
 use Rattle.co_plain.specs.MemberStep.{says, stopped_member, forced_by}
 use Rattle.co_plain.specs.LocalCommit.{local_commit_by, member_local_commit}
 use Rattle.co_plain.specs.CoordStep.{with_table, has_part, members_of, stopped_coord, coord_forced_by}

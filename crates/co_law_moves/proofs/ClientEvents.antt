@@ -18,7 +18,7 @@ use Rattle.co_plain.specs.declared.outcome.Outcome.{Outcome}
 use Rattle.co_plain.specs.declared.outcome.Outcome.TheVariants.{Completes, StopsAt}
 use Rattle.co_plain.specs.declared.session.Session.{Session}
 use Rattle.co_plain.specs.LogWrite.{outcome_of, with_batch}
-use Rattle.co_record.specs.Gate.{batch_is_stable}
+use Rattle.co_frame.specs.Gate.{batch_is_stable}
 use Rattle.co_plain.specs.Numbers.{counted}
 use Rattle.co_plain.specs.MemberStep.{says, with_engine}
 use Rattle.co_plain.specs.Member.{most_operations, unless_blocked, member_op}

@@ -21,7 +21,7 @@ use Rattle.co_plain.specs.declared.outcome.Outcome.{Outcome}
 use Rattle.co_plain.specs.declared.outcome.Outcome.TheVariants.{Completes, StopsAt}
 use Rattle.co_plain.specs.Numbers.{first_lacking, has_number, numbers_lacking, next_generation}
 use Rattle.co_plain.specs.LogWrite.{checkpoint_marks, marks_of, outcome_of, with_batch, with_filled_spare, with_spare, with_stop, generation_of}
-use Rattle.co_record.specs.Gate.{batch_is_stable, closes_spare}
+use Rattle.co_frame.specs.Gate.{batch_is_stable, closes_spare}
 use Rattle.co_plain.specs.CoordStep.{with_table, with_coord_log, coord_down, has_part, members_of, stopped_coord, coord_forced_by, coord_says}
 use Rattle.co_plain.specs.Coordinator.{member_or_none, waits, aborts, decided_by, yes_entry, no_entry, ask_entry, ended_by, ack_entry, timer_entry, resend_entry, parts_lacking, decisions_to, prepares_to}
 use Rattle.co_plain.specs.CoordLog.{coord_stopped_fill, coord_fill_by, coord_close_by, coord_checkpoint_by, coord_restart_by, coord_spare, coord_crash}

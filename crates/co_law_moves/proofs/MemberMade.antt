@@ -25,7 +25,7 @@ use Rattle.co_plain.specs.declared.standing.Standing.{Standing}
 use Rattle.co_plain.specs.declared.standing.Standing.TheVariants.{IsActive, IsVoted, IsInstalled, IsAbsent}
 use Rattle.co_plain.specs.Numbers.{next_generation}
 use Rattle.co_plain.specs.LogWrite.{checkpoint_marks, marks_of, outcome_of, with_batch, with_filled_spare, with_spare, with_stop, with_waiting, generation_of}
-use Rattle.co_record.specs.Gate.{batch_is_stable, closes_spare}
+use Rattle.co_frame.specs.Gate.{batch_is_stable, closes_spare}
 use Rattle.co_plain.specs.MemberStep.{says, standing_of, with_log, dropped, member_down, member_down_with, stopped_member, forced_by}
 use Rattle.co_plain.specs.Member.{prepare_record, voted_state, vote_by, coord_of, with_mark, prepare_by, vote_where_asked, vote_again_by, installed_state, commit_by, abort_by, timer_by, ask_by}
 use Rattle.co_plain.specs.MemberLog.{stopped_fill, fill_by, close_by, checkpoint_by, member_spare, restart_by}

@@ -11,7 +11,7 @@ use Rattle.co_message.specs.declared.event.Event.{Event}
 use Rattle.co_message.specs.declared.event.Event.TheVariants as event
 use Rattle.co_message.specs.declared.message.Message.{Message}
 use Rattle.co_message.specs.declared.message.Message.TheVariants as message
-use Rattle.co_record.specs.Gate.{batch_is_stable, closes_spare}
+use Rattle.co_frame.specs.Gate.{batch_is_stable, closes_spare}
 use Rattle.co_state.specs.Table.{look, holds}
 use Rattle.co_state.specs.LockRule.{lock_blocker}
 use Rattle.co_state.specs.declared.verdict.Verdict.{Verdict}

@@ -10,7 +10,7 @@ use Rattle.co_message.specs.declared.answer.Answer.TheVariants as answer
 use Rattle.co_message.specs.declared.message.Message.{Message}
 use Rattle.co_record.specs.declared.record.Record.{Record}
 use Rattle.co_record.specs.declared.record.Record.TheVariants as log
-use Rattle.co_record.specs.Gate.{batch_is_stable}
+use Rattle.co_frame.specs.Gate.{batch_is_stable}
 use Rattle.co_record.specs.Marks.{mark_of}
 use Rattle.co_state.specs.Table.{look, put, without}
 use Rattle.co_plain.specs.declared.coord_state.CoordState.{CoordState}

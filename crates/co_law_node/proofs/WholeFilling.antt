@@ -21,7 +21,7 @@ use Rattle.co_plain.specs.MemberView.{recovered_view, cast_in, sets_conflict}
 use Rattle.co_plain.specs.Member.{prepare_record}
 use Rattle.co_plain.specs.MemberLog.{prepares_onto, member_spare, stopped_fill, fill_by, close_by, checkpoint_by, member_checkpoint}
 use Rattle.co_plain.specs.Invariants.{Memory, view}
-use Rattle.co_record.specs.Gate.{batch_is_stable, closes_spare}
+use Rattle.co_frame.specs.Gate.{batch_is_stable, closes_spare}
 use Rattle.co_law_base.proofs.Lookups.{is_nothing, look_none, put_cases, found_holds}
 use Rattle.co_law_base.proofs.Commits.{both_T}
 use Rattle.co_law_base.proofs.ImageRules.{EachEntry, each_entry, entry_has, below_found}

@@ -17,7 +17,7 @@ use Rattle.co_message.specs.declared.message.Message.{Message}
 use Rattle.co_record.specs.declared.record.Record.{Record}
 use Rattle.co_record.specs.declared.record.Record.TheVariants as log
 use Rattle.co_record.specs.Format.{most_coordinators, most_members}
-use Rattle.co_record.specs.Gate.{batch_is_stable, closes_spare}
+use Rattle.co_frame.specs.Gate.{batch_is_stable, closes_spare}
 use Rattle.co_record.specs.Spelling.{IsWritable, IsMember}
 use Rattle.co_state.specs.Table.{look, put, without}
 use Rattle.co_plain.specs.declared.coord_state.CoordState.{CoordState}

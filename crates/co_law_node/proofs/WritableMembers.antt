@@ -14,7 +14,7 @@ use Rattle.co_message.specs.declared.message.Message.TheVariants as message
 use Rattle.co_record.specs.declared.record.Record.{Record}
 use Rattle.co_record.specs.declared.record.Record.TheVariants as log
 use Rattle.co_record.specs.Format.{most_coordinators, most_members}
-use Rattle.co_record.specs.Gate.{batch_is_stable}
+use Rattle.co_frame.specs.Gate.{batch_is_stable}
 use Rattle.co_record.specs.Spelling.{IsWritable}
 use Rattle.co_state.proofs.InOrder.{sorted-spans_of, ordered-changes_of, ordered-dumped_undos, length-spans_of, length-changes_of}
 use Rattle.co_state.specs.declared.engine_state.Vote.{Vote}

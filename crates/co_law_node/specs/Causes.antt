@@ -6,7 +6,7 @@ use Rattle.co_base.specs.declared.mark.MarkKind.{MarkKind}
 use Rattle.co_base.specs.declared.mark.MarkKind.TheVariants as kind
 use Rattle.co_base.specs.declared.part.Part.{Part}
 use Rattle.co_message.specs.declared.answer.Answer.TheVariants as answer
-use Rattle.co_record.specs.Gate.{batch_is_stable}
+use Rattle.co_frame.specs.Gate.{batch_is_stable}
 use Rattle.co_state.specs.declared.verdict.Verdict.TheVariants.{VoteYes}
 use Rattle.co_state.specs.Table.{look}
 use Rattle.co_state.specs.VotingRule.{vote_of}

@@ -13,7 +13,7 @@ use Rattle.co_message.specs.declared.message.Message.{Message}
 use Rattle.co_message.specs.declared.message.Message.TheVariants as message
 use Rattle.co_record.specs.declared.record.Record.{Record}
 use Rattle.co_record.specs.declared.record.Record.TheVariants as log
-use Rattle.co_record.specs.Gate.{batch_is_stable, closes_spare}
+use Rattle.co_frame.specs.Gate.{batch_is_stable, closes_spare}
 use Rattle.co_state.specs.Table.{Table, look, put, without}
 use Rattle.co_plain.specs.declared.coord_state.CoordState.{CoordState}
 use Rattle.co_plain.specs.declared.coord_state.Entry.{Entry}

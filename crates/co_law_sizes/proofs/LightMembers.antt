@@ -7,7 +7,7 @@ use Rattle.co_base.specs.declared.head.Kind.{Kind}
 use Rattle.co_message.specs.declared.answer.Answer.{Answer}
 use Rattle.co_message.specs.declared.message.Message.{Message}
 use Rattle.co_record.specs.declared.record.Record.{Record}
-use Rattle.co_record.specs.Gate.{batch_is_stable}
+use Rattle.co_frame.specs.Gate.{batch_is_stable}
 use Rattle.co_state.specs.declared.engine_state.EngineState.{EngineState}
 use Rattle.co_state.specs.declared.engine_state.Vote.{Vote}
 use Rattle.co_state.specs.Table.{look}

@@ -4,7 +4,7 @@ use Rattle.std.specs.FinMap.{entries, keys}
 use Rattle.co_base.specs.declared.node.Node.TheVariants as node
 use Rattle.co_record.specs.declared.record.Record.{Record}
 use Rattle.co_record.specs.declared.record.Record.TheVariants as log
-use Rattle.co_record.specs.Gate.{batch_is_stable, closes_spare}
+use Rattle.co_frame.specs.Gate.{batch_is_stable, closes_spare}
 use Rattle.co_state.specs.declared.engine_state.Vote.{Vote}
 use Rattle.co_state.specs.Effects.{dumped_rows, dumped_undos}
 use Rattle.co_plain.specs.declared.member_state.MemberState.{MemberState}

@@ -12,7 +12,7 @@ use Rattle.co_record.specs.Spelling.{IsSpelled}
 use Rattle.co_log.specs.declared.stop.Stop.{Stop}
 use Rattle.co_log.specs.LogFile.{spelled, opened, next_gate, EndsAt, EndsAfter, OldOrBoth}
 use Rattle.co_log.specs.BatchWrite.{closed_batch, batch_pending, gate_pending, disk_at, disk_after}
-use Rattle.co_record.specs.Gate.{batch_is_stable}
+use Rattle.co_frame.specs.Gate.{batch_is_stable}
 use Rattle.co_log.specs.Stopping.{IsWriteStopped}
 use Rattle.co_log.proofs.Images.{batch_images, old_or_both, chosen_at, written_whole, some_bytes}
 use Rattle.co_log.proofs.Stops.{all_stable}

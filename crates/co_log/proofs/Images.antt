@@ -18,7 +18,7 @@ use Rattle.co_record.specs.Format.{newest}
 use Rattle.co_record.specs.Spelling.{spelling, IsSpelled}
 use Rattle.co_log.specs.LogFile.{spelled, EndsAt, EndsAfter, OldOrBoth, opened}
 use Rattle.co_log.specs.BatchWrite.{closed_batch, batch_pending, gate_pending, disk_at}
-use Rattle.co_record.specs.Gate.{opens_gate, batch_is_stable}
+use Rattle.co_frame.specs.Gate.{opens_gate, batch_is_stable}
 use Rattle.co_log.proofs.Files.{hidden, one_byte, gate_opens, gate_stays, gate_within}
 
 -- ---- the batch behind the gate

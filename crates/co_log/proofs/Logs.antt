@@ -8,7 +8,7 @@ use Rattle.co_log.specs.declared.append.Ending.TheVariants.{Whole, Stopped}
 use Rattle.co_log.specs.declared.stop.Stop.{Stop}
 use Rattle.co_log.specs.Appending.{IsEnding}
 use Rattle.co_record.specs.Format.{IsVersion, newest}
-use Rattle.co_record.specs.Gate.{batch_is_stable, begins_closed}
+use Rattle.co_frame.specs.Gate.{batch_is_stable, begins_closed}
 use Rattle.co_log.specs.Forcing.{IsWritten}
 use Rattle.co_log.specs.LogFile.{next_gate, next_items, EndsIn, EndsAfter}
 use Rattle.co_log.specs.Spare.{IsFilled, IsFilledIf, filling, turned}

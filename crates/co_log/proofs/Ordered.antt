@@ -17,7 +17,7 @@ use Rattle.co_record.specs.declared.record.Record.TheVariants.{Header}
 use Rattle.co_log.specs.declared.fault.LogFault.{LogFault}
 use Rattle.co_log.specs.declared.fault.LogFault.TheVariants.{Device, Stopped, Bad, Differs, Full, InUse, Memory}
 use Rattle.co_frame.specs.LogText.{IsLogText, gated}
-use Rattle.co_record.specs.Gate.{begins_closed, closes_spare}
+use Rattle.co_frame.specs.Gate.{begins_closed, closes_spare}
 use Rattle.co_log.specs.Attaching.{built, IsToldAs, IsOlder, IsAttached, IsCurrent}
 use Rattle.co_log.specs.Current.{BeginsWith, IsCurrentOf, IsOrdered, IsReady}
 use Rattle.co_log.specs.Forcing.{IsWritten, IsForced, IsDone, counts}

@@ -11,7 +11,7 @@ use Rattle.co_disk.proofs.Images.{chosen_is_image}
 use Rattle.co_frame.specs.LogText.{IsLogText, gated, open_gate}
 use Rattle.co_frame.proofs.Texts.{hides}
 use Rattle.co_record.specs.declared.record.Record.{Record}
-use Rattle.co_record.specs.Gate.{begins_closed, closes_spare}
+use Rattle.co_frame.specs.Gate.{begins_closed, closes_spare}
 use Rattle.co_log.specs.LogFile.{EndsAt, OldOrBoth, placed_from, spelled}
 use Rattle.co_log.specs.Spare.{IsSpareImage}
 use Rattle.co_log.specs.Fresh.{IsMaking}

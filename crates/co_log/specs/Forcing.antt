@@ -6,7 +6,7 @@ use Rattle.co_outside.specs.declared.spot.Spot.{Spot}
 use Rattle.co_record.specs.declared.record.Record.{Record}
 use Rattle.co_log.specs.declared.fault.LogFault.{LogFault}
 use Rattle.co_log.specs.declared.fault.LogFault.TheVariants.{Device, Stopped, Bad, Differs, Full, InUse, Memory}
-use Rattle.co_record.specs.Gate.{batch_is_stable}
+use Rattle.co_frame.specs.Gate.{batch_is_stable}
 use Rattle.co_log.specs.LogFile.{next_items}
 use Rattle.co_log.specs.LogView.{LogView, IsLive}
 use Rattle.co_log.specs.Marks.{marks_of}

@@ -8,7 +8,7 @@ use Rattle.co_record.specs.declared.record.Record.TheVariants.{Header}
 use Rattle.co_record.specs.Format.{newest}
 use Rattle.co_log.specs.declared.fault.LogFault.{LogFault}
 use Rattle.co_log.specs.declared.fault.LogFault.TheVariants as faults
-use Rattle.co_record.specs.Gate.{begins_closed}
+use Rattle.co_frame.specs.Gate.{begins_closed}
 use Rattle.co_log.specs.LogFile.{EndsAt}
 use Rattle.co_log.specs.LogView.{LogView, IsLive}
 

@@ -10,7 +10,7 @@ use Rattle.co_record.specs.Format.{newest}
 use Rattle.co_record.specs.Spelling.{IsWritable, AreInKeyOrder}
 use Rattle.co_log.specs.declared.fault.LogFault.{LogFault}
 use Rattle.co_log.specs.declared.fault.LogFault.TheVariants.{Device, Stopped, Bad, Differs, Full, InUse, Memory}
-use Rattle.co_record.specs.Gate.{begins_closed, closes_spare, batch_is_stable}
+use Rattle.co_frame.specs.Gate.{begins_closed, closes_spare, batch_is_stable}
 use Rattle.co_log.specs.Appending.{IsTooLong}
 use Rattle.co_log.specs.LogFile.{placed_from}
 use Rattle.co_log.specs.LogView.{LogView, IsLive}

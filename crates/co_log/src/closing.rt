@@ -17,7 +17,7 @@ use co_base::Marks;
 use co_disk::{Disk, DiskFault};
 use co_frame::CLOSED_GATE;
 use co_outside::Home;
-use co_record::begins_closed;
+use co_frame::begins_closed;
 
 /// Closes the first gate of a file without a batch, where it is not closed: two device calls, of which
 /// none is stopped.
@@ -51,7 +51,7 @@ pub(crate) fn close_unmade<H: Home>(disk: &mut Disk, home: &mut H) -> Result<(),
 }
 
 impl Log {
-    ghost use Rattle.co_record.specs.Gate.{begins_closed};
+    ghost use Rattle.co_frame.specs.Gate.{begins_closed};
     ghost use Rattle.co_log.specs.Current.{IsCurrentOf, IsOrdered};
     ghost use Rattle.co_log.specs.Forcing.{IsDone};
     ghost use Rattle.co_log.specs.LogView.{IsHeld};

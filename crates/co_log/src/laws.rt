@@ -24,7 +24,7 @@ ghost use Rattle.co_log.specs.Spare.{IsClosing, IsFilling, IsOfClosing, filling,
 ghost use Rattle.co_log.specs.LogView.{LogView, IsLive, IsHeld, HasSpots, spot_of};
 ghost use Rattle.co_log.specs.Others.{OtherFilesStay};
 ghost use Rattle.co_log.specs.BatchWrite.{closed_batch, batch_pending, gate_pending, disk_at, disk_after};
-ghost use Rattle.co_record.specs.Gate.{batch_is_stable, begins_closed};
+ghost use Rattle.co_frame.specs.Gate.{batch_is_stable, begins_closed};
 ghost use Rattle.co_log.specs.LogFile.{spelled, records_of, next_items, EndsIn, EndsAt, EndsAfter, OldOrBoth};
 ghost use Rattle.co_log.specs.Scanning.{IsLogFile, IsBadAt};
 

@@ -13,7 +13,8 @@ use crate::stop::Stop;
 use co_base::{Leaves, Marks, Node};
 use co_disk::Disk;
 use co_outside::{Home, Spot};
-use co_record::{LentPrepare, Record, Views, begins_closed};
+use co_frame::begins_closed;
+use co_record::{LentPrepare, Record, Views};
 use std::alloc::{AllocError, Global};
 use std::marker::Model;
 
@@ -51,7 +52,7 @@ impl Model for Log {
 impl Log {
     ghost use Rattle.co_disk.specs.Homes.{IsClean, RestStays, HasFailed};
     ghost use Rattle.co_log.specs.Appending.{IsTooLong};
-    ghost use Rattle.co_record.specs.Gate.{begins_closed};
+    ghost use Rattle.co_frame.specs.Gate.{begins_closed};
     ghost use Rattle.co_log.specs.Forcing.{IsForced, IsDone, IsOfForce};
     ghost use Rattle.co_log.specs.LogFile.{EndsAt, OldOrBoth};
     ghost use Rattle.co_log.specs.LogView.{IsLive, IsHeld, IsForcible, IsShort, MayWait, lengths_of};

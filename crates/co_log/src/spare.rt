@@ -18,7 +18,7 @@ use co_record::{NEWEST_VERSION, Record};
 
 impl Log {
     ghost use Rattle.co_disk.specs.Homes.{IsClean, RestStays, HasFailed};
-    ghost use Rattle.co_record.specs.Gate.{begins_closed};
+    ghost use Rattle.co_frame.specs.Gate.{begins_closed};
     ghost use Rattle.co_log.specs.Forcing.{IsDone, IsOfForce};
     ghost use Rattle.co_log.specs.LogFile.{EndsAt, OldOrBoth};
     ghost use Rattle.co_log.specs.LogView.{IsHeld, IsLive};

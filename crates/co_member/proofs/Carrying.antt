@@ -28,7 +28,7 @@ use Rattle.co_plain.specs.declared.member_step.MemberStep.{MemberStep as PlainSt
 use Rattle.co_plain.specs.declared.outcome.Outcome.{Outcome}
 use Rattle.co_plain.specs.declared.standing.Standing.TheVariants.{IsActive}
 use Rattle.co_undecided.proofs.Standing.{not_held}
-use Rattle.co_record.specs.Gate.{batch_is_stable}
+use Rattle.co_frame.specs.Gate.{batch_is_stable}
 use Rattle.co_record.specs.declared.record.Record.{Record}
 use Rattle.co_record.specs.declared.record.Record.TheVariants as log
 use Rattle.co_state.specs.Changes.{sets_of}

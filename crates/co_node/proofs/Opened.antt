@@ -11,7 +11,7 @@ use Rattle.co_outside.specs.Home.{File}
 use Rattle.co_outside.specs.declared.spot.Spot.{Spot}
 use Rattle.co_frame.specs.LogText.{most_log_bytes}
 use Rattle.co_record.specs.Format.{newest}
-use Rattle.co_record.specs.Gate.{begins_closed}
+use Rattle.co_frame.specs.Gate.{begins_closed}
 use Rattle.co_record.specs.declared.record.Record.{Record}
 use Rattle.co_log.specs.Attaching.{IsAttached, IsWithin}
 use Rattle.co_log.specs.Current.{BeginsWith}

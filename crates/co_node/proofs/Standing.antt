@@ -6,7 +6,7 @@ use Rattle.co_base.specs.declared.node.Node.{Node}
 use Rattle.co_disk.specs.DiskView.{DiskView}
 use Rattle.co_record.specs.declared.record.Record.{Record}
 use Rattle.co_record.specs.declared.record.Record.TheVariants.{Header}
-use Rattle.co_record.specs.Gate.{begins_closed}
+use Rattle.co_frame.specs.Gate.{begins_closed}
 use Rattle.co_record.specs.Spelling.{IsSpelledIn}
 use Rattle.co_record.specs.Stored.{HoldRecords}
 use Rattle.co_log.specs.Current.{BeginsWith}

@@ -2,7 +2,7 @@
 use Rattle.std.specs.Prelude.{◌≡◌, ◌≤◌, reverse, option_map, IfSome}
 use Rattle.co_base.specs.declared.node.Node.{Node}
 use Rattle.co_record.specs.Format.{newest}
-use Rattle.co_record.specs.Gate.{begins_closed}
+use Rattle.co_frame.specs.Gate.{begins_closed}
 use Rattle.co_log.specs.Current.{IsOrdered}
 use Rattle.co_log.specs.LogView.{LogView}
 use Rattle.co_log.specs.NodeFiles.{Items, newest_first}

@@ -5,7 +5,7 @@ use Rattle.co_base.specs.declared.mark.Mark.{Mark}
 use Rattle.co_base.specs.declared.node.Node.{Node}
 use Rattle.co_record.specs.declared.record.Record.{Record}
 use Rattle.co_record.specs.declared.record.Record.TheVariants as log
-use Rattle.co_record.specs.Gate.{batch_is_stable, closes_spare}
+use Rattle.co_frame.specs.Gate.{batch_is_stable, closes_spare}
 use Rattle.co_log.specs.LogView.{LogView}
 use Rattle.co_log.specs.declared.fault.NodeFault.{NodeFault}
 use Rattle.co_plain.specs.declared.log_state.LogState.{LogState}

@@ -6,7 +6,7 @@ ghost use Rattle.co_disk.specs.DiskView.{DiskView};
 ghost use Rattle.co_outside.specs.Home.{File};
 ghost use Rattle.co_outside.specs.declared.spot.Spot.{Spot};
 ghost use Rattle.co_record.specs.Format.{newest};
-ghost use Rattle.co_record.specs.Gate.{begins_closed};
+ghost use Rattle.co_frame.specs.Gate.{begins_closed};
 ghost use Rattle.co_log.specs.Attaching.{IsAttached};
 ghost use Rattle.co_log.specs.Fresh.{IsFresh, IsMade};
 ghost use Rattle.co_log.specs.LogView.{LogView, IsHeld};

@@ -13,7 +13,7 @@ use Rattle.co_frame.specs.LogText.{IsLogText}
 use Rattle.co_record.specs.declared.record.Record.{Record}
 use Rattle.co_record.specs.declared.record.Record.TheVariants.{Header}
 use Rattle.co_record.specs.Format.{IsVersion, newest}
-use Rattle.co_record.specs.Gate.{begins_closed}
+use Rattle.co_frame.specs.Gate.{begins_closed}
 use Rattle.co_record.specs.Spelling.{IsWritable, spelling}
 use Rattle.co_record.specs.Stored.{AreRecords, HoldRecords, HasRecords}
 use Rattle.co_log.specs.Attaching.{built, IsCurrent}

@@ -6,7 +6,7 @@ use Rattle.std.specs.Result.{IsErrAnd}
 use Rattle.co_base.specs.declared.head.Kind.{Kind}
 use Rattle.co_base.specs.declared.node.Node.{Node}
 use Rattle.co_record.specs.declared.record.Record.{Record}
-use Rattle.co_record.specs.Gate.{begins_closed}
+use Rattle.co_frame.specs.Gate.{begins_closed}
 use Rattle.co_log.specs.Fresh.{IsFresh, IsMade}
 use Rattle.co_log.specs.LogView.{LogView}
 use Rattle.co_node.specs.NodeLog.{RepresentsLog}

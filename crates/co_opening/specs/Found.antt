@@ -6,7 +6,7 @@ use Rattle.co_base.specs.declared.node.Node.{Node}
 use Rattle.co_base.specs.declared.node.Node.TheVariants as node
 use Rattle.co_outside.specs.declared.spot.Spot.{Spot}
 use Rattle.co_outside.specs.Home.{File}
-use Rattle.co_record.specs.Gate.{begins_closed}
+use Rattle.co_frame.specs.Gate.{begins_closed}
 use Rattle.co_record.specs.Spelling.{IsWritable}
 use Rattle.co_log.specs.NodeFiles.{Items, newest_first, IsCurrentIn}
 use Rattle.co_plain.specs.CoordView.{first_refused_at_coord}

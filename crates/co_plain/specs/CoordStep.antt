@@ -17,7 +17,7 @@ use Rattle.co_plain.specs.declared.log_state.LogState.{LogState}
 use Rattle.co_plain.specs.declared.outcome.Outcome.{Outcome}
 use Rattle.co_plain.specs.declared.outcome.Outcome.TheVariants.{Completes, StopsAt}
 use Rattle.co_plain.specs.LogWrite.{outcome_of, with_batch, crashed_log, marks_of}
-use Rattle.co_record.specs.Gate.{batch_is_stable}
+use Rattle.co_frame.specs.Gate.{batch_is_stable}
 use Rattle.co_plain.specs.declared.coord_view.CoordView.{CoordView}
 use Rattle.co_plain.specs.CoordView.{recovered_commits}
 

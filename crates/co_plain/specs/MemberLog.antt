@@ -13,7 +13,7 @@ use Rattle.co_plain.specs.declared.outcome.Outcome.{Outcome}
 use Rattle.co_plain.specs.declared.outcome.Outcome.TheVariants.{Completes, StopsAt}
 use Rattle.co_plain.specs.Numbers.{next_generation}
 use Rattle.co_plain.specs.LogWrite.{outcome_of, with_filled_spare, with_spare, with_stop, checkpoint_marks, generation_of}
-use Rattle.co_record.specs.Gate.{batch_is_stable, closes_spare}
+use Rattle.co_frame.specs.Gate.{batch_is_stable, closes_spare}
 use Rattle.co_plain.specs.declared.member_step.MemberStep.{MemberStep}
 use Rattle.co_plain.specs.MemberStep.{says, with_log, member_down}
 use Rattle.co_plain.specs.Member.{prepare_record}

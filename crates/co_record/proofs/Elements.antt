@@ -2,7 +2,7 @@
 use Rattle.std.proofs.Common.{◌≡◌, ℕ, zero, suc, List, [], ◌∷◌, ◌++◌, map, Result, Ok, Err, refl, ap, ◌∙◌, append_assoc}
 use Rattle.co_record.specs.declared.miss.Miss.{Miss}
 use Rattle.std.specs.declared.cmp.Ordering.{Ordering}
-use Rattle.co_record.specs.Lent.{Begins}
+use Rattle.co_base.specs.Lent.{Begins}
 use Rattle.co_record.specs.Reading.{◌>>=◌, Reader, as_at, counted_at, elements, items_end, items_at}
 
 one_more : {A B : Type 0} (f : A → B) (read : Reader A) (n : ℕ) (r : Result (A × List ℕ) Miss) → ((rest : List ℕ) → elements (as_at f read) n rest ≡ map f (elements read n rest))

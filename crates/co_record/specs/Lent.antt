@@ -45,7 +45,3 @@ pub record StandsAt (version : ℕ) (bytes : List ℕ) (item : Record) (count : 
   pub spelled : IsSpelledIn version item
   pub text : bytes ≡ spelling version item ++ drop count bytes
   pub length_is : count ≡ length (spelling version item)
-
--- the new bytes begin with the old ones
-abbrev pub Begins : List ℕ → List ℕ → Type 0
-Begins old new = (more : List ℕ) × (new ≡ old ++ more)

@@ -4,5 +4,4 @@ pub mod Reading
 pub mod Lent
 pub mod Slices
 pub mod Stored
-pub mod Gate
 pub mod Marks

@@ -5,7 +5,6 @@ mod element;
 mod fault;
 mod field;
 mod format;
-mod gate;
 mod laws;
 mod lent;
 mod list;
@@ -22,7 +21,6 @@ mod walk;
 
 pub use fault::RecordFault;
 pub use format::{NEWEST_VERSION, OLDEST_VERSION};
-pub use gate::{batch_is_stable, begins_closed, closes_spare};
 pub use laws::one_spelling;
 pub use lent::LentPrepare;
 pub use marks::mark_of;

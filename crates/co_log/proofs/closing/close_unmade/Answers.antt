@@ -2,7 +2,7 @@ use Rattle.std.proofs.Common.{rules, ◌≡◌, ◌∷◌, [], sym, ap, subst, �
 use Rattle.std.specs.Prelude.{Some}
 use Rattle.co_disk.specs.DiskModel.{after_write, after_sync, IsImage}
 use Rattle.co_disk.specs.DiskView.{DiskView}
-use Rattle.co_record.specs.Gate.{begins_closed}
+use Rattle.co_frame.specs.Gate.{begins_closed}
 use Rattle.co_log.proofs.Stops.{never_stopped}
 use Rattle.co_log.proofs.Unmade.{short_unmade, closed_disk, short_image, read_stable}
 use Rattle.co_log.proofs.closing.close_unmade.Goals as goal

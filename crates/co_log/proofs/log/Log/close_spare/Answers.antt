@@ -6,7 +6,7 @@ use Rattle.co_disk.specs.Stops.{armed_for}
 use Rattle.co_outside.specs.declared.spot.Spot.{Spot}
 use Rattle.co_log.specs.declared.fault.LogFault.TheVariants as faults
 use Rattle.co_log.specs.declared.stop.Stop.{Stop}
-use Rattle.co_record.specs.Gate.{begins_closed}
+use Rattle.co_frame.specs.Gate.{begins_closed}
 use Rattle.co_log.specs.LogView.{LogView}
 use Rattle.co_log.specs.Spare.{IsClosing, IsSpareImage}
 use Rattle.co_log.proofs.Unmade.{closed_by, spare_images, closed_spare, chosen_spare, read_stable}

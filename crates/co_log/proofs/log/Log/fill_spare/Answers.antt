@@ -8,7 +8,7 @@ use Rattle.co_log.specs.declared.append.Ending.{Ending}
 use Rattle.co_log.specs.declared.fault.LogFault.{LogFault}
 use Rattle.co_log.specs.declared.fault.LogFault.TheVariants as faults
 use Rattle.co_log.specs.Appending.{IsEnding}
-use Rattle.co_record.specs.Gate.{begins_closed}
+use Rattle.co_frame.specs.Gate.{begins_closed}
 use Rattle.co_log.specs.LogFile.{OldOrBoth}
 use Rattle.co_log.specs.LogView.{LogView, IsHeld, IsLive}
 use Rattle.co_log.specs.Current.{IsOrdered, IsCurrentIf, IsCurrentAfter}

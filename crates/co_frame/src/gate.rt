@@ -1,9 +1,9 @@
 //! What the image of a gate byte says.
 ghost use Rattle.std.specs.Prelude.{◌≡◌};
-ghost use Rattle.co_record.specs.Gate.{begins_open, begins_closed, opens_gate, closes_spare, batch_is_stable};
+ghost use Rattle.co_frame.specs.Gate.{begins_open, begins_closed, opens_gate, closes_spare, batch_is_stable};
 
 use co_base::Leaves;
-use co_frame::OPEN_GATE;
+use crate::batches::OPEN_GATE;
 
 /// Whether the bytes begin with an open gate.
 fn begins_open(bytes: &[u8]) -> bool
