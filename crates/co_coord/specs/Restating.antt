@@ -8,7 +8,8 @@ use Rattle.co_record.specs.Spelling.{IsWritable}
 use Rattle.co_log.specs.LogView.{LogView}
 use Rattle.co_log.specs.Spare.{IsOverfull}
 use Rattle.co_log.specs.declared.fault.NodeFault.{NodeFault}
-use Rattle.co_node.specs.Answers.{HomeView, IsAnswered}
+use Rattle.co_outside.specs.Home.{HomeView}
+use Rattle.co_node.specs.Answers.{IsAnswered}
 use Rattle.co_node.specs.Writes.{filled_with}
 use Rattle.co_node.specs.declared.written.Written.{Written}
 use Rattle.co_plain.specs.CoordLog.{commits_onto, coord_spare}

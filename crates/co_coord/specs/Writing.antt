@@ -6,7 +6,8 @@ use Rattle.co_record.specs.Spelling.{IsWritable}
 use Rattle.co_log.specs.Appending.{IsTooLong}
 use Rattle.co_log.specs.LogView.{LogView, IsForcible, MayWait}
 use Rattle.co_log.specs.declared.fault.NodeFault.{NodeFault}
-use Rattle.co_node.specs.Answers.{HomeView, IsAnswered}
+use Rattle.co_outside.specs.Home.{HomeView}
+use Rattle.co_node.specs.Answers.{IsAnswered}
 use Rattle.co_node.specs.NodeLog.{RepresentsLog}
 use Rattle.co_node.specs.Writes.{forcing, HasWritten}
 use Rattle.co_node.specs.declared.written.Written.{Written}

@@ -5,7 +5,6 @@ ghost use Rattle.co_base.specs.declared.node.Node.{Node};
 ghost use Rattle.co_base.specs.declared.node.Node.TheVariants as node;
 ghost use Rattle.co_log.specs.LogView.{IsHeld};
 ghost use Rattle.co_log.specs.Others.{OtherNodesStay};
-ghost use Rattle.co_node.specs.Answers.{seen};
 ghost use Rattle.co_plain.specs.CoordLog.{commits_onto, coord_close_by, coord_fill_by, coord_checkpoint};
 ghost use Rattle.co_plain.specs.LogWrite.{checkpoint_marks, generation_of, outcome_of};
 ghost use Rattle.co_plain.specs.Numbers.{next_generation};
@@ -57,12 +56,12 @@ impl Coord {
     /// Closes the spare file.
     fn close<H: Home>(&mut self, home: &mut H) -> Result<CoordStep, NodeFault>
         requires up { is_up self.old ≡ true }
-        requires held { IsHeld (H.file home.old) (H.reach home.old) self.old.log }
+        requires held { IsHeld (H.seen home.old) self.old.log }
         requires stands { (y : CoordState) × RepresentsCoord self.old y × (y.log.spare_closed ≡ false) }
         ensures did { (y : CoordState) → RepresentsCoord self.old y → IfOk result (λ d. HasDone (coord_close_by y (outcome_of y.log.armed 2)) d self.new) }
         ensures answered { (y : CoordState) → RepresentsCoord self.old y → IsCheckpointed false (node.Coord self.old.number) y self.old.log self.new.log
-            (seen H.file H.reach H.faults H.last_failed home.old) (seen H.file H.reach H.faults H.last_failed home.new) (written_by result) }
-        ensures rest { OtherNodesStay H.file H.reach H.entered H.faults self.old.log.node home.old home.new }
+            (H.seen home.old) (H.seen home.new) (written_by result) }
+        ensures rest { OtherNodesStay self.old.log.node (H.seen home.old) (H.seen home.new) }
         ensures same { IsSame self.old self.new }
     {
         match close(self.alloc, &mut self.log, home)? {
@@ -78,13 +77,13 @@ impl Coord {
     /// Fills the closed spare file with the commits of the table.
     fn fill<H: Home>(&mut self, home: &mut H) -> Result<CoordStep, NodeFault>
         requires up { is_up self.old ≡ true }
-        requires held { IsHeld (H.file home.old) (H.reach home.old) self.old.log }
+        requires held { IsHeld (H.seen home.old) self.old.log }
         requires stands { (y : CoordState) × RepresentsCoord self.old y × (y.log.spare_closed ≡ true) × MayRestate self.old.number y }
         ensures did { (y : CoordState) → RepresentsCoord self.old y →
             IfOk result (λ d. HasDone (coord_fill_by self.old.number y (next_generation (generation_of y.log.stable)) (outcome_of y.log.armed 4)) d self.new) }
         ensures answered { (y : CoordState) → RepresentsCoord self.old y → IsCheckpointed true (node.Coord self.old.number) y self.old.log self.new.log
-            (seen H.file H.reach H.faults H.last_failed home.old) (seen H.file H.reach H.faults H.last_failed home.new) (written_by result) }
-        ensures rest { OtherNodesStay H.file H.reach H.entered H.faults self.old.log.node home.old home.new }
+            (H.seen home.old) (H.seen home.new) (written_by result) }
+        ensures rest { OtherNodesStay self.old.log.node (H.seen home.old) (H.seen home.new) }
         ensures same { IsSame self.old self.new }
     {
         // What is read of either file is within its bounds, also where there is no memory.
@@ -107,12 +106,12 @@ impl Coord {
     /// changes nothing; `Device` where the directory failed, and only there; `Memory` leaves the old records.
     pub fn checkpoint<H: Home>(&mut self, home: &mut H) -> Result<CoordStep, NodeFault>
         requires up { is_up self.old ≡ true }
-        requires held { IsHeld (H.file home.old) (H.reach home.old) self.old.log }
+        requires held { IsHeld (H.seen home.old) self.old.log }
         requires stands { (y : CoordState) × RepresentsCoord self.old y × MayRestate self.old.number y }
         ensures did { (y : CoordState) → RepresentsCoord self.old y → IfOk result (λ d. HasDone (coord_checkpoint self.old.number y) d self.new) }
         ensures answered { (y : CoordState) → RepresentsCoord self.old y → IsCheckpointed y.log.spare_closed (node.Coord self.old.number) y self.old.log self.new.log
-            (seen H.file H.reach H.faults H.last_failed home.old) (seen H.file H.reach H.faults H.last_failed home.new) (written_by result) }
-        ensures rest { OtherNodesStay H.file H.reach H.entered H.faults self.old.log.node home.old home.new }
+            (H.seen home.old) (H.seen home.new) (written_by result) }
+        ensures rest { OtherNodesStay self.old.log.node (H.seen home.old) (H.seen home.new) }
         ensures same { IsSame self.old self.new }
     {
         if spare_closed(&self.log) {

@@ -5,7 +5,6 @@ ghost use Rattle.co_log.specs.LogView.{IsHeld, IsShort};
 ghost use Rattle.co_log.specs.Others.{OtherNodesStay};
 ghost use Rattle.co_log.specs.declared.fault.NodeFault.TheVariants.{Memory};
 ghost use Rattle.co_message.specs.declared.answer.Answer.TheVariants as answer;
-ghost use Rattle.co_node.specs.Answers.{seen};
 ghost use Rattle.co_plain.specs.declared.coord_state.CoordState.{CoordState};
 ghost use Rattle.co_plain.specs.declared.coord_state.Entry.{Entry};
 ghost use Rattle.co_state.specs.Table.{Table};
@@ -103,14 +102,14 @@ impl Coord {
     ) -> Result<CoordStep, NodeFault>
         requires up { is_up self.old ≡ true }
         requires short { IsShort self.old.log.current × IsShort self.old.log.spare }
-        requires held { IsHeld (H.file home.old) (H.reach home.old) self.old.log }
+        requires held { IsHeld (H.seen home.old) self.old.log }
         requires stands { (y : CoordState) × RepresentsCoord self.old y }
         requires writes { MayWrite plan.writes }
         ensures did { (y : CoordState) → RepresentsCoord self.old y → IfOk result (λ d. HasDone (carried_out self.old.number y txn plan) d self.new) }
         ensures answered { (y : CoordState) → RepresentsCoord self.old y →
             IsAnsweredFor plan.writes (node.Coord self.old.number) y.log self.old.log self.new.log
-            (seen H.file H.reach H.faults H.last_failed home.old) (seen H.file H.reach H.faults H.last_failed home.new) (written_by result) }
-        ensures rest { OtherNodesStay H.file H.reach H.entered H.faults self.old.log.node home.old home.new }
+            (H.seen home.old) (H.seen home.new) (written_by result) }
+        ensures rest { OtherNodesStay self.old.log.node (H.seen home.old) (H.seen home.new) }
         ensures same { IsSame self.old self.new }
     {
         let Plan {

@@ -3,7 +3,6 @@ ghost use Rattle.std.specs.Prelude.{◌≡◌, true, IfOk, IsOk};
 ghost use Rattle.co_base.specs.declared.node.Node.TheVariants as node;
 ghost use Rattle.co_log.specs.LogView.{IsHeld};
 ghost use Rattle.co_log.specs.Others.{OtherNodesStay};
-ghost use Rattle.co_node.specs.Answers.{seen};
 ghost use Rattle.co_plain.specs.CoordLog.{coord_crash};
 ghost use Rattle.co_plain.specs.Coordinator.{coord_commit, coord_deliver};
 ghost use Rattle.co_plain.specs.declared.coord_state.CoordState.{CoordState};
@@ -34,13 +33,13 @@ impl Coord {
         parts: &[Part],
     ) -> Result<CoordStep, NodeFault>
         requires up { is_up self.old ≡ true }
-        requires held { IsHeld (H.file home.old) (H.reach home.old) self.old.log }
+        requires held { IsHeld (H.seen home.old) self.old.log }
         requires stands { (y : CoordState) × RepresentsCoord self.old y }
         ensures did { (y : CoordState) → RepresentsCoord self.old y → IfOk result (λ d. HasDone (coord_commit self.old.number y t parts.now) d self.new) }
         ensures answered { (y : CoordState) → RepresentsCoord self.old y →
             IsAnsweredFor (commit_plan self.old.number t parts.now (look y.table t)).writes (node.Coord self.old.number) y.log self.old.log self.new.log
-            (seen H.file H.reach H.faults H.last_failed home.old) (seen H.file H.reach H.faults H.last_failed home.new) (written_by result) }
-        ensures rest { OtherNodesStay H.file H.reach H.entered H.faults self.old.log.node home.old home.new }
+            (H.seen home.old) (H.seen home.new) (written_by result) }
+        ensures rest { OtherNodesStay self.old.log.node (H.seen home.old) (H.seen home.new) }
         ensures same { IsSame self.old self.new }
     {
         // What is read of either file is within its bounds, also where there is no memory.
@@ -60,13 +59,13 @@ impl Coord {
         message: &Message,
     ) -> Result<CoordStep, NodeFault>
         requires up { is_up self.old ≡ true }
-        requires held { IsHeld (H.file home.old) (H.reach home.old) self.old.log }
+        requires held { IsHeld (H.seen home.old) self.old.log }
         requires stands { (y : CoordState) × RepresentsCoord self.old y × MayDecide y }
         ensures did { (y : CoordState) → RepresentsCoord self.old y → IfOk result (λ d. HasDone (coord_deliver self.old.number y message.now) d self.new) }
         ensures answered { (y : CoordState) → RepresentsCoord self.old y →
             IsAnsweredFor (deliver_plan self.old.number message.now (look y.table (txn_of message.now))).writes (node.Coord self.old.number) y.log self.old.log self.new.log
-            (seen H.file H.reach H.faults H.last_failed home.old) (seen H.file H.reach H.faults H.last_failed home.new) (written_by result) }
-        ensures rest { OtherNodesStay H.file H.reach H.entered H.faults self.old.log.node home.old home.new }
+            (H.seen home.old) (H.seen home.new) (written_by result) }
+        ensures rest { OtherNodesStay self.old.log.node (H.seen home.old) (H.seen home.new) }
         ensures same { IsSame self.old self.new }
     {
         // What is read of either file is within its bounds, also where there is no memory.
@@ -78,11 +77,11 @@ impl Coord {
     /// A crash between two log writes: what was in memory is lost, and the coordinator is down. It makes no call of the directory, takes no
     /// memory, and no fault comes.
     pub fn crash<H: Home>(&mut self, home: &mut H) -> Result<CoordStep, NodeFault>
-        requires held { IsHeld (H.file home.old) (H.reach home.old) self.old.log }
+        requires held { IsHeld (H.seen home.old) self.old.log }
         requires stands { (y : CoordState) × RepresentsCoord self.old y }
         ensures did { (y : CoordState) → RepresentsCoord self.old y → IfOk result (λ d. HasDone (coord_crash y) d self.new) }
         ensures done { IsOk result }
-        ensures held { IsHeld (H.file home.new) (H.reach home.new) self.new.log }
+        ensures held { IsHeld (H.seen home.new) self.new.log }
         ensures home { home.new ≡ home.old }
         ensures same { IsSame self.old self.new }
     {

@@ -94,14 +94,14 @@ impl Coord {
     /// Reads the log of a coordinator that is down again, and goes up with what it tells.
     fn go_up<H: Home>(&mut self, home: &mut H) -> Result<(), NodeFault>
         requires down { self.old.table ≡ None }
-        requires held { IsHeld (H.file home.old) (H.reach home.old) self.old.log }
+        requires held { IsHeld (H.seen home.old) self.old.log }
         requires stands { (y : CoordState) × RepresentsCoord self.old y × MayRestart self.old.members y }
         ensures table { (y : CoordState) → RepresentsCoord self.old y → OnOk result (self.new.table ≡ Some (told_table y.log)) }
         ensures log { self.new.log ≡ self.old.log }
-        ensures held { IsHeld (H.file home.new) (H.reach home.new) self.new.log }
-        ensures files { (H.file home.new self.old.log.current.spot ≡ H.file home.old self.old.log.current.spot) × (H.file home.new self.old.log.spare.spot ≡ H.file home.old self.old.log.spare.spot) }
-        ensures reread { IsReread H.gives H.file H.reach H.entered H.faults H.last_failed self.old.log home.old home.new result }
-        ensures rest { OtherNodesStay H.file H.reach H.entered H.faults self.old.log.node home.old home.new }
+        ensures held { IsHeld (H.seen home.new) self.new.log }
+        ensures files { ((H.seen home.new).file self.old.log.current.spot ≡ (H.seen home.old).file self.old.log.current.spot) × ((H.seen home.new).file self.old.log.spare.spot ≡ (H.seen home.old).file self.old.log.spare.spot) }
+        ensures reread { IsReread H.gives H.seen self.old.log home.old home.new result }
+        ensures rest { OtherNodesStay self.old.log.node (H.seen home.old) (H.seen home.new) }
         ensures same { IsSame self.old self.new }
     {
         reread(&mut self.log, home)?;
@@ -115,13 +115,13 @@ impl Coord {
     /// `Device` comes where the directory failed, and only there; `Differs` exactly where a file is not what is kept of it, with the first place
     /// that differs, and never over a directory that tells it; `Memory` where there was none.
     pub fn restart<H: Home>(&mut self, home: &mut H) -> Result<CoordStep, NodeFault>
-        requires held { IsHeld (H.file home.old) (H.reach home.old) self.old.log }
+        requires held { IsHeld (H.seen home.old) self.old.log }
         requires stands { (y : CoordState) × RepresentsCoord self.old y × MayRestart self.old.members y }
         ensures did { (y : CoordState) → RepresentsCoord self.old y → IfOk result (λ d. HasDone (coord_restart y) d self.new) }
-        ensures reread { IsRestarted (is_up self.old) H.gives H.file H.reach H.entered H.faults H.last_failed self.old.log home.old home.new result }
-        ensures held { IsHeld (H.file home.new) (H.reach home.new) self.new.log }
-        ensures files { (H.file home.new self.old.log.current.spot ≡ H.file home.old self.old.log.current.spot) × (H.file home.new self.old.log.spare.spot ≡ H.file home.old self.old.log.spare.spot) }
-        ensures rest { OtherNodesStay H.file H.reach H.entered H.faults self.old.log.node home.old home.new }
+        ensures reread { IsRestarted (is_up self.old) H.gives H.seen self.old.log home.old home.new result }
+        ensures held { IsHeld (H.seen home.new) self.new.log }
+        ensures files { ((H.seen home.new).file self.old.log.current.spot ≡ (H.seen home.old).file self.old.log.current.spot) × ((H.seen home.new).file self.old.log.spare.spot ≡ (H.seen home.old).file self.old.log.spare.spot) }
+        ensures rest { OtherNodesStay self.old.log.node (H.seen home.old) (H.seen home.new) }
         ensures same { IsSame self.old self.new }
     {
         let answer = if self.up() {

@@ -2,7 +2,6 @@
 ghost use Rattle.co_base.specs.declared.node.Node.{Node};
 ghost use Rattle.co_log.specs.LogView.{IsHeld, IsShort};
 ghost use Rattle.co_log.specs.Others.{OtherNodesStay};
-ghost use Rattle.co_node.specs.Answers.{seen};
 ghost use Rattle.co_node.specs.NodeLog.{RepresentsLog};
 ghost use Rattle.co_plain.specs.declared.log_state.LogState.{LogState};
 ghost use Rattle.co_coord.specs.Writing.{MayWrite, IsAnsweredFor, HasWrittenFor};
@@ -22,14 +21,14 @@ pub(crate) fn write<H: Home>(
     writes: Writes,
 ) -> Result<Written, NodeFault>
     requires short { IsShort log.old.current × IsShort log.old.spare }
-    requires held { IsHeld (H.file home.old) (H.reach home.old) log.old }
+    requires held { IsHeld (H.seen home.old) log.old }
     requires stands { (owner : Node) × (l : LogState) × RepresentsLog owner log.old l }
     requires may { MayWrite writes }
     ensures written { (owner : Node) (l : LogState) → RepresentsLog owner log.old l → HasWrittenFor writes owner l log.new result }
     ensures answered { (owner : Node) (l : LogState) → RepresentsLog owner log.old l →
         IsAnsweredFor writes owner l log.old log.new
-        (seen H.file H.reach H.faults H.last_failed home.old) (seen H.file H.reach H.faults H.last_failed home.new) result }
-    ensures rest { OtherNodesStay H.file H.reach H.entered H.faults log.old.node home.old home.new }
+        (H.seen home.old) (H.seen home.new) result }
+    ensures rest { OtherNodesStay log.old.node (H.seen home.old) (H.seen home.new) }
 {
     match writes {
         Writes::Nothing => Ok(Written::Done {

@@ -7,7 +7,7 @@ use Rattle.co_message.specs.declared.message.Message.{Message}
 use Rattle.co_message.specs.declared.message.Message.TheVariants as message
 use Rattle.co_outside.specs.declared.home_memory.HomeMemory.{HomeMemory}
 use Rattle.co_log.specs.LogView.{LogView, IsHeld}
-use Rattle.co_node.specs.Answers.{HomeView}
+use Rattle.co_outside.specs.Home.{HomeView}
 use Rattle.co_node.specs.declared.written.Written.TheVariants.{Done}
 use Rattle.co_record.specs.Format.{most_coordinators}
 use Rattle.co_plain.specs.Coordinator.{coord_deliver}

@@ -41,10 +41,10 @@ impl Model for Disk {
 }
 
 impl Disk {
-    ghost use Rattle.co_outside.specs.Home.{File};
+    ghost use Rattle.co_outside.specs.Home.{File, Agrees, IsClean, RestStays, HasFailed};
     ghost use Rattle.co_disk.specs.DiskModel.{read_of, stable_disk, after_write, after_sync, IsImage, IsSound};
     ghost use Rattle.co_disk.specs.Faults.{IsOfAttach, IsOfWrite, IsOfSync, IsOfReread};
-    ghost use Rattle.co_disk.specs.Homes.{Agrees, IsImageIn, IsClean, RestStays, HasFailed};
+    ghost use Rattle.co_disk.specs.Homes.{IsImageIn};
     ghost use Rattle.co_disk.specs.Laying.{BeginWithin, EndWithin};
     ghost use Rattle.co_disk.specs.Stops.{armed_for, stop_here, after_call, IsLeft, IsStopped};
 
@@ -55,13 +55,13 @@ impl Disk {
         ensures state { IfOk result (λ d. H.gives home.old spot 268435457 d.state.stable × (d.state ≡ stable_disk d.state.stable)) }
         ensures short { IfOk result (λ d. length d.state.stable ≤ 268435456) }
         ensures disarmed { IfOk result (λ d. d.armed ≡ None) }
-        ensures agrees { IfOk result (λ d. Agrees (H.file home.new spot) (H.reach home.new spot) d.state.stable) }
+        ensures agrees { IfOk result (λ d. Agrees (H.seen home.new) spot d.state.stable) }
         ensures faults { IfErr result (IsOfAttach (H.gives home.old spot 268435457)) }
-        ensures long { IsErrOf result DiskFault.Long → (f : File) → H.file home.old spot ≡ Some f → 268435456 < length f.bytes }
-        ensures file { H.file home.new spot ≡ H.file home.old spot }
-        ensures rest { RestStays H.file H.reach H.entered H.faults spot home.old home.new }
-        ensures device { IsErrOf result DiskFault.Device → HasFailed H.faults H.last_failed spot home.old home.new }
-        ensures quiet { (IsErrOf result DiskFault.Device → ⊥) → H.faults home.new ≡ H.faults home.old }
+        ensures long { IsErrOf result DiskFault.Long → (f : File) → (H.seen home.old).file spot ≡ Some f → 268435456 < length f.bytes }
+        ensures file { (H.seen home.new).file spot ≡ (H.seen home.old).file spot }
+        ensures rest { RestStays spot (H.seen home.old) (H.seen home.new) }
+        ensures device { IsErrOf result DiskFault.Device → HasFailed spot (H.seen home.old) (H.seen home.new) }
+        ensures quiet { (IsErrOf result DiskFault.Device → ⊥) → (H.seen home.new).faults ≡ (H.seen home.old).faults }
     {
         let bytes = home.read_all(alloc, spot, MOST_BYTES + 1)?;
         if bytes.len() > MOST_BYTES as usize {
@@ -102,7 +102,7 @@ impl Disk {
         at: u32,
         piece: &[u8],
     ) -> Result<(), DiskFault>
-        requires agrees { Agrees (H.file home.old self.old.spot) (H.reach home.old self.old.spot) (read_of self.old.state) }
+        requires agrees { Agrees (H.seen home.old) self.old.spot (read_of self.old.state) }
         requires at { at ≤ length (read_of self.old.state) }
         requires end { at + length piece.now ≤ 268435456 }
         ensures spot { self.new.spot ≡ self.old.spot }
@@ -110,15 +110,15 @@ impl Disk {
         ensures passed { OnOk result (stop_here self.old.armed ≡ None) }
         ensures counted { OnOk result (self.new.armed ≡ after_call self.old.armed) }
         ensures stopped { (call : ℕ) → IsErrOf result (DiskFault.Stopped call) → IsStopped self.old.armed call (after_write self.old.state at piece.now) self.new }
-        ensures left { (call : ℕ) → IsErrOf result (DiskFault.Stopped call) → Agrees (H.file home.new self.old.spot) (H.reach home.new self.old.spot) (read_of self.new.state) × IsClean (H.file home.new self.old.spot) }
+        ensures left { (call : ℕ) → IsErrOf result (DiskFault.Stopped call) → Agrees (H.seen home.new) self.old.spot (read_of self.new.state) × IsClean (H.seen home.new) self.old.spot }
         ensures faults { IfErr result IsOfWrite }
-        ensures agrees { OnOk result (Agrees (H.file home.new self.old.spot) (H.reach home.new self.old.spot) (read_of self.new.state)) }
-        ensures image { IsImageIn (after_write self.old.state at piece.now) (H.file home.new self.old.spot) }
+        ensures agrees { OnOk result (Agrees (H.seen home.new) self.old.spot (read_of self.new.state)) }
+        ensures image { IsImageIn (after_write self.old.state at piece.now) ((H.seen home.new).file self.old.spot) }
         ensures memory { length piece.now ≡ 1 → at < length (read_of self.old.state) → self.old.state.pending ≡ [] → IsErrOf result DiskFault.Memory → ⊥ }
         ensures short { length (read_of self.new.state) ≤ 268435456 }
-        ensures rest { RestStays H.file H.reach H.entered H.faults self.old.spot home.old home.new }
-        ensures device { IsErrOf result DiskFault.Device → HasFailed H.faults H.last_failed self.old.spot home.old home.new }
-        ensures quiet { (IsErrOf result DiskFault.Device → ⊥) → H.faults home.new ≡ H.faults home.old }
+        ensures rest { RestStays self.old.spot (H.seen home.old) (H.seen home.new) }
+        ensures device { IsErrOf result DiskFault.Device → HasFailed self.old.spot (H.seen home.old) (H.seen home.new) }
+        ensures quiet { (IsErrOf result DiskFault.Device → ⊥) → (H.seen home.new).faults ≡ (H.seen home.old).faults }
     {
         note(
             self.alloc,
@@ -140,21 +140,21 @@ impl Disk {
     /// this is the device call of an armed stop: all writes are pending still, and the image that was
     /// chosen is left. Never answers `Memory`.
     pub fn sync<H: Home>(&mut self, home: &mut H) -> Result<(), DiskFault>
-        requires agrees { Agrees (H.file home.old self.old.spot) (H.reach home.old self.old.spot) (read_of self.old.state) }
+        requires agrees { Agrees (H.seen home.old) self.old.spot (read_of self.old.state) }
         ensures spot { self.new.spot ≡ self.old.spot }
         ensures synced { OnOk result (self.new.state ≡ after_sync self.old.state) }
         ensures passed { OnOk result (stop_here self.old.armed ≡ None) }
         ensures counted { OnOk result (self.new.armed ≡ after_call self.old.armed) }
         ensures stopped { (call : ℕ) → IsErrOf result (DiskFault.Stopped call) → IsStopped self.old.armed call self.old.state self.new }
-        ensures left { (call : ℕ) → IsErrOf result (DiskFault.Stopped call) → Agrees (H.file home.new self.old.spot) (H.reach home.new self.old.spot) (read_of self.new.state) × IsClean (H.file home.new self.old.spot) }
+        ensures left { (call : ℕ) → IsErrOf result (DiskFault.Stopped call) → Agrees (H.seen home.new) self.old.spot (read_of self.new.state) × IsClean (H.seen home.new) self.old.spot }
         ensures faults { IfErr result IsOfSync }
-        ensures agrees { OnOk result (Agrees (H.file home.new self.old.spot) (H.reach home.new self.old.spot) (read_of self.new.state)) }
-        ensures clean { OnOk result (IsClean (H.file home.new self.old.spot)) }
-        ensures image { IsImageIn self.old.state (H.file home.new self.old.spot) }
+        ensures agrees { OnOk result (Agrees (H.seen home.new) self.old.spot (read_of self.new.state)) }
+        ensures clean { OnOk result (IsClean (H.seen home.new) self.old.spot) }
+        ensures image { IsImageIn self.old.state ((H.seen home.new).file self.old.spot) }
         ensures short { length (read_of self.new.state) ≤ 268435456 }
-        ensures rest { RestStays H.file H.reach H.entered H.faults self.old.spot home.old home.new }
-        ensures device { IsErrOf result DiskFault.Device → HasFailed H.faults H.last_failed self.old.spot home.old home.new }
-        ensures quiet { (IsErrOf result DiskFault.Device → ⊥) → H.faults home.new ≡ H.faults home.old }
+        ensures rest { RestStays self.old.spot (H.seen home.old) (H.seen home.new) }
+        ensures device { IsErrOf result DiskFault.Device → HasFailed self.old.spot (H.seen home.old) (H.seen home.new) }
+        ensures quiet { (IsErrOf result DiskFault.Device → ⊥) → (H.seen home.new).faults ≡ (H.seen home.old).faults }
     {
         if let Some(stop) = count(&mut self.armed) {
             self.leave(home, &stop.leaves)?;
@@ -189,18 +189,18 @@ impl Disk {
     /// A crash: replaces the bytes by the chosen image, here and in the home, and syncs the home. An
     /// armed stop is lost. `Device` comes only where the home failed, and no other fault does.
     pub fn power_cut<H: Home>(&mut self, home: &mut H, leaves: &Leaves) -> Result<(), DiskFault>
-        requires agrees { Agrees (H.file home.old self.old.spot) (H.reach home.old self.old.spot) (read_of self.old.state) }
+        requires agrees { Agrees (H.seen home.old) self.old.spot (read_of self.old.state) }
         ensures spot { self.new.spot ≡ self.old.spot }
         ensures left { IsLeft self.old.state leaves.now self.new.state }
         ensures disarmed { self.new.armed ≡ None }
-        ensures agrees { OnOk result (Agrees (H.file home.new self.old.spot) (H.reach home.new self.old.spot) (read_of self.new.state)) }
-        ensures clean { OnOk result (IsClean (H.file home.new self.old.spot)) }
-        ensures image { IsImageIn self.old.state (H.file home.new self.old.spot) }
+        ensures agrees { OnOk result (Agrees (H.seen home.new) self.old.spot (read_of self.new.state)) }
+        ensures clean { OnOk result (IsClean (H.seen home.new) self.old.spot) }
+        ensures image { IsImageIn self.old.state ((H.seen home.new).file self.old.spot) }
         ensures faults { IfErr result (λ e. e ≡ DiskFault.Device) }
         ensures short { length (read_of self.new.state) ≤ 268435456 }
-        ensures rest { RestStays H.file H.reach H.entered H.faults self.old.spot home.old home.new }
-        ensures device { IsErrOf result DiskFault.Device → HasFailed H.faults H.last_failed self.old.spot home.old home.new }
-        ensures quiet { (IsErrOf result DiskFault.Device → ⊥) → H.faults home.new ≡ H.faults home.old }
+        ensures rest { RestStays self.old.spot (H.seen home.old) (H.seen home.new) }
+        ensures device { IsErrOf result DiskFault.Device → HasFailed self.old.spot (H.seen home.old) (H.seen home.new) }
+        ensures quiet { (IsErrOf result DiskFault.Device → ⊥) → (H.seen home.new).faults ≡ (H.seen home.old).faults }
     {
         self.armed = None;
         self.leave(home, leaves)?;
@@ -211,15 +211,15 @@ impl Disk {
     /// with the first place and both bytes there; never over a home that tells the file. `Device` comes
     /// only where the home failed, `Memory` where there was none.
     pub fn reread<H: Home>(&mut self, home: &mut H) -> Result<(), DiskFault>
-        requires agrees { Agrees (H.file home.old self.old.spot) (H.reach home.old self.old.spot) (read_of self.old.state) }
+        requires agrees { Agrees (H.seen home.old) self.old.spot (read_of self.old.state) }
         ensures disk { self.new ≡ self.old }
         ensures same { OnOk result (H.gives home.old self.old.spot 268435457 (read_of self.old.state)) }
-        ensures file { H.file home.new self.old.spot ≡ H.file home.old self.old.spot }
-        ensures agrees { Agrees (H.file home.new self.old.spot) (H.reach home.new self.old.spot) (read_of self.old.state) }
-        ensures faults { IfErr result (IsOfReread (H.gives home.old self.old.spot 268435457) (read_of self.old.state) (H.file home.old self.old.spot)) }
-        ensures rest { RestStays H.file H.reach H.entered H.faults self.old.spot home.old home.new }
-        ensures device { IsErrOf result DiskFault.Device → HasFailed H.faults H.last_failed self.old.spot home.old home.new }
-        ensures quiet { (IsErrOf result DiskFault.Device → ⊥) → H.faults home.new ≡ H.faults home.old }
+        ensures file { (H.seen home.new).file self.old.spot ≡ (H.seen home.old).file self.old.spot }
+        ensures agrees { Agrees (H.seen home.new) self.old.spot (read_of self.old.state) }
+        ensures faults { IfErr result (IsOfReread (H.gives home.old self.old.spot 268435457) (read_of self.old.state) ((H.seen home.old).file self.old.spot)) }
+        ensures rest { RestStays self.old.spot (H.seen home.old) (H.seen home.new) }
+        ensures device { IsErrOf result DiskFault.Device → HasFailed self.old.spot (H.seen home.old) (H.seen home.new) }
+        ensures quiet { (IsErrOf result DiskFault.Device → ⊥) → (H.seen home.new).faults ≡ (H.seen home.old).faults }
     {
         let read = home.read_all(self.alloc, self.spot, MOST_BYTES + 1)?;
         match first_difference(&self.bytes, &read) {
@@ -235,20 +235,20 @@ impl Disk {
     /// Replaces the bytes by the chosen image, here and in the home, and syncs the home. Whatever
     /// the answer is, nothing is pending then.
     fn leave<H: Home>(&mut self, home: &mut H, leaves: &Leaves) -> Result<(), HomeFault>
-        requires reach { length self.old.state.stable ≤ H.reach home.old self.old.spot }
-        requires begins { BeginWithin (H.reach home.old self.old.spot) self.old.state.pending }
-        requires images { IsImageIn self.old.state (H.file home.old self.old.spot) }
+        requires reach { length self.old.state.stable ≤ (H.seen home.old).reach self.old.spot }
+        requires begins { BeginWithin ((H.seen home.old).reach self.old.spot) self.old.state.pending }
+        requires images { IsImageIn self.old.state ((H.seen home.old).file self.old.spot) }
         ensures spot { self.new.spot ≡ self.old.spot }
         ensures armed { self.new.armed ≡ self.old.armed }
         ensures left { IsLeft self.old.state leaves.now self.new.state }
-        ensures agrees { OnOk result (Agrees (H.file home.new self.old.spot) (H.reach home.new self.old.spot) (read_of self.new.state)) }
-        ensures clean { OnOk result (IsClean (H.file home.new self.old.spot)) }
-        ensures image { IsImageIn self.old.state (H.file home.new self.old.spot) }
-        ensures memory { EndWithin (H.reach home.old self.old.spot) self.old.state.pending → IsErrOf result HomeFault.Memory → ⊥ }
+        ensures agrees { OnOk result (Agrees (H.seen home.new) self.old.spot (read_of self.new.state)) }
+        ensures clean { OnOk result (IsClean (H.seen home.new) self.old.spot) }
+        ensures image { IsImageIn self.old.state ((H.seen home.new).file self.old.spot) }
+        ensures memory { EndWithin ((H.seen home.old).reach self.old.spot) self.old.state.pending → IsErrOf result HomeFault.Memory → ⊥ }
         ensures short { length (read_of self.new.state) ≤ 268435456 }
-        ensures rest { RestStays H.file H.reach H.entered H.faults self.old.spot home.old home.new }
-        ensures fault { IsErrOf result HomeFault.Failed → HasFailed H.faults H.last_failed self.old.spot home.old home.new }
-        ensures quiet { (IsErrOf result HomeFault.Failed → ⊥) → H.faults home.new ≡ H.faults home.old }
+        ensures rest { RestStays self.old.spot (H.seen home.old) (H.seen home.new) }
+        ensures fault { IsErrOf result HomeFault.Failed → HasFailed self.old.spot (H.seen home.old) (H.seen home.new) }
+        ensures quiet { (IsErrOf result HomeFault.Failed → ⊥) → (H.seen home.new).faults ≡ (H.seen home.old).faults }
     {
         choose(&mut self.bytes, &self.first, &self.touched, leaves);
         let laid = lay_image(

@@ -3,7 +3,7 @@ ghost use Rattle.std.specs.Prelude.{◌≡◌, IfOk, IfErr, IsErrOf, ◌≤◌, 
 ghost use Rattle.std.specs.List.{AllByRecursion};
 ghost use Rattle.co_base.specs.Nodes.{IsValidNode};
 ghost use Rattle.co_outside.specs.declared.spot.Spot.{Spot};
-ghost use Rattle.co_disk.specs.Homes.{HasFailed};
+ghost use Rattle.co_outside.specs.Home.{HasFailed};
 ghost use Rattle.co_log.specs.Attaching.{IsOfAttach};
 ghost use Rattle.co_log.specs.LogView.{spot_of};
 ghost use Rattle.co_durable.specs.Nodes.{member_nodes, coord_nodes};
@@ -20,11 +20,11 @@ use std::alloc::Global;
 /// Attaches the log of a node to be resumed. No file is changed.
 fn attach<H: Home>(alloc: Global, home: &mut H, node: Node) -> Result<Log, LogFault>
     requires { IsValidNode node }
-    ensures read { IfOk result (IsLogOf (H.file home.old) node) }
-    ensures refused { IfErr result (IsOfAttach node true (H.file home.old (spot_of node 0)) (H.file home.old (spot_of node 1))) }
-    ensures reads { OnlyReads H.file H.entered H.faults home.old home.new }
-    ensures device { (spot : Spot) → IsErrOf result (LogFault.Device spot) → HasFailed H.faults H.last_failed spot home.old home.new }
-    ensures quiet { ((spot : Spot) → IsErrOf result (LogFault.Device spot) → ⊥) → H.faults home.new ≡ H.faults home.old }
+    ensures read { IfOk result (IsLogOf (H.seen home.old).file node) }
+    ensures refused { IfErr result (IsOfAttach node true ((H.seen home.old).file (spot_of node 0)) ((H.seen home.old).file (spot_of node 1))) }
+    ensures reads { OnlyReads (H.seen home.old) (H.seen home.new) }
+    ensures device { (spot : Spot) → IsErrOf result (LogFault.Device spot) → HasFailed spot (H.seen home.old) (H.seen home.new) }
+    ensures quiet { ((spot : Spot) → IsErrOf result (LogFault.Device spot) → ⊥) → (H.seen home.new).faults ≡ (H.seen home.old).faults }
 {
     Log::attach(alloc, home, node, true)
 }
@@ -32,11 +32,11 @@ fn attach<H: Home>(alloc: Global, home: &mut H, node: Node) -> Result<Log, LogFa
 /// The log of a node, as its files are now.
 fn read_log<H: Home>(alloc: Global, home: &mut H, node: Node) -> Result<Log, WorldFault>
     requires { IsValidNode node }
-    ensures read { IfOk result (IsLogOf (H.file home.old) node) }
-    ensures unread { IfErr result (λ fault. IsUnread (H.file home.old) fault node) }
-    ensures reads { OnlyReads H.file H.entered H.faults home.old home.new }
-    ensures device { (spot : Spot) → IsErrOf result (WorldFault.Device spot) → HasFailed H.faults H.last_failed spot home.old home.new }
-    ensures quiet { ((spot : Spot) → IsErrOf result (WorldFault.Device spot) → ⊥) → H.faults home.new ≡ H.faults home.old }
+    ensures read { IfOk result (IsLogOf (H.seen home.old).file node) }
+    ensures unread { IfErr result (λ fault. IsUnread (H.seen home.old).file fault node) }
+    ensures reads { OnlyReads (H.seen home.old) (H.seen home.new) }
+    ensures device { (spot : Spot) → IsErrOf result (WorldFault.Device spot) → HasFailed spot (H.seen home.old) (H.seen home.new) }
+    ensures quiet { ((spot : Spot) → IsErrOf result (WorldFault.Device spot) → ⊥) → (H.seen home.new).faults ≡ (H.seen home.old).faults }
 {
     match attach(alloc, home, node) {
         Ok(log) => Ok(log),
@@ -53,11 +53,11 @@ fn read_log<H: Home>(alloc: Global, home: &mut H, node: Node) -> Result<Log, Wor
 /// The logs of these nodes, in their order. The first node whose files are no log ends the reading.
 fn read_logs<H: Home>(alloc: Global, home: &mut H, nodes: &[Node]) -> Result<Vec<Log>, WorldFault>
     requires { AllByRecursion IsValidNode nodes.now }
-    ensures read { IfOk result (λ logs. EachPair (IsLogOf (H.file home.old)) nodes.now logs.items) }
-    ensures unread { IfErr result (IsFirstUnread (H.file home.old) nodes.now) }
-    ensures reads { OnlyReads H.file H.entered H.faults home.old home.new }
-    ensures device { (spot : Spot) → IsErrOf result (WorldFault.Device spot) → HasFailed H.faults H.last_failed spot home.old home.new }
-    ensures quiet { ((spot : Spot) → IsErrOf result (WorldFault.Device spot) → ⊥) → H.faults home.new ≡ H.faults home.old }
+    ensures read { IfOk result (λ logs. EachPair (IsLogOf (H.seen home.old).file) nodes.now logs.items) }
+    ensures unread { IfErr result (IsFirstUnread (H.seen home.old).file nodes.now) }
+    ensures reads { OnlyReads (H.seen home.old) (H.seen home.new) }
+    ensures device { (spot : Spot) → IsErrOf result (WorldFault.Device spot) → HasFailed spot (H.seen home.old) (H.seen home.new) }
+    ensures quiet { ((spot : Spot) → IsErrOf result (WorldFault.Device spot) → ⊥) → (H.seen home.new).faults ≡ (H.seen home.old).faults }
 {
     let mut logs = Vec::new(alloc);
     for node in nodes {
@@ -73,11 +73,11 @@ pub(crate) fn read_members<H: Home>(
     count: u8,
 ) -> Result<Vec<Log>, WorldFault>
     requires { count ≤ 16 }
-    ensures read { IfOk result (λ logs. EachPair (IsLogOf (H.file home.old)) (member_nodes count) logs.items) }
-    ensures unread { IfErr result (IsFirstUnread (H.file home.old) (member_nodes count)) }
-    ensures reads { OnlyReads H.file H.entered H.faults home.old home.new }
-    ensures device { (spot : Spot) → IsErrOf result (WorldFault.Device spot) → HasFailed H.faults H.last_failed spot home.old home.new }
-    ensures quiet { ((spot : Spot) → IsErrOf result (WorldFault.Device spot) → ⊥) → H.faults home.new ≡ H.faults home.old }
+    ensures read { IfOk result (λ logs. EachPair (IsLogOf (H.seen home.old).file) (member_nodes count) logs.items) }
+    ensures unread { IfErr result (IsFirstUnread (H.seen home.old).file (member_nodes count)) }
+    ensures reads { OnlyReads (H.seen home.old) (H.seen home.new) }
+    ensures device { (spot : Spot) → IsErrOf result (WorldFault.Device spot) → HasFailed spot (H.seen home.old) (H.seen home.new) }
+    ensures quiet { ((spot : Spot) → IsErrOf result (WorldFault.Device spot) → ⊥) → (H.seen home.new).faults ≡ (H.seen home.old).faults }
 {
     let nodes = member_nodes(alloc, count)?;
     read_logs(alloc, home, nodes.as_slice())
@@ -90,11 +90,11 @@ pub(crate) fn read_coords<H: Home>(
     count: u8,
 ) -> Result<Vec<Log>, WorldFault>
     requires { count ≤ 8 }
-    ensures read { IfOk result (λ logs. EachPair (IsLogOf (H.file home.old)) (coord_nodes count) logs.items) }
-    ensures unread { IfErr result (IsFirstUnread (H.file home.old) (coord_nodes count)) }
-    ensures reads { OnlyReads H.file H.entered H.faults home.old home.new }
-    ensures device { (spot : Spot) → IsErrOf result (WorldFault.Device spot) → HasFailed H.faults H.last_failed spot home.old home.new }
-    ensures quiet { ((spot : Spot) → IsErrOf result (WorldFault.Device spot) → ⊥) → H.faults home.new ≡ H.faults home.old }
+    ensures read { IfOk result (λ logs. EachPair (IsLogOf (H.seen home.old).file) (coord_nodes count) logs.items) }
+    ensures unread { IfErr result (IsFirstUnread (H.seen home.old).file (coord_nodes count)) }
+    ensures reads { OnlyReads (H.seen home.old) (H.seen home.new) }
+    ensures device { (spot : Spot) → IsErrOf result (WorldFault.Device spot) → HasFailed spot (H.seen home.old) (H.seen home.new) }
+    ensures quiet { ((spot : Spot) → IsErrOf result (WorldFault.Device spot) → ⊥) → (H.seen home.new).faults ≡ (H.seen home.old).faults }
 {
     let nodes = coord_nodes(alloc, count)?;
     read_logs(alloc, home, nodes.as_slice())

@@ -1,7 +1,7 @@
 //! The durable records of a directory of logs.
 ghost use Rattle.std.specs.Prelude.{◌≡◌, ◌≤◌, IfOk, IfErr, IsErrOf, length};
 ghost use Rattle.co_outside.specs.declared.spot.Spot.{Spot};
-ghost use Rattle.co_disk.specs.Homes.{HasFailed};
+ghost use Rattle.co_outside.specs.Home.{HasFailed};
 ghost use Rattle.co_durable.specs.Durable.{IsDurable, IsUndurable};
 ghost use Rattle.co_durable.specs.Reading.{OnlyReads};
 
@@ -23,11 +23,11 @@ pub(crate) fn read_rows<H: Home>(
 ) -> Result<Durable, WorldFault>
     requires members { members ≤ 16 }
     requires coords { coords ≤ 8 }
-    ensures durable { IfOk result (IsDurable (H.file home.old) members coords) }
-    ensures undurable { IfErr result (IsUndurable (H.file home.old) members coords) }
-    ensures reads { OnlyReads H.file H.entered H.faults home.old home.new }
-    ensures device { (spot : Spot) → IsErrOf result (WorldFault.Device spot) → HasFailed H.faults H.last_failed spot home.old home.new }
-    ensures quiet { ((spot : Spot) → IsErrOf result (WorldFault.Device spot) → ⊥) → H.faults home.new ≡ H.faults home.old }
+    ensures durable { IfOk result (IsDurable (H.seen home.old).file members coords) }
+    ensures undurable { IfErr result (IsUndurable (H.seen home.old).file members coords) }
+    ensures reads { OnlyReads (H.seen home.old) (H.seen home.new) }
+    ensures device { (spot : Spot) → IsErrOf result (WorldFault.Device spot) → HasFailed spot (H.seen home.old) (H.seen home.new) }
+    ensures quiet { ((spot : Spot) → IsErrOf result (WorldFault.Device spot) → ⊥) → (H.seen home.new).faults ≡ (H.seen home.old).faults }
 {
     let member_logs = read_members(alloc, home, members)?;
     let coord_logs = read_coords(alloc, home, coords)?;
@@ -49,11 +49,11 @@ pub fn read_durable<H: Home>(
     home: &mut H,
     head: &Head,
 ) -> Result<Durable, WorldFault>
-    ensures durable { IfOk result (IsDurable (H.file home.old) (length head.now.kinds) head.now.coords) }
-    ensures undurable { IfErr result (IsUndurable (H.file home.old) (length head.now.kinds) head.now.coords) }
-    ensures reads { OnlyReads H.file H.entered H.faults home.old home.new }
-    ensures device { (spot : Spot) → IsErrOf result (WorldFault.Device spot) → HasFailed H.faults H.last_failed spot home.old home.new }
-    ensures quiet { ((spot : Spot) → IsErrOf result (WorldFault.Device spot) → ⊥) → H.faults home.new ≡ H.faults home.old }
+    ensures durable { IfOk result (IsDurable (H.seen home.old).file (length head.now.kinds) head.now.coords) }
+    ensures undurable { IfErr result (IsUndurable (H.seen home.old).file (length head.now.kinds) head.now.coords) }
+    ensures reads { OnlyReads (H.seen home.old) (H.seen home.new) }
+    ensures device { (spot : Spot) → IsErrOf result (WorldFault.Device spot) → HasFailed spot (H.seen home.old) (H.seen home.new) }
+    ensures quiet { ((spot : Spot) → IsErrOf result (WorldFault.Device spot) → ⊥) → (H.seen home.new).faults ≡ (H.seen home.old).faults }
 {
     let members = head.kinds.len() as u8;
     read_rows(alloc, home, members, head.coords)

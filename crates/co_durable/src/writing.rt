@@ -1,7 +1,7 @@
 //! The text of the durable records of a whole directory, written to a sink.
 ghost use Rattle.std.specs.Prelude.{◌≡◌, ◌≤◌, ◌++◌, ◌⊎◌, ℕ, List, Some, take, OnOk, OnErr, IfOk, IfErr, IsErrOf};
 ghost use Rattle.co_outside.specs.declared.spot.Spot.{Spot};
-ghost use Rattle.co_disk.specs.Homes.{HasFailed};
+ghost use Rattle.co_outside.specs.Home.{HasFailed};
 ghost use Rattle.co_outside.specs.Faults.{HasRisen};
 ghost use Rattle.co_durable.specs.declared.durable.DurableRow.{DurableRow};
 ghost use Rattle.co_durable.specs.Durable.{IsDurable, IsUndurable};
@@ -69,13 +69,13 @@ fn refusal(fault: WorldFault) -> RecordsFault
 
 /// The durable records of all logs in a directory.
 fn read_directory<H: Home>(alloc: Global, home: &mut H, dir: &str) -> Result<Durable, RecordsFault>
-    ensures durable { IfOk result (IsDurable (H.file home.old) 16 8) }
-    ensures refused { IfErr result (IsRefusal (H.file home.old)) }
+    ensures durable { IfOk result (IsDurable (H.seen home.old).file 16 8) }
+    ensures refused { IfErr result (IsRefusal (H.seen home.old).file) }
     ensures write { IsErrOf result RecordsFault.Write → ⊥ }
-    ensures files { (s : Spot) → H.file home.new s ≡ H.file home.old s }
-    ensures entered { OnOk result (H.entered home.new ≡ Some dir.now) }
-    ensures device { (spot : Spot) → IsErrOf result (RecordsFault.Device spot) → HasFailed H.faults H.last_failed spot home.old home.new }
-    ensures quiet { ((spot : Spot) → IsErrOf result (RecordsFault.Device spot) → ⊥) → H.faults home.new ≡ H.faults home.old }
+    ensures files { (s : Spot) → (H.seen home.new).file s ≡ (H.seen home.old).file s }
+    ensures entered { OnOk result ((H.seen home.new).entered ≡ Some dir.now) }
+    ensures device { (spot : Spot) → IsErrOf result (RecordsFault.Device spot) → HasFailed spot (H.seen home.old) (H.seen home.new) }
+    ensures quiet { ((spot : Spot) → IsErrOf result (RecordsFault.Device spot) → ⊥) → (H.seen home.new).faults ≡ (H.seen home.old).faults }
 {
     match home.enter(alloc, dir) {
         Ok(()) => match read_rows(alloc, home, MEMBERS, COORDS) {
@@ -100,15 +100,15 @@ pub fn write_records<H: Home, K: Sink>(
     dir: &str,
     out: &mut K,
 ) -> Result<(), RecordsFault>
-    ensures read { OnOk result (HasDurable (H.file home.old)) }
+    ensures read { OnOk result (HasDurable (H.seen home.old).file) }
     ensures written { (held : List ℕ) → K.told out.old ≡ Some held →
-        OnOk result ((rows : List DurableRow) × IsDurable (H.file home.old) 16 8 rows × (K.told out.new ≡ Some (held ++ records_text rows))) }
-    ensures front { (held : List ℕ) → K.told out.old ≡ Some held → IfErr result (IsFront (H.file home.old) held (K.told out.new)) }
-    ensures refused { IfErr result (IsRefusal (H.file home.old)) }
-    ensures files { (s : Spot) → H.file home.new s ≡ H.file home.old s }
-    ensures entered { OnOk result (H.entered home.new ≡ Some dir.now) }
-    ensures device { (spot : Spot) → IsErrOf result (RecordsFault.Device spot) → HasFailed H.faults H.last_failed spot home.old home.new }
-    ensures quiet { ((spot : Spot) → IsErrOf result (RecordsFault.Device spot) → ⊥) → H.faults home.new ≡ H.faults home.old }
+        OnOk result ((rows : List DurableRow) × IsDurable (H.seen home.old).file 16 8 rows × (K.told out.new ≡ Some (held ++ records_text rows))) }
+    ensures front { (held : List ℕ) → K.told out.old ≡ Some held → IfErr result (IsFront (H.seen home.old).file held (K.told out.new)) }
+    ensures refused { IfErr result (IsRefusal (H.seen home.old).file) }
+    ensures files { (s : Spot) → (H.seen home.new).file s ≡ (H.seen home.old).file s }
+    ensures entered { OnOk result ((H.seen home.new).entered ≡ Some dir.now) }
+    ensures device { (spot : Spot) → IsErrOf result (RecordsFault.Device spot) → HasFailed spot (H.seen home.old) (H.seen home.new) }
+    ensures quiet { ((spot : Spot) → IsErrOf result (RecordsFault.Device spot) → ⊥) → (H.seen home.new).faults ≡ (H.seen home.old).faults }
     ensures counts { K.faults out.old ≤ K.faults out.new }
     ensures write { IsErrOf result RecordsFault.Write → HasRisen (K.faults out.old) (K.faults out.new) }
     ensures silent { (IsErrOf result RecordsFault.Write → ⊥) → K.faults out.new ≡ K.faults out.old }

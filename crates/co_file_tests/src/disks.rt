@@ -2,7 +2,7 @@
 ghost use Rattle.std.specs.Prelude.{◌≡◌, OnOk, IfOk, length};
 ghost use Rattle.co_outside.specs.HomeMemory.{memory_file, memory_bytes};
 ghost use Rattle.co_disk.specs.DiskModel.{read_of};
-ghost use Rattle.co_disk.specs.Homes.{Agrees};
+ghost use Rattle.co_outside.specs.Home.{Agrees};
 
 use crate::words::{M1_A, put};
 use co_base::{Bytes, Leaves};

@@ -2,7 +2,7 @@
 ghost use Rattle.std.specs.Prelude.{OnOk, length};
 ghost use Rattle.co_outside.specs.HomeMemory.{memory_file, memory_bytes};
 ghost use Rattle.co_disk.specs.DiskModel.{read_of};
-ghost use Rattle.co_disk.specs.Homes.{Agrees};
+ghost use Rattle.co_outside.specs.Home.{Agrees};
 
 use crate::disks::{Choice, Piece, attached, holds, leaves_of, write};
 use crate::words::{M1_A, no_files, put};

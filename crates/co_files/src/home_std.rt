@@ -23,6 +23,7 @@ pub struct HomeStd {
 impl HomeStd {
     ghost use Rattle.co_outside.specs.Faults.{HasRisen};
     ghost use Rattle.co_outside.specs.Home.{IsCounted};
+    ghost use Rattle.co_files.specs.Seen.{std_seen};
 
     /// No directory is entered yet, and no call has failed. Takes no memory.
     pub fn new(rt: HostRuntime) -> HomeStd
@@ -54,7 +55,7 @@ impl HomeStd {
     /// The answer of a call that may want memory.
     fn answer<T: Drop>(&mut self, spot: Spot, done: io::Result<T>) -> Result<T, HomeFault>
         ensures value { IfOk result (λ v. done ≡ Ok v) }
-        ensures counted { IsCounted (λ h. h.faults) (λ h. h.last_failed) spot self.old self.new result }
+        ensures counted { IsCounted spot (std_seen self.old) (std_seen self.new) result }
         ensures folder { self.new.folder ≡ self.old.folder }
     {
         match done {
@@ -66,7 +67,7 @@ impl HomeStd {
 
     /// The answer of a call that wants no memory.
     fn answer_without_memory(&mut self, spot: Spot, done: io::Result<()>) -> Result<(), HomeFault>
-        ensures counted { IsCounted (λ h. h.faults) (λ h. h.last_failed) spot self.old self.new result }
+        ensures counted { IsCounted spot (std_seen self.old) (std_seen self.new) result }
         ensures memory { IsErrOf result HomeFault.Memory → ⊥ }
         ensures folder { self.new.folder ≡ self.old.folder }
     {
@@ -79,20 +80,11 @@ impl HomeStd {
 
 impl Home for HomeStd {
     ghost use Rattle.co_outside.specs.Untold.{none_is_no_file};
+    ghost use Rattle.co_files.specs.Seen.{std_seen};
 
-    ghost file = { λ _ _. None };
-
-    ghost reach = { λ _ _. 2 ^ 65 };
+    ghost seen = { std_seen };
 
     ghost gives = { λ _ _ _ _. Unit {0} };
-
-    ghost entered = { λ h. option_map (λ f. string_bytes f.name) h.folder };
-
-    ghost last_failed = { λ h. h.last_failed };
-
-    ghost faults = { λ h. h.faults };
-
-    ghost due = { λ _. None };
 
     ghost told_gives = { λ h s most bytes f told gives. absurd (none_is_no_file f told) };
 

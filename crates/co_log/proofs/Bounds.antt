@@ -1,11 +1,10 @@
 -- Files of a log are within the most bytes of a file.
 use Rattle.std.proofs.Common.{◌≡◌, ◌⊎◌, ℕ, ◌+◌, ◌<◌, ◌≤◌, List, [], ◌∷◌, length, ap, sym, ◌∙◌, arith, inl, inr}
 use Rattle.std.specs.Prelude.{Option, Some}
-use Rattle.co_outside.specs.Home.{File}
+use Rattle.co_outside.specs.Home.{File, Agrees, RestStays}
 use Rattle.co_outside.specs.declared.spot.Spot.{Spot}
 use Rattle.co_disk.specs.DiskModel.{IsImage, read_of}
 use Rattle.co_disk.specs.DiskView.{DiskView}
-use Rattle.co_disk.specs.Homes.{Agrees, RestStays}
 use Rattle.co_disk.proofs.Gets.{length_overlaid}
 use Rattle.co_log.specs.Attaching.{IsWithin}
 use Rattle.co_log.specs.BatchWrite.{batch_pending, gate_pending}

@@ -4,11 +4,10 @@ use Rattle.std.specs.Prelude.{List, Option}
 use Rattle.co_base.specs.Nodes.{IsValidNode, node_byte}
 use Rattle.co_base.specs.declared.node.Node.{Node}
 use Rattle.co_base.specs.declared.node.Node.TheVariants.{Member, Coord}
-use Rattle.co_outside.specs.Home.{File}
+use Rattle.co_outside.specs.Home.{File, Agrees, RestStays}
 use Rattle.co_outside.specs.declared.spot.Spot.{Spot}
 use Rattle.co_disk.specs.DiskModel.{read_of}
 use Rattle.co_disk.specs.DiskView.{DiskView}
-use Rattle.co_disk.specs.Homes.{Agrees, RestStays}
 use Rattle.co_log.specs.Attaching.{built, IsAttached}
 use Rattle.co_log.specs.LogView.{LogView, IsHeld, HasSpots, spot_of}
 use Rattle.co_log.specs.Others.{OtherFilesStay, OtherNodesStay}

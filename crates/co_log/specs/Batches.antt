@@ -2,9 +2,8 @@
 use Rattle.std.specs.Prelude.{ℕ, ◌≡◌, ◌+◌, ◌≤◌, ◌<◌, ◌⊎◌, List, ◌++◌, length, Option, Some, Result, Ok, Err, IfErr, IsErrOf}
 use Rattle.std.specs.List.{AllByRecursion}
 use Rattle.co_base.specs.declared.mark.Mark.{Mark}
-use Rattle.co_outside.specs.Home.{File}
+use Rattle.co_outside.specs.Home.{File, IsClean, RestStays, HasFailed}
 use Rattle.co_outside.specs.declared.spot.Spot.{Spot}
-use Rattle.co_disk.specs.Homes.{IsClean, RestStays, HasFailed}
 use Rattle.co_record.specs.declared.record.Record.{Record}
 use Rattle.co_record.specs.Spelling.{IsSpelled}
 use Rattle.co_log.specs.declared.batch.SpelledBatch.{SpelledBatch}

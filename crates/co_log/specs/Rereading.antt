@@ -1,10 +1,9 @@
 -- Why a file was not read again.
 use Rattle.std.specs.Prelude.{ℕ, ◌≡◌, ◌⊎◌, List, Option}
-use Rattle.co_outside.specs.Home.{File}
+use Rattle.co_outside.specs.Home.{File, RestStays}
 use Rattle.co_outside.specs.declared.spot.Spot.{Spot}
 use Rattle.co_disk.specs.DiskModel.{read_of}
 use Rattle.co_disk.specs.Faults.{IsNamed}
-use Rattle.co_disk.specs.Homes.{RestStays}
 use Rattle.co_disk.specs.DiskView.{DiskView}
 use Rattle.co_log.specs.LogView.{LogView}
 use Rattle.co_log.specs.declared.fault.LogFault.{LogFault}

@@ -1,9 +1,8 @@
 //! Records as they are appended to a file: in one batch, in one log write.
 ghost use Rattle.std.specs.Prelude.{◌≡◌, ◌⊎◌, ◌≤◌, ◌<◌, ◌+◌, ◌++◌, ◌∷◌, [], ℕ, List, length, OnOk, OnErr, IfOk, IfErr, IfSome, IsErrOf, Some, None, slice_get, if◌then◌else◌};
 ghost use Rattle.std.specs.List.{AllByRecursion};
-ghost use Rattle.co_outside.specs.Home.{File};
+ghost use Rattle.co_outside.specs.Home.{File, Agrees, IsClean, RestStays, HasFailed};
 ghost use Rattle.co_disk.specs.DiskModel.{read_of};
-ghost use Rattle.co_disk.specs.Homes.{Agrees, IsClean, RestStays, HasFailed};
 ghost use Rattle.co_record.specs.declared.record.Record.{Record};
 ghost use Rattle.co_record.specs.Spelling.{IsWritable, IsSpelled};
 ghost use Rattle.co_log.specs.Appending.{IsEnding, IsTooLong, IsOfAppend};
@@ -129,7 +128,7 @@ pub(crate) fn lay<H: Home>(
     batch: &[u8],
     stop: &mut Option<Stop>,
 ) -> Result<Ending, LogFault>
-    requires agrees { Agrees (H.file home.old disk.old.spot) (H.reach home.old disk.old.spot) (read_of disk.old.state) }
+    requires agrees { Agrees (H.seen home.old) disk.old.spot (read_of disk.old.state) }
     requires stable { disk.old.state.pending ≡ [] }
     requires read { IsShort disk.old }
     requires stop { IfSome stop.old (λ s. (1 ≤ s.call) × (s.call ≤ 4)) }
@@ -140,16 +139,16 @@ pub(crate) fn lay<H: Home>(
     ensures disarmed { OnOk result (stop.new ≡ None) }
     ensures stop { IfSome stop.new (λ s. (1 ≤ s.call) × (s.call ≤ 4)) }
     ensures stable { OnOk result (disk.new.state.pending ≡ []) }
-    ensures agrees { OnOk result (Agrees (H.file home.new disk.old.spot) (H.reach home.new disk.old.spot) (read_of disk.new.state)) }
-    ensures clean { OnOk result (IsClean (H.file home.new disk.old.spot)) }
-    ensures told { (items : List Record) (kept : List (ℕ × Record)) → IsBatchAt gate items batch.now → EndsAt disk.old.state.stable gate kept → OnErr result ((f : File) → H.file home.new disk.old.spot ≡ Some f → OldOrBoth f.bytes gate kept items) }
-    ensures memory { (kept : List (ℕ × Record)) → EndsAt disk.old.state.stable gate kept → IsErrOf result LogFault.Memory → (f : File) → H.file home.new disk.old.spot ≡ Some f → EndsAt f.bytes gate kept }
+    ensures agrees { OnOk result (Agrees (H.seen home.new) disk.old.spot (read_of disk.new.state)) }
+    ensures clean { OnOk result (IsClean (H.seen home.new) disk.old.spot) }
+    ensures told { (items : List Record) (kept : List (ℕ × Record)) → IsBatchAt gate items batch.now → EndsAt disk.old.state.stable gate kept → OnErr result ((f : File) → (H.seen home.new).file disk.old.spot ≡ Some f → OldOrBoth f.bytes gate kept items) }
+    ensures memory { (kept : List (ℕ × Record)) → EndsAt disk.old.state.stable gate kept → IsErrOf result LogFault.Memory → (f : File) → (H.seen home.new).file disk.old.spot ≡ Some f → EndsAt f.bytes gate kept }
     ensures read { IsShort disk.new }
-    ensures within { IsWithin 268435456 (H.file home.new disk.old.spot) }
+    ensures within { IsWithin 268435456 ((H.seen home.new).file disk.old.spot) }
     ensures faults { IfErr result (IsOfDevice disk.old.spot) }
-    ensures rest { RestStays H.file H.reach H.entered H.faults disk.old.spot home.old home.new }
-    ensures device { IsErrOf result (LogFault.Device disk.old.spot) → HasFailed H.faults H.last_failed disk.old.spot home.old home.new }
-    ensures quiet { (IsErrOf result (LogFault.Device disk.old.spot) → ⊥) → H.faults home.new ≡ H.faults home.old }
+    ensures rest { RestStays disk.old.spot (H.seen home.old) (H.seen home.new) }
+    ensures device { IsErrOf result (LogFault.Device disk.old.spot) → HasFailed disk.old.spot (H.seen home.old) (H.seen home.new) }
+    ensures quiet { (IsErrOf result (LogFault.Device disk.old.spot) → ⊥) → (H.seen home.new).faults ≡ (H.seen home.old).faults }
 {
     let next = gate + batch.len() as u32;
     let stop = stop.take();
@@ -182,7 +181,7 @@ pub(crate) fn append<H: Home>(
     back: &[Record],
     stop: &mut Option<Stop>,
 ) -> Result<Ending, LogFault>
-    requires agrees { Agrees (H.file home.old disk.old.spot) (H.reach home.old disk.old.spot) (read_of disk.old.state) }
+    requires agrees { Agrees (H.seen home.old) disk.old.spot (read_of disk.old.state) }
     requires stable { disk.old.state.pending ≡ [] }
     requires read { IsShort disk.old }
     requires stop { IfSome stop.old (λ s. (1 ≤ s.call) × (s.call ≤ 4)) }
@@ -196,20 +195,20 @@ pub(crate) fn append<H: Home>(
     ensures disarmed { OnOk result (stop.new ≡ None) }
     ensures stop { IfSome stop.new (λ s. (1 ≤ s.call) × (s.call ≤ 4)) }
     ensures stable { OnOk result (disk.new.state.pending ≡ []) }
-    ensures agrees { OnOk result (Agrees (H.file home.new disk.old.spot) (H.reach home.new disk.old.spot) (read_of disk.new.state)) }
-    ensures clean { OnOk result (IsClean (H.file home.new disk.old.spot)) }
+    ensures agrees { OnOk result (Agrees (H.seen home.new) disk.old.spot (read_of disk.new.state)) }
+    ensures clean { OnOk result (IsClean (H.seen home.new) disk.old.spot) }
     ensures full { IsErrOf result (LogFault.Full disk.old.spot) → IsTooLong gate (front.now ++ (lent.now ++ back.now)) }
     ensures too_long { IsTooLong gate (front.now ++ (lent.now ++ back.now)) → IsErrOf result (LogFault.Full disk.old.spot) ⊎ IsErrOf result LogFault.Memory }
     ensures untouched { IsTooLong gate (front.now ++ (lent.now ++ back.now)) → (disk.new ≡ disk.old) × (stop.new ≡ stop.old) × (home.new ≡ home.old) }
     ensures short { OnOk result (gate + 6 + length (spelled (front.now ++ (lent.now ++ back.now))) ≤ 268435456) }
-    ensures told { (kept : List (ℕ × Record)) → EndsAt disk.old.state.stable gate kept → OnErr result ((f : File) → H.file home.new disk.old.spot ≡ Some f → OldOrBoth f.bytes gate kept (front.now ++ (lent.now ++ back.now))) }
-    ensures memory { (kept : List (ℕ × Record)) → EndsAt disk.old.state.stable gate kept → IsErrOf result LogFault.Memory → (f : File) → H.file home.new disk.old.spot ≡ Some f → EndsAt f.bytes gate kept }
+    ensures told { (kept : List (ℕ × Record)) → EndsAt disk.old.state.stable gate kept → OnErr result ((f : File) → (H.seen home.new).file disk.old.spot ≡ Some f → OldOrBoth f.bytes gate kept (front.now ++ (lent.now ++ back.now))) }
+    ensures memory { (kept : List (ℕ × Record)) → EndsAt disk.old.state.stable gate kept → IsErrOf result LogFault.Memory → (f : File) → (H.seen home.new).file disk.old.spot ≡ Some f → EndsAt f.bytes gate kept }
     ensures read { IsShort disk.new }
-    ensures within { IsWithin 268435456 (H.file home.new disk.old.spot) }
+    ensures within { IsWithin 268435456 ((H.seen home.new).file disk.old.spot) }
     ensures faults { IfErr result (IsOfAppend disk.old.spot) }
-    ensures rest { RestStays H.file H.reach H.entered H.faults disk.old.spot home.old home.new }
-    ensures device { IsErrOf result (LogFault.Device disk.old.spot) → HasFailed H.faults H.last_failed disk.old.spot home.old home.new }
-    ensures quiet { (IsErrOf result (LogFault.Device disk.old.spot) → ⊥) → H.faults home.new ≡ H.faults home.old }
+    ensures rest { RestStays disk.old.spot (H.seen home.old) (H.seen home.new) }
+    ensures device { IsErrOf result (LogFault.Device disk.old.spot) → HasFailed disk.old.spot (H.seen home.old) (H.seen home.new) }
+    ensures quiet { (IsErrOf result (LogFault.Device disk.old.spot) → ⊥) → (H.seen home.new).faults ≡ (H.seen home.old).faults }
 {
     let batch = batch_of(alloc, disk.spot(), gate, front, lent, back)?;
     lay(disk, home, gate, &batch, stop)

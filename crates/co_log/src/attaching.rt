@@ -3,7 +3,7 @@ ghost use Rattle.std.specs.Prelude.{◌≡◌, ◌≢◌, ◌≤◌, ◌<◌, []
 ghost use Rattle.co_base.specs.Nodes.{IsValidNode, node_byte};
 ghost use Rattle.co_outside.specs.declared.spot.Spot.{Spot};
 ghost use Rattle.co_disk.specs.DiskModel.{read_of};
-ghost use Rattle.co_disk.specs.Homes.{Agrees, RestStays, HasFailed};
+ghost use Rattle.co_outside.specs.Home.{Agrees, RestStays, HasFailed};
 ghost use Rattle.co_log.specs.Fresh.{IsOfDevice};
 ghost use Rattle.co_log.specs.Attaching.{built, used_of, IsAttached, AreTwins, IsBadPair, IsLonger, IsWithin, IsToldAs, IsOfAttach};
 ghost use Rattle.co_log.specs.LogView.{IsShort};
@@ -22,17 +22,17 @@ use std::alloc::Global;
 fn open_file<H: Home>(alloc: Global, home: &mut H, spot: Spot) -> Result<Option<Disk>, LogFault>
     ensures spot { IfOk result (λ o. IfSome o (λ d. d.spot ≡ spot)) }
     ensures still { IfOk result (λ o. IfSome o (λ d. d.state.pending ≡ [])) }
-    ensures agrees { IfOk result (λ o. IfSome o (λ d. Agrees (H.file home.new spot) (H.reach home.new spot) (read_of d.state))) }
+    ensures agrees { IfOk result (λ o. IfSome o (λ d. Agrees (H.seen home.new) spot (read_of d.state))) }
     ensures long { IfOk result (λ o. IfNone o ((bytes : List ℕ) × H.gives home.old spot 268435457 bytes × (268435456 < length bytes))) }
-    ensures told_long { IfOk result (λ o. IfNone o (IsLonger 268435456 (H.file home.old spot))) }
-    ensures told { IfOk result (λ o. IfSome o (λ d. IsToldAs spot (H.file home.old spot) d)) }
+    ensures told_long { IfOk result (λ o. IfNone o (IsLonger 268435456 ((H.seen home.old).file spot))) }
+    ensures told { IfOk result (λ o. IfSome o (λ d. IsToldAs spot ((H.seen home.old).file spot) d)) }
     ensures short { IfOk result (λ o. IfSome o IsShort) }
-    ensures told_short { IfOk result (λ o. IfSome o (λ d. IsWithin 268435456 (H.file home.old spot))) }
-    ensures file { H.file home.new spot ≡ H.file home.old spot }
-    ensures rest { RestStays H.file H.reach H.entered H.faults spot home.old home.new }
+    ensures told_short { IfOk result (λ o. IfSome o (λ d. IsWithin 268435456 ((H.seen home.old).file spot))) }
+    ensures file { (H.seen home.new).file spot ≡ (H.seen home.old).file spot }
+    ensures rest { RestStays spot (H.seen home.old) (H.seen home.new) }
     ensures faults { IfErr result (IsOfDevice spot) }
-    ensures device { IsErrOf result (LogFault.Device spot) → HasFailed H.faults H.last_failed spot home.old home.new }
-    ensures quiet { (IsErrOf result (LogFault.Device spot) → ⊥) → H.faults home.new ≡ H.faults home.old }
+    ensures device { IsErrOf result (LogFault.Device spot) → HasFailed spot (H.seen home.old) (H.seen home.new) }
+    ensures quiet { (IsErrOf result (LogFault.Device spot) → ⊥) → (H.seen home.new).faults ≡ (H.seen home.old).faults }
 {
     match Disk::attach(alloc, home, spot) {
         Ok(disk) => Ok(Some(disk)),
@@ -173,18 +173,18 @@ impl Log {
         resume: bool,
     ) -> Result<Log, LogFault>
         requires { IsValidNode node }
-        ensures attached { IfOk result (λ log. (a : DiskView) × (b : DiskView) × IsToldAs (spot_of node 0) (H.file home.old (spot_of node 0)) a
-            × IsToldAs (spot_of node 1) (H.file home.old (spot_of node 1)) b × IsAttached node a b log) }
-        ensures unused { resume ≡ false → OnOk result (IsWithin 1 (H.file home.old (spot_of node 0)) × IsWithin 1 (H.file home.old (spot_of node 1))) }
+        ensures attached { IfOk result (λ log. (a : DiskView) × (b : DiskView) × IsToldAs (spot_of node 0) ((H.seen home.old).file (spot_of node 0)) a
+            × IsToldAs (spot_of node 1) ((H.seen home.old).file (spot_of node 1)) b × IsAttached node a b log) }
+        ensures unused { resume ≡ false → OnOk result (IsWithin 1 ((H.seen home.old).file (spot_of node 0)) × IsWithin 1 ((H.seen home.old).file (spot_of node 1))) }
         ensures fresh { resume ≡ false → IfOk result IsFresh }
-        ensures short { OnOk result (IsWithin 268435456 (H.file home.old (spot_of node 0)) × IsWithin 268435456 (H.file home.old (spot_of node 1))) }
-        ensures held { IfOk result (λ log. IsHeld (H.file home.new) (H.reach home.new) log) }
-        ensures faults { IfErr result (IsOfAttach node resume (H.file home.old (spot_of node 0)) (H.file home.old (spot_of node 1))) }
-        ensures file_a { H.file home.new (spot_of node 0) ≡ H.file home.old (spot_of node 0) }
-        ensures file_b { H.file home.new (spot_of node 1) ≡ H.file home.old (spot_of node 1) }
-        ensures rest { OtherNodesStay H.file H.reach H.entered H.faults node home.old home.new }
-        ensures device { (spot : Spot) → IsErrOf result (LogFault.Device spot) → HasFailed H.faults H.last_failed spot home.old home.new }
-        ensures quiet { ((spot : Spot) → IsErrOf result (LogFault.Device spot) → ⊥) → H.faults home.new ≡ H.faults home.old }
+        ensures short { OnOk result (IsWithin 268435456 ((H.seen home.old).file (spot_of node 0)) × IsWithin 268435456 ((H.seen home.old).file (spot_of node 1))) }
+        ensures held { IfOk result (λ log. IsHeld (H.seen home.new) log) }
+        ensures faults { IfErr result (IsOfAttach node resume ((H.seen home.old).file (spot_of node 0)) ((H.seen home.old).file (spot_of node 1))) }
+        ensures file_a { (H.seen home.new).file (spot_of node 0) ≡ (H.seen home.old).file (spot_of node 0) }
+        ensures file_b { (H.seen home.new).file (spot_of node 1) ≡ (H.seen home.old).file (spot_of node 1) }
+        ensures rest { OtherNodesStay node (H.seen home.old) (H.seen home.new) }
+        ensures device { (spot : Spot) → IsErrOf result (LogFault.Device spot) → HasFailed spot (H.seen home.old) (H.seen home.new) }
+        ensures quiet { ((spot : Spot) → IsErrOf result (LogFault.Device spot) → ⊥) → (H.seen home.new).faults ≡ (H.seen home.old).faults }
     {
         let spot_a = Spot {
             node: node.byte(),

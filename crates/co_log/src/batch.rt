@@ -23,7 +23,7 @@ pub struct SpelledBatch {
 }
 
 impl Log {
-    ghost use Rattle.co_disk.specs.Homes.{IsClean, RestStays, HasFailed};
+    ghost use Rattle.co_outside.specs.Home.{IsClean, RestStays, HasFailed};
     ghost use Rattle.co_log.specs.Batches.{AreSpelledFor, IsBatchOf, HasForced};
     ghost use Rattle.co_log.specs.Current.{IsOrdered, IsCurrentForced};
     ghost use Rattle.co_log.specs.Forcing.{IsForced, IsDone, IsOfForce};
@@ -70,22 +70,22 @@ impl Log {
         home: &mut H,
         batch: SpelledBatch,
     ) -> Result<Marks, LogFault>
-        requires held { IsHeld (H.file home.old) (H.reach home.old) self.old }
+        requires held { IsHeld (H.seen home.old) self.old }
         requires newest { self.old.version ≡ newest }
         requires live { (items : List (ℕ × Record)) × IsLive self.old items }
         requires batch { (more : List Record) × IsBatchOf self.old more batch }
         ensures forced { (more : List Record) (items : List (ℕ × Record)) → IsBatchOf self.old more batch → IsLive self.old items → IsForced self.old items (self.old.waiting ++ more) self.new result }
-        ensures held { IsDone result → IsHeld (H.file home.new) (H.reach home.new) self.new }
-        ensures clean { IsDone result → IsClean (H.file home.new self.old.current.spot) }
+        ensures held { IsDone result → IsHeld (H.seen home.new) self.new }
+        ensures clean { IsDone result → IsClean (H.seen home.new) self.old.current.spot }
         ensures full { IsErrOf result (LogFault.Full self.old.current.spot) → ⊥ }
-        ensures told { (more : List Record) (items : List (ℕ × Record)) → IsBatchOf self.old more batch → IsLive self.old items → (f : File) → H.file home.new self.old.current.spot ≡ Some f → IsDone result ⊎ OldOrBoth f.bytes self.old.gate items (self.old.waiting ++ more) }
-        ensures memory { (items : List (ℕ × Record)) → IsLive self.old items → IsErrOf result LogFault.Memory → (f : File) → H.file home.new self.old.current.spot ≡ Some f → EndsAt f.bytes self.old.gate items }
-        ensures current { (more : List Record) (items : List (ℕ × Record)) → IsBatchOf self.old more batch → IsOrdered self.old items → (c s : File) → H.file home.new self.old.current.spot ≡ Some c → H.file home.new self.old.spare.spot ≡ Some s → IsCurrentForced self.old items (self.old.waiting ++ more) c.bytes s.bytes result }
-        ensures short { BothWithin (H.file home.new) self.old }
+        ensures told { (more : List Record) (items : List (ℕ × Record)) → IsBatchOf self.old more batch → IsLive self.old items → (f : File) → (H.seen home.new).file self.old.current.spot ≡ Some f → IsDone result ⊎ OldOrBoth f.bytes self.old.gate items (self.old.waiting ++ more) }
+        ensures memory { (items : List (ℕ × Record)) → IsLive self.old items → IsErrOf result LogFault.Memory → (f : File) → (H.seen home.new).file self.old.current.spot ≡ Some f → EndsAt f.bytes self.old.gate items }
+        ensures current { (more : List Record) (items : List (ℕ × Record)) → IsBatchOf self.old more batch → IsOrdered self.old items → (c s : File) → (H.seen home.new).file self.old.current.spot ≡ Some c → (H.seen home.new).file self.old.spare.spot ≡ Some s → IsCurrentForced self.old items (self.old.waiting ++ more) c.bytes s.bytes result }
+        ensures short { BothWithin (H.seen home.new).file self.old }
         ensures faults { IfErr result (IsOfForce self.old.current.spot) }
-        ensures rest { RestStays H.file H.reach H.entered H.faults self.old.current.spot home.old home.new }
-        ensures device { IsErrOf result (LogFault.Device self.old.current.spot) → HasFailed H.faults H.last_failed self.old.current.spot home.old home.new }
-        ensures quiet { (IsErrOf result (LogFault.Device self.old.current.spot) → ⊥) → H.faults home.new ≡ H.faults home.old }
+        ensures rest { RestStays self.old.current.spot (H.seen home.old) (H.seen home.new) }
+        ensures device { IsErrOf result (LogFault.Device self.old.current.spot) → HasFailed self.old.current.spot (H.seen home.old) (H.seen home.new) }
+        ensures quiet { (IsErrOf result (LogFault.Device self.old.current.spot) → ⊥) → (H.seen home.new).faults ≡ (H.seen home.old).faults }
     {
         let SpelledBatch { bytes, told } = batch;
         let ending = lay(&mut self.current, home, self.gate, &bytes, &mut self.stop)?;
@@ -117,11 +117,11 @@ impl Log {
         home: &mut H,
         batch: SpelledBatch,
     ) -> Result<Marks, LogFault>
-        requires held { IsHeld (H.file home.old) (H.reach home.old) self.old }
+        requires held { IsHeld (H.seen home.old) self.old }
         requires newest { self.old.version ≡ newest }
         requires live { (items : List (ℕ × Record)) × IsLive self.old items }
         requires batch { (more : List Record) × IsBatchOf self.old more batch }
-        ensures { (more : List Record) → IsBatchOf self.old more batch → HasForced H.file H.reach H.entered H.faults H.last_failed self.old self.new more home.old home.new result }
+        ensures { (more : List Record) → IsBatchOf self.old more batch → HasForced self.old self.new more (H.seen home.old) (H.seen home.new) result }
     {
         self.lay_batch(home, batch)
     }

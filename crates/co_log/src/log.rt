@@ -50,7 +50,7 @@ impl Model for Log {
 }
 
 impl Log {
-    ghost use Rattle.co_disk.specs.Homes.{IsClean, RestStays, HasFailed};
+    ghost use Rattle.co_outside.specs.Home.{IsClean, RestStays, HasFailed};
     ghost use Rattle.co_log.specs.Appending.{IsTooLong};
     ghost use Rattle.co_frame.specs.Gate.{begins_closed};
     ghost use Rattle.co_log.specs.Forcing.{IsForced, IsDone, IsOfForce};
@@ -144,26 +144,26 @@ impl Log {
         lent: &[LentPrepare<'_>],
         back: &[Record],
     ) -> Result<Marks, LogFault>
-        requires held { IsHeld (H.file home.old) (H.reach home.old) self.old }
+        requires held { IsHeld (H.seen home.old) self.old }
         requires newest { self.old.version ≡ newest }
         requires live { (items : List (ℕ × Record)) × IsLive self.old items }
         requires some { 0 < length (lent.now ++ back.now) }
         requires lent { AllByRecursion IsWritable lent.now }
         requires back { AllByRecursion IsWritable back.now }
         ensures forced { (items : List (ℕ × Record)) → IsLive self.old items → IsForced self.old items (self.old.waiting ++ (lent.now ++ back.now)) self.new result }
-        ensures held { IsDone result → IsHeld (H.file home.new) (H.reach home.new) self.new }
-        ensures clean { IsDone result → IsClean (H.file home.new self.old.current.spot) }
+        ensures held { IsDone result → IsHeld (H.seen home.new) self.new }
+        ensures clean { IsDone result → IsClean (H.seen home.new) self.old.current.spot }
         ensures full { IsErrOf result (LogFault.Full self.old.current.spot) → IsTooLong self.old.gate (self.old.waiting ++ (lent.now ++ back.now)) }
         ensures too_long { IsTooLong self.old.gate (self.old.waiting ++ (lent.now ++ back.now)) → IsErrOf result (LogFault.Full self.old.current.spot) ⊎ IsErrOf result LogFault.Memory }
         ensures untouched { IsTooLong self.old.gate (self.old.waiting ++ (lent.now ++ back.now)) → (self.new ≡ self.old) × (home.new ≡ home.old) }
-        ensures told { (items : List (ℕ × Record)) → IsLive self.old items → (f : File) → H.file home.new self.old.current.spot ≡ Some f → IsDone result ⊎ OldOrBoth f.bytes self.old.gate items (self.old.waiting ++ (lent.now ++ back.now)) }
-        ensures memory { (items : List (ℕ × Record)) → IsLive self.old items → IsErrOf result LogFault.Memory → (f : File) → H.file home.new self.old.current.spot ≡ Some f → EndsAt f.bytes self.old.gate items }
-        ensures current { (items : List (ℕ × Record)) → IsOrdered self.old items → (c s : File) → H.file home.new self.old.current.spot ≡ Some c → H.file home.new self.old.spare.spot ≡ Some s → IsCurrentForced self.old items (self.old.waiting ++ (lent.now ++ back.now)) c.bytes s.bytes result }
-        ensures short { BothWithin (H.file home.new) self.old }
+        ensures told { (items : List (ℕ × Record)) → IsLive self.old items → (f : File) → (H.seen home.new).file self.old.current.spot ≡ Some f → IsDone result ⊎ OldOrBoth f.bytes self.old.gate items (self.old.waiting ++ (lent.now ++ back.now)) }
+        ensures memory { (items : List (ℕ × Record)) → IsLive self.old items → IsErrOf result LogFault.Memory → (f : File) → (H.seen home.new).file self.old.current.spot ≡ Some f → EndsAt f.bytes self.old.gate items }
+        ensures current { (items : List (ℕ × Record)) → IsOrdered self.old items → (c s : File) → (H.seen home.new).file self.old.current.spot ≡ Some c → (H.seen home.new).file self.old.spare.spot ≡ Some s → IsCurrentForced self.old items (self.old.waiting ++ (lent.now ++ back.now)) c.bytes s.bytes result }
+        ensures short { BothWithin (H.seen home.new).file self.old }
         ensures faults { IfErr result (IsOfForce self.old.current.spot) }
-        ensures rest { RestStays H.file H.reach H.entered H.faults self.old.current.spot home.old home.new }
-        ensures device { IsErrOf result (LogFault.Device self.old.current.spot) → HasFailed H.faults H.last_failed self.old.current.spot home.old home.new }
-        ensures quiet { (IsErrOf result (LogFault.Device self.old.current.spot) → ⊥) → H.faults home.new ≡ H.faults home.old }
+        ensures rest { RestStays self.old.current.spot (H.seen home.old) (H.seen home.new) }
+        ensures device { IsErrOf result (LogFault.Device self.old.current.spot) → HasFailed self.old.current.spot (H.seen home.old) (H.seen home.new) }
+        ensures quiet { (IsErrOf result (LogFault.Device self.old.current.spot) → ⊥) → (H.seen home.new).faults ≡ (H.seen home.old).faults }
     {
         // What is read of either file is within its bounds, also where nothing is written.
         let _ = self.lengths();
@@ -179,25 +179,25 @@ impl Log {
     /// device call, and the file has the old records alone then. Whatever the answer is, the file stays the current
     /// one, and both are within 268,435,456 bytes.
     pub fn force<H: Home>(&mut self, home: &mut H, item: Record) -> Result<Marks, LogFault>
-        requires held { IsHeld (H.file home.old) (H.reach home.old) self.old }
+        requires held { IsHeld (H.seen home.old) self.old }
         requires newest { self.old.version ≡ newest }
         requires live { (items : List (ℕ × Record)) × IsLive self.old items }
         requires writable { IsWritable item }
         requires kind { IsForcible item }
         ensures forced { (items : List (ℕ × Record)) → IsLive self.old items → IsForced self.old items (self.old.waiting ++ item ∷ []) self.new result }
-        ensures held { IsDone result → IsHeld (H.file home.new) (H.reach home.new) self.new }
-        ensures clean { IsDone result → IsClean (H.file home.new self.old.current.spot) }
+        ensures held { IsDone result → IsHeld (H.seen home.new) self.new }
+        ensures clean { IsDone result → IsClean (H.seen home.new) self.old.current.spot }
         ensures full { IsErrOf result (LogFault.Full self.old.current.spot) → IsTooLong self.old.gate (self.old.waiting ++ item ∷ []) }
         ensures too_long { IsTooLong self.old.gate (self.old.waiting ++ item ∷ []) → IsErrOf result (LogFault.Full self.old.current.spot) ⊎ IsErrOf result LogFault.Memory }
         ensures untouched { IsTooLong self.old.gate (self.old.waiting ++ item ∷ []) → (self.new ≡ self.old) × (home.new ≡ home.old) }
-        ensures told { (items : List (ℕ × Record)) → IsLive self.old items → (f : File) → H.file home.new self.old.current.spot ≡ Some f → IsDone result ⊎ OldOrBoth f.bytes self.old.gate items (self.old.waiting ++ item ∷ []) }
-        ensures memory { (items : List (ℕ × Record)) → IsLive self.old items → IsErrOf result LogFault.Memory → (f : File) → H.file home.new self.old.current.spot ≡ Some f → EndsAt f.bytes self.old.gate items }
-        ensures current { (items : List (ℕ × Record)) → IsOrdered self.old items → (c s : File) → H.file home.new self.old.current.spot ≡ Some c → H.file home.new self.old.spare.spot ≡ Some s → IsCurrentForced self.old items (self.old.waiting ++ item ∷ []) c.bytes s.bytes result }
-        ensures short { BothWithin (H.file home.new) self.old }
+        ensures told { (items : List (ℕ × Record)) → IsLive self.old items → (f : File) → (H.seen home.new).file self.old.current.spot ≡ Some f → IsDone result ⊎ OldOrBoth f.bytes self.old.gate items (self.old.waiting ++ item ∷ []) }
+        ensures memory { (items : List (ℕ × Record)) → IsLive self.old items → IsErrOf result LogFault.Memory → (f : File) → (H.seen home.new).file self.old.current.spot ≡ Some f → EndsAt f.bytes self.old.gate items }
+        ensures current { (items : List (ℕ × Record)) → IsOrdered self.old items → (c s : File) → (H.seen home.new).file self.old.current.spot ≡ Some c → (H.seen home.new).file self.old.spare.spot ≡ Some s → IsCurrentForced self.old items (self.old.waiting ++ item ∷ []) c.bytes s.bytes result }
+        ensures short { BothWithin (H.seen home.new).file self.old }
         ensures faults { IfErr result (IsOfForce self.old.current.spot) }
-        ensures rest { RestStays H.file H.reach H.entered H.faults self.old.current.spot home.old home.new }
-        ensures device { IsErrOf result (LogFault.Device self.old.current.spot) → HasFailed H.faults H.last_failed self.old.current.spot home.old home.new }
-        ensures quiet { (IsErrOf result (LogFault.Device self.old.current.spot) → ⊥) → H.faults home.new ≡ H.faults home.old }
+        ensures rest { RestStays self.old.current.spot (H.seen home.old) (H.seen home.new) }
+        ensures device { IsErrOf result (LogFault.Device self.old.current.spot) → HasFailed self.old.current.spot (H.seen home.old) (H.seen home.new) }
+        ensures quiet { (IsErrOf result (LogFault.Device self.old.current.spot) → ⊥) → (H.seen home.new).faults ≡ (H.seen home.old).faults }
     {
         self.force_all(home, &[], &[item])
     }
@@ -208,24 +208,24 @@ impl Log {
         home: &mut H,
         item: LentPrepare<'_>,
     ) -> Result<Marks, LogFault>
-        requires held { IsHeld (H.file home.old) (H.reach home.old) self.old }
+        requires held { IsHeld (H.seen home.old) self.old }
         requires newest { self.old.version ≡ newest }
         requires live { (items : List (ℕ × Record)) × IsLive self.old items }
         requires writable { IsWritable item }
         ensures forced { (items : List (ℕ × Record)) → IsLive self.old items → IsForced self.old items (self.old.waiting ++ item.entry ∷ []) self.new result }
-        ensures held { IsDone result → IsHeld (H.file home.new) (H.reach home.new) self.new }
-        ensures clean { IsDone result → IsClean (H.file home.new self.old.current.spot) }
+        ensures held { IsDone result → IsHeld (H.seen home.new) self.new }
+        ensures clean { IsDone result → IsClean (H.seen home.new) self.old.current.spot }
         ensures full { IsErrOf result (LogFault.Full self.old.current.spot) → IsTooLong self.old.gate (self.old.waiting ++ item.entry ∷ []) }
         ensures too_long { IsTooLong self.old.gate (self.old.waiting ++ item.entry ∷ []) → IsErrOf result (LogFault.Full self.old.current.spot) ⊎ IsErrOf result LogFault.Memory }
         ensures untouched { IsTooLong self.old.gate (self.old.waiting ++ item.entry ∷ []) → (self.new ≡ self.old) × (home.new ≡ home.old) }
-        ensures told { (items : List (ℕ × Record)) → IsLive self.old items → (f : File) → H.file home.new self.old.current.spot ≡ Some f → IsDone result ⊎ OldOrBoth f.bytes self.old.gate items (self.old.waiting ++ item.entry ∷ []) }
-        ensures memory { (items : List (ℕ × Record)) → IsLive self.old items → IsErrOf result LogFault.Memory → (f : File) → H.file home.new self.old.current.spot ≡ Some f → EndsAt f.bytes self.old.gate items }
-        ensures current { (items : List (ℕ × Record)) → IsOrdered self.old items → (c s : File) → H.file home.new self.old.current.spot ≡ Some c → H.file home.new self.old.spare.spot ≡ Some s → IsCurrentForced self.old items (self.old.waiting ++ item.entry ∷ []) c.bytes s.bytes result }
-        ensures short { BothWithin (H.file home.new) self.old }
+        ensures told { (items : List (ℕ × Record)) → IsLive self.old items → (f : File) → (H.seen home.new).file self.old.current.spot ≡ Some f → IsDone result ⊎ OldOrBoth f.bytes self.old.gate items (self.old.waiting ++ item.entry ∷ []) }
+        ensures memory { (items : List (ℕ × Record)) → IsLive self.old items → IsErrOf result LogFault.Memory → (f : File) → (H.seen home.new).file self.old.current.spot ≡ Some f → EndsAt f.bytes self.old.gate items }
+        ensures current { (items : List (ℕ × Record)) → IsOrdered self.old items → (c s : File) → (H.seen home.new).file self.old.current.spot ≡ Some c → (H.seen home.new).file self.old.spare.spot ≡ Some s → IsCurrentForced self.old items (self.old.waiting ++ item.entry ∷ []) c.bytes s.bytes result }
+        ensures short { BothWithin (H.seen home.new).file self.old }
         ensures faults { IfErr result (IsOfForce self.old.current.spot) }
-        ensures rest { RestStays H.file H.reach H.entered H.faults self.old.current.spot home.old home.new }
-        ensures device { IsErrOf result (LogFault.Device self.old.current.spot) → HasFailed H.faults H.last_failed self.old.current.spot home.old home.new }
-        ensures quiet { (IsErrOf result (LogFault.Device self.old.current.spot) → ⊥) → H.faults home.new ≡ H.faults home.old }
+        ensures rest { RestStays self.old.current.spot (H.seen home.old) (H.seen home.new) }
+        ensures device { IsErrOf result (LogFault.Device self.old.current.spot) → HasFailed self.old.current.spot (H.seen home.old) (H.seen home.new) }
+        ensures quiet { (IsErrOf result (LogFault.Device self.old.current.spot) → ⊥) → (H.seen home.new).faults ≡ (H.seen home.old).faults }
     {
         self.force_all(home, &[item], &[])
     }

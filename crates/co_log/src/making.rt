@@ -14,7 +14,7 @@ use co_outside::Home;
 use co_record::Record;
 
 impl Log {
-    ghost use Rattle.co_disk.specs.Homes.{IsClean, RestStays, HasFailed};
+    ghost use Rattle.co_outside.specs.Home.{IsClean, RestStays, HasFailed};
     ghost use Rattle.co_log.specs.Fresh.{IsFresh, IsMade, IsMaking, IsOfDevice, header_alone};
     ghost use Rattle.co_log.specs.LogView.{IsHeld};
     ghost use Rattle.co_log.specs.Current.{IsCurrentMade};
@@ -28,20 +28,20 @@ impl Log {
     /// `Device` comes where the home failed, and only there, and `Memory` where there was none. Whatever the answer is,
     /// the file is current with its header alone, or neither file has a batch, and both are within 268,435,456 bytes.
     pub fn make<H: Home>(&mut self, home: &mut H) -> Result<Mark, LogFault>
-        requires held { IsHeld (H.file home.old) (H.reach home.old) self.old }
+        requires held { IsHeld (H.seen home.old) self.old }
         requires fresh { IsFresh self.old }
         requires node { IsValidNode self.old.node }
         ensures made { OnOk result (IsMade self.old self.new) }
         ensures mark { IfOk result (λ m. m ≡ record { node = self.old.node; kind = kind.Header; number = 1 }) }
-        ensures held { OnOk result (IsHeld (H.file home.new) (H.reach home.new) self.new) }
-        ensures clean { OnOk result (IsClean (H.file home.new self.old.current.spot)) }
-        ensures told { (f : File) → H.file home.new self.old.current.spot ≡ Some f → IsMaking f.bytes (header_alone self.old.node) }
-        ensures current { (c s : File) → H.file home.new self.old.current.spot ≡ Some c → H.file home.new self.old.spare.spot ≡ Some s → IsCurrentMade self.old c.bytes s.bytes result }
-        ensures short { BothWithin (H.file home.new) self.old }
+        ensures held { OnOk result (IsHeld (H.seen home.new) self.new) }
+        ensures clean { OnOk result (IsClean (H.seen home.new) self.old.current.spot) }
+        ensures told { (f : File) → (H.seen home.new).file self.old.current.spot ≡ Some f → IsMaking f.bytes (header_alone self.old.node) }
+        ensures current { (c s : File) → (H.seen home.new).file self.old.current.spot ≡ Some c → (H.seen home.new).file self.old.spare.spot ≡ Some s → IsCurrentMade self.old c.bytes s.bytes result }
+        ensures short { BothWithin (H.seen home.new).file self.old }
         ensures faults { IfErr result (IsOfDevice self.old.current.spot) }
-        ensures rest { RestStays H.file H.reach H.entered H.faults self.old.current.spot home.old home.new }
-        ensures device { IsErrOf result (LogFault.Device self.old.current.spot) → HasFailed H.faults H.last_failed self.old.current.spot home.old home.new }
-        ensures quiet { (IsErrOf result (LogFault.Device self.old.current.spot) → ⊥) → H.faults home.new ≡ H.faults home.old }
+        ensures rest { RestStays self.old.current.spot (H.seen home.old) (H.seen home.new) }
+        ensures device { IsErrOf result (LogFault.Device self.old.current.spot) → HasFailed self.old.current.spot (H.seen home.old) (H.seen home.new) }
+        ensures quiet { (IsErrOf result (LogFault.Device self.old.current.spot) → ⊥) → (H.seen home.new).faults ≡ (H.seen home.old).faults }
     {
         close_unmade(&mut self.current, home)?;
         let header = [Record::Header {

@@ -2,7 +2,7 @@
 ghost use Rattle.std.specs.Prelude.{◌≡◌, ◌≢◌, ◌≤◌, [], None, OnOk, IfErr, IsErrOf, IsOk};
 ghost use Rattle.co_outside.specs.declared.spot.Spot.{Spot};
 ghost use Rattle.co_disk.specs.DiskModel.{read_of};
-ghost use Rattle.co_disk.specs.Homes.{Agrees, RestStays, HasFailed};
+ghost use Rattle.co_outside.specs.Home.{Agrees, RestStays, HasFailed};
 ghost use Rattle.co_log.specs.Rereading.{IsOfReread, IsOfReattach, AreReread};
 
 use crate::fault::LogFault;
@@ -12,15 +12,15 @@ use co_outside::Home;
 
 /// Reads the file of a disk again.
 fn reread<H: Home>(disk: &mut Disk, home: &mut H) -> Result<(), LogFault>
-    requires agrees { Agrees (H.file home.old disk.old.spot) (H.reach home.old disk.old.spot) (read_of disk.old.state) }
+    requires agrees { Agrees (H.seen home.old) disk.old.spot (read_of disk.old.state) }
     ensures disk { disk.new ≡ disk.old }
-    ensures file { H.file home.new disk.old.spot ≡ H.file home.old disk.old.spot }
-    ensures agrees { Agrees (H.file home.new disk.old.spot) (H.reach home.new disk.old.spot) (read_of disk.new.state) }
+    ensures file { (H.seen home.new).file disk.old.spot ≡ (H.seen home.old).file disk.old.spot }
+    ensures agrees { Agrees (H.seen home.new) disk.old.spot (read_of disk.new.state) }
     ensures same { OnOk result (H.gives home.old disk.old.spot 268435457 (read_of disk.old.state)) }
-    ensures rest { RestStays H.file H.reach H.entered H.faults disk.old.spot home.old home.new }
-    ensures device { IsErrOf result (LogFault.Device disk.old.spot) → HasFailed H.faults H.last_failed disk.old.spot home.old home.new }
-    ensures quiet { (IsErrOf result (LogFault.Device disk.old.spot) → ⊥) → H.faults home.new ≡ H.faults home.old }
-    ensures faults { IfErr result (IsOfReread (H.gives home.old disk.old.spot 268435457) (H.file home.old disk.old.spot) disk.old) }
+    ensures rest { RestStays disk.old.spot (H.seen home.old) (H.seen home.new) }
+    ensures device { IsErrOf result (LogFault.Device disk.old.spot) → HasFailed disk.old.spot (H.seen home.old) (H.seen home.new) }
+    ensures quiet { (IsErrOf result (LogFault.Device disk.old.spot) → ⊥) → (H.seen home.new).faults ≡ (H.seen home.old).faults }
+    ensures faults { IfErr result (IsOfReread (H.gives home.old disk.old.spot 268435457) ((H.seen home.old).file disk.old.spot) disk.old) }
 {
     let spot = disk.spot();
     match disk.reread(home) {
@@ -49,16 +49,16 @@ impl Log {
     /// bytes there, and never over a home that tells it;
     /// `Device` where the home failed, and only there; `Memory` where there was none.
     pub fn reattach<H: Home>(&mut self, home: &mut H) -> Result<(), LogFault>
-        requires held { IsHeld (H.file home.old) (H.reach home.old) self.old }
+        requires held { IsHeld (H.seen home.old) self.old }
         ensures log { self.new ≡ self.old }
-        ensures current { H.file home.new self.old.current.spot ≡ H.file home.old self.old.current.spot }
-        ensures spare { H.file home.new self.old.spare.spot ≡ H.file home.old self.old.spare.spot }
-        ensures held { IsHeld (H.file home.new) (H.reach home.new) self.new }
-        ensures faults { IfErr result (IsOfReattach H.gives H.file H.reach H.entered H.faults self.old home.old) }
-        ensures same { OnOk result (AreReread H.gives H.file H.reach H.entered H.faults self.old home.old home.new) }
-        ensures rest { OtherNodesStay H.file H.reach H.entered H.faults self.old.node home.old home.new }
-        ensures device { (spot : Spot) → IsErrOf result (LogFault.Device spot) → HasFailed H.faults H.last_failed spot home.old home.new }
-        ensures quiet { ((spot : Spot) → IsErrOf result (LogFault.Device spot) → ⊥) → H.faults home.new ≡ H.faults home.old }
+        ensures current { (H.seen home.new).file self.old.current.spot ≡ (H.seen home.old).file self.old.current.spot }
+        ensures spare { (H.seen home.new).file self.old.spare.spot ≡ (H.seen home.old).file self.old.spare.spot }
+        ensures held { IsHeld (H.seen home.new) self.new }
+        ensures faults { IfErr result (IsOfReattach H.gives H.seen self.old home.old) }
+        ensures same { OnOk result (AreReread H.gives H.seen self.old home.old home.new) }
+        ensures rest { OtherNodesStay self.old.node (H.seen home.old) (H.seen home.new) }
+        ensures device { (spot : Spot) → IsErrOf result (LogFault.Device spot) → HasFailed spot (H.seen home.old) (H.seen home.new) }
+        ensures quiet { ((spot : Spot) → IsErrOf result (LogFault.Device spot) → ⊥) → (H.seen home.new).faults ≡ (H.seen home.old).faults }
     {
         reread(&mut self.current, home)?;
         reread(&mut self.spare, home)?;
@@ -68,11 +68,11 @@ impl Log {
     /// A crash between events: the waiting records and the armed stop are lost. It makes no call of the
     /// home, since nothing pends between events.
     pub fn cut<H: Home>(&mut self, _home: &mut H) -> Result<(), LogFault>
-        requires held { IsHeld (H.file _home.old) (H.reach _home.old) self.old }
+        requires held { IsHeld (H.seen _home.old) self.old }
         requires still { (self.old.current.state.pending ≡ []) × (self.old.spare.state.pending ≡ []) }
         ensures log { self.new ≡ record self.old { waiting = []; stop = None } }
         ensures home { _home.new ≡ _home.old }
-        ensures held { IsHeld (H.file _home.new) (H.reach _home.new) self.new }
+        ensures held { IsHeld (H.seen _home.new) self.new }
         ensures ok { IsOk result }
     {
         self.waiting.clear();

@@ -17,7 +17,7 @@ use co_outside::Home;
 use co_record::{NEWEST_VERSION, Record};
 
 impl Log {
-    ghost use Rattle.co_disk.specs.Homes.{IsClean, RestStays, HasFailed};
+    ghost use Rattle.co_outside.specs.Home.{IsClean, RestStays, HasFailed};
     ghost use Rattle.co_frame.specs.Gate.{begins_closed};
     ghost use Rattle.co_log.specs.Forcing.{IsDone, IsOfForce};
     ghost use Rattle.co_log.specs.LogFile.{EndsAt, OldOrBoth};
@@ -38,26 +38,26 @@ impl Log {
     /// `Device` where the home failed, and only there; `Memory` before or in the first device call, and the spare has
     /// no batch then. Both files are within 268,435,456 bytes after every answer.
     pub fn fill_spare<H: Home>(&mut self, home: &mut H, items: &[Record]) -> Result<Mark, LogFault>
-        requires held { IsHeld (H.file home.old) (H.reach home.old) self.old }
+        requires held { IsHeld (H.seen home.old) self.old }
         requires live { (items : List (ℕ × Record)) × IsLive self.old items }
         requires node { IsValidNode self.old.node }
         requires still { self.old.spare.state.pending ≡ [] }
         requires closed { begins_closed self.old.spare.state.stable ≡ true }
         requires fillable { AllByRecursion IsFillable items.now }
         ensures filling { IsFilling self.old items.now self.new result }
-        ensures held { IsDone result → IsHeld (H.file home.new) (H.reach home.new) self.new }
-        ensures clean { IsDone result → IsClean (H.file home.new self.old.spare.spot) }
+        ensures held { IsDone result → IsHeld (H.seen home.new) self.new }
+        ensures clean { IsDone result → IsClean (H.seen home.new) self.old.spare.spot }
         ensures full { IsErrOf result (LogFault.Full self.old.spare.spot) → IsOverfull self.old items.now }
         ensures overfull { IsOverfull self.old items.now → IsErrOf result (LogFault.Full self.old.spare.spot) ⊎ IsErrOf result LogFault.Memory }
         ensures untouched { IsOverfull self.old items.now → (self.new ≡ self.old) × (home.new ≡ home.old) }
-        ensures told { IsDone result ⊎ ((f : File) → H.file home.new self.old.spare.spot ≡ Some f → OldOrBoth f.bytes 0 [] (filling self.old items.now)) }
-        ensures memory { IsErrOf result LogFault.Memory → (f : File) → H.file home.new self.old.spare.spot ≡ Some f → EndsAt f.bytes 0 [] }
-        ensures current { (kept : List (ℕ × Record)) → IsOrdered self.old kept → (c s : File) → H.file home.new self.old.current.spot ≡ Some c → H.file home.new self.old.spare.spot ≡ Some s → IsCurrentAfter self.old kept items.now c.bytes s.bytes result }
-        ensures short { BothWithin (H.file home.new) self.old }
+        ensures told { IsDone result ⊎ ((f : File) → (H.seen home.new).file self.old.spare.spot ≡ Some f → OldOrBoth f.bytes 0 [] (filling self.old items.now)) }
+        ensures memory { IsErrOf result LogFault.Memory → (f : File) → (H.seen home.new).file self.old.spare.spot ≡ Some f → EndsAt f.bytes 0 [] }
+        ensures current { (kept : List (ℕ × Record)) → IsOrdered self.old kept → (c s : File) → (H.seen home.new).file self.old.current.spot ≡ Some c → (H.seen home.new).file self.old.spare.spot ≡ Some s → IsCurrentAfter self.old kept items.now c.bytes s.bytes result }
+        ensures short { BothWithin (H.seen home.new).file self.old }
         ensures faults { IfErr result (IsOfForce self.old.spare.spot) }
-        ensures rest { RestStays H.file H.reach H.entered H.faults self.old.spare.spot home.old home.new }
-        ensures device { IsErrOf result (LogFault.Device self.old.spare.spot) → HasFailed H.faults H.last_failed self.old.spare.spot home.old home.new }
-        ensures quiet { (IsErrOf result (LogFault.Device self.old.spare.spot) → ⊥) → H.faults home.new ≡ H.faults home.old }
+        ensures rest { RestStays self.old.spare.spot (H.seen home.old) (H.seen home.new) }
+        ensures device { IsErrOf result (LogFault.Device self.old.spare.spot) → HasFailed self.old.spare.spot (H.seen home.old) (H.seen home.new) }
+        ensures quiet { (IsErrOf result (LogFault.Device self.old.spare.spot) → ⊥) → (H.seen home.new).faults ≡ (H.seen home.old).faults }
     {
         if self.generation == u32::MAX {
             return Err(LogFault::Full {

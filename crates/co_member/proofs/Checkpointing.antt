@@ -7,7 +7,8 @@ use Rattle.co_log.specs.LogView.{LogView}
 use Rattle.co_log.specs.Spare.{IsOverfull}
 use Rattle.co_log.specs.declared.fault.NodeFault.{NodeFault}
 use Rattle.co_message.specs.declared.answer.Answer.TheVariants as answer
-use Rattle.co_node.specs.Answers.{HomeView, IsAnswered}
+use Rattle.co_outside.specs.Home.{HomeView}
+use Rattle.co_node.specs.Answers.{IsAnswered}
 use Rattle.co_node.specs.NodeLog.{RepresentsLog}
 use Rattle.co_node.specs.Writes.{closing, filled_with, filling, HasWritten}
 use Rattle.co_node.specs.declared.written.Written.{Written}

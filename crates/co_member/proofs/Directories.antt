@@ -8,7 +8,8 @@ use Rattle.co_log.specs.declared.fault.NodeFault.{NodeFault}
 use Rattle.co_log.specs.declared.fault.NodeFault.TheVariants.{Memory}
 use Rattle.co_node.proofs.Homes.{memory_answered}
 use Rattle.co_node.proofs.Opened.{files_within, left_before}
-use Rattle.co_node.specs.Answers.{HomeView, IsAnswered, IsServed}
+use Rattle.co_outside.specs.Home.{HomeView}
+use Rattle.co_node.specs.Answers.{IsAnswered, IsServed}
 use Rattle.co_node.specs.NodeLog.{RepresentsLog}
 use Rattle.co_outside.specs.declared.spot.Spot.{Spot}
 use Rattle.co_record.specs.declared.record.Record.{Record}

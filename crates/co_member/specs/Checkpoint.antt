@@ -5,7 +5,8 @@ use Rattle.co_base.specs.declared.node.Node.TheVariants as node
 use Rattle.co_log.specs.LogView.{LogView}
 use Rattle.co_log.specs.Spare.{IsOverfull}
 use Rattle.co_log.specs.declared.fault.NodeFault.{NodeFault}
-use Rattle.co_node.specs.Answers.{HomeView, IsAnswered}
+use Rattle.co_outside.specs.Home.{HomeView}
+use Rattle.co_node.specs.Answers.{IsAnswered}
 use Rattle.co_node.specs.declared.written.Written.{Written}
 use Rattle.co_pairs.specs.declared.prepared.Prepared.{Prepared}
 use Rattle.co_plain.specs.LogWrite.{generation_of}

@@ -5,7 +5,6 @@ ghost use Rattle.co_base.specs.declared.head.Kind.{Kind};
 ghost use Rattle.co_base.specs.declared.mark.Mark.{Mark};
 ghost use Rattle.co_log.specs.LogView.{IsHeld, IsShort};
 ghost use Rattle.co_log.specs.Others.{OtherNodesStay};
-ghost use Rattle.co_node.specs.Answers.{seen};
 ghost use Rattle.co_plain.specs.MemberLog.{member_checkpoint};
 ghost use Rattle.co_plain.specs.declared.member_state.MemberState.{MemberState};
 ghost use Rattle.co_member.specs.Checkpoint.{prepared_again, point_of, spare_items, MayFill, IsAnsweredIn, IsCheckpointed};
@@ -95,13 +94,13 @@ impl<E: Engine + Drop> Member<E> {
     /// Closes the spare file.
     fn close<H: Home>(&mut self, home: &mut H) -> Result<MemberStep, NodeFault>
         requires up { is_up self.old ≡ true }
-        requires held { IsHeld (H.file home.old) (H.reach home.old) self.old.log }
+        requires held { IsHeld (H.seen home.old) self.old.log }
         requires stands { (x : MemberState) × RepresentsMember E.stands_for self.old x × (x.log.spare_closed ≡ false) }
         ensures did { (x : MemberState) → RepresentsMember E.stands_for self.old x → IfOk result (λ d. HasDone E.stands_for (member_checkpoint self.old.number x) d self.new) }
         ensures answered { (x : MemberState) → RepresentsMember E.stands_for self.old x →
             IsAnsweredIn false self.old.number x self.old.log self.new.log
-            (seen H.file H.reach H.faults H.last_failed home.old) (seen H.file H.reach H.faults H.last_failed home.new) (written_by result) }
-        ensures rest { OtherNodesStay H.file H.reach H.entered H.faults self.old.log.node home.old home.new }
+            (H.seen home.old) (H.seen home.new) (written_by result) }
+        ensures rest { OtherNodesStay self.old.log.node (H.seen home.old) (H.seen home.new) }
         ensures same { IsSame self.old self.new }
     {
         match co_node::close(self.alloc, &mut self.log, home)? {
@@ -118,13 +117,13 @@ impl<E: Engine + Drop> Member<E> {
     fn fill<H: Home>(&mut self, home: &mut H) -> Result<MemberStep, NodeFault>
         requires up { is_up self.old ≡ true }
         requires short { IsShort self.old.log.current × IsShort self.old.log.spare }
-        requires held { IsHeld (H.file home.old) (H.reach home.old) self.old.log }
+        requires held { IsHeld (H.seen home.old) self.old.log }
         requires stands { (x : MemberState) × RepresentsMember E.stands_for self.old x × (x.log.spare_closed ≡ true) × MayFill x }
         ensures did { (x : MemberState) → RepresentsMember E.stands_for self.old x → IfOk result (λ d. HasDone E.stands_for (member_checkpoint self.old.number x) d self.new) }
         ensures answered { (x : MemberState) → RepresentsMember E.stands_for self.old x →
             IsAnsweredIn true self.old.number x self.old.log self.new.log
-            (seen H.file H.reach H.faults H.last_failed home.old) (seen H.file H.reach H.faults H.last_failed home.new) (written_by result) }
-        ensures rest { OtherNodesStay H.file H.reach H.entered H.faults self.old.log.node home.old home.new }
+            (H.seen home.old) (H.seen home.new) (written_by result) }
+        ensures rest { OtherNodesStay self.old.log.node (H.seen home.old) (H.seen home.new) }
         ensures same { IsSame self.old self.new }
     {
         let items = self.running().spare(self.alloc)?;
@@ -145,13 +144,13 @@ impl<E: Engine + Drop> Member<E> {
     /// `Device` where the directory failed, and only there; `Memory` leaves the old records.
     pub fn checkpoint<H: Home>(&mut self, home: &mut H) -> Result<MemberStep, NodeFault>
         requires up { is_up self.old ≡ true }
-        requires held { IsHeld (H.file home.old) (H.reach home.old) self.old.log }
+        requires held { IsHeld (H.seen home.old) self.old.log }
         requires stands { (x : MemberState) × RepresentsMember E.stands_for self.old x × MayFill x }
         ensures did { (x : MemberState) → RepresentsMember E.stands_for self.old x → IfOk result (λ d. HasDone E.stands_for (member_checkpoint self.old.number x) d self.new) }
         ensures answered { (x : MemberState) → RepresentsMember E.stands_for self.old x →
             IsCheckpointed self.old.number x self.old.log self.new.log
-            (seen H.file H.reach H.faults H.last_failed home.old) (seen H.file H.reach H.faults H.last_failed home.new) (written_by result) }
-        ensures rest { OtherNodesStay H.file H.reach H.entered H.faults self.old.log.node home.old home.new }
+            (H.seen home.old) (H.seen home.new) (written_by result) }
+        ensures rest { OtherNodesStay self.old.log.node (H.seen home.old) (H.seen home.new) }
         ensures same { IsSame self.old self.new }
     {
         if co_node::spare_closed(&self.log) {

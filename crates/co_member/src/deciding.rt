@@ -3,7 +3,6 @@ ghost use Rattle.std.specs.Prelude.{◌≡◌, true, false, Some, IfOk, IsOk};
 ghost use Rattle.co_base.specs.declared.node.Node.TheVariants as node;
 ghost use Rattle.co_log.specs.LogView.{IsHeld};
 ghost use Rattle.co_log.specs.Others.{OtherNodesStay};
-ghost use Rattle.co_node.specs.Answers.{seen};
 ghost use Rattle.co_plain.specs.LocalCommit.{member_local_commit};
 ghost use Rattle.co_plain.specs.Member.{member_deliver, member_vote};
 ghost use Rattle.co_plain.specs.MemberLog.{member_crash};
@@ -49,14 +48,14 @@ impl<E: Engine + Drop> Member<E> {
         message: &Message,
     ) -> Result<MemberStep, NodeFault>
         requires up { is_up self.old ≡ true }
-        requires held { IsHeld (H.file home.old) (H.reach home.old) self.old.log }
+        requires held { IsHeld (H.seen home.old) self.old.log }
         requires about { IsAboutSome message.now }
         requires stands { (x : MemberState) × RepresentsMember E.stands_for self.old x × MayTake x message.now }
         ensures did { (x : MemberState) → RepresentsMember E.stands_for self.old x → IfOk result (λ d. HasDone E.stands_for (member_deliver self.old.number x message.now) d self.new) }
         ensures answered { (x : MemberState) → RepresentsMember E.stands_for self.old x →
             IsAnsweredFor (deliver_plan self.old.number x message.now).writes (node.Member self.old.number) x.log self.old.log self.new.log
-            (seen H.file H.reach H.faults H.last_failed home.old) (seen H.file H.reach H.faults H.last_failed home.new) (written_by result) }
-        ensures rest { OtherNodesStay H.file H.reach H.entered H.faults self.old.log.node home.old home.new }
+            (H.seen home.old) (H.seen home.new) (written_by result) }
+        ensures rest { OtherNodesStay self.old.log.node (H.seen home.old) (H.seen home.new) }
         ensures same { IsSame self.old self.new }
     {
         // What is read of either file is within its bounds, also where there is no memory.
@@ -74,13 +73,13 @@ impl<E: Engine + Drop> Member<E> {
     /// `Device` where the directory failed, and only there; `Memory` leaves the old records.
     pub fn vote<H: Home>(&mut self, home: &mut H, t: Txn) -> Result<MemberStep, NodeFault>
         requires up { is_up self.old ≡ true }
-        requires held { IsHeld (H.file home.old) (H.reach home.old) self.old.log }
+        requires held { IsHeld (H.seen home.old) self.old.log }
         requires stands { (x : MemberState) × RepresentsMember E.stands_for self.old x × MayVote x t }
         ensures did { (x : MemberState) → RepresentsMember E.stands_for self.old x → IfOk result (λ d. HasDone E.stands_for (member_vote self.old.number x t) d self.new) }
         ensures answered { (x : MemberState) → RepresentsMember E.stands_for self.old x →
             IsAnsweredFor (again_plan self.old.number x t (standing_of x t)).writes (node.Member self.old.number) x.log self.old.log self.new.log
-            (seen H.file H.reach H.faults H.last_failed home.old) (seen H.file H.reach H.faults H.last_failed home.new) (written_by result) }
-        ensures rest { OtherNodesStay H.file H.reach H.entered H.faults self.old.log.node home.old home.new }
+            (H.seen home.old) (H.seen home.new) (written_by result) }
+        ensures rest { OtherNodesStay self.old.log.node (H.seen home.old) (H.seen home.new) }
         ensures same { IsSame self.old self.new }
     {
         // What is read of either file is within its bounds, also where there is no memory.
@@ -100,13 +99,13 @@ impl<E: Engine + Drop> Member<E> {
         carried: u16,
     ) -> Result<MemberStep, NodeFault>
         requires up { is_up self.old ≡ true }
-        requires held { IsHeld (H.file home.old) (H.reach home.old) self.old.log }
+        requires held { IsHeld (H.seen home.old) self.old.log }
         requires stands { (x : MemberState) × RepresentsMember E.stands_for self.old x × (holds x.engine.voted t ≡ false) × MayCommit x t carried }
         ensures did { (x : MemberState) → RepresentsMember E.stands_for self.old x → IfOk result (λ d. HasDone E.stands_for (member_local_commit self.old.number x t carried) d self.new) }
         ensures answered { (x : MemberState) → RepresentsMember E.stands_for self.old x →
             IsAnsweredFor (local_commit_plan x t carried).writes (node.Member self.old.number) x.log self.old.log self.new.log
-            (seen H.file H.reach H.faults H.last_failed home.old) (seen H.file H.reach H.faults H.last_failed home.new) (written_by result) }
-        ensures rest { OtherNodesStay H.file H.reach H.entered H.faults self.old.log.node home.old home.new }
+            (H.seen home.old) (H.seen home.new) (written_by result) }
+        ensures rest { OtherNodesStay self.old.log.node (H.seen home.old) (H.seen home.new) }
         ensures same { IsSame self.old self.new }
     {
         // What is read of either file is within its bounds, also where there is no memory.
@@ -118,11 +117,11 @@ impl<E: Engine + Drop> Member<E> {
     /// A crash between two log writes: what was in memory is lost, and the member is down. It makes no call of the directory, takes no
     /// memory, and no fault comes.
     pub fn crash<H: Home>(&mut self, home: &mut H) -> Result<MemberStep, NodeFault>
-        requires held { IsHeld (H.file home.old) (H.reach home.old) self.old.log }
+        requires held { IsHeld (H.seen home.old) self.old.log }
         requires stands { (x : MemberState) × RepresentsMember E.stands_for self.old x }
         ensures did { (x : MemberState) → RepresentsMember E.stands_for self.old x → IfOk result (λ d. HasDone E.stands_for (member_crash x) d self.new) }
         ensures done { IsOk result }
-        ensures held { IsHeld (H.file home.new) (H.reach home.new) self.new.log }
+        ensures held { IsHeld (H.seen home.new) self.new.log }
         ensures home { home.new ≡ home.old }
         ensures same { IsSame self.old self.new }
     {

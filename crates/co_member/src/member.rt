@@ -6,7 +6,6 @@ ghost use Rattle.co_log.specs.LogView.{IsHeld, IsShort};
 ghost use Rattle.co_log.specs.Others.{OtherNodesStay};
 ghost use Rattle.co_log.specs.declared.fault.NodeFault.TheVariants.{Memory};
 ghost use Rattle.co_message.specs.declared.answer.Answer.TheVariants as answer;
-ghost use Rattle.co_node.specs.Answers.{seen};
 ghost use Rattle.co_plain.specs.Member.{prepare_record};
 ghost use Rattle.co_plain.specs.MemberStep.{standing_of};
 ghost use Rattle.co_plain.specs.declared.member_state.MemberState.{MemberState};
@@ -116,7 +115,7 @@ impl<E: Engine + Drop> Member<E> {
     ) -> Result<MemberStep, NodeFault>
         requires up { is_up self.old ≡ true }
         requires short { IsShort self.old.log.current × IsShort self.old.log.spare }
-        requires held { IsHeld (H.file home.old) (H.reach home.old) self.old.log }
+        requires held { IsHeld (H.seen home.old) self.old.log }
         requires stands { (x : MemberState) × RepresentsMember E.stands_for self.old x }
         requires writes { MayWrite plan.writes }
         requires single { IsSingle plan.writes }
@@ -124,8 +123,8 @@ impl<E: Engine + Drop> Member<E> {
             IfOk result (λ d. HasDone E.stands_for (carried_out self.old.number x t plan) d self.new) }
         ensures answered { (x : MemberState) → RepresentsMember E.stands_for self.old x →
             IsAnsweredFor plan.writes (node.Member self.old.number) x.log self.old.log self.new.log
-            (seen H.file H.reach H.faults H.last_failed home.old) (seen H.file H.reach H.faults H.last_failed home.new) (written_by result) }
-        ensures rest { OtherNodesStay H.file H.reach H.entered H.faults self.old.log.node home.old home.new }
+            (H.seen home.old) (H.seen home.new) (written_by result) }
+        ensures rest { OtherNodesStay self.old.log.node (H.seen home.old) (H.seen home.new) }
         ensures same { IsSame self.old self.new }
     {
         let Plan {
@@ -150,14 +149,14 @@ impl<E: Engine + Drop> Member<E> {
     ) -> Result<MemberStep, NodeFault>
         requires up { is_up self.old ≡ true }
         requires short { IsShort self.old.log.current × IsShort self.old.log.spare }
-        requires held { IsHeld (H.file home.old) (H.reach home.old) self.old.log }
+        requires held { IsHeld (H.seen home.old) self.old.log }
         requires stands { (x : MemberState) × RepresentsMember E.stands_for self.old x × (standing_of x t ≡ IsActive) × IsWritable (prepare_record t coord count (sets_of (operations_of x.engine t))) }
         ensures did { (x : MemberState) → RepresentsMember E.stands_for self.old x → standing_of x t ≡ IsActive →
             IfOk result (λ d. HasDone E.stands_for (carried_out self.old.number x t (plan_of (Grants coord count) self.old.number x t)) d self.new) }
         ensures answered { (x : MemberState) → RepresentsMember E.stands_for self.old x → standing_of x t ≡ IsActive →
             IsAnsweredFor (plan_of (Grants coord count) self.old.number x t).writes (node.Member self.old.number) x.log self.old.log self.new.log
-            (seen H.file H.reach H.faults H.last_failed home.old) (seen H.file H.reach H.faults H.last_failed home.new) (written_by result) }
-        ensures rest { OtherNodesStay H.file H.reach H.entered H.faults self.old.log.node home.old home.new }
+            (H.seen home.old) (H.seen home.new) (written_by result) }
+        ensures rest { OtherNodesStay self.old.log.node (H.seen home.old) (H.seen home.new) }
         ensures same { IsSame self.old self.new }
     {
         self.change(t, Change::Casts { coord, count })?;
@@ -185,14 +184,14 @@ impl<E: Engine + Drop> Member<E> {
     ) -> Result<MemberStep, NodeFault>
         requires up { is_up self.old ≡ true }
         requires short { IsShort self.old.log.current × IsShort self.old.log.spare }
-        requires held { IsHeld (H.file home.old) (H.reach home.old) self.old.log }
+        requires held { IsHeld (H.seen home.old) self.old.log }
         requires stands { (x : MemberState) × RepresentsMember E.stands_for self.old x × (standing_of x t ≡ IsActive) × MayWrite (plan_of (GrantsLocal count) self.old.number x t).writes }
         ensures did { (x : MemberState) → RepresentsMember E.stands_for self.old x → standing_of x t ≡ IsActive →
             IfOk result (λ d. HasDone E.stands_for (carried_out self.old.number x t (plan_of (GrantsLocal count) self.old.number x t)) d self.new) }
         ensures answered { (x : MemberState) → RepresentsMember E.stands_for self.old x → standing_of x t ≡ IsActive →
             IsAnsweredFor (plan_of (GrantsLocal count) self.old.number x t).writes (node.Member self.old.number) x.log self.old.log self.new.log
-            (seen H.file H.reach H.faults H.last_failed home.old) (seen H.file H.reach H.faults H.last_failed home.new) (written_by result) }
-        ensures rest { OtherNodesStay H.file H.reach H.entered H.faults self.old.log.node home.old home.new }
+            (H.seen home.old) (H.seen home.new) (written_by result) }
+        ensures rest { OtherNodesStay self.old.log.node (H.seen home.old) (H.seen home.new) }
         ensures same { IsSame self.old self.new }
     {
         let prepare = self.running().vote_record(t, LOCAL_COORD, count);
@@ -215,15 +214,15 @@ impl<E: Engine + Drop> Member<E> {
     ) -> Result<MemberStep, NodeFault>
         requires up { is_up self.old ≡ true }
         requires short { IsShort self.old.log.current × IsShort self.old.log.spare }
-        requires held { IsHeld (H.file home.old) (H.reach home.old) self.old.log }
+        requires held { IsHeld (H.seen home.old) self.old.log }
         requires stands { (x : MemberState) × RepresentsMember E.stands_for self.old x × Suits x t (plan_of course self.old.number x t).change × MayWrite (plan_of course self.old.number x t).writes }
         requires single { IsSingleIn course }
         ensures did { (x : MemberState) → RepresentsMember E.stands_for self.old x → Suits x t (plan_of course self.old.number x t).change →
             IfOk result (λ d. HasDone E.stands_for (carried_out self.old.number x t (plan_of course self.old.number x t)) d self.new) }
         ensures answered { (x : MemberState) → RepresentsMember E.stands_for self.old x → Suits x t (plan_of course self.old.number x t).change →
             IsAnsweredFor (plan_of course self.old.number x t).writes (node.Member self.old.number) x.log self.old.log self.new.log
-            (seen H.file H.reach H.faults H.last_failed home.old) (seen H.file H.reach H.faults H.last_failed home.new) (written_by result) }
-        ensures rest { OtherNodesStay H.file H.reach H.entered H.faults self.old.log.node home.old home.new }
+            (H.seen home.old) (H.seen home.new) (written_by result) }
+        ensures rest { OtherNodesStay self.old.log.node (H.seen home.old) (H.seen home.new) }
         ensures same { IsSame self.old self.new }
     {
         match course {

@@ -103,15 +103,15 @@ impl<E: Engine + Drop> Member<E> {
     /// Reads the log of a member that is down again, and goes up with what it tells.
     fn go_up<H: Home>(&mut self, home: &mut H) -> Result<MemberStep, NodeFault>
         requires down { self.old.running ≡ None }
-        requires held { IsHeld (H.file home.old) (H.reach home.old) self.old.log }
+        requires held { IsHeld (H.seen home.old) self.old.log }
         requires takes { E.takes self.old.kind }
         requires stands { (x : MemberState) × RepresentsMember E.stands_for self.old x × IsReadable self.old.coords x.log }
         ensures did { (x : MemberState) → RepresentsMember E.stands_for self.old x → IfOk result (λ d. HasDone E.stands_for (member_restart x) d self.new) }
-        ensures reread { IsReread H.gives H.file H.reach H.entered H.faults H.last_failed self.old.log home.old home.new (read_by result) }
+        ensures reread { IsReread H.gives H.seen self.old.log home.old home.new (read_by result) }
         ensures log { self.new.log ≡ self.old.log }
-        ensures held { IsHeld (H.file home.new) (H.reach home.new) self.new.log }
-        ensures files { (H.file home.new self.old.log.current.spot ≡ H.file home.old self.old.log.current.spot) × (H.file home.new self.old.log.spare.spot ≡ H.file home.old self.old.log.spare.spot) }
-        ensures rest { OtherNodesStay H.file H.reach H.entered H.faults self.old.log.node home.old home.new }
+        ensures held { IsHeld (H.seen home.new) self.new.log }
+        ensures files { ((H.seen home.new).file self.old.log.current.spot ≡ (H.seen home.old).file self.old.log.current.spot) × ((H.seen home.new).file self.old.log.spare.spot ≡ (H.seen home.old).file self.old.log.spare.spot) }
+        ensures rest { OtherNodesStay self.old.log.node (H.seen home.old) (H.seen home.new) }
         ensures same { IsSame self.old self.new }
     {
         co_node::reread(&mut self.log, home)?;
@@ -129,16 +129,16 @@ impl<E: Engine + Drop> Member<E> {
     /// `Device` comes where the directory failed, and only there; `Differs` exactly where a file is not what is kept of it, and never over a
     /// directory that tells it; `Memory` where there was none.
     pub fn restart<H: Home>(&mut self, home: &mut H) -> Result<MemberStep, NodeFault>
-        requires held { IsHeld (H.file home.old) (H.reach home.old) self.old.log }
+        requires held { IsHeld (H.seen home.old) self.old.log }
         requires takes { E.takes self.old.kind }
         requires stands { (x : MemberState) × RepresentsMember E.stands_for self.old x × IsReadable self.old.coords x.log }
         ensures did { (x : MemberState) → RepresentsMember E.stands_for self.old x → IfOk result (λ d. HasDone E.stands_for (member_restart x) d self.new) }
         ensures stays { is_up self.old ≡ true → IsOk result × (home.new ≡ home.old) }
-        ensures reread { self.old.running ≡ None → IsReread H.gives H.file H.reach H.entered H.faults H.last_failed self.old.log home.old home.new (read_by result) }
+        ensures reread { self.old.running ≡ None → IsReread H.gives H.seen self.old.log home.old home.new (read_by result) }
         ensures log { self.new.log ≡ self.old.log }
-        ensures held { IsHeld (H.file home.new) (H.reach home.new) self.new.log }
-        ensures files { (H.file home.new self.old.log.current.spot ≡ H.file home.old self.old.log.current.spot) × (H.file home.new self.old.log.spare.spot ≡ H.file home.old self.old.log.spare.spot) }
-        ensures rest { OtherNodesStay H.file H.reach H.entered H.faults self.old.log.node home.old home.new }
+        ensures held { IsHeld (H.seen home.new) self.new.log }
+        ensures files { ((H.seen home.new).file self.old.log.current.spot ≡ (H.seen home.old).file self.old.log.current.spot) × ((H.seen home.new).file self.old.log.spare.spot ≡ (H.seen home.old).file self.old.log.spare.spot) }
+        ensures rest { OtherNodesStay self.old.log.node (H.seen home.old) (H.seen home.new) }
         ensures same { IsSame self.old self.new }
     {
         if self.running.is_some() {

@@ -4,8 +4,7 @@ use Rattle.std.specs.Prelude.{Option, Some, Result, Ok, Err, IfErr, IsErr, IsErr
 use Rattle.std.specs.Result.{IsErrAnd}
 use Rattle.co_base.specs.declared.node.Node.{Node}
 use Rattle.co_outside.specs.declared.spot.Spot.{Spot}
-use Rattle.co_outside.specs.Home.{File}
-use Rattle.co_disk.specs.Homes.{IsClean, RestStays, HasFailed}
+use Rattle.co_outside.specs.Home.{File, IsClean, RestStays, HasFailed, HomeView}
 use Rattle.co_frame.specs.LogText.{most_log_bytes}
 use Rattle.co_record.specs.declared.record.Record.{Record}
 use Rattle.co_log.specs.Attaching.{IsWithin}
@@ -22,7 +21,7 @@ use Rattle.co_log.specs.declared.fault.LogFault.TheVariants.{Device, Stopped, Ba
 use Rattle.co_log.specs.declared.fault.NodeFault.{NodeFault}
 use Rattle.co_log.specs.declared.fault.NodeFault.TheVariants as node
 use Rattle.co_log.proofs.Spots.{spots_apart, current_only, spare_only}
-use Rattle.co_node.specs.Answers.{HomeView, seen, AreTold, AreWithin, LeftAs, IsServed, IsAnswered}
+use Rattle.co_node.specs.Answers.{AreTold, AreWithin, LeftAs, IsServed, IsAnswered}
 use Rattle.co_node.specs.Ended.{IsPassedOn}
 use Rattle.co_node.specs.Sizes.{IsOverlong}
 use Rattle.co_node.specs.declared.written.Written.{Written}

@@ -9,7 +9,8 @@ use Rattle.co_log.specs.declared.fault.NodeFault.{NodeFault}
 use Rattle.co_log.specs.declared.fault.NodeFault.TheVariants.{Device, Differs, Full, Memory}
 use Rattle.co_plain.specs.LogWrite.{with_batch}
 use Rattle.co_plain.specs.declared.log_state.LogState.{LogState}
-use Rattle.co_node.specs.Answers.{HomeView, IsAnswered}
+use Rattle.co_outside.specs.Home.{HomeView}
+use Rattle.co_node.specs.Answers.{IsAnswered}
 use Rattle.co_node.specs.Batches.{AreSpelledOut}
 use Rattle.co_node.specs.NodeLog.{RepresentsLog}
 use Rattle.co_node.proofs.Opened.{left_before}

@@ -3,8 +3,7 @@ use Rattle.std.specs.Prelude.{ℕ, ◌≡◌, ◌⊎◌, List, Option, Some, Res
 use Rattle.co_base.specs.declared.node.Node.{Node}
 use Rattle.co_outside.specs.declared.spot.Spot.{Spot}
 use Rattle.co_outside.specs.Faults.{HasRisen}
-use Rattle.co_outside.specs.Home.{File}
-use Rattle.co_disk.specs.Homes.{IsClean}
+use Rattle.co_outside.specs.Home.{File, IsClean}
 use Rattle.co_record.specs.declared.record.Record.{Record}
 use Rattle.co_frame.specs.LogText.{most_log_bytes}
 use Rattle.co_log.specs.Attaching.{IsWithin}

@@ -9,7 +9,7 @@ ghost use Rattle.co_log.specs.LogView.{IsForcible, IsHeld};
 ghost use Rattle.co_log.specs.Others.{OtherNodesStay};
 ghost use Rattle.co_plain.specs.LogWrite.{with_batch};
 ghost use Rattle.co_plain.specs.declared.log_state.LogState.{LogState};
-ghost use Rattle.co_node.specs.Answers.{seen, IsAnswered};
+ghost use Rattle.co_node.specs.Answers.{IsAnswered};
 ghost use Rattle.co_node.specs.Batches.{AreSpelledOut};
 ghost use Rattle.co_node.specs.NodeLog.{RepresentsLog};
 ghost use Rattle.co_node.specs.Writes.{forcing, HasWritten};
@@ -25,14 +25,14 @@ use co_record::{LentPrepare, Record};
 /// file would have more than 268,435,456 bytes, and changes nothing; `Device` where the directory failed, and only there; `Memory` leaves
 /// the old records.
 pub fn force<H: Home>(log: &mut Log, home: &mut H, item: Record) -> Result<Written, NodeFault>
-    requires held { IsHeld (H.file home.old) (H.reach home.old) log.old }
+    requires held { IsHeld (H.seen home.old) log.old }
     requires stands { (owner : Node) × (l : LogState) × RepresentsLog owner log.old l }
     requires item { IsWritable item × IsForcible item }
     ensures written { (owner : Node) (l : LogState) → RepresentsLog owner log.old l → HasWritten (forcing owner l (item ∷ [])) owner l log.new result }
     ensures answered { (owner : Node) (l : LogState) → RepresentsLog owner log.old l →
         IsAnswered owner log.old.current.spot (IsTooLong log.old.gate (log.old.waiting ++ item ∷ [])) l.stable (with_batch l (item ∷ [])).stable log.new
-        (seen H.file H.reach H.faults H.last_failed home.old) (seen H.file H.reach H.faults H.last_failed home.new) result }
-    ensures rest { OtherNodesStay H.file H.reach H.entered H.faults log.old.node home.old home.new }
+        (H.seen home.old) (H.seen home.new) result }
+    ensures rest { OtherNodesStay log.old.node (H.seen home.old) (H.seen home.new) }
 {
     match log.force(home, item) {
         Ok(marks) => Ok(Written::Done { marks }),
@@ -46,14 +46,14 @@ pub fn force_prepare<H: Home>(
     home: &mut H,
     item: LentPrepare<'_>,
 ) -> Result<Written, NodeFault>
-    requires held { IsHeld (H.file home.old) (H.reach home.old) log.old }
+    requires held { IsHeld (H.seen home.old) log.old }
     requires stands { (owner : Node) × (l : LogState) × RepresentsLog owner log.old l }
     requires item { IsWritable item }
     ensures written { (owner : Node) (l : LogState) → RepresentsLog owner log.old l → HasWritten (forcing owner l (item.entry ∷ [])) owner l log.new result }
     ensures answered { (owner : Node) (l : LogState) → RepresentsLog owner log.old l →
         IsAnswered owner log.old.current.spot (IsTooLong log.old.gate (log.old.waiting ++ item.entry ∷ [])) l.stable (with_batch l (item.entry ∷ [])).stable log.new
-        (seen H.file H.reach H.faults H.last_failed home.old) (seen H.file H.reach H.faults H.last_failed home.new) result }
-    ensures rest { OtherNodesStay H.file H.reach H.entered H.faults log.old.node home.old home.new }
+        (H.seen home.old) (H.seen home.new) result }
+    ensures rest { OtherNodesStay log.old.node (H.seen home.old) (H.seen home.new) }
 {
     match log.force_prepare(home, item) {
         Ok(marks) => Ok(Written::Done { marks }),
@@ -97,14 +97,14 @@ pub fn force_batch<H: Home>(
     home: &mut H,
     batch: SpelledBatch,
 ) -> Result<Written, NodeFault>
-    requires held { IsHeld (H.file home.old) (H.reach home.old) log.old }
+    requires held { IsHeld (H.seen home.old) log.old }
     requires stands { (owner : Node) × (l : LogState) × RepresentsLog owner log.old l }
     requires batch { (more : List Record) × IsBatchOf log.old more batch }
     ensures written { (owner : Node) (l : LogState) (more : List Record) → RepresentsLog owner log.old l → IsBatchOf log.old more batch → HasWritten (forcing owner l (reverse more)) owner l log.new result }
     ensures answered { (owner : Node) (l : LogState) (more : List Record) → RepresentsLog owner log.old l → IsBatchOf log.old more batch →
         IsAnswered owner log.old.current.spot (IsTooLong log.old.gate (log.old.waiting ++ more)) l.stable (with_batch l (reverse more)).stable log.new
-        (seen H.file H.reach H.faults H.last_failed home.old) (seen H.file H.reach H.faults H.last_failed home.new) result }
-    ensures rest { OtherNodesStay H.file H.reach H.entered H.faults log.old.node home.old home.new }
+        (H.seen home.old) (H.seen home.new) result }
+    ensures rest { OtherNodesStay log.old.node (H.seen home.old) (H.seen home.new) }
 {
     match log.force_batch(home, batch) {
         Ok(marks) => Ok(Written::Done { marks }),

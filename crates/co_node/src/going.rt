@@ -47,10 +47,10 @@ pub fn disarm(log: &mut Log)
 
 /// A crash between two log writes: the waiting records and the armed stop are lost. It makes no call of the directory.
 pub fn crash<H: Home>(log: &mut Log, home: &mut H)
-    requires held { IsHeld (H.file home.old) (H.reach home.old) log.old }
+    requires held { IsHeld (H.seen home.old) log.old }
     requires stands { (owner : Node) × (l : LogState) × RepresentsLog owner log.old l }
     ensures stands { (owner : Node) (l : LogState) → RepresentsLog owner log.old l → RepresentsLog owner log.new (crashed_log l) }
-    ensures held { IsHeld (H.file home.new) (H.reach home.new) log.new }
+    ensures held { IsHeld (H.seen home.new) log.new }
     ensures home { home.new ≡ home.old }
 {
     match log.cut(home) {
@@ -64,12 +64,12 @@ pub fn crash<H: Home>(log: &mut Log, home: &mut H)
 /// `Device` comes where the directory failed, and only there; `Differs` exactly where a file is not what is kept of it, with the first place
 /// that differs, and never over a directory that tells it; `Memory` where there was none.
 pub fn reread<H: Home>(log: &mut Log, home: &mut H) -> Result<(), NodeFault>
-    requires held { IsHeld (H.file home.old) (H.reach home.old) log.old }
+    requires held { IsHeld (H.seen home.old) log.old }
     ensures log { log.new ≡ log.old }
-    ensures held { IsHeld (H.file home.new) (H.reach home.new) log.new }
-    ensures files { (H.file home.new log.old.current.spot ≡ H.file home.old log.old.current.spot) × (H.file home.new log.old.spare.spot ≡ H.file home.old log.old.spare.spot) }
-    ensures reread { IsReread H.gives H.file H.reach H.entered H.faults H.last_failed log.old home.old home.new result }
-    ensures rest { OtherNodesStay H.file H.reach H.entered H.faults log.old.node home.old home.new }
+    ensures held { IsHeld (H.seen home.new) log.new }
+    ensures files { ((H.seen home.new).file log.old.current.spot ≡ (H.seen home.old).file log.old.current.spot) × ((H.seen home.new).file log.old.spare.spot ≡ (H.seen home.old).file log.old.spare.spot) }
+    ensures reread { IsReread H.gives H.seen log.old home.old home.new result }
+    ensures rest { OtherNodesStay log.old.node (H.seen home.old) (H.seen home.new) }
 {
     match log.reattach(home) {
         Ok(()) => Ok(()),

@@ -6,7 +6,7 @@ ghost use Rattle.co_log.specs.LogView.{IsHeld};
 ghost use Rattle.co_log.specs.Others.{OtherNodesStay};
 ghost use Rattle.co_log.specs.Spare.{IsFillable, IsOverfull};
 ghost use Rattle.co_plain.specs.declared.log_state.LogState.{LogState};
-ghost use Rattle.co_node.specs.Answers.{seen, IsAnswered};
+ghost use Rattle.co_node.specs.Answers.{IsAnswered};
 ghost use Rattle.co_node.specs.NodeLog.{RepresentsLog};
 ghost use Rattle.co_node.specs.Writes.{closing, filling, filled_with, HasWritten};
 
@@ -30,13 +30,13 @@ pub fn spare_closed(log: &Log) -> bool
 /// It is done, or stopped in the armed device call; then the log stands for what that leaves of the plain log. `Device` comes where the
 /// directory failed, and only there; `Memory` leaves the old records; no other fault comes.
 pub fn close<H: Home>(alloc: Global, log: &mut Log, home: &mut H) -> Result<Written, NodeFault>
-    requires held { IsHeld (H.file home.old) (H.reach home.old) log.old }
+    requires held { IsHeld (H.seen home.old) log.old }
     requires stands { (owner : Node) × (l : LogState) × RepresentsLog owner log.old l × (l.spare_closed ≡ false) }
     ensures written { (owner : Node) (l : LogState) → RepresentsLog owner log.old l → HasWritten (closing l) owner l log.new result }
     ensures answered { (owner : Node) (l : LogState) → RepresentsLog owner log.old l →
         IsAnswered owner log.old.spare.spot ⊥ l.stable l.stable log.new
-        (seen H.file H.reach H.faults H.last_failed home.old) (seen H.file H.reach H.faults H.last_failed home.new) result }
-    ensures rest { OtherNodesStay H.file H.reach H.entered H.faults log.old.node home.old home.new }
+        (H.seen home.old) (H.seen home.new) result }
+    ensures rest { OtherNodesStay log.old.node (H.seen home.old) (H.seen home.new) }
 {
     match log.close_spare(home) {
         Ok(()) => Ok(Written::Done {
@@ -71,14 +71,14 @@ pub fn fill<H: Home>(
     home: &mut H,
     items: &[Record],
 ) -> Result<Written, NodeFault>
-    requires held { IsHeld (H.file home.old) (H.reach home.old) log.old }
+    requires held { IsHeld (H.seen home.old) log.old }
     requires stands { (owner : Node) × (l : LogState) × RepresentsLog owner log.old l × (l.spare_closed ≡ true) }
     requires items { AllByRecursion IsFillable items.now }
     ensures written { (owner : Node) (l : LogState) → RepresentsLog owner log.old l → HasWritten (filling owner l (reverse items.now)) owner l log.new result }
     ensures answered { (owner : Node) (l : LogState) → RepresentsLog owner log.old l →
         IsAnswered owner log.old.spare.spot (IsOverfull log.old items.now) l.stable (filled_with owner l (reverse items.now)) log.new
-        (seen H.file H.reach H.faults H.last_failed home.old) (seen H.file H.reach H.faults H.last_failed home.new) result }
-    ensures rest { OtherNodesStay H.file H.reach H.entered H.faults log.old.node home.old home.new }
+        (H.seen home.old) (H.seen home.new) result }
+    ensures rest { OtherNodesStay log.old.node (H.seen home.old) (H.seen home.new) }
 {
     // What is read of either file is within its bounds, also where there is no memory.
     let _ = log.lengths();

@@ -2,14 +2,13 @@
 use Rattle.std.proofs.Common.{◌≡◌, ℕ, suc, ◌≤◌, ◌++◌, Bool, List, length, sym, ap, subst, ◌∙◌, arith}
 use Rattle.std.specs.Prelude.{Option, Result, Ok, Err, IsErrOf, OnOk, IfOk}
 use Rattle.co_base.specs.Nodes.{IsValidNode}
-use Rattle.co_disk.specs.Homes.{IsClean}
 use Rattle.co_durable.specs.declared.fault.WorldFault.{WorldFault}
 use Rattle.std.specs.FinMap.{keys}
 use Rattle.co_base.specs.declared.head.Head.{Head}
 use Rattle.co_base.specs.declared.head.Kind.{Kind}
 use Rattle.co_base.specs.declared.node.Node.TheVariants.{Member, Coord}
 use Rattle.co_outside.specs.declared.spot.Spot.{Spot}
-use Rattle.co_outside.specs.Home.{File}
+use Rattle.co_outside.specs.Home.{File, IsClean}
 use Rattle.co_log.specs.LogView.{LogView}
 use Rattle.co_plain.specs.Opening.{Found, opened_member, opened_coord, used_numbers, member_headers, coord_headers}
 use Rattle.co_plain.specs.MemberView.{Numbers}

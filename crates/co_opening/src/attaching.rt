@@ -4,7 +4,7 @@ ghost use Rattle.co_base.specs.Nodes.{IsValidNode};
 ghost use Rattle.co_base.specs.declared.node.Node.{Node};
 ghost use Rattle.co_base.specs.declared.node.Node.TheVariants as node;
 ghost use Rattle.co_outside.specs.declared.spot.Spot.{Spot};
-ghost use Rattle.co_disk.specs.Homes.{HasFailed};
+ghost use Rattle.co_outside.specs.Home.{HasFailed};
 ghost use Rattle.co_log.specs.Attaching.{IsOfAttach};
 ghost use Rattle.co_log.specs.LogView.{spot_of};
 ghost use Rattle.co_log.specs.Others.{OtherFilesStay};
@@ -34,13 +34,13 @@ pub(crate) struct Logs {
 /// Attaches the log of a node, whose files are as they were.
 fn attach<H: Home>(alloc: Global, home: &mut H, node: Node, resume: bool) -> Result<Log, LogFault>
     requires { IsValidNode node }
-    ensures attached { IfOk result (IsAttachedTo (H.file home.old) resume node) }
-    ensures kept { IfOk result (IsOwnLog (H.file home.new) (H.reach home.new) node) }
-    ensures refused { IfErr result (IsOfAttach node resume (H.file home.old (spot_of node 0)) (H.file home.old (spot_of node 1))) }
-    ensures reads { OnlyReads H.file H.entered H.faults home.old home.new }
-    ensures others { OtherFilesStay node (H.file home.old) (H.file home.new) (H.reach home.old) (H.reach home.new) }
-    ensures device { (spot : Spot) → IsErrOf result (LogFault.Device spot) → HasFailed H.faults H.last_failed spot home.old home.new }
-    ensures quiet { ((spot : Spot) → IsErrOf result (LogFault.Device spot) → ⊥) → H.faults home.new ≡ H.faults home.old }
+    ensures attached { IfOk result (IsAttachedTo (H.seen home.old).file resume node) }
+    ensures kept { IfOk result (IsOwnLog (H.seen home.new) node) }
+    ensures refused { IfErr result (IsOfAttach node resume ((H.seen home.old).file (spot_of node 0)) ((H.seen home.old).file (spot_of node 1))) }
+    ensures reads { OnlyReads (H.seen home.old) (H.seen home.new) }
+    ensures others { OtherFilesStay node (H.seen home.old).file (H.seen home.new).file (H.seen home.old).reach (H.seen home.new).reach }
+    ensures device { (spot : Spot) → IsErrOf result (LogFault.Device spot) → HasFailed spot (H.seen home.old) (H.seen home.new) }
+    ensures quiet { ((spot : Spot) → IsErrOf result (LogFault.Device spot) → ⊥) → (H.seen home.new).faults ≡ (H.seen home.old).faults }
 {
     Log::attach(alloc, home, node, resume)
 }
@@ -53,13 +53,13 @@ fn attach_log<H: Home>(
     resume: bool,
 ) -> Result<Log, WorldFault>
     requires { IsValidNode node }
-    ensures attached { IfOk result (IsAttachedTo (H.file home.old) resume node) }
-    ensures kept { IfOk result (IsOwnLog (H.file home.new) (H.reach home.new) node) }
-    ensures unattached { IfErr result (λ fault. IsUnattached (H.file home.old) resume fault node) }
-    ensures reads { OnlyReads H.file H.entered H.faults home.old home.new }
-    ensures others { OtherFilesStay node (H.file home.old) (H.file home.new) (H.reach home.old) (H.reach home.new) }
-    ensures device { (spot : Spot) → IsErrOf result (WorldFault.Device spot) → HasFailed H.faults H.last_failed spot home.old home.new }
-    ensures quiet { ((spot : Spot) → IsErrOf result (WorldFault.Device spot) → ⊥) → H.faults home.new ≡ H.faults home.old }
+    ensures attached { IfOk result (IsAttachedTo (H.seen home.old).file resume node) }
+    ensures kept { IfOk result (IsOwnLog (H.seen home.new) node) }
+    ensures unattached { IfErr result (λ fault. IsUnattached (H.seen home.old).file resume fault node) }
+    ensures reads { OnlyReads (H.seen home.old) (H.seen home.new) }
+    ensures others { OtherFilesStay node (H.seen home.old).file (H.seen home.new).file (H.seen home.old).reach (H.seen home.new).reach }
+    ensures device { (spot : Spot) → IsErrOf result (WorldFault.Device spot) → HasFailed spot (H.seen home.old) (H.seen home.new) }
+    ensures quiet { ((spot : Spot) → IsErrOf result (WorldFault.Device spot) → ⊥) → (H.seen home.new).faults ≡ (H.seen home.old).faults }
 {
     match attach(alloc, home, node, resume) {
         Ok(log) => Ok(log),
@@ -82,13 +82,13 @@ fn attach_sort<H: Home>(
     resume: bool,
 ) -> Result<Vec<Log>, WorldFault>
     requires { count ≤ most_in sort }
-    ensures attached { IfOk result (λ logs. EachPair (IsAttachedTo (H.file home.old) resume) (nodes_in sort count) logs.items) }
-    ensures kept { IfOk result (λ logs. AreOwnLogs (H.file home.new) (H.reach home.new) (node_in sort) 0 logs.items) }
-    ensures unattached { IfErr result (IsFirstUnattached (H.file home.old) resume (nodes_in sort count)) }
-    ensures reads { OnlyReads H.file H.entered H.faults home.old home.new }
-    ensures others { (n : Node) → IsValidNode n → ((p : ℕ) → n ≢ node_in sort p) → NodeStays n (H.file home.old) (H.file home.new) (H.reach home.old) (H.reach home.new) }
-    ensures device { (spot : Spot) → IsErrOf result (WorldFault.Device spot) → HasFailed H.faults H.last_failed spot home.old home.new }
-    ensures quiet { ((spot : Spot) → IsErrOf result (WorldFault.Device spot) → ⊥) → H.faults home.new ≡ H.faults home.old }
+    ensures attached { IfOk result (λ logs. EachPair (IsAttachedTo (H.seen home.old).file resume) (nodes_in sort count) logs.items) }
+    ensures kept { IfOk result (λ logs. AreOwnLogs (H.seen home.new) (node_in sort) 0 logs.items) }
+    ensures unattached { IfErr result (IsFirstUnattached (H.seen home.old).file resume (nodes_in sort count)) }
+    ensures reads { OnlyReads (H.seen home.old) (H.seen home.new) }
+    ensures others { (n : Node) → IsValidNode n → ((p : ℕ) → n ≢ node_in sort p) → NodeStays n (H.seen home.old).file (H.seen home.new).file (H.seen home.old).reach (H.seen home.new).reach }
+    ensures device { (spot : Spot) → IsErrOf result (WorldFault.Device spot) → HasFailed spot (H.seen home.old) (H.seen home.new) }
+    ensures quiet { ((spot : Spot) → IsErrOf result (WorldFault.Device spot) → ⊥) → (H.seen home.new).faults ≡ (H.seen home.old).faults }
 {
     let mut logs = Vec::new(alloc);
     for place in 0..count {
@@ -105,13 +105,13 @@ pub(crate) fn attach_all<H: Home>(
     head: &Head,
     resume: bool,
 ) -> Result<Logs, WorldFault>
-    ensures attached { IfOk result (λ logs. AreAttached (H.file home.old) resume (length head.now.kinds) head.now.coords logs.members.items logs.coords.items) }
-    ensures kept_members { IfOk result (λ logs. AreOwnLogs (H.file home.new) (H.reach home.new) node.Member 0 logs.members.items) }
-    ensures kept_coords { IfOk result (λ logs. AreOwnLogs (H.file home.new) (H.reach home.new) node.Coord 0 logs.coords.items) }
-    ensures refused { IfErr result (IsUnopened (H.file home.old) head.now resume) }
-    ensures reads { OnlyReads H.file H.entered H.faults home.old home.new }
-    ensures device { (spot : Spot) → IsErrOf result (WorldFault.Device spot) → HasFailed H.faults H.last_failed spot home.old home.new }
-    ensures quiet { ((spot : Spot) → IsErrOf result (WorldFault.Device spot) → ⊥) → H.faults home.new ≡ H.faults home.old }
+    ensures attached { IfOk result (λ logs. AreAttached (H.seen home.old).file resume (length head.now.kinds) head.now.coords logs.members.items logs.coords.items) }
+    ensures kept_members { IfOk result (λ logs. AreOwnLogs (H.seen home.new) node.Member 0 logs.members.items) }
+    ensures kept_coords { IfOk result (λ logs. AreOwnLogs (H.seen home.new) node.Coord 0 logs.coords.items) }
+    ensures refused { IfErr result (IsUnopened (H.seen home.old).file head.now resume) }
+    ensures reads { OnlyReads (H.seen home.old) (H.seen home.new) }
+    ensures device { (spot : Spot) → IsErrOf result (WorldFault.Device spot) → HasFailed spot (H.seen home.old) (H.seen home.new) }
+    ensures quiet { ((spot : Spot) → IsErrOf result (WorldFault.Device spot) → ⊥) → (H.seen home.new).faults ≡ (H.seen home.old).faults }
 {
     let count = head.kinds.len() as u8;
     let members = attach_sort(alloc, home, Sort::Members, count, resume)?;

@@ -3,7 +3,7 @@ ghost use Rattle.std.specs.Prelude.{ℕ, suc, ◌≡◌, ◌≤◌, ◌++◌, le
 ghost use Rattle.co_base.specs.Nodes.{IsValidNode};
 ghost use Rattle.co_base.specs.declared.node.Node.TheVariants as node;
 ghost use Rattle.co_outside.specs.declared.spot.Spot.{Spot};
-ghost use Rattle.co_disk.specs.Homes.{HasFailed, IsClean};
+ghost use Rattle.co_outside.specs.Home.{HasFailed, IsClean};
 ghost use Rattle.co_log.specs.Others.{OtherNodesStay};
 ghost use Rattle.co_plain.specs.Opening.{Found, header_mark, coord_headers, opened_coord};
 ghost use Rattle.co_opening.specs.Judged.{IsOfMaking};
@@ -33,16 +33,16 @@ fn open_coord<H: Home>(
 ) -> Result<Coord, WorldFault>
     requires few { place ≤ 7 }
     requires found { (found : Found) × IsCoordFound members (suc place) log past found }
-    requires kept { IsOwnLog (H.file home.old) (H.reach home.old) (node.Coord (suc place)) log }
+    requires kept { IsOwnLog (H.seen home.old) (node.Coord (suc place)) log }
     ensures opened { (found : Found) → IsCoordFound members (suc place) log past found →
         IfOk result (λ c. IsCoordAt members place c (opened_coord (suc place) found)) }
     ensures marks { (found : Found) → IsCoordFound members (suc place) log past found → OnOk result (marks.new ≡ marks.old ++ header_mark (node.Coord (suc place)) found.records) }
-    ensures kept { IfOk result (λ c. IsOwnLog (H.file home.new) (H.reach home.new) (node.Coord (suc place)) c.log) }
-    ensures clean { OnOk result ((s : Spot) → IsClean (H.file home.old s) → IsClean (H.file home.new s)) }
-    ensures rest { OtherNodesStay H.file H.reach H.entered H.faults (node.Coord (suc place)) home.old home.new }
+    ensures kept { IfOk result (λ c. IsOwnLog (H.seen home.new) (node.Coord (suc place)) c.log) }
+    ensures clean { OnOk result ((s : Spot) → IsClean (H.seen home.old) s → IsClean (H.seen home.new) s) }
+    ensures rest { OtherNodesStay (node.Coord (suc place)) (H.seen home.old) (H.seen home.new) }
     ensures fault { IfErr result IsOfMaking }
-    ensures device { (spot : Spot) → IsErrOf result (WorldFault.Device spot) → HasFailed H.faults H.last_failed spot home.old home.new }
-    ensures quiet { ((spot : Spot) → IsErrOf result (WorldFault.Device spot) → ⊥) → H.faults home.new ≡ H.faults home.old }
+    ensures device { (spot : Spot) → IsErrOf result (WorldFault.Device spot) → HasFailed spot (H.seen home.old) (H.seen home.new) }
+    ensures quiet { ((spot : Spot) → IsErrOf result (WorldFault.Device spot) → ⊥) → (H.seen home.new).faults ≡ (H.seen home.old).faults }
 {
     make_fresh(home, &mut log, marks)?;
     Ok(Coord::attach(alloc, place + 1, members, log, past)?)
@@ -59,19 +59,19 @@ pub(crate) fn open_coords<H: Home>(
 ) -> Result<Vec<Coord>, WorldFault>
     requires few { length logs.items ≤ 8 }
     requires found { (found : ℕ → Found) × AreCoordsFound members found 0 logs.items pasts.items }
-    requires kept { AreOwnLogs (H.file home.old) (H.reach home.old) node.Coord 0 logs.items }
+    requires kept { AreOwnLogs (H.seen home.old) node.Coord 0 logs.items }
     ensures opened { (found : ℕ → Found) → AreCoordsFound members found 0 logs.items pasts.items →
         IfOk result (λ coords. AreCoordsAt members found coords.items) }
     ensures many { IfOk result (λ coords. length coords.items ≡ length logs.items) }
     ensures marks { (found : ℕ → Found) → AreCoordsFound members found 0 logs.items pasts.items →
         OnOk result (marks.new ≡ marks.old ++ coord_headers (length logs.items) found) }
-    ensures kept { IfOk result (λ coords. AreOwnCoords (H.file home.new) (H.reach home.new) coords.items) }
-    ensures clean { OnOk result ((s : Spot) → IsClean (H.file home.old s) → IsClean (H.file home.new s)) }
-    ensures others { (m : ℕ) → IsValidNode (node.Member m) → NodeStays (node.Member m) (H.file home.old) (H.file home.new) (H.reach home.old) (H.reach home.new) }
-    ensures entered { H.entered home.new ≡ H.entered home.old }
+    ensures kept { IfOk result (λ coords. AreOwnCoords (H.seen home.new) coords.items) }
+    ensures clean { OnOk result ((s : Spot) → IsClean (H.seen home.old) s → IsClean (H.seen home.new) s) }
+    ensures others { (m : ℕ) → IsValidNode (node.Member m) → NodeStays (node.Member m) (H.seen home.old).file (H.seen home.new).file (H.seen home.old).reach (H.seen home.new).reach }
+    ensures entered { (H.seen home.new).entered ≡ (H.seen home.old).entered }
     ensures fault { IfErr result IsOfMaking }
-    ensures device { (spot : Spot) → IsErrOf result (WorldFault.Device spot) → HasFailed H.faults H.last_failed spot home.old home.new }
-    ensures quiet { ((spot : Spot) → IsErrOf result (WorldFault.Device spot) → ⊥) → H.faults home.new ≡ H.faults home.old }
+    ensures device { (spot : Spot) → IsErrOf result (WorldFault.Device spot) → HasFailed spot (H.seen home.old) (H.seen home.new) }
+    ensures quiet { ((spot : Spot) → IsErrOf result (WorldFault.Device spot) → ⊥) → (H.seen home.new).faults ≡ (H.seen home.old).faults }
 {
     let mut coords = Vec::new(alloc);
     let mut pasts = pasts.into_iter();

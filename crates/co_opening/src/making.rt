@@ -2,7 +2,7 @@
 ghost use Rattle.std.specs.Prelude.{◌≡◌, ◌++◌, IfErr, IsErrOf, OnOk};
 ghost use Rattle.co_base.specs.declared.node.Node.{Node};
 ghost use Rattle.co_outside.specs.declared.spot.Spot.{Spot};
-ghost use Rattle.co_disk.specs.Homes.{HasFailed, IsClean};
+ghost use Rattle.co_outside.specs.Home.{HasFailed, IsClean};
 ghost use Rattle.co_log.specs.Others.{OtherNodesStay};
 ghost use Rattle.co_node.specs.NodeLog.{RepresentsLog};
 ghost use Rattle.co_plain.specs.Opening.{Found, header_mark, opened_log};
@@ -22,15 +22,15 @@ pub(crate) fn make_fresh<H: Home>(
     marks: &mut Marks,
 ) -> Result<(), WorldFault>
     requires stands { (owner : Node) × (found : Found) × IsStanding owner log.old found }
-    requires kept { IsOwnLog (H.file home.old) (H.reach home.old) log.old.node log.old }
+    requires kept { IsOwnLog (H.seen home.old) log.old.node log.old }
     ensures stands { (owner : Node) (found : Found) → IsStanding owner log.old found → OnOk result (RepresentsLog owner log.new (opened_log owner found)) }
     ensures marks { (owner : Node) (found : Found) → IsStanding owner log.old found → OnOk result (marks.new ≡ marks.old ++ header_mark owner found.records) }
-    ensures kept { OnOk result (IsOwnLog (H.file home.new) (H.reach home.new) log.old.node log.new) }
-    ensures clean { OnOk result ((s : Spot) → IsClean (H.file home.old s) → IsClean (H.file home.new s)) }
-    ensures rest { OtherNodesStay H.file H.reach H.entered H.faults log.old.node home.old home.new }
+    ensures kept { OnOk result (IsOwnLog (H.seen home.new) log.old.node log.new) }
+    ensures clean { OnOk result ((s : Spot) → IsClean (H.seen home.old) s → IsClean (H.seen home.new) s) }
+    ensures rest { OtherNodesStay log.old.node (H.seen home.old) (H.seen home.new) }
     ensures fault { IfErr result IsOfMaking }
-    ensures device { (spot : Spot) → IsErrOf result (WorldFault.Device spot) → HasFailed H.faults H.last_failed spot home.old home.new }
-    ensures quiet { ((spot : Spot) → IsErrOf result (WorldFault.Device spot) → ⊥) → H.faults home.new ≡ H.faults home.old }
+    ensures device { (spot : Spot) → IsErrOf result (WorldFault.Device spot) → HasFailed spot (H.seen home.old) (H.seen home.new) }
+    ensures quiet { ((spot : Spot) → IsErrOf result (WorldFault.Device spot) → ⊥) → (H.seen home.new).faults ≡ (H.seen home.old).faults }
 {
     if !log.fresh() {
         return Ok(());

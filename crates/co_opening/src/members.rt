@@ -5,7 +5,7 @@ ghost use Rattle.co_base.specs.declared.head.Kind.{Kind};
 ghost use Rattle.co_base.specs.Nodes.{IsValidNode};
 ghost use Rattle.co_base.specs.declared.node.Node.TheVariants as node;
 ghost use Rattle.co_outside.specs.declared.spot.Spot.{Spot};
-ghost use Rattle.co_disk.specs.Homes.{HasFailed, IsClean};
+ghost use Rattle.co_outside.specs.Home.{HasFailed, IsClean};
 ghost use Rattle.co_log.specs.Others.{OtherNodesStay};
 ghost use Rattle.co_plain.specs.Opening.{Found, header_mark, member_headers, kind_of, opened_member};
 ghost use Rattle.co_opening.specs.Judged.{IsOfMaking};
@@ -38,16 +38,16 @@ fn open_member<E: Engine + Drop, H: Home>(
     requires takes { E.takes kind }
     requires few { place ≤ 15 }
     requires found { (found : Found) × IsMemberFound coords (suc place) log past found }
-    requires kept { IsOwnLog (H.file home.old) (H.reach home.old) (node.Member (suc place)) log }
+    requires kept { IsOwnLog (H.seen home.old) (node.Member (suc place)) log }
     ensures opened { (kinds : List Kind) (found : Found) → kind ≡ kind_of kinds (suc place) → IsMemberFound coords (suc place) log past found →
         IfOk result (λ m. IsMemberAt E.takes E.stands_for coords place m (opened_member kinds (suc place) found)) }
     ensures marks { (found : Found) → IsMemberFound coords (suc place) log past found → OnOk result (marks.new ≡ marks.old ++ header_mark (node.Member (suc place)) found.records) }
-    ensures kept { IfOk result (λ m. IsOwnLog (H.file home.new) (H.reach home.new) (node.Member (suc place)) m.log) }
-    ensures clean { OnOk result ((s : Spot) → IsClean (H.file home.old s) → IsClean (H.file home.new s)) }
-    ensures rest { OtherNodesStay H.file H.reach H.entered H.faults (node.Member (suc place)) home.old home.new }
+    ensures kept { IfOk result (λ m. IsOwnLog (H.seen home.new) (node.Member (suc place)) m.log) }
+    ensures clean { OnOk result ((s : Spot) → IsClean (H.seen home.old) s → IsClean (H.seen home.new) s) }
+    ensures rest { OtherNodesStay (node.Member (suc place)) (H.seen home.old) (H.seen home.new) }
     ensures fault { IfErr result IsOfMaking }
-    ensures device { (spot : Spot) → IsErrOf result (WorldFault.Device spot) → HasFailed H.faults H.last_failed spot home.old home.new }
-    ensures quiet { ((spot : Spot) → IsErrOf result (WorldFault.Device spot) → ⊥) → H.faults home.new ≡ H.faults home.old }
+    ensures device { (spot : Spot) → IsErrOf result (WorldFault.Device spot) → HasFailed spot (H.seen home.old) (H.seen home.new) }
+    ensures quiet { ((spot : Spot) → IsErrOf result (WorldFault.Device spot) → ⊥) → (H.seen home.new).faults ≡ (H.seen home.old).faults }
 {
     make_fresh(home, &mut log, marks)?;
     Ok(Member::attach(alloc, place + 1, kind, coords, log, past)?)
@@ -67,19 +67,19 @@ pub(crate) fn open_members<E: Engine + Drop, H: Home>(
     requires few { length kinds.now ≤ 16 }
     requires many { length logs.items ≡ length kinds.now }
     requires found { (found : ℕ → Found) × AreMembersFound coords found 0 logs.items pasts.items }
-    requires kept { AreOwnLogs (H.file home.old) (H.reach home.old) node.Member 0 logs.items }
+    requires kept { AreOwnLogs (H.seen home.old) node.Member 0 logs.items }
     ensures opened { (found : ℕ → Found) → AreMembersFound coords found 0 logs.items pasts.items →
         IfOk result (λ members. AreMembersAt E.takes E.stands_for kinds.now coords found members.items) }
     ensures many { IfOk result (λ members. length members.items ≡ length kinds.now) }
     ensures marks { (found : ℕ → Found) → AreMembersFound coords found 0 logs.items pasts.items →
         OnOk result (marks.new ≡ marks.old ++ member_headers (length kinds.now) found) }
-    ensures kept { IfOk result (λ members. AreOwnMembers (H.file home.new) (H.reach home.new) members.items) }
-    ensures clean { OnOk result ((s : Spot) → IsClean (H.file home.old s) → IsClean (H.file home.new s)) }
-    ensures others { (c : ℕ) → IsValidNode (node.Coord c) → NodeStays (node.Coord c) (H.file home.old) (H.file home.new) (H.reach home.old) (H.reach home.new) }
-    ensures entered { H.entered home.new ≡ H.entered home.old }
+    ensures kept { IfOk result (λ members. AreOwnMembers (H.seen home.new) members.items) }
+    ensures clean { OnOk result ((s : Spot) → IsClean (H.seen home.old) s → IsClean (H.seen home.new) s) }
+    ensures others { (c : ℕ) → IsValidNode (node.Coord c) → NodeStays (node.Coord c) (H.seen home.old).file (H.seen home.new).file (H.seen home.old).reach (H.seen home.new).reach }
+    ensures entered { (H.seen home.new).entered ≡ (H.seen home.old).entered }
     ensures fault { IfErr result IsOfMaking }
-    ensures device { (spot : Spot) → IsErrOf result (WorldFault.Device spot) → HasFailed H.faults H.last_failed spot home.old home.new }
-    ensures quiet { ((spot : Spot) → IsErrOf result (WorldFault.Device spot) → ⊥) → H.faults home.new ≡ H.faults home.old }
+    ensures device { (spot : Spot) → IsErrOf result (WorldFault.Device spot) → HasFailed spot (H.seen home.old) (H.seen home.new) }
+    ensures quiet { ((spot : Spot) → IsErrOf result (WorldFault.Device spot) → ⊥) → (H.seen home.new).faults ≡ (H.seen home.old).faults }
 {
     let mut members = Vec::new(alloc);
     let mut pasts = pasts.into_iter();

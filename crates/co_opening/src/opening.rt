@@ -3,9 +3,8 @@ ghost use Rattle.std.specs.Prelude.{◌≡◌, ◌≤◌, Bool, Option, IfOk, If
 ghost use Rattle.std.specs.FinMap.{keys};
 ghost use Rattle.std.specs.List.{AllByRecursion};
 ghost use Rattle.co_base.specs.declared.node.Node.TheVariants as node;
-ghost use Rattle.co_outside.specs.Home.{File};
+ghost use Rattle.co_outside.specs.Home.{File, HasFailed, IsClean};
 ghost use Rattle.co_outside.specs.declared.spot.Spot.{Spot};
-ghost use Rattle.co_disk.specs.Homes.{HasFailed, IsClean};
 ghost use Rattle.co_state.specs.Table.{no_entries};
 ghost use Rattle.co_opening.specs.Counted.{with_members, with_coords};
 ghost use Rattle.co_opening.specs.Judged.{AreJudged, IsOfMaking};
@@ -36,18 +35,18 @@ fn make_nodes<E: Engine + Drop, H: Home>(
 ) -> Result<Nodes<E>, WorldFault>
     requires takes { AllByRecursion E.takes head.now.kinds }
     requires judged { (file : Spot → Option File) × (resume : Bool) × AreJudged file resume head.now logs.members.items logs.coords.items pasts.members.items pasts.coords.items }
-    requires kept_members { AreOwnLogs (H.file home.old) (H.reach home.old) node.Member 0 logs.members.items }
-    requires kept_coords { AreOwnLogs (H.file home.old) (H.reach home.old) node.Coord 0 logs.coords.items }
+    requires kept_members { AreOwnLogs (H.seen home.old) node.Member 0 logs.members.items }
+    requires kept_coords { AreOwnLogs (H.seen home.old) node.Coord 0 logs.coords.items }
     requires used { used ≡ keys (with_coords (with_members no_entries pasts.members.items) pasts.coords.items) }
     requires few { length used ≤ 65536 }
     ensures opened { (file : Spot → Option File) (resume : Bool) → AreJudged file resume head.now logs.members.items logs.coords.items pasts.members.items pasts.coords.items →
         IfOk result (AreOpened E.takes E.stands_for file head.now resume) }
-    ensures kept { IfOk result (λ n. AreKept (H.file home.new) (H.reach home.new) n.members.items n.coords.items) }
-    ensures clean { OnOk result ((s : Spot) → IsClean (H.file home.old s) → IsClean (H.file home.new s)) }
-    ensures entered { H.entered home.new ≡ H.entered home.old }
+    ensures kept { IfOk result (λ n. AreKept (H.seen home.new) n.members.items n.coords.items) }
+    ensures clean { OnOk result ((s : Spot) → IsClean (H.seen home.old) s → IsClean (H.seen home.new) s) }
+    ensures entered { (H.seen home.new).entered ≡ (H.seen home.old).entered }
     ensures fault { IfErr result IsOfMaking }
-    ensures device { (spot : Spot) → IsErrOf result (WorldFault.Device spot) → HasFailed H.faults H.last_failed spot home.old home.new }
-    ensures quiet { ((spot : Spot) → IsErrOf result (WorldFault.Device spot) → ⊥) → H.faults home.new ≡ H.faults home.old }
+    ensures device { (spot : Spot) → IsErrOf result (WorldFault.Device spot) → HasFailed spot (H.seen home.old) (H.seen home.new) }
+    ensures quiet { ((spot : Spot) → IsErrOf result (WorldFault.Device spot) → ⊥) → (H.seen home.new).faults ≡ (H.seen home.old).faults }
 {
     let count = head.kinds.len() as u8;
     let mut marks = Marks::new(alloc);
@@ -83,14 +82,14 @@ pub fn open_nodes<E: Engine + Drop, H: Home>(
     resume: bool,
 ) -> Result<Nodes<E>, WorldFault>
     requires kinds { AllByRecursion E.takes head.now.kinds }
-    ensures opened { IfOk result (AreOpened E.takes E.stands_for (H.file home.old) head.now resume) }
-    ensures kept { IfOk result (λ n. AreKept (H.file home.new) (H.reach home.new) n.members.items n.coords.items) }
-    ensures clean { IfOk result (λ n. (s : Spot) → IsClean (H.file home.old s) → IsClean (H.file home.new s)) }
-    ensures refused { IfErr result (IsUnopened (H.file home.old) head.now resume) }
-    ensures untouched { IfErr result (λ fault. IsOfFound fault → (s : Spot) → H.file home.new s ≡ H.file home.old s) }
-    ensures entered { H.entered home.new ≡ H.entered home.old }
-    ensures device { (spot : Spot) → IsErrOf result (WorldFault.Device spot) → HasFailed H.faults H.last_failed spot home.old home.new }
-    ensures quiet { ((spot : Spot) → IsErrOf result (WorldFault.Device spot) → ⊥) → H.faults home.new ≡ H.faults home.old }
+    ensures opened { IfOk result (AreOpened E.takes E.stands_for (H.seen home.old).file head.now resume) }
+    ensures kept { IfOk result (λ n. AreKept (H.seen home.new) n.members.items n.coords.items) }
+    ensures clean { IfOk result (λ n. (s : Spot) → IsClean (H.seen home.old) s → IsClean (H.seen home.new) s) }
+    ensures refused { IfErr result (IsUnopened (H.seen home.old).file head.now resume) }
+    ensures untouched { IfErr result (λ fault. IsOfFound fault → (s : Spot) → (H.seen home.new).file s ≡ (H.seen home.old).file s) }
+    ensures entered { (H.seen home.new).entered ≡ (H.seen home.old).entered }
+    ensures device { (spot : Spot) → IsErrOf result (WorldFault.Device spot) → HasFailed spot (H.seen home.old) (H.seen home.new) }
+    ensures quiet { ((spot : Spot) → IsErrOf result (WorldFault.Device spot) → ⊥) → (H.seen home.new).faults ≡ (H.seen home.old).faults }
 {
     let logs = attach_all(alloc, home, head, resume)?;
     let pasts = judge(alloc, head, &logs)?;

@@ -1,14 +1,13 @@
 -- Calls that fail where they are due, and what they answer.
-use Rattle.std.proofs.Common.{◌≡◌, ◌∙◌, List, Option, Result, Ok, Err, IsErrOf, IsErrAnd, ap, sym}
+use Rattle.std.proofs.Common.{◌≡◌, ◌∙◌, Result, Ok, Err, IsErrOf, IsErrAnd, ap, sym}
 use Rattle.co_outside.specs.declared.spot.Spot.{Spot}
-use Rattle.co_outside.specs.declared.home.FailAt.{FailAt}
 use Rattle.co_outside.specs.declared.home.HomeCall.{HomeCall}
 use Rattle.co_outside.specs.declared.home.HomeFault.{HomeFault}
 use Rattle.co_outside.specs.declared.home.HomeFault.TheVariants.{Failed, Memory}
-use Rattle.co_outside.specs.Home.{FailsAsDue}
+use Rattle.co_outside.specs.Home.{HomeView, FailsAsDue}
 
 -- a fault that is handed on
-pub due_handed : {T U : Type 0} (spot : Spot) (call : HomeCall) (old new : Option (List FailAt)) (r : Result T HomeFault) (s : Result U HomeFault) (e : HomeFault) → r ≡ Err e → IsErrAnd s (λ x. x ≡ e) → FailsAsDue spot call old new r → FailsAsDue spot call old new s
+pub due_handed : {T U : Type 0} (spot : Spot) (call : HomeCall) (old new : HomeView) (r : Result T HomeFault) (s : Result U HomeFault) (e : HomeFault) → r ≡ Err e → IsErrAnd s (λ x. x ≡ e) → FailsAsDue spot call old new r → FailsAsDue spot call old new s
 due_handed spot call old new r (Ok y) e was is due = absurd is
 due_handed {U = U} spot call old new r (Err x) e was is due = λ calls told.
     let d = due calls told in
@@ -18,7 +17,7 @@ due_handed {U = U} spot call old new r (Err x) e was is due = λ calls told.
     ((λ h. d.0.0 (back h), λ has. on (d.0.1 has)), d.1)
 
 -- another answer of a call that was not due
-pub due_other : {T U : Type 0} (spot : Spot) (call : HomeCall) (old new : Option (List FailAt)) (r : Result T HomeFault) (s : Result U HomeFault) → (IsErrOf r Failed → ⊥) → (IsErrOf s Failed → ⊥) → FailsAsDue spot call old new r → FailsAsDue spot call old new s
+pub due_other : {T U : Type 0} (spot : Spot) (call : HomeCall) (old new : HomeView) (r : Result T HomeFault) (s : Result U HomeFault) → (IsErrOf r Failed → ⊥) → (IsErrOf s Failed → ⊥) → FailsAsDue spot call old new r → FailsAsDue spot call old new s
 due_other spot call old new r s not_r not_s due = λ calls told.
     let d = due calls told in
     ((λ h. absurd (not_s h), λ h. absurd (not_r (d.0.1 h))), d.1)

@@ -23,7 +23,7 @@ pub struct HomeMemory {
 impl HomeMemory {
     ghost use Rattle.co_outside.specs.declared.spot.Spot.{Spot};
     ghost use Rattle.co_outside.specs.Home.{IsCounted, FailsAsDue, empty_file};
-    ghost use Rattle.co_outside.specs.HomeMemory.{memory_file, memory_bytes, memory_entered, HasSameFiles, HasSameCounts};
+    ghost use Rattle.co_outside.specs.HomeMemory.{memory_file, memory_bytes, memory_entered, HasSameFiles, HasSameCounts, memory_seen};
 
     /// No files, each of them clean. `fail` names the calls that are to fail. Takes no memory.
     pub fn new(alloc: Global, fail: Vec<FailAt>) -> HomeMemory
@@ -69,9 +69,9 @@ impl HomeMemory {
     /// Begins a call, which fails where it is one of those that are to fail.
     fn begin(&mut self, spot: Spot, call: HomeCall) -> Result<(), HomeFault>
         ensures same { HasSameFiles self.old self.new }
-        ensures counted { IsCounted (λ h. h.faults) (λ h. h.last_failed) spot self.old self.new result }
+        ensures counted { IsCounted spot (memory_seen self.old) (memory_seen self.new) result }
         ensures fault { IfErr result (λ e. e ≡ HomeFault.Failed) }
-        ensures due { FailsAsDue spot call (Some self.old.fail.items) (Some self.new.fail.items) result }
+        ensures due { FailsAsDue spot call (memory_seen self.old) (memory_seen self.new) result }
     {
         if is_call_due(&mut self.fail, spot, call) {
             self.faults = self.faults.saturating_add(1);
@@ -83,22 +83,12 @@ impl HomeMemory {
 }
 
 impl Home for HomeMemory {
-    ghost use Rattle.co_outside.specs.HomeMemory.{memory_file, memory_bytes, memory_entered};
+    ghost use Rattle.co_outside.specs.HomeMemory.{memory_seen, memory_bytes};
     ghost use Rattle.co_outside.specs.HomeMemoryLaws.{gives_front, reaches_end};
 
-    ghost file = { memory_file };
-
-    ghost reach = { λ h s. length (memory_bytes h s) };
+    ghost seen = { memory_seen };
 
     ghost gives = { λ h s most bytes. bytes ≡ take most (memory_bytes h s) };
-
-    ghost entered = { memory_entered };
-
-    ghost last_failed = { λ h. h.last_failed };
-
-    ghost faults = { λ h. h.faults };
-
-    ghost due = { λ h. Some h.fail.items };
 
     ghost told_gives = { gives_front };
 

@@ -39,19 +39,9 @@ impl Home for HomeTwist {
     ghost use Rattle.co_outside.specs.Untold.{none_is_no_file};
     ghost use Rattle.co_outside.specs.HomeMemory.{memory_bytes, memory_entered};
 
-    ghost file = { λ _ _. None };
-
-    ghost reach = { λ h s. length (memory_bytes h.inner s) };
+    ghost seen = { λ h. record { file = λ _. None; reach = λ s. length (memory_bytes h.inner s); entered = memory_entered h.inner; last_failed = h.inner.last_failed; faults = h.inner.faults; due = None } };
 
     ghost gives = { λ _ _ _ _. Unit {0} };
-
-    ghost entered = { λ h. memory_entered h.inner };
-
-    ghost last_failed = { λ h. h.inner.last_failed };
-
-    ghost faults = { λ h. h.inner.faults };
-
-    ghost due = { λ _. None };
 
     ghost told_gives = { λ h s most bytes f told gives. absurd (none_is_no_file f told) };
 

@@ -10,8 +10,7 @@ use Rattle.co_message.specs.declared.item.Item.{Item}
 use Rattle.co_message.specs.declared.item.ItemKind.{ItemKind}
 use Rattle.co_message.specs.declared.item.ItemKind.TheVariants as item
 use Rattle.co_message.specs.declared.message.Message.{Message}
-use Rattle.co_node.specs.Answers.{HomeView, seen}
-use Rattle.co_outside.specs.Home.{File}
+use Rattle.co_outside.specs.Home.{File, HomeView}
 use Rattle.co_outside.specs.Faults.{HasRisen}
 use Rattle.co_outside.specs.declared.spot.Spot.{Spot}
 use Rattle.co_plain.specs.Federation.{Federation}

@@ -4,9 +4,8 @@ use Rattle.co_base.specs.declared.head.Kind.{Kind}
 use Rattle.co_durable.specs.declared.fault.WorldFault.{WorldFault}
 use Rattle.co_durable.specs.declared.fault.WorldFault.TheVariants as world
 use Rattle.co_message.specs.declared.event.Event.{Event}
-use Rattle.co_node.specs.Answers.{HomeView}
 use Rattle.co_outside.specs.Faults.{HasRisen}
-use Rattle.co_outside.specs.Home.{File}
+use Rattle.co_outside.specs.Home.{File, HomeView}
 use Rattle.co_outside.specs.declared.spot.Spot.{Spot}
 use Rattle.co_plain.specs.Federation.{Federation}
 use Rattle.co_plain.specs.Runs.{run, transcript, lines}

@@ -1,6 +1,5 @@
 //! An exchange: its first event, and the messages that it then delivers.
 ghost use Rattle.std.specs.Prelude.{IfErr, ◌≡◌, ◌<◌, true, length};
-ghost use Rattle.co_node.specs.Answers.{seen};
 ghost use Rattle.co_plain.specs.Federation.{Federation};
 ghost use Rattle.co_plain.specs.Quiet.{IsEnabled};
 ghost use Rattle.co_world.specs.Readings.{exchange_as, exchange_of};
@@ -69,13 +68,13 @@ fn pass_on<E: Engine + Drop, H: Home>(
     requires in_head { MayPass (length world.old.members.items) (length world.old.coords.items) sent }
     requires number { told.old.number < 4294967295 }
     requires count { steps.old.count < 18446744073709551615 }
-    requires held { AreHeld (H.file home.old) (H.reach home.old) world.old }
+    requires held { AreHeld (H.seen home.old) world.old }
     requires stands { (s : Federation) × RepresentsWorld E.takes E.stands_for world.old s × IsReached s }
     ensures did { (s : Federation) → RepresentsWorld E.takes E.stands_for world.old s → IsReached s →
-        DoesAll E.takes E.stands_for s (passed sent) told.old told.new steps.old steps.new world.new (H.file home.new) (λ note. note ≡ next_note want member s sent) result }
-    ensures ended { EndsAs world.new (seen H.file H.reach H.faults H.last_failed home.old) (seen H.file H.reach H.faults H.last_failed home.new) result }
-    ensures untold { IfErr result (IsUntoldFor H.file) }
-    ensures entered { H.entered home.new ≡ H.entered home.old }
+        DoesAll E.takes E.stands_for s (passed sent) told.old told.new steps.old steps.new world.new (H.seen home.new).file (λ note. note ≡ next_note want member s sent) result }
+    ensures ended { EndsAs world.new (H.seen home.old) (H.seen home.new) result }
+    ensures untold { IfErr result (IsUntoldFor) }
+    ensures entered { (H.seen home.new).entered ≡ (H.seen home.old).entered }
 {
     match sent {
         Some(note) => {
@@ -96,13 +95,13 @@ pub(crate) fn do_exchange<E: Engine + Drop, H: Home>(
 ) -> Result<(), WorldFault>
     requires number { told.old.number < 4294967293 }
     requires count { steps.old.count < 18446744073709551613 }
-    requires held { AreHeld (H.file home.old) (H.reach home.old) world.old }
+    requires held { AreHeld (H.seen home.old) world.old }
     requires stands { (s : Federation) × RepresentsWorld E.takes E.stands_for world.old s × IsReached s × IsEnabled s (exchange_of exchange) }
     ensures did { (s : Federation) → RepresentsWorld E.takes E.stands_for world.old s → IsReached s → IsEnabled s (exchange_of exchange) →
-        DoesAll E.takes E.stands_for s (turn_events s (Exchanges (exchange_of exchange))) told.old told.new steps.old steps.new world.new (H.file home.new) (λ u. Unit {0}) result }
-    ensures ended { EndsAs world.new (seen H.file H.reach H.faults H.last_failed home.old) (seen H.file H.reach H.faults H.last_failed home.new) result }
-    ensures untold { IfErr result (IsUntoldFor H.file) }
-    ensures entered { H.entered home.new ≡ H.entered home.old }
+        DoesAll E.takes E.stands_for s (turn_events s (Exchanges (exchange_of exchange))) told.old told.new steps.old steps.new world.new (H.seen home.new).file (λ u. Unit {0}) result }
+    ensures ended { EndsAs world.new (H.seen home.old) (H.seen home.new) result }
+    ensures untold { IfErr result (IsUntoldFor) }
+    ensures entered { (H.seen home.new).entered ≡ (H.seen home.old).entered }
 {
     let Exchange {
         kind,

@@ -1,6 +1,5 @@
 //! What is open is brought to its end.
 ghost use Rattle.std.specs.Prelude.{IfErr, ◌≡◌, ◌≤◌};
-ghost use Rattle.co_node.specs.Answers.{seen};
 ghost use Rattle.co_plain.specs.Federation.{Federation};
 ghost use Rattle.co_plain.specs.Quiet.{open_count};
 ghost use Rattle.co_world.specs.Standing.{RepresentsWorld, AreHeld};
@@ -40,13 +39,13 @@ pub fn settle<E: Engine + Drop, H: Home>(
 ) -> Result<Items, WorldFault>
     requires number { number ≤ 4000000000 }
     requires count { steps.old.count ≤ 4000000000 }
-    requires held { AreHeld (H.file home.old) (H.reach home.old) world.old }
+    requires held { AreHeld (H.seen home.old) world.old }
     requires stands { (s : Federation) × RepresentsWorld E.takes E.stands_for world.old s × IsReached s × (open_count s ≤ 65536) }
     ensures settled { (s : Federation) → RepresentsWorld E.takes E.stands_for world.old s → IsReached s → open_count s ≤ 65536 →
-        SettlesAs E.takes E.stands_for s number steps.old.count world.new steps.new.count (H.file home.new) result }
-    ensures ended { EndsAs world.new (seen H.file H.reach H.faults H.last_failed home.old) (seen H.file H.reach H.faults H.last_failed home.new) result }
-    ensures untold { IfErr result (IsUntoldFor H.file) }
-    ensures entered { H.entered home.new ≡ H.entered home.old }
+        SettlesAs E.takes E.stands_for s number steps.old.count world.new steps.new.count (H.seen home.new).file result }
+    ensures ended { EndsAs world.new (H.seen home.old) (H.seen home.new) result }
+    ensures untold { IfErr result (IsUntoldFor) }
+    ensures entered { (H.seen home.new).entered ≡ (H.seen home.old).entered }
 {
     world.disarm();
     let mut told = Told {

@@ -1,7 +1,6 @@
 //! One event of settling: it is done, told and counted.
 ghost use Rattle.std.specs.Prelude.{IfErr, ◌≡◌, ◌<◌, ◌+◌, ◌++◌, ◌∷◌, [], length, OnOk};
 ghost use Rattle.co_message.specs.declared.item.ItemKind.TheVariants as item;
-ghost use Rattle.co_node.specs.Answers.{seen};
 ghost use Rattle.co_plain.specs.Federation.{Federation};
 ghost use Rattle.co_plain.specs.Runs.{numbered};
 ghost use Rattle.co_plain.specs.Step.{step_line};
@@ -70,13 +69,13 @@ pub(crate) fn take_step<E: Engine + Drop, H: Home>(
     requires limit { (x : Clients) → MeetsLimit x event → ⊥ }
     requires number { told.old.number < 4294967295 }
     requires count { steps.old.count < 18446744073709551615 }
-    requires held { AreHeld (H.file home.old) (H.reach home.old) world.old }
+    requires held { AreHeld (H.seen home.old) world.old }
     requires stands { (s : Federation) × RepresentsWorld E.takes E.stands_for world.old s × IsReady s }
     ensures did { (s : Federation) → RepresentsWorld E.takes E.stands_for world.old s → IsReady s →
-        DoesAll E.takes E.stands_for s (event ∷ []) told.old told.new steps.old steps.new world.new (H.file home.new) (λ note. note ≡ note_in (wanted_by want member) (step_line s event).items) result }
-    ensures ended { EndsAs world.new (seen H.file H.reach H.faults H.last_failed home.old) (seen H.file H.reach H.faults H.last_failed home.new) result }
-    ensures untold { IfErr result (IsUntoldFor H.file) }
-    ensures entered { H.entered home.new ≡ H.entered home.old }
+        DoesAll E.takes E.stands_for s (event ∷ []) told.old told.new steps.old steps.new world.new (H.seen home.new).file (λ note. note ≡ note_in (wanted_by want member) (step_line s event).items) result }
+    ensures ended { EndsAs world.new (H.seen home.old) (H.seen home.new) result }
+    ensures untold { IfErr result (IsUntoldFor) }
+    ensures entered { (H.seen home.new).entered ≡ (H.seen home.old).entered }
 {
     match world.step(home, told.number + 1, &event) {
         Ok(items) => {

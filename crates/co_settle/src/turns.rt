@@ -1,6 +1,5 @@
 //! One turn of settling: a restart, an exchange or a timer.
 ghost use Rattle.std.specs.Prelude.{IfErr, ◌≡◌, ◌<◌};
-ghost use Rattle.co_node.specs.Answers.{seen};
 ghost use Rattle.co_plain.specs.Federation.{Federation};
 ghost use Rattle.co_world.specs.Standing.{RepresentsWorld, AreHeld};
 ghost use Rattle.co_law_settle.specs.SettlingTurns.{SomethingOpen};
@@ -30,14 +29,14 @@ pub(crate) fn take_turn<E: Engine + Drop, H: Home>(
 ) -> Result<(), WorldFault>
     requires number { told.old.number < 4294967293 }
     requires count { steps.old.count < 18446744073709551613 }
-    requires held { AreHeld (H.file home.old) (H.reach home.old) world.old }
+    requires held { AreHeld (H.seen home.old) world.old }
     requires stands { (s : Federation) × RepresentsWorld E.takes E.stands_for world.old s × IsReached s × SomethingOpen s × AreKnown s candidates.old.numbers }
     ensures did { (s : Federation) → RepresentsWorld E.takes E.stands_for world.old s → IsReached s → AreKnown s candidates.old.numbers →
-        TakesTurn E.takes E.stands_for s told.old told.new steps.old steps.new world.new (H.file home.new) result }
+        TakesTurn E.takes E.stands_for s told.old told.new steps.old steps.new world.new (H.seen home.new).file result }
     ensures busy { (s : Federation) → RepresentsWorld E.takes E.stands_for world.old s → IsReached s → AreKnown s candidates.old.numbers → AreKnown s candidates.new.numbers }
-    ensures ended { EndsAs world.new (seen H.file H.reach H.faults H.last_failed home.old) (seen H.file H.reach H.faults H.last_failed home.new) result }
-    ensures untold { IfErr result (IsUntoldFor H.file) }
-    ensures entered { H.entered home.new ≡ H.entered home.old }
+    ensures ended { EndsAs world.new (H.seen home.old) (H.seen home.new) result }
+    ensures untold { IfErr result (IsUntoldFor) }
+    ensures entered { (H.seen home.new).entered ≡ (H.seen home.old).entered }
 {
     if let Some(node) = world.first_down() {
         let _ = take_step(

@@ -7,8 +7,7 @@ use Rattle.co_message.specs.declared.event.Event.{Event}
 use Rattle.co_message.specs.declared.item.Item.{Item}
 use Rattle.co_message.specs.declared.item.ItemKind.TheVariants as item
 use Rattle.co_outside.specs.declared.spot.Spot.{Spot}
-use Rattle.co_outside.specs.Home.{File}
-use Rattle.co_node.specs.Answers.{HomeView}
+use Rattle.co_outside.specs.Home.{File, HomeView}
 use Rattle.co_plain.specs.Federation.{Federation}
 use Rattle.co_plain.specs.Opening.{opened, opening_items}
 use Rattle.co_plain.specs.Runs.{run, lines, numbered, transcript}

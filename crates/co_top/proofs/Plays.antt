@@ -10,7 +10,7 @@ use Rattle.co_message.specs.declared.event.Event.{Event}
 use Rattle.co_message.specs.declared.item.Item.{Item}
 use Rattle.co_message.specs.declared.item.ItemKind.TheVariants as item
 use Rattle.co_outside.specs.declared.spot.Spot.{Spot}
-use Rattle.co_outside.specs.Home.{File}
+use Rattle.co_outside.specs.Home.{File, HomeView}
 use Rattle.co_durable.proofs.Pairs.{all_append}
 use Rattle.co_durable.specs.declared.fault.WorldFault.{WorldFault}
 use Rattle.co_durable.specs.declared.fault.WorldFault.TheVariants as world
@@ -18,7 +18,6 @@ use Rattle.co_opening.specs.Opened.{IsUnopened, IsOfFound}
 use Rattle.co_world.specs.Served.{HasEndedAs}
 use Rattle.co_law.proofs.GoingOn.{transcript_more}
 use Rattle.co_law_runs.proofs.Agreement.{run_more}
-use Rattle.co_node.specs.Answers.{HomeView}
 use Rattle.co_plain.specs.Federation.{Federation}
 use Rattle.co_plain.specs.Runs.{run, lines, numbered, transcript}
 use Rattle.co_plain.specs.Step.{disarmed, step_line}

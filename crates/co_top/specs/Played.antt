@@ -5,8 +5,7 @@ use Rattle.co_base.specs.declared.head.Head.{Head}
 use Rattle.co_base.specs.declared.head.Kind.{Kind}
 use Rattle.co_message.specs.declared.event.Event.{Event}
 use Rattle.co_outside.specs.declared.spot.Spot.{Spot}
-use Rattle.co_outside.specs.Home.{File}
-use Rattle.co_node.specs.Answers.{HomeView}
+use Rattle.co_outside.specs.Home.{File, HomeView}
 use Rattle.co_plain.specs.Federation.{Federation}
 use Rattle.co_plain.specs.Runs.{run, transcript, lines}
 use Rattle.co_plain.specs.Step.{disarmed, step_line}

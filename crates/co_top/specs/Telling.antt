@@ -4,7 +4,7 @@ use Rattle.co_base.specs.declared.head.Kind.{Kind}
 use Rattle.co_message.specs.declared.event.Event.{Event}
 use Rattle.co_message.specs.declared.item.ItemKind.TheVariants as item
 use Rattle.co_outside.specs.Faults.{HasRisen}
-use Rattle.co_node.specs.Answers.{HomeView}
+use Rattle.co_outside.specs.Home.{HomeView}
 use Rattle.co_plain.specs.Federation.{Federation}
 use Rattle.co_plain.specs.Runs.{numbered}
 use Rattle.co_plain.specs.Step.{disarmed, step_line}

@@ -2,8 +2,7 @@
 ghost use Rattle.std.specs.Prelude.{◌≡◌, ◌≤◌, ◌++◌, ◌∷◌, [], ℕ, Ok, Err, length, IfOk, IsErrOf, OnOk};
 ghost use Rattle.co_outside.specs.Faults.{HasRisen};
 ghost use Rattle.co_outside.specs.declared.spot.Spot.{Spot};
-ghost use Rattle.co_disk.specs.Homes.{IsClean};
-ghost use Rattle.co_node.specs.Answers.{seen};
+ghost use Rattle.co_outside.specs.Home.{IsClean};
 ghost use Rattle.co_plain.specs.Federation.{Federation};
 ghost use Rattle.co_schedule.specs.Lines.{ahead};
 ghost use Rattle.co_schedule.specs.View.{IsEventFor};
@@ -86,13 +85,13 @@ fn tell_event<E: Engine + Drop, K: Sink, H: Home>(
     event: Event,
 ) -> Result<(), Status>
     requires event { IsEventFor (length world.old.members.items) (length world.old.coords.items) event }
-    requires held { AreHeld (H.file home.old) (H.reach home.old) world.old }
+    requires held { AreHeld (H.seen home.old) world.old }
     requires stands { (s : Federation) × RepresentsWorld E.takes E.stands_for world.old s × IsReady s }
     ensures told { (s : Federation) → RepresentsWorld E.takes E.stands_for world.old s → IsReady s →
-        IsToldOf E.takes E.stands_for s number event (K.told out.old) (K.told out.new) (seen H.file H.reach H.faults H.last_failed home.new) world.new result }
-    ensures entered { H.entered home.new ≡ H.entered home.old }
-    ensures clean { OnOk result ((s : Spot) → IsClean (H.file home.old s) → IsClean (H.file home.new s)) }
-    ensures ended { HasEnded (seen H.file H.reach H.faults H.last_failed home.old) (seen H.file H.reach H.faults H.last_failed home.new) result }
+        IsToldOf E.takes E.stands_for s number event (K.told out.old) (K.told out.new) (H.seen home.new) world.new result }
+    ensures entered { (H.seen home.new).entered ≡ (H.seen home.old).entered }
+    ensures clean { OnOk result ((s : Spot) → IsClean (H.seen home.old) s → IsClean (H.seen home.new) s) }
+    ensures ended { HasEnded (H.seen home.old) (H.seen home.new) result }
     ensures failed { IsErrOf result Status.Write → HasRisen (K.faults out.old) (K.faults out.new) }
     ensures quiet { (IsErrOf result Status.Write → ⊥) → K.faults out.new ≡ K.faults out.old }
 {
@@ -113,13 +112,13 @@ pub(crate) fn replay_lines<E: Engine + Drop, S: Source, K: Sink, H: Home>(
     out: &mut K,
 ) -> Result<(), Status>
     requires read { HasRead 1 lines.old }
-    requires held { AreHeld (H.file home.old) (H.reach home.old) world.old }
+    requires held { AreHeld (H.seen home.old) world.old }
     requires stands { (s0 : Federation) × RepresentsWorld E.takes E.stands_for world.old s0 × StaysReady head.now s0 }
     ensures over { (s0 : Federation) → RepresentsWorld E.takes E.stands_for world.old s0 → StaysReady head.now s0 →
-        IsOver E.takes E.stands_for head.now s0 (ahead lines.old (S.left source.old)) (S.left source.new) (K.told out.old) (K.told out.new) (seen H.file H.reach H.faults H.last_failed home.new) world.new result }
-    ensures entered { H.entered home.new ≡ H.entered home.old }
-    ensures clean { OnOk result ((s : Spot) → IsClean (H.file home.old s) → IsClean (H.file home.new s)) }
-    ensures ended { HasEnded (seen H.file H.reach H.faults H.last_failed home.old) (seen H.file H.reach H.faults H.last_failed home.new) result }
+        IsOver E.takes E.stands_for head.now s0 (ahead lines.old (S.left source.old)) (S.left source.new) (K.told out.old) (K.told out.new) (H.seen home.new) world.new result }
+    ensures entered { (H.seen home.new).entered ≡ (H.seen home.old).entered }
+    ensures clean { OnOk result ((s : Spot) → IsClean (H.seen home.old) s → IsClean (H.seen home.new) s) }
+    ensures ended { HasEnded (H.seen home.old) (H.seen home.new) result }
     ensures failed { IsErrOf result Status.Write → HasRisen (K.faults out.old) (K.faults out.new) }
     ensures read { IsErrOf result Status.Read → HasRisen (S.faults source.old) (S.faults source.new) }
     ensures quiet_source { (IsErrOf result Status.Read → ⊥) → S.faults source.new ≡ S.faults source.old }

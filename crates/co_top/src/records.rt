@@ -2,7 +2,7 @@
 ghost use Rattle.std.specs.Prelude.{◌≡◌, ℕ, List, Some};
 ghost use Rattle.co_outside.specs.declared.spot.Spot.{Spot};
 ghost use Rattle.co_outside.specs.Faults.{HasRisen};
-ghost use Rattle.co_disk.specs.Homes.{HasFailed};
+ghost use Rattle.co_outside.specs.Home.{HasFailed};
 ghost use Rattle.co_top.specs.Records.{status_of_records, HasCause, HoldsRecords};
 
 use crate::status::{LimitKind, Status};
@@ -31,14 +31,14 @@ pub(crate) fn records<K: Sink, H: Home>(
     out: &mut K,
     home: &mut H,
 ) -> Status
-    ensures cause { HasCause (H.file home.old) result }
-    ensures durable { (held : List ℕ) → K.told out.old ≡ Some held → HoldsRecords (H.file home.old) held (K.told out.new) result }
+    ensures cause { HasCause (H.seen home.old).file result }
+    ensures durable { (held : List ℕ) → K.told out.old ≡ Some held → HoldsRecords (H.seen home.old).file held (K.told out.new) result }
     ensures write { result ≡ Status.Write → HasRisen (K.faults out.old) (K.faults out.new) }
-    ensures device { (spot : Spot) → result ≡ Status.Device spot → HasFailed H.faults H.last_failed spot home.old home.new }
+    ensures device { (spot : Spot) → result ≡ Status.Device spot → HasFailed spot (H.seen home.old) (H.seen home.new) }
     ensures quiet_sink { (result ≡ Status.Write → ⊥) → K.faults out.new ≡ K.faults out.old }
-    ensures quiet_home { ((spot : Spot) → result ≡ Status.Device spot → ⊥) → H.faults home.new ≡ H.faults home.old }
-    ensures files { (s : Spot) → H.file home.new s ≡ H.file home.old s }
-    ensures entered { result ≡ Status.Done → H.entered home.new ≡ Some directory.now }
+    ensures quiet_home { ((spot : Spot) → result ≡ Status.Device spot → ⊥) → (H.seen home.new).faults ≡ (H.seen home.old).faults }
+    ensures files { (s : Spot) → (H.seen home.new).file s ≡ (H.seen home.old).file s }
+    ensures entered { result ≡ Status.Done → (H.seen home.new).entered ≡ Some directory.now }
 {
     let written = write_records(alloc, home, directory, out);
     status_of_records(written)

@@ -2,7 +2,7 @@
 ghost use Rattle.std.specs.Prelude.{◌≡◌, ◌≤◌, ◌⊎◌, ◌++◌, ◌∷◌, [], ℕ, List, Some, IfOk, IfErr, IsErrOf, OnOk};
 ghost use Rattle.co_outside.specs.Faults.{HasRisen};
 ghost use Rattle.co_outside.specs.declared.spot.Spot.{Spot};
-ghost use Rattle.co_disk.specs.Homes.{HasFailed, IsClean};
+ghost use Rattle.co_outside.specs.Home.{HasFailed, IsClean};
 ghost use Rattle.co_base.specs.declared.head.Head.{Head};
 ghost use Rattle.co_base.specs.declared.head.Kind.{Kind};
 ghost use Rattle.co_message.specs.declared.item.ItemKind.TheVariants as item;
@@ -35,10 +35,10 @@ pub(crate) const LINES: u32 = 262_144;
 
 /// Enters the directory.
 fn enter<H: Home>(alloc: Global, home: &mut H, directory: &str) -> Result<(), Status>
-    ensures entered { OnOk result (H.entered home.new ≡ Some directory.now) }
-    ensures files { (s : Spot) → H.file home.new s ≡ H.file home.old s }
-    ensures device { (spot : Spot) → IsErrOf result (Status.Device spot) → HasFailed H.faults H.last_failed spot home.old home.new }
-    ensures quiet { ((spot : Spot) → IsErrOf result (Status.Device spot) → ⊥) → H.faults home.new ≡ H.faults home.old }
+    ensures entered { OnOk result ((H.seen home.new).entered ≡ Some directory.now) }
+    ensures files { (s : Spot) → (H.seen home.new).file s ≡ (H.seen home.old).file s }
+    ensures device { (spot : Spot) → IsErrOf result (Status.Device spot) → HasFailed spot (H.seen home.old) (H.seen home.new) }
+    ensures quiet { ((spot : Spot) → IsErrOf result (Status.Device spot) → ⊥) → (H.seen home.new).faults ≡ (H.seen home.old).faults }
     ensures faults { IfErr result (λ why. ((spot : Spot) × (why ≡ Status.Device spot)) ⊎ (why ≡ Status.Memory)) }
 {
     match home.enter(alloc, directory) {
@@ -56,14 +56,14 @@ fn attach<E: Engine + Drop, H: Home>(
     resume: bool,
 ) -> Result<(World<E>, Items), Status>
     requires kinds { (kind : Kind) → E.takes kind }
-    ensures opened { IfOk result (λ r. IsAttachedOver E.takes E.stands_for (H.file home.old) head.now resume r.0 r.1) }
-    ensures held { IfOk result (λ r. AreHeld (H.file home.new) (H.reach home.new) r.0) }
-    ensures clean { OnOk result ((s : Spot) → IsClean (H.file home.old s) → IsClean (H.file home.new s)) }
-    ensures refused { IfErr result (IsUnopenedAs (H.file home.old) head.now resume) }
-    ensures untouched { IfErr result (λ why. IsOfFiles why → (s : Spot) → H.file home.new s ≡ H.file home.old s) }
-    ensures entered { H.entered home.new ≡ H.entered home.old }
-    ensures device { (spot : Spot) → IsErrOf result (Status.Device spot) → HasFailed H.faults H.last_failed spot home.old home.new }
-    ensures quiet { ((spot : Spot) → IsErrOf result (Status.Device spot) → ⊥) → H.faults home.new ≡ H.faults home.old }
+    ensures opened { IfOk result (λ r. IsAttachedOver E.takes E.stands_for (H.seen home.old).file head.now resume r.0 r.1) }
+    ensures held { IfOk result (λ r. AreHeld (H.seen home.new) r.0) }
+    ensures clean { OnOk result ((s : Spot) → IsClean (H.seen home.old) s → IsClean (H.seen home.new) s) }
+    ensures refused { IfErr result (IsUnopenedAs (H.seen home.old).file head.now resume) }
+    ensures untouched { IfErr result (λ why. IsOfFiles why → (s : Spot) → (H.seen home.new).file s ≡ (H.seen home.old).file s) }
+    ensures entered { (H.seen home.new).entered ≡ (H.seen home.old).entered }
+    ensures device { (spot : Spot) → IsErrOf result (Status.Device spot) → HasFailed spot (H.seen home.old) (H.seen home.new) }
+    ensures quiet { ((spot : Spot) → IsErrOf result (Status.Device spot) → ⊥) → (H.seen home.new).faults ≡ (H.seen home.old).faults }
 {
     match World::<E>::attach(alloc, home, head, resume) {
         Ok(opened) => Ok(opened),
@@ -80,14 +80,14 @@ fn open<E: Engine + Drop, H: Home>(
     resume: bool,
 ) -> Result<(World<E>, Items), Status>
     requires kinds { (kind : Kind) → E.takes kind }
-    ensures opened { IfOk result (λ r. IsAttachedOver E.takes E.stands_for (H.file home.old) head.now resume r.0 r.1) }
-    ensures held { IfOk result (λ r. AreHeld (H.file home.new) (H.reach home.new) r.0) }
-    ensures clean { OnOk result ((s : Spot) → IsClean (H.file home.old s) → IsClean (H.file home.new s)) }
-    ensures refused { IfErr result (IsUnopenedAs (H.file home.old) head.now resume) }
-    ensures untouched { IfErr result (λ why. IsOfFiles why → (s : Spot) → H.file home.new s ≡ H.file home.old s) }
-    ensures entered { OnOk result (H.entered home.new ≡ Some directory.now) }
-    ensures device { (spot : Spot) → IsErrOf result (Status.Device spot) → HasFailed H.faults H.last_failed spot home.old home.new }
-    ensures quiet { ((spot : Spot) → IsErrOf result (Status.Device spot) → ⊥) → H.faults home.new ≡ H.faults home.old }
+    ensures opened { IfOk result (λ r. IsAttachedOver E.takes E.stands_for (H.seen home.old).file head.now resume r.0 r.1) }
+    ensures held { IfOk result (λ r. AreHeld (H.seen home.new) r.0) }
+    ensures clean { OnOk result ((s : Spot) → IsClean (H.seen home.old) s → IsClean (H.seen home.new) s) }
+    ensures refused { IfErr result (IsUnopenedAs (H.seen home.old).file head.now resume) }
+    ensures untouched { IfErr result (λ why. IsOfFiles why → (s : Spot) → (H.seen home.new).file s ≡ (H.seen home.old).file s) }
+    ensures entered { OnOk result ((H.seen home.new).entered ≡ Some directory.now) }
+    ensures device { (spot : Spot) → IsErrOf result (Status.Device spot) → HasFailed spot (H.seen home.old) (H.seen home.new) }
+    ensures quiet { ((spot : Spot) → IsErrOf result (Status.Device spot) → ⊥) → (H.seen home.new).faults ≡ (H.seen home.old).faults }
 {
     enter(alloc, home, directory)?;
     attach(alloc, home, head, resume)
@@ -156,16 +156,16 @@ fn replayed<E: Engine + Drop, S: Source, K: Sink, H: Home>(
 ) -> Result<(), Status>
     requires kinds { (kind : Kind) → E.takes kind }
     ensures end { (input held : List ℕ) → S.left source.old ≡ Some input → K.told out.old ≡ Some held →
-        IsRunEnd resume input (S.left source.new) held (H.file home.old) (H.file home.new) (K.told out.new) (status_of result) }
+        IsRunEnd resume input (S.left source.new) held (H.seen home.old).file (H.seen home.new).file (K.told out.new) (status_of result) }
     ensures own { IfErr result IsEnding }
-    ensures entered { OnOk result (H.entered home.new ≡ Some directory.now) }
+    ensures entered { OnOk result ((H.seen home.new).entered ≡ Some directory.now) }
     ensures read { IsErrOf result Status.Read → HasRisen (S.faults source.old) (S.faults source.new) }
     ensures write { IsErrOf result Status.Write → HasRisen (K.faults out.old) (K.faults out.new) }
-    ensures device { (spot : Spot) → IsErrOf result (Status.Device spot) → HasFailed H.faults H.last_failed spot home.old home.new }
+    ensures device { (spot : Spot) → IsErrOf result (Status.Device spot) → HasFailed spot (H.seen home.old) (H.seen home.new) }
     ensures quiet_source { (IsErrOf result Status.Read → ⊥) → S.faults source.new ≡ S.faults source.old }
     ensures quiet_sink { (IsErrOf result Status.Write → ⊥) → K.faults out.new ≡ K.faults out.old }
-    ensures quiet_home { ((spot : Spot) → IsErrOf result (Status.Device spot) → ⊥) → H.faults home.new ≡ H.faults home.old }
-    ensures clean { OnOk result ((s : Spot) → IsClean (H.file home.old s) → IsClean (H.file home.new s)) }
+    ensures quiet_home { ((spot : Spot) → IsErrOf result (Status.Device spot) → ⊥) → (H.seen home.new).faults ≡ (H.seen home.old).faults }
+    ensures clean { OnOk result ((s : Spot) → IsClean (H.seen home.old) s → IsClean (H.seen home.new) s) }
 {
     let mut lines = Lines::new(alloc, LINE, LINES)?;
     let head = head_of(alloc, &mut lines, source)?;
@@ -185,16 +185,16 @@ pub(crate) fn replay<E: Engine + Drop, S: Source, K: Sink, H: Home>(
 ) -> Status
     requires kinds { (kind : Kind) → E.takes kind }
     ensures end { (input held : List ℕ) → S.left source.old ≡ Some input → K.told out.old ≡ Some held →
-        IsRunEnd resume input (S.left source.new) held (H.file home.old) (H.file home.new) (K.told out.new) result }
+        IsRunEnd resume input (S.left source.new) held (H.seen home.old).file (H.seen home.new).file (K.told out.new) result }
     ensures own { result ≡ Status.Usage → ⊥ }
-    ensures entered { result ≡ Status.Done → H.entered home.new ≡ Some directory.now }
+    ensures entered { result ≡ Status.Done → (H.seen home.new).entered ≡ Some directory.now }
     ensures read { result ≡ Status.Read → HasRisen (S.faults source.old) (S.faults source.new) }
     ensures write { result ≡ Status.Write → HasRisen (K.faults out.old) (K.faults out.new) }
-    ensures device { (spot : Spot) → result ≡ Status.Device spot → HasFailed H.faults H.last_failed spot home.old home.new }
+    ensures device { (spot : Spot) → result ≡ Status.Device spot → HasFailed spot (H.seen home.old) (H.seen home.new) }
     ensures quiet_source { (result ≡ Status.Read → ⊥) → S.faults source.new ≡ S.faults source.old }
     ensures quiet_sink { (result ≡ Status.Write → ⊥) → K.faults out.new ≡ K.faults out.old }
-    ensures quiet_home { ((spot : Spot) → result ≡ Status.Device spot → ⊥) → H.faults home.new ≡ H.faults home.old }
-    ensures clean { result ≡ Status.Done → (s : Spot) → IsClean (H.file home.old s) → IsClean (H.file home.new s) }
+    ensures quiet_home { ((spot : Spot) → result ≡ Status.Device spot → ⊥) → (H.seen home.new).faults ≡ (H.seen home.old).faults }
+    ensures clean { result ≡ Status.Done → (s : Spot) → IsClean (H.seen home.old) s → IsClean (H.seen home.new) s }
 {
     match replayed::<E, S, K, H>(alloc, directory, resume, source, out, home) {
         Ok(()) => Status::Done,

@@ -2,7 +2,7 @@
 ghost use Rattle.std.specs.Prelude.{◌≡◌, ◌↔◌, ◌⊎◌, ◌||◌, ℕ, List, Some, true, false};
 ghost use Rattle.co_outside.specs.declared.spot.Spot.{Spot};
 ghost use Rattle.co_outside.specs.Faults.{HasRisen};
-ghost use Rattle.co_disk.specs.Homes.{HasFailed, IsClean};
+ghost use Rattle.co_outside.specs.Home.{HasFailed, IsClean};
 ghost use Rattle.co_durable.specs.Told.{AreTold};
 ghost use Rattle.co_top.specs.Checking.{IsCheckEnd, IsExactCheck};
 ghost use Rattle.co_top.specs.Complete.{IsUnhindered};
@@ -67,27 +67,27 @@ pub fn run<S: Source, K: Sink, N: Sink, H: Home>(
     ensures alone { is_records words.now ≡ true → source.new ≡ source.old }
     ensures read { result ≡ Status.Read → HasRisen (S.faults source.old) (S.faults source.new) }
     ensures write { result ≡ Status.Write → HasRisen (K.faults out.old) (K.faults out.new) }
-    ensures device { (spot : Spot) → result ≡ Status.Device spot → HasFailed H.faults H.last_failed spot home.old home.new }
+    ensures device { (spot : Spot) → result ≡ Status.Device spot → HasFailed spot (H.seen home.old) (H.seen home.new) }
     ensures quiet_source { (result ≡ Status.Read → ⊥) → S.faults source.new ≡ S.faults source.old }
     ensures quiet_sink { (result ≡ Status.Write → ⊥) → K.faults out.new ≡ K.faults out.old }
-    ensures quiet_home { ((spot : Spot) → result ≡ Status.Device spot → ⊥) → H.faults home.new ≡ H.faults home.old }
+    ensures quiet_home { ((spot : Spot) → result ≡ Status.Device spot → ⊥) → (H.seen home.new).faults ≡ (H.seen home.old).faults }
     ensures run { (input held : List ℕ) → is_run words.now ≡ true → S.left source.old ≡ Some input → K.told out.old ≡ Some held →
-        IsRunEnd (resumes words.now) input (S.left source.new) held (H.file home.old) (H.file home.new) (K.told out.new) result }
+        IsRunEnd (resumes words.now) input (S.left source.new) held (H.seen home.old).file (H.seen home.new).file (K.told out.new) result }
     ensures complete { (input held : List ℕ) → is_run words.now ≡ true → S.left source.old ≡ Some input → K.told out.old ≡ Some held →
-        IsUnhindered (resumes words.now) input (H.file home.old) (S.faults source.old) (S.faults source.new) (K.faults out.old) (K.faults out.new) (H.faults home.old) (H.faults home.new) result →
+        IsUnhindered (resumes words.now) input (H.seen home.old).file (S.faults source.old) (S.faults source.new) (K.faults out.old) (K.faults out.new) (H.seen home.old).faults (H.seen home.new).faults result →
         (result ≡ Status.Done) ⊎ (result ≡ Status.Memory) }
-    ensures causes { is_records words.now ≡ true → HasCause (H.file home.old) result }
-    ensures exact { is_records words.now ≡ true → AreTold (H.file home.old) 16 8 → IsExact (H.file home.old) result }
-    ensures durable { (held : List ℕ) → is_records words.now ≡ true → K.told out.old ≡ Some held → HoldsRecords (H.file home.old) held (K.told out.new) result }
-    ensures files { is_records words.now ≡ true → (s : Spot) → H.file home.new s ≡ H.file home.old s }
+    ensures causes { is_records words.now ≡ true → HasCause (H.seen home.old).file result }
+    ensures exact { is_records words.now ≡ true → AreTold (H.seen home.old).file 16 8 → IsExact (H.seen home.old).file result }
+    ensures durable { (held : List ℕ) → is_records words.now ≡ true → K.told out.old ≡ Some held → HoldsRecords (H.seen home.old).file held (K.told out.new) result }
+    ensures files { is_records words.now ≡ true → (s : Spot) → (H.seen home.new).file s ≡ (H.seen home.old).file s }
     ensures checked { (input held : List ℕ) → is_check words.now ≡ true → S.left source.old ≡ Some input → K.told out.old ≡ Some held →
         IsCheckEnd input held (K.told out.new) result }
     ensures judged { (input held : List ℕ) → is_check words.now ≡ true → S.left source.old ≡ Some input → K.told out.old ≡ Some held → IsExactCheck input result }
     ensures kept { is_check words.now ≡ true → home.new ≡ home.old }
     ensures tried { (held : List ℕ) → is_trial words.now ≡ true → K.told out.old ≡ Some held → IsTrialEnd (trial_number words.now) (trial_events words.now) held (K.told out.new) result }
     ensures apart { is_trial words.now ≡ true → (source.new ≡ source.old) × (home.new ≡ home.old) }
-    ensures clean { is_run words.now ≡ true → result ≡ Status.Done → (s : Spot) → IsClean (H.file home.old s) → IsClean (H.file home.new s) }
-    ensures entered { (is_run words.now || is_records words.now) ≡ true → result ≡ Status.Done → H.entered home.new ≡ Some (directory_of words.now) }
+    ensures clean { is_run words.now ≡ true → result ≡ Status.Done → (s : Spot) → IsClean (H.seen home.old) s → IsClean (H.seen home.new) s }
+    ensures entered { (is_run words.now || is_records words.now) ≡ true → result ≡ Status.Done → (H.seen home.new).entered ≡ Some (directory_of words.now) }
     ensures notes { (held : List ℕ) → N.told notes.old ≡ Some held → IsNoted held (note_of result) (N.told notes.new) }
 {
     let status = command(alloc, words, source, out, home);
@@ -108,22 +108,22 @@ fn command<S: Source, K: Sink, H: Home>(
     ensures alone { is_records words.now ≡ true → source.new ≡ source.old }
     ensures read { result ≡ Status.Read → HasRisen (S.faults source.old) (S.faults source.new) }
     ensures write { result ≡ Status.Write → HasRisen (K.faults out.old) (K.faults out.new) }
-    ensures device { (spot : Spot) → result ≡ Status.Device spot → HasFailed H.faults H.last_failed spot home.old home.new }
+    ensures device { (spot : Spot) → result ≡ Status.Device spot → HasFailed spot (H.seen home.old) (H.seen home.new) }
     ensures quiet_source { (result ≡ Status.Read → ⊥) → S.faults source.new ≡ S.faults source.old }
     ensures quiet_sink { (result ≡ Status.Write → ⊥) → K.faults out.new ≡ K.faults out.old }
-    ensures quiet_home { ((spot : Spot) → result ≡ Status.Device spot → ⊥) → H.faults home.new ≡ H.faults home.old }
+    ensures quiet_home { ((spot : Spot) → result ≡ Status.Device spot → ⊥) → (H.seen home.new).faults ≡ (H.seen home.old).faults }
     ensures run { (input held : List ℕ) → is_run words.now ≡ true → S.left source.old ≡ Some input → K.told out.old ≡ Some held →
-        IsRunEnd (resumes words.now) input (S.left source.new) held (H.file home.old) (H.file home.new) (K.told out.new) result }
-    ensures causes { is_records words.now ≡ true → HasCause (H.file home.old) result }
-    ensures durable { (held : List ℕ) → is_records words.now ≡ true → K.told out.old ≡ Some held → HoldsRecords (H.file home.old) held (K.told out.new) result }
-    ensures files { is_records words.now ≡ true → (s : Spot) → H.file home.new s ≡ H.file home.old s }
+        IsRunEnd (resumes words.now) input (S.left source.new) held (H.seen home.old).file (H.seen home.new).file (K.told out.new) result }
+    ensures causes { is_records words.now ≡ true → HasCause (H.seen home.old).file result }
+    ensures durable { (held : List ℕ) → is_records words.now ≡ true → K.told out.old ≡ Some held → HoldsRecords (H.seen home.old).file held (K.told out.new) result }
+    ensures files { is_records words.now ≡ true → (s : Spot) → (H.seen home.new).file s ≡ (H.seen home.old).file s }
     ensures checked { (input held : List ℕ) → is_check words.now ≡ true → S.left source.old ≡ Some input → K.told out.old ≡ Some held →
         IsCheckEnd input held (K.told out.new) result }
     ensures kept { is_check words.now ≡ true → home.new ≡ home.old }
     ensures tried { (held : List ℕ) → is_trial words.now ≡ true → K.told out.old ≡ Some held → IsTrialEnd (trial_number words.now) (trial_events words.now) held (K.told out.new) result }
     ensures apart { is_trial words.now ≡ true → (source.new ≡ source.old) × (home.new ≡ home.old) }
-    ensures clean { is_run words.now ≡ true → result ≡ Status.Done → (s : Spot) → IsClean (H.file home.old s) → IsClean (H.file home.new s) }
-    ensures entered { (is_run words.now || is_records words.now) ≡ true → result ≡ Status.Done → H.entered home.new ≡ Some (directory_of words.now) }
+    ensures clean { is_run words.now ≡ true → result ≡ Status.Done → (s : Spot) → IsClean (H.seen home.old) s → IsClean (H.seen home.new) s }
+    ensures entered { (is_run words.now || is_records words.now) ≡ true → result ≡ Status.Done → (H.seen home.new).entered ≡ Some (directory_of words.now) }
 {
     match command_of(words) {
         Command::Run { directory, resume } => {

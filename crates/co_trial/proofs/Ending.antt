@@ -2,7 +2,7 @@
 use Rattle.std.proofs.Common.{◌≡◌, ℕ, ◌<◌, Result, Ok, Err, IsErr, IsErrAnd, Bool, true, false, nat_lt, if◌then◌else◌, Option, None, Some, refl, subst, sym}
 use Rattle.std.proofs.lemmas.Bool.{lt-ltb}
 use Rattle.co_base.specs.declared.head.Head.{Head}
-use Rattle.co_outside.specs.Home.{File}
+use Rattle.co_outside.specs.Home.{File, HomeView}
 use Rattle.co_outside.specs.HomeMemory.{memory_file}
 use Rattle.co_outside.specs.Stored.{bytes_at, clean_at}
 use Rattle.co_outside.specs.declared.home_memory.HomeMemory.{HomeMemory}
@@ -12,7 +12,6 @@ use Rattle.co_plain.specs.Federation.{Federation}
 use Rattle.co_settle.specs.Progress.{IsUntoldFor, HasEnded}
 use Rattle.co_durable.specs.declared.fault.WorldFault.{WorldFault}
 use Rattle.co_durable.specs.declared.fault.WorldFault.TheVariants as world
-use Rattle.co_node.specs.Answers.{HomeView}
 use Rattle.co_world.specs.Left.{HasOverlong, IsFullIn}
 use Rattle.co_world.specs.Served.{HasEndedAs}
 use Rattle.co_trial.specs.Ended.{IsFaultOf, Ended}

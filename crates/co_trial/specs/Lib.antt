@@ -1,3 +1,4 @@
+pub mod Calm
 pub mod Decisions
 pub mod Ended
 pub mod Making

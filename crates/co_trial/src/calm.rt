@@ -3,7 +3,7 @@ ghost use Rattle.std.specs.Prelude.{◌≡◌, ◌<◌, [], None, Some, IsErrOf}
 ghost use Rattle.co_outside.specs.declared.home.HomeFault.TheVariants.{Failed};
 ghost use Rattle.co_outside.specs.declared.spot.Spot.{Spot};
 ghost use Rattle.co_outside.specs.Home.{empty_file};
-ghost use Rattle.co_outside.specs.HomeMemory.{memory_file, memory_bytes, memory_entered};
+ghost use Rattle.co_outside.specs.HomeMemory.{memory_file, memory_entered};
 
 use co_outside::{Home, HomeFault, HomeMemory, Spot};
 use std::alloc::Global;
@@ -40,23 +40,14 @@ impl CalmHome {
 }
 
 impl Home for CalmHome {
-    ghost use Rattle.std.specs.Prelude.{[], ◌≡◌, Some, length, take};
-    ghost use Rattle.co_outside.specs.HomeMemory.{memory_file, memory_bytes, memory_entered};
+    ghost use Rattle.std.specs.Prelude.{◌≡◌, take};
+    ghost use Rattle.co_outside.specs.HomeMemory.{memory_bytes};
+    ghost use Rattle.co_trial.specs.Calm.{calm_seen};
     ghost use Rattle.co_outside.specs.HomeMemoryLaws.{gives_front, reaches_end};
 
-    ghost file = { λ h. memory_file h.memory };
-
-    ghost reach = { λ h s. length (memory_bytes h.memory s) };
+    ghost seen = { λ h. calm_seen h.memory };
 
     ghost gives = { λ h s most bytes. bytes ≡ take most (memory_bytes h.memory s) };
-
-    ghost entered = { λ h. memory_entered h.memory };
-
-    ghost last_failed = { λ h. record { node = 1; part = 0 } };
-
-    ghost faults = { λ h. 0 };
-
-    ghost due = { λ h. Some [] };
 
     ghost told_gives = { λ h. gives_front h.memory };
 

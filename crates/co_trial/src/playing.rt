@@ -52,13 +52,13 @@ fn play<E: Engine + Drop, H: Home>(
     event: Event,
 ) -> Result<(), WorldFault>
     requires event { IsEventFor (length world.old.members.items) (length world.old.coords.items) event }
-    requires held { AreHeld (H.file home.old) (H.reach home.old) world.old }
+    requires held { AreHeld (H.seen home.old) world.old }
     requires stands { (s : Federation) × RepresentsWorld E.takes E.stands_for world.old s × IsReady s × (MeetsPlainLimit s event → ⊥) × HasRoom s event }
     ensures played { (s : Federation) → RepresentsWorld E.takes E.stands_for world.old s → IsReady s →
         OnOk result (HasPlayed E.takes E.stands_for s number event told.old told.new decisions.old decisions.new world.new) }
-    ensures held { OnOk result (AreHeld (H.file home.new) (H.reach home.new) world.new) }
-    ensures ended { Ended (H.faults home.old) (H.faults home.new) result }
-    ensures untold { IfErr result (IsUntoldFor H.file) }
+    ensures held { OnOk result (AreHeld (H.seen home.new) world.new) }
+    ensures ended { Ended (H.seen home.old).faults (H.seen home.new).faults result }
+    ensures untold { IfErr result (IsUntoldFor) }
 {
     match world.step(home, number, &event) {
         Ok(items) => {
@@ -81,13 +81,13 @@ pub(crate) fn play_all<E: Engine + Drop, H: Home>(
     decisions: &mut Decisions,
 ) -> Result<(), WorldFault>
     requires events { events ≤ 60000 }
-    requires held { AreHeld (H.file home.old) (H.reach home.old) world.old }
+    requires held { AreHeld (H.seen home.old) world.old }
     requires stands { (o : Opened) × RepresentsWorld E.takes E.stands_for world.old (start_of o) × AreRun (start_of o) decisions.old (start_of o).decided }
     ensures gone { (o : Opened) → RepresentsWorld E.takes E.stands_for world.old (start_of o) → AreRun (start_of o) decisions.old (start_of o).decided →
         OnOk result (HasGone E.takes E.stands_for o number events told.old told.new decisions.new world.new) }
-    ensures held { OnOk result (AreHeld (H.file home.new) (H.reach home.new) world.new) }
-    ensures ended { Ended (H.faults home.old) (H.faults home.new) result }
-    ensures untold { IfErr result (IsUntoldFor H.file) }
+    ensures held { OnOk result (AreHeld (H.seen home.new) world.new) }
+    ensures ended { Ended (H.seen home.old).faults (H.seen home.new).faults result }
+    ensures untold { IfErr result (IsUntoldFor) }
 {
     let mut maker = Maker::new(alloc, number);
     for place in 0..events {

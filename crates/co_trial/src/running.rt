@@ -40,11 +40,11 @@ fn run_events<E: Engine + Drop, H: Home>(
     decisions: &mut Decisions,
 ) -> Result<u64, WorldFault>
     requires events { events ≤ 60000 }
-    requires held { AreHeld (H.file home.old) (H.reach home.old) world.old }
+    requires held { AreHeld (H.seen home.old) world.old }
     requires stands { (o : Opened) × RepresentsWorld E.takes E.stands_for world.old (start_of o) × AreRun (start_of o) decisions.old (start_of o).decided × Holds256 told.old.hasher (items_text (opening_told o)) }
     ensures done { IfOk result (λ settled. (o : Opened) × IsDone E.takes E.stands_for o number events told.new decisions.new world.new settled) }
-    ensures ended { Ended (H.faults home.old) (H.faults home.new) result }
-    ensures untold { IfErr result (IsUntoldFor H.file) }
+    ensures ended { Ended (H.seen home.old).faults (H.seen home.new).faults result }
+    ensures untold { IfErr result (IsUntoldFor) }
 {
     play_all(alloc, number, events, world, home, told, decisions)?;
     let mut steps = Steps::new();
@@ -99,12 +99,12 @@ fn open<E: Engine + Drop, H: Home>(
     told: &mut Told,
 ) -> Result<World<E>, WorldFault>
     requires kinds { (kind : Kind) → E.takes kind }
-    requires empty { (s : Spot) → s.part < 2 → H.file home.old s ≡ Some empty_file }
+    requires empty { (s : Spot) → s.part < 2 → (H.seen home.old).file s ≡ Some empty_file }
     requires nothing { Holds256 told.old.hasher [] }
     ensures opened { IfOk result (λ world. (o : Opened) × RepresentsWorld E.takes E.stands_for world (start_of o) × Holds256 told.new.hasher (items_text (opening_told o))) }
-    ensures held { IfOk result (AreHeld (H.file home.new) (H.reach home.new)) }
-    ensures ended { Ended (H.faults home.old) (H.faults home.new) result }
-    ensures untold { IfErr result (IsUntoldFor H.file) }
+    ensures held { IfOk result (AreHeld (H.seen home.new)) }
+    ensures ended { Ended (H.seen home.old).faults (H.seen home.new).faults result }
+    ensures untold { IfErr result (IsUntoldFor) }
 {
     let head = trial_head(alloc)?;
     match World::<E>::attach(alloc, home, &head, false) {
@@ -126,10 +126,10 @@ fn trial_in<E: Engine + Drop, H: Home>(
 ) -> Result<Summary, WorldFault>
     requires kinds { (kind : Kind) → E.takes kind }
     requires few { events ≤ 60000 }
-    requires empty { (s : Spot) → s.part < 2 → H.file home.old s ≡ Some empty_file }
+    requires empty { (s : Spot) → s.part < 2 → (H.seen home.old).file s ≡ Some empty_file }
     ensures trial { IfOk result (IsTrial number events) }
-    ensures ended { Ended (H.faults home.old) (H.faults home.new) result }
-    ensures untold { IfErr result (IsUntoldFor H.file) }
+    ensures ended { Ended (H.seen home.old).faults (H.seen home.new).faults result }
+    ensures untold { IfErr result (IsUntoldFor) }
 {
     let mut told = Told::new(alloc);
     let mut decisions = Decisions::new(alloc);

@@ -9,9 +9,9 @@ use Rattle.co_log.specs.Spare.{IsOverfull}
 use Rattle.co_log.specs.declared.fault.NodeFault.{NodeFault}
 use Rattle.co_message.specs.declared.answer.Answer.{Answer}
 use Rattle.co_message.specs.declared.message.Message.{Message}
-use Rattle.co_node.specs.Answers.{HomeView, LeftAs, IsAnswered}
+use Rattle.co_node.specs.Answers.{LeftAs, IsAnswered}
 use Rattle.co_node.specs.Writes.{filled_with}
-use Rattle.co_outside.specs.Home.{File}
+use Rattle.co_outside.specs.Home.{File, HomeView}
 use Rattle.co_outside.specs.declared.spot.Spot.{Spot}
 use Rattle.co_plain.specs.CoordLog.{coord_checkpoint, coord_checkpoint_by}
 use Rattle.co_plain.specs.Coordinator.{coord_commit, coord_deliver}

@@ -6,7 +6,7 @@ use Rattle.co_durable.specs.declared.fault.WorldFault.{WorldFault}
 use Rattle.co_durable.specs.declared.fault.WorldFault.TheVariants as world
 use Rattle.co_log.specs.declared.fault.NodeFault.{NodeFault}
 use Rattle.co_log.specs.declared.fault.NodeFault.TheVariants as log
-use Rattle.co_node.specs.Answers.{HomeView}
+use Rattle.co_outside.specs.Home.{HomeView}
 use Rattle.co_world.specs.Served.{HasFailedAs, HasEndedAs, of_node}
 
 -- a fault of a node

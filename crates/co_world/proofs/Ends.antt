@@ -4,7 +4,7 @@ use Rattle.std.specs.Prelude.{IfErr, OnOk}
 use Rattle.std.specs.Result.{IsErr, IsErrAnd}
 use Rattle.co_durable.specs.declared.fault.WorldFault.{WorldFault}
 use Rattle.co_durable.specs.declared.fault.WorldFault.TheVariants as world
-use Rattle.co_node.specs.Answers.{HomeView}
+use Rattle.co_outside.specs.Home.{HomeView}
 use Rattle.co_opening.specs.Nodes.{AreKept}
 use Rattle.co_world.specs.Served.{AreServed, HasEndedAs, IsOfNoFile}
 use Rattle.co_world.specs.declared.world.World.{World}

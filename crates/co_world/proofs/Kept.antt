@@ -9,9 +9,8 @@ use Rattle.co_log.specs.Attaching.{IsWithin}
 use Rattle.co_log.specs.LogView.{LogView, spot_of}
 use Rattle.co_log.specs.Others.{OtherFilesStay}
 use Rattle.co_log.proofs.Spots.{bytes_apart, held_elsewhere}
-use Rattle.co_node.specs.Answers.{HomeView}
 use Rattle.co_opening.specs.Nodes.{IsKept, AreKept}
-use Rattle.co_outside.specs.Home.{File}
+use Rattle.co_outside.specs.Home.{File, HomeView}
 use Rattle.co_outside.specs.declared.spot.Spot.{Spot}
 use Rattle.co_coord.specs.declared.coord.Coord.{Coord}
 use Rattle.co_member.specs.declared.member.Member.{Member}

@@ -10,10 +10,10 @@ use Rattle.co_message.specs.declared.answer.Answer.{Answer}
 use Rattle.co_message.specs.declared.message.Message.{Message}
 use Rattle.co_message.specs.declared.message.Message.TheVariants as message
 use Rattle.co_node.proofs.Opened.{told_records}
-use Rattle.co_node.specs.Answers.{HomeView, LeftAs, IsAnswered}
+use Rattle.co_node.specs.Answers.{LeftAs, IsAnswered}
 use Rattle.co_node.specs.NodeLog.{RepresentsLog}
 use Rattle.co_opening.specs.Nodes.{IsKept}
-use Rattle.co_outside.specs.Home.{File}
+use Rattle.co_outside.specs.Home.{File, HomeView}
 use Rattle.co_outside.specs.declared.spot.Spot.{Spot}
 use Rattle.co_plain.specs.LogWrite.{outcome_of, with_stop}
 use Rattle.co_plain.specs.LocalCommit.{member_local_commit}

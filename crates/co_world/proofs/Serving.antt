@@ -3,7 +3,6 @@ use Rattle.std.proofs.Common.{◌≡◌, ◌<◌, ◌≢◌, ◌⊎◌, ℕ, Boo
 use Rattle.std.specs.Prelude.{List, reverse, Option, None, Some, is_some, Result, Ok, Err, IfErr, OnOk, IsOk}
 use Rattle.co_base.specs.declared.node.Node.{Node}
 use Rattle.co_base.specs.declared.node.Node.TheVariants as node
-use Rattle.co_disk.specs.Homes.{IsClean}
 use Rattle.co_durable.proofs.Spots.{same_or_other, all_stay}
 use Rattle.co_frame.specs.LogText.{most_log_bytes}
 use Rattle.co_log.specs.Attaching.{IsWithin}
@@ -13,11 +12,11 @@ use Rattle.co_log.specs.Rereading.{IsOfReattach}
 use Rattle.co_log.specs.declared.fault.LogFault.TheVariants as log_fault
 use Rattle.co_log.specs.declared.fault.NodeFault.{NodeFault}
 use Rattle.co_log.specs.declared.fault.NodeFault.TheVariants.{Device, Differs, Full, Memory}
-use Rattle.co_node.specs.Answers.{HomeView, seen, IsAnswered}
+use Rattle.co_node.specs.Answers.{IsAnswered}
 use Rattle.co_node.specs.Rereading.{IsReread}
 use Rattle.co_node.specs.declared.written.Written.{Written}
 use Rattle.co_opening.specs.Nodes.{IsKept}
-use Rattle.co_outside.specs.Home.{File}
+use Rattle.co_outside.specs.Home.{File, IsClean, HomeView}
 use Rattle.co_outside.specs.declared.spot.Spot.{Spot}
 use Rattle.co_record.specs.declared.record.Record.{Record}
 use Rattle.co_coord.specs.Opening.{IsRestarted}

@@ -3,11 +3,10 @@ use Rattle.std.specs.Prelude.{◌≡◌, ◌<◌, None}
 use Rattle.co_outside.specs.declared.spot.Spot.{Spot}
 use Rattle.co_outside.specs.Faults.{HasRisen}
 use Rattle.co_base.specs.declared.node.Node.{Node}
-use Rattle.co_disk.specs.Homes.{IsClean}
+use Rattle.co_outside.specs.Home.{IsClean, HomeView}
 use Rattle.co_log.specs.LogView.{LogView}
 use Rattle.co_log.specs.declared.fault.NodeFault.{NodeFault}
 use Rattle.co_log.specs.declared.fault.NodeFault.TheVariants as log
-use Rattle.co_node.specs.Answers.{HomeView}
 use Rattle.co_durable.specs.declared.fault.WorldFault.{WorldFault}
 use Rattle.co_durable.specs.declared.fault.WorldFault.TheVariants as world
 use Rattle.co_opening.specs.Nodes.{IsKept, AreKept}

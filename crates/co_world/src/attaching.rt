@@ -2,7 +2,7 @@
 ghost use Rattle.std.specs.Prelude.{◌≡◌, length, IfOk, IfErr, IsErrOf};
 ghost use Rattle.std.specs.List.{AllByRecursion};
 ghost use Rattle.co_outside.specs.declared.spot.Spot.{Spot};
-ghost use Rattle.co_disk.specs.Homes.{HasFailed, IsClean};
+ghost use Rattle.co_outside.specs.Home.{HasFailed, IsClean};
 ghost use Rattle.co_opening.specs.Opened.{IsUnopened, IsOfFound};
 ghost use Rattle.co_world.specs.Attached.{IsAttachedOver};
 ghost use Rattle.co_world.specs.Standing.{AreHeld};
@@ -32,15 +32,15 @@ impl<E: Engine + Drop> World<E> {
         resume: bool,
     ) -> Result<(World<E>, Items), WorldFault>
         requires kinds { AllByRecursion E.takes head.now.kinds }
-        ensures opened { IfOk result (λ r. IsAttachedOver E.takes E.stands_for (H.file home.old) head.now resume r.0 r.1) }
-        ensures held { IfOk result (λ r. AreHeld (H.file home.new) (H.reach home.new) r.0) }
-        ensures clean { IfOk result (λ r. (s : Spot) → IsClean (H.file home.old s) → IsClean (H.file home.new s)) }
+        ensures opened { IfOk result (λ r. IsAttachedOver E.takes E.stands_for (H.seen home.old).file head.now resume r.0 r.1) }
+        ensures held { IfOk result (λ r. AreHeld (H.seen home.new) r.0) }
+        ensures clean { IfOk result (λ r. (s : Spot) → IsClean (H.seen home.old) s → IsClean (H.seen home.new) s) }
         ensures head { IfOk result (λ r. (length r.0.members.items ≡ length head.now.kinds) × (length r.0.coords.items ≡ head.now.coords)) }
-        ensures refused { IfErr result (IsUnopened (H.file home.old) head.now resume) }
-        ensures untouched { IfErr result (λ fault. IsOfFound fault → (s : Spot) → H.file home.new s ≡ H.file home.old s) }
-        ensures entered { H.entered home.new ≡ H.entered home.old }
-        ensures device { (spot : Spot) → IsErrOf result (WorldFault.Device spot) → HasFailed H.faults H.last_failed spot home.old home.new }
-        ensures quiet { ((spot : Spot) → IsErrOf result (WorldFault.Device spot) → ⊥) → H.faults home.new ≡ H.faults home.old }
+        ensures refused { IfErr result (IsUnopened (H.seen home.old).file head.now resume) }
+        ensures untouched { IfErr result (λ fault. IsOfFound fault → (s : Spot) → (H.seen home.new).file s ≡ (H.seen home.old).file s) }
+        ensures entered { (H.seen home.new).entered ≡ (H.seen home.old).entered }
+        ensures device { (spot : Spot) → IsErrOf result (WorldFault.Device spot) → HasFailed spot (H.seen home.old) (H.seen home.new) }
+        ensures quiet { ((spot : Spot) → IsErrOf result (WorldFault.Device spot) → ⊥) → (H.seen home.new).faults ≡ (H.seen home.old).faults }
     {
         let Nodes {
             members,

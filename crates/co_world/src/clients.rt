@@ -18,7 +18,6 @@ ghost use Rattle.co_state.specs.Table.{look, holds};
 ghost use Rattle.co_world.specs.Calls.{coord_asked, coord_does, member_asked, member_does, ended};
 ghost use Rattle.co_world.specs.Conditions.{IsReady};
 ghost use Rattle.co_world.specs.Counting.{IsOneMore};
-ghost use Rattle.co_node.specs.Answers.{seen};
 ghost use Rattle.co_world.specs.Left.{AreLeftBy, member_disarmed, coord_disarmed};
 ghost use Rattle.co_world.specs.Served.{AreServed, HasEndedAs, IsOfNoFile};
 ghost use Rattle.co_world.specs.Standing.{RepresentsWorld, AreHeld};
@@ -131,16 +130,16 @@ impl<E: Engine + Drop> World<E> {
         coord: u8,
     ) -> Result<Items, WorldFault>
         requires in_head { (1 ≤ coord) × (coord ≤ length self.old.coords.items) }
-        requires held { AreHeld (H.file home.old) (H.reach home.old) self.old }
+        requires held { AreHeld (H.seen home.old) self.old }
         requires stands { (s : Federation) × RepresentsWorld E.takes E.stands_for self.old s }
         ensures count { IsErrOf result WorldFault.Count ↔ IsOneMore self.old.sessions t }
         ensures items { (s : Federation) → RepresentsWorld E.takes E.stands_for self.old s → IfOk result (λ items. items ≡ numbered number (step_line s (event.Begin t coord)).items) }
         ensures stands { (s : Federation) → RepresentsWorld E.takes E.stands_for self.old s → OnOk result (RepresentsWorld E.takes E.stands_for self.new (step_line s (event.Begin t coord)).state) }
         ensures left { (s : Federation) → RepresentsWorld E.takes E.stands_for self.old s →
-            IfErr result (AreLeftBy (H.file home.new) s (step_line s (event.Begin t coord)).state (step_line (disarmed s) (event.Begin t coord)).state) }
-        ensures served { OnOk result (AreServed self.new (seen H.file H.reach H.faults H.last_failed home.old) (seen H.file H.reach H.faults H.last_failed home.new)) }
-        ensures ended { IfErr result (λ fault. HasEndedAs fault (seen H.file H.reach H.faults H.last_failed home.old) (seen H.file H.reach H.faults H.last_failed home.new)) }
-        ensures entered { H.entered home.new ≡ H.entered home.old }
+            IfErr result (AreLeftBy (H.seen home.new).file s (step_line s (event.Begin t coord)).state (step_line (disarmed s) (event.Begin t coord)).state) }
+        ensures served { OnOk result (AreServed self.new (H.seen home.old) (H.seen home.new)) }
+        ensures ended { IfErr result (λ fault. HasEndedAs fault (H.seen home.old) (H.seen home.new)) }
+        ensures entered { (H.seen home.new).entered ≡ (H.seen home.old).entered }
     {
         if self.used(t)? {
             return self.answers(number, Answer::Used);
@@ -270,16 +269,16 @@ impl<E: Engine + Drop> World<E> {
         t: Txn,
         ending: Ending,
     ) -> Result<Items, WorldFault>
-        requires held { AreHeld (H.file home.old) (H.reach home.old) self.old }
+        requires held { AreHeld (H.seen home.old) self.old }
         requires stands { (s : Federation) × RepresentsWorld E.takes E.stands_for self.old s × IsReady s }
         ensures count { IsErrOf result WorldFault.Count → ⊥ }
         ensures items { (s : Federation) → RepresentsWorld E.takes E.stands_for self.old s → IsReady s → IfOk result (λ items. items ≡ numbered number (ended s t ending).items) }
         ensures stands { (s : Federation) → RepresentsWorld E.takes E.stands_for self.old s → IsReady s → OnOk result (RepresentsWorld E.takes E.stands_for self.new (ended s t ending).state) }
         ensures left { (s : Federation) → RepresentsWorld E.takes E.stands_for self.old s → IsReady s →
-            IfErr result (AreLeftBy (H.file home.new) s (ended s t ending).state (ended (disarmed s) t ending).state) }
-        ensures served { OnOk result (AreServed self.new (seen H.file H.reach H.faults H.last_failed home.old) (seen H.file H.reach H.faults H.last_failed home.new)) }
-        ensures ended { IfErr result (λ fault. HasEndedAs fault (seen H.file H.reach H.faults H.last_failed home.old) (seen H.file H.reach H.faults H.last_failed home.new)) }
-        ensures entered { H.entered home.new ≡ H.entered home.old }
+            IfErr result (AreLeftBy (H.seen home.new).file s (ended s t ending).state (ended (disarmed s) t ending).state) }
+        ensures served { OnOk result (AreServed self.new (H.seen home.old) (H.seen home.new)) }
+        ensures ended { IfErr result (λ fault. HasEndedAs fault (H.seen home.old) (H.seen home.new)) }
+        ensures entered { (H.seen home.new).entered ≡ (H.seen home.old).entered }
     {
         match self.sessions.may_act(t, None) {
             Ok(Node::Coord(coord)) => self.end_at_coord(home, number, t, coord, ending),
@@ -298,18 +297,18 @@ impl<E: Engine + Drop> World<E> {
         ending: Ending,
     ) -> Result<Items, WorldFault>
         requires in_head { (1 ≤ coord) × (coord ≤ length self.old.coords.items) }
-        requires held { AreHeld (H.file home.old) (H.reach home.old) self.old }
+        requires held { AreHeld (H.seen home.old) self.old }
         requires stands { (s : Federation) × (session : Session) × RepresentsWorld E.takes E.stands_for self.old s × (look s.sessions t ≡ Some session) }
         ensures count { IsErrOf result WorldFault.Count → ⊥ }
         ensures items { (s : Federation) → RepresentsWorld E.takes E.stands_for self.old s → (session : Session) → look s.sessions t ≡ Some session → IfOk result (λ items. items ≡ numbered number (coord_answers s t session coord (s.coord coord).up (coord_does coord (coord_asked ending t (parts_of session.told)) (s.coord coord))).items) }
         ensures stands { (s : Federation) → RepresentsWorld E.takes E.stands_for self.old s → (session : Session) → look s.sessions t ≡ Some session → OnOk result (RepresentsWorld E.takes E.stands_for self.new (coord_answers s t session coord (s.coord coord).up (coord_does coord (coord_asked ending t (parts_of session.told)) (s.coord coord))).state) }
         ensures left { (s : Federation) → RepresentsWorld E.takes E.stands_for self.old s → (session : Session) → look s.sessions t ≡ Some session →
-            IfErr result (AreLeftBy (H.file home.new) s
+            IfErr result (AreLeftBy (H.seen home.new).file s
             (coord_answers s t session coord (s.coord coord).up (coord_does coord (coord_asked ending t (parts_of session.told)) (s.coord coord))).state
             (coord_answers (disarmed s) t session coord (s.coord coord).up (coord_does coord (coord_asked ending t (parts_of session.told)) (coord_disarmed (s.coord coord)))).state) }
-        ensures served { OnOk result (AreServed self.new (seen H.file H.reach H.faults H.last_failed home.old) (seen H.file H.reach H.faults H.last_failed home.new)) }
-        ensures ended { IfErr result (λ fault. HasEndedAs fault (seen H.file H.reach H.faults H.last_failed home.old) (seen H.file H.reach H.faults H.last_failed home.new)) }
-        ensures entered { H.entered home.new ≡ H.entered home.old }
+        ensures served { OnOk result (AreServed self.new (H.seen home.old) (H.seen home.new)) }
+        ensures ended { IfErr result (λ fault. HasEndedAs fault (H.seen home.old) (H.seen home.new)) }
+        ensures entered { (H.seen home.new).entered ≡ (H.seen home.old).entered }
     {
         if !self.coord_up(coord) {
             return self.answers(number, Answer::Down(Node::Coord(coord)));
@@ -330,18 +329,18 @@ impl<E: Engine + Drop> World<E> {
         ending: Ending,
     ) -> Result<Items, WorldFault>
         requires in_head { (1 ≤ member) × (member ≤ length self.old.members.items) }
-        requires held { AreHeld (H.file home.old) (H.reach home.old) self.old }
+        requires held { AreHeld (H.seen home.old) self.old }
         requires stands { (s : Federation) × (session : Session) × RepresentsWorld E.takes E.stands_for self.old s × IsReady s × (look s.sessions t ≡ Some session) × (session.asked ≡ false) }
         ensures count { IsErrOf result WorldFault.Count → ⊥ }
         ensures items { (s : Federation) → RepresentsWorld E.takes E.stands_for self.old s → (session : Session) → look s.sessions t ≡ Some session → IfOk result (λ items. items ≡ numbered number (local_answers s t session member (s.member member).up (member_does member (member_asked ending t (count_at session.told member)) (s.member member))).items) }
         ensures stands { (s : Federation) → RepresentsWorld E.takes E.stands_for self.old s → (session : Session) → look s.sessions t ≡ Some session → OnOk result (RepresentsWorld E.takes E.stands_for self.new (local_answers s t session member (s.member member).up (member_does member (member_asked ending t (count_at session.told member)) (s.member member))).state) }
         ensures left { (s : Federation) → RepresentsWorld E.takes E.stands_for self.old s → (session : Session) → look s.sessions t ≡ Some session →
-            IfErr result (AreLeftBy (H.file home.new) s
+            IfErr result (AreLeftBy (H.seen home.new).file s
             (local_answers s t session member (s.member member).up (member_does member (member_asked ending t (count_at session.told member)) (s.member member))).state
             (local_answers (disarmed s) t session member (s.member member).up (member_does member (member_asked ending t (count_at session.told member)) (member_disarmed (s.member member)))).state) }
-        ensures served { OnOk result (AreServed self.new (seen H.file H.reach H.faults H.last_failed home.old) (seen H.file H.reach H.faults H.last_failed home.new)) }
-        ensures ended { IfErr result (λ fault. HasEndedAs fault (seen H.file H.reach H.faults H.last_failed home.old) (seen H.file H.reach H.faults H.last_failed home.new)) }
-        ensures entered { H.entered home.new ≡ H.entered home.old }
+        ensures served { OnOk result (AreServed self.new (H.seen home.old) (H.seen home.new)) }
+        ensures ended { IfErr result (λ fault. HasEndedAs fault (H.seen home.old) (H.seen home.new)) }
+        ensures entered { (H.seen home.new).entered ≡ (H.seen home.old).entered }
     {
         if !self.member_up(member) {
             return self.answers(number, Answer::Down(Node::Member(member)));

@@ -3,7 +3,6 @@ ghost use Rattle.std.specs.Prelude.{◌≡◌, IfOk, IfErr, OnOk};
 ghost use Rattle.co_base.specs.declared.node.Node.TheVariants as node;
 ghost use Rattle.co_log.specs.Others.{OtherNodesStay};
 ghost use Rattle.co_coord.specs.Standing.{RepresentsCoord, HasDone, IsSame};
-ghost use Rattle.co_node.specs.Answers.{seen};
 ghost use Rattle.co_plain.specs.declared.coord_state.CoordState.{CoordState};
 ghost use Rattle.co_world.specs.Calls.{coord_does, CoordMay};
 ghost use Rattle.co_opening.specs.Nodes.{IsKept};
@@ -24,16 +23,16 @@ pub(crate) fn coord_does<H: Home>(
     home: &mut H,
     call: CoordCall,
 ) -> Result<CoordStep, NodeFault>
-    requires kept { IsKept (H.file home.old) (H.reach home.old) (node.Coord coord.old.number) coord.old.log }
+    requires kept { IsKept (H.seen home.old) (node.Coord coord.old.number) coord.old.log }
     requires stands { (y : CoordState) × RepresentsCoord coord.old y × CoordMay coord.old.members coord.old.number call y }
     ensures did { (y : CoordState) → RepresentsCoord coord.old y → IfOk result (λ d. HasDone (coord_does coord.old.number call y) d coord.new) }
     ensures served { OnOk result (IsServed (node.Coord coord.old.number) coord.new.log
-        (seen H.file H.reach H.faults H.last_failed home.old) (seen H.file H.reach H.faults H.last_failed home.new)) }
+        (H.seen home.old) (H.seen home.new)) }
     ensures ended { IfErr result (λ fault. HasFailedAs fault
-        (seen H.file H.reach H.faults H.last_failed home.old) (seen H.file H.reach H.faults H.last_failed home.new)) }
-    ensures left { (y : CoordState) → RepresentsCoord coord.old y → IfErr result (IsLeftBy (H.file home.new) (node.Coord coord.old.number) y.log.stable
+        (H.seen home.old) (H.seen home.new)) }
+    ensures left { (y : CoordState) → RepresentsCoord coord.old y → IfErr result (IsLeftBy (H.seen home.new).file (node.Coord coord.old.number) y.log.stable
         (coord_does coord.old.number call (coord_disarmed y)).state.log.stable) }
-    ensures rest { OtherNodesStay H.file H.reach H.entered H.faults (node.Coord coord.old.number) home.old home.new }
+    ensures rest { OtherNodesStay (node.Coord coord.old.number) (H.seen home.old) (H.seen home.new) }
     ensures same { IsSame coord.old coord.new }
 {
     match call {

@@ -6,7 +6,6 @@ ghost use Rattle.co_plain.specs.Federation.{Federation, noted, items_of, message
 ghost use Rattle.co_plain.specs.Runs.{numbered};
 ghost use Rattle.co_plain.specs.Step.{member_step, coord_step, disarmed};
 ghost use Rattle.co_world.specs.Calls.{member_does, coord_does, MemberMay, CoordMay};
-ghost use Rattle.co_node.specs.Answers.{seen};
 ghost use Rattle.co_world.specs.Left.{AreLeftBy};
 ghost use Rattle.co_world.specs.Served.{AreServed, HasEndedAs};
 ghost use Rattle.co_world.specs.Standing.{RepresentsWorld, AreHeld};
@@ -83,16 +82,16 @@ impl<E: Engine + Drop> World<E> {
         call: MemberCall,
     ) -> Result<Items, WorldFault>
         requires in_head { (1 ≤ member) × (member ≤ length self.old.members.items) }
-        requires held { AreHeld (H.file home.old) (H.reach home.old) self.old }
+        requires held { AreHeld (H.seen home.old) self.old }
         requires stands { (s : Federation) × RepresentsWorld E.takes E.stands_for self.old s × ((s.member member).up ≡ true → MemberMay s.coordinators call (s.member member)) }
         ensures count { IsErrOf result WorldFault.Count → ⊥ }
         ensures items { (s : Federation) → RepresentsWorld E.takes E.stands_for self.old s → IfOk result (λ items. items ≡ numbered number (member_step s member (member_does member call)).items) }
         ensures stands { (s : Federation) → RepresentsWorld E.takes E.stands_for self.old s → OnOk result (RepresentsWorld E.takes E.stands_for self.new (member_step s member (member_does member call)).state) }
         ensures left { (s : Federation) → RepresentsWorld E.takes E.stands_for self.old s →
-            IfErr result (AreLeftBy (H.file home.new) s (member_step s member (member_does member call)).state (member_step (disarmed s) member (member_does member call)).state) }
-        ensures served { OnOk result (AreServed self.new (seen H.file H.reach H.faults H.last_failed home.old) (seen H.file H.reach H.faults H.last_failed home.new)) }
-        ensures ended { IfErr result (λ fault. HasEndedAs fault (seen H.file H.reach H.faults H.last_failed home.old) (seen H.file H.reach H.faults H.last_failed home.new)) }
-        ensures entered { H.entered home.new ≡ H.entered home.old }
+            IfErr result (AreLeftBy (H.seen home.new).file s (member_step s member (member_does member call)).state (member_step (disarmed s) member (member_does member call)).state) }
+        ensures served { OnOk result (AreServed self.new (H.seen home.old) (H.seen home.new)) }
+        ensures ended { IfErr result (λ fault. HasEndedAs fault (H.seen home.old) (H.seen home.new)) }
+        ensures entered { (H.seen home.new).entered ≡ (H.seen home.old).entered }
     {
         if !self.member_up(member) {
             return self.answers(number, Answer::Down(Node::Member(member)));
@@ -110,16 +109,16 @@ impl<E: Engine + Drop> World<E> {
         call: CoordCall,
     ) -> Result<Items, WorldFault>
         requires in_head { (1 ≤ coord) × (coord ≤ length self.old.coords.items) }
-        requires held { AreHeld (H.file home.old) (H.reach home.old) self.old }
+        requires held { AreHeld (H.seen home.old) self.old }
         requires stands { (s : Federation) × RepresentsWorld E.takes E.stands_for self.old s × ((s.coord coord).up ≡ true → CoordMay (length s.kinds) coord call (s.coord coord)) }
         ensures count { IsErrOf result WorldFault.Count → ⊥ }
         ensures items { (s : Federation) → RepresentsWorld E.takes E.stands_for self.old s → IfOk result (λ items. items ≡ numbered number (coord_step s coord (coord_does coord call)).items) }
         ensures stands { (s : Federation) → RepresentsWorld E.takes E.stands_for self.old s → OnOk result (RepresentsWorld E.takes E.stands_for self.new (coord_step s coord (coord_does coord call)).state) }
         ensures left { (s : Federation) → RepresentsWorld E.takes E.stands_for self.old s →
-            IfErr result (AreLeftBy (H.file home.new) s (coord_step s coord (coord_does coord call)).state (coord_step (disarmed s) coord (coord_does coord call)).state) }
-        ensures served { OnOk result (AreServed self.new (seen H.file H.reach H.faults H.last_failed home.old) (seen H.file H.reach H.faults H.last_failed home.new)) }
-        ensures ended { IfErr result (λ fault. HasEndedAs fault (seen H.file H.reach H.faults H.last_failed home.old) (seen H.file H.reach H.faults H.last_failed home.new)) }
-        ensures entered { H.entered home.new ≡ H.entered home.old }
+            IfErr result (AreLeftBy (H.seen home.new).file s (coord_step s coord (coord_does coord call)).state (coord_step (disarmed s) coord (coord_does coord call)).state) }
+        ensures served { OnOk result (AreServed self.new (H.seen home.old) (H.seen home.new)) }
+        ensures ended { IfErr result (λ fault. HasEndedAs fault (H.seen home.old) (H.seen home.new)) }
+        ensures entered { (H.seen home.new).entered ≡ (H.seen home.old).entered }
     {
         if !self.coord_up(coord) {
             return self.answers(number, Answer::Down(Node::Coord(coord)));

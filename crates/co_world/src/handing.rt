@@ -1,6 +1,5 @@
 //! A verdict that is handed over by another member.
 ghost use Rattle.std.specs.Prelude.{◌≡◌, ◌≤◌, true, length, IfOk, IfErr, IsErrOf, OnOk};
-ghost use Rattle.co_node.specs.Answers.{seen};
 ghost use Rattle.co_plain.specs.Federation.{Federation};
 ghost use Rattle.co_plain.specs.Member.{coord_of};
 ghost use Rattle.co_plain.specs.Runs.{numbered};
@@ -47,16 +46,16 @@ impl<E: Engine + Drop> World<E> {
         commit: bool,
     ) -> Result<Items, WorldFault>
         requires in_head { (1 ≤ member) × (member ≤ length self.old.members.items) }
-        requires held { AreHeld (H.file home.old) (H.reach home.old) self.old }
+        requires held { AreHeld (H.seen home.old) self.old }
         requires voted { (s : Federation) × RepresentsWorld E.takes E.stands_for self.old s × ((s.member member).up ≡ true) × (holds (s.member member).engine.voted t ≡ true) }
         ensures count { IsErrOf result WorldFault.Count → ⊥ }
         ensures items { (s : Federation) → RepresentsWorld E.takes E.stands_for self.old s → IfOk result (λ items. items ≡ numbered number (step s (happening.Hand t member commit)).items) }
         ensures stands { (s : Federation) → RepresentsWorld E.takes E.stands_for self.old s → OnOk result (RepresentsWorld E.takes E.stands_for self.new (step s (happening.Hand t member commit)).state) }
         ensures left { (s : Federation) → RepresentsWorld E.takes E.stands_for self.old s →
-            IfErr result (AreLeftBy (H.file home.new) s (step s (happening.Hand t member commit)).state (step (disarmed s) (happening.Hand t member commit)).state) }
-        ensures served { OnOk result (AreServed self.new (seen H.file H.reach H.faults H.last_failed home.old) (seen H.file H.reach H.faults H.last_failed home.new)) }
-        ensures ended { IfErr result (λ fault. HasEndedAs fault (seen H.file H.reach H.faults H.last_failed home.old) (seen H.file H.reach H.faults H.last_failed home.new)) }
-        ensures entered { H.entered home.new ≡ H.entered home.old }
+            IfErr result (AreLeftBy (H.seen home.new).file s (step s (happening.Hand t member commit)).state (step (disarmed s) (happening.Hand t member commit)).state) }
+        ensures served { OnOk result (AreServed self.new (H.seen home.old) (H.seen home.new)) }
+        ensures ended { IfErr result (λ fault. HasEndedAs fault (H.seen home.old) (H.seen home.new)) }
+        ensures entered { (H.seen home.new).entered ≡ (H.seen home.old).entered }
     {
         let coord = self.asker_of(member, t);
         let decision = Message::Decide {

@@ -3,7 +3,6 @@ ghost use Rattle.std.specs.Prelude.{◌≡◌, IfOk, IfErr, OnOk};
 ghost use Rattle.co_base.specs.declared.node.Node.TheVariants as node;
 ghost use Rattle.co_log.specs.Others.{OtherNodesStay};
 ghost use Rattle.co_member.specs.Standing.{RepresentsMember, HasDone, IsSame};
-ghost use Rattle.co_node.specs.Answers.{seen};
 ghost use Rattle.co_plain.specs.declared.member_state.MemberState.{MemberState};
 ghost use Rattle.co_world.specs.Calls.{member_does, MemberMay};
 ghost use Rattle.co_opening.specs.Nodes.{IsKept};
@@ -25,17 +24,17 @@ pub(crate) fn member_does<E: Engine + Drop, H: Home>(
     home: &mut H,
     call: MemberCall,
 ) -> Result<MemberStep, NodeFault>
-    requires kept { IsKept (H.file home.old) (H.reach home.old) (node.Member member.old.number) member.old.log }
+    requires kept { IsKept (H.seen home.old) (node.Member member.old.number) member.old.log }
     requires taken { E.takes member.old.kind }
     requires stands { (x : MemberState) × RepresentsMember E.stands_for member.old x × MemberMay member.old.coords call x }
     ensures did { (x : MemberState) → RepresentsMember E.stands_for member.old x → IfOk result (λ d. HasDone E.stands_for (member_does member.old.number call x) d member.new) }
     ensures served { OnOk result (IsServed (node.Member member.old.number) member.new.log
-        (seen H.file H.reach H.faults H.last_failed home.old) (seen H.file H.reach H.faults H.last_failed home.new)) }
+        (H.seen home.old) (H.seen home.new)) }
     ensures ended { IfErr result (λ fault. HasFailedAs fault
-        (seen H.file H.reach H.faults H.last_failed home.old) (seen H.file H.reach H.faults H.last_failed home.new)) }
-    ensures left { (x : MemberState) → RepresentsMember E.stands_for member.old x → IfErr result (IsLeftBy (H.file home.new) (node.Member member.old.number) x.log.stable
+        (H.seen home.old) (H.seen home.new)) }
+    ensures left { (x : MemberState) → RepresentsMember E.stands_for member.old x → IfErr result (IsLeftBy (H.seen home.new).file (node.Member member.old.number) x.log.stable
         (member_does member.old.number call (member_disarmed x)).state.log.stable) }
-    ensures rest { OtherNodesStay H.file H.reach H.entered H.faults (node.Member member.old.number) home.old home.new }
+    ensures rest { OtherNodesStay (node.Member member.old.number) (H.seen home.old) (H.seen home.new) }
     ensures same { IsSame member.old member.new }
 {
     match call {

@@ -10,7 +10,6 @@ ghost use Rattle.co_schedule.specs.View.{IsEventFor, IsMessageFor, IsNode};
 ghost use Rattle.co_world.specs.Calls.{receiver};
 ghost use Rattle.co_world.specs.Conditions.{IsReady};
 ghost use Rattle.co_world.specs.Counting.{MeetsLimit, MeetsPlainLimit};
-ghost use Rattle.co_node.specs.Answers.{seen};
 ghost use Rattle.co_world.specs.Left.{AreLeftBy};
 ghost use Rattle.co_world.specs.Served.{AreServed, HasEndedAs};
 ghost use Rattle.co_world.specs.Standing.{RepresentsWorld, AreHeld};
@@ -112,15 +111,15 @@ impl<E: Engine + Drop> World<E> {
         message: Message,
     ) -> Result<Items, WorldFault>
         requires in_head { IsMessageFor (length self.old.members.items) (length self.old.coords.items) message }
-        requires held { AreHeld (H.file home.old) (H.reach home.old) self.old }
+        requires held { AreHeld (H.seen home.old) self.old }
         requires stands { (s : Federation) × RepresentsWorld E.takes E.stands_for self.old s × IsReady s }
         ensures count { IsErrOf result WorldFault.Count → ⊥ }
         ensures items { (s : Federation) → RepresentsWorld E.takes E.stands_for self.old s → IsReady s → IfOk result (λ items. items ≡ numbered number (deliver s message).items) }
         ensures stands { (s : Federation) → RepresentsWorld E.takes E.stands_for self.old s → IsReady s → OnOk result (RepresentsWorld E.takes E.stands_for self.new (deliver s message).state) }
-        ensures left { (s : Federation) → RepresentsWorld E.takes E.stands_for self.old s → IsReady s → IfErr result (AreLeftBy (H.file home.new) s (deliver s message).state (deliver (disarmed s) message).state) }
-        ensures served { OnOk result (AreServed self.new (seen H.file H.reach H.faults H.last_failed home.old) (seen H.file H.reach H.faults H.last_failed home.new)) }
-        ensures ended { IfErr result (λ fault. HasEndedAs fault (seen H.file H.reach H.faults H.last_failed home.old) (seen H.file H.reach H.faults H.last_failed home.new)) }
-        ensures entered { H.entered home.new ≡ H.entered home.old }
+        ensures left { (s : Federation) → RepresentsWorld E.takes E.stands_for self.old s → IsReady s → IfErr result (AreLeftBy (H.seen home.new).file s (deliver s message).state (deliver (disarmed s) message).state) }
+        ensures served { OnOk result (AreServed self.new (H.seen home.old) (H.seen home.new)) }
+        ensures ended { IfErr result (λ fault. HasEndedAs fault (H.seen home.old) (H.seen home.new)) }
+        ensures entered { (H.seen home.new).entered ≡ (H.seen home.old).entered }
     {
         match self.wire.get(&message) {
             Ok(()) => match receiver(&message) {
@@ -144,15 +143,15 @@ impl<E: Engine + Drop> World<E> {
         node: Node,
     ) -> Result<Items, WorldFault>
         requires in_head { IsNode (length self.old.members.items) (length self.old.coords.items) node }
-        requires held { AreHeld (H.file home.old) (H.reach home.old) self.old }
+        requires held { AreHeld (H.seen home.old) self.old }
         requires stands { (s : Federation) × RepresentsWorld E.takes E.stands_for self.old s × IsReady s }
         ensures count { IsErrOf result WorldFault.Count → ⊥ }
         ensures items { (s : Federation) → RepresentsWorld E.takes E.stands_for self.old s → IfOk result (λ items. items ≡ numbered number (timer_at s t node).items) }
         ensures stands { (s : Federation) → RepresentsWorld E.takes E.stands_for self.old s → OnOk result (RepresentsWorld E.takes E.stands_for self.new (timer_at s t node).state) }
-        ensures left { (s : Federation) → RepresentsWorld E.takes E.stands_for self.old s → IfErr result (AreLeftBy (H.file home.new) s (timer_at s t node).state (timer_at (disarmed s) t node).state) }
-        ensures served { OnOk result (AreServed self.new (seen H.file H.reach H.faults H.last_failed home.old) (seen H.file H.reach H.faults H.last_failed home.new)) }
-        ensures ended { IfErr result (λ fault. HasEndedAs fault (seen H.file H.reach H.faults H.last_failed home.old) (seen H.file H.reach H.faults H.last_failed home.new)) }
-        ensures entered { H.entered home.new ≡ H.entered home.old }
+        ensures left { (s : Federation) → RepresentsWorld E.takes E.stands_for self.old s → IfErr result (AreLeftBy (H.seen home.new).file s (timer_at s t node).state (timer_at (disarmed s) t node).state) }
+        ensures served { OnOk result (AreServed self.new (H.seen home.old) (H.seen home.new)) }
+        ensures ended { IfErr result (λ fault. HasEndedAs fault (H.seen home.old) (H.seen home.new)) }
+        ensures entered { (H.seen home.new).entered ≡ (H.seen home.old).entered }
     {
         match node {
             Node::Member(member) => self.at_member(home, number, member, MemberCall::Timer(t)),
@@ -163,15 +162,15 @@ impl<E: Engine + Drop> World<E> {
     /// A node stops between two log writes.
     fn crash<H: Home>(&mut self, home: &mut H, number: u32, node: Node) -> Result<Items, WorldFault>
         requires in_head { IsNode (length self.old.members.items) (length self.old.coords.items) node }
-        requires held { AreHeld (H.file home.old) (H.reach home.old) self.old }
+        requires held { AreHeld (H.seen home.old) self.old }
         requires stands { (s : Federation) × RepresentsWorld E.takes E.stands_for self.old s × IsReady s }
         ensures count { IsErrOf result WorldFault.Count → ⊥ }
         ensures items { (s : Federation) → RepresentsWorld E.takes E.stands_for self.old s → IfOk result (λ items. items ≡ numbered number (crash_at s node).items) }
         ensures stands { (s : Federation) → RepresentsWorld E.takes E.stands_for self.old s → OnOk result (RepresentsWorld E.takes E.stands_for self.new (crash_at s node).state) }
-        ensures left { (s : Federation) → RepresentsWorld E.takes E.stands_for self.old s → IfErr result (AreLeftBy (H.file home.new) s (crash_at s node).state (crash_at (disarmed s) node).state) }
-        ensures served { OnOk result (AreServed self.new (seen H.file H.reach H.faults H.last_failed home.old) (seen H.file H.reach H.faults H.last_failed home.new)) }
-        ensures ended { IfErr result (λ fault. HasEndedAs fault (seen H.file H.reach H.faults H.last_failed home.old) (seen H.file H.reach H.faults H.last_failed home.new)) }
-        ensures entered { H.entered home.new ≡ H.entered home.old }
+        ensures left { (s : Federation) → RepresentsWorld E.takes E.stands_for self.old s → IfErr result (AreLeftBy (H.seen home.new).file s (crash_at s node).state (crash_at (disarmed s) node).state) }
+        ensures served { OnOk result (AreServed self.new (H.seen home.old) (H.seen home.new)) }
+        ensures ended { IfErr result (λ fault. HasEndedAs fault (H.seen home.old) (H.seen home.new)) }
+        ensures entered { (H.seen home.new).entered ≡ (H.seen home.old).entered }
     {
         match node {
             Node::Member(member) => self.at_member(home, number, member, MemberCall::Crash),
@@ -187,15 +186,15 @@ impl<E: Engine + Drop> World<E> {
         node: Node,
     ) -> Result<Items, WorldFault>
         requires in_head { IsNode (length self.old.members.items) (length self.old.coords.items) node }
-        requires held { AreHeld (H.file home.old) (H.reach home.old) self.old }
+        requires held { AreHeld (H.seen home.old) self.old }
         requires stands { (s : Federation) × RepresentsWorld E.takes E.stands_for self.old s × IsReady s }
         ensures count { IsErrOf result WorldFault.Count → ⊥ }
         ensures items { (s : Federation) → RepresentsWorld E.takes E.stands_for self.old s → IfOk result (λ items. items ≡ numbered number (restart_at s node).items) }
         ensures stands { (s : Federation) → RepresentsWorld E.takes E.stands_for self.old s → OnOk result (RepresentsWorld E.takes E.stands_for self.new (restart_at s node).state) }
-        ensures left { (s : Federation) → RepresentsWorld E.takes E.stands_for self.old s → IfErr result (AreLeftBy (H.file home.new) s (restart_at s node).state (restart_at (disarmed s) node).state) }
-        ensures served { OnOk result (AreServed self.new (seen H.file H.reach H.faults H.last_failed home.old) (seen H.file H.reach H.faults H.last_failed home.new)) }
-        ensures ended { IfErr result (λ fault. HasEndedAs fault (seen H.file H.reach H.faults H.last_failed home.old) (seen H.file H.reach H.faults H.last_failed home.new)) }
-        ensures entered { H.entered home.new ≡ H.entered home.old }
+        ensures left { (s : Federation) → RepresentsWorld E.takes E.stands_for self.old s → IfErr result (AreLeftBy (H.seen home.new).file s (restart_at s node).state (restart_at (disarmed s) node).state) }
+        ensures served { OnOk result (AreServed self.new (H.seen home.old) (H.seen home.new)) }
+        ensures ended { IfErr result (λ fault. HasEndedAs fault (H.seen home.old) (H.seen home.new)) }
+        ensures entered { (H.seen home.new).entered ≡ (H.seen home.old).entered }
     {
         match node {
             Node::Member(member) => {
@@ -220,15 +219,15 @@ impl<E: Engine + Drop> World<E> {
     ) -> Result<Items, WorldFault>
         requires in_head { IsNode (length self.old.members.items) (length self.old.coords.items) node }
         requires call { (1 ≤ call) × (call ≤ 4) }
-        requires held { AreHeld (H.file home.old) (H.reach home.old) self.old }
+        requires held { AreHeld (H.seen home.old) self.old }
         requires stands { (s : Federation) × RepresentsWorld E.takes E.stands_for self.old s × IsReady s }
         ensures count { IsErrOf result WorldFault.Count → ⊥ }
         ensures items { (s : Federation) → RepresentsWorld E.takes E.stands_for self.old s → IfOk result (λ items. items ≡ numbered number (arm_at s call leaves.now node).items) }
         ensures stands { (s : Federation) → RepresentsWorld E.takes E.stands_for self.old s → OnOk result (RepresentsWorld E.takes E.stands_for self.new (arm_at s call leaves.now node).state) }
-        ensures left { (s : Federation) → RepresentsWorld E.takes E.stands_for self.old s → IfErr result (AreLeftBy (H.file home.new) s (arm_at s call leaves.now node).state (arm_at (disarmed s) call leaves.now node).state) }
-        ensures served { OnOk result (AreServed self.new (seen H.file H.reach H.faults H.last_failed home.old) (seen H.file H.reach H.faults H.last_failed home.new)) }
-        ensures ended { IfErr result (λ fault. HasEndedAs fault (seen H.file H.reach H.faults H.last_failed home.old) (seen H.file H.reach H.faults H.last_failed home.new)) }
-        ensures entered { H.entered home.new ≡ H.entered home.old }
+        ensures left { (s : Federation) → RepresentsWorld E.takes E.stands_for self.old s → IfErr result (AreLeftBy (H.seen home.new).file s (arm_at s call leaves.now node).state (arm_at (disarmed s) call leaves.now node).state) }
+        ensures served { OnOk result (AreServed self.new (H.seen home.old) (H.seen home.new)) }
+        ensures ended { IfErr result (λ fault. HasEndedAs fault (H.seen home.old) (H.seen home.new)) }
+        ensures entered { (H.seen home.new).entered ≡ (H.seen home.old).entered }
     {
         let leaves = copy_leaves(self.alloc, leaves)?;
         match node {
@@ -249,15 +248,15 @@ impl<E: Engine + Drop> World<E> {
         node: Node,
     ) -> Result<Items, WorldFault>
         requires in_head { IsNode (length self.old.members.items) (length self.old.coords.items) node }
-        requires held { AreHeld (H.file home.old) (H.reach home.old) self.old }
+        requires held { AreHeld (H.seen home.old) self.old }
         requires stands { (s : Federation) × RepresentsWorld E.takes E.stands_for self.old s × IsReady s }
         ensures count { IsErrOf result WorldFault.Count → ⊥ }
         ensures items { (s : Federation) → RepresentsWorld E.takes E.stands_for self.old s → IfOk result (λ items. items ≡ numbered number (checkpoint_at s node).items) }
         ensures stands { (s : Federation) → RepresentsWorld E.takes E.stands_for self.old s → OnOk result (RepresentsWorld E.takes E.stands_for self.new (checkpoint_at s node).state) }
-        ensures left { (s : Federation) → RepresentsWorld E.takes E.stands_for self.old s → IfErr result (AreLeftBy (H.file home.new) s (checkpoint_at s node).state (checkpoint_at (disarmed s) node).state) }
-        ensures served { OnOk result (AreServed self.new (seen H.file H.reach H.faults H.last_failed home.old) (seen H.file H.reach H.faults H.last_failed home.new)) }
-        ensures ended { IfErr result (λ fault. HasEndedAs fault (seen H.file H.reach H.faults H.last_failed home.old) (seen H.file H.reach H.faults H.last_failed home.new)) }
-        ensures entered { H.entered home.new ≡ H.entered home.old }
+        ensures left { (s : Federation) → RepresentsWorld E.takes E.stands_for self.old s → IfErr result (AreLeftBy (H.seen home.new).file s (checkpoint_at s node).state (checkpoint_at (disarmed s) node).state) }
+        ensures served { OnOk result (AreServed self.new (H.seen home.old) (H.seen home.new)) }
+        ensures ended { IfErr result (λ fault. HasEndedAs fault (H.seen home.old) (H.seen home.new)) }
+        ensures entered { (H.seen home.new).entered ≡ (H.seen home.old).entered }
     {
         match node {
             Node::Member(member) => self.at_member(home, number, member, MemberCall::Checkpoint),
@@ -278,16 +277,16 @@ impl<E: Engine + Drop> World<E> {
         event: &Event,
     ) -> Result<Items, WorldFault>
         requires event { IsEventFor (length self.old.members.items) (length self.old.coords.items) event.now }
-        requires held { AreHeld (H.file home.old) (H.reach home.old) self.old }
+        requires held { AreHeld (H.seen home.old) self.old }
         requires stands { (s : Federation) × RepresentsWorld E.takes E.stands_for self.old s × IsReady s }
         ensures count { IsErrOf result WorldFault.Count ↔ MeetsLimit self.old.sessions event.now }
         ensures limit { (s : Federation) → RepresentsWorld E.takes E.stands_for self.old s → IsErrOf result WorldFault.Count ↔ MeetsPlainLimit s event.now }
         ensures items { (s : Federation) → RepresentsWorld E.takes E.stands_for self.old s → IsReady s → IfOk result (λ items. items ≡ numbered number (step_line s event.now).items) }
         ensures stands { (s : Federation) → RepresentsWorld E.takes E.stands_for self.old s → IsReady s → OnOk result (RepresentsWorld E.takes E.stands_for self.new (step_line s event.now).state) }
-        ensures left { (s : Federation) → RepresentsWorld E.takes E.stands_for self.old s → IsReady s → IfErr result (AreLeftBy (H.file home.new) s (step_line s event.now).state (step_line (disarmed s) event.now).state) }
-        ensures served { OnOk result (AreServed self.new (seen H.file H.reach H.faults H.last_failed home.old) (seen H.file H.reach H.faults H.last_failed home.new)) }
-        ensures ended { IfErr result (λ fault. HasEndedAs fault (seen H.file H.reach H.faults H.last_failed home.old) (seen H.file H.reach H.faults H.last_failed home.new)) }
-        ensures entered { H.entered home.new ≡ H.entered home.old }
+        ensures left { (s : Federation) → RepresentsWorld E.takes E.stands_for self.old s → IsReady s → IfErr result (AreLeftBy (H.seen home.new).file s (step_line s event.now).state (step_line (disarmed s) event.now).state) }
+        ensures served { OnOk result (AreServed self.new (H.seen home.old) (H.seen home.new)) }
+        ensures ended { IfErr result (λ fault. HasEndedAs fault (H.seen home.old) (H.seen home.new)) }
+        ensures entered { (H.seen home.new).entered ≡ (H.seen home.old).entered }
     {
         match event {
             Event::Begin { txn, coord } => self.begin(home, number, *txn, *coord),

@@ -7,7 +7,6 @@ ghost use Rattle.co_plain.specs.Runs.{numbered};
 ghost use Rattle.co_plain.specs.Step.{disarmed};
 ghost use Rattle.co_plain.specs.Wire.{send_all};
 ghost use Rattle.co_world.specs.Calls.{member_does, coord_does, MemberMay, CoordMay};
-ghost use Rattle.co_node.specs.Answers.{seen};
 ghost use Rattle.co_world.specs.Left.{AreLeftWith, member_disarmed, coord_disarmed};
 ghost use Rattle.co_world.specs.Served.{AreServed, HasEndedAs};
 ghost use Rattle.co_world.specs.Standing.{RepresentsWorld, AreHeld};
@@ -82,7 +81,7 @@ impl<E: Engine + Drop> World<E> {
         call: MemberCall,
     ) -> Result<MemberStep, WorldFault>
         requires in_head { (1 ≤ member) × (member ≤ length self.old.members.items) }
-        requires held { AreHeld (H.file home.old) (H.reach home.old) self.old }
+        requires held { AreHeld (H.seen home.old) self.old }
         requires stands { (s : Federation) × RepresentsWorld E.takes E.stands_for self.old s × MemberMay s.coordinators call (s.member member) }
         ensures count { IsErrOf result WorldFault.Count → ⊥ }
         ensures told { (s : Federation) → RepresentsWorld E.takes E.stands_for self.old s →
@@ -90,10 +89,10 @@ impl<E: Engine + Drop> World<E> {
         ensures stands { (s : Federation) → RepresentsWorld E.takes E.stands_for self.old s →
             OnOk result (RepresentsWorld E.takes E.stands_for self.new (with_member s member (member_does member call (s.member member)).state)) }
         ensures left { (s : Federation) → RepresentsWorld E.takes E.stands_for self.old s →
-            IfErr result (AreLeftWith (H.file home.new) s (with_member (disarmed s) member (member_does member call (member_disarmed (s.member member))).state)) }
-        ensures served { OnOk result (AreServed self.new (seen H.file H.reach H.faults H.last_failed home.old) (seen H.file H.reach H.faults H.last_failed home.new)) }
-        ensures ended { IfErr result (λ fault. HasEndedAs fault (seen H.file H.reach H.faults H.last_failed home.old) (seen H.file H.reach H.faults H.last_failed home.new)) }
-        ensures entered { H.entered home.new ≡ H.entered home.old }
+            IfErr result (AreLeftWith (H.seen home.new).file s (with_member (disarmed s) member (member_does member call (member_disarmed (s.member member))).state)) }
+        ensures served { OnOk result (AreServed self.new (H.seen home.old) (H.seen home.new)) }
+        ensures ended { IfErr result (λ fault. HasEndedAs fault (H.seen home.old) (H.seen home.new)) }
+        ensures entered { (H.seen home.new).entered ≡ (H.seen home.old).entered }
     {
         match member_does(&mut self.members[usize::from(member) - 1], home, call) {
             Ok(did) => Ok(did),
@@ -109,7 +108,7 @@ impl<E: Engine + Drop> World<E> {
         call: CoordCall,
     ) -> Result<CoordStep, WorldFault>
         requires in_head { (1 ≤ coord) × (coord ≤ length self.old.coords.items) }
-        requires held { AreHeld (H.file home.old) (H.reach home.old) self.old }
+        requires held { AreHeld (H.seen home.old) self.old }
         requires stands { (s : Federation) × RepresentsWorld E.takes E.stands_for self.old s × CoordMay (length s.kinds) coord call (s.coord coord) }
         ensures count { IsErrOf result WorldFault.Count → ⊥ }
         ensures told { (s : Federation) → RepresentsWorld E.takes E.stands_for self.old s →
@@ -117,10 +116,10 @@ impl<E: Engine + Drop> World<E> {
         ensures stands { (s : Federation) → RepresentsWorld E.takes E.stands_for self.old s →
             OnOk result (RepresentsWorld E.takes E.stands_for self.new (with_coord s coord (coord_does coord call (s.coord coord)).state)) }
         ensures left { (s : Federation) → RepresentsWorld E.takes E.stands_for self.old s →
-            IfErr result (AreLeftWith (H.file home.new) s (with_coord (disarmed s) coord (coord_does coord call (coord_disarmed (s.coord coord))).state)) }
-        ensures served { OnOk result (AreServed self.new (seen H.file H.reach H.faults H.last_failed home.old) (seen H.file H.reach H.faults H.last_failed home.new)) }
-        ensures ended { IfErr result (λ fault. HasEndedAs fault (seen H.file H.reach H.faults H.last_failed home.old) (seen H.file H.reach H.faults H.last_failed home.new)) }
-        ensures entered { H.entered home.new ≡ H.entered home.old }
+            IfErr result (AreLeftWith (H.seen home.new).file s (with_coord (disarmed s) coord (coord_does coord call (coord_disarmed (s.coord coord))).state)) }
+        ensures served { OnOk result (AreServed self.new (H.seen home.old) (H.seen home.new)) }
+        ensures ended { IfErr result (λ fault. HasEndedAs fault (H.seen home.old) (H.seen home.new)) }
+        ensures entered { (H.seen home.new).entered ≡ (H.seen home.old).entered }
     {
         match coord_does(&mut self.coords[usize::from(coord) - 1], home, call) {
             Ok(did) => Ok(did),

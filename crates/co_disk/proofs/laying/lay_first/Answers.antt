@@ -11,7 +11,7 @@ returns-in-Some-clause-laid g c disk touched short laid =
     let w = write_of (first_entry c.in-Some.f) in
     let same : map write_of (entries c.args.first.now []) ≡ w ∷ [] = ap (λ (o : Option FirstByte). map write_of (entries o [])) c.in-Some.is in
     let step = c.lay_part.ensures.laid disk [] w refl refl (λ place covered. touched place (ap (λ (ws : List Write). any_covers place ws) same ∙ ap (λ b. b || any_covers place []) covered)) short laid in
-    subst (λ (ws : List Write). OnOk c.lay_part.result (IsLaidTo disk c.args.image.now ws (g.H.Home.file c.lay_part.new.home c.args.spot) (g.H.Home.reach c.lay_part.new.home c.args.spot))) (sym same) step
+    subst (λ (ws : List Write). OnOk c.lay_part.result (IsLaidTo disk c.args.image.now ws ((g.H.Home.seen c.lay_part.new.home).file c.args.spot) ((g.H.Home.seen c.lay_part.new.home).reach c.args.spot))) (sym same) step
 
 pub returns-in-Some-clause-failed : goal.returns-in-Some-clause-failed
 returns-in-Some-clause-failed g c disk touched short images =

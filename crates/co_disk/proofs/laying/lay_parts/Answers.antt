@@ -10,9 +10,9 @@ use Rattle.co_disk.proofs.laying.lay_parts.Goals as goal
 pub loop-t-init : goal.loop-t-init
 loop-t-init g c = record {
   reach = omega arith;
-  rest = rest_here g.H.Home.file g.H.Home.reach g.H.Home.entered g.H.Home.faults g.H.Home.last_failed c.args.spot c.args.home.now;
+  rest = rest_here c.args.spot (g.H.Home.seen c.args.home.now);
   quiet = refl;
-  laid = λ disk done touched short start. subst (λ (ws : List Write). IsLaidTo disk c.args.image.now ws (g.H.Home.file c.args.home.now c.args.spot) (g.H.Home.reach c.args.home.now c.args.spot)) (sym (append_none done)) start;
+  laid = λ disk done touched short start. subst (λ (ws : List Write). IsLaidTo disk c.args.image.now ws ((g.H.Home.seen c.args.home.now).file c.args.spot) ((g.H.Home.seen c.args.home.now).reach c.args.spot)) (sym (append_none done)) start;
 }
   where
     append_none : (ws : List Write) → ws ++ [] ≡ ws
@@ -22,7 +22,7 @@ loop-t-init g c = record {
 pub lay_part-requires : goal.lay_part-requires
 lay_part-requires g c =
     let t = c.t-item.result in
-    let at = subst (λ (u : Touched). u.at ≤ g.H.Home.reach c.args.home.now c.args.spot) (sym c.t-item.is) (c.requires.at c.loop-t.t-index t c.loop-t-test.true) in
+    let at = subst (λ (u : Touched). u.at ≤ (g.H.Home.seen c.args.home.now).reach c.args.spot) (sym c.t-item.is) (c.requires.at c.loop-t.t-index t c.loop-t-test.true) in
     record { at = omega (arith, at, c.loop-t.invariant.reach) }
 
 pub loop-t-preserved : goal.loop-t-preserved
@@ -33,13 +33,13 @@ loop-t-preserved g c =
     let long : length t.piece.items ≡ c.len.result = omega (arith, t.piece.ok, c.len.ensures) in
     record {
       reach = omega (arith, c.loop-t.invariant.reach, c.lay_part.ensures.reach);
-      rest = rest_then g.H.Home.file g.H.Home.reach g.H.Home.entered g.H.Home.faults g.H.Home.last_failed c.args.spot c.args.home.now c.loop-t.home c.lay_part.new.home c.loop-t.invariant.rest c.lay_part.ensures.rest;
+      rest = rest_then c.args.spot (g.H.Home.seen c.args.home.now) (g.H.Home.seen c.loop-t.home) (g.H.Home.seen c.lay_part.new.home) c.loop-t.invariant.rest c.lay_part.ensures.rest;
       quiet = search rules;
       laid = λ disk done touched short start.
           let so_far = c.loop-t.invariant.laid disk done touched short start in
           let step = c.in_ok-lay_part.ensures.laid disk (done ++ map write_of (map entry_of (take i c.args.touched.now))) (write_of (entry_of t)) refl long (λ place covered. touched place (covered_one place c.args.touched.now i t c.loop-t-test.true c.t-item.is covered)) short so_far in
           let same = append_assoc done (map write_of (map entry_of (take i c.args.touched.now))) (write_of (entry_of t) ∷ []) ∙ ap (λ (ws : List Write). done ++ ws) (sym (writes_take c.args.touched.now i t c.loop-t-test.true c.t-item.is)) in
-          subst (λ (ws : List Write). IsLaidTo disk image ws (g.H.Home.file c.lay_part.new.home c.args.spot) (g.H.Home.reach c.lay_part.new.home c.args.spot)) same step;
+          subst (λ (ws : List Write). IsLaidTo disk image ws ((g.H.Home.seen c.lay_part.new.home).file c.args.spot) ((g.H.Home.seen c.lay_part.new.home).reach c.args.spot)) same step;
     }
 
 pub returns-in_err-lay_part-clause-failed : goal.returns-in_err-lay_part-clause-failed

@@ -4,7 +4,7 @@ use Rattle.co_durable.proofs.reading.attach.Goals as goal
 
 pub returns-clause-reads : goal.returns-clause-reads
 returns-clause-reads g c = record {
-  files = all_stay (g.H.Home.file c.attach.new.home) (g.H.Home.file c.args.home.now) (spot_of c.args.node 0) (spot_of c.args.node 1) c.attach.ensures.file_a c.attach.ensures.file_b c.attach.ensures.rest.others.files;
+  files = all_stay (g.H.Home.seen c.attach.new.home).file (g.H.Home.seen c.args.home.now).file (spot_of c.args.node 0) (spot_of c.args.node 1) c.attach.ensures.file_a c.attach.ensures.file_b c.attach.ensures.rest.others.files;
   directory = c.attach.ensures.rest.directory;
   count = c.attach.ensures.rest.count;
 }

@@ -11,17 +11,17 @@ use Rattle.co_durable.proofs.writing.read_directory.Goals as goal
 
 pub returns-in-Ok-read_rows-clause-durable : goal.returns-in-Ok-read_rows-clause-durable
 returns-in-Ok-read_rows-clause-durable g c =
-    subst (λ (file : Spot → Option File). IsDurable file 16 8 c.in-Ok-read_rows.rows) (same_files (g.H.Home.file c.enter.new.self) (g.H.Home.file c.args.home.now) c.enter.ensures.files)
+    subst (λ (file : Spot → Option File). IsDurable file 16 8 c.in-Ok-read_rows.rows) (same_files (g.H.Home.seen c.enter.new.self).file (g.H.Home.seen c.args.home.now).file c.enter.ensures.files)
     c.in-Ok-read_rows.ensures.durable
 
 pub returns-in-Err-clause-refused : goal.returns-in-Err-clause-refused
 returns-in-Err-clause-refused g c =
-    subst (IsRefusal (g.H.Home.file c.args.home.now)) (sym c.refusal.ensures)
-    (undurable_refuses (g.H.Home.file c.args.home.now) c.in-Err.fault
-    (subst (λ (file : Spot → Option File). IsUndurable file 16 8 c.in-Err.fault) (same_files (g.H.Home.file c.enter.new.self) (g.H.Home.file c.args.home.now) c.enter.ensures.files) c.in-Err.ensures.undurable))
+    subst (IsRefusal (g.H.Home.seen c.args.home.now).file) (sym c.refusal.ensures)
+    (undurable_refuses (g.H.Home.seen c.args.home.now).file c.in-Err.fault
+    (subst (λ (file : Spot → Option File). IsUndurable file 16 8 c.in-Err.fault) (same_files (g.H.Home.seen c.enter.new.self).file (g.H.Home.seen c.args.home.now).file c.enter.ensures.files) c.in-Err.ensures.undurable))
 
 pub refusal-requires : goal.refusal-requires
-refusal-requires g c = undurable_is_read (g.H.Home.file c.enter.new.self) c.in-Err.fault c.in-Err.ensures.undurable
+refusal-requires g c = undurable_is_read (g.H.Home.seen c.enter.new.self).file c.in-Err.fault c.in-Err.ensures.undurable
 
 pub returns-in-Err-clause-quiet : goal.returns-in-Err-clause-quiet
 returns-in-Err-clause-quiet g c = λ quiet.

@@ -21,6 +21,6 @@ returns-in-Err-Device-clause-told g c = λ f told.
     let old = c.args.disk.now.state in
     let bytes : c.bytes.result.now ≡ old.stable = c.bytes.ensures.read ∙ read_stable old c.requires.stable in
     let open' : begins_closed old.stable ≡ false = sym (ap begins_closed bytes) ∙ sym c.begins_closed.ensures ∙ c.if-begins_closed.false in
-    let told' = subst (λ (d : DiskView). g.H.Home.file c.write_through.new.home d.spot ≡ Some f) (sym c.disarm.ensures) told in
+    let told' = subst (λ (d : DiskView). (g.H.Home.seen c.write_through.new.home).file d.spot ≡ Some f) (sym c.disarm.ensures) told in
     let image = subst (λ (d : DiskView). IsImage (after_write d.state 0 (0 ∷ [])) f.bytes) c.disarm.ensures (c.in-Err-Device.ensures.image f told') in
     short_image old f.bytes c.requires.stable (short_unmade old.stable c.requires.none open') image

@@ -17,7 +17,7 @@ pub returns-in_err-write_through-clause-memory : goal.returns-in_err-write_throu
 returns-in_err-write_through-clause-memory g c = λ is f told.
     let old = c.args.disk.now.state in
     let pending = ap (λ (d : DiskState). after_write d (c.args.gate + 1) c.args.batch.now) (c.arm_for.ensures.state ∙ all_stable old c.requires.stable) in
-    let told' = subst (λ (s : Spot). g.H.Home.file c.write_through.new.home s ≡ Some f) (sym c.arm_for.ensures.spot) told in
+    let told' = subst (λ (s : Spot). (g.H.Home.seen c.write_through.new.home).file s ≡ Some f) (sym c.arm_for.ensures.spot) told in
     subst (λ (d : DiskState). IsImage d f.bytes) pending (c.in_err-write_through.ensures.image f told')
 
 pub returns-in_err-write_through-2-clause-stopped : goal.returns-in_err-write_through-2-clause-stopped

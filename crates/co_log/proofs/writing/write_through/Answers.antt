@@ -20,5 +20,5 @@ returns-in_err-sync-clause-stopped g c = λ call is.
 pub returns-in_err-sync-clause-image : goal.returns-in_err-sync-clause-image
 returns-in_err-sync-clause-image g c = λ f told.
     let w = c.in_ok-write_at.ensures in
-    let told' = subst (λ (s : Spot). g.H.Home.file c.sync.new.home s ≡ Some f) (sym w.spot) told in
+    let told' = subst (λ (s : Spot). (g.H.Home.seen c.sync.new.home).file s ≡ Some f) (sym w.spot) told in
     subst (λ (d : DiskState). IsImage d f.bytes) w.written (c.in_err-sync.ensures.image f told')

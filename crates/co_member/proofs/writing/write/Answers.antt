@@ -1,6 +1,5 @@
 use Rattle.std.proofs.Common.{sym, subst}
 use Rattle.std.specs.Prelude.{Ok}
-use Rattle.co_node.specs.Answers.{seen}
 use Rattle.co_node.specs.declared.written.Written.TheVariants.{Done}
 use Rattle.co_node.proofs.Homes.{memory_answered}
 use Rattle.co_node.proofs.Opened.{left_before}
@@ -15,21 +14,21 @@ returns-in-Nothing-clause-written g c = λ owner l s. subst (λ (w : Writes). Ha
 pub returns-in-Nothing-clause-answered : goal.returns-in-Nothing-clause-answered
 returns-in-Nothing-clause-answered g c = λ owner l s.
     let log = c.args.log.now in
-    let home = seen g.H.Home.file g.H.Home.reach g.H.Home.faults g.H.Home.last_failed c.args.home.now in
+    let home = g.H.Home.seen c.args.home.now in
     (λ long. subst (λ (w : Writes). IsTooLongFor w log) c.in-Nothing.is long, still_served owner home log log l s c.requires.held c.requires.short c.requires.held)
 
 pub returns-in_err-keep_waiting-in-Keeps-clause-answered : goal.returns-in_err-keep_waiting-in-Keeps-clause-answered
 returns-in_err-keep_waiting-in-Keeps-clause-answered g c = λ owner l s.
     let log = c.args.log.now in
     memory_answered owner log.current.spot (IsTooLongFor c.args.writes log) l.stable (stable_after c.args.writes l) c.keep_waiting.new.log
-    (seen g.H.Home.file g.H.Home.reach g.H.Home.faults g.H.Home.last_failed c.args.home.now) c.from_residual.result c.from_residual.ensures
-    (left_before owner (g.H.Home.file c.args.home.now) (g.H.Home.reach c.args.home.now) log l s c.requires.held c.requires.short)
+    (g.H.Home.seen c.args.home.now) c.from_residual.result c.from_residual.ensures
+    (left_before owner (g.H.Home.seen c.args.home.now) log l s c.requires.held c.requires.short)
 
 pub returns-in-Forces-clause-written : goal.returns-in-Forces-clause-written
 returns-in-Forces-clause-written g c = λ owner l s. subst (λ (w : Writes). HasWrittenFor w owner l c.force.new.log c.force.result) (sym c.in-Forces.is) (c.force.ensures.written owner l s)
 
 pub returns-in-Forces-clause-answered : goal.returns-in-Forces-clause-answered
 returns-in-Forces-clause-answered g c = λ owner l s.
-    let old = seen g.H.Home.file g.H.Home.reach g.H.Home.faults g.H.Home.last_failed c.args.home.now in
-    let new = seen g.H.Home.file g.H.Home.reach g.H.Home.faults g.H.Home.last_failed c.force.new.home in
+    let old = g.H.Home.seen c.args.home.now in
+    let new = g.H.Home.seen c.force.new.home in
     subst (λ (w : Writes). IsAnsweredFor w owner l c.args.log.now c.force.new.log old new c.force.result) (sym c.in-Forces.is) (c.force.ensures.answered owner l s)

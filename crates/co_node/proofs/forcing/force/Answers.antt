@@ -4,7 +4,7 @@ use Rattle.co_base.specs.declared.node.Node.{Node}
 use Rattle.co_log.specs.Appending.{IsTooLong}
 use Rattle.co_log.specs.LogFile.{next_items}
 use Rattle.co_plain.specs.LogWrite.{with_batch}
-use Rattle.co_node.specs.Answers.{seen, IsAnswered}
+use Rattle.co_node.specs.Answers.{IsAnswered}
 use Rattle.co_node.proofs.Ended.{force_done, force_ended}
 use Rattle.co_node.proofs.Homes.{Wrote, fault_answered, forced_left, forced_wants, old_records, told_of}
 use Rattle.co_node.proofs.Sizes.{forced_is_overlong}
@@ -22,10 +22,10 @@ returns-in-Err-clause-written g c = λ owner l s.
 pub returns-in-Err-clause-answered : goal.returns-in-Err-clause-answered
 returns-in-Err-clause-answered g c = λ owner l s.
     let log = c.args.log.now in
-    let file = g.H.Home.file c.force.new.home in
+    let file = (g.H.Home.seen c.force.new.home).file in
     let more = log.waiting ++ c.args.item ∷ [] in
     let both = next_newest owner log l (c.args.item ∷ []) s in
-    let wrote : Wrote g.H.Home.file g.H.Home.reach g.H.Home.entered g.H.Home.faults g.H.Home.last_failed log c.force.new.self log.current.spot (IsTooLong log.gate more) l.stable (with_batch l (c.args.item ∷ [])).stable c.args.home.now c.force.new.home (Err c.in-Err.fault) =
+    let wrote : Wrote log c.force.new.self log.current.spot (IsTooLong log.gate more) l.stable (with_batch l (c.args.item ∷ [])).stable (g.H.Home.seen c.args.home.now) (g.H.Home.seen c.force.new.home) (Err c.in-Err.fault) =
     record {
       spots = c.requires.held.spots;
       its = inl refl;
@@ -50,5 +50,5 @@ returns-in-Err-clause-answered g c = λ owner l s.
       device = c.in-Err.ensures.device;
       quiet = c.in-Err.ensures.quiet;
     } in
-    subst (λ (n : Node). IsAnswered n log.current.spot (IsTooLong log.gate more) l.stable (with_batch l (c.args.item ∷ [])).stable c.force.new.self (seen g.H.Home.file g.H.Home.reach g.H.Home.faults g.H.Home.last_failed c.args.home.now) (seen g.H.Home.file g.H.Home.reach g.H.Home.faults g.H.Home.last_failed c.force.new.home) c.stopped.result) s.owned
-    (fault_answered g.H.Home.file g.H.Home.reach g.H.Home.entered g.H.Home.faults g.H.Home.last_failed log c.force.new.self log.current.spot (IsTooLong log.gate more) l.stable (with_batch l (c.args.item ∷ [])).stable c.args.home.now c.force.new.home _ c.in-Err.fault c.stopped.result c.in-Err.ensures.faults wrote c.stopped.ensures)
+    subst (λ (n : Node). IsAnswered n log.current.spot (IsTooLong log.gate more) l.stable (with_batch l (c.args.item ∷ [])).stable c.force.new.self (g.H.Home.seen c.args.home.now) (g.H.Home.seen c.force.new.home) c.stopped.result) s.owned
+    (fault_answered log c.force.new.self log.current.spot (IsTooLong log.gate more) l.stable (with_batch l (c.args.item ∷ [])).stable (g.H.Home.seen c.args.home.now) (g.H.Home.seen c.force.new.home) _ c.in-Err.fault c.stopped.result c.in-Err.ensures.faults wrote c.stopped.ensures)

@@ -4,7 +4,7 @@ use Rattle.co_base.specs.declared.node.Node.{Node}
 use Rattle.co_log.specs.Appending.{IsTooLong}
 use Rattle.co_log.specs.LogFile.{next_items}
 use Rattle.co_plain.specs.LogWrite.{with_batch}
-use Rattle.co_node.specs.Answers.{seen, IsAnswered}
+use Rattle.co_node.specs.Answers.{IsAnswered}
 use Rattle.co_node.proofs.Ended.{force_done, force_ended}
 use Rattle.co_node.proofs.Homes.{Wrote, fault_answered, forced_left, forced_wants, old_records, told_of}
 use Rattle.co_node.proofs.Sizes.{fits}
@@ -22,11 +22,11 @@ returns-in-Err-clause-written g c = λ owner l more s is.
 pub returns-in-Err-clause-answered : goal.returns-in-Err-clause-answered
 returns-in-Err-clause-answered g c = λ owner l more s is.
     let log = c.args.log.now in
-    let file = g.H.Home.file c.force_batch.new.home in
+    let file = (g.H.Home.seen c.force_batch.new.home).file in
     let all = log.waiting ++ more in
     let did = c.in-Err.ensures more is in
     let both = next_newest owner log l more s in
-    let wrote : Wrote g.H.Home.file g.H.Home.reach g.H.Home.entered g.H.Home.faults g.H.Home.last_failed log c.force_batch.new.self log.current.spot (IsTooLong log.gate all) l.stable (with_batch l (reverse more)).stable c.args.home.now c.force_batch.new.home (Err c.in-Err.fault) =
+    let wrote : Wrote log c.force_batch.new.self log.current.spot (IsTooLong log.gate all) l.stable (with_batch l (reverse more)).stable (g.H.Home.seen c.args.home.now) (g.H.Home.seen c.force_batch.new.home) (Err c.in-Err.fault) =
     record {
       spots = c.requires.held.spots;
       its = inl refl;
@@ -51,5 +51,5 @@ returns-in-Err-clause-answered g c = λ owner l more s is.
       device = did.device;
       quiet = did.quiet;
     } in
-    subst (λ (n : Node). IsAnswered n log.current.spot (IsTooLong log.gate all) l.stable (with_batch l (reverse more)).stable c.force_batch.new.self (seen g.H.Home.file g.H.Home.reach g.H.Home.faults g.H.Home.last_failed c.args.home.now) (seen g.H.Home.file g.H.Home.reach g.H.Home.faults g.H.Home.last_failed c.force_batch.new.home) c.stopped.result) s.owned
-    (fault_answered g.H.Home.file g.H.Home.reach g.H.Home.entered g.H.Home.faults g.H.Home.last_failed log c.force_batch.new.self log.current.spot (IsTooLong log.gate all) l.stable (with_batch l (reverse more)).stable c.args.home.now c.force_batch.new.home _ c.in-Err.fault c.stopped.result did.of wrote c.stopped.ensures)
+    subst (λ (n : Node). IsAnswered n log.current.spot (IsTooLong log.gate all) l.stable (with_batch l (reverse more)).stable c.force_batch.new.self (g.H.Home.seen c.args.home.now) (g.H.Home.seen c.force_batch.new.home) c.stopped.result) s.owned
+    (fault_answered log c.force_batch.new.self log.current.spot (IsTooLong log.gate all) l.stable (with_batch l (reverse more)).stable (g.H.Home.seen c.args.home.now) (g.H.Home.seen c.force_batch.new.home) _ c.in-Err.fault c.stopped.result did.of wrote c.stopped.ensures)

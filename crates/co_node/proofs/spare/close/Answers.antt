@@ -1,7 +1,7 @@
 use Rattle.std.proofs.Common.{sym, refl, subst, inl, inr}
 use Rattle.std.specs.Prelude.{Err}
 use Rattle.co_base.specs.declared.node.Node.{Node}
-use Rattle.co_node.specs.Answers.{seen, IsAnswered, LeftAs}
+use Rattle.co_node.specs.Answers.{IsAnswered, LeftAs}
 use Rattle.co_node.proofs.Homes.{Wrote, fault_answered, never_full, of_closing, old_records, told_of}
 use Rattle.co_node.proofs.Spares.{close_done, close_ended}
 use Rattle.co_node.proofs.spare.close.Goals as goal
@@ -15,12 +15,12 @@ returns-in-Err-clause-written g c = λ owner l s. close_ended owner c.args.log.n
 pub returns-in-Err-clause-answered : goal.returns-in-Err-clause-answered
 returns-in-Err-clause-answered g c = λ owner l s.
     let log = c.args.log.now in
-    let file = g.H.Home.file c.close_spare.new.home in
+    let file = (g.H.Home.seen c.close_spare.new.home).file in
     let left : LeftAs file log.node l.stable l.stable = λ told.
     let files = told_of file log c.requires.held.spots told in
     let old = c.in-Err.ensures.current s.items s.ordered files.current files.spare files.is_current files.is_spare in
     (s.items, old_records file log log.version log.generation s.items c.requires.held.spots c.in-Err.ensures.short files old, inl (sym s.stable)) in
-    let wrote : Wrote g.H.Home.file g.H.Home.reach g.H.Home.entered g.H.Home.faults g.H.Home.last_failed log c.close_spare.new.self log.spare.spot ⊥ l.stable l.stable c.args.home.now c.close_spare.new.home (Err c.in-Err.fault) =
+    let wrote : Wrote log c.close_spare.new.self log.spare.spot ⊥ l.stable l.stable (g.H.Home.seen c.args.home.now) (g.H.Home.seen c.close_spare.new.home) (Err c.in-Err.fault) =
     record {
       spots = c.requires.held.spots;
       its = inr refl;
@@ -37,5 +37,5 @@ returns-in-Err-clause-answered g c = λ owner l s.
       device = c.in-Err.ensures.device;
       quiet = c.in-Err.ensures.quiet;
     } in
-    subst (λ (n : Node). IsAnswered n log.spare.spot ⊥ l.stable l.stable c.close_spare.new.self (seen g.H.Home.file g.H.Home.reach g.H.Home.faults g.H.Home.last_failed c.args.home.now) (seen g.H.Home.file g.H.Home.reach g.H.Home.faults g.H.Home.last_failed c.close_spare.new.home) c.stopped.result) s.owned
-    (fault_answered g.H.Home.file g.H.Home.reach g.H.Home.entered g.H.Home.faults g.H.Home.last_failed log c.close_spare.new.self log.spare.spot ⊥ l.stable l.stable c.args.home.now c.close_spare.new.home _ c.in-Err.fault c.stopped.result (of_closing log.spare.spot c.in-Err.fault c.in-Err.ensures.faults) wrote c.stopped.ensures)
+    subst (λ (n : Node). IsAnswered n log.spare.spot ⊥ l.stable l.stable c.close_spare.new.self (g.H.Home.seen c.args.home.now) (g.H.Home.seen c.close_spare.new.home) c.stopped.result) s.owned
+    (fault_answered log c.close_spare.new.self log.spare.spot ⊥ l.stable l.stable (g.H.Home.seen c.args.home.now) (g.H.Home.seen c.close_spare.new.home) _ c.in-Err.fault c.stopped.result (of_closing log.spare.spot c.in-Err.fault c.in-Err.ensures.faults) wrote c.stopped.ensures)

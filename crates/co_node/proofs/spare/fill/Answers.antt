@@ -5,7 +5,7 @@ use Rattle.co_base.specs.declared.node.Node.{Node}
 use Rattle.co_record.specs.Format.{newest}
 use Rattle.co_log.specs.LogFile.{placed_from}
 use Rattle.co_log.specs.Spare.{IsOverfull, filling}
-use Rattle.co_node.specs.Answers.{seen, IsAnswered}
+use Rattle.co_node.specs.Answers.{IsAnswered}
 use Rattle.co_node.specs.Writes.{filled_with}
 use Rattle.co_node.proofs.Homes.{Wrote, fault_answered, filled_left, filled_wants, memory_answered, new_records, not_done, not_failed, not_stopped, old_records, told_of}
 use Rattle.co_node.proofs.Opened.{left_before}
@@ -23,8 +23,8 @@ one_set (m ∷ n ∷ marks) mark one = absurd (omega (arith, one))
 pub returns-in_err-marks-clause-answered : goal.returns-in_err-marks-clause-answered
 returns-in_err-marks-clause-answered g c = λ owner l s.
     memory_answered owner c.args.log.now.spare.spot (IsOverfull c.args.log.now c.args.items.now) l.stable (filled_with owner l (reverse c.args.items.now)) c.args.log.now
-    (seen g.H.Home.file g.H.Home.reach g.H.Home.faults g.H.Home.last_failed c.args.home.now) c.from_residual.result c.from_residual.ensures
-    (left_before owner (g.H.Home.file c.args.home.now) (g.H.Home.reach c.args.home.now) c.args.log.now l s c.requires.held c.lengths.ensures.within)
+    (g.H.Home.seen c.args.home.now) c.from_residual.result c.from_residual.ensures
+    (left_before owner (g.H.Home.seen c.args.home.now) c.args.log.now l s c.requires.held c.lengths.ensures.within)
 
 pub returns-in-Ok-clause-written : goal.returns-in-Ok-clause-written
 returns-in-Ok-clause-written g c = λ owner l s.
@@ -42,9 +42,9 @@ pub returns-in-Err-clause-answered : goal.returns-in-Err-clause-answered
 returns-in-Err-clause-answered g c = λ owner l s.
     let log = c.args.log.now in
     let items = c.args.items.now in
-    let file = g.H.Home.file c.fill_spare.new.home in
+    let file = (g.H.Home.seen c.fill_spare.new.home).file in
     let that = filled_with owner l (reverse items) in
-    let wrote : Wrote g.H.Home.file g.H.Home.reach g.H.Home.entered g.H.Home.faults g.H.Home.last_failed log c.fill_spare.new.self log.spare.spot (IsOverfull log items) l.stable that c.args.home.now c.fill_spare.new.home (Err c.in-Err.fault) =
+    let wrote : Wrote log c.fill_spare.new.self log.spare.spot (IsOverfull log items) l.stable that (g.H.Home.seen c.args.home.now) (g.H.Home.seen c.fill_spare.new.home) (Err c.in-Err.fault) =
     record {
       spots = c.requires.held.spots;
       its = inr refl;
@@ -70,5 +70,5 @@ returns-in-Err-clause-answered g c = λ owner l s.
       device = c.in-Err.ensures.device;
       quiet = c.in-Err.ensures.quiet;
     } in
-    subst (λ (n : Node). IsAnswered n log.spare.spot (IsOverfull log items) l.stable that c.fill_spare.new.self (seen g.H.Home.file g.H.Home.reach g.H.Home.faults g.H.Home.last_failed c.args.home.now) (seen g.H.Home.file g.H.Home.reach g.H.Home.faults g.H.Home.last_failed c.fill_spare.new.home) c.stopped.result) s.owned
-    (fault_answered g.H.Home.file g.H.Home.reach g.H.Home.entered g.H.Home.faults g.H.Home.last_failed log c.fill_spare.new.self log.spare.spot (IsOverfull log items) l.stable that c.args.home.now c.fill_spare.new.home _ c.in-Err.fault c.stopped.result c.in-Err.ensures.faults wrote c.stopped.ensures)
+    subst (λ (n : Node). IsAnswered n log.spare.spot (IsOverfull log items) l.stable that c.fill_spare.new.self (g.H.Home.seen c.args.home.now) (g.H.Home.seen c.fill_spare.new.home) c.stopped.result) s.owned
+    (fault_answered log c.fill_spare.new.self log.spare.spot (IsOverfull log items) l.stable that (g.H.Home.seen c.args.home.now) (g.H.Home.seen c.fill_spare.new.home) _ c.in-Err.fault c.stopped.result c.in-Err.ensures.faults wrote c.stopped.ensures)

@@ -10,10 +10,10 @@ use Rattle.co_opening.proofs.attaching.attach_sort.Given as goal
 
 abbrev pub invariant-loop-place : goal.invariant-loop-place
 invariant-loop-place g l = record {
-  attached : EachPair (IsAttachedTo (g.H.Home.file l.initial.home) l.resume) (nodes_in l.sort l.place) l.logs.items;
+  attached : EachPair (IsAttachedTo (g.H.Home.seen l.initial.home).file l.resume) (nodes_in l.sort l.place) l.logs.items;
   many : length l.logs.items ≡ l.place;
-  kept : AreOwnLogs (g.H.Home.file l.home) (g.H.Home.reach l.home) (node_in l.sort) 0 l.logs.items;
-  reads : OnlyReads g.H.Home.file g.H.Home.entered g.H.Home.faults l.initial.home l.home;
-  others : (n : Node) → IsValidNode n → ((p : ℕ) → n ≢ node_in l.sort p) → NodeStays n (g.H.Home.file l.initial.home) (g.H.Home.file l.home) (g.H.Home.reach l.initial.home) (g.H.Home.reach l.home);
-  quiet : g.H.Home.faults l.home ≡ g.H.Home.faults l.initial.home;
+  kept : AreOwnLogs (g.H.Home.seen l.home) (node_in l.sort) 0 l.logs.items;
+  reads : OnlyReads (g.H.Home.seen l.initial.home) (g.H.Home.seen l.home);
+  others : (n : Node) → IsValidNode n → ((p : ℕ) → n ≢ node_in l.sort p) → NodeStays n (g.H.Home.seen l.initial.home).file (g.H.Home.seen l.home).file (g.H.Home.seen l.initial.home).reach (g.H.Home.seen l.home).reach;
+  quiet : (g.H.Home.seen l.home).faults ≡ (g.H.Home.seen l.initial.home).faults;
 }

@@ -1,7 +1,7 @@
 use Rattle.std.proofs.Common.{◌≡◌, ◌+◌, ◌++◌, ℕ, length}
 use Rattle.co_base.specs.Nodes.{IsValidNode}
 use Rattle.co_base.specs.declared.node.Node.TheVariants.{Member, Coord}
-use Rattle.co_disk.specs.Homes.{IsClean}
+use Rattle.co_outside.specs.Home.{IsClean}
 use Rattle.co_outside.specs.declared.spot.Spot.{Spot}
 use Rattle.co_plain.specs.Opening.{Found, coord_headers}
 use Rattle.co_opening.specs.Kept.{NodeStays, AreOwnLogs}
@@ -16,10 +16,10 @@ invariant-loop-log g l = record {
   found : (found : ℕ → Found) → AreCoordsFound l.members found 0 l.fn.logs.items l.fn.pasts.items → AreCoordsFound l.members found l.place l.log-iterator.rest.items l.pasts.rest.items;
   opened : (found : ℕ → Found) → AreCoordsFound l.members found 0 l.fn.logs.items l.fn.pasts.items → AreCoordsAt l.members found l.coords.items;
   marked : (found : ℕ → Found) → AreCoordsFound l.members found 0 l.fn.logs.items l.fn.pasts.items → l.marks ≡ l.initial.marks ++ coord_headers l.place found;
-  to_keep : AreOwnLogs (g.H.Home.file l.home) (g.H.Home.reach l.home) Coord l.place l.log-iterator.rest.items;
-  kept : AreOwnCoords (g.H.Home.file l.home) (g.H.Home.reach l.home) l.coords.items;
-  clean : (s : Spot) → IsClean (g.H.Home.file l.initial.home s) → IsClean (g.H.Home.file l.home s);
-  others : (m : ℕ) → IsValidNode (Member m) → NodeStays (Member m) (g.H.Home.file l.initial.home) (g.H.Home.file l.home) (g.H.Home.reach l.initial.home) (g.H.Home.reach l.home);
-  entered : g.H.Home.entered l.home ≡ g.H.Home.entered l.initial.home;
-  quiet : g.H.Home.faults l.home ≡ g.H.Home.faults l.initial.home;
+  to_keep : AreOwnLogs (g.H.Home.seen l.home) Coord l.place l.log-iterator.rest.items;
+  kept : AreOwnCoords (g.H.Home.seen l.home) l.coords.items;
+  clean : (s : Spot) → IsClean (g.H.Home.seen l.initial.home) s → IsClean (g.H.Home.seen l.home) s;
+  others : (m : ℕ) → IsValidNode (Member m) → NodeStays (Member m) (g.H.Home.seen l.initial.home).file (g.H.Home.seen l.home).file (g.H.Home.seen l.initial.home).reach (g.H.Home.seen l.home).reach;
+  entered : (g.H.Home.seen l.home).entered ≡ (g.H.Home.seen l.initial.home).entered;
+  quiet : (g.H.Home.seen l.home).faults ≡ (g.H.Home.seen l.initial.home).faults;
 }

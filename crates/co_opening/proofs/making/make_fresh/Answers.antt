@@ -11,11 +11,11 @@ returns-in-Ok-clause-stands g c = λ owner found s.
 
 pub returns-in-Err-Device-clause-rest : goal.returns-in-Err-Device-clause-rest
 returns-in-Err-Device-clause-rest g c =
-    current_only g.H.Home.file g.H.Home.reach g.H.Home.entered g.H.Home.faults c.args.log.now c.requires.kept.kept.held.spots c.args.home.now c.make.new.home c.make.ensures.rest
+    current_only c.args.log.now c.requires.kept.kept.held.spots (g.H.Home.seen c.args.home.now) (g.H.Home.seen c.make.new.home) c.make.ensures.rest
 
 pub returns-in-Err-Device-clause-quiet : goal.returns-in-Err-Device-clause-quiet
 returns-in-Err-Device-clause-quiet g c = λ quiet. absurd (quiet c.in-Err-Device.spot refl)
 
 pub returns-in-Err-Memory-clause-rest : goal.returns-in-Err-Memory-clause-rest
 returns-in-Err-Memory-clause-rest g c =
-    current_only g.H.Home.file g.H.Home.reach g.H.Home.entered g.H.Home.faults c.args.log.now c.requires.kept.kept.held.spots c.args.home.now c.make.new.home c.make.ensures.rest
+    current_only c.args.log.now c.requires.kept.kept.held.spots (g.H.Home.seen c.args.home.now) (g.H.Home.seen c.make.new.home) c.make.ensures.rest

@@ -19,7 +19,7 @@ open_member-requires-clause-found g c =
 
 pub returns-in_err-member-clause-device : goal.returns-in_err-member-clause-device
 returns-in_err-member-clause-device g c = λ spot is.
-    fails_later g.H.Home.file g.H.Home.entered g.H.Home.faults g.H.Home.last_failed c.args.home.now c.loop-log.home c.open_member.new.home spot (omega (arith, c.loop-log.invariant.quiet))
+    fails_later (g.H.Home.seen c.args.home.now) (g.H.Home.seen c.loop-log.home) (g.H.Home.seen c.open_member.new.home) spot (omega (arith, c.loop-log.invariant.quiet))
     (c.in_err-member.ensures.device spot (handed_back c.from_residual.result c.in_err-member.field-0.0 (Device spot) c.from_residual.ensures.1 is))
 
 pub returns-in_err-member-clause-quiet : goal.returns-in_err-member-clause-quiet
@@ -33,12 +33,12 @@ returns-clause-marks g c = λ found f.
 
 pub returns-in_err-member-clause-others : goal.returns-in_err-member-clause-others
 returns-in_err-member-clause-others g c = λ k own.
-    leaves (Member (suc c.loop-log.place)) (Coord k) (g.H.Home.file c.args.home.now) (g.H.Home.file c.loop-log.home) (g.H.Home.file c.open_member.new.home) (g.H.Home.reach c.args.home.now) (g.H.Home.reach c.loop-log.home) (g.H.Home.reach c.open_member.new.home)
+    leaves (Member (suc c.loop-log.place)) (Coord k) (g.H.Home.seen c.args.home.now).file (g.H.Home.seen c.loop-log.home).file (g.H.Home.seen c.open_member.new.home).file (g.H.Home.seen c.args.home.now).reach (g.H.Home.seen c.loop-log.home).reach (g.H.Home.seen c.open_member.new.home).reach
     (number_valid Members c.loop-log.place (place_below c.loop-log.place (length c.args.kinds.now) 16 c.loop-log.log-iterator.rest.items c.next.new.self.rest.items c.in-Some.log c.in-Some.ensures.steps.0 c.loop-log.invariant.left c.requires.few)) own (λ e. sorts_apart k (suc c.loop-log.place) e) (c.loop-log.invariant.others k own) c.open_member.ensures.rest.others
 
 pub returns-in_err-push-clause-others : goal.returns-in_err-push-clause-others
 returns-in_err-push-clause-others g c = λ k own.
-    leaves (Member (suc c.loop-log.place)) (Coord k) (g.H.Home.file c.args.home.now) (g.H.Home.file c.loop-log.home) (g.H.Home.file c.open_member.new.home) (g.H.Home.reach c.args.home.now) (g.H.Home.reach c.loop-log.home) (g.H.Home.reach c.open_member.new.home)
+    leaves (Member (suc c.loop-log.place)) (Coord k) (g.H.Home.seen c.args.home.now).file (g.H.Home.seen c.loop-log.home).file (g.H.Home.seen c.open_member.new.home).file (g.H.Home.seen c.args.home.now).reach (g.H.Home.seen c.loop-log.home).reach (g.H.Home.seen c.open_member.new.home).reach
     (number_valid Members c.loop-log.place (place_below c.loop-log.place (length c.args.kinds.now) 16 c.loop-log.log-iterator.rest.items c.next.new.self.rest.items c.in-Some.log c.in-Some.ensures.steps.0 c.loop-log.invariant.left c.requires.few)) own (λ e. sorts_apart k (suc c.loop-log.place) e) (c.loop-log.invariant.others k own) c.open_member.ensures.rest.others
 
 pub loop-log-preserved : goal.loop-log-preserved
@@ -55,13 +55,13 @@ loop-log-preserved g c =
       marked = λ found f.
           marks_on (λ n. member_headers n found) (header_mark (Member (suc c.loop-log.place)) (found (suc c.loop-log.place)).records) c.args.marks.now c.loop-log.marks c.open_member.new.marks c.loop-log.place refl
           (c.in_ok-member.ensures.marks (found (suc c.loop-log.place)) (both_next (λ q l t. IsMemberFound c.args.coords (suc q) l t (found (suc q))) c.loop-log.place c.loop-log.log-iterator.rest.items c.next.new.self.rest.items c.loop-log.pasts.rest.items c.next-in-loop-log.new.self.rest.items c.in-Some.log c.in-Some-next.past c.in-Some.ensures.steps.0 c.in-Some-next.ensures.items (c.loop-log.invariant.found found f)).0) (c.loop-log.invariant.marked found f);
-      to_keep = to_keep_on Members c.loop-log.place few (g.H.Home.file c.loop-log.home) (g.H.Home.file c.open_member.new.home) (g.H.Home.reach c.loop-log.home) (g.H.Home.reach c.open_member.new.home) c.open_member.ensures.rest.others c.loop-log.log-iterator.rest.items c.next.new.self.rest.items c.in-Some.log c.in-Some.ensures.steps.0
+      to_keep = to_keep_on Members c.loop-log.place few (g.H.Home.seen c.loop-log.home).file (g.H.Home.seen c.open_member.new.home).file (g.H.Home.seen c.loop-log.home).reach (g.H.Home.seen c.open_member.new.home).reach c.open_member.ensures.rest.others c.loop-log.log-iterator.rest.items c.next.new.self.rest.items c.in-Some.log c.in-Some.ensures.steps.0
           (let many : c.loop-log.place + length c.loop-log.log-iterator.rest.items ≡ (length c.args.kinds.now) = c.loop-log.invariant.left in omega (arith, many, c.requires.few)) i.to_keep;
-      kept = kept_on Members c.loop-log.place few (g.H.Home.file c.loop-log.home) (g.H.Home.file c.open_member.new.home) (g.H.Home.reach c.loop-log.home) (g.H.Home.reach c.open_member.new.home) c.open_member.ensures.rest.others (λ x. x.log) c.loop-log.members.items c.push.new.self.items c.in_ok-member.member c.in_ok-push.ensures.items
+      kept = kept_on Members c.loop-log.place few (g.H.Home.seen c.loop-log.home).file (g.H.Home.seen c.open_member.new.home).file (g.H.Home.seen c.loop-log.home).reach (g.H.Home.seen c.open_member.new.home).reach c.open_member.ensures.rest.others (λ x. x.log) c.loop-log.members.items c.push.new.self.items c.in_ok-member.member c.in_ok-push.ensures.items
           c.loop-log.invariant.done i.kept c.in_ok-member.ensures.kept;
       clean = λ s was. c.in_ok-member.ensures.clean s (c.loop-log.invariant.clean s was);
       others = λ k own.
-          leaves (Member (suc c.loop-log.place)) (Coord k) (g.H.Home.file c.args.home.now) (g.H.Home.file c.loop-log.home) (g.H.Home.file c.open_member.new.home) (g.H.Home.reach c.args.home.now) (g.H.Home.reach c.loop-log.home) (g.H.Home.reach c.open_member.new.home)
+          leaves (Member (suc c.loop-log.place)) (Coord k) (g.H.Home.seen c.args.home.now).file (g.H.Home.seen c.loop-log.home).file (g.H.Home.seen c.open_member.new.home).file (g.H.Home.seen c.args.home.now).reach (g.H.Home.seen c.loop-log.home).reach (g.H.Home.seen c.open_member.new.home).reach
           (number_valid Members c.loop-log.place (place_below c.loop-log.place (length c.args.kinds.now) 16 c.loop-log.log-iterator.rest.items c.next.new.self.rest.items c.in-Some.log c.in-Some.ensures.steps.0 c.loop-log.invariant.left c.requires.few)) own (λ e. sorts_apart k (suc c.loop-log.place) e) (c.loop-log.invariant.others k own) c.open_member.ensures.rest.others;
       entered = c.open_member.ensures.rest.directory ∙ c.loop-log.invariant.entered;
       quiet = search rules;

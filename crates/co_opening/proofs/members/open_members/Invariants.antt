@@ -1,7 +1,7 @@
 use Rattle.std.proofs.Common.{◌≡◌, ◌+◌, ◌++◌, ℕ, length}
 use Rattle.co_base.specs.Nodes.{IsValidNode}
 use Rattle.co_base.specs.declared.node.Node.TheVariants.{Member, Coord}
-use Rattle.co_disk.specs.Homes.{IsClean}
+use Rattle.co_outside.specs.Home.{IsClean}
 use Rattle.co_outside.specs.declared.spot.Spot.{Spot}
 use Rattle.co_plain.specs.Opening.{Found, member_headers}
 use Rattle.co_opening.specs.Kept.{NodeStays, AreOwnLogs}
@@ -16,10 +16,10 @@ invariant-loop-log g l = record {
   found : (found : ℕ → Found) → AreMembersFound l.coords found 0 l.fn.logs.items l.fn.pasts.items → AreMembersFound l.coords found l.place l.log-iterator.rest.items l.pasts.rest.items;
   opened : (found : ℕ → Found) → AreMembersFound l.coords found 0 l.fn.logs.items l.fn.pasts.items → AreMembersAt g.E.Engine.takes g.E.Engine.stands_for l.kinds l.coords found l.members.items;
   marked : (found : ℕ → Found) → AreMembersFound l.coords found 0 l.fn.logs.items l.fn.pasts.items → l.marks ≡ l.initial.marks ++ member_headers l.place found;
-  to_keep : AreOwnLogs (g.H.Home.file l.home) (g.H.Home.reach l.home) Member l.place l.log-iterator.rest.items;
-  kept : AreOwnMembers (g.H.Home.file l.home) (g.H.Home.reach l.home) l.members.items;
-  clean : (s : Spot) → IsClean (g.H.Home.file l.initial.home s) → IsClean (g.H.Home.file l.home s);
-  others : (c : ℕ) → IsValidNode (Coord c) → NodeStays (Coord c) (g.H.Home.file l.initial.home) (g.H.Home.file l.home) (g.H.Home.reach l.initial.home) (g.H.Home.reach l.home);
-  entered : g.H.Home.entered l.home ≡ g.H.Home.entered l.initial.home;
-  quiet : g.H.Home.faults l.home ≡ g.H.Home.faults l.initial.home;
+  to_keep : AreOwnLogs (g.H.Home.seen l.home) Member l.place l.log-iterator.rest.items;
+  kept : AreOwnMembers (g.H.Home.seen l.home) l.members.items;
+  clean : (s : Spot) → IsClean (g.H.Home.seen l.initial.home) s → IsClean (g.H.Home.seen l.home) s;
+  others : (c : ℕ) → IsValidNode (Coord c) → NodeStays (Coord c) (g.H.Home.seen l.initial.home).file (g.H.Home.seen l.home).file (g.H.Home.seen l.initial.home).reach (g.H.Home.seen l.home).reach;
+  entered : (g.H.Home.seen l.home).entered ≡ (g.H.Home.seen l.initial.home).entered;
+  quiet : (g.H.Home.seen l.home).faults ≡ (g.H.Home.seen l.initial.home).faults;
 }

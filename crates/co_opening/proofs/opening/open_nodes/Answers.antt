@@ -13,7 +13,7 @@ use Rattle.co_opening.proofs.opening.open_nodes.Goals as goal
 
 pub returns-in_err-used-clause-refused : goal.returns-in_err-used-clause-refused
 returns-in_err-used-clause-refused g c =
-    let file = g.H.Home.file c.args.home.now in
+    let file = (g.H.Home.seen c.args.home.now).file in
     let j = c.in_ok-pasts.ensures.judged file c.args.resume c.in_ok-logs.ensures.attached in
     let told : IsUncounted (keys (with_coords (with_members no_entries c.in_ok-pasts.pasts.members.items) c.in_ok-pasts.pasts.coords.items)) c.in_err-used.field-0.0 =
     subst (λ (pasts : List CoordPast). IsUncounted (keys (with_coords (with_members no_entries c.in_ok-pasts.pasts.members.items) pasts)) c.in_err-used.field-0.0) c.as_slice-2.ensures.value
@@ -24,4 +24,4 @@ returns-in_err-used-clause-refused g c =
 
 pub returns-clause-clean : goal.returns-clause-clean
 returns-clause-clean g c =
-    clean_moved c.make_nodes.result (g.H.Home.file c.args.home.now) (g.H.Home.file c.attach_all.new.home) (g.H.Home.file c.make_nodes.new.home) c.attach_all.ensures.reads.files c.make_nodes.ensures.clean
+    clean_moved c.make_nodes.result (g.H.Home.seen c.args.home.now).file (g.H.Home.seen c.attach_all.new.home).file (g.H.Home.seen c.make_nodes.new.home).file c.attach_all.ensures.reads.files c.make_nodes.ensures.clean

@@ -1,5 +1,4 @@
 use Rattle.std.proofs.Common.{[], ◌∷◌, subst, arith}
-use Rattle.co_node.specs.Answers.{seen}
 use Rattle.co_settle.specs.Notes.{passed}
 use Rattle.co_settle.specs.Progress.{IsCutIn, HasDone}
 use Rattle.co_settle.proofs.Composing.{cut_as, served_later}
@@ -13,7 +12,7 @@ take_step-requires-clause-stands g c = let w = c.requires.stands in (w.0, w.1, r
 pub returns-in_err-sent-clause-did : goal.returns-in_err-sent-clause-did
 returns-in_err-sent-clause-did g c = λ s r reached h.
     let e = c.args.exchange in
-    let file = g.H.Home.file c.take_step.new.home in
+    let file = (g.H.Home.seen c.take_step.new.home).file in
     cut_as g.E.Engine.takes g.E.Engine.stands_for s (events_of s reached e h) c.args.told.now c.take_step.new.told c.args.steps.now c.take_step.new.steps c.take_step.new.world file (λ u. Unit {0}) c.from_residual.result c.in_err-sent.field-0.0 c.from_residual.ensures
     (first_cut s reached e h file c.in_err-sent.field-0.0 (subst (λ v. IsCutIn (v ∷ []) s file c.in_err-sent.field-0.0) c.first_event-event.ensures (c.in_err-sent.ensures.did s r (ready s reached))))
 
@@ -48,7 +47,7 @@ pass_on-requires-clause-stands g c =
 pub returns-in_err-answer-clause-did : goal.returns-in_err-answer-clause-did
 returns-in_err-answer-clause-did g c = λ s r reached h.
     let e = c.args.exchange in
-    let file = g.H.Home.file c.pass_on.new.home in
+    let file = (g.H.Home.seen c.pass_on.new.home).file in
     let one = went_first s reached c.args.exchange h g.E.Engine.takes g.E.Engine.stands_for c.args.told.now c.take_step.new.told c.args.steps.now c.take_step.new.steps c.take_step.new.world c.in_ok-sent.sent c.first_event-event.result c.first_want-first.result c.first_event-event.ensures c.first_want-first.ensures (c.in_ok-sent.ensures.did s r (ready s reached)) in
     cut_as g.E.Engine.takes g.E.Engine.stands_for s (events_of s reached e h) c.args.told.now c.pass_on.new.told c.args.steps.now c.pass_on.new.steps c.pass_on.new.world file (λ u. Unit {0}) c.from_residual-in_err-answer.result c.in_err-answer.field-0.0 c.from_residual-in_err-answer.ensures
     (next_cut s reached e h file c.in_err-answer.field-0.0 (subst (λ o. IsCutIn (passed o) (after_first s reached e h).state file c.in_err-answer.field-0.0) one.sent_is (c.in_err-answer.ensures.did (after_first s reached e h).state one.done.stands (first_reached s reached e h))))
@@ -92,7 +91,7 @@ pass_on-requires-2-clause-stands g c =
 pub returns-in_err-pass_on-clause-did : goal.returns-in_err-pass_on-clause-did
 returns-in_err-pass_on-clause-did g c = λ s r reached h.
     let e = c.args.exchange in
-    let file = g.H.Home.file c.pass_on-2.new.home in
+    let file = (g.H.Home.seen c.pass_on-2.new.home).file in
     let one = went_first s reached c.args.exchange h g.E.Engine.takes g.E.Engine.stands_for c.args.told.now c.take_step.new.told c.args.steps.now c.take_step.new.steps c.take_step.new.world c.in_ok-sent.sent c.first_event-event.result c.first_want-first.result c.first_event-event.ensures c.first_want-first.ensures (c.in_ok-sent.ensures.did s r (ready s reached)) in
     let two = went_next s reached c.args.exchange h g.E.Engine.takes g.E.Engine.stands_for c.take_step.new.told c.pass_on.new.told c.take_step.new.steps c.pass_on.new.steps c.pass_on.new.world c.in_ok-sent.sent c.in_ok-answer.answer c.next_want-next.result one.sent_is c.next_want-next.ensures (c.in_ok-answer.ensures.did (after_first s reached c.args.exchange h).state one.done.stands (first_reached s reached c.args.exchange h)) in
     let z = after_passed s reached e h (first_note s e) in
@@ -113,8 +112,8 @@ returns-clause-did g c = λ s r reached h.
 
 pub returns-clause-ended : goal.returns-clause-ended
 returns-clause-ended g c =
-    let zero = (seen g.H.Home.file g.H.Home.reach g.H.Home.faults g.H.Home.last_failed c.args.home.now) in
-    let first = (seen g.H.Home.file g.H.Home.reach g.H.Home.faults g.H.Home.last_failed c.take_step.new.home) in
-    let next = (seen g.H.Home.file g.H.Home.reach g.H.Home.faults g.H.Home.last_failed c.pass_on.new.home) in
-    let last = (seen g.H.Home.file g.H.Home.reach g.H.Home.faults g.H.Home.last_failed c.pass_on-2.new.home) in
+    let zero = (g.H.Home.seen c.args.home.now) in
+    let first = (g.H.Home.seen c.take_step.new.home) in
+    let next = (g.H.Home.seen c.pass_on.new.home) in
+    let last = (g.H.Home.seen c.pass_on-2.new.home) in
     served_later c.pass_on.new.world c.pass_on-2.new.world zero next last (served_later c.take_step.new.world c.pass_on.new.world zero first next c.in_ok-sent.ensures.ended c.in_ok-answer.ensures.ended) c.in_ok-pass_on.ensures.ended

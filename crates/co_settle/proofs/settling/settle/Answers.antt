@@ -1,5 +1,4 @@
 use Rattle.std.proofs.Common.{refl, sym, ◌∙◌, subst, arith}
-use Rattle.co_node.specs.Answers.{seen}
 use Rattle.co_plain.specs.Runs.{run, lines}
 use Rattle.co_plain.specs.Step.{disarmed}
 use Rattle.co_settle.proofs.Composing.{served_later}
@@ -15,7 +14,7 @@ loop-turn-init g c =
           subst (λ xs. IsGoing g.E.Engine.takes g.E.Engine.stands_for s c.args.number (record { number = c.args.number; items = xs }) c.args.steps.now c.args.steps.now c.disarm.new.self c.new-candidates.result.numbers 0) (sym c.new.ensures)
           (subst (λ held. IsGoing g.E.Engine.takes g.E.Engine.stands_for s c.args.number (told_first c.args.number) c.args.steps.now c.args.steps.now c.disarm.new.self held 0) (sym c.new-candidates.ensures)
           (starts g.E.Engine.takes g.E.Engine.stands_for s reached few c.args.number c.args.steps.now c.disarm.new.self (c.disarm.ensures.stands s r)));
-      served = record { kept = c.disarm.ensures.held (g.H.Home.file c.args.home.now) (g.H.Home.reach c.args.home.now) c.requires.held; clean = λ s clean. clean; quiet = refl };
+      served = record { kept = c.disarm.ensures.held (g.H.Home.seen c.args.home.now) c.requires.held; clean = λ s clean. clean; quiet = refl };
       entered = refl;
     }
 
@@ -29,8 +28,8 @@ anything_open-requires g c =
 pub returns-in_err-anything_open-clause-settled : goal.returns-in_err-anything_open-clause-settled
 returns-in_err-anything_open-clause-settled g c = λ s r reached few.
     let p = c.loop-turn.invariant.going s r reached few in
-    cut_as g.E.Engine.takes g.E.Engine.stands_for s reached few c.args.number c.args.steps.now.count c.loop-turn.world c.loop-turn.steps.count (g.H.Home.file c.loop-turn.home) c.from_residual.result world.Memory c.from_residual.ensures
-    (cut_between g.E.Engine.takes g.E.Engine.stands_for s reached few c.args.number c.loop-turn.told c.args.steps.now c.loop-turn.steps c.loop-turn.world c.loop-turn._turn p (g.H.Home.file c.loop-turn.home) (g.H.Home.reach c.loop-turn.home) c.loop-turn.invariant.served.kept)
+    cut_as g.E.Engine.takes g.E.Engine.stands_for s reached few c.args.number c.args.steps.now.count c.loop-turn.world c.loop-turn.steps.count (g.H.Home.seen c.loop-turn.home).file c.from_residual.result world.Memory c.from_residual.ensures
+    (cut_between g.E.Engine.takes g.E.Engine.stands_for s reached few c.args.number c.loop-turn.told c.args.steps.now c.loop-turn.steps c.loop-turn.world c.loop-turn._turn p (g.H.Home.seen c.loop-turn.home) c.loop-turn.invariant.served.kept)
 
 pub returns-then-not-branch-clause-settled : goal.returns-then-not-branch-clause-settled
 returns-then-not-branch-clause-settled g c = λ s r reached few.
@@ -47,8 +46,8 @@ collect-requires g c =
 pub returns-in_err-collect-clause-settled : goal.returns-in_err-collect-clause-settled
 returns-in_err-collect-clause-settled g c = λ s r reached few.
     let p = c.loop-turn.invariant.going s r reached few in
-    cut_as g.E.Engine.takes g.E.Engine.stands_for s reached few c.args.number c.args.steps.now.count c.loop-turn.world c.loop-turn.steps.count (g.H.Home.file c.loop-turn.home) c.from_residual-in_err-collect.result world.Memory c.from_residual-in_err-collect.ensures
-    (cut_between g.E.Engine.takes g.E.Engine.stands_for s reached few c.args.number c.loop-turn.told c.args.steps.now c.loop-turn.steps c.loop-turn.world c.loop-turn._turn p (g.H.Home.file c.loop-turn.home) (g.H.Home.reach c.loop-turn.home) c.loop-turn.invariant.served.kept)
+    cut_as g.E.Engine.takes g.E.Engine.stands_for s reached few c.args.number c.args.steps.now.count c.loop-turn.world c.loop-turn.steps.count (g.H.Home.seen c.loop-turn.home).file c.from_residual-in_err-collect.result world.Memory c.from_residual-in_err-collect.ensures
+    (cut_between g.E.Engine.takes g.E.Engine.stands_for s reached few c.args.number c.loop-turn.told c.args.steps.now c.loop-turn.steps c.loop-turn.world c.loop-turn._turn p (g.H.Home.seen c.loop-turn.home) c.loop-turn.invariant.served.kept)
 
 pub take_turn-requires-clause-number : goal.take_turn-requires-clause-number
 take_turn-requires-clause-number g c =
@@ -79,7 +78,7 @@ pub returns-in_err-take_turn-clause-settled : goal.returns-in_err-take_turn-clau
 returns-in_err-take_turn-clause-settled g c = λ s r reached few.
     let p = c.loop-turn.invariant.going s r reached few in
     let z = run (lines p.events) (disarmed s) in
-    let file = g.H.Home.file c.take_turn.new.home in
+    let file = (g.H.Home.seen c.take_turn.new.home).file in
     cut_as g.E.Engine.takes g.E.Engine.stands_for s reached few c.args.number c.args.steps.now.count c.take_turn.new.world c.take_turn.new.steps.count file c.from_residual-in_err-take_turn.result c.in_err-take_turn.field-0.0 c.from_residual-in_err-take_turn.ensures
     (cut_turn g.E.Engine.takes g.E.Engine.stands_for s reached few c.args.number c.loop-turn.told c.take_turn.new.told c.args.steps.now c.loop-turn.steps c.take_turn.new.steps c.loop-turn.world c.take_turn.new.world c.loop-turn._turn p file c.in_err-take_turn.field-0.0
     (c.in_ok-anything_open.ensures.something z p.done.stands c.if-not-branch.false) (c.in_err-take_turn.ensures.did z p.done.stands p.reached (c.in_ok-collect.ensures z p.done.stands p.reached p.busy)))
@@ -92,12 +91,12 @@ loop-turn-preserved g c =
           let z = run (lines p.events) (disarmed s) in
           let known = c.in_ok-collect.ensures z p.done.stands p.reached p.busy in
           let next = turned g.E.Engine.takes g.E.Engine.stands_for s reached few c.take_turn.new.candidates.numbers c.args.number c.loop-turn.told c.take_turn.new.told c.args.steps.now c.loop-turn.steps c.take_turn.new.steps c.loop-turn.world c.take_turn.new.world c.loop-turn._turn p
-          (g.H.Home.file c.take_turn.new.home) (c.in_ok-anything_open.ensures.something z p.done.stands c.if-not-branch.false) (c.in_ok-take_turn.ensures.did z p.done.stands p.reached known)
+          (g.H.Home.seen c.take_turn.new.home).file (c.in_ok-anything_open.ensures.something z p.done.stands c.if-not-branch.false) (c.in_ok-take_turn.ensures.did z p.done.stands p.reached known)
           (c.take_turn.ensures.busy z p.done.stands p.reached known) in
           let counted = next.counted in
           record { events = next.events; settling = next.settling; done = next.done; reached = next.reached; busy = next.busy; counted = omega (arith, counted) };
-      served = served_later c.loop-turn.world c.take_turn.new.world (seen g.H.Home.file g.H.Home.reach g.H.Home.faults g.H.Home.last_failed c.args.home.now) (seen g.H.Home.file g.H.Home.reach g.H.Home.faults g.H.Home.last_failed c.loop-turn.home)
-          (seen g.H.Home.file g.H.Home.reach g.H.Home.faults g.H.Home.last_failed c.take_turn.new.home) c.loop-turn.invariant.served c.in_ok-take_turn.ensures.ended;
+      served = served_later c.loop-turn.world c.take_turn.new.world (g.H.Home.seen c.args.home.now) (g.H.Home.seen c.loop-turn.home)
+          (g.H.Home.seen c.take_turn.new.home) c.loop-turn.invariant.served c.in_ok-take_turn.ensures.ended;
       entered = c.take_turn.ensures.entered ∙ c.loop-turn.invariant.entered;
     }
 

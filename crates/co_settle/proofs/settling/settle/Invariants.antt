@@ -1,5 +1,4 @@
 use Rattle.std.proofs.Common.{◌≡◌, ◌≤◌}
-use Rattle.co_node.specs.Answers.{seen}
 use Rattle.co_plain.specs.Federation.{Federation}
 use Rattle.co_plain.specs.Quiet.{open_count}
 use Rattle.co_world.specs.Served.{AreServed}
@@ -12,6 +11,6 @@ abbrev pub invariant-loop-turn : goal.invariant-loop-turn
 invariant-loop-turn g l = record {
   going : (s : Federation) → RepresentsWorld g.E.Engine.takes g.E.Engine.stands_for l.fn.world s → IsReached s → open_count s ≤ 65536 →
       IsGoing g.E.Engine.takes g.E.Engine.stands_for s l.fn.number l.told l.fn.steps l.steps l.world l.candidates.numbers l._turn;
-  served : AreServed l.world (seen g.H.Home.file g.H.Home.reach g.H.Home.faults g.H.Home.last_failed l.fn.home) (seen g.H.Home.file g.H.Home.reach g.H.Home.faults g.H.Home.last_failed l.home);
-  entered : g.H.Home.entered l.home ≡ g.H.Home.entered l.fn.home;
+  served : AreServed l.world (g.H.Home.seen l.fn.home) (g.H.Home.seen l.home);
+  entered : (g.H.Home.seen l.home).entered ≡ (g.H.Home.seen l.fn.home).entered;
 }

@@ -4,7 +4,6 @@ use Rattle.co_durable.specs.declared.fault.WorldFault.{WorldFault}
 use Rattle.co_durable.specs.declared.fault.WorldFault.TheVariants as world
 use Rattle.co_message.specs.declared.item.Item.{Item}
 use Rattle.co_message.specs.declared.item.ItemKind.TheVariants as item
-use Rattle.co_node.specs.Answers.{seen}
 use Rattle.co_plain.specs.Runs.{numbered}
 use Rattle.co_plain.specs.Step.{step_line}
 use Rattle.co_law_settle.specs.SettlingTurns.{note_in}
@@ -16,9 +15,9 @@ use Rattle.co_settle.proofs.telling.take_step.Goals as goal
 
 pub returns-in_err-tell-in-Ok-clause-did : goal.returns-in_err-tell-in-Ok-clause-did
 returns-in_err-tell-in-Ok-clause-did g c = λ s r ready.
-    cut_as g.E.Engine.takes g.E.Engine.stands_for s (c.args.event ∷ []) c.args.told.now c.tell.new.self c.args.steps.now c.args.steps.now c.step.new.self (g.H.Home.file c.step.new.home)
+    cut_as g.E.Engine.takes g.E.Engine.stands_for s (c.args.event ∷ []) c.args.told.now c.tell.new.self c.args.steps.now c.args.steps.now c.step.new.self (g.H.Home.seen c.step.new.home).file
     (λ note. note ≡ note_in (wanted_by c.args.want c.args.member) (step_line s c.args.event).items) c.from_residual.result world.Memory c.from_residual.ensures
-    (inr (held_left g.E.Engine.takes g.E.Engine.stands_for c.step.new.self (step_line s c.args.event).state (g.H.Home.file c.step.new.home) (g.H.Home.reach c.step.new.home) (c.in-Ok.ensures.stands s r ready) c.in-Ok.ensures.served.kept, refl))
+    (inr (held_left g.E.Engine.takes g.E.Engine.stands_for c.step.new.self (step_line s c.args.event).state (g.H.Home.seen c.step.new.home) (c.in-Ok.ensures.stands s r ready) c.in-Ok.ensures.served.kept, refl))
 
 pub returns-in_ok-tell-in-Ok-clause-did : goal.returns-in_ok-tell-in-Ok-clause-did
 returns-in_ok-tell-in-Ok-clause-did g c = λ s r ready.
@@ -37,16 +36,16 @@ returns-in_ok-tell-in-Ok-clause-did g c = λ s r ready.
 
 pub returns-in-Err-clause-did : goal.returns-in-Err-clause-did
 returns-in-Err-clause-did g c = λ s r ready.
-    subst (IsCutIn (c.args.event ∷ []) s (g.H.Home.file c.step.new.home)) (sym c.undone.ensures) (inl (c.in-Err.ensures.left s r ready))
+    subst (IsCutIn (c.args.event ∷ []) s (g.H.Home.seen c.step.new.home).file) (sym c.undone.ensures) (inl (c.in-Err.ensures.left s r ready))
 
 pub returns-in-Err-clause-ended : goal.returns-in-Err-clause-ended
 returns-in-Err-clause-ended g c =
-    let old = seen g.H.Home.file g.H.Home.reach g.H.Home.faults g.H.Home.last_failed c.args.home.now in
-    let new = seen g.H.Home.file g.H.Home.reach g.H.Home.faults g.H.Home.last_failed c.step.new.home in
+    let old = g.H.Home.seen c.args.home.now in
+    let new = g.H.Home.seen c.step.new.home in
     subst (λ (f : WorldFault). HasEnded f old new) (sym c.undone.ensures)
     (ended_as c.in-Err.fault old new (λ e. c.requires.limit c.args.world.now.sessions (c.in-Err.ensures.count.0 (ap Err e))) c.in-Err.ensures.ended)
 
 pub returns-in-Err-clause-untold : goal.returns-in-Err-clause-untold
 returns-in-Err-clause-untold g c =
-    subst (λ (f : WorldFault). IsUntoldFor g.H.Home.file f) (sym c.undone.ensures)
-    (untold_for g.H.Home.file g.H.Home.reach g.H.Home.faults g.H.Home.last_failed c.in-Err.fault c.args.home.now (seen g.H.Home.file g.H.Home.reach g.H.Home.faults g.H.Home.last_failed c.step.new.home) c.in-Err.ensures.ended)
+    subst (λ (f : WorldFault). IsUntoldFor f) (sym c.undone.ensures)
+    (untold_for c.in-Err.fault (g.H.Home.seen c.args.home.now) (g.H.Home.seen c.step.new.home) c.in-Err.ensures.ended)

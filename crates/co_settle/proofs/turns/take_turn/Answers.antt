@@ -14,7 +14,7 @@ pub returns-in_err-take_step-clause-did : goal.returns-in_err-take_step-clause-d
 returns-in_err-take_step-clause-did g c = λ s r reached known. (
   Restarts c.in-Some.node,
   (ByRestart c.in-Some.node (c.in-Some.ensures s r), refl),
-  cut_as g.E.Engine.takes g.E.Engine.stands_for s (event.Restart c.in-Some.node ∷ []) c.args.told.now c.take_step.new.told c.args.steps.now c.take_step.new.steps c.take_step.new.world (g.H.Home.file c.take_step.new.home) (λ u. Unit {0})
+  cut_as g.E.Engine.takes g.E.Engine.stands_for s (event.Restart c.in-Some.node ∷ []) c.args.told.now c.take_step.new.told c.args.steps.now c.take_step.new.steps c.take_step.new.world (g.H.Home.seen c.take_step.new.home).file (λ u. Unit {0})
       c.from_residual.result c.in_err-take_step.field-0.0 c.from_residual.ensures (c.in_err-take_step.ensures.did s r (ready s reached)),
 )
 
@@ -49,7 +49,7 @@ returns-in_err-take_step-in-Some-first_timer-clause-did g c = λ s r reached kno
       Fires due.txn due.node,
       (ByTimer due.txn due.node (record { all_up = c.in_default.ensures s r; nothing_helps = c.in_default-first_exchange.ensures.first s r (ready s reached) known }) (c.in-Some-first_timer.ensures s r), refl),
       cut_as g.E.Engine.takes g.E.Engine.stands_for s (event.Timer due.txn due.node ∷ []) c.args.told.now c.take_step-in-Some-first_timer.new.told c.args.steps.now c.take_step-in-Some-first_timer.new.steps c.take_step-in-Some-first_timer.new.world
-          (g.H.Home.file c.take_step-in-Some-first_timer.new.home) (λ u. Unit {0}) c.from_residual-in_err-take_step-in-Some-first_timer.result c.in_err-take_step-in-Some-first_timer.field-0.0 c.from_residual-in_err-take_step-in-Some-first_timer.ensures
+          (g.H.Home.seen c.take_step-in-Some-first_timer.new.home).file (λ u. Unit {0}) c.from_residual-in_err-take_step-in-Some-first_timer.result c.in_err-take_step-in-Some-first_timer.field-0.0 c.from_residual-in_err-take_step-in-Some-first_timer.ensures
           (c.in_err-take_step-in-Some-first_timer.ensures.did s r (ready s reached)),
     )
 

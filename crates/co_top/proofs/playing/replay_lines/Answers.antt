@@ -1,5 +1,4 @@
 use Rattle.std.proofs.Common.{◌≡◌, ◌∙◌, [], Some, Ok, Err, refl, sym, ap, subst, append-nil, length}
-use Rattle.co_node.specs.Answers.{seen}
 use Rattle.co_plain.specs.Runs.{run, lines}
 use Rattle.co_schedule.specs.Lines.{ahead}
 use Rattle.co_top.specs.Front.{AtStart}
@@ -31,7 +30,7 @@ pub returns-in_err-event-clause-over : goal.returns-in_err-event-clause-over
 returns-in_err-event-clause-over g c = λ s0 r ready.
     let p = c.loop-number.invariant.0 s0 r ready in
     let text = ahead c.args.lines.now (g.S.Source.left c.args.source.now) in
-    let home = seen g.H.Home.file g.H.Home.reach g.H.Home.faults g.H.Home.last_failed c.loop-number.home in
+    let home = g.H.Home.seen c.loop-number.home in
     subst (IsOver g.E.Engine.takes g.E.Engine.stands_for c.args.head.now s0 text (g.S.Source.left c.event_of.new.source) (g.K.Sink.told c.args.out.now) (g.K.Sink.told c.loop-number.out) home c.loop-number.world)
     (sym (err_is c.from_residual.result c.in_err-event.field-0.0 c.from_residual.ensures))
     (reads_over g.E.Engine.takes g.E.Engine.stands_for c.args.head.now s0 text (g.K.Sink.told c.args.out.now) (g.K.Sink.told c.loop-number.out) home c.loop-number.world c.loop-number.number c.loop-number.lines
@@ -48,7 +47,7 @@ pub returns-in_err-tell_event-in-Some-clause-over : goal.returns-in_err-tell_eve
 returns-in_err-tell_event-in-Some-clause-over g c = λ s0 r ready.
     let p = c.loop-number.invariant.0 s0 r ready in
     let text = ahead c.args.lines.now (g.S.Source.left c.args.source.now) in
-    let home = seen g.H.Home.file g.H.Home.reach g.H.Home.faults g.H.Home.last_failed c.tell_event.new.home in
+    let home = g.H.Home.seen c.tell_event.new.home in
     let z = run (lines p.done.events) s0 in
     let left = ahead c.event_of.new.lines (g.S.Source.left c.event_of.new.source) in
     let line = rw c.in-Some.is at c.in_ok-event.ensures.valid in
@@ -76,7 +75,7 @@ loop-number-preserved g c = (
   λ s0 r ready.
       let p = c.loop-number.invariant.0 s0 r ready in
       let text = ahead c.args.lines.now (g.S.Source.left c.args.source.now) in
-      let home = seen g.H.Home.file g.H.Home.reach g.H.Home.faults g.H.Home.last_failed c.tell_event.new.home in
+      let home = g.H.Home.seen c.tell_event.new.home in
       let z = run (lines p.done.events) s0 in
       let left = ahead c.event_of.new.lines (g.S.Source.left c.event_of.new.source) in
       let line = rw c.in-Some.is at c.in_ok-event.ensures.valid in

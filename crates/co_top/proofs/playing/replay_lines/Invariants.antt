@@ -1,6 +1,5 @@
 use Rattle.std.proofs.Common.{◌≡◌}
-use Rattle.co_disk.specs.Homes.{IsClean}
-use Rattle.co_node.specs.Answers.{seen}
+use Rattle.co_outside.specs.Home.{IsClean}
 use Rattle.co_outside.specs.declared.spot.Spot.{Spot}
 use Rattle.co_plain.specs.Federation.{Federation}
 use Rattle.co_schedule.specs.Lines.{ahead}
@@ -13,9 +12,9 @@ abbrev pub invariant-loop-number : goal.invariant-loop-number
 invariant-loop-number g l =
     ((s0 : Federation) → RepresentsWorld g.E.Engine.takes g.E.Engine.stands_for l.fn.world s0 → StaysReady l.fn.head s0 →
     IsPlaying g.E.Engine.takes g.E.Engine.stands_for l.fn.head s0 (ahead l.fn.lines (g.S.Source.left l.fn.source)) (g.K.Sink.told l.fn.out) (g.K.Sink.told l.out)
-    (seen g.H.Home.file g.H.Home.reach g.H.Home.faults g.H.Home.last_failed l.home) l.world l.number l.lines (ahead l.lines (g.S.Source.left l.source)))
-    × (g.H.Home.entered l.home ≡ g.H.Home.entered l.fn.home)
-    × (g.H.Home.faults l.home ≡ g.H.Home.faults l.fn.home)
+    (g.H.Home.seen l.home) l.world l.number l.lines (ahead l.lines (g.S.Source.left l.source)))
+    × ((g.H.Home.seen l.home).entered ≡ (g.H.Home.seen l.fn.home).entered)
+    × ((g.H.Home.seen l.home).faults ≡ (g.H.Home.seen l.fn.home).faults)
     × (g.K.Sink.faults l.out ≡ g.K.Sink.faults l.fn.out)
     × (g.S.Source.faults l.source ≡ g.S.Source.faults l.fn.source)
-    × ((s : Spot) → IsClean (g.H.Home.file l.fn.home s) → IsClean (g.H.Home.file l.home s))
+    × ((s : Spot) → IsClean (g.H.Home.seen l.fn.home) s → IsClean (g.H.Home.seen l.home) s)

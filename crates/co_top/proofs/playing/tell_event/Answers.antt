@@ -1,7 +1,6 @@
 use Rattle.std.proofs.Common.{◌≡◌, ◌∙◌, ◌++◌, ◌∷◌, [], List, Err, sym, ap, subst}
 use Rattle.co_message.specs.declared.item.Item.{Item}
 use Rattle.co_message.specs.declared.item.ItemKind.TheVariants as item
-use Rattle.co_node.specs.Answers.{seen}
 use Rattle.co_plain.specs.Runs.{numbered}
 use Rattle.co_replay.specs.Transcript.{items_text}
 use Rattle.co_world.proofs.Lefts.{held_left}
@@ -14,7 +13,7 @@ use Rattle.co_top.proofs.playing.tell_event.Goals as goal
 pub returns-in-Ok-clause-told : goal.returns-in-Ok-clause-told
 returns-in-Ok-clause-told g c = λ s r ready.
     told_as g.E.Engine.takes g.E.Engine.stands_for s c.args.number c.args.event (g.K.Sink.told c.args.out.now) (g.K.Sink.told c.tell.new.out)
-    (seen g.H.Home.file g.H.Home.reach g.H.Home.faults g.H.Home.last_failed c.step.new.home) c.step.new.self c.in-Ok.items c.tell.result (c.in-Ok.ensures.items s r ready)
+    (g.H.Home.seen c.step.new.home) c.step.new.self c.in-Ok.items c.tell.result (c.in-Ok.ensures.items s r ready)
     (record { stands = c.in-Ok.ensures.stands s r ready; held = c.in-Ok.ensures.served.kept })
     (subst (λ (xs : List Item). IsTextPut (items_text (numbered c.args.number (item.Event c.args.event ∷ []) ++ xs)) (g.K.Sink.told c.args.out.now) (g.K.Sink.told c.tell.new.out) c.tell.result)
     c.as_slice.ensures c.tell.ensures.put)
@@ -22,16 +21,16 @@ returns-in-Ok-clause-told g c = λ s r ready.
 pub returns-in-Err-clause-told : goal.returns-in-Err-clause-told
 returns-in-Err-clause-told g c = λ s r ready.
     subst (λ (why : Status). IsToldOf g.E.Engine.takes g.E.Engine.stands_for s c.args.number c.args.event (g.K.Sink.told c.args.out.now) (g.K.Sink.told c.args.out.now)
-    (seen g.H.Home.file g.H.Home.reach g.H.Home.faults g.H.Home.last_failed c.step.new.home) c.step.new.self (Err why)) (sym c.undone.ensures)
+    (g.H.Home.seen c.step.new.home) c.step.new.self (Err why)) (sym c.undone.ensures)
     (untold g.E.Engine.takes g.E.Engine.stands_for s c.args.number c.args.event (g.K.Sink.told c.args.out.now) _ _ c.step.new.self c.in-Err.fault c.in-Err.ensures.ended
     (c.in-Err.ensures.left s r ready)
-    (held_left g.E.Engine.takes g.E.Engine.stands_for c.args.world.now s (g.H.Home.file c.args.home.now) (g.H.Home.reach c.args.home.now) r c.requires.held)
+    (held_left g.E.Engine.takes g.E.Engine.stands_for c.args.world.now s (g.H.Home.seen c.args.home.now) r c.requires.held)
     (λ is. (c.in-Err.ensures.limit s r).0 (ap Err is)))
 
 pub returns-in-Err-clause-ended : goal.returns-in-Err-clause-ended
 returns-in-Err-clause-ended g c =
-    subst (λ (why : Status). HasEnded (seen g.H.Home.file g.H.Home.reach g.H.Home.faults g.H.Home.last_failed c.args.home.now)
-    (seen g.H.Home.file g.H.Home.reach g.H.Home.faults g.H.Home.last_failed c.step.new.home) (Err why)) (sym c.undone.ensures)
+    subst (λ (why : Status). HasEnded (g.H.Home.seen c.args.home.now)
+    (g.H.Home.seen c.step.new.home) (Err why)) (sym c.undone.ensures)
     (ended_as _ _ c.in-Err.fault c.in-Err.ensures.ended)
 
 pub returns-in-Err-clause-failed : goal.returns-in-Err-clause-failed

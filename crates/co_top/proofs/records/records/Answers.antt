@@ -4,4 +4,4 @@ use Rattle.co_top.proofs.Recording.{cause_of}
 use Rattle.co_top.proofs.records.records.Goals as goal
 
 pub returns-clause-cause : goal.returns-clause-cause
-returns-clause-cause g c = subst (HasCause (g.H.Home.file c.args.home.now)) (sym c.status_of_records.ensures) (cause_of (g.H.Home.file c.args.home.now) c.write_records-written.result c.write_records-written.ensures.read c.write_records-written.ensures.refused)
+returns-clause-cause g c = subst (HasCause (g.H.Home.seen c.args.home.now).file) (sym c.status_of_records.ensures) (cause_of (g.H.Home.seen c.args.home.now).file c.write_records-written.result c.write_records-written.ensures.read c.write_records-written.ensures.refused)

@@ -7,8 +7,8 @@ use Rattle.co_top.proofs.replay.attach.Goals as goal
 
 pub returns-in-Err-clause-refused : goal.returns-in-Err-clause-refused
 returns-in-Err-clause-refused g c =
-    subst (IsUnopenedAs (g.H.Home.file c.args.home.now) c.args.head.now c.args.resume) (sym c.of_world.ensures)
-    (unopened_as (g.H.Home.file c.args.home.now) c.args.head.now c.args.resume c.in-Err.fault c.in-Err.ensures.refused)
+    subst (IsUnopenedAs (g.H.Home.seen c.args.home.now).file c.args.head.now c.args.resume) (sym c.of_world.ensures)
+    (unopened_as (g.H.Home.seen c.args.home.now).file c.args.head.now c.args.resume c.in-Err.fault c.in-Err.ensures.refused)
 
 pub returns-in-Ok-clause-quiet : goal.returns-in-Ok-clause-quiet
 returns-in-Ok-clause-quiet g c = λ h. c.in-Ok.ensures.quiet (λ spot e. absurd (let z : Ok c.in-Ok.opened ≡ Err (world.Device spot) = e in cc))

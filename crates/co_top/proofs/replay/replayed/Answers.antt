@@ -1,7 +1,6 @@
 use Rattle.std.proofs.Common.{◌≡◌, ◌∙◌, ◌++◌, List, ℕ, Option, Some, Err, Result, refl, sym, ap, subst, option_map}
 use Rattle.std.specs.Prelude.{IfErr}
 use Rattle.co_message.specs.declared.item.Item.{Item}
-use Rattle.co_node.specs.Answers.{seen}
 use Rattle.co_plain.specs.Opening.{opened}
 use Rattle.co_schedule.specs.Lines.{ahead}
 use Rattle.co_top.specs.Heads.{IsReadStatus, IsEnding}
@@ -27,18 +26,18 @@ pub returns-in_err-world-clause-end : goal.returns-in_err-world-clause-end
 returns-in_err-world-clause-end g c = λ input held l t.
     let at_front : ahead c.in_ok-lines.lines (g.S.Source.left c.args.source.now) ≡ Some input = λ i. option_map (λ rest. c.in_ok-lines.ensures.nothing i ++ rest) (l i) in
     let read = c.in_ok-head.ensures.read input at_front in
-    subst (λ o. IsRunEnd c.args.resume input (g.S.Source.left c.head_of.new.source) held (g.H.Home.file c.args.home.now) (g.H.Home.file c.open.new.home) (g.K.Sink.told c.args.out.now) (status_of o))
+    subst (λ o. IsRunEnd c.args.resume input (g.S.Source.left c.head_of.new.source) held (g.H.Home.seen c.args.home.now).file (g.H.Home.seen c.open.new.home).file (g.K.Sink.told c.args.out.now) (status_of o))
     (sym (err_is c.from_residual-in_err-world.result c.in_err-world.field-0.0 c.from_residual-in_err-world.ensures))
-    (unopened c.args.resume input (g.S.Source.left c.head_of.new.source) (c.in_ok-head.ensures.streamed input at_front) held (g.H.Home.file c.args.home.now) (g.H.Home.file c.open.new.home) (g.K.Sink.told c.args.out.now) c.in_ok-head.head read.0 read.1 t c.in_err-world.field-0.0 c.in_err-world.ensures.refused c.in_err-world.ensures.untouched)
+    (unopened c.args.resume input (g.S.Source.left c.head_of.new.source) (c.in_ok-head.ensures.streamed input at_front) held (g.H.Home.seen c.args.home.now).file (g.H.Home.seen c.open.new.home).file (g.K.Sink.told c.args.out.now) c.in_ok-head.head read.0 read.1 t c.in_err-world.field-0.0 c.in_err-world.ensures.refused c.in_err-world.ensures.untouched)
 
 pub returns-in_err-head-2-clause-end : goal.returns-in_err-head-2-clause-end
 returns-in_err-head-2-clause-end g c = λ input held l t.
     let at_front : ahead c.in_ok-lines.lines (g.S.Source.left c.args.source.now) ≡ Some input = λ i. option_map (λ rest. c.in_ok-lines.ensures.nothing i ++ rest) (l i) in
     let read = c.in_ok-head.ensures.read input at_front in
-    subst (λ o. IsRunEnd c.args.resume input (g.S.Source.left c.head_of.new.source) held (g.H.Home.file c.args.home.now) (g.H.Home.file c.open.new.home) (g.K.Sink.told c.tell_opening.new.out) (status_of o))
+    subst (λ o. IsRunEnd c.args.resume input (g.S.Source.left c.head_of.new.source) held (g.H.Home.seen c.args.home.now).file (g.H.Home.seen c.open.new.home).file (g.K.Sink.told c.tell_opening.new.out) (status_of o))
     (sym (err_is c.from_residual-in_err-head-2.result c.in_err-head-2.field-0.0 c.from_residual-in_err-head-2.ensures))
-    (opening_over g.E.Engine.takes g.E.Engine.stands_for c.args.resume input (g.S.Source.left c.head_of.new.source) (c.in_ok-head.ensures.streamed input at_front) held (g.H.Home.file c.args.home.now) c.in_ok-head.head read.0 read.1 c.in_ok-world.world c.in_ok-world.items c.in_ok-world.ensures.opened
-    (seen g.H.Home.file g.H.Home.reach g.H.Home.faults g.H.Home.last_failed c.open.new.home) c.in_ok-world.ensures.held (g.K.Sink.told c.tell_opening.new.out) c.in_err-head-2.field-0.0
+    (opening_over g.E.Engine.takes g.E.Engine.stands_for c.args.resume input (g.S.Source.left c.head_of.new.source) (c.in_ok-head.ensures.streamed input at_front) held (g.H.Home.seen c.args.home.now).file c.in_ok-head.head read.0 read.1 c.in_ok-world.world c.in_ok-world.items c.in_ok-world.ensures.opened
+    (g.H.Home.seen c.open.new.home) c.in_ok-world.ensures.held (g.K.Sink.told c.tell_opening.new.out) c.in_err-head-2.field-0.0
     (subst (λ o. IsOpeningTold c.in_ok-head.head c.in_ok-world.items o (g.K.Sink.told c.tell_opening.new.out) (Err c.in_err-head-2.field-0.0)) t
     (subst (λ (xs : List Item). IsOpeningTold c.in_ok-head.head xs (g.K.Sink.told c.args.out.now) (g.K.Sink.told c.tell_opening.new.out) (Err c.in_err-head-2.field-0.0)) c.as_slice.ensures c.in_err-head-2.ensures.told)))
 
@@ -70,11 +69,11 @@ returns-clause-end g c = λ input held l t.
     let items : List Item = c.in_ok-world.items in
     let at = c.in_ok-world.ensures.opened in
     let s0 = opened head.kinds head.coords at.found_member at.found_coord in
-    let home = seen g.H.Home.file g.H.Home.reach g.H.Home.faults g.H.Home.last_failed c.replay_lines.new.home in
+    let home = g.H.Home.seen c.replay_lines.new.home in
     let stays : StaysReady c.in_ok-head-2.head s0 = subst (λ h. StaysReady h s0) (sym c.in_ok-head-2.ensures.told.0) (ready head at.found_member at.found_coord at.may) in
     let put : g.K.Sink.told c.tell_opening.new.out ≡ Some (held ++ opening_text head items) =
     c.in_ok-head-2.ensures.told.1 held t ∙ ap (λ (xs : List Item). Some (held ++ opening_text head xs)) c.as_slice.ensures in
-    over g.E.Engine.takes g.E.Engine.stands_for c.args.resume input held (g.H.Home.file c.args.home.now) head read.0 read.1 c.in_ok-world.world items at (g.S.Source.left c.replay_lines.new.source) (g.K.Sink.told c.replay_lines.new.out) home c.replay_lines.new.world c.replay_lines.result
+    over g.E.Engine.takes g.E.Engine.stands_for c.args.resume input held (g.H.Home.seen c.args.home.now).file head read.0 read.1 c.in_ok-world.world items at (g.S.Source.left c.replay_lines.new.source) (g.K.Sink.told c.replay_lines.new.out) home c.replay_lines.new.world c.replay_lines.result
     (subst (λ (m : Option (List ℕ)). IsOver g.E.Engine.takes g.E.Engine.stands_for head s0 (Some read.0) (g.S.Source.left c.replay_lines.new.source) m (g.K.Sink.told c.replay_lines.new.out) home c.replay_lines.new.world c.replay_lines.result) put
     (subst (λ (a : Option (List ℕ)). IsOver g.E.Engine.takes g.E.Engine.stands_for head s0 a (g.S.Source.left c.replay_lines.new.source) (g.K.Sink.told c.tell_opening.new.out) (g.K.Sink.told c.replay_lines.new.out) home c.replay_lines.new.world c.replay_lines.result) read.2
     (subst (λ h. IsOver g.E.Engine.takes g.E.Engine.stands_for h s0 (ahead c.head_of.new.lines (g.S.Source.left c.head_of.new.source)) (g.S.Source.left c.replay_lines.new.source) (g.K.Sink.told c.tell_opening.new.out) (g.K.Sink.told c.replay_lines.new.out) home c.replay_lines.new.world c.replay_lines.result)
@@ -86,7 +85,7 @@ returns-clause-entered g c = on_any _ c.replay_lines.result (c.replay_lines.ensu
 pub returns-clause-device : goal.returns-clause-device
 returns-clause-device g c = λ spot h.
     let f =
-    failed_as (seen g.H.Home.file g.H.Home.reach g.H.Home.faults g.H.Home.last_failed c.open.new.home) (seen g.H.Home.file g.H.Home.reach g.H.Home.faults g.H.Home.last_failed c.replay_lines.new.home) (g.H.Home.faults c.args.home.now) c.replay_lines.result spot
+    failed_as (g.H.Home.seen c.open.new.home) (g.H.Home.seen c.replay_lines.new.home) (g.H.Home.seen c.args.home.now).faults c.replay_lines.result spot
     (c.in_ok-world.ensures.quiet (λ spot_of e. not_err _ (status.Device spot_of) e)) c.replay_lines.ensures.ended h in
     record { count = f.0; named = f.1 }
 
@@ -102,7 +101,7 @@ returns-clause-quiet_sink g c = λ other. c.replay_lines.ensures.quiet_sink othe
 
 pub returns-clause-quiet_home : goal.returns-clause-quiet_home
 returns-clause-quiet_home g c = λ other.
-    ended_quiet (seen g.H.Home.file g.H.Home.reach g.H.Home.faults g.H.Home.last_failed c.open.new.home) (seen g.H.Home.file g.H.Home.reach g.H.Home.faults g.H.Home.last_failed c.replay_lines.new.home) c.replay_lines.result
+    ended_quiet (g.H.Home.seen c.open.new.home) (g.H.Home.seen c.replay_lines.new.home) c.replay_lines.result
     c.replay_lines.ensures.ended other
     ∙ c.in_ok-world.ensures.quiet (λ spot e. not_err _ (status.Device spot) e)
 

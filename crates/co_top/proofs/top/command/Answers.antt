@@ -7,7 +7,7 @@ use Rattle.co_top.proofs.top.command.Goals as goal
 
 pub returns-in-Run-clause-run : goal.returns-in-Run-clause-run
 returns-in-Run-clause-run g c = λ input held is l t.
-    subst (λ r. IsRunEnd r input (g.S.Source.left c.replay.new.source) held (g.H.Home.file c.args.home.now) (g.H.Home.file c.replay.new.home) (g.K.Sink.told c.replay.new.out) c.replay.result) c.in-Run.ensures.2
+    subst (λ r. IsRunEnd r input (g.S.Source.left c.replay.new.source) held (g.H.Home.seen c.args.home.now).file (g.H.Home.seen c.replay.new.home).file (g.K.Sink.told c.replay.new.out) c.replay.result) c.in-Run.ensures.2
     (c.replay.ensures.end input held l t)
 
 pub trial-requires : goal.trial-requires

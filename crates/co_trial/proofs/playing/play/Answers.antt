@@ -4,7 +4,6 @@ use Rattle.co_durable.specs.declared.fault.WorldFault.{WorldFault}
 use Rattle.co_durable.specs.declared.fault.WorldFault.TheVariants as world
 use Rattle.co_message.specs.declared.item.Item.{Item}
 use Rattle.co_message.specs.declared.item.ItemKind.TheVariants as item
-use Rattle.co_node.specs.Answers.{seen}
 use Rattle.co_plain.specs.Federation.{decide_all}
 use Rattle.co_plain.specs.Runs.{numbered}
 use Rattle.co_plain.specs.Step.{step_line, disarmed}
@@ -34,12 +33,12 @@ is_err fault e = ap Err e
 pub returns-in-Err-clause-ended : goal.returns-in-Err-clause-ended
 returns-in-Err-clause-ended g c =
     let w = c.requires.stands in
-    let old = seen g.H.Home.file g.H.Home.reach g.H.Home.faults g.H.Home.last_failed c.args.home.now in
-    let new = seen g.H.Home.file g.H.Home.reach g.H.Home.faults g.H.Home.last_failed c.step.new.home in
+    let old = g.H.Home.seen c.args.home.now in
+    let new = g.H.Home.seen c.step.new.home in
     ends c.in-Err.fault c.undone.result (step_line (disarmed w.0) c.args.event).state old new c.undone.ensures c.in-Err.ensures.ended
     (λ e. w.3 ((c.in-Err.ensures.limit w.0 w.1).0 (is_err c.in-Err.fault e))) (c.in-Err.ensures.left w.0 w.1 w.2).1 w.4
 
 pub returns-in-Err-clause-untold : goal.returns-in-Err-clause-untold
 returns-in-Err-clause-untold g c =
-    subst (IsUntoldFor g.H.Home.file) (sym c.undone.ensures)
-    (untold_for g.H.Home.file g.H.Home.reach g.H.Home.faults g.H.Home.last_failed c.in-Err.fault c.args.home.now (seen g.H.Home.file g.H.Home.reach g.H.Home.faults g.H.Home.last_failed c.step.new.home) c.in-Err.ensures.ended)
+    subst (IsUntoldFor) (sym c.undone.ensures)
+    (untold_for c.in-Err.fault (g.H.Home.seen c.args.home.now) (g.H.Home.seen c.step.new.home) c.in-Err.ensures.ended)

@@ -9,6 +9,6 @@ abbrev pub invariant-loop-place : goal.invariant-loop-place
 invariant-loop-place g l = record {
   going : (o : Opened) → RepresentsWorld g.E.Engine.takes g.E.Engine.stands_for l.fn.world (start_of o) → AreRun (start_of o) l.fn.decisions (start_of o).decided →
       GoesTo o g.E.Engine.takes g.E.Engine.stands_for l.number l.place l.fn.told l.told l.decisions l.maker l.world;
-  held : AreHeld (g.H.Home.file l.home) (g.H.Home.reach l.home) l.world;
-  quiet : g.H.Home.faults l.home ≡ g.H.Home.faults l.fn.home;
+  held : AreHeld (g.H.Home.seen l.home) l.world;
+  quiet : (g.H.Home.seen l.home).faults ≡ (g.H.Home.seen l.fn.home).faults;
 }

@@ -18,7 +18,7 @@ returns-in_ok-tell_all-in-Ok-clause-opened g c =
         head = head;
         kinds = c.in_ok-head.ensures.kinds;
         coords = c.in_ok-head.ensures.coords;
-        file = g.H.Home.file c.args.home.now;
+        file = (g.H.Home.seen c.args.home.now).file;
         empty = c.requires.empty;
         found_member = p.found_member;
         found_coord = p.found_coord;
@@ -35,8 +35,8 @@ returns-in_ok-tell_all-in-Ok-clause-opened g c =
 
 pub returns-in-Err-clause-ended : goal.returns-in-Err-clause-ended
 returns-in-Err-clause-ended g c =
-    opening_fault (g.H.Home.file c.args.home.now) c.in_ok-head.head c.in-Err.fault (g.H.Home.faults c.args.home.now) (g.H.Home.faults c.attach.new.home) c.requires.empty c.in-Err.ensures.refused
+    opening_fault (g.H.Home.seen c.args.home.now).file c.in_ok-head.head c.in-Err.fault (g.H.Home.seen c.args.home.now).faults (g.H.Home.seen c.attach.new.home).faults c.requires.empty c.in-Err.ensures.refused
     (λ spot e. (c.in-Err.ensures.device spot (ap Err e)).count)
 
 pub returns-in-Err-clause-untold : goal.returns-in-Err-clause-untold
-returns-in-Err-clause-untold g c = unopened_untold g.H.Home.file (g.H.Home.file c.args.home.now) c.in_ok-head.head _ c.in-Err.fault c.in-Err.ensures.refused
+returns-in-Err-clause-untold g c = unopened_untold (g.H.Home.seen c.args.home.now).file c.in_ok-head.head _ c.in-Err.fault c.in-Err.ensures.refused

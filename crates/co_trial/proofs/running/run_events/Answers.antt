@@ -1,7 +1,6 @@
 use Rattle.std.proofs.Common.{◌+◌, ◌++◌, suc, List, length, zero-add, subst, ap, ◌∙◌}
 use Rattle.sha2.specs.Hashers.{Holds256}
 use Rattle.co_message.specs.declared.item.Item.{Item}
-use Rattle.co_node.specs.Answers.{seen}
 use Rattle.co_plain.specs.Federation.{decide_all}
 use Rattle.co_plain.specs.Runs.{transcript}
 use Rattle.co_plain.specs.Step.{disarmed}
@@ -31,11 +30,11 @@ returns-in_err-items-clause-ended g c =
     let k = c.args.events in
     let p = c.in_ok-play_all.ensures.gone o w.1 w.2 in
     let s = played_to o n k in
-    let file = g.H.Home.file c.settle.new.home in
+    let file = (g.H.Home.seen c.settle.new.home).file in
     let fault = c.in_err-items.field-0.0 in
     let cut = c.in_err-items.ensures.settled s p.stands (at_end o n k p.valid) (few_open o n k p.valid p.long c.requires.events) in
-    settling_fault c.from_residual-in_err-items.result fault (g.H.Home.faults c.args.home.now)
-    (seen g.H.Home.file g.H.Home.reach g.H.Home.faults g.H.Home.last_failed c.play_all.new.home) (seen g.H.Home.file g.H.Home.reach g.H.Home.faults g.H.Home.last_failed c.settle.new.home)
+    settling_fault c.from_residual-in_err-items.result fault (g.H.Home.seen c.args.home.now).faults
+    (g.H.Home.seen c.play_all.new.home) (g.H.Home.seen c.settle.new.home)
     c.from_residual-in_err-items.ensures c.in_ok-play_all.ensures.ended c.in_err-items.ensures.ended
     (λ spot e. settling_never_full o g.E.Engine.takes g.E.Engine.stands_for n k c.args.told.now c.play_all.new.told c.play_all.new.decisions c.play_all.new.world p c.requires.events file spot
     (subst (IsCutShort s file) e cut))

@@ -2,7 +2,6 @@ use Rattle.std.proofs.Common.{sym, subst, ◌∙◌}
 use Rattle.std.specs.Prelude.{Ok, Err}
 use Rattle.co_base.specs.declared.node.Node.TheVariants as node
 use Rattle.co_log.specs.LogView.{LogView, IsHeld, IsShort}
-use Rattle.co_node.specs.Answers.{seen}
 use Rattle.co_node.specs.NodeLog.{RepresentsLog}
 use Rattle.co_node.specs.declared.written.Written.{Written}
 use Rattle.co_coord.specs.Plans.{carried_out}
@@ -17,7 +16,7 @@ use Rattle.co_coord.proofs.coord.Coord.carry_out.Goals as goal
 pub returns-in_err-change-clause-answered : goal.returns-in_err-change-clause-answered
 returns-in_err-change-clause-answered g c = λ y r.
     let x = c.args.self.now in
-    let home = seen g.H.Home.file g.H.Home.reach g.H.Home.faults g.H.Home.last_failed c.args.home.now in
+    let home = g.H.Home.seen c.args.home.now in
     subst (λ (v : LogView). IsAnsweredFor c.args.plan.writes (node.Coord x.number) y.log x.log v home home (written_by c.from_residual.result)) (sym c.change.ensures.log)
     (wants_memory (node.Coord x.number) c.args.plan.writes y.log x.log home c.from_residual.result c.from_residual.ensures r.log c.requires.held c.requires.short)
 
@@ -25,7 +24,7 @@ pub write-requires-clause-short : goal.write-requires-clause-short
 write-requires-clause-short g c = subst (λ (v : LogView). IsShort v.current × IsShort v.spare) (sym c.change.ensures.log) c.requires.short
 
 pub write-requires-clause-held : goal.write-requires-clause-held
-write-requires-clause-held g c = subst (λ (v : LogView). IsHeld (g.H.Home.file c.args.home.now) (g.H.Home.reach c.args.home.now) v) (sym c.change.ensures.log) c.requires.held
+write-requires-clause-held g c = subst (λ (v : LogView). IsHeld (g.H.Home.seen c.args.home.now) v) (sym c.change.ensures.log) c.requires.held
 
 pub write-requires-clause-stands : goal.write-requires-clause-stands
 write-requires-clause-stands g c =
@@ -37,8 +36,8 @@ pub returns-in_err-marks-clause-answered : goal.returns-in_err-marks-clause-answ
 returns-in_err-marks-clause-answered g c = λ y r.
     let n = node.Coord c.args.self.now.number in
     let w = c.args.plan.writes in
-    let old = seen g.H.Home.file g.H.Home.reach g.H.Home.faults g.H.Home.last_failed c.args.home.now in
-    let new = seen g.H.Home.file g.H.Home.reach g.H.Home.faults g.H.Home.last_failed c.write.new.home in
+    let old = g.H.Home.seen c.args.home.now in
+    let new = g.H.Home.seen c.write.new.home in
     let here = subst (λ (v : LogView). RepresentsLog n v y.log) (sym c.change.ensures.log) r.log in
     let left = subst (λ (v : LogView). IsAnsweredFor w n y.log v c.write.new.log old new (Err c.in_err-marks.field-0.0)) c.change.ensures.log (c.in_err-marks.ensures.answered n y.log here) in
     passed_on n w y.log c.args.self.now.log c.write.new.log old new c.in_err-marks.field-0.0 c.from_residual-in_err-marks.result c.from_residual-in_err-marks.ensures left
@@ -57,8 +56,8 @@ returns-in-Done-clause-did g c = λ y r.
 pub returns-in-Done-clause-answered : goal.returns-in-Done-clause-answered
 returns-in-Done-clause-answered g c = λ y r.
     let n = node.Coord c.args.self.now.number in
-    let old = seen g.H.Home.file g.H.Home.reach g.H.Home.faults g.H.Home.last_failed c.args.home.now in
-    let new = seen g.H.Home.file g.H.Home.reach g.H.Home.faults g.H.Home.last_failed c.write.new.home in
+    let old = g.H.Home.seen c.args.home.now in
+    let new = g.H.Home.seen c.write.new.home in
     let here = subst (λ (v : LogView). RepresentsLog n v y.log) (sym c.change.ensures.log) r.log in
     subst (λ (v : LogView). IsAnsweredFor c.args.plan.writes n y.log v c.write.new.log old new (Ok c.in_ok-marks.field-0)) c.change.ensures.log (c.in_ok-marks.ensures.answered n y.log here)
 
@@ -76,8 +75,8 @@ returns-in-Stopped-clause-did g c = λ y r.
 pub returns-in-Stopped-clause-answered : goal.returns-in-Stopped-clause-answered
 returns-in-Stopped-clause-answered g c = λ y r.
     let n = node.Coord c.args.self.now.number in
-    let old = seen g.H.Home.file g.H.Home.reach g.H.Home.faults g.H.Home.last_failed c.args.home.now in
-    let new = seen g.H.Home.file g.H.Home.reach g.H.Home.faults g.H.Home.last_failed c.write.new.home in
+    let old = g.H.Home.seen c.args.home.now in
+    let new = g.H.Home.seen c.write.new.home in
     let here = subst (λ (v : LogView). RepresentsLog n v y.log) (sym c.change.ensures.log) r.log in
     let served = subst (λ (v : LogView). IsAnsweredFor c.args.plan.writes n y.log v c.write.new.log old new (Ok c.in_ok-marks.field-0)) c.change.ensures.log (c.in_ok-marks.ensures.answered n y.log here) in
     subst (λ (v : LogView). IsAnsweredFor c.args.plan.writes n y.log c.args.self.now.log v old new (Ok c.in_ok-marks.field-0)) (sym c.stopped.ensures.log) served

@@ -1,7 +1,6 @@
 use Rattle.std.proofs.Common.{Bool, sym, subst, ◌∙◌}
 use Rattle.std.specs.Prelude.{IfOk}
 use Rattle.co_base.specs.declared.node.Node.TheVariants as node
-use Rattle.co_node.specs.Answers.{seen}
 use Rattle.co_plain.specs.CoordLog.{coord_checkpoint_by}
 use Rattle.co_coord.specs.Restating.{IsCheckpointed}
 use Rattle.co_coord.specs.Standing.{HasDone, written_by}
@@ -29,8 +28,8 @@ pub returns-then-spare_closed-clause-answered : goal.returns-then-spare_closed-c
 returns-then-spare_closed-clause-answered g c = λ y r.
     let x = c.args.self.now in
     let n = node.Coord x.number in
-    let old = seen g.H.Home.file g.H.Home.reach g.H.Home.faults g.H.Home.last_failed c.args.home.now in
-    let new = seen g.H.Home.file g.H.Home.reach g.H.Home.faults g.H.Home.last_failed c.fill.new.home in
+    let old = g.H.Home.seen c.args.home.now in
+    let new = g.H.Home.seen c.fill.new.home in
     let closed = sym (c.spare_closed.ensures n y.log r.log) ∙ c.if-spare_closed.true in
     subst (λ (b : Bool). IsCheckpointed b n y x.log c.fill.new.self.log old new (written_by c.fill.result)) (sym closed) (c.fill.ensures.answered y r)
 
@@ -44,7 +43,7 @@ pub returns-else-spare_closed-clause-answered : goal.returns-else-spare_closed-c
 returns-else-spare_closed-clause-answered g c = λ y r.
     let x = c.args.self.now in
     let n = node.Coord x.number in
-    let old = seen g.H.Home.file g.H.Home.reach g.H.Home.faults g.H.Home.last_failed c.args.home.now in
-    let new = seen g.H.Home.file g.H.Home.reach g.H.Home.faults g.H.Home.last_failed c.close.new.home in
+    let old = g.H.Home.seen c.args.home.now in
+    let new = g.H.Home.seen c.close.new.home in
     let closed = sym (c.spare_closed.ensures n y.log r.log) ∙ c.if-spare_closed.false in
     subst (λ (b : Bool). IsCheckpointed b n y x.log c.close.new.self.log old new (written_by c.close.result)) (sym closed) (c.close.ensures.answered y r)

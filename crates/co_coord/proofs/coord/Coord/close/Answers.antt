@@ -4,7 +4,7 @@ use Rattle.co_base.specs.declared.node.Node.TheVariants as node
 use Rattle.co_log.specs.LogView.{LogView}
 use Rattle.co_message.specs.declared.answer.Answer.TheVariants as answer
 use Rattle.co_message.specs.declared.message.Message.{Message}
-use Rattle.co_node.specs.Answers.{seen, IsServed}
+use Rattle.co_node.specs.Answers.{IsServed}
 use Rattle.co_node.specs.Writes.{closing, HasWritten}
 use Rattle.co_node.specs.declared.written.Written.{Written}
 use Rattle.co_node.specs.declared.written.Written.TheVariants.{Stopped}
@@ -41,6 +41,6 @@ returns-in-Stopped-clause-did g c = λ y r.
 pub returns-in-Stopped-clause-answered : goal.returns-in-Stopped-clause-answered
 returns-in-Stopped-clause-answered g c = λ y r.
     let n = node.Coord c.args.self.now.number in
-    let old = seen g.H.Home.file g.H.Home.reach g.H.Home.faults g.H.Home.last_failed c.args.home.now in
-    let new = seen g.H.Home.file g.H.Home.reach g.H.Home.faults g.H.Home.last_failed c.close.new.home in
+    let old = g.H.Home.seen c.args.home.now in
+    let new = g.H.Home.seen c.close.new.home in
     subst (λ (v : LogView). (⊥ → ⊥) × IsServed n v old new) (sym c.stopped.ensures.log) (c.in_ok-marks.ensures.answered n y.log r.log)

@@ -1,6 +1,5 @@
 use Rattle.std.proofs.Common.{◌≡◌, sym, ap, subst, ◌∙◌}
 use Rattle.co_base.specs.declared.node.Node.TheVariants as node
-use Rattle.co_node.specs.Answers.{seen}
 use Rattle.co_plain.specs.Coordinator.{coord_commit}
 use Rattle.co_plain.specs.declared.coord_state.Entry.{Entry}
 use Rattle.co_state.specs.Table.{Table, look}
@@ -17,7 +16,7 @@ use Rattle.co_coord.proofs.coord.Coord.commit.Goals as goal
 pub returns-in_err-plan-clause-answered : goal.returns-in_err-plan-clause-answered
 returns-in_err-plan-clause-answered g c = λ y r.
     let x = c.args.self.now in
-    wants_memory (node.Coord x.number) (commit_plan x.number c.args.t c.args.parts.now (look y.table c.args.t)).writes y.log x.log (seen g.H.Home.file g.H.Home.reach g.H.Home.faults g.H.Home.last_failed c.args.home.now) c.from_residual.result
+    wants_memory (node.Coord x.number) (commit_plan x.number c.args.t c.args.parts.now (look y.table c.args.t)).writes y.log x.log (g.H.Home.seen c.args.home.now) c.from_residual.result
     c.from_residual.ensures r.log c.requires.held c.lengths.ensures.within
 
 pub carry_out-requires-clause-writes : goal.carry_out-requires-clause-writes
@@ -35,5 +34,5 @@ returns-clause-answered g c = λ y r.
     let x = c.args.self.now in
     let same = ap (λ (u : Table Entry). commit_plan x.number c.args.t c.args.parts.now (look u c.args.t)) (r.table c.table.result.now c.table.ensures) in
     let made : c.in_ok-plan.plan ≡ commit_plan x.number c.args.t c.args.parts.now (look y.table c.args.t) = c.in_ok-plan.ensures ∙ sym same in
-    subst (λ (p : Plan). IsAnsweredFor p.writes (node.Coord x.number) y.log x.log c.carry_out.new.self.log (seen g.H.Home.file g.H.Home.reach g.H.Home.faults g.H.Home.last_failed c.args.home.now)
-    (seen g.H.Home.file g.H.Home.reach g.H.Home.faults g.H.Home.last_failed c.carry_out.new.home) (written_by c.carry_out.result)) made (c.carry_out.ensures.answered y r)
+    subst (λ (p : Plan). IsAnsweredFor p.writes (node.Coord x.number) y.log x.log c.carry_out.new.self.log (g.H.Home.seen c.args.home.now)
+    (g.H.Home.seen c.carry_out.new.home) (written_by c.carry_out.result)) made (c.carry_out.ensures.answered y r)

@@ -1,7 +1,6 @@
 use Rattle.std.proofs.Common.{◌≡◌, ℕ, sym, ap, subst, ◌∙◌}
 use Rattle.std.specs.Prelude.{IfOk}
 use Rattle.co_base.specs.declared.node.Node.TheVariants as node
-use Rattle.co_node.specs.Answers.{seen}
 use Rattle.co_plain.specs.Coordinator.{coord_deliver}
 use Rattle.co_plain.specs.declared.coord_state.Entry.{Entry}
 use Rattle.co_state.specs.Table.{Table, look}
@@ -19,7 +18,7 @@ pub returns-in_err-plan-clause-answered : goal.returns-in_err-plan-clause-answer
 returns-in_err-plan-clause-answered g c = λ y r.
     let x = c.args.self.now in
     let m = c.args.message.now in
-    wants_memory (node.Coord x.number) (deliver_plan x.number m (look y.table (txn_of m))).writes y.log x.log (seen g.H.Home.file g.H.Home.reach g.H.Home.faults g.H.Home.last_failed c.args.home.now) c.from_residual.result
+    wants_memory (node.Coord x.number) (deliver_plan x.number m (look y.table (txn_of m))).writes y.log x.log (g.H.Home.seen c.args.home.now) c.from_residual.result
     c.from_residual.ensures r.log c.requires.held c.lengths.ensures.within
 
 pub carry_out-requires-clause-stands : goal.carry_out-requires-clause-stands
@@ -46,5 +45,5 @@ returns-clause-answered g c = λ y r.
     let m = c.args.message.now in
     let same = ap (λ (u : Table Entry). deliver_plan x.number m (look u (txn_of m))) (r.table c.table.result.now c.table.ensures) in
     let made : c.in_ok-plan.plan ≡ deliver_plan x.number m (look y.table (txn_of m)) = c.in_ok-plan.ensures ∙ sym same in
-    subst (λ (p : Plan). IsAnsweredFor p.writes (node.Coord x.number) y.log x.log c.carry_out.new.self.log (seen g.H.Home.file g.H.Home.reach g.H.Home.faults g.H.Home.last_failed c.args.home.now)
-    (seen g.H.Home.file g.H.Home.reach g.H.Home.faults g.H.Home.last_failed c.carry_out.new.home) (written_by c.carry_out.result)) made (c.carry_out.ensures.answered y r)
+    subst (λ (p : Plan). IsAnsweredFor p.writes (node.Coord x.number) y.log x.log c.carry_out.new.self.log (g.H.Home.seen c.args.home.now)
+    (g.H.Home.seen c.carry_out.new.home) (written_by c.carry_out.result)) made (c.carry_out.ensures.answered y r)

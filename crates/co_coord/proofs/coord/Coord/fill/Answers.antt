@@ -7,7 +7,7 @@ use Rattle.co_log.specs.LogView.{LogView}
 use Rattle.co_log.specs.Spare.{IsFillable, IsOverfull}
 use Rattle.co_message.specs.declared.answer.Answer.TheVariants as answer
 use Rattle.co_message.specs.declared.message.Message.{Message}
-use Rattle.co_node.specs.Answers.{seen, IsServed}
+use Rattle.co_node.specs.Answers.{IsServed}
 use Rattle.co_node.specs.Writes.{filled_with, filling, HasWritten}
 use Rattle.co_node.specs.declared.written.Written.{Written}
 use Rattle.co_node.specs.declared.written.Written.TheVariants.{Done, Stopped}
@@ -28,7 +28,7 @@ pub returns-in_err-records-clause-answered : goal.returns-in_err-records-clause-
 returns-in_err-records-clause-answered g c = λ y r.
     let x = c.args.self.now in
     let n = node.Coord x.number in
-    wanting n x.log.spare.spot (IsOverfull x.log (reverse (restated y))) (filled_with n y.log (restated y)) y.log x.log (seen g.H.Home.file g.H.Home.reach g.H.Home.faults g.H.Home.last_failed c.args.home.now) c.from_residual.result
+    wanting n x.log.spare.spot (IsOverfull x.log (reverse (restated y))) (filled_with n y.log (restated y)) y.log x.log (g.H.Home.seen c.args.home.now) c.from_residual.result
     c.from_residual.ensures r.log c.requires.held c.lengths.ensures.within
 
 pub fill-requires-clause-items : goal.fill-requires-clause-items
@@ -61,8 +61,8 @@ pub returns-in-Done-clause-answered : goal.returns-in-Done-clause-answered
 returns-in-Done-clause-answered g c = λ y r.
     let x = c.args.self.now in
     let n = node.Coord x.number in
-    let old = seen g.H.Home.file g.H.Home.reach g.H.Home.faults g.H.Home.last_failed c.args.home.now in
-    let new = seen g.H.Home.file g.H.Home.reach g.H.Home.faults g.H.Home.last_failed c.fill.new.home in
+    let old = g.H.Home.seen c.args.home.now in
+    let new = g.H.Home.seen c.fill.new.home in
     let made = ap reverse c.as_slice.ensures.value ∙ same_commits y c.table.result.now c.in_ok-records.records.items (r.table c.table.result.now c.table.ensures) c.in_ok-records.ensures in
     subst (λ (items : List Record). (IsOverfull x.log items → ⊥) × IsServed n c.fill.new.log old new) (oldest_first y c.as_slice.result.now made) (c.in_ok-marks.ensures.answered n y.log r.log)
 
@@ -82,8 +82,8 @@ pub returns-clause-answered : goal.returns-clause-answered
 returns-clause-answered g c = λ y r.
     let x = c.args.self.now in
     let n = node.Coord x.number in
-    let old = seen g.H.Home.file g.H.Home.reach g.H.Home.faults g.H.Home.last_failed c.args.home.now in
-    let new = seen g.H.Home.file g.H.Home.reach g.H.Home.faults g.H.Home.last_failed c.fill.new.home in
+    let old = g.H.Home.seen c.args.home.now in
+    let new = g.H.Home.seen c.fill.new.home in
     let made = ap reverse c.as_slice.ensures.value ∙ same_commits y c.table.result.now c.in_ok-records.records.items (r.table c.table.result.now c.table.ensures) c.in_ok-records.ensures in
     let there = subst (λ (items : List Record). (IsOverfull x.log items → ⊥) × IsServed n c.fill.new.log old new) (oldest_first y c.as_slice.result.now made) (c.in_ok-marks.ensures.answered n y.log r.log) in
     subst (λ (v : LogView). (IsOverfull x.log (reverse (restated y)) → ⊥) × IsServed n v old new) (sym c.stopped.ensures.log) there

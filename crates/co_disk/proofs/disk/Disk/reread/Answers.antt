@@ -21,6 +21,6 @@ returns-clause-faults g c =
         first = differs;
         kept_is = c.byte_at.ensures ∙ ap (λ (l : List ℕ). slice_get l c.in-Some.place) (c.deref-in-Some.ensures.value ∙ bytes);
         read_is = c.byte_at-in-Some.ensures ∙ ap (λ (l : List ℕ). slice_get l c.in-Some.place) c.deref-in-Some-2.ensures.value;
-        untold = never_told kept read 268435457 (g.H.Home.file c.args.home.now c.args.self.now.spot) c.in-Some.place (omega (arith, c.self.invariant.short, ap length bytes)) c.requires.agrees.told (λ f told. g.met.H.Home.told_gives c.args.home.now c.args.self.now.spot 268435457 read f told gives) differs;
+        untold = never_told kept read 268435457 ((g.H.Home.seen c.args.home.now).file c.args.self.now.spot) c.in-Some.place (omega (arith, c.self.invariant.short, ap length bytes)) c.requires.agrees.told (λ f told. g.met.H.Home.told_gives c.args.home.now c.args.self.now.spot 268435457 read f told gives) differs;
       },
     )

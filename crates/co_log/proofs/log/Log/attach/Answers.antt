@@ -15,12 +15,12 @@ returns-then-is_used-2-clause-faults g c =
     let there : at c.byte-2.result 1 ≡ spot_of c.args.node 1 = ap (λ (n : ℕ). at n 1) c.byte-2.ensures in
     let apart : at c.byte-2.result 1 ≢ at c.byte.result 0 = λ e. absurd (let h : 1 ≡ 0 = ap (λ (s : Spot). s.part) e in cc) in
     let kept = c.in_ok-a.ensures.rest.others.files (at c.byte-2.result 1) apart in
-    let told_a = subst (λ (s : Spot). IfSome c.in_ok-a.a (λ d. IsToldAs s (g.H.Home.file c.args.home.now s) d)) here c.in_ok-a.ensures.told in
+    let told_a = subst (λ (s : Spot). IfSome c.in_ok-a.a (λ d. IsToldAs s ((g.H.Home.seen c.args.home.now).file s) d)) here c.in_ok-a.ensures.told in
     let told_b = subst (λ (f : Option File). IfSome c.in_ok-b.b (λ d. IsToldAs (at c.byte-2.result 1) f d)) kept c.in_ok-b.ensures.told in
     let long_b = subst (λ (f : Option File). IfNone c.in_ok-b.b (IsLonger 268435456 f)) kept c.in_ok-b.ensures.told_long in
-    let unused_a = unused_within c.in_ok-a.a (spot_of c.args.node 0) (g.H.Home.file c.args.home.now (spot_of c.args.node 0)) (sym c.is_used.ensures ∙ c.if-is_used.false) told_a in
-    let used_b = used_longer c.in_ok-b.b (at c.byte-2.result 1) (g.H.Home.file c.args.home.now (at c.byte-2.result 1)) (sym c.is_used-2.ensures ∙ c.if-is_used-2.true) told_b long_b in
-    (c.if-resume.false, inr (there, unused_a, subst (λ (s : Spot). IsLonger 1 (g.H.Home.file c.args.home.now s)) there used_b))
+    let unused_a = unused_within c.in_ok-a.a (spot_of c.args.node 0) ((g.H.Home.seen c.args.home.now).file (spot_of c.args.node 0)) (sym c.is_used.ensures ∙ c.if-is_used.false) told_a in
+    let used_b = used_longer c.in_ok-b.b (at c.byte-2.result 1) ((g.H.Home.seen c.args.home.now).file (at c.byte-2.result 1)) (sym c.is_used-2.ensures ∙ c.if-is_used-2.true) told_b long_b in
+    (c.if-resume.false, inr (there, unused_a, subst (λ (s : Spot). IsLonger 1 ((g.H.Home.seen c.args.home.now).file s)) there used_b))
 
 pub returns-clause-attached : goal.returns-clause-attached
 returns-clause-attached g c =
@@ -31,12 +31,12 @@ returns-clause-attached g c =
     let kept = c.in_ok-a.ensures.rest.others.files (at c.byte-2.result 1) apart in
     let a = c.in-Some-Some.a in
     let b = c.in-Some-Some.b in
-    let told_a : IsToldAs (spot_of c.args.node 0) (g.H.Home.file c.args.home.now (spot_of c.args.node 0)) a =
-    subst (λ (o : Option DiskView). IfSome o (λ d. IsToldAs (spot_of c.args.node 0) (g.H.Home.file c.args.home.now (spot_of c.args.node 0)) d)) c.in-Some-Some.is-0
-    (subst (λ (s : Spot). IfSome c.in_ok-a.a (λ d. IsToldAs s (g.H.Home.file c.args.home.now s) d)) here c.in_ok-a.ensures.told) in
-    let told_b : IsToldAs (spot_of c.args.node 1) (g.H.Home.file c.args.home.now (spot_of c.args.node 1)) b =
-    subst (λ (o : Option DiskView). IfSome o (λ d. IsToldAs (spot_of c.args.node 1) (g.H.Home.file c.args.home.now (spot_of c.args.node 1)) d)) c.in-Some-Some.is-1
-    (subst (λ (s : Spot). IfSome c.in_ok-b.b (λ d. IsToldAs s (g.H.Home.file c.args.home.now s) d)) there
+    let told_a : IsToldAs (spot_of c.args.node 0) ((g.H.Home.seen c.args.home.now).file (spot_of c.args.node 0)) a =
+    subst (λ (o : Option DiskView). IfSome o (λ d. IsToldAs (spot_of c.args.node 0) ((g.H.Home.seen c.args.home.now).file (spot_of c.args.node 0)) d)) c.in-Some-Some.is-0
+    (subst (λ (s : Spot). IfSome c.in_ok-a.a (λ d. IsToldAs s ((g.H.Home.seen c.args.home.now).file s) d)) here c.in_ok-a.ensures.told) in
+    let told_b : IsToldAs (spot_of c.args.node 1) ((g.H.Home.seen c.args.home.now).file (spot_of c.args.node 1)) b =
+    subst (λ (o : Option DiskView). IfSome o (λ d. IsToldAs (spot_of c.args.node 1) ((g.H.Home.seen c.args.home.now).file (spot_of c.args.node 1)) d)) c.in-Some-Some.is-1
+    (subst (λ (s : Spot). IfSome c.in_ok-b.b (λ d. IsToldAs s ((g.H.Home.seen c.args.home.now).file s) d)) there
     (subst (λ (f : Option File). IfSome c.in_ok-b.b (λ d. IsToldAs (at c.byte-2.result 1) f d)) kept c.in_ok-b.ensures.told)) in
     let unused_a : used_of (Some a) ≡ false = sym (ap used_of c.in-Some-Some.is-0) ∙ sym c.is_used.ensures ∙ c.if-is_used.false in
     let unused_b : used_of (Some b) ≡ false = sym (ap used_of c.in-Some-Some.is-1) ∙ sym c.is_used-2.ensures ∙ c.if-is_used-2.false in

@@ -51,7 +51,7 @@ returns-in-Err-Stopped-clause-told g c = λ f told.
     let unclosed = subst (λ (l : LogView). begins_closed l.spare.state.stable ≡ false) (sym c.self.view_is) c.requires.unclosed in
     let mid = ap (λ (d : DiskState). after_write d 0 (0 ∷ [])) (c.arm_for.ensures.state ∙ all_stable old still) in
     let its = c.arm_for.ensures.spot ∙ ap (λ (l : LogView). l.spare.spot) c.self.view_is in
-    let told' = subst (λ (s : Spot). g.H.Home.file c.write_through.new.home s ≡ Some f) (sym its) told in
+    let told' = subst (λ (s : Spot). (g.H.Home.seen c.write_through.new.home).file s ≡ Some f) (sym its) told in
     let image = subst (λ (d : DiskState). IsImage d f.bytes) mid (c.in-Err-Stopped.ensures.image f told') in
     subst (λ (l : LogView). IsSpareImage l.spare.state.stable f.bytes) c.self.view_is (spare_images old.stable f.bytes unclosed image)
 
@@ -62,7 +62,7 @@ returns-in-Err-Device-clause-told g c = λ f told.
     let unclosed = subst (λ (l : LogView). begins_closed l.spare.state.stable ≡ false) (sym c.self.view_is) c.requires.unclosed in
     let mid = ap (λ (d : DiskState). after_write d 0 (0 ∷ [])) (c.arm_for.ensures.state ∙ all_stable old still) in
     let its = c.arm_for.ensures.spot ∙ ap (λ (l : LogView). l.spare.spot) c.self.view_is in
-    let told' = subst (λ (s : Spot). g.H.Home.file c.write_through.new.home s ≡ Some f) (sym its) told in
+    let told' = subst (λ (s : Spot). (g.H.Home.seen c.write_through.new.home).file s ≡ Some f) (sym its) told in
     let image = subst (λ (d : DiskState). IsImage d f.bytes) mid (c.in-Err-Device.ensures.image f told') in
     subst (λ (l : LogView). IsSpareImage l.spare.state.stable f.bytes) c.self.view_is (spare_images old.stable f.bytes unclosed image)
 
@@ -73,7 +73,7 @@ returns-in-Err-Memory-clause-told g c = λ f told.
     let unclosed = subst (λ (l : LogView). begins_closed l.spare.state.stable ≡ false) (sym c.self.view_is) c.requires.unclosed in
     let mid = ap (λ (d : DiskState). after_write d 0 (0 ∷ [])) (c.arm_for.ensures.state ∙ all_stable old still) in
     let its = c.arm_for.ensures.spot ∙ ap (λ (l : LogView). l.spare.spot) c.self.view_is in
-    let told' = subst (λ (s : Spot). g.H.Home.file c.write_through.new.home s ≡ Some f) (sym its) told in
+    let told' = subst (λ (s : Spot). (g.H.Home.seen c.write_through.new.home).file s ≡ Some f) (sym its) told in
     let image = subst (λ (d : DiskState). IsImage d f.bytes) mid (c.in-Err-Memory.ensures.image f told') in
     subst (λ (l : LogView). IsSpareImage l.spare.state.stable f.bytes) c.self.view_is (spare_images old.stable f.bytes unclosed image)
 
@@ -107,26 +107,26 @@ returns-in-Ok-clause-told g c = λ f told.
     let still = subst (λ (l : LogView). l.spare.state.pending ≡ []) (sym c.self.view_is) c.requires.still in
     let it = closed_spare old c.write_through.new.disk.state still (c.in-Ok.ensures.done ∙ ap (λ (d : DiskState). after_sync (after_write d 0 (0 ∷ []))) c.arm_for.ensures.state) in
     let its = c.arm_for.ensures.spot ∙ ap (λ (l : LogView). l.spare.spot) c.self.view_is in
-    let told' = subst (λ (s : Spot). g.H.Home.file c.write_through.new.home s ≡ Some f) (sym its) told in
+    let told' = subst (λ (s : Spot). (g.H.Home.seen c.write_through.new.home).file s ≡ Some f) (sym its) told in
     let whole = c.in-Ok.ensures.agrees.told f told' ∙ read_stable c.write_through.new.disk.state it.0 in
     subst (λ (l : LogView). IsSpareImage l.spare.state.stable f.bytes) c.self.view_is (subst (λ (b : List ℕ). IsSpareImage old.stable b) (sym whole) it.2)
 
 pub returns-in-Ok-clause-current : goal.returns-in-Ok-clause-current
 returns-in-Ok-clause-current g c =
     let its = c.arm_for.ensures.spot ∙ ap (λ (l : LogView). l.spare.spot) c.self.view_is in
-    closing_current g.H.Home.file g.H.Home.reach g.H.Home.entered g.H.Home.faults c.args.home.now c.write_through.new.home c.args.self.now c.arm_for.new.disk.spot c.requires.held its c.in-Ok.ensures.rest (returns-in-Ok-clause-told g c)
+    closing_current (g.H.Home.seen c.args.home.now) (g.H.Home.seen c.write_through.new.home) c.args.self.now c.arm_for.new.disk.spot c.requires.held its c.in-Ok.ensures.rest (returns-in-Ok-clause-told g c)
 
 pub returns-in-Err-Stopped-clause-current : goal.returns-in-Err-Stopped-clause-current
 returns-in-Err-Stopped-clause-current g c =
     let its = c.arm_for.ensures.spot ∙ ap (λ (l : LogView). l.spare.spot) c.self.view_is in
-    closing_current g.H.Home.file g.H.Home.reach g.H.Home.entered g.H.Home.faults c.args.home.now c.write_through.new.home c.args.self.now c.arm_for.new.disk.spot c.requires.held its c.in-Err-Stopped.ensures.rest (returns-in-Err-Stopped-clause-told g c)
+    closing_current (g.H.Home.seen c.args.home.now) (g.H.Home.seen c.write_through.new.home) c.args.self.now c.arm_for.new.disk.spot c.requires.held its c.in-Err-Stopped.ensures.rest (returns-in-Err-Stopped-clause-told g c)
 
 pub returns-in-Err-Device-clause-current : goal.returns-in-Err-Device-clause-current
 returns-in-Err-Device-clause-current g c =
     let its = c.arm_for.ensures.spot ∙ ap (λ (l : LogView). l.spare.spot) c.self.view_is in
-    closing_current g.H.Home.file g.H.Home.reach g.H.Home.entered g.H.Home.faults c.args.home.now c.write_through.new.home c.args.self.now c.arm_for.new.disk.spot c.requires.held its c.in-Err-Device.ensures.rest (returns-in-Err-Device-clause-told g c)
+    closing_current (g.H.Home.seen c.args.home.now) (g.H.Home.seen c.write_through.new.home) c.args.self.now c.arm_for.new.disk.spot c.requires.held its c.in-Err-Device.ensures.rest (returns-in-Err-Device-clause-told g c)
 
 pub returns-in-Err-Memory-clause-current : goal.returns-in-Err-Memory-clause-current
 returns-in-Err-Memory-clause-current g c =
     let its = c.arm_for.ensures.spot ∙ ap (λ (l : LogView). l.spare.spot) c.self.view_is in
-    closing_current g.H.Home.file g.H.Home.reach g.H.Home.entered g.H.Home.faults c.args.home.now c.write_through.new.home c.args.self.now c.arm_for.new.disk.spot c.requires.held its c.in-Err-Memory.ensures.rest (returns-in-Err-Memory-clause-told g c)
+    closing_current (g.H.Home.seen c.args.home.now) (g.H.Home.seen c.write_through.new.home) c.args.self.now c.arm_for.new.disk.spot c.requires.held its c.in-Err-Memory.ensures.rest (returns-in-Err-Memory-clause-told g c)

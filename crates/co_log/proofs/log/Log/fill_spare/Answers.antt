@@ -31,7 +31,7 @@ append-requires-clause-ends g c = ([], ends_at_once c.self.inside.spare.state.st
 pub returns-in_err-ending-clause-told : goal.returns-in_err-ending-clause-told
 returns-in_err-ending-clause-told g c = inr (λ f told.
     let ends = ends_at_once c.self.inside.spare.state.stable (subst (λ (l : LogView). begins_closed l.spare.state.stable ≡ true) (sym c.self.view_is) c.requires.closed) in
-    let told' = subst (λ (s : Spot). g.H.Home.file c.append.new.home s ≡ Some f) (sym (ap (λ (l : LogView). l.spare.spot) c.self.view_is)) told in
+    let told' = subst (λ (s : Spot). (g.H.Home.seen c.append.new.home).file s ≡ Some f) (sym (ap (λ (l : LogView). l.spare.spot) c.self.view_is)) told in
     subst (λ (l : LogView). OldOrBoth f.bytes 0 [] (filling l c.args.items.now)) c.self.view_is (c.in_err-ending.ensures.told [] ends f told'))
 
 pub returns-in-Whole-clause-filling : goal.returns-in-Whole-clause-filling
@@ -59,13 +59,13 @@ returns-clause-filling g c =
     (ended.0, ended.1, ended.2, c.marks_if-marks.ensures ∙ ap (λ (m : List Mark). if c.in-Stopped.stable then m else []) c.in_ok-told.ensures, done))
 
 pub returns-then-self-clause-current : goal.returns-then-self-clause-current
-returns-then-self-clause-current g c = untouched_current g.H.Home.file g.H.Home.reach c.args.home.now c.args.self.now c.requires.held c.requires.still c.requires.closed
+returns-then-self-clause-current g c = untouched_current (g.H.Home.seen c.args.home.now) c.args.self.now c.requires.held c.requires.still c.requires.closed
 
 pub returns-in_err-told-clause-current : goal.returns-in_err-told-clause-current
 returns-in_err-told-clause-current g c =
-    subst (λ (r : Result Mark LogFault). (kept : List (ℕ × Record)) → IsOrdered c.args.self.now kept → (this that : File) → g.H.Home.file c.args.home.now c.args.self.now.current.spot ≡ Some this → g.H.Home.file c.args.home.now c.args.self.now.spare.spot ≡ Some that
+    subst (λ (r : Result Mark LogFault). (kept : List (ℕ × Record)) → IsOrdered c.args.self.now kept → (this that : File) → (g.H.Home.seen c.args.home.now).file c.args.self.now.current.spot ≡ Some this → (g.H.Home.seen c.args.home.now).file c.args.self.now.spare.spot ≡ Some that
     → IsCurrentAfter c.args.self.now kept c.args.items.now this.bytes that.bytes r) (sym (err_is c.from_residual.result faults.Memory c.from_residual.ensures.1))
-    (untouched_current g.H.Home.file g.H.Home.reach c.args.home.now c.args.self.now c.requires.held c.requires.still c.requires.closed)
+    (untouched_current (g.H.Home.seen c.args.home.now) c.args.self.now c.requires.held c.requires.still c.requires.closed)
 
 pub returns-in_err-ending-clause-current : goal.returns-in_err-ending-clause-current
 returns-in_err-ending-clause-current g c =
@@ -74,19 +74,19 @@ returns-in_err-ending-clause-current g c =
     let closed = subst (λ (l : LogView). begins_closed l.spare.state.stable ≡ true) (sym c.self.view_is) c.requires.closed in
     let ends = ends_at_once c.self.inside.spare.state.stable closed in
     let still = subst (λ (l : LogView). l.spare.state.pending ≡ []) (sym c.self.view_is) c.requires.still in
-    let held = subst (λ (l : LogView). IsHeld (g.H.Home.file c.args.home.now) (g.H.Home.reach c.args.home.now) l) (sym c.self.view_is) c.requires.held in
+    let held = subst (λ (l : LogView). IsHeld (g.H.Home.seen c.args.home.now) l) (sym c.self.view_is) c.requires.held in
     let e = c.in_err-ending.field-0.0 in
     let is = err_is c.from_residual-in_err-ending.result e c.from_residual-in_err-ending.ensures.1 in
-    subst (λ (r : Result Mark LogFault). (kept : List (ℕ × Record)) → IsOrdered c.args.self.now kept → (this that : File) → g.H.Home.file c.append.new.home c.args.self.now.current.spot ≡ Some this → g.H.Home.file c.append.new.home c.args.self.now.spare.spot ≡ Some that
+    subst (λ (r : Result Mark LogFault). (kept : List (ℕ × Record)) → IsOrdered c.args.self.now kept → (this that : File) → (g.H.Home.seen c.append.new.home).file c.args.self.now.current.spot ≡ Some this → (g.H.Home.seen c.append.new.home).file c.args.self.now.spare.spot ≡ Some that
     → IsCurrentAfter c.args.self.now kept items this.bytes that.bytes r) (sym is)
-    (subst (λ (l : LogView). (kept : List (ℕ × Record)) → IsOrdered l kept → (this that : File) → g.H.Home.file c.append.new.home l.current.spot ≡ Some this → g.H.Home.file c.append.new.home l.spare.spot ≡ Some that → IsCurrentAfter l kept items this.bytes that.bytes (Err e)) c.self.view_is
-    (faulted_current g.H.Home.file g.H.Home.reach g.H.Home.entered g.H.Home.faults c.args.home.now c.append.new.home log items e held still closed c.in_err-ending.ensures.rest c.in_err-ending.ensures.faults (λ f told. c.in_err-ending.ensures.told [] ends f told)
+    (subst (λ (l : LogView). (kept : List (ℕ × Record)) → IsOrdered l kept → (this that : File) → (g.H.Home.seen c.append.new.home).file l.current.spot ≡ Some this → (g.H.Home.seen c.append.new.home).file l.spare.spot ≡ Some that → IsCurrentAfter l kept items this.bytes that.bytes (Err e)) c.self.view_is
+    (faulted_current (g.H.Home.seen c.args.home.now) (g.H.Home.seen c.append.new.home) log items e held still closed c.in_err-ending.ensures.rest c.in_err-ending.ensures.faults (λ f told. c.in_err-ending.ensures.told [] ends f told)
     (λ h. (c.append.ensures.untouched (c.append.ensures.full (c.in_err-ending.was ∙ ap Err h))).2) (λ h f told. c.append.ensures.memory [] ends (c.in_err-ending.was ∙ ap Err h) f told)))
 
 pub returns-in_err-ending-clause-memory : goal.returns-in_err-ending-clause-memory
 returns-in_err-ending-clause-memory g c = λ is f told.
     let ends = ends_at_once c.self.inside.spare.state.stable (subst (λ (l : LogView). begins_closed l.spare.state.stable ≡ true) (sym c.self.view_is) c.requires.closed) in
-    let told' = subst (λ (s : Spot). g.H.Home.file c.append.new.home s ≡ Some f) (sym (ap (λ (l : LogView). l.spare.spot) c.self.view_is)) told in
+    let told' = subst (λ (s : Spot). (g.H.Home.seen c.append.new.home).file s ≡ Some f) (sym (ap (λ (l : LogView). l.spare.spot) c.self.view_is)) told in
     c.append.ensures.memory [] ends (c.in_err-ending.was ∙ ap Err (same_err c.from_residual-in_err-ending.result c.in_err-ending.field-0.0 faults.Memory c.from_residual-in_err-ending.ensures.1 is)) f told'
 
 pub invariant_of-self : goal.invariant_of-self
@@ -98,9 +98,9 @@ returns-in-Whole-clause-current g c =
     let items = c.args.items.now in
     let ends = ends_at_once c.self.inside.spare.state.stable (subst (λ (l : LogView). begins_closed l.spare.state.stable ≡ true) (sym c.self.view_is) c.requires.closed) in
     let ended = subst (λ (e : Ending). IsEnding e c.self.inside.stop c.append.new.disk 0 [] (filling log items)) c.in-Whole.is (c.in_ok-ending.ensures.ended [] ends) in
-    let held = subst (λ (l : LogView). IsHeld (g.H.Home.file c.args.home.now) (g.H.Home.reach c.args.home.now) l) (sym c.self.view_is) c.requires.held in
-    subst (λ (l : LogView). (kept : List (ℕ × Record)) → IsOrdered l kept → (this that : File) → g.H.Home.file c.append.new.home l.current.spot ≡ Some this → g.H.Home.file c.append.new.home l.spare.spot ≡ Some that → IsCurrentIf true l kept items this.bytes that.bytes) c.self.view_is
-    (filled_current g.H.Home.file g.H.Home.reach g.H.Home.entered g.H.Home.faults c.args.home.now c.append.new.home log c.append.new.disk items true held c.in_ok-ending.ensures.rest c.in_ok-ending.ensures.agrees c.in_ok-ending.ensures.stable ended.2)
+    let held = subst (λ (l : LogView). IsHeld (g.H.Home.seen c.args.home.now) l) (sym c.self.view_is) c.requires.held in
+    subst (λ (l : LogView). (kept : List (ℕ × Record)) → IsOrdered l kept → (this that : File) → (g.H.Home.seen c.append.new.home).file l.current.spot ≡ Some this → (g.H.Home.seen c.append.new.home).file l.spare.spot ≡ Some that → IsCurrentIf true l kept items this.bytes that.bytes) c.self.view_is
+    (filled_current (g.H.Home.seen c.args.home.now) (g.H.Home.seen c.append.new.home) log c.append.new.disk items true held c.in_ok-ending.ensures.rest c.in_ok-ending.ensures.agrees c.in_ok-ending.ensures.stable ended.2)
 
 pub returns-clause-current : goal.returns-clause-current
 returns-clause-current g c =
@@ -108,9 +108,9 @@ returns-clause-current g c =
     let items = c.args.items.now in
     let ends = ends_at_once c.self.inside.spare.state.stable (subst (λ (l : LogView). begins_closed l.spare.state.stable ≡ true) (sym c.self.view_is) c.requires.closed) in
     let ended = subst (λ (e : Ending). IsEnding e c.self.inside.stop c.append.new.disk 0 [] (filling log items)) c.in-Stopped.is (c.in_ok-ending.ensures.ended [] ends) in
-    let held = subst (λ (l : LogView). IsHeld (g.H.Home.file c.args.home.now) (g.H.Home.reach c.args.home.now) l) (sym c.self.view_is) c.requires.held in
-    subst (λ (l : LogView). (kept : List (ℕ × Record)) → IsOrdered l kept → (this that : File) → g.H.Home.file c.append.new.home l.current.spot ≡ Some this → g.H.Home.file c.append.new.home l.spare.spot ≡ Some that → IsCurrentIf c.in-Stopped.stable l kept items this.bytes that.bytes) c.self.view_is
-    (filled_current g.H.Home.file g.H.Home.reach g.H.Home.entered g.H.Home.faults c.args.home.now c.append.new.home log c.append.new.disk items c.in-Stopped.stable held c.in_ok-ending.ensures.rest c.in_ok-ending.ensures.agrees c.in_ok-ending.ensures.stable ended.4)
+    let held = subst (λ (l : LogView). IsHeld (g.H.Home.seen c.args.home.now) l) (sym c.self.view_is) c.requires.held in
+    subst (λ (l : LogView). (kept : List (ℕ × Record)) → IsOrdered l kept → (this that : File) → (g.H.Home.seen c.append.new.home).file l.current.spot ≡ Some this → (g.H.Home.seen c.append.new.home).file l.spare.spot ≡ Some that → IsCurrentIf c.in-Stopped.stable l kept items this.bytes that.bytes) c.self.view_is
+    (filled_current (g.H.Home.seen c.args.home.now) (g.H.Home.seen c.append.new.home) log c.append.new.disk items c.in-Stopped.stable held c.in_ok-ending.ensures.rest c.in_ok-ending.ensures.agrees c.in_ok-ending.ensures.stable ended.4)
 
 pub returns-then-not-are_counted-clause-told : goal.returns-then-not-are_counted-clause-told
 returns-then-not-are_counted-clause-told g c = inr (λ f told. closed_told c.args.self.now.spare.state f.bytes (filling c.args.self.now c.args.items.now) c.requires.still c.requires.closed (c.requires.held.spare.told f told))

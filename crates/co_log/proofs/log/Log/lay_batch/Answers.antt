@@ -58,41 +58,41 @@ pub returns-in-Whole-clause-current : goal.returns-in-Whole-clause-current
 returns-in-Whole-clause-current g c =
     let log : LogView = record { node = c.self.inside.node; version = c.self.inside.version; current = c.self.inside.current; spare = c.self.inside.spare; gate = c.self.inside.gate; generation = c.self.inside.generation; waiting = c.self.inside.waiting.items; stop = c.self.inside.stop } in
     let latest = subst (λ (l : LogView). l.version ≡ newest) (sym c.self.view_is) c.requires.newest in
-    let held = subst (λ (l : LogView). IsHeld (g.H.Home.file c.args.home.now) (g.H.Home.reach c.args.home.now) l) (sym c.self.view_is) c.requires.held in
-    subst (λ (l : LogView). (more : List Record) (items : List (ℕ × Record)) → IsBatchOf l more c.args.batch → IsOrdered l items → (this that : File) → g.H.Home.file c.lay.new.home l.current.spot ≡ Some this → g.H.Home.file c.lay.new.home l.spare.spot ≡ Some that → IsOldCurrent l (next_items true l.gate items (l.waiting ++ more)) this.bytes that.bytes) c.self.view_is
+    let held = subst (λ (l : LogView). IsHeld (g.H.Home.seen c.args.home.now) l) (sym c.self.view_is) c.requires.held in
+    subst (λ (l : LogView). (more : List Record) (items : List (ℕ × Record)) → IsBatchOf l more c.args.batch → IsOrdered l items → (this that : File) → (g.H.Home.seen c.lay.new.home).file l.current.spot ≡ Some this → (g.H.Home.seen c.lay.new.home).file l.spare.spot ≡ Some that → IsOldCurrent l (next_items true l.gate items (l.waiting ++ more)) this.bytes that.bytes) c.self.view_is
     (λ more items is o.
     let front = c.self.inside.waiting.items ++ more in
     let laid = subst (λ (b : List ℕ). IsBatchAt c.self.inside.gate front b) (sym c.deref.ensures.value) is.batch in
     let ended = subst (λ (e : Ending). IsEnding e c.self.inside.stop c.lay.new.disk c.self.inside.gate items front) c.in-Whole.is (c.in_ok-ending.ensures.ended front items laid (ends_newest log items latest o.live)) in
-    forced_current g.H.Home.file g.H.Home.reach g.H.Home.entered g.H.Home.faults c.args.home.now c.lay.new.home log held c.in_ok-ending.ensures.rest latest c.lay.new.disk items front true c.in_ok-ending.ensures.agrees c.in_ok-ending.ensures.stable
+    forced_current (g.H.Home.seen c.args.home.now) (g.H.Home.seen c.lay.new.home) log held c.in_ok-ending.ensures.rest latest c.lay.new.disk items front true c.in_ok-ending.ensures.agrees c.in_ok-ending.ensures.stable
     ended.2 o)
 
 pub returns-clause-current : goal.returns-clause-current
 returns-clause-current g c =
     let log : LogView = record { node = c.self.inside.node; version = c.self.inside.version; current = c.self.inside.current; spare = c.self.inside.spare; gate = c.self.inside.gate; generation = c.self.inside.generation; waiting = c.self.inside.waiting.items; stop = c.self.inside.stop } in
     let latest = subst (λ (l : LogView). l.version ≡ newest) (sym c.self.view_is) c.requires.newest in
-    let held = subst (λ (l : LogView). IsHeld (g.H.Home.file c.args.home.now) (g.H.Home.reach c.args.home.now) l) (sym c.self.view_is) c.requires.held in
-    subst (λ (l : LogView). (more : List Record) (items : List (ℕ × Record)) → IsBatchOf l more c.args.batch → IsOrdered l items → (this that : File) → g.H.Home.file c.lay.new.home l.current.spot ≡ Some this → g.H.Home.file c.lay.new.home l.spare.spot ≡ Some that → IsOldCurrent l (next_items c.in-Stopped.stable l.gate items (l.waiting ++ more)) this.bytes that.bytes) c.self.view_is
+    let held = subst (λ (l : LogView). IsHeld (g.H.Home.seen c.args.home.now) l) (sym c.self.view_is) c.requires.held in
+    subst (λ (l : LogView). (more : List Record) (items : List (ℕ × Record)) → IsBatchOf l more c.args.batch → IsOrdered l items → (this that : File) → (g.H.Home.seen c.lay.new.home).file l.current.spot ≡ Some this → (g.H.Home.seen c.lay.new.home).file l.spare.spot ≡ Some that → IsOldCurrent l (next_items c.in-Stopped.stable l.gate items (l.waiting ++ more)) this.bytes that.bytes) c.self.view_is
     (λ more items is o.
     let front = c.self.inside.waiting.items ++ more in
     let laid = subst (λ (b : List ℕ). IsBatchAt c.self.inside.gate front b) (sym c.deref.ensures.value) is.batch in
     let ended = subst (λ (e : Ending). IsEnding e c.self.inside.stop c.lay.new.disk c.self.inside.gate items front) c.in-Stopped.is (c.in_ok-ending.ensures.ended front items laid (ends_newest log items latest o.live)) in
-    forced_current g.H.Home.file g.H.Home.reach g.H.Home.entered g.H.Home.faults c.args.home.now c.lay.new.home log held c.in_ok-ending.ensures.rest latest c.lay.new.disk items front c.in-Stopped.stable c.in_ok-ending.ensures.agrees c.in_ok-ending.ensures.stable
+    forced_current (g.H.Home.seen c.args.home.now) (g.H.Home.seen c.lay.new.home) log held c.in_ok-ending.ensures.rest latest c.lay.new.disk items front c.in-Stopped.stable c.in_ok-ending.ensures.agrees c.in_ok-ending.ensures.stable
     ended.4 o)
 
 pub returns-in_err-ending-clause-current : goal.returns-in_err-ending-clause-current
 returns-in_err-ending-clause-current g c =
     let log : LogView = record { node = c.self.inside.node; version = c.self.inside.version; current = c.self.inside.current; spare = c.self.inside.spare; gate = c.self.inside.gate; generation = c.self.inside.generation; waiting = c.self.inside.waiting.items; stop = c.self.inside.stop } in
     let latest = subst (λ (l : LogView). l.version ≡ newest) (sym c.self.view_is) c.requires.newest in
-    let held = subst (λ (l : LogView). IsHeld (g.H.Home.file c.args.home.now) (g.H.Home.reach c.args.home.now) l) (sym c.self.view_is) c.requires.held in
+    let held = subst (λ (l : LogView). IsHeld (g.H.Home.seen c.args.home.now) l) (sym c.self.view_is) c.requires.held in
     let e = c.in_err-ending.field-0.0 in
     let is = err_is c.from_residual.result e c.from_residual.ensures.1 in
-    subst (λ (r : Result (List Mark) LogFault). (more : List Record) (items : List (ℕ × Record)) → IsBatchOf c.args.self.now more c.args.batch → IsOrdered c.args.self.now items → (this that : File) → g.H.Home.file c.lay.new.home c.args.self.now.current.spot ≡ Some this → g.H.Home.file c.lay.new.home c.args.self.now.spare.spot ≡ Some that
+    subst (λ (r : Result (List Mark) LogFault). (more : List Record) (items : List (ℕ × Record)) → IsBatchOf c.args.self.now more c.args.batch → IsOrdered c.args.self.now items → (this that : File) → (g.H.Home.seen c.lay.new.home).file c.args.self.now.current.spot ≡ Some this → (g.H.Home.seen c.lay.new.home).file c.args.self.now.spare.spot ≡ Some that
     → IsCurrentForced c.args.self.now items (c.args.self.now.waiting ++ more) this.bytes that.bytes r) (sym is)
-    (subst (λ (l : LogView). (more : List Record) (items : List (ℕ × Record)) → IsBatchOf l more c.args.batch → IsOrdered l items → (this that : File) → g.H.Home.file c.lay.new.home l.current.spot ≡ Some this → g.H.Home.file c.lay.new.home l.spare.spot ≡ Some that → IsCurrentForced l items (l.waiting ++ more) this.bytes that.bytes (Err e)) c.self.view_is
+    (subst (λ (l : LogView). (more : List Record) (items : List (ℕ × Record)) → IsBatchOf l more c.args.batch → IsOrdered l items → (this that : File) → (g.H.Home.seen c.lay.new.home).file l.current.spot ≡ Some this → (g.H.Home.seen c.lay.new.home).file l.spare.spot ≡ Some that → IsCurrentForced l items (l.waiting ++ more) this.bytes that.bytes (Err e)) c.self.view_is
     (λ more items laid o.
     let front = c.self.inside.waiting.items ++ more in
     let at = subst (λ (b : List ℕ). IsBatchAt c.self.inside.gate front b) (sym c.deref.ensures.value) laid.batch in
-    force_faulted g.H.Home.file g.H.Home.reach g.H.Home.entered g.H.Home.faults c.args.home.now c.lay.new.home log held c.in_err-ending.ensures.rest latest items front e (device_append log.current.spot e c.in_err-ending.ensures.faults)
+    force_faulted (g.H.Home.seen c.args.home.now) (g.H.Home.seen c.lay.new.home) log held c.in_err-ending.ensures.rest latest items front e (device_append log.current.spot e c.in_err-ending.ensures.faults)
     (λ f told. c.in_err-ending.ensures.told front items at (ends_newest log items latest o.live) f told)
     (λ h. absurd (device_full log.current.spot e c.in_err-ending.ensures.faults h)) (λ h f told. c.lay.ensures.memory items (ends_newest log items latest o.live) (c.in_err-ending.was ∙ ap Err h) f told) o))

@@ -17,7 +17,7 @@ use Rattle.co_log.proofs.log.Log.make.Goals as goal
 pub returns-in_err-ending-clause-told : goal.returns-in_err-ending-clause-told
 returns-in_err-ending-clause-told g c = λ f told.
     let its = c.in_ok-close_unmade.ensures.spot ∙ ap (λ (l : LogView). l.current.spot) c.self.view_is in
-    let told' = subst (λ (s : Spot). g.H.Home.file c.append.new.home s ≡ Some f) (sym its) told in
+    let told' = subst (λ (s : Spot). (g.H.Home.seen c.append.new.home).file s ≡ Some f) (sym its) told in
     subst (λ (l : LogView). IsMaking f.bytes (header_alone l.node)) c.self.view_is
     (making f.bytes (Header c.self.inside.node 1 ∷ []) (c.in_err-ending.ensures.told [] c.in_ok-close_unmade.ensures.ends f told'))
 
@@ -30,10 +30,10 @@ returns-in_err-ending-clause-current g c =
     let its = c.in_ok-close_unmade.ensures.spot ∙ here in
     let apart = spots_apart log c.requires.held.spots in
     let kept = c.in_err-ending.ensures.rest.others.files log.spare.spot (λ h. apart (sym (h ∙ its))) ∙ c.in_ok-close_unmade.ensures.rest.others.files log.spare.spot (λ h. apart (sym (h ∙ here))) in
-    subst (λ (r : Result Mark LogFault). (this that : File) → g.H.Home.file c.append.new.home log.current.spot ≡ Some this → g.H.Home.file c.append.new.home log.spare.spot ≡ Some that → IsCurrentMade log this.bytes that.bytes r) (sym is)
+    subst (λ (r : Result Mark LogFault). (this that : File) → (g.H.Home.seen c.append.new.home).file log.current.spot ≡ Some this → (g.H.Home.seen c.append.new.home).file log.spare.spot ≡ Some that → IsCurrentMade log this.bytes that.bytes r) (sym is)
     (λ this that told_this told_that.
-    let told' = subst (λ (s : Spot). g.H.Home.file c.append.new.home s ≡ Some this) (sym its) told_this in
+    let told' = subst (λ (s : Spot). (g.H.Home.seen c.append.new.home).file s ≡ Some this) (sym its) told_this in
     made_fault log this.bytes that.bytes c.close_unmade.new.disk.spot e c.in_err-ending.ensures.faults (λ h. let long = c.append.ensures.full (c.in_err-ending.was ∙ ap Err h) in omega (arith, long))
     (subst (λ (l : LogView). OldOrBoth this.bytes 0 [] (Header l.node 1 ∷ [])) c.self.view_is (c.in_err-ending.ensures.told [] c.in_ok-close_unmade.ensures.ends this told'))
     (λ h. c.append.ensures.memory [] c.in_ok-close_unmade.ensures.ends (c.in_err-ending.was ∙ ap Err h) this told')
-    (spare_none (g.H.Home.file c.args.home.now) (g.H.Home.file c.append.new.home) (g.H.Home.reach c.args.home.now) log that c.requires.held c.requires.fresh kept told_that))
+    (spare_none (g.H.Home.seen c.args.home.now).file (g.H.Home.seen c.append.new.home).file (g.H.Home.seen c.args.home.now).reach log that c.requires.held c.requires.fresh kept told_that))

@@ -2,7 +2,6 @@ use Rattle.std.proofs.Common.{refl, sym, subst}
 use Rattle.std.specs.Prelude.{false, Ok}
 use Rattle.co_base.specs.declared.node.Node.TheVariants as node
 use Rattle.co_log.specs.LogView.{LogView}
-use Rattle.co_node.specs.Answers.{seen}
 use Rattle.co_node.specs.Writes.{closing, HasWritten}
 use Rattle.co_node.specs.declared.written.Written.{Written}
 use Rattle.co_node.specs.declared.written.Written.TheVariants.{Stopped}
@@ -37,6 +36,6 @@ returns-in-Stopped-clause-did g c = λ y r.
 pub returns-in-Stopped-clause-answered : goal.returns-in-Stopped-clause-answered
 returns-in-Stopped-clause-answered g c = λ y r.
     let x = c.args.self.now in
-    let old = seen g.H.Home.file g.H.Home.reach g.H.Home.faults g.H.Home.last_failed c.args.home.now in
-    let new = seen g.H.Home.file g.H.Home.reach g.H.Home.faults g.H.Home.last_failed c.close.new.home in
+    let old = g.H.Home.seen c.args.home.now in
+    let new = g.H.Home.seen c.close.new.home in
     subst (λ (v : LogView). IsAnsweredIn false x.number y x.log v old new (Ok c.in_ok-marks.field-0)) (sym c.stopped.ensures.log) (c.in_ok-marks.ensures.answered (node.Member x.number) y.log r.log)

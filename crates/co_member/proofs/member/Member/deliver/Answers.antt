@@ -2,7 +2,6 @@ use Rattle.std.proofs.Common.{◌≡◌, ℕ, sym, ap, subst, ◌∙◌}
 use Rattle.std.specs.Prelude.{IfOk}
 use Rattle.co_base.specs.declared.node.Node.TheVariants as node
 use Rattle.co_log.specs.LogView.{LogView, IsHeld, IsShort}
-use Rattle.co_node.specs.Answers.{seen}
 use Rattle.co_plain.specs.Member.{member_deliver}
 use Rattle.co_plain.specs.declared.log_state.LogState.{LogState}
 use Rattle.co_plain.specs.declared.member_state.MemberState.{MemberState}
@@ -20,7 +19,7 @@ pub returns-in_err-course-clause-answered : goal.returns-in_err-course-clause-an
 returns-in_err-course-clause-answered g c = λ x r.
     let m = c.args.self.now in
     let w = (deliver_plan m.number x c.args.message.now).writes in
-    let home = seen g.H.Home.file g.H.Home.reach g.H.Home.faults g.H.Home.last_failed c.args.home.now in
+    let home = g.H.Home.seen c.args.home.now in
     subst (λ (v : LogView). IsAnsweredFor w (node.Member m.number) x.log m.log v home home (written_by c.from_residual.result)) (sym c.take_note.ensures.log)
     (wants_memory (node.Member m.number) w x.log m.log home c.from_residual.result c.from_residual.ensures r.log c.requires.held c.lengths.ensures.within)
 
@@ -28,7 +27,7 @@ pub follow-requires-clause-short : goal.follow-requires-clause-short
 follow-requires-clause-short g c = subst (λ (v : LogView). IsShort v.current × IsShort v.spare) (sym c.take_note.ensures.log) c.lengths.ensures.within
 
 pub follow-requires-clause-held : goal.follow-requires-clause-held
-follow-requires-clause-held g c = subst (λ (v : LogView). IsHeld (g.H.Home.file c.args.home.now) (g.H.Home.reach c.args.home.now) v) (sym c.take_note.ensures.log) c.requires.held
+follow-requires-clause-held g c = subst (λ (v : LogView). IsHeld (g.H.Home.seen c.args.home.now) v) (sym c.take_note.ensures.log) c.requires.held
 
 pub follow-requires-clause-stands : goal.follow-requires-clause-stands
 follow-requires-clause-stands g c =
@@ -82,8 +81,8 @@ returns-clause-answered g c = λ x r.
     let plan = plan_of course k y (txn_of m) in
     let is : plan ≡ deliver_plan n x m = made ∙ ap (λ (i : ℕ). deliver_plan i y m) c.take_note.ensures.same.number ∙ deliver_marked n x m in
     let suits = subst (λ (p : Plan). Suits y (txn_of m) p.change) (sym made) (deliver_suits k y m (castable_for y m c.requires.about)) in
-    let old = seen g.H.Home.file g.H.Home.reach g.H.Home.faults g.H.Home.last_failed c.args.home.now in
-    let new = seen g.H.Home.file g.H.Home.reach g.H.Home.faults g.H.Home.last_failed c.follow.new.home in
+    let old = g.H.Home.seen c.args.home.now in
+    let new = g.H.Home.seen c.follow.new.home in
     let after = c.follow.new.self.log in
     let result = written_by c.follow.result in
     let first = subst (λ (t : ℕ). Suits y t (plan_of course k y t).change → IsAnsweredFor (plan_of course k y t).writes (node.Member k) y.log c.take_note.new.self.log after old new result) c.txn_of.ensures (c.follow.ensures.answered y here) suits in

@@ -6,7 +6,6 @@ use Rattle.co_base.specs.declared.mark.MarkKind.TheVariants as kind
 use Rattle.co_base.specs.declared.node.Node.TheVariants as node
 use Rattle.co_log.specs.LogView.{LogView}
 use Rattle.co_log.specs.Spare.{IsFillable, IsOverfull}
-use Rattle.co_node.specs.Answers.{seen}
 use Rattle.co_node.specs.Writes.{filling, HasWritten}
 use Rattle.co_node.specs.declared.written.Written.{Written}
 use Rattle.co_node.specs.declared.written.Written.TheVariants.{Stopped}
@@ -30,7 +29,7 @@ pub returns-in_err-items-clause-answered : goal.returns-in_err-items-clause-answ
 returns-in_err-items-clause-answered g c = λ y r.
     let x = c.args.self.now in
     memory_before (node.Member x.number) x.log.spare.spot (IsOverfull x.log (spare_items y)) (member_spare x.number y (next_generation (generation_of y.log.stable))) y.log x.log
-    (seen g.H.Home.file g.H.Home.reach g.H.Home.faults g.H.Home.last_failed c.args.home.now) c.from_residual.result c.from_residual.ensures r.log c.requires.held c.requires.short
+    (g.H.Home.seen c.args.home.now) c.from_residual.result c.from_residual.ensures r.log c.requires.held c.requires.short
 
 pub fill-requires-clause-items : goal.fill-requires-clause-items
 fill-requires-clause-items g c =
@@ -43,8 +42,8 @@ pub returns-in_err-marks-clause-answered : goal.returns-in_err-marks-clause-answ
 returns-in_err-marks-clause-answered g c = λ y r.
     let x = c.args.self.now in
     let n = node.Member x.number in
-    let old = seen g.H.Home.file g.H.Home.reach g.H.Home.faults g.H.Home.last_failed c.args.home.now in
-    let new = seen g.H.Home.file g.H.Home.reach g.H.Home.faults g.H.Home.last_failed c.fill.new.home in
+    let old = g.H.Home.seen c.args.home.now in
+    let new = g.H.Home.seen c.fill.new.home in
     let are = c.as_slice.ensures.value ∙ c.in_ok-items.ensures x.kind y (r.running c.running.result.now c.running.ensures) in
     let left = filled_answered x.number y x.log c.fill.new.log old new (Err c.in_err-marks.field-0.0) c.as_slice.result.now are (c.in_err-marks.ensures.answered n y.log r.log) in
     passed n x.log.spare.spot (IsOverfull x.log (spare_items y)) y.log.stable (member_spare x.number y (next_generation (generation_of y.log.stable))) c.fill.new.log old new c.in_err-marks.field-0.0
@@ -71,8 +70,8 @@ returns-in-Done-clause-did g c = λ y r.
 pub returns-in-Done-clause-answered : goal.returns-in-Done-clause-answered
 returns-in-Done-clause-answered g c = λ y r.
     let x = c.args.self.now in
-    let old = seen g.H.Home.file g.H.Home.reach g.H.Home.faults g.H.Home.last_failed c.args.home.now in
-    let new = seen g.H.Home.file g.H.Home.reach g.H.Home.faults g.H.Home.last_failed c.fill.new.home in
+    let old = g.H.Home.seen c.args.home.now in
+    let new = g.H.Home.seen c.fill.new.home in
     let are = c.as_slice.ensures.value ∙ c.in_ok-items.ensures x.kind y (r.running c.running.result.now c.running.ensures) in
     filled_answered x.number y x.log c.fill.new.log old new (Ok c.in_ok-marks.field-0) c.as_slice.result.now are (c.in_ok-marks.ensures.answered (node.Member x.number) y.log r.log)
 
@@ -90,8 +89,8 @@ returns-clause-did g c = λ y r.
 pub returns-clause-answered : goal.returns-clause-answered
 returns-clause-answered g c = λ y r.
     let x = c.args.self.now in
-    let old = seen g.H.Home.file g.H.Home.reach g.H.Home.faults g.H.Home.last_failed c.args.home.now in
-    let new = seen g.H.Home.file g.H.Home.reach g.H.Home.faults g.H.Home.last_failed c.fill.new.home in
+    let old = g.H.Home.seen c.args.home.now in
+    let new = g.H.Home.seen c.fill.new.home in
     let are = c.as_slice.ensures.value ∙ c.in_ok-items.ensures x.kind y (r.running c.running.result.now c.running.ensures) in
     let served = filled_answered x.number y x.log c.fill.new.log old new (Ok c.in_ok-marks.field-0) c.as_slice.result.now are (c.in_ok-marks.ensures.answered (node.Member x.number) y.log r.log) in
     subst (λ (v : LogView). IsAnsweredIn true x.number y x.log v old new (Ok c.in_ok-marks.field-0)) (sym c.stopped.ensures.log) served

@@ -1,7 +1,6 @@
 use Rattle.std.proofs.Common.{sym, subst}
 use Rattle.std.specs.Prelude.{IfOk}
 use Rattle.co_base.specs.declared.node.Node.TheVariants as node
-use Rattle.co_node.specs.Answers.{seen}
 use Rattle.co_member.specs.Plans.{carried_out, plan_of}
 use Rattle.co_member.specs.Standing.{HasDone, Suits, written_by}
 use Rattle.co_member.specs.Writing.{MayWrite, IsSingleIn, IsAnsweredFor}
@@ -37,8 +36,8 @@ returns-in-GrantsLocal-clause-answered g c = λ x r suits.
     let n = c.args.self.now.number in
     let t = c.args.t in
     let it = subst (λ (k : Course). Suits x t (plan_of k n x t).change) c.in-GrantsLocal.is suits in
-    let old = seen g.H.Home.file g.H.Home.reach g.H.Home.faults g.H.Home.last_failed c.args.home.now in
-    let new = seen g.H.Home.file g.H.Home.reach g.H.Home.faults g.H.Home.last_failed c.grant_local.new.home in
+    let old = g.H.Home.seen c.args.home.now in
+    let new = g.H.Home.seen c.grant_local.new.home in
     subst (λ (k : Course). IsAnsweredFor (plan_of k n x t).writes (node.Member n) x.log c.args.self.now.log c.grant_local.new.self.log old new (written_by c.grant_local.result)) (sym c.in-GrantsLocal.is) (c.grant_local.ensures.answered x r it)
 
 pub grant-requires-clause-stands : goal.grant-requires-clause-stands
@@ -60,8 +59,8 @@ pub returns-in-Carries-clause-answered : goal.returns-in-Carries-clause-answered
 returns-in-Carries-clause-answered g c = λ x r suits.
     let n = c.args.self.now.number in
     let t = c.args.t in
-    let old = seen g.H.Home.file g.H.Home.reach g.H.Home.faults g.H.Home.last_failed c.args.home.now in
-    let new = seen g.H.Home.file g.H.Home.reach g.H.Home.faults g.H.Home.last_failed c.carry_out.new.home in
+    let old = g.H.Home.seen c.args.home.now in
+    let new = g.H.Home.seen c.carry_out.new.home in
     subst (λ (k : Course). IsAnsweredFor (plan_of k n x t).writes (node.Member n) x.log c.args.self.now.log c.carry_out.new.self.log old new (written_by c.carry_out.result)) (sym c.in-Carries.is) (c.carry_out.ensures.answered x r)
 
 pub returns-in-Grants-clause-did : goal.returns-in-Grants-clause-did
@@ -76,6 +75,6 @@ returns-in-Grants-clause-answered g c = λ x r suits.
     let n = c.args.self.now.number in
     let t = c.args.t in
     let it = subst (λ (k : Course). Suits x t (plan_of k n x t).change) c.in-Grants.is suits in
-    let old = seen g.H.Home.file g.H.Home.reach g.H.Home.faults g.H.Home.last_failed c.args.home.now in
-    let new = seen g.H.Home.file g.H.Home.reach g.H.Home.faults g.H.Home.last_failed c.grant.new.home in
+    let old = g.H.Home.seen c.args.home.now in
+    let new = g.H.Home.seen c.grant.new.home in
     subst (λ (k : Course). IsAnsweredFor (plan_of k n x t).writes (node.Member n) x.log c.args.self.now.log c.grant.new.self.log old new (written_by c.grant.result)) (sym c.in-Grants.is) (c.grant.ensures.answered x r it)

@@ -4,7 +4,6 @@ use Rattle.co_base.specs.declared.node.Node.TheVariants as node
 use Rattle.co_log.specs.LogView.{LogView, IsHeld}
 use Rattle.co_message.specs.declared.answer.Answer.TheVariants as answer
 use Rattle.co_message.specs.declared.message.Message.TheVariants as message
-use Rattle.co_node.specs.Answers.{seen}
 use Rattle.co_node.specs.NodeLog.{RepresentsLog}
 use Rattle.co_plain.specs.Member.{prepare_record, voted_state}
 use Rattle.co_record.specs.Spelling.{IsWritable}
@@ -25,12 +24,12 @@ pub returns-in_err-change-clause-answered : goal.returns-in_err-change-clause-an
 returns-in_err-change-clause-answered g c = λ y r active.
     let x = c.args.self.now in
     let w = (plan_of (Grants c.args.coord c.args.count) x.number y c.args.t).writes in
-    let home = seen g.H.Home.file g.H.Home.reach g.H.Home.faults g.H.Home.last_failed c.args.home.now in
+    let home = g.H.Home.seen c.args.home.now in
     subst (λ (v : LogView). IsAnsweredFor w (node.Member x.number) y.log x.log v home home (written_by c.from_residual.result)) (sym c.change.ensures.log)
     (wants_memory (node.Member x.number) w y.log x.log home c.from_residual.result c.from_residual.ensures r.log c.requires.held c.requires.short)
 
 pub force_prepare-requires-clause-held : goal.force_prepare-requires-clause-held
-force_prepare-requires-clause-held g c = subst (λ (v : LogView). IsHeld (g.H.Home.file c.args.home.now) (g.H.Home.reach c.args.home.now) v) (sym c.change.ensures.log) c.requires.held
+force_prepare-requires-clause-held g c = subst (λ (v : LogView). IsHeld (g.H.Home.seen c.args.home.now) v) (sym c.change.ensures.log) c.requires.held
 
 pub force_prepare-requires-clause-stands : goal.force_prepare-requires-clause-stands
 force_prepare-requires-clause-stands g c =
@@ -50,8 +49,8 @@ pub returns-in_err-written-clause-answered : goal.returns-in_err-written-clause-
 returns-in_err-written-clause-answered g c = λ y r active.
     let m = c.args.self.now in
     let n = node.Member m.number in
-    let old = seen g.H.Home.file g.H.Home.reach g.H.Home.faults g.H.Home.last_failed c.args.home.now in
-    let new = seen g.H.Home.file g.H.Home.reach g.H.Home.faults g.H.Home.last_failed c.force_prepare.new.home in
+    let old = g.H.Home.seen c.args.home.now in
+    let new = g.H.Home.seen c.force_prepare.new.home in
     let running = c.in_ok-change.ensures.running y r active in
     let is = lent_record g.E.Engine.stands_for m.kind c.change.new.self.running running.0 c.in-Some.running y c.args.t c.args.coord c.args.count c.vote_record-item.result running.1 c.in-Some.is running.2 c.vote_record-item.ensures in
     let item = prepare_record c.args.t c.args.coord c.args.count (sets_of (operations_of y.engine c.args.t)) in
@@ -78,8 +77,8 @@ pub returns-clause-answered : goal.returns-clause-answered
 returns-clause-answered g c = λ y r active.
     let m = c.args.self.now in
     let n = node.Member m.number in
-    let old = seen g.H.Home.file g.H.Home.reach g.H.Home.faults g.H.Home.last_failed c.args.home.now in
-    let new = seen g.H.Home.file g.H.Home.reach g.H.Home.faults g.H.Home.last_failed c.force_prepare.new.home in
+    let old = g.H.Home.seen c.args.home.now in
+    let new = g.H.Home.seen c.force_prepare.new.home in
     let running = c.in_ok-change.ensures.running y r active in
     let is = lent_record g.E.Engine.stands_for m.kind c.change.new.self.running running.0 c.in-Some.running y c.args.t c.args.coord c.args.count c.vote_record-item.result running.1 c.in-Some.is running.2 c.vote_record-item.ensures in
     let here = subst (λ (v : LogView). RepresentsLog n v y.log) (sym c.change.ensures.log) r.log in

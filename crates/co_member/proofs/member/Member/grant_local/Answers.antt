@@ -3,7 +3,6 @@ use Rattle.std.specs.Prelude.{Ok, Err}
 use Rattle.co_base.specs.declared.node.Node.TheVariants as node
 use Rattle.co_log.specs.Batches.{IsBatchOf}
 use Rattle.co_log.specs.LogView.{LogView, IsHeld}
-use Rattle.co_node.specs.Answers.{seen}
 use Rattle.co_node.specs.NodeLog.{RepresentsLog}
 use Rattle.co_node.proofs.Spelled.{unspelled_answered}
 use Rattle.co_record.specs.Spelling.{IsWritable}
@@ -37,7 +36,7 @@ pub returns-in_err-batch-clause-answered : goal.returns-in_err-batch-clause-answ
 returns-in_err-batch-clause-answered g c = λ y r active.
     let m = c.args.self.now in
     let n = node.Member m.number in
-    let home = seen g.H.Home.file g.H.Home.reach g.H.Home.faults g.H.Home.last_failed c.args.home.now in
+    let home = g.H.Home.seen c.args.home.now in
     let running = r.running c.running.result.now c.running.ensures in
     let is = local_record g.E.Engine.stands_for m.kind c.running.result.now y c.args.t 1 c.args.count c.vote_record-prepare.result running active c.vote_record-prepare.ensures in
     let both = local_writes m.number c.args.t c.args.count y c.vote_record-prepare.result c.commit_record.result c.ranges.count.fits is c.commit_record.ensures in
@@ -50,12 +49,12 @@ pub returns-in_err-change-clause-answered : goal.returns-in_err-change-clause-an
 returns-in_err-change-clause-answered g c = λ y r active.
     let x = c.args.self.now in
     let w = (plan_of (GrantsLocal c.args.count) x.number y c.args.t).writes in
-    let home = seen g.H.Home.file g.H.Home.reach g.H.Home.faults g.H.Home.last_failed c.args.home.now in
+    let home = g.H.Home.seen c.args.home.now in
     subst (λ (v : LogView). IsAnsweredFor w (node.Member x.number) y.log x.log v home home (written_by c.from_residual-in_err-change.result)) (sym c.change.ensures.log)
     (wants_memory (node.Member x.number) w y.log x.log home c.from_residual-in_err-change.result c.from_residual-in_err-change.ensures r.log c.requires.held c.requires.short)
 
 pub force_batch-requires-clause-held : goal.force_batch-requires-clause-held
-force_batch-requires-clause-held g c = subst (λ (v : LogView). IsHeld (g.H.Home.file c.args.home.now) (g.H.Home.reach c.args.home.now) v) (sym c.change.ensures.log) c.requires.held
+force_batch-requires-clause-held g c = subst (λ (v : LogView). IsHeld (g.H.Home.seen c.args.home.now) v) (sym c.change.ensures.log) c.requires.held
 
 pub force_batch-requires-clause-stands : goal.force_batch-requires-clause-stands
 force_batch-requires-clause-stands g c =
@@ -72,8 +71,8 @@ pub returns-in_err-written-clause-answered : goal.returns-in_err-written-clause-
 returns-in_err-written-clause-answered g c = λ y r active.
     let m = c.args.self.now in
     let n = node.Member m.number in
-    let old = seen g.H.Home.file g.H.Home.reach g.H.Home.faults g.H.Home.last_failed c.args.home.now in
-    let new = seen g.H.Home.file g.H.Home.reach g.H.Home.faults g.H.Home.last_failed c.force_batch.new.home in
+    let old = g.H.Home.seen c.args.home.now in
+    let new = g.H.Home.seen c.force_batch.new.home in
     let running = r.running c.running.result.now c.running.ensures in
     let first = c.vote_record-prepare.result in
     let item = c.commit_record.result in
@@ -112,8 +111,8 @@ pub returns-clause-answered : goal.returns-clause-answered
 returns-clause-answered g c = λ y r active.
     let m = c.args.self.now in
     let n = node.Member m.number in
-    let old = seen g.H.Home.file g.H.Home.reach g.H.Home.faults g.H.Home.last_failed c.args.home.now in
-    let new = seen g.H.Home.file g.H.Home.reach g.H.Home.faults g.H.Home.last_failed c.force_batch.new.home in
+    let old = g.H.Home.seen c.args.home.now in
+    let new = g.H.Home.seen c.force_batch.new.home in
     let running = r.running c.running.result.now c.running.ensures in
     let first = c.vote_record-prepare.result in
     let item = c.commit_record.result in

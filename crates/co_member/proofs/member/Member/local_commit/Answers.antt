@@ -1,6 +1,5 @@
 use Rattle.std.proofs.Common.{sym, subst}
 use Rattle.co_base.specs.declared.node.Node.TheVariants as node
-use Rattle.co_node.specs.Answers.{seen}
 use Rattle.co_plain.specs.LocalCommit.{member_local_commit}
 use Rattle.co_member.specs.Plans.{local_commit_plan, plan_of}
 use Rattle.co_member.specs.Standing.{Suits, written_by}
@@ -16,7 +15,7 @@ use Rattle.co_member.proofs.member.Member.local_commit.Goals as goal
 pub returns-in_err-course-clause-answered : goal.returns-in_err-course-clause-answered
 returns-in_err-course-clause-answered g c = λ x r.
     let m = c.args.self.now in
-    wants_memory (node.Member m.number) (local_commit_plan x c.args.t c.args.carried).writes x.log m.log (seen g.H.Home.file g.H.Home.reach g.H.Home.faults g.H.Home.last_failed c.args.home.now) c.from_residual.result
+    wants_memory (node.Member m.number) (local_commit_plan x c.args.t c.args.carried).writes x.log m.log (g.H.Home.seen c.args.home.now) c.from_residual.result
     c.from_residual.ensures r.log c.requires.held c.lengths.ensures.within
 
 pub follow-requires-clause-stands : goal.follow-requires-clause-stands
@@ -52,5 +51,5 @@ returns-clause-answered g c = λ x r.
     let unvoted = unvoted_alike g.E.Engine.stands_for c.running.result.now.undecided c.requires.stands.0.engine x.engine c.requires.stands.0.asked x.asked t first.undecided running.undecided c.requires.stands.2 in
     let made = c.in_ok-course.ensures.plan m.kind m.number x running unvoted in
     let suits = subst (λ (p : Plan). Suits x t p.change) (sym made) (local_commit_suits x t c.args.carried) in
-    subst (λ (p : Plan). IsAnsweredFor p.writes (node.Member m.number) x.log m.log c.follow.new.self.log (seen g.H.Home.file g.H.Home.reach g.H.Home.faults g.H.Home.last_failed c.args.home.now)
-    (seen g.H.Home.file g.H.Home.reach g.H.Home.faults g.H.Home.last_failed c.follow.new.home) (written_by c.follow.result)) made (c.follow.ensures.answered x r suits)
+    subst (λ (p : Plan). IsAnsweredFor p.writes (node.Member m.number) x.log m.log c.follow.new.self.log (g.H.Home.seen c.args.home.now)
+    (g.H.Home.seen c.follow.new.home) (written_by c.follow.result)) made (c.follow.ensures.answered x r suits)

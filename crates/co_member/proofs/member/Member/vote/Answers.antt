@@ -1,6 +1,5 @@
 use Rattle.std.proofs.Common.{refl, sym, subst}
 use Rattle.co_base.specs.declared.node.Node.TheVariants as node
-use Rattle.co_node.specs.Answers.{seen}
 use Rattle.co_plain.specs.Member.{member_vote}
 use Rattle.co_plain.specs.MemberStep.{standing_of}
 use Rattle.co_member.specs.Plans.{again_plan, plan_of}
@@ -16,7 +15,7 @@ use Rattle.co_member.proofs.member.Member.vote.Goals as goal
 pub returns-in_err-course-clause-answered : goal.returns-in_err-course-clause-answered
 returns-in_err-course-clause-answered g c = λ x r.
     let m = c.args.self.now in
-    wants_memory (node.Member m.number) (again_plan m.number x c.args.t (standing_of x c.args.t)).writes x.log m.log (seen g.H.Home.file g.H.Home.reach g.H.Home.faults g.H.Home.last_failed c.args.home.now) c.from_residual.result
+    wants_memory (node.Member m.number) (again_plan m.number x c.args.t (standing_of x c.args.t)).writes x.log m.log (g.H.Home.seen c.args.home.now) c.from_residual.result
     c.from_residual.ensures r.log c.requires.held c.lengths.ensures.within
 
 pub follow-requires-clause-stands : goal.follow-requires-clause-stands
@@ -53,5 +52,5 @@ returns-clause-answered g c = λ x r.
     let t = c.args.t in
     let made = c.in_ok-course.ensures m.kind x (r.running c.running.result.now c.running.ensures) in
     let suits = subst (λ (p : Plan). Suits x t p.change) (sym made) (again_suits m.number t x (standing_of x t) refl) in
-    subst (λ (p : Plan). IsAnsweredFor p.writes (node.Member m.number) x.log m.log c.follow.new.self.log (seen g.H.Home.file g.H.Home.reach g.H.Home.faults g.H.Home.last_failed c.args.home.now)
-    (seen g.H.Home.file g.H.Home.reach g.H.Home.faults g.H.Home.last_failed c.follow.new.home) (written_by c.follow.result)) made (c.follow.ensures.answered x r suits)
+    subst (λ (p : Plan). IsAnsweredFor p.writes (node.Member m.number) x.log m.log c.follow.new.self.log (g.H.Home.seen c.args.home.now)
+    (g.H.Home.seen c.follow.new.home) (written_by c.follow.result)) made (c.follow.ensures.answered x r suits)

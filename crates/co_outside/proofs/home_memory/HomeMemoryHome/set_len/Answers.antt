@@ -1,7 +1,7 @@
-use Rattle.std.proofs.Common.{Some}
 use Rattle.co_outside.specs.declared.home.HomeCall.TheVariants.{SetLen}
+use Rattle.co_outside.specs.HomeMemory.{memory_seen}
 use Rattle.co_outside.proofs.Dues.{due_handed}
 use Rattle.co_outside.proofs.home_memory.HomeMemoryHome.set_len.Goals as goal
 
 pub returns-in_err-begin-clause-due : goal.returns-in_err-begin-clause-due
-returns-in_err-begin-clause-due c = due_handed c.args.spot SetLen (Some c.args.self.now.fail.items) (Some c.begin.new.self.fail.items) c.begin.result c.from_residual.result c.in_err-begin.field-0.0 c.in_err-begin.was c.from_residual.ensures.1 c.begin.ensures.due
+returns-in_err-begin-clause-due c = due_handed c.args.spot SetLen (memory_seen c.args.self.now) (memory_seen c.begin.new.self) c.begin.result c.from_residual.result c.in_err-begin.field-0.0 c.in_err-begin.was c.from_residual.ensures.1 c.begin.ensures.due

@@ -1,6 +1,5 @@
 use Rattle.std.proofs.Common.{length, refl, sym, subst, inl}
 use Rattle.co_base.specs.declared.node.Node.{Node}
-use Rattle.co_node.specs.Answers.{seen}
 use Rattle.co_plain.specs.Step.{arm_at, disarmed}
 use Rattle.co_schedule.specs.View.{IsNode}
 use Rattle.co_world.proofs.Ends.{passed_memory, wants_memory, no_limit}
@@ -15,7 +14,7 @@ returns-in_err-leaves-clause-count g c =
 
 pub returns-in_err-leaves-clause-ended : goal.returns-in_err-leaves-clause-ended
 returns-in_err-leaves-clause-ended g c =
-    wants_memory c.from_residual.result (seen g.H.Home.file g.H.Home.reach g.H.Home.faults g.H.Home.last_failed c.args.home.now) (seen g.H.Home.file g.H.Home.reach g.H.Home.faults g.H.Home.last_failed c.args.home.now) refl (passed_memory _ c.from_residual.result c.from_residual.ensures refl)
+    wants_memory c.from_residual.result (g.H.Home.seen c.args.home.now) (g.H.Home.seen c.args.home.now) refl (passed_memory _ c.from_residual.result c.from_residual.ensures refl)
 
 pub at_member-requires-clause-in_head : goal.at_member-requires-clause-in_head
 at_member-requires-clause-in_head g c =
@@ -81,14 +80,14 @@ returns-in-Coord-clause-ended g c =
 
 pub returns-in_err-leaves-clause-left : goal.returns-in_err-leaves-clause-left
 returns-in_err-leaves-clause-left g c = λ s r.
-    wanting_left c.from_residual.result _ _ _ _ (passed_memory _ c.from_residual.result c.from_residual.ensures refl) (inl (held_left g.E.Engine.takes g.E.Engine.stands_for c.args.self.now s (g.H.Home.file c.args.home.now) (g.H.Home.reach c.args.home.now) r c.requires.held))
+    wanting_left c.from_residual.result _ _ _ _ (passed_memory _ c.from_residual.result c.from_residual.ensures refl) (inl (held_left g.E.Engine.takes g.E.Engine.stands_for c.args.self.now s (g.H.Home.seen c.args.home.now) r c.requires.held))
 
 pub returns-in-Member-clause-left : goal.returns-in-Member-clause-left
 returns-in-Member-clause-left g c = λ s r.
-    left_as c.at_member.result (g.H.Home.file c.at_member.new.home) s _ (arm_at s c.args.call c.args.leaves.now c.args.node) _ (arm_at (disarmed s) c.args.call c.args.leaves.now c.args.node) (λ i. arm_at s c.args.call (c.in_ok-leaves.ensures i) (sym c.in-Member.is i))
+    left_as c.at_member.result (g.H.Home.seen c.at_member.new.home).file s _ (arm_at s c.args.call c.args.leaves.now c.args.node) _ (arm_at (disarmed s) c.args.call c.args.leaves.now c.args.node) (λ i. arm_at s c.args.call (c.in_ok-leaves.ensures i) (sym c.in-Member.is i))
     (λ i. arm_at (disarmed s) c.args.call (c.in_ok-leaves.ensures i) (sym c.in-Member.is i)) (c.at_member.ensures.left s r)
 
 pub returns-in-Coord-clause-left : goal.returns-in-Coord-clause-left
 returns-in-Coord-clause-left g c = λ s r.
-    left_as c.at_coord.result (g.H.Home.file c.at_coord.new.home) s _ (arm_at s c.args.call c.args.leaves.now c.args.node) _ (arm_at (disarmed s) c.args.call c.args.leaves.now c.args.node) (λ i. arm_at s c.args.call (c.in_ok-leaves.ensures i) (sym c.in-Coord.is i))
+    left_as c.at_coord.result (g.H.Home.seen c.at_coord.new.home).file s _ (arm_at s c.args.call c.args.leaves.now c.args.node) _ (arm_at (disarmed s) c.args.call c.args.leaves.now c.args.node) (λ i. arm_at s c.args.call (c.in_ok-leaves.ensures i) (sym c.in-Coord.is i))
     (λ i. arm_at (disarmed s) c.args.call (c.in_ok-leaves.ensures i) (sym c.in-Coord.is i)) (c.at_coord.ensures.left s r)

@@ -1,6 +1,5 @@
 use Rattle.std.proofs.Common.{◌≡◌, true, false, sym, ap, subst, ◌∙◌, inl, inr}
 use Rattle.std.specs.Prelude.{IfOk, OnOk}
-use Rattle.co_node.specs.Answers.{seen}
 use Rattle.co_plain.specs.Federation.{Federation, Stepped, with_member}
 use Rattle.co_plain.specs.Runs.{numbered}
 use Rattle.co_plain.specs.Step.{disarmed, up_member}
@@ -39,26 +38,26 @@ returns-clause-stands g c = λ s r.
 
 pub returns-clause-served : goal.returns-clause-served
 returns-clause-served g c =
-    let old = seen g.H.Home.file g.H.Home.reach g.H.Home.faults g.H.Home.last_failed c.args.home.now in
-    let new = seen g.H.Home.file g.H.Home.reach g.H.Home.faults g.H.Home.last_failed c.member_does.new.home in
+    let old = g.H.Home.seen c.args.home.now in
+    let new = g.H.Home.seen c.member_does.new.home in
     let served = c.in_ok-did.ensures.served in
     on_ok c.tells_of_member.result {A = AreHeld new.file new.reach c.tells_of_member.new.self} {B = AreServed c.tells_of_member.new.self old new} (λ kept. record { kept = kept; clean = served.clean; quiet = served.quiet })
     (c.tells_of_member.ensures.held new.file new.reach served.kept)
 
 pub returns-clause-ended : goal.returns-clause-ended
 returns-clause-ended g c =
-    let old = seen g.H.Home.file g.H.Home.reach g.H.Home.faults g.H.Home.last_failed c.args.home.now in
-    let new = seen g.H.Home.file g.H.Home.reach g.H.Home.faults g.H.Home.last_failed c.member_does.new.home in
+    let old = g.H.Home.seen c.args.home.now in
+    let new = g.H.Home.seen c.member_does.new.home in
     wants_memory c.tells_of_member.result old new c.in_ok-did.ensures.served.quiet c.tells_of_member.ensures.memory
 
 pub returns-then-not-member_up-clause-left : goal.returns-then-not-member_up-clause-left
 returns-then-not-member_up-clause-left g c = λ s r.
-    wanting_left c.answers.result _ _ _ _ c.answers.ensures.memory (inl (held_left g.E.Engine.takes g.E.Engine.stands_for c.args.self.now s (g.H.Home.file c.args.home.now) (g.H.Home.reach c.args.home.now) r c.requires.held))
+    wanting_left c.answers.result _ _ _ _ c.answers.ensures.memory (inl (held_left g.E.Engine.takes g.E.Engine.stands_for c.args.self.now s (g.H.Home.seen c.args.home.now) r c.requires.held))
 
 pub returns-in_err-did-clause-left : goal.returns-in_err-did-clause-left
 returns-in_err-did-clause-left g c = λ s r.
     let k = c.args.member in
-    let file = g.H.Home.file c.member_does.new.home in
+    let file = (g.H.Home.seen c.member_does.new.home).file in
     let up : (s.member k).up ≡ true = sym (c.member_up.ensures s r) ∙ c.if-not-member_up.false in
     let step = member_does k c.args.call (s.member k) in
     let whole = member_does k c.args.call (member_disarmed (s.member k)) in
@@ -71,8 +70,8 @@ returns-in_err-did-clause-left g c = λ s r.
 pub returns-clause-left : goal.returns-clause-left
 returns-clause-left g c = λ s r.
     let k = c.args.member in
-    let file = g.H.Home.file c.member_does.new.home in
+    let file = (g.H.Home.seen c.member_does.new.home).file in
     let up : (s.member k).up ≡ true = sym (c.member_up.ensures s r) ∙ c.if-not-member_up.false in
     let step = member_does k c.args.call (s.member k) in
-    let now = held_left g.E.Engine.takes g.E.Engine.stands_for c.member_does.new.self (with_member s k step.state) file (g.H.Home.reach c.member_does.new.home) (c.in_ok-did.ensures.stands s r) c.in_ok-did.ensures.served.kept in
+    let now = held_left g.E.Engine.takes g.E.Engine.stands_for c.member_does.new.self (with_member s k step.state) file (g.H.Home.seen c.member_does.new.home).reach (c.in_ok-did.ensures.stands s r) c.in_ok-did.ensures.served.kept in
     wanting_left c.tells_of_member.result _ _ _ _ c.tells_of_member.ensures.memory (inr (inl (member_step_left file s k (s.member k).up step up now)))

@@ -12,11 +12,11 @@ use Rattle.co_world.proofs.world.World.attach.Goals as goal
 
 pub returns-in_err-members-clause-untouched : goal.returns-in_err-members-clause-untouched
 returns-in_err-members-clause-untouched g c =
-    passed_on c.from_residual.result c.in_err-members.field-0.0 (λ fault. IsOfFound fault → (s : Spot) → g.H.Home.file c.open_nodes.new.home s ≡ g.H.Home.file c.args.home.now s) c.from_residual.ensures c.in_err-members.ensures.untouched
+    passed_on c.from_residual.result c.in_err-members.field-0.0 (λ fault. IsOfFound fault → (s : Spot) → (g.H.Home.seen c.open_nodes.new.home).file s ≡ (g.H.Home.seen c.args.home.now).file s) c.from_residual.ensures c.in_err-members.ensures.untouched
 
 pub returns-clause-opened : goal.returns-clause-opened
 returns-clause-opened g c =
     let n = c.in_ok-members.field-0 in
     let sessions : c.in_ok-sessions.sessions ≡ none_begun n.used = c.in_ok-sessions.ensures in
     let told : c.in_ok-items.items ≡ numbered 1 (items_of n.marks [] answer.Opened) = c.in_ok-items.ensures ∙ ap (λ (ms : List Mark). numbered 1 (items_of ms [] answer.Opened)) c.as_slice.ensures in
-    attached_over g.E.Engine.takes g.E.Engine.stands_for (g.H.Home.file c.args.home.now) c.args.head.now c.args.resume n _ c.in_ok-items.items c.args.head.now.members c.args.head.now.coordinators c.in_ok-members.ensures.opened refl refl sessions c.new.ensures told
+    attached_over g.E.Engine.takes g.E.Engine.stands_for (g.H.Home.seen c.args.home.now).file c.args.head.now c.args.resume n _ c.in_ok-items.items c.args.head.now.members c.args.head.now.coordinators c.in_ok-members.ensures.opened refl refl sessions c.new.ensures told

@@ -3,7 +3,6 @@ use Rattle.co_base.specs.declared.node.Node.TheVariants as node
 use Rattle.co_durable.specs.declared.fault.WorldFault.{WorldFault}
 use Rattle.co_law_base.proofs.Lookups.{apart_by}
 use Rattle.co_message.specs.declared.answer.Answer.TheVariants as answer
-use Rattle.co_node.specs.Answers.{seen}
 use Rattle.co_plain.specs.Coordinator.{coord_begin}
 use Rattle.co_plain.specs.Federation.{answers, with_session, with_coord, at_coord}
 use Rattle.co_plain.specs.Sessions.{begun_by}
@@ -28,7 +27,7 @@ returns-in_err-used-clause-count g c =
 
 pub returns-in_err-used-clause-ended : goal.returns-in_err-used-clause-ended
 returns-in_err-used-clause-ended g c =
-    let old = seen g.H.Home.file g.H.Home.reach g.H.Home.faults g.H.Home.last_failed c.args.home.now in
+    let old = g.H.Home.seen c.args.home.now in
     passed c.in_err-used.field-0.0 c.from_residual.result old old c.from_residual.ensures
     (subst (λ (f : WorldFault). HasEndedAs f old old) (sym c.in_err-used.ensures.count.0) refl)
 
@@ -51,11 +50,11 @@ returns-then-branch-clause-stands g c = λ s r.
 
 pub returns-then-branch-clause-served : goal.returns-then-branch-clause-served
 returns-then-branch-clause-served g c =
-    served_alone c.answers.result c.args.self.now (seen g.H.Home.file g.H.Home.reach g.H.Home.faults g.H.Home.last_failed c.args.home.now) (all_ok c.answers.result c.requires.held)
+    served_alone c.answers.result c.args.self.now (g.H.Home.seen c.args.home.now) (all_ok c.answers.result c.requires.held)
 
 pub returns-then-branch-clause-ended : goal.returns-then-branch-clause-ended
 returns-then-branch-clause-ended g c =
-    let old = seen g.H.Home.file g.H.Home.reach g.H.Home.faults g.H.Home.last_failed c.args.home.now in
+    let old = g.H.Home.seen c.args.home.now in
     wants_memory c.answers.result old old refl c.answers.ensures.memory
 
 -- ---- the coordinator is down
@@ -81,11 +80,11 @@ returns-then-not-coord_up-clause-stands g c = λ s r.
 
 pub returns-then-not-coord_up-clause-served : goal.returns-then-not-coord_up-clause-served
 returns-then-not-coord_up-clause-served g c =
-    served_alone c.answers-then-not-coord_up.result c.args.self.now (seen g.H.Home.file g.H.Home.reach g.H.Home.faults g.H.Home.last_failed c.args.home.now) (all_ok c.answers-then-not-coord_up.result c.requires.held)
+    served_alone c.answers-then-not-coord_up.result c.args.self.now (g.H.Home.seen c.args.home.now) (all_ok c.answers-then-not-coord_up.result c.requires.held)
 
 pub returns-then-not-coord_up-clause-ended : goal.returns-then-not-coord_up-clause-ended
 returns-then-not-coord_up-clause-ended g c =
-    let old = seen g.H.Home.file g.H.Home.reach g.H.Home.faults g.H.Home.last_failed c.args.home.now in
+    let old = g.H.Home.seen c.args.home.now in
     wants_memory c.answers-then-not-coord_up.result old old refl c.answers-then-not-coord_up.ensures.memory
 
 -- ---- the number is used up, and the coordinator begins
@@ -104,7 +103,7 @@ returns-in_err-begin-clause-count g c =
 
 pub returns-in_err-begin-clause-ended : goal.returns-in_err-begin-clause-ended
 returns-in_err-begin-clause-ended g c =
-    let old = seen g.H.Home.file g.H.Home.reach g.H.Home.faults g.H.Home.last_failed c.args.home.now in
+    let old = g.H.Home.seen c.args.home.now in
     let out = c.from_residual-in_err-begin.result in
     wants_memory out old old refl (passed_memory _ out c.from_residual-in_err-begin.ensures refl)
 
@@ -132,8 +131,8 @@ returns-in_err-did-clause-count g c =
 
 pub returns-in_err-did-clause-ended : goal.returns-in_err-did-clause-ended
 returns-in_err-did-clause-ended g c =
-    let old = seen g.H.Home.file g.H.Home.reach g.H.Home.faults g.H.Home.last_failed c.args.home.now in
-    let new = seen g.H.Home.file g.H.Home.reach g.H.Home.faults g.H.Home.last_failed c.coord_does.new.home in
+    let old = g.H.Home.seen c.args.home.now in
+    let new = g.H.Home.seen c.coord_does.new.home in
     passed c.in_err-did.field-0.0 c.from_residual-in_err-did.result old new c.from_residual-in_err-did.ensures c.in_err-did.ensures.ended
 
 pub returns-clause-count : goal.returns-clause-count
@@ -171,32 +170,32 @@ returns-clause-stands g c = λ s r.
 
 pub returns-clause-served : goal.returns-clause-served
 returns-clause-served g c =
-    let old = seen g.H.Home.file g.H.Home.reach g.H.Home.faults g.H.Home.last_failed c.args.home.now in
-    let new = seen g.H.Home.file g.H.Home.reach g.H.Home.faults g.H.Home.last_failed c.coord_does.new.home in
+    let old = g.H.Home.seen c.args.home.now in
+    let new = g.H.Home.seen c.coord_does.new.home in
     served_after c.tells_of_coord.result c.coord_does.new.self c.tells_of_coord.new.self old new c.in_ok-did.ensures.served
-    (c.tells_of_coord.ensures.held (g.H.Home.file c.coord_does.new.home) (g.H.Home.reach c.coord_does.new.home) c.in_ok-did.ensures.served.kept)
+    (c.tells_of_coord.ensures.held (g.H.Home.seen c.coord_does.new.home) c.in_ok-did.ensures.served.kept)
 
 pub returns-clause-ended : goal.returns-clause-ended
 returns-clause-ended g c =
-    let old = seen g.H.Home.file g.H.Home.reach g.H.Home.faults g.H.Home.last_failed c.args.home.now in
-    let new = seen g.H.Home.file g.H.Home.reach g.H.Home.faults g.H.Home.last_failed c.coord_does.new.home in
+    let old = g.H.Home.seen c.args.home.now in
+    let new = g.H.Home.seen c.coord_does.new.home in
     wants_memory c.tells_of_coord.result old new c.in_ok-did.ensures.served.quiet c.tells_of_coord.ensures.memory
 
 pub returns-in_err-used-clause-left : goal.returns-in_err-used-clause-left
 returns-in_err-used-clause-left g c = λ s r.
-    unserved_left c.from_residual.result _ _ _ _ (passed_on c.from_residual.result c.in_err-used.field-0.0 IsOfNoFile c.from_residual.ensures (subst IsOfNoFile (sym c.in_err-used.ensures.count.0) tt)) (inl (held_left g.E.Engine.takes g.E.Engine.stands_for c.args.self.now s (g.H.Home.file c.args.home.now) (g.H.Home.reach c.args.home.now) r c.requires.held))
+    unserved_left c.from_residual.result _ _ _ _ (passed_on c.from_residual.result c.in_err-used.field-0.0 IsOfNoFile c.from_residual.ensures (subst IsOfNoFile (sym c.in_err-used.ensures.count.0) tt)) (inl (held_left g.E.Engine.takes g.E.Engine.stands_for c.args.self.now s (g.H.Home.seen c.args.home.now) r c.requires.held))
 
 pub returns-then-branch-clause-left : goal.returns-then-branch-clause-left
 returns-then-branch-clause-left g c = λ s r.
-    wanting_left c.answers.result _ _ _ _ c.answers.ensures.memory (inl (held_left g.E.Engine.takes g.E.Engine.stands_for c.args.self.now s (g.H.Home.file c.args.home.now) (g.H.Home.reach c.args.home.now) r c.requires.held))
+    wanting_left c.answers.result _ _ _ _ c.answers.ensures.memory (inl (held_left g.E.Engine.takes g.E.Engine.stands_for c.args.self.now s (g.H.Home.seen c.args.home.now) r c.requires.held))
 
 pub returns-then-not-coord_up-clause-left : goal.returns-then-not-coord_up-clause-left
 returns-then-not-coord_up-clause-left g c = λ s r.
-    wanting_left c.answers-then-not-coord_up.result _ _ _ _ c.answers-then-not-coord_up.ensures.memory (inl (held_left g.E.Engine.takes g.E.Engine.stands_for c.args.self.now s (g.H.Home.file c.args.home.now) (g.H.Home.reach c.args.home.now) r c.requires.held))
+    wanting_left c.answers-then-not-coord_up.result _ _ _ _ c.answers-then-not-coord_up.ensures.memory (inl (held_left g.E.Engine.takes g.E.Engine.stands_for c.args.self.now s (g.H.Home.seen c.args.home.now) r c.requires.held))
 
 pub returns-in_err-begin-clause-left : goal.returns-in_err-begin-clause-left
 returns-in_err-begin-clause-left g c = λ s r.
-    wanting_left c.from_residual-in_err-begin.result _ _ _ _ (passed_memory _ c.from_residual-in_err-begin.result c.from_residual-in_err-begin.ensures refl) (inl (held_left g.E.Engine.takes g.E.Engine.stands_for c.args.self.now s (g.H.Home.file c.args.home.now) (g.H.Home.reach c.args.home.now) r c.requires.held))
+    wanting_left c.from_residual-in_err-begin.result _ _ _ _ (passed_memory _ c.from_residual-in_err-begin.result c.from_residual-in_err-begin.ensures refl) (inl (held_left g.E.Engine.takes g.E.Engine.stands_for c.args.self.now s (g.H.Home.seen c.args.home.now) r c.requires.held))
 
 pub returns-in_err-did-clause-left : goal.returns-in_err-did-clause-left
 returns-in_err-did-clause-left g c = λ s r.
@@ -208,7 +207,7 @@ returns-in_err-did-clause-left g c = λ s r.
     let plain = with_session s c.args.t (begun_by by) in
     let step = coord_begin (s.coord c.args.coord) c.args.t in
     let whole = coord_begin (coord_disarmed (s.coord c.args.coord)) c.args.t in
-    let file = g.H.Home.file c.coord_does.new.home in
+    let file = (g.H.Home.seen c.coord_does.new.home).file in
     let first = at_coord plain c.args.coord step in
     let all = at_coord (with_session (disarmed s) c.args.t (begun_by by)) c.args.coord whole in
     left_as c.from_residual-in_err-did.result file s first (begin_where s c.args.t c.args.coord (is_used s c.args.t) (s.coord c.args.coord).up) all (begin_where (disarmed s) c.args.t c.args.coord (is_used s c.args.t) (s.coord c.args.coord).up)
@@ -225,10 +224,10 @@ returns-clause-left g c = λ s r.
     let plain = with_session s c.args.t (begun_by by) in
     let step = coord_begin (s.coord c.args.coord) c.args.t in
     let whole = coord_begin (coord_disarmed (s.coord c.args.coord)) c.args.t in
-    let file = g.H.Home.file c.coord_does.new.home in
+    let file = (g.H.Home.seen c.coord_does.new.home).file in
     let first = at_coord plain c.args.coord step in
     let all = at_coord (with_session (disarmed s) c.args.t (begun_by by)) c.args.coord whole in
-    let now = held_left g.E.Engine.takes g.E.Engine.stands_for c.coord_does.new.self (with_coord plain c.args.coord step.state) (g.H.Home.file c.coord_does.new.home) (g.H.Home.reach c.coord_does.new.home) (c.in_ok-did.ensures.stands plain begun) c.in_ok-did.ensures.served.kept in
+    let now = held_left g.E.Engine.takes g.E.Engine.stands_for c.coord_does.new.self (with_coord plain c.args.coord step.state) (g.H.Home.seen c.coord_does.new.home) (c.in_ok-did.ensures.stands plain begun) c.in_ok-did.ensures.served.kept in
     left_as c.tells_of_coord.result file s first (begin_where s c.args.t c.args.coord (is_used s c.args.t) (s.coord c.args.coord).up) all (begin_where (disarmed s) c.args.t c.args.coord (is_used s c.args.t) (s.coord c.args.coord).up)
     (λ i. begin_where s c.args.t c.args.coord (sym unused i) (sym up i)) (λ i. begin_where (disarmed s) c.args.t c.args.coord (sym unused i) (sym up i))
     (wanting_left c.tells_of_coord.result _ _ _ _ c.tells_of_coord.ensures.memory (inr (inl (at_coord_left file plain c.args.coord step now))))

@@ -5,7 +5,6 @@ use Rattle.co_plain.specs.Wire.{was_sent}
 use Rattle.co_message.specs.declared.message.Message.{Message}
 use Rattle.co_base.specs.declared.node.Node.{Node}
 use Rattle.co_message.specs.declared.answer.Answer.TheVariants as answer
-use Rattle.co_node.specs.Answers.{seen}
 use Rattle.co_plain.specs.Federation.{answers}
 use Rattle.co_plain.specs.Step.{deliver, disarmed}
 use Rattle.co_schedule.specs.View.{IsNode}
@@ -102,24 +101,24 @@ returns-in-Err-clause-stands g c = λ s r ready.
 
 pub returns-in-Err-clause-served : goal.returns-in-Err-clause-served
 returns-in-Err-clause-served g c =
-    served_alone c.answers.result c.args.self.now (seen g.H.Home.file g.H.Home.reach g.H.Home.faults g.H.Home.last_failed c.args.home.now) (all_ok c.answers.result c.requires.held)
+    served_alone c.answers.result c.args.self.now (g.H.Home.seen c.args.home.now) (all_ok c.answers.result c.requires.held)
 
 pub returns-in-Err-clause-ended : goal.returns-in-Err-clause-ended
 returns-in-Err-clause-ended g c =
-    wants_memory c.answers.result (seen g.H.Home.file g.H.Home.reach g.H.Home.faults g.H.Home.last_failed c.args.home.now) (seen g.H.Home.file g.H.Home.reach g.H.Home.faults g.H.Home.last_failed c.args.home.now) refl c.answers.ensures.memory
+    wants_memory c.answers.result (g.H.Home.seen c.args.home.now) (g.H.Home.seen c.args.home.now) refl c.answers.ensures.memory
 
 pub returns-in-Member-clause-left : goal.returns-in-Member-clause-left
 returns-in-Member-clause-left g c = λ s r ready.
     let sent : was_sent s.sent c.args.message ≡ true = sym (ap (λ (ms : List Message). was_sent ms c.args.message) r.wire) ∙ c.in-Ok.ensures.ok.0 refl in
-    left_as c.at_member.result (g.H.Home.file c.at_member.new.home) s _ (deliver s c.args.message) _ (deliver (disarmed s) c.args.message) (delivers_to_member s c.args.message c.in-Member.member c.in-Member.ensures sent)
+    left_as c.at_member.result (g.H.Home.seen c.at_member.new.home).file s _ (deliver s c.args.message) _ (deliver (disarmed s) c.args.message) (delivers_to_member s c.args.message c.in-Member.member c.in-Member.ensures sent)
     (delivers_to_member (disarmed s) c.args.message c.in-Member.member c.in-Member.ensures sent) (c.at_member.ensures.left s r)
 
 pub returns-in-Coord-clause-left : goal.returns-in-Coord-clause-left
 returns-in-Coord-clause-left g c = λ s r ready.
     let sent : was_sent s.sent c.args.message ≡ true = sym (ap (λ (ms : List Message). was_sent ms c.args.message) r.wire) ∙ c.in-Ok.ensures.ok.0 refl in
-    left_as c.at_coord.result (g.H.Home.file c.at_coord.new.home) s _ (deliver s c.args.message) _ (deliver (disarmed s) c.args.message) (delivers_to_coord s c.args.message c.in-Coord.coord c.in-Coord.ensures sent)
+    left_as c.at_coord.result (g.H.Home.seen c.at_coord.new.home).file s _ (deliver s c.args.message) _ (deliver (disarmed s) c.args.message) (delivers_to_coord s c.args.message c.in-Coord.coord c.in-Coord.ensures sent)
     (delivers_to_coord (disarmed s) c.args.message c.in-Coord.coord c.in-Coord.ensures sent) (c.at_coord.ensures.left s r)
 
 pub returns-in-Err-clause-left : goal.returns-in-Err-clause-left
 returns-in-Err-clause-left g c = λ s r ready.
-    wanting_left c.answers.result _ _ _ _ c.answers.ensures.memory (inl (held_left g.E.Engine.takes g.E.Engine.stands_for c.args.self.now s (g.H.Home.file c.args.home.now) (g.H.Home.reach c.args.home.now) r c.requires.held))
+    wanting_left c.answers.result _ _ _ _ c.answers.ensures.memory (inl (held_left g.E.Engine.takes g.E.Engine.stands_for c.args.self.now s (g.H.Home.seen c.args.home.now) r c.requires.held))

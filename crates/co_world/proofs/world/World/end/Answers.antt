@@ -1,6 +1,5 @@
 use Rattle.std.proofs.Common.{◌≡◌, None, Ok, sym, ap, ◌∙◌, subst, inl, refl}
 use Rattle.co_base.specs.declared.node.Node.TheVariants as node
-use Rattle.co_node.specs.Answers.{seen}
 use Rattle.co_plain.specs.Federation.{answers}
 use Rattle.co_session.specs.Leaves.{IsLeave, leave_in}
 use Rattle.co_base.specs.declared.node.Node.{Node}
@@ -107,18 +106,18 @@ returns-in-Err-clause-stands g c = λ s r ready.
 
 pub returns-in-Err-clause-served : goal.returns-in-Err-clause-served
 returns-in-Err-clause-served g c =
-    served_alone c.answers.result c.args.self.now (seen g.H.Home.file g.H.Home.reach g.H.Home.faults g.H.Home.last_failed c.args.home.now) (all_ok c.answers.result c.requires.held)
+    served_alone c.answers.result c.args.self.now (g.H.Home.seen c.args.home.now) (all_ok c.answers.result c.requires.held)
 
 pub returns-in-Err-clause-ended : goal.returns-in-Err-clause-ended
 returns-in-Err-clause-ended g c =
-    wants_memory c.answers.result (seen g.H.Home.file g.H.Home.reach g.H.Home.faults g.H.Home.last_failed c.args.home.now) (seen g.H.Home.file g.H.Home.reach g.H.Home.faults g.H.Home.last_failed c.args.home.now) refl c.answers.ensures.memory
+    wants_memory c.answers.result (g.H.Home.seen c.args.home.now) (g.H.Home.seen c.args.home.now) refl c.answers.ensures.memory
 
 pub returns-in-Ok-Coord-clause-left : goal.returns-in-Ok-Coord-clause-left
 returns-in-Ok-Coord-clause-left g c = λ s r ready.
     let l = granted (leave_in c.args.self.now.sessions c.args.t None) (node.Coord c.in-Ok-Coord.coord) (subst (λ (n : Node). IsLeave (leave_in c.args.self.now.sessions c.args.t None) (Ok n)) c.in-Ok-Coord.field-0-is c.in-Ok-Coord.ensures.leave) in
     let may = sym (leave_alike g.E.Engine.takes g.E.Engine.stands_for c.args.self.now s r c.args.t None) ∙ l.is in
     let here = (end_granted (look s.sessions c.args.t) l.session may).0 in
-    left_as c.end_at_coord.result (g.H.Home.file c.end_at_coord.new.home) s _ (ended s c.args.t c.args.ending) _ (ended (disarmed s) c.args.t c.args.ending) (sym (ended_by_coord s c.args.t c.args.ending l.session c.in-Ok-Coord.coord may l.home))
+    left_as c.end_at_coord.result (g.H.Home.seen c.end_at_coord.new.home).file s _ (ended s c.args.t c.args.ending) _ (ended (disarmed s) c.args.t c.args.ending) (sym (ended_by_coord s c.args.t c.args.ending l.session c.in-Ok-Coord.coord may l.home))
     (sym (ended_by_coord (disarmed s) c.args.t c.args.ending l.session c.in-Ok-Coord.coord may l.home)) (c.end_at_coord.ensures.left s r l.session here)
 
 pub returns-in-Ok-Member-clause-left : goal.returns-in-Ok-Member-clause-left
@@ -126,9 +125,9 @@ returns-in-Ok-Member-clause-left g c = λ s r ready.
     let l = granted (leave_in c.args.self.now.sessions c.args.t None) (node.Member c.in-Ok-Member.member) (subst (λ (n : Node). IsLeave (leave_in c.args.self.now.sessions c.args.t None) (Ok n)) c.in-Ok-Member.field-0-is c.in-Ok-Member.ensures.leave) in
     let may = sym (leave_alike g.E.Engine.takes g.E.Engine.stands_for c.args.self.now s r c.args.t None) ∙ l.is in
     let here = (end_granted (look s.sessions c.args.t) l.session may).0 in
-    left_as c.end_at_member.result (g.H.Home.file c.end_at_member.new.home) s _ (ended s c.args.t c.args.ending) _ (ended (disarmed s) c.args.t c.args.ending) (sym (ended_by_member s c.args.t c.args.ending l.session c.in-Ok-Member.member may l.home))
+    left_as c.end_at_member.result (g.H.Home.seen c.end_at_member.new.home).file s _ (ended s c.args.t c.args.ending) _ (ended (disarmed s) c.args.t c.args.ending) (sym (ended_by_member s c.args.t c.args.ending l.session c.in-Ok-Member.member may l.home))
     (sym (ended_by_member (disarmed s) c.args.t c.args.ending l.session c.in-Ok-Member.member may l.home)) (c.end_at_member.ensures.left s r l.session here)
 
 pub returns-in-Err-clause-left : goal.returns-in-Err-clause-left
 returns-in-Err-clause-left g c = λ s r ready.
-    wanting_left c.answers.result _ _ _ _ c.answers.ensures.memory (inl (held_left g.E.Engine.takes g.E.Engine.stands_for c.args.self.now s (g.H.Home.file c.args.home.now) (g.H.Home.reach c.args.home.now) r c.requires.held))
+    wanting_left c.answers.result _ _ _ _ c.answers.ensures.memory (inl (held_left g.E.Engine.takes g.E.Engine.stands_for c.args.self.now s (g.H.Home.seen c.args.home.now) r c.requires.held))

@@ -2,7 +2,6 @@ use Rattle.std.proofs.Common.{◌≡◌, Bool, not, length, Err, refl, sym, ap, 
 use Rattle.co_base.specs.declared.node.Node.TheVariants as node
 use Rattle.co_message.specs.declared.answer.Answer.{Answer}
 use Rattle.co_message.specs.declared.answer.Answer.TheVariants as answer
-use Rattle.co_node.specs.Answers.{seen}
 use Rattle.co_plain.specs.Federation.{answers, with_coord, at_coord}
 use Rattle.co_plain.specs.Sessions.{parts_of}
 use Rattle.co_world.specs.Telling.{IsToldBy}
@@ -42,11 +41,11 @@ returns-then-not-coord_up-clause-stands g c = λ s r session here.
 
 pub returns-then-not-coord_up-clause-served : goal.returns-then-not-coord_up-clause-served
 returns-then-not-coord_up-clause-served g c =
-    served_alone c.answers.result c.args.self.now (seen g.H.Home.file g.H.Home.reach g.H.Home.faults g.H.Home.last_failed c.args.home.now) (all_ok c.answers.result c.requires.held)
+    served_alone c.answers.result c.args.self.now (g.H.Home.seen c.args.home.now) (all_ok c.answers.result c.requires.held)
 
 pub returns-then-not-coord_up-clause-ended : goal.returns-then-not-coord_up-clause-ended
 returns-then-not-coord_up-clause-ended g c =
-    wants_memory c.answers.result (seen g.H.Home.file g.H.Home.reach g.H.Home.faults g.H.Home.last_failed c.args.home.now) (seen g.H.Home.file g.H.Home.reach g.H.Home.faults g.H.Home.last_failed c.args.home.now) refl c.answers.ensures.memory
+    wants_memory c.answers.result (g.H.Home.seen c.args.home.now) (g.H.Home.seen c.args.home.now) refl c.answers.ensures.memory
 
 pub parts-requires : goal.parts-requires
 parts-requires g c =
@@ -62,7 +61,7 @@ returns-in_err-parts-clause-count g c =
 
 pub returns-in_err-parts-clause-ended : goal.returns-in_err-parts-clause-ended
 returns-in_err-parts-clause-ended g c =
-    wants_memory c.from_residual.result (seen g.H.Home.file g.H.Home.reach g.H.Home.faults g.H.Home.last_failed c.args.home.now) (seen g.H.Home.file g.H.Home.reach g.H.Home.faults g.H.Home.last_failed c.args.home.now) refl (passed_memory _ c.from_residual.result c.from_residual.ensures refl)
+    wants_memory c.from_residual.result (g.H.Home.seen c.args.home.now) (g.H.Home.seen c.args.home.now) refl (passed_memory _ c.from_residual.result c.from_residual.ensures refl)
 
 pub coord_does-requires-clause-stands : goal.coord_does-requires-clause-stands
 coord_does-requires-clause-stands g c =
@@ -79,7 +78,7 @@ returns-in_err-did-clause-count g c =
 
 pub returns-in_err-did-clause-ended : goal.returns-in_err-did-clause-ended
 returns-in_err-did-clause-ended g c =
-    passed c.in_err-did.field-0.0 c.from_residual-in_err-did.result (seen g.H.Home.file g.H.Home.reach g.H.Home.faults g.H.Home.last_failed c.args.home.now) (seen g.H.Home.file g.H.Home.reach g.H.Home.faults g.H.Home.last_failed c.coord_does.new.home) c.from_residual-in_err-did.ensures c.in_err-did.ensures.ended
+    passed c.in_err-did.field-0.0 c.from_residual-in_err-did.result (g.H.Home.seen c.args.home.now) (g.H.Home.seen c.coord_does.new.home) c.from_residual-in_err-did.ensures c.in_err-did.ensures.ended
 
 pub mark_asked-requires : goal.mark_asked-requires
 mark_asked-requires g c =
@@ -119,19 +118,19 @@ returns-clause-stands g c = λ s r session here.
 
 pub returns-clause-served : goal.returns-clause-served
 returns-clause-served g c =
-    served_after c.tells_of_coord.result c.coord_does.new.self c.tells_of_coord.new.self (seen g.H.Home.file g.H.Home.reach g.H.Home.faults g.H.Home.last_failed c.args.home.now) (seen g.H.Home.file g.H.Home.reach g.H.Home.faults g.H.Home.last_failed c.coord_does.new.home) c.in_ok-did.ensures.served (c.tells_of_coord.ensures.held (g.H.Home.file c.coord_does.new.home) (g.H.Home.reach c.coord_does.new.home) (c.mark_asked.ensures.held (g.H.Home.file c.coord_does.new.home) (g.H.Home.reach c.coord_does.new.home) c.in_ok-did.ensures.served.kept))
+    served_after c.tells_of_coord.result c.coord_does.new.self c.tells_of_coord.new.self (g.H.Home.seen c.args.home.now) (g.H.Home.seen c.coord_does.new.home) c.in_ok-did.ensures.served (c.tells_of_coord.ensures.held (g.H.Home.seen c.coord_does.new.home) (c.mark_asked.ensures.held (g.H.Home.seen c.coord_does.new.home) c.in_ok-did.ensures.served.kept))
 
 pub returns-clause-ended : goal.returns-clause-ended
 returns-clause-ended g c =
-    wants_memory c.tells_of_coord.result (seen g.H.Home.file g.H.Home.reach g.H.Home.faults g.H.Home.last_failed c.args.home.now) (seen g.H.Home.file g.H.Home.reach g.H.Home.faults g.H.Home.last_failed c.coord_does.new.home) c.in_ok-did.ensures.served.quiet c.tells_of_coord.ensures.memory
+    wants_memory c.tells_of_coord.result (g.H.Home.seen c.args.home.now) (g.H.Home.seen c.coord_does.new.home) c.in_ok-did.ensures.served.quiet c.tells_of_coord.ensures.memory
 
 pub returns-then-not-coord_up-clause-left : goal.returns-then-not-coord_up-clause-left
 returns-then-not-coord_up-clause-left g c = λ s r session here.
-    wanting_left c.answers.result _ _ _ _ c.answers.ensures.memory (inl (held_left g.E.Engine.takes g.E.Engine.stands_for c.args.self.now s (g.H.Home.file c.args.home.now) (g.H.Home.reach c.args.home.now) r c.requires.held))
+    wanting_left c.answers.result _ _ _ _ c.answers.ensures.memory (inl (held_left g.E.Engine.takes g.E.Engine.stands_for c.args.self.now s (g.H.Home.seen c.args.home.now) r c.requires.held))
 
 pub returns-in_err-parts-clause-left : goal.returns-in_err-parts-clause-left
 returns-in_err-parts-clause-left g c = λ s r session here.
-    wanting_left c.from_residual.result _ _ _ _ (passed_memory _ c.from_residual.result c.from_residual.ensures refl) (inl (held_left g.E.Engine.takes g.E.Engine.stands_for c.args.self.now s (g.H.Home.file c.args.home.now) (g.H.Home.reach c.args.home.now) r c.requires.held))
+    wanting_left c.from_residual.result _ _ _ _ (passed_memory _ c.from_residual.result c.from_residual.ensures refl) (inl (held_left g.E.Engine.takes g.E.Engine.stands_for c.args.self.now s (g.H.Home.seen c.args.home.now) r c.requires.held))
 
 pub returns-in_err-did-clause-left : goal.returns-in_err-did-clause-left
 returns-in_err-did-clause-left g c = λ s r session here.
@@ -142,7 +141,7 @@ returns-in_err-did-clause-left g c = λ s r session here.
     let step = coord_does k asked (s.coord k) in
     let whole = coord_does k asked (coord_disarmed (s.coord k)) in
     let up : (s.coord k).up ≡ true = sym (c.coord_up.ensures s r) ∙ c.if-not-coord_up.false in
-    let file = g.H.Home.file c.coord_does.new.home in
+    let file = (g.H.Home.seen c.coord_does.new.home).file in
     let fault = c.in_err-did.field-0.0 in
     let left : AreLeftWith file s (with_coord (disarmed s) k whole.state) fault = subst (λ (j : CoordCall). AreLeftWith file s (with_coord (disarmed s) k (coord_does k j (coord_disarmed (s.coord k))).state) fault) asks (c.in_err-did.ensures.left s r) in
     let after = (coord_answers s c.args.t session k (s.coord k).up step).state in
@@ -159,7 +158,7 @@ returns-clause-left g c = λ s r session here.
     let step = coord_does k asked (s.coord k) in
     let whole = coord_does k asked (coord_disarmed (s.coord k)) in
     let up : (s.coord k).up ≡ true = sym (c.coord_up.ensures s r) ∙ c.if-not-coord_up.false in
-    let file = g.H.Home.file c.coord_does.new.home in
+    let file = (g.H.Home.seen c.coord_does.new.home).file in
     let stood : RepresentsWorld g.E.Engine.takes g.E.Engine.stands_for c.coord_does.new.self (with_coord s k step.state) = subst (λ (j : CoordCall). RepresentsWorld g.E.Engine.takes g.E.Engine.stands_for c.coord_does.new.self (with_coord s k (coord_does k j (s.coord k)).state)) asks (c.in_ok-did.ensures.stands s r) in
-    let now = held_left g.E.Engine.takes g.E.Engine.stands_for c.coord_does.new.self (with_coord s k step.state) file (g.H.Home.reach c.coord_does.new.home) stood c.in_ok-did.ensures.served.kept in
+    let now = held_left g.E.Engine.takes g.E.Engine.stands_for c.coord_does.new.self (with_coord s k step.state) file (g.H.Home.seen c.coord_does.new.home).reach stood c.in_ok-did.ensures.served.kept in
     wanting_left c.tells_of_coord.result _ _ _ _ c.tells_of_coord.ensures.memory (inr (inl (coord_answers_left file s c.args.t session k (s.coord k).up step up now)))

@@ -2,7 +2,6 @@ use Rattle.std.proofs.Common.{◌≡◌, Bool, not, Option, Err, sym, ap, ◌∙
 use Rattle.co_base.specs.declared.node.Node.TheVariants as node
 use Rattle.co_message.specs.declared.answer.Answer.{Answer}
 use Rattle.co_message.specs.declared.answer.Answer.TheVariants as answer
-use Rattle.co_node.specs.Answers.{seen}
 use Rattle.co_plain.specs.Federation.{answers, with_member, at_member}
 use Rattle.co_plain.specs.Sessions.{count_at}
 use Rattle.co_world.specs.Telling.{IsTold}
@@ -42,11 +41,11 @@ returns-then-not-member_up-clause-stands g c = λ s r session here.
 
 pub returns-then-not-member_up-clause-served : goal.returns-then-not-member_up-clause-served
 returns-then-not-member_up-clause-served g c =
-    served_alone c.answers.result c.args.self.now (seen g.H.Home.file g.H.Home.reach g.H.Home.faults g.H.Home.last_failed c.args.home.now) (all_ok c.answers.result c.requires.held)
+    served_alone c.answers.result c.args.self.now (g.H.Home.seen c.args.home.now) (all_ok c.answers.result c.requires.held)
 
 pub returns-then-not-member_up-clause-ended : goal.returns-then-not-member_up-clause-ended
 returns-then-not-member_up-clause-ended g c =
-    wants_memory c.answers.result (seen g.H.Home.file g.H.Home.reach g.H.Home.faults g.H.Home.last_failed c.args.home.now) (seen g.H.Home.file g.H.Home.reach g.H.Home.faults g.H.Home.last_failed c.args.home.now) refl c.answers.ensures.memory
+    wants_memory c.answers.result (g.H.Home.seen c.args.home.now) (g.H.Home.seen c.args.home.now) refl c.answers.ensures.memory
 
 pub member_does-requires-clause-stands : goal.member_does-requires-clause-stands
 member_does-requires-clause-stands g c =
@@ -65,7 +64,7 @@ returns-in_err-did-clause-count g c =
 
 pub returns-in_err-did-clause-ended : goal.returns-in_err-did-clause-ended
 returns-in_err-did-clause-ended g c =
-    passed c.in_err-did.field-0.0 c.from_residual.result (seen g.H.Home.file g.H.Home.reach g.H.Home.faults g.H.Home.last_failed c.args.home.now) (seen g.H.Home.file g.H.Home.reach g.H.Home.faults g.H.Home.last_failed c.member_does.new.home) c.from_residual.ensures c.in_err-did.ensures.ended
+    passed c.in_err-did.field-0.0 c.from_residual.result (g.H.Home.seen c.args.home.now) (g.H.Home.seen c.member_does.new.home) c.from_residual.ensures c.in_err-did.ensures.ended
 
 pub mark_asked-requires : goal.mark_asked-requires
 mark_asked-requires g c =
@@ -106,15 +105,15 @@ returns-clause-stands g c = λ s r session here.
 
 pub returns-clause-served : goal.returns-clause-served
 returns-clause-served g c =
-    served_after c.tells_of_member.result c.member_does.new.self c.tells_of_member.new.self (seen g.H.Home.file g.H.Home.reach g.H.Home.faults g.H.Home.last_failed c.args.home.now) (seen g.H.Home.file g.H.Home.reach g.H.Home.faults g.H.Home.last_failed c.member_does.new.home) c.in_ok-did.ensures.served (c.tells_of_member.ensures.held (g.H.Home.file c.member_does.new.home) (g.H.Home.reach c.member_does.new.home) (c.mark_asked.ensures.held (g.H.Home.file c.member_does.new.home) (g.H.Home.reach c.member_does.new.home) c.in_ok-did.ensures.served.kept))
+    served_after c.tells_of_member.result c.member_does.new.self c.tells_of_member.new.self (g.H.Home.seen c.args.home.now) (g.H.Home.seen c.member_does.new.home) c.in_ok-did.ensures.served (c.tells_of_member.ensures.held (g.H.Home.seen c.member_does.new.home) (c.mark_asked.ensures.held (g.H.Home.seen c.member_does.new.home) c.in_ok-did.ensures.served.kept))
 
 pub returns-clause-ended : goal.returns-clause-ended
 returns-clause-ended g c =
-    wants_memory c.tells_of_member.result (seen g.H.Home.file g.H.Home.reach g.H.Home.faults g.H.Home.last_failed c.args.home.now) (seen g.H.Home.file g.H.Home.reach g.H.Home.faults g.H.Home.last_failed c.member_does.new.home) c.in_ok-did.ensures.served.quiet c.tells_of_member.ensures.memory
+    wants_memory c.tells_of_member.result (g.H.Home.seen c.args.home.now) (g.H.Home.seen c.member_does.new.home) c.in_ok-did.ensures.served.quiet c.tells_of_member.ensures.memory
 
 pub returns-then-not-member_up-clause-left : goal.returns-then-not-member_up-clause-left
 returns-then-not-member_up-clause-left g c = λ s r session here.
-    wanting_left c.answers.result _ _ _ _ c.answers.ensures.memory (inl (held_left g.E.Engine.takes g.E.Engine.stands_for c.args.self.now s (g.H.Home.file c.args.home.now) (g.H.Home.reach c.args.home.now) r c.requires.held))
+    wanting_left c.answers.result _ _ _ _ c.answers.ensures.memory (inl (held_left g.E.Engine.takes g.E.Engine.stands_for c.args.self.now s (g.H.Home.seen c.args.home.now) r c.requires.held))
 
 pub returns-in_err-did-clause-left : goal.returns-in_err-did-clause-left
 returns-in_err-did-clause-left g c = λ s r session here.
@@ -125,7 +124,7 @@ returns-in_err-did-clause-left g c = λ s r session here.
     let step = member_does k asked (s.member k) in
     let whole = member_does k asked (member_disarmed (s.member k)) in
     let up : (s.member k).up ≡ true = sym (c.member_up.ensures s r) ∙ c.if-not-member_up.false in
-    let file = g.H.Home.file c.member_does.new.home in
+    let file = (g.H.Home.seen c.member_does.new.home).file in
     let fault = c.in_err-did.field-0.0 in
     let left : AreLeftWith file s (with_member (disarmed s) k whole.state) fault = subst (λ (j : MemberCall). AreLeftWith file s (with_member (disarmed s) k (member_does k j (member_disarmed (s.member k))).state) fault) asks (c.in_err-did.ensures.left s r) in
     let after = (local_answers s c.args.t session k (s.member k).up step).state in
@@ -142,7 +141,7 @@ returns-clause-left g c = λ s r session here.
     let step = member_does k asked (s.member k) in
     let whole = member_does k asked (member_disarmed (s.member k)) in
     let up : (s.member k).up ≡ true = sym (c.member_up.ensures s r) ∙ c.if-not-member_up.false in
-    let file = g.H.Home.file c.member_does.new.home in
+    let file = (g.H.Home.seen c.member_does.new.home).file in
     let stood : RepresentsWorld g.E.Engine.takes g.E.Engine.stands_for c.member_does.new.self (with_member s k step.state) = subst (λ (j : MemberCall). RepresentsWorld g.E.Engine.takes g.E.Engine.stands_for c.member_does.new.self (with_member s k (member_does k j (s.member k)).state)) asks (c.in_ok-did.ensures.stands s r) in
-    let now = held_left g.E.Engine.takes g.E.Engine.stands_for c.member_does.new.self (with_member s k step.state) file (g.H.Home.reach c.member_does.new.home) stood c.in_ok-did.ensures.served.kept in
+    let now = held_left g.E.Engine.takes g.E.Engine.stands_for c.member_does.new.self (with_member s k step.state) file (g.H.Home.seen c.member_does.new.home).reach stood c.in_ok-did.ensures.served.kept in
     wanting_left c.tells_of_member.result _ _ _ _ c.tells_of_member.ensures.memory (inr (inl (local_answers_left file s c.args.t session k (s.member k).up step up now)))

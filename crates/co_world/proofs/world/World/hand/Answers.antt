@@ -19,5 +19,5 @@ returns-clause-stands g c = λ s r.
 
 pub returns-clause-left : goal.returns-clause-left
 returns-clause-left g c = λ s r.
-    left_as c.at_member.result (g.H.Home.file c.at_member.new.home) s _ (step s (happening.Hand c.args.t c.args.member c.args.commit)) _ (step (disarmed s) (happening.Hand c.args.t c.args.member c.args.commit))
+    left_as c.at_member.result (g.H.Home.seen c.at_member.new.home).file s _ (step s (happening.Hand c.args.t c.args.member c.args.commit)) _ (step (disarmed s) (happening.Hand c.args.t c.args.member c.args.commit))
     (handed_is s c.args.member c.args.t c.asker_of-coord.result c.args.commit (c.asker_of-coord.ensures s r)) (handed_is (disarmed s) c.args.member c.args.t c.asker_of-coord.result c.args.commit (c.asker_of-coord.ensures s r)) (c.at_member.ensures.left s r)

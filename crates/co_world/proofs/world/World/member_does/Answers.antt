@@ -1,7 +1,6 @@
 use Rattle.std.proofs.Common.{◌≡◌, ◌<◌, ◌-◌, length, suc, refl, sym, subst, arith}
 use Rattle.std.specs.Prelude.{ℕ}
 use Rattle.std.specs.Vec.{with_item}
-use Rattle.co_node.specs.Answers.{seen}
 use Rattle.co_world.specs.Calls.{MemberMay, member_does}
 use Rattle.co_plain.specs.Federation.{with_member}
 use Rattle.co_plain.specs.Step.{disarmed}
@@ -61,8 +60,8 @@ returns-in-Ok-clause-served g c =
     let here = at_place w.members.items (c.from.result - 1) c.index_mut.result.now place c.index_mut.ensures.value in
     let s = c.requires.stands.0 in
     let are = are_numbered g.E.Engine.takes g.E.Engine.stands_for w s c.requires.stands.1 in
-    let old = seen g.H.Home.file g.H.Home.reach g.H.Home.faults g.H.Home.last_failed c.args.home.now in
-    let new = seen g.H.Home.file g.H.Home.reach g.H.Home.faults g.H.Home.last_failed c.member_does.new.home in
+    let old = g.H.Home.seen c.args.home.now in
+    let new = g.H.Home.seen c.member_does.new.home in
     let served = c.in-Ok.ensures.served in
     record {
       kept = kept_by_member w.members.items w.coords.items are old new c.requires.held (c.from.result - 1) c.index_mut.result.now c.member_does.new.member here c.in-Ok.ensures.same.number c.in-Ok.ensures.rest.others served.kept;
@@ -76,5 +75,5 @@ returns-in-Err-clause-left g c = λ s r.
     let place : c.from.result - 1 < length w.members.items = omega arith in
     let next : suc (c.from.result - 1) ≡ c.args.member = omega arith in
     let here = at_place w.members.items (c.from.result - 1) c.index_mut.result.now place c.index_mut.ensures.value in
-    subst (AreLeftWith (g.H.Home.file c.member_does.new.home) s (with_member (disarmed s) c.args.member (member_does c.args.member c.args.call (member_disarmed (s.member c.args.member))).state)) (sym c.of_node.ensures)
-    (member_fault g.E.Engine.takes g.E.Engine.stands_for w s r (g.H.Home.file c.args.home.now) (g.H.Home.file c.member_does.new.home) (g.H.Home.reach c.args.home.now) (g.H.Home.reach c.member_does.new.home) c.requires.held c.args.member (c.from.result - 1) c.index_mut.result.now c.args.call next here c.in-Err.ensures.rest.others c.in-Err.fault c.in-Err.ensures.left)
+    subst (AreLeftWith (g.H.Home.seen c.member_does.new.home).file s (with_member (disarmed s) c.args.member (member_does c.args.member c.args.call (member_disarmed (s.member c.args.member))).state)) (sym c.of_node.ensures)
+    (member_fault g.E.Engine.takes g.E.Engine.stands_for w s r (g.H.Home.seen c.args.home.now).file (g.H.Home.seen c.member_does.new.home).file (g.H.Home.seen c.args.home.now).reach (g.H.Home.seen c.member_does.new.home).reach c.requires.held c.args.member (c.from.result - 1) c.index_mut.result.now c.args.call next here c.in-Err.ensures.rest.others c.in-Err.fault c.in-Err.ensures.left)

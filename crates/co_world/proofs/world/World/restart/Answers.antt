@@ -1,7 +1,6 @@
 use Rattle.std.proofs.Common.{◌≡◌, Err, length, sym, ap, subst, inl, inr}
 use Rattle.std.specs.Prelude.{IfOk, OnOk, IfErr}
 use Rattle.co_base.specs.declared.node.Node.{Node}
-use Rattle.co_node.specs.Answers.{seen}
 use Rattle.co_plain.specs.Federation.{with_member, with_coord, at_member, at_coord}
 use Rattle.co_plain.specs.MemberLog.{member_restart}
 use Rattle.co_plain.specs.CoordLog.{coord_restart}
@@ -35,7 +34,7 @@ returns-in_err-did-in-Member-clause-count g c =
 
 pub returns-in_err-did-in-Member-clause-ended : goal.returns-in_err-did-in-Member-clause-ended
 returns-in_err-did-in-Member-clause-ended g c =
-    passed c.in_err-did-in-Member.field-0.0 c.from_residual.result (seen g.H.Home.file g.H.Home.reach g.H.Home.faults g.H.Home.last_failed c.args.home.now) (seen g.H.Home.file g.H.Home.reach g.H.Home.faults g.H.Home.last_failed c.member_does.new.home) c.from_residual.ensures c.in_err-did-in-Member.ensures.ended
+    passed c.in_err-did-in-Member.field-0.0 c.from_residual.result (g.H.Home.seen c.args.home.now) (g.H.Home.seen c.member_does.new.home) c.from_residual.ensures c.in_err-did-in-Member.ensures.ended
 
 pub returns-in_ok-did-in-Member-clause-count : goal.returns-in_ok-did-in-Member-clause-count
 returns-in_ok-did-in-Member-clause-count g c =
@@ -51,11 +50,11 @@ returns-in_ok-did-in-Member-clause-stands g c = λ s r.
 
 pub returns-in_ok-did-in-Member-clause-served : goal.returns-in_ok-did-in-Member-clause-served
 returns-in_ok-did-in-Member-clause-served g c =
-    served_after c.tells_of_member.result c.member_does.new.self c.tells_of_member.new.self (seen g.H.Home.file g.H.Home.reach g.H.Home.faults g.H.Home.last_failed c.args.home.now) (seen g.H.Home.file g.H.Home.reach g.H.Home.faults g.H.Home.last_failed c.member_does.new.home) c.in_ok-did-in-Member.ensures.served (c.tells_of_member.ensures.held (g.H.Home.file c.member_does.new.home) (g.H.Home.reach c.member_does.new.home) c.in_ok-did-in-Member.ensures.served.kept)
+    served_after c.tells_of_member.result c.member_does.new.self c.tells_of_member.new.self (g.H.Home.seen c.args.home.now) (g.H.Home.seen c.member_does.new.home) c.in_ok-did-in-Member.ensures.served (c.tells_of_member.ensures.held (g.H.Home.seen c.member_does.new.home) c.in_ok-did-in-Member.ensures.served.kept)
 
 pub returns-in_ok-did-in-Member-clause-ended : goal.returns-in_ok-did-in-Member-clause-ended
 returns-in_ok-did-in-Member-clause-ended g c =
-    wants_memory c.tells_of_member.result (seen g.H.Home.file g.H.Home.reach g.H.Home.faults g.H.Home.last_failed c.args.home.now) (seen g.H.Home.file g.H.Home.reach g.H.Home.faults g.H.Home.last_failed c.member_does.new.home) c.in_ok-did-in-Member.ensures.served.quiet c.tells_of_member.ensures.memory
+    wants_memory c.tells_of_member.result (g.H.Home.seen c.args.home.now) (g.H.Home.seen c.member_does.new.home) c.in_ok-did-in-Member.ensures.served.quiet c.tells_of_member.ensures.memory
 
 pub coord_does-requires-clause-in_head : goal.coord_does-requires-clause-in_head
 coord_does-requires-clause-in_head g c =
@@ -74,7 +73,7 @@ returns-in_err-did-in-Coord-clause-count g c =
 
 pub returns-in_err-did-in-Coord-clause-ended : goal.returns-in_err-did-in-Coord-clause-ended
 returns-in_err-did-in-Coord-clause-ended g c =
-    passed c.in_err-did-in-Coord.field-0.0 c.from_residual-in_err-did-in-Coord.result (seen g.H.Home.file g.H.Home.reach g.H.Home.faults g.H.Home.last_failed c.args.home.now) (seen g.H.Home.file g.H.Home.reach g.H.Home.faults g.H.Home.last_failed c.coord_does.new.home) c.from_residual-in_err-did-in-Coord.ensures c.in_err-did-in-Coord.ensures.ended
+    passed c.in_err-did-in-Coord.field-0.0 c.from_residual-in_err-did-in-Coord.result (g.H.Home.seen c.args.home.now) (g.H.Home.seen c.coord_does.new.home) c.from_residual-in_err-did-in-Coord.ensures c.in_err-did-in-Coord.ensures.ended
 
 pub returns-in_ok-did-in-Coord-clause-count : goal.returns-in_ok-did-in-Coord-clause-count
 returns-in_ok-did-in-Coord-clause-count g c =
@@ -90,16 +89,16 @@ returns-in_ok-did-in-Coord-clause-stands g c = λ s r.
 
 pub returns-in_ok-did-in-Coord-clause-served : goal.returns-in_ok-did-in-Coord-clause-served
 returns-in_ok-did-in-Coord-clause-served g c =
-    served_after c.tells_of_coord.result c.coord_does.new.self c.tells_of_coord.new.self (seen g.H.Home.file g.H.Home.reach g.H.Home.faults g.H.Home.last_failed c.args.home.now) (seen g.H.Home.file g.H.Home.reach g.H.Home.faults g.H.Home.last_failed c.coord_does.new.home) c.in_ok-did-in-Coord.ensures.served (c.tells_of_coord.ensures.held (g.H.Home.file c.coord_does.new.home) (g.H.Home.reach c.coord_does.new.home) c.in_ok-did-in-Coord.ensures.served.kept)
+    served_after c.tells_of_coord.result c.coord_does.new.self c.tells_of_coord.new.self (g.H.Home.seen c.args.home.now) (g.H.Home.seen c.coord_does.new.home) c.in_ok-did-in-Coord.ensures.served (c.tells_of_coord.ensures.held (g.H.Home.seen c.coord_does.new.home) c.in_ok-did-in-Coord.ensures.served.kept)
 
 pub returns-in_ok-did-in-Coord-clause-ended : goal.returns-in_ok-did-in-Coord-clause-ended
 returns-in_ok-did-in-Coord-clause-ended g c =
-    wants_memory c.tells_of_coord.result (seen g.H.Home.file g.H.Home.reach g.H.Home.faults g.H.Home.last_failed c.args.home.now) (seen g.H.Home.file g.H.Home.reach g.H.Home.faults g.H.Home.last_failed c.coord_does.new.home) c.in_ok-did-in-Coord.ensures.served.quiet c.tells_of_coord.ensures.memory
+    wants_memory c.tells_of_coord.result (g.H.Home.seen c.args.home.now) (g.H.Home.seen c.coord_does.new.home) c.in_ok-did-in-Coord.ensures.served.quiet c.tells_of_coord.ensures.memory
 
 pub returns-in_err-did-in-Member-clause-left : goal.returns-in_err-did-in-Member-clause-left
 returns-in_err-did-in-Member-clause-left g c = λ s r.
     let k = c.in-Member.member in
-    let file = g.H.Home.file c.member_does.new.home in
+    let file = (g.H.Home.seen c.member_does.new.home).file in
     let step = member_restart (s.member k) in
     let whole = member_restart (member_disarmed (s.member k)) in
     let fault = c.in_err-did-in-Member.field-0.0 in
@@ -112,15 +111,15 @@ returns-in_err-did-in-Member-clause-left g c = λ s r.
 pub returns-in_ok-did-in-Member-clause-left : goal.returns-in_ok-did-in-Member-clause-left
 returns-in_ok-did-in-Member-clause-left g c = λ s r.
     let k = c.in-Member.member in
-    let file = g.H.Home.file c.member_does.new.home in
+    let file = (g.H.Home.seen c.member_does.new.home).file in
     let step = member_restart (s.member k) in
-    let now = held_left g.E.Engine.takes g.E.Engine.stands_for c.member_does.new.self (with_member s k step.state) file (g.H.Home.reach c.member_does.new.home) (c.in_ok-did-in-Member.ensures.stands s r) c.in_ok-did-in-Member.ensures.served.kept in
+    let now = held_left g.E.Engine.takes g.E.Engine.stands_for c.member_does.new.self (with_member s k step.state) file (g.H.Home.seen c.member_does.new.home).reach (c.in_ok-did-in-Member.ensures.stands s r) c.in_ok-did-in-Member.ensures.served.kept in
     subst (λ (n : Node). IfErr c.tells_of_member.result (AreLeftBy file s (restart_at s n).state (restart_at (disarmed s) n).state)) (sym c.in-Member.is) (wanting_left c.tells_of_member.result _ _ _ _ c.tells_of_member.ensures.memory (inr (inl (at_member_left file s k step now))))
 
 pub returns-in_err-did-in-Coord-clause-left : goal.returns-in_err-did-in-Coord-clause-left
 returns-in_err-did-in-Coord-clause-left g c = λ s r.
     let k = c.in-Coord.coord in
-    let file = g.H.Home.file c.coord_does.new.home in
+    let file = (g.H.Home.seen c.coord_does.new.home).file in
     let step = coord_restart (s.coord k) in
     let whole = coord_restart (coord_disarmed (s.coord k)) in
     let fault = c.in_err-did-in-Coord.field-0.0 in
@@ -133,7 +132,7 @@ returns-in_err-did-in-Coord-clause-left g c = λ s r.
 pub returns-in_ok-did-in-Coord-clause-left : goal.returns-in_ok-did-in-Coord-clause-left
 returns-in_ok-did-in-Coord-clause-left g c = λ s r.
     let k = c.in-Coord.coord in
-    let file = g.H.Home.file c.coord_does.new.home in
+    let file = (g.H.Home.seen c.coord_does.new.home).file in
     let step = coord_restart (s.coord k) in
-    let now = held_left g.E.Engine.takes g.E.Engine.stands_for c.coord_does.new.self (with_coord s k step.state) file (g.H.Home.reach c.coord_does.new.home) (c.in_ok-did-in-Coord.ensures.stands s r) c.in_ok-did-in-Coord.ensures.served.kept in
+    let now = held_left g.E.Engine.takes g.E.Engine.stands_for c.coord_does.new.self (with_coord s k step.state) file (g.H.Home.seen c.coord_does.new.home).reach (c.in_ok-did-in-Coord.ensures.stands s r) c.in_ok-did-in-Coord.ensures.served.kept in
     subst (λ (n : Node). IfErr c.tells_of_coord.result (AreLeftBy file s (restart_at s n).state (restart_at (disarmed s) n).state)) (sym c.in-Coord.is) (wanting_left c.tells_of_coord.result _ _ _ _ c.tells_of_coord.ensures.memory (inr (inl (at_coord_left file s k step now))))

@@ -3,7 +3,6 @@ use Rattle.std.specs.Prelude.{IfOk, OnOk, IsErrOf, ◌↔◌, IfErr}
 use Rattle.co_durable.specs.declared.fault.WorldFault.TheVariants as world
 use Rattle.co_world.specs.Counting.{MeetsLimit}
 use Rattle.co_message.specs.declared.event.Event.{Event}
-use Rattle.co_node.specs.Answers.{seen}
 use Rattle.co_plain.specs.Runs.{numbered}
 use Rattle.co_plain.specs.Step.{step_line, disarmed}
 use Rattle.co_schedule.specs.View.{IsEventFor}
@@ -76,11 +75,11 @@ returns-in-Local-clause-stands g c = λ s r ready.
 
 pub returns-in-Local-clause-served : goal.returns-in-Local-clause-served
 returns-in-Local-clause-served g c =
-    served_alone c.begin_local.result c.begin_local.new.self (seen g.H.Home.file g.H.Home.reach g.H.Home.faults g.H.Home.last_failed c.args.home.now) (c.begin_local.ensures.held (g.H.Home.file c.args.home.now) (g.H.Home.reach c.args.home.now) c.requires.held)
+    served_alone c.begin_local.result c.begin_local.new.self (g.H.Home.seen c.args.home.now) (c.begin_local.ensures.held (g.H.Home.seen c.args.home.now) c.requires.held)
 
 pub returns-in-Local-clause-ended : goal.returns-in-Local-clause-ended
 returns-in-Local-clause-ended g c =
-    unserved c.begin_local.result (seen g.H.Home.file g.H.Home.reach g.H.Home.faults g.H.Home.last_failed c.args.home.now) c.begin_local.ensures.ended
+    unserved c.begin_local.result (g.H.Home.seen c.args.home.now) c.begin_local.ensures.ended
 
 pub reads-requires-clause-in_head : goal.reads-requires-clause-in_head
 reads-requires-clause-in_head g c =
@@ -113,11 +112,11 @@ returns-in-Read-clause-stands g c = λ s r ready.
 
 pub returns-in-Read-clause-served : goal.returns-in-Read-clause-served
 returns-in-Read-clause-served g c =
-    served_alone c.reads.result c.reads.new.self (seen g.H.Home.file g.H.Home.reach g.H.Home.faults g.H.Home.last_failed c.args.home.now) (c.reads.ensures.held (g.H.Home.file c.args.home.now) (g.H.Home.reach c.args.home.now) c.requires.held)
+    served_alone c.reads.result c.reads.new.self (g.H.Home.seen c.args.home.now) (c.reads.ensures.held (g.H.Home.seen c.args.home.now) c.requires.held)
 
 pub returns-in-Read-clause-ended : goal.returns-in-Read-clause-ended
 returns-in-Read-clause-ended g c =
-    wants_memory c.reads.result (seen g.H.Home.file g.H.Home.reach g.H.Home.faults g.H.Home.last_failed c.args.home.now) (seen g.H.Home.file g.H.Home.reach g.H.Home.faults g.H.Home.last_failed c.args.home.now) refl c.reads.ensures.memory
+    wants_memory c.reads.result (g.H.Home.seen c.args.home.now) (g.H.Home.seen c.args.home.now) refl c.reads.ensures.memory
 
 pub writes-requires-clause-in_head : goal.writes-requires-clause-in_head
 writes-requires-clause-in_head g c =
@@ -150,11 +149,11 @@ returns-in-Write-clause-stands g c = λ s r ready.
 
 pub returns-in-Write-clause-served : goal.returns-in-Write-clause-served
 returns-in-Write-clause-served g c =
-    served_alone c.writes.result c.writes.new.self (seen g.H.Home.file g.H.Home.reach g.H.Home.faults g.H.Home.last_failed c.args.home.now) (c.writes.ensures.held (g.H.Home.file c.args.home.now) (g.H.Home.reach c.args.home.now) c.requires.held)
+    served_alone c.writes.result c.writes.new.self (g.H.Home.seen c.args.home.now) (c.writes.ensures.held (g.H.Home.seen c.args.home.now) c.requires.held)
 
 pub returns-in-Write-clause-ended : goal.returns-in-Write-clause-ended
 returns-in-Write-clause-ended g c =
-    wants_memory c.writes.result (seen g.H.Home.file g.H.Home.reach g.H.Home.faults g.H.Home.last_failed c.args.home.now) (seen g.H.Home.file g.H.Home.reach g.H.Home.faults g.H.Home.last_failed c.args.home.now) refl c.writes.ensures.memory
+    wants_memory c.writes.result (g.H.Home.seen c.args.home.now) (g.H.Home.seen c.args.home.now) refl c.writes.ensures.memory
 
 pub erases-requires-clause-in_head : goal.erases-requires-clause-in_head
 erases-requires-clause-in_head g c =
@@ -187,11 +186,11 @@ returns-in-Erase-clause-stands g c = λ s r ready.
 
 pub returns-in-Erase-clause-served : goal.returns-in-Erase-clause-served
 returns-in-Erase-clause-served g c =
-    served_alone c.erases.result c.erases.new.self (seen g.H.Home.file g.H.Home.reach g.H.Home.faults g.H.Home.last_failed c.args.home.now) (c.erases.ensures.held (g.H.Home.file c.args.home.now) (g.H.Home.reach c.args.home.now) c.requires.held)
+    served_alone c.erases.result c.erases.new.self (g.H.Home.seen c.args.home.now) (c.erases.ensures.held (g.H.Home.seen c.args.home.now) c.requires.held)
 
 pub returns-in-Erase-clause-ended : goal.returns-in-Erase-clause-ended
 returns-in-Erase-clause-ended g c =
-    wants_memory c.erases.result (seen g.H.Home.file g.H.Home.reach g.H.Home.faults g.H.Home.last_failed c.args.home.now) (seen g.H.Home.file g.H.Home.reach g.H.Home.faults g.H.Home.last_failed c.args.home.now) refl c.erases.ensures.memory
+    wants_memory c.erases.result (g.H.Home.seen c.args.home.now) (g.H.Home.seen c.args.home.now) refl c.erases.ensures.memory
 
 pub scans-requires-clause-in_head : goal.scans-requires-clause-in_head
 scans-requires-clause-in_head g c =
@@ -224,11 +223,11 @@ returns-in-Scan-clause-stands g c = λ s r ready.
 
 pub returns-in-Scan-clause-served : goal.returns-in-Scan-clause-served
 returns-in-Scan-clause-served g c =
-    served_alone c.scans.result c.scans.new.self (seen g.H.Home.file g.H.Home.reach g.H.Home.faults g.H.Home.last_failed c.args.home.now) (c.scans.ensures.held (g.H.Home.file c.args.home.now) (g.H.Home.reach c.args.home.now) c.requires.held)
+    served_alone c.scans.result c.scans.new.self (g.H.Home.seen c.args.home.now) (c.scans.ensures.held (g.H.Home.seen c.args.home.now) c.requires.held)
 
 pub returns-in-Scan-clause-ended : goal.returns-in-Scan-clause-ended
 returns-in-Scan-clause-ended g c =
-    wants_memory c.scans.result (seen g.H.Home.file g.H.Home.reach g.H.Home.faults g.H.Home.last_failed c.args.home.now) (seen g.H.Home.file g.H.Home.reach g.H.Home.faults g.H.Home.last_failed c.args.home.now) refl c.scans.ensures.memory
+    wants_memory c.scans.result (g.H.Home.seen c.args.home.now) (g.H.Home.seen c.args.home.now) refl c.scans.ensures.memory
 
 pub end-requires-clause-stands : goal.end-requires-clause-stands
 end-requires-clause-stands g c =
@@ -636,68 +635,68 @@ returns-in-Arm-clause-ended g c =
 
 pub returns-in-Begin-clause-left : goal.returns-in-Begin-clause-left
 returns-in-Begin-clause-left g c = λ s r ready.
-    subst (λ (e : Event). IfErr c.begin.result (AreLeftBy (g.H.Home.file c.begin.new.home) s (step_line s e).state (step_line (disarmed s) e).state)) (sym c.in-Begin.is) (c.begin.ensures.left s r)
+    subst (λ (e : Event). IfErr c.begin.result (AreLeftBy (g.H.Home.seen c.begin.new.home).file s (step_line s e).state (step_line (disarmed s) e).state)) (sym c.in-Begin.is) (c.begin.ensures.left s r)
 
 pub returns-in-Local-clause-left : goal.returns-in-Local-clause-left
 returns-in-Local-clause-left g c = λ s r ready.
-    unserved_left c.begin_local.result _ _ _ _ c.begin_local.ensures.ended (inl (held_left g.E.Engine.takes g.E.Engine.stands_for c.args.self.now s (g.H.Home.file c.args.home.now) (g.H.Home.reach c.args.home.now) r c.requires.held))
+    unserved_left c.begin_local.result _ _ _ _ c.begin_local.ensures.ended (inl (held_left g.E.Engine.takes g.E.Engine.stands_for c.args.self.now s (g.H.Home.seen c.args.home.now) r c.requires.held))
 
 pub returns-in-Read-clause-left : goal.returns-in-Read-clause-left
 returns-in-Read-clause-left g c = λ s r ready.
-    wanting_left c.reads.result _ _ _ _ c.reads.ensures.memory (inl (held_left g.E.Engine.takes g.E.Engine.stands_for c.args.self.now s (g.H.Home.file c.args.home.now) (g.H.Home.reach c.args.home.now) r c.requires.held))
+    wanting_left c.reads.result _ _ _ _ c.reads.ensures.memory (inl (held_left g.E.Engine.takes g.E.Engine.stands_for c.args.self.now s (g.H.Home.seen c.args.home.now) r c.requires.held))
 
 pub returns-in-Write-clause-left : goal.returns-in-Write-clause-left
 returns-in-Write-clause-left g c = λ s r ready.
-    wanting_left c.writes.result _ _ _ _ c.writes.ensures.memory (inl (held_left g.E.Engine.takes g.E.Engine.stands_for c.args.self.now s (g.H.Home.file c.args.home.now) (g.H.Home.reach c.args.home.now) r c.requires.held))
+    wanting_left c.writes.result _ _ _ _ c.writes.ensures.memory (inl (held_left g.E.Engine.takes g.E.Engine.stands_for c.args.self.now s (g.H.Home.seen c.args.home.now) r c.requires.held))
 
 pub returns-in-Erase-clause-left : goal.returns-in-Erase-clause-left
 returns-in-Erase-clause-left g c = λ s r ready.
-    wanting_left c.erases.result _ _ _ _ c.erases.ensures.memory (inl (held_left g.E.Engine.takes g.E.Engine.stands_for c.args.self.now s (g.H.Home.file c.args.home.now) (g.H.Home.reach c.args.home.now) r c.requires.held))
+    wanting_left c.erases.result _ _ _ _ c.erases.ensures.memory (inl (held_left g.E.Engine.takes g.E.Engine.stands_for c.args.self.now s (g.H.Home.seen c.args.home.now) r c.requires.held))
 
 pub returns-in-Scan-clause-left : goal.returns-in-Scan-clause-left
 returns-in-Scan-clause-left g c = λ s r ready.
-    wanting_left c.scans.result _ _ _ _ c.scans.ensures.memory (inl (held_left g.E.Engine.takes g.E.Engine.stands_for c.args.self.now s (g.H.Home.file c.args.home.now) (g.H.Home.reach c.args.home.now) r c.requires.held))
+    wanting_left c.scans.result _ _ _ _ c.scans.ensures.memory (inl (held_left g.E.Engine.takes g.E.Engine.stands_for c.args.self.now s (g.H.Home.seen c.args.home.now) r c.requires.held))
 
 pub returns-in-Commit-clause-left : goal.returns-in-Commit-clause-left
 returns-in-Commit-clause-left g c = λ s r ready.
-    subst (λ (e : Event). IfErr c.end.result (AreLeftBy (g.H.Home.file c.end.new.home) s (step_line s e).state (step_line (disarmed s) e).state)) (sym c.in-Commit.is) (c.end.ensures.left s r ready)
+    subst (λ (e : Event). IfErr c.end.result (AreLeftBy (g.H.Home.seen c.end.new.home).file s (step_line s e).state (step_line (disarmed s) e).state)) (sym c.in-Commit.is) (c.end.ensures.left s r ready)
 
 pub returns-in-Abort-clause-left : goal.returns-in-Abort-clause-left
 returns-in-Abort-clause-left g c = λ s r ready.
-    subst (λ (e : Event). IfErr c.end-in-Abort.result (AreLeftBy (g.H.Home.file c.end-in-Abort.new.home) s (step_line s e).state (step_line (disarmed s) e).state)) (sym c.in-Abort.is) (c.end-in-Abort.ensures.left s r ready)
+    subst (λ (e : Event). IfErr c.end-in-Abort.result (AreLeftBy (g.H.Home.seen c.end-in-Abort.new.home).file s (step_line s e).state (step_line (disarmed s) e).state)) (sym c.in-Abort.is) (c.end-in-Abort.ensures.left s r ready)
 
 pub returns-in-Deliver-clause-left : goal.returns-in-Deliver-clause-left
 returns-in-Deliver-clause-left g c = λ s r ready.
-    subst (λ (e : Event). IfErr c.deliver.result (AreLeftBy (g.H.Home.file c.deliver.new.home) s (step_line s e).state (step_line (disarmed s) e).state)) (sym c.in-Deliver.is) (c.deliver.ensures.left s r ready)
+    subst (λ (e : Event). IfErr c.deliver.result (AreLeftBy (g.H.Home.seen c.deliver.new.home).file s (step_line s e).state (step_line (disarmed s) e).state)) (sym c.in-Deliver.is) (c.deliver.ensures.left s r ready)
 
 pub returns-in-Vote-clause-left : goal.returns-in-Vote-clause-left
 returns-in-Vote-clause-left g c = λ s r ready.
-    subst (λ (e : Event). IfErr c.at_member.result (AreLeftBy (g.H.Home.file c.at_member.new.home) s (step_line s e).state (step_line (disarmed s) e).state)) (sym c.in-Vote.is) (c.at_member.ensures.left s r)
+    subst (λ (e : Event). IfErr c.at_member.result (AreLeftBy (g.H.Home.seen c.at_member.new.home).file s (step_line s e).state (step_line (disarmed s) e).state)) (sym c.in-Vote.is) (c.at_member.ensures.left s r)
 
 pub returns-in-Timer-clause-left : goal.returns-in-Timer-clause-left
 returns-in-Timer-clause-left g c = λ s r ready.
-    subst (λ (e : Event). IfErr c.timer.result (AreLeftBy (g.H.Home.file c.timer.new.home) s (step_line s e).state (step_line (disarmed s) e).state)) (sym c.in-Timer.is) (c.timer.ensures.left s r)
+    subst (λ (e : Event). IfErr c.timer.result (AreLeftBy (g.H.Home.seen c.timer.new.home).file s (step_line s e).state (step_line (disarmed s) e).state)) (sym c.in-Timer.is) (c.timer.ensures.left s r)
 
 pub returns-in-Ask-clause-left : goal.returns-in-Ask-clause-left
 returns-in-Ask-clause-left g c = λ s r ready.
-    subst (λ (e : Event). IfErr c.at_member-in-Ask.result (AreLeftBy (g.H.Home.file c.at_member-in-Ask.new.home) s (step_line s e).state (step_line (disarmed s) e).state)) (sym c.in-Ask.is) (c.at_member-in-Ask.ensures.left s r)
+    subst (λ (e : Event). IfErr c.at_member-in-Ask.result (AreLeftBy (g.H.Home.seen c.at_member-in-Ask.new.home).file s (step_line s e).state (step_line (disarmed s) e).state)) (sym c.in-Ask.is) (c.at_member-in-Ask.ensures.left s r)
 
 pub returns-in-Resend-clause-left : goal.returns-in-Resend-clause-left
 returns-in-Resend-clause-left g c = λ s r ready.
-    subst (λ (e : Event). IfErr c.at_coord.result (AreLeftBy (g.H.Home.file c.at_coord.new.home) s (step_line s e).state (step_line (disarmed s) e).state)) (sym c.in-Resend.is) (c.at_coord.ensures.left s r)
+    subst (λ (e : Event). IfErr c.at_coord.result (AreLeftBy (g.H.Home.seen c.at_coord.new.home).file s (step_line s e).state (step_line (disarmed s) e).state)) (sym c.in-Resend.is) (c.at_coord.ensures.left s r)
 
 pub returns-in-Crash-clause-left : goal.returns-in-Crash-clause-left
 returns-in-Crash-clause-left g c = λ s r ready.
-    subst (λ (e : Event). IfErr c.crash.result (AreLeftBy (g.H.Home.file c.crash.new.home) s (step_line s e).state (step_line (disarmed s) e).state)) (sym c.in-Crash.is) (c.crash.ensures.left s r)
+    subst (λ (e : Event). IfErr c.crash.result (AreLeftBy (g.H.Home.seen c.crash.new.home).file s (step_line s e).state (step_line (disarmed s) e).state)) (sym c.in-Crash.is) (c.crash.ensures.left s r)
 
 pub returns-in-Restart-clause-left : goal.returns-in-Restart-clause-left
 returns-in-Restart-clause-left g c = λ s r ready.
-    subst (λ (e : Event). IfErr c.restart.result (AreLeftBy (g.H.Home.file c.restart.new.home) s (step_line s e).state (step_line (disarmed s) e).state)) (sym c.in-Restart.is) (c.restart.ensures.left s r)
+    subst (λ (e : Event). IfErr c.restart.result (AreLeftBy (g.H.Home.seen c.restart.new.home).file s (step_line s e).state (step_line (disarmed s) e).state)) (sym c.in-Restart.is) (c.restart.ensures.left s r)
 
 pub returns-in-Arm-clause-left : goal.returns-in-Arm-clause-left
 returns-in-Arm-clause-left g c = λ s r ready.
-    subst (λ (e : Event). IfErr c.arm.result (AreLeftBy (g.H.Home.file c.arm.new.home) s (step_line s e).state (step_line (disarmed s) e).state)) (sym c.in-Arm.is) (c.arm.ensures.left s r)
+    subst (λ (e : Event). IfErr c.arm.result (AreLeftBy (g.H.Home.seen c.arm.new.home).file s (step_line s e).state (step_line (disarmed s) e).state)) (sym c.in-Arm.is) (c.arm.ensures.left s r)
 
 pub returns-in-Checkpoint-clause-left : goal.returns-in-Checkpoint-clause-left
 returns-in-Checkpoint-clause-left g c = λ s r ready.
-    subst (λ (e : Event). IfErr c.checkpoint.result (AreLeftBy (g.H.Home.file c.checkpoint.new.home) s (step_line s e).state (step_line (disarmed s) e).state)) (sym c.in-Checkpoint.is) (c.checkpoint.ensures.left s r)
+    subst (λ (e : Event). IfErr c.checkpoint.result (AreLeftBy (g.H.Home.seen c.checkpoint.new.home).file s (step_line s e).state (step_line (disarmed s) e).state)) (sym c.in-Checkpoint.is) (c.checkpoint.ensures.left s r)

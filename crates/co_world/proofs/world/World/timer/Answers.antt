@@ -72,8 +72,8 @@ returns-in-Coord-clause-ended g c =
 
 pub returns-in-Member-clause-left : goal.returns-in-Member-clause-left
 returns-in-Member-clause-left g c = λ s r.
-    subst (λ (n : Node). IfErr c.at_member.result (AreLeftBy (g.H.Home.file c.at_member.new.home) s (timer_at s c.args.t n).state (timer_at (disarmed s) c.args.t n).state)) (sym c.in-Member.is) (c.at_member.ensures.left s r)
+    subst (λ (n : Node). IfErr c.at_member.result (AreLeftBy (g.H.Home.seen c.at_member.new.home).file s (timer_at s c.args.t n).state (timer_at (disarmed s) c.args.t n).state)) (sym c.in-Member.is) (c.at_member.ensures.left s r)
 
 pub returns-in-Coord-clause-left : goal.returns-in-Coord-clause-left
 returns-in-Coord-clause-left g c = λ s r.
-    subst (λ (n : Node). IfErr c.at_coord.result (AreLeftBy (g.H.Home.file c.at_coord.new.home) s (timer_at s c.args.t n).state (timer_at (disarmed s) c.args.t n).state)) (sym c.in-Coord.is) (c.at_coord.ensures.left s r)
+    subst (λ (n : Node). IfErr c.at_coord.result (AreLeftBy (g.H.Home.seen c.at_coord.new.home).file s (timer_at s c.args.t n).state (timer_at (disarmed s) c.args.t n).state)) (sym c.in-Coord.is) (c.at_coord.ensures.left s r)
