@@ -20,24 +20,24 @@ use Rattle.co_coord.specs.declared.plan.Writes.{Writes}
 use Rattle.co_coord.specs.declared.step.CoordStep.{CoordStep}
 
 -- the directory stays as it is
-pub still_served : (owner : Node) (home : HomeView) (log after : LogView) (l : LogState) → RepresentsLog owner log l → IsHeld home.file home.reach log → IsShort log.current × IsShort log.spare → IsHeld home.file home.reach after
+pub still_served : (owner : Node) (home : HomeView) (log after : LogView) (l : LogState) → RepresentsLog owner log l → IsHeld home log → IsShort log.current × IsShort log.spare → IsHeld home after
     → IsServed owner after home home
 still_served owner home log after l s held short now =
     record {
       held = now;
       clean_a = λ clean. clean;
       clean_b = λ clean. clean;
-      within = files_within owner home.file home.reach log l s held short;
+      within = files_within owner home log l s held short;
       quiet = refl;
     }
 
 -- there was no memory before anything was written at this file
-pub wanting : (owner : Node) (at : Spot) (long : Type 0) (that : List Record) (l : LogState) (log : LogView) (home : HomeView) (out : Result CoordStep NodeFault) → IsErr out × IsErrAnd out (λ e. e ≡ Memory) → RepresentsLog owner log l → IsHeld home.file home.reach log
+pub wanting : (owner : Node) (at : Spot) (long : Type 0) (that : List Record) (l : LogState) (log : LogView) (home : HomeView) (out : Result CoordStep NodeFault) → IsErr out × IsErrAnd out (λ e. e ≡ Memory) → RepresentsLog owner log l → IsHeld home log
     → IsShort log.current × IsShort log.spare → IsAnswered owner at long l.stable that log home home (written_by out)
 wanting owner at long that l log home (Ok d) is s held short = absurd is.1
-wanting owner at long that l log home (Err e) is s held short = memory_answered owner at long l.stable that log home (Err e) is (left_before owner home.file home.reach log l s held short)
+wanting owner at long that l log home (Err e) is s held short = memory_answered owner at long l.stable that log home (Err e) is (left_before owner home log l s held short)
 
-pub wants_memory : (owner : Node) (w : Writes) (l : LogState) (log : LogView) (home : HomeView) (out : Result CoordStep NodeFault) → IsErr out × IsErrAnd out (λ e. e ≡ Memory) → RepresentsLog owner log l → IsHeld home.file home.reach log
+pub wants_memory : (owner : Node) (w : Writes) (l : LogState) (log : LogView) (home : HomeView) (out : Result CoordStep NodeFault) → IsErr out × IsErrAnd out (λ e. e ≡ Memory) → RepresentsLog owner log l → IsHeld home log
     → IsShort log.current × IsShort log.spare → IsAnsweredFor w owner l log log home home (written_by out)
 wants_memory owner w l log home out is s held short = wanting owner log.current.spot (IsTooLongFor w log) (stable_after w l) l log home out is s held short
 

@@ -36,6 +36,6 @@ reread_by (Ok d) = Ok tt
 reread_by (Err e) = Err e
 
 -- A coordinator that is up answers and leaves the directory; one that is down reads the files of its log again.
-abbrev pub IsRestarted : {H : Type 0} → Bool → (H → Spot → ℕ → List ℕ → Type 0) → (H → Spot → Option File) → (H → Spot → ℕ) → (H → Option (List ℕ)) → (H → ℕ) → (H → Spot) → LogView → H → H → Result CoordStep NodeFault → Type 0
-IsRestarted true gives file reach entered faults last_failed l old new result = IsOk result × (new ≡ old)
-IsRestarted false gives file reach entered faults last_failed l old new result = IsReread gives file reach entered faults last_failed l old new (reread_by result)
+abbrev pub IsRestarted : {H : Type 0} → Bool → (H → Spot → ℕ → List ℕ → Type 0) → LogView → H → H → Result CoordStep NodeFault → Type 0
+IsRestarted true gives l old new result = IsOk result × (new ≡ old)
+IsRestarted false gives l old new result = IsReread gives l old new (reread_by result)

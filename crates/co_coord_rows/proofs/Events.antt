@@ -33,7 +33,7 @@ delivered Keeps MayName c y laws keeps (message.Prepare t coord m count) up = ke
 delivered Keeps MayName c y laws keeps (message.Decide t coord m commit) up = keeps
 
 -- a checkpoint that was done left a log that the directory has
-pub checkpoint_held : (closed : Bool) (owner : Node) (plain : CoordState) (log after : LogView) (old new : HomeView) (d : CoordStep) → IsCheckpointed closed owner plain log after old new (Ok (Done d.marks)) → IsHeld new.file new.reach after
+pub checkpoint_held : (closed : Bool) (owner : Node) (plain : CoordState) (log after : LogView) (old new : HomeView) (d : CoordStep) → IsCheckpointed closed owner plain log after old new (Ok (Done d.marks)) → IsHeld new after
 checkpoint_held true owner plain log after old new d answered = answered.1.held
 checkpoint_held false owner plain log after old new d answered = answered.1.held
 

@@ -13,10 +13,10 @@ use Rattle.co_durable.specs.declared.fault.WorldFault.{WorldFault}
 use Rattle.co_durable.specs.declared.fault.WorldFault.TheVariants.{Device, Differs, InUse, Bad, Full, Count, Old, Memory}
 
 -- Reading leaves the files and the entered directory, and the count of faults does not fall.
-pub record OnlyReads {H : Type 0} (file : H → Spot → Option File) (entered : H → Option (List ℕ)) (faults : H → ℕ) (old new : H) : Type 0 where
-  pub files : (s : Spot) → file new s ≡ file old s
-  pub directory : entered new ≡ entered old
-  pub count : faults old ≤ faults new
+pub record OnlyReads (old new : HomeView) : Type 0 where
+  pub files : (s : Spot) → new.file s ≡ old.file s
+  pub directory : new.entered ≡ old.entered
+  pub count : old.faults ≤ new.faults
 
 -- the log of a node, as its two files are, where the home tells them; neither is too long
 pub record IsLogOf (file : Spot → Option File) (node : Node) (opened : LogView) : Type 0 where

@@ -1,7 +1,7 @@
 -- Files of a log are within the most bytes of a file.
 use Rattle.std.proofs.Common.{◌≡◌, ◌⊎◌, ℕ, ◌+◌, ◌<◌, ◌≤◌, List, [], ◌∷◌, length, ap, sym, ◌∙◌, arith, inl, inr}
 use Rattle.std.specs.Prelude.{Option, Some}
-use Rattle.co_outside.specs.Home.{File, Agrees, RestStays}
+use Rattle.co_outside.specs.Home.{HomeView, File, Agrees, RestStays}
 use Rattle.co_outside.specs.declared.spot.Spot.{Spot}
 use Rattle.co_disk.specs.DiskModel.{IsImage, read_of}
 use Rattle.co_disk.specs.DiskView.{DiskView}
@@ -31,19 +31,19 @@ image_within file stable batch gate within end short images = λ f told.
     elim (images f told) [ inl early ↦ omega (arith, early.no_longer, both.0) | inr late ↦ omega (arith, late.no_longer, both.1) ]
 
 same_within : (file after : Option File) → after ≡ file → IsWithin 268435456 file → IsWithin 268435456 after
-same_within file after same within = λ f told. within f (sym same ∙ told)
+same_within after.file same within = λ f told. within f (sym same ∙ told)
 
 -- both files are within their bounds where nothing was called
-pub held_within : (file : Spot → Option File) (reach : Spot → ℕ) (log : LogView) → IsHeld file reach log → IsShort log.current → IsShort log.spare → BothWithin file log
-held_within file reach log held current spare = (agreed_within (file log.current.spot) (reach log.current.spot) log.current held.current current, agreed_within (file log.spare.spot) (reach log.spare.spot) log.spare held.spare spare)
+pub held_within : (home : HomeView) (log : LogView) → IsHeld home log → IsShort log.current → IsShort log.spare → BothWithin home.file log
+held_within home log held current spare = (agreed_within (home.file log.current.spot) (home.reach log.current.spot) log.current held.current current, agreed_within (home.file log.spare.spot) (home.reach log.spare.spot) log.spare held.spare spare)
 
-module _ {H : Type 0} (file : H → Spot → Option File) (reach : H → Spot → ℕ) (entered : H → Option (List ℕ)) (faults : H → ℕ) (old new : H) (log : LogView) (held : IsHeld (file old) (reach old) log) where
+module _ (old new : HomeView) (log : LogView) (held : IsHeld old log) where
   -- after calls on the current file alone
-  pub current_within : IsShort log.spare → RestStays file reach entered faults log.current.spot old new → IsWithin 268435456 (file new log.current.spot) → BothWithin (file new) log
+  pub current_within : IsShort log.spare → RestStays log.current.spot old new → IsWithin 268435456 (new.file log.current.spot) → BothWithin (new.file) log
   current_within spare rest within =
-      (within, same_within (file old log.spare.spot) (file new log.spare.spot) (rest.others.files log.spare.spot (λ e. spots_apart log held.spots (sym e))) (agreed_within (file old log.spare.spot) (reach old log.spare.spot) log.spare held.spare spare))
+      (within, same_within (old.file log.spare.spot) (new.file log.spare.spot) (rest.others.files log.spare.spot (λ e. spots_apart log held.spots (sym e))) (agreed_within (old.file log.spare.spot) (old.reach log.spare.spot) log.spare held.spare spare))
 
   -- and on the spare alone
-  pub spare_within : IsShort log.current → RestStays file reach entered faults log.spare.spot old new → IsWithin 268435456 (file new log.spare.spot) → BothWithin (file new) log
+  pub spare_within : IsShort log.current → RestStays log.spare.spot old new → IsWithin 268435456 (new.file log.spare.spot) → BothWithin (new.file) log
   spare_within current rest within =
-      (same_within (file old log.current.spot) (file new log.current.spot) (rest.others.files log.current.spot (λ e. spots_apart log held.spots e)) (agreed_within (file old log.current.spot) (reach old log.current.spot) log.current held.current current), within)
+      (same_within (old.file log.current.spot) (new.file log.current.spot) (rest.others.files log.current.spot (λ e. spots_apart log held.spots e)) (agreed_within (old.file log.current.spot) (old.reach log.current.spot) log.current held.current current), within)

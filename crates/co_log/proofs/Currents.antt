@@ -3,7 +3,7 @@ use Rattle.std.proofs.Common.{◌≡◌, ℕ, ◌+◌, ◌++◌, Bool, true, fal
 use Rattle.std.specs.Prelude.{Option, Some, Result, Ok, Err}
 use Rattle.std.specs.Result.{IsErrAnd}
 use Rattle.co_base.specs.declared.node.Node.{Node}
-use Rattle.co_outside.specs.Home.{File, Agrees, RestStays}
+use Rattle.co_outside.specs.Home.{HomeView, File, Agrees, RestStays}
 use Rattle.co_outside.specs.declared.spot.Spot.{Spot}
 use Rattle.co_disk.specs.DiskModel.{read_of}
 use Rattle.co_disk.specs.DiskView.{DiskView}
@@ -92,33 +92,33 @@ current_fault log items more current spare at Memory of o same either full memor
 -- ---- over a home
 
 -- the told current file is what the log keeps of it, after calls on the spare alone
-pub current_told : {H : Type 0} (file : H → Spot → Option File) (reach : H → Spot → ℕ) (entered : H → Option (List ℕ)) (faults : H → ℕ) (old new : H) (log : LogView) (spot : Spot) (f : File) → IsHeld (file old) (reach old) log → log.current.state.pending ≡ [] → spot ≡ log.spare.spot
-    → RestStays file reach entered faults spot old new → file new log.current.spot ≡ Some f → f.bytes ≡ log.current.state.stable
-current_told file reach entered faults old new log spot f held still its rest told =
+pub current_told : (old new : HomeView) (log : LogView) (spot : Spot) (f : File) → IsHeld old log → log.current.state.pending ≡ [] → spot ≡ log.spare.spot
+    → RestStays spot old new → new.file log.current.spot ≡ Some f → f.bytes ≡ log.current.state.stable
+current_told old new log spot f held still its rest told =
     let kept = rest.others.files log.current.spot (λ e. spots_apart log held.spots (e ∙ its)) in
     held.current.told f (sym kept ∙ told) ∙ read_stable log.current.state still
 
 -- which file is current after a filling that met no fault
-pub filled_current : {H : Type 0} (file : H → Spot → Option File) (reach : H → Spot → ℕ) (entered : H → Option (List ℕ)) (faults : H → ℕ) (old new : H) (log : LogView) (disk : DiskView) (more : List Record) (stable : Bool) → IsHeld (file old) (reach old) log
-    → RestStays file reach entered faults log.spare.spot old new → Agrees (file new log.spare.spot) (reach new log.spare.spot) (read_of disk.state) → disk.state.pending ≡ [] → EndsAfter stable disk.state.stable 0 [] (filling log more)
-    → (items : List (ℕ × Record)) → IsOrdered log items → (c s : File) → file new log.current.spot ≡ Some c → file new log.spare.spot ≡ Some s → IsCurrentIf stable log items more c.bytes s.bytes
-filled_current file reach entered faults old new log disk more stable held rest agrees still ends items o c s told_c told_s =
-    let same = current_told file reach entered faults old new log log.spare.spot c held o.live.still refl rest told_c in
+pub filled_current : (old new : HomeView) (log : LogView) (disk : DiskView) (more : List Record) (stable : Bool) → IsHeld old log
+    → RestStays log.spare.spot old new → Agrees new log.spare.spot (read_of disk.state) → disk.state.pending ≡ [] → EndsAfter stable disk.state.stable 0 [] (filling log more)
+    → (items : List (ℕ × Record)) → IsOrdered log items → (c s : File) → new.file log.current.spot ≡ Some c → new.file log.spare.spot ≡ Some s → IsCurrentIf stable log items more c.bytes s.bytes
+filled_current old new log disk more stable held rest agrees still ends items o c s told_c told_s =
+    let same = current_told old new log log.spare.spot c held o.live.still refl rest told_c in
     let whole : s.bytes ≡ disk.state.stable = agrees.told s told_s ∙ read_stable disk.state still in
     current_if stable log items more c.bytes s.bytes o same (subst (λ (b : List ℕ). EndsAfter stable b 0 [] (filling log more)) (sym whole) ends)
 
 -- the old file stays current where nothing was called
-pub untouched_current : {H : Type 0} (file : H → Spot → Option File) (reach : H → Spot → ℕ) (home : H) (log : LogView) → IsHeld (file home) (reach home) log → log.spare.state.pending ≡ [] → begins_closed log.spare.state.stable ≡ true
-    → (items : List (ℕ × Record)) → IsOrdered log items → (c s : File) → file home log.current.spot ≡ Some c → file home log.spare.spot ≡ Some s → IsOldCurrent log items c.bytes s.bytes
-untouched_current file reach home log held still closed items o c s told_c told_s =
+pub untouched_current : (home : HomeView) (log : LogView) → IsHeld home log → log.spare.state.pending ≡ [] → begins_closed log.spare.state.stable ≡ true
+    → (items : List (ℕ × Record)) → IsOrdered log items → (c s : File) → home.file log.current.spot ≡ Some c → home.file log.spare.spot ≡ Some s → IsOldCurrent log items c.bytes s.bytes
+untouched_current file home.reach log held still closed items o c s told_c told_s =
     old_current log items c.bytes s.bytes o (held.current.told c told_c ∙ read_stable log.current.state o.live.still) (none_older log.node s.bytes log.generation (closed_file log.spare.state s.bytes still closed (held.spare.told s told_s)))
 
 -- and where its spare is closed
-pub closing_current : {H : Type 0} (file : H → Spot → Option File) (reach : H → Spot → ℕ) (entered : H → Option (List ℕ)) (faults : H → ℕ) (old new : H) (log : LogView) (spot : Spot) → IsHeld (file old) (reach old) log → spot ≡ log.spare.spot → RestStays file reach entered faults spot old new
-    → ((f : File) → file new log.spare.spot ≡ Some f → IsSpareImage log.spare.state.stable f.bytes)
-    → (items : List (ℕ × Record)) → IsOrdered log items → (c s : File) → file new log.current.spot ≡ Some c → file new log.spare.spot ≡ Some s → IsOldCurrent log items c.bytes s.bytes
-closing_current file reach entered faults old new log spot held its rest told items o c s told_c told_s =
-    old_current log items c.bytes s.bytes o (current_told file reach entered faults old new log spot c held o.live.still its rest told_c) (image_older log.node log.spare.state.stable s.bytes log.generation o.older (told s told_s))
+pub closing_current : (old new : HomeView) (log : LogView) (spot : Spot) → IsHeld old log → spot ≡ log.spare.spot → RestStays spot old new
+    → ((f : File) → new.file log.spare.spot ≡ Some f → IsSpareImage log.spare.state.stable f.bytes)
+    → (items : List (ℕ × Record)) → IsOrdered log items → (c s : File) → new.file log.current.spot ≡ Some c → new.file log.spare.spot ≡ Some s → IsOldCurrent log items c.bytes s.bytes
+closing_current old new log spot held its rest told items o c s told_c told_s =
+    old_current log items c.bytes s.bytes o (current_told old new log spot c held o.live.still its rest told_c) (image_older log.node log.spare.state.stable s.bytes log.generation o.older (told s told_s))
 
 -- a result that is known to be this fault
 pub err_is : {A : Type 0} (r : Result A LogFault) (x : LogFault) → IsErrAnd r (λ e. e ≡ x) → r ≡ Err x
@@ -131,13 +131,13 @@ same_err (Ok z) x y is h = absurd is
 same_err (Err e) x y is h = let it : e ≡ y = cc in sym is ∙ it
 
 -- which file is current after a filling that met a fault
-pub faulted_current : {H : Type 0} (file : H → Spot → Option File) (reach : H → Spot → ℕ) (entered : H → Option (List ℕ)) (faults : H → ℕ) (old new : H) (log : LogView) (more : List Record) (e : LogFault) → IsHeld (file old) (reach old) log → log.spare.state.pending ≡ []
-    → begins_closed log.spare.state.stable ≡ true → RestStays file reach entered faults log.spare.spot old new → IsOfAppend log.spare.spot e → ((f : File) → file new log.spare.spot ≡ Some f → OldOrBoth f.bytes 0 [] (filling log more))
-    → (e ≡ Full log.spare.spot → new ≡ old) → (e ≡ Memory → (f : File) → file new log.spare.spot ≡ Some f → EndsAt f.bytes 0 [])
-    → (items : List (ℕ × Record)) → IsOrdered log items → (c s : File) → file new log.current.spot ≡ Some c → file new log.spare.spot ≡ Some s → IsCurrentAfter log items more c.bytes s.bytes (Err e)
-faulted_current {H = H} file reach entered faults old new log more e held still closed rest of either full early items o c s told_c told_s =
-    current_fault log items more c.bytes s.bytes log.spare.spot e of o (current_told file reach entered faults old new log log.spare.spot c held o.live.still refl rest told_c) (either s told_s)
-    (λ is. closed_file log.spare.state s.bytes still closed (held.spare.told s (subst (λ (h : H). file h log.spare.spot ≡ Some s) (full is) told_s)))
+pub faulted_current : (old new : HomeView) (log : LogView) (more : List Record) (e : LogFault) → IsHeld old log → log.spare.state.pending ≡ []
+    → begins_closed log.spare.state.stable ≡ true → RestStays log.spare.spot old new → IsOfAppend log.spare.spot e → ((f : File) → new.file log.spare.spot ≡ Some f → OldOrBoth f.bytes 0 [] (filling log more))
+    → (e ≡ Full log.spare.spot → new ≡ old) → (e ≡ Memory → (f : File) → new.file log.spare.spot ≡ Some f → EndsAt f.bytes 0 [])
+    → (items : List (ℕ × Record)) → IsOrdered log items → (c s : File) → new.file log.current.spot ≡ Some c → new.file log.spare.spot ≡ Some s → IsCurrentAfter log items more c.bytes s.bytes (Err e)
+faulted_current {H = H} old new log more e held still closed rest of either full early items o c s told_c told_s =
+    current_fault log items more c.bytes s.bytes log.spare.spot e of o (current_told old new log log.spare.spot c held o.live.still refl rest told_c) (either s told_s)
+    (λ is. closed_file log.spare.state s.bytes still closed (held.spare.told s (subst (λ (h : HomeView). h.file log.spare.spot ≡ Some s) (full is) told_s)))
     (λ is. early is s told_s)
 
 -- ---- after a log write on the current file
@@ -165,25 +165,25 @@ force_fault log latest items more current spare at Memory of begins older either
 pub spare_older : (file after : Spot → Option File) (reach : Spot → ℕ) (log : LogView) (items : List (ℕ × Record)) (f : File) → IsHeld file reach log → IsOrdered log items → after log.spare.spot ≡ file log.spare.spot → after log.spare.spot ≡ Some f → IsOlder log.node f.bytes log.generation
 spare_older file after reach log items f held o kept told = subst (λ (b : List ℕ). IsOlder log.node b log.generation) (sym (held.spare.told f (sym kept ∙ told) ∙ read_stable log.spare.state o.still)) o.older
 
-module _ {H : Type 0} (file : H → Spot → Option File) (reach : H → Spot → ℕ) (entered : H → Option (List ℕ)) (faults : H → ℕ) (old new : H) (log : LogView) (held : IsHeld (file old) (reach old) log) (rest : RestStays file reach entered faults log.current.spot old new) (latest : log.version ≡ newest) where
-  spare_kept : file new log.spare.spot ≡ file old log.spare.spot
+module _ (old new : HomeView) (log : LogView) (held : IsHeld old log) (rest : RestStays log.current.spot old new) (latest : log.version ≡ newest) where
+  spare_kept : new.file log.spare.spot ≡ old.file log.spare.spot
   spare_kept = rest.others.files log.spare.spot (λ e. spots_apart log held.spots (sym e))
 
   -- where it met no fault
-  pub forced_current : (disk : DiskView) (items : List (ℕ × Record)) (more : List Record) (stable : Bool) → Agrees (file new log.current.spot) (reach new log.current.spot) (read_of disk.state) → disk.state.pending ≡ [] → EndsAfter stable disk.state.stable log.gate items more → IsOrdered log items
-      → (c s : File) → file new log.current.spot ≡ Some c → file new log.spare.spot ≡ Some s → IsOldCurrent log (next_items stable log.gate items more) c.bytes s.bytes
+  pub forced_current : (disk : DiskView) (items : List (ℕ × Record)) (more : List Record) (stable : Bool) → Agrees new log.current.spot (read_of disk.state) → disk.state.pending ≡ [] → EndsAfter stable disk.state.stable log.gate items more → IsOrdered log items
+      → (c s : File) → new.file log.current.spot ≡ Some c → new.file log.spare.spot ≡ Some s → IsOldCurrent log (next_items stable log.gate items more) c.bytes s.bytes
   forced_current disk items more stable agrees still ends o c s told_c told_s =
       let whole : c.bytes ≡ disk.state.stable = agrees.told c told_c ∙ read_stable disk.state still in
-      now_current log latest items stable log.gate more c.bytes s.bytes o.header (spare_older (file old) (file new) (reach old) log items s held o spare_kept told_s) (subst (λ (b : List ℕ). EndsAfter stable b log.gate items more) (sym whole) ends)
+      now_current log latest items stable log.gate more c.bytes s.bytes o.header (spare_older (old.file) (new.file) (old.reach) log items s held o spare_kept told_s) (subst (λ (b : List ℕ). EndsAfter stable b log.gate items more) (sym whole) ends)
 
   -- and where it met one
-  pub force_faulted : (items : List (ℕ × Record)) (more : List Record) (e : LogFault) → IsOfAppend log.current.spot e → ((f : File) → file new log.current.spot ≡ Some f → OldOrBoth f.bytes log.gate items more) → (e ≡ Full log.current.spot → new ≡ old)
-      → (e ≡ Memory → (f : File) → file new log.current.spot ≡ Some f → EndsAt f.bytes log.gate items) → IsOrdered log items
-      → (c s : File) → file new log.current.spot ≡ Some c → file new log.spare.spot ≡ Some s → IsCurrentForced log items more c.bytes s.bytes (Err e)
+  pub force_faulted : (items : List (ℕ × Record)) (more : List Record) (e : LogFault) → IsOfAppend log.current.spot e → ((f : File) → new.file log.current.spot ≡ Some f → OldOrBoth f.bytes log.gate items more) → (e ≡ Full log.current.spot → new ≡ old)
+      → (e ≡ Memory → (f : File) → new.file log.current.spot ≡ Some f → EndsAt f.bytes log.gate items) → IsOrdered log items
+      → (c s : File) → new.file log.current.spot ≡ Some c → new.file log.spare.spot ≡ Some s → IsCurrentForced log items more c.bytes s.bytes (Err e)
   force_faulted items more e of either full early o c s told_c told_s =
-      force_fault log latest items more c.bytes s.bytes log.current.spot e of o.header (spare_older (file old) (file new) (reach old) log items s held o spare_kept told_s) (either c told_c)
+      force_fault log latest items more c.bytes s.bytes log.current.spot e of o.header (spare_older (old.file) (new.file) (old.reach) log items s held o spare_kept told_s) (either c told_c)
       (λ is.
-      let before : file old log.current.spot ≡ Some c = subst (λ (h : H). file h log.current.spot ≡ Some c) (full is) told_c in
+      let before : old.file log.current.spot ≡ Some c = subst (λ (h : HomeView). h.file log.current.spot ≡ Some c) (full is) told_c in
       subst (λ (b : List ℕ). EndsAt b log.gate items) (sym (held.current.told c before ∙ read_stable log.current.state o.live.still)) (ends_newest log items latest o.live))
       (λ is. early is c told_c)
 

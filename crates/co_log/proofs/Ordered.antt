@@ -7,7 +7,7 @@ use Rattle.co_record.specs.Spelling.{spelling}
 use Rattle.co_base.specs.Nodes.{IsValidNode}
 use Rattle.co_base.specs.declared.mark.Mark.{Mark}
 use Rattle.co_base.specs.declared.node.Node.{Node}
-use Rattle.co_outside.specs.Home.{File, Agrees}
+use Rattle.co_outside.specs.Home.{HomeView, File, Agrees}
 use Rattle.co_outside.specs.declared.spot.Spot.{Spot}
 use Rattle.co_disk.specs.DiskModel.{read_of}
 use Rattle.co_disk.specs.DiskView.{DiskView}
@@ -245,18 +245,18 @@ found_ordered log is some = elim is [
   | inr one ↦ one
 ]
 
-pub ready_made : (file : Spot → Option File) (reach : Spot → ℕ) (log after : LogView) → IsFresh log × IsValidNode log.node → IsMade log after → IsHeld file reach after → IsReady file reach after
-ready_made file reach log after fresh made held = record { held = held; latest = made.version; items = header_alone log.node; ordered = made_ordered log after fresh.0 fresh.1 made }
+pub ready_made : (home : HomeView) (log after : LogView) → IsFresh log × IsValidNode log.node → IsMade log after → IsHeld home after → IsReady home after
+ready_made home log after fresh made held = record { held = held; latest = made.version; items = header_alone log.node; ordered = made_ordered log after fresh.0 fresh.1 made }
 
-pub ready_written : (file : Spot → Option File) (reach : Spot → ℕ) (log after : LogView) (items : List (ℕ × Record)) (more : List Record) (stable : Bool) → log.version ≡ newest → IsOrdered log items → IsWritten stable log items more after → IsHeld file reach after → IsReady file reach after
-ready_written file reach log after items more stable latest o w held = record { held = held; latest = w.version ∙ latest; items = next_items stable log.gate items more; ordered = written_ordered stable log after items more o w }
+pub ready_written : (home : HomeView) (log after : LogView) (items : List (ℕ × Record)) (more : List Record) (stable : Bool) → log.version ≡ newest → IsOrdered log items → IsWritten stable log items more after → IsHeld home after → IsReady home after
+ready_written home log after items more stable latest o w held = record { held = held; latest = w.version ∙ latest; items = next_items stable log.gate items more; ordered = written_ordered stable log after items more o w }
 
-pub ready_closed : (file : Spot → Option File) (reach : Spot → ℕ) (log after : LogView) (items : List (ℕ × Record)) (closed : Bool) → log.version ≡ newest → IsOrdered log items → IsClosed closed log after → IsHeld file reach after → IsReady file reach after
-ready_closed file reach log after items closed latest o is held = record { held = held; latest = is.version ∙ latest; items = items; ordered = closed_ordered closed log after items o is }
+pub ready_closed : (home : HomeView) (log after : LogView) (items : List (ℕ × Record)) (closed : Bool) → log.version ≡ newest → IsOrdered log items → IsClosed closed log after → IsHeld home after → IsReady home after
+ready_closed home log after items closed latest o is held = record { held = held; latest = is.version ∙ latest; items = items; ordered = closed_ordered closed log after items o is }
 
-pub ready_filled : (file : Spot → Option File) (reach : Spot → ℕ) (log after : LogView) (items : List (ℕ × Record)) (more : List Record) (stable : Bool) → log.version ≡ newest → IsOrdered log items → IsFilledIf stable log after more → IsHeld file reach after → IsReady file reach after
-ready_filled file reach log after items more true latest o is held = record { held = held; latest = is.version; items = placed_from 5 (filling log more); ordered = filled_ordered log after items more o is }
-ready_filled file reach log after items more false latest o is held = record { held = held; latest = is.version ∙ latest; items = items; ordered = unfilled_ordered log after items o is }
+pub ready_filled : (home : HomeView) (log after : LogView) (items : List (ℕ × Record)) (more : List Record) (stable : Bool) → log.version ≡ newest → IsOrdered log items → IsFilledIf stable log after more → IsHeld home after → IsReady home after
+ready_filled home log after items more true latest o is held = record { held = held; latest = is.version; items = placed_from 5 (filling log more); ordered = filled_ordered log after items more o is }
+ready_filled home log after items more false latest o is held = record { held = held; latest = is.version ∙ latest; items = items; ordered = unfilled_ordered log after items o is }
 
 -- a log that keeps its disks, its gate and its generation
 pub ordered_same : (log after : LogView) (items : List (ℕ × Record)) → after.node ≡ log.node → after.version ≡ log.version → after.current ≡ log.current → after.spare ≡ log.spare → after.gate ≡ log.gate → after.generation ≡ log.generation → IsOrdered log items → IsOrdered after items
@@ -274,16 +274,16 @@ ready_kept file further reach room log after r node version current spare gate g
     record { held = held; latest = version ∙ r.latest; items = r.items; ordered = ordered_same log after r.items node version current spare gate generation r.ordered }
 
 -- and its home
-pub ready_same : (file : Spot → Option File) (reach : Spot → ℕ) (log after : LogView) → IsReady file reach log → after.node ≡ log.node → after.version ≡ log.version → after.current ≡ log.current → after.spare ≡ log.spare → after.gate ≡ log.gate → after.generation ≡ log.generation → IsReady file reach after
-ready_same file reach log after r node version current spare gate generation = ready_kept file file reach reach log after r node version current spare gate generation record {
+pub ready_same : (home : HomeView) (log after : LogView) → IsReady home log → after.node ≡ log.node → after.version ≡ log.version → after.current ≡ log.current → after.spare ≡ log.spare → after.gate ≡ log.gate → after.generation ≡ log.generation → IsReady home after
+ready_same home log after r node version current spare gate generation = ready_kept home.file home home.reach log after r node version current spare gate generation record {
   spots = spots_moved log after node (ap (λ (d : DiskView). d.spot) current) (ap (λ (d : DiskView). d.spot) spare) r.held.spots;
-  current = subst (λ (d : DiskView). Agrees (file d.spot) (reach d.spot) (read_of d.state)) (sym current) r.held.current;
-  spare = subst (λ (d : DiskView). Agrees (file d.spot) (reach d.spot) (read_of d.state)) (sym spare) r.held.spare;
+  current = subst (λ (d : DiskView). Agrees home d.spot (read_of d.state)) (sym current) r.held.current;
+  spare = subst (λ (d : DiskView). Agrees home d.spot (read_of d.state)) (sym spare) r.held.spare;
 }
 
 -- the told files of a log in order are current as it has them
-pub held_current : (file : Spot → Option File) (reach : Spot → ℕ) (log : LogView) (items : List (ℕ × Record)) (c s : File) → IsHeld file reach log → IsOrdered log items → file log.current.spot ≡ Some c → file log.spare.spot ≡ Some s → IsCurrentOf log.node log.version log.generation c.bytes s.bytes items
-held_current file reach log items c s held o told_c told_s =
+pub held_current : (home : HomeView) (log : LogView) (items : List (ℕ × Record)) (c s : File) → IsHeld home log → IsOrdered log items → home.file log.current.spot ≡ Some c → home.file log.spare.spot ≡ Some s → IsCurrentOf log.node log.version log.generation c.bytes s.bytes items
+held_current home log items c s held o told_c told_s =
     let older = subst (λ (b : List ℕ). IsOlder log.node b log.generation) (sym (held.spare.told s told_s ∙ read_stable log.spare.state o.still)) o.older in
     old_current log items c.bytes s.bytes o (held.current.told c told_c ∙ read_stable log.current.state o.live.still) older
 

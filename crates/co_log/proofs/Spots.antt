@@ -4,7 +4,7 @@ use Rattle.std.specs.Prelude.{List, Option}
 use Rattle.co_base.specs.Nodes.{IsValidNode, node_byte}
 use Rattle.co_base.specs.declared.node.Node.{Node}
 use Rattle.co_base.specs.declared.node.Node.TheVariants.{Member, Coord}
-use Rattle.co_outside.specs.Home.{File, Agrees, RestStays}
+use Rattle.co_outside.specs.Home.{HomeView, File, Agrees, RestStays}
 use Rattle.co_outside.specs.declared.spot.Spot.{Spot}
 use Rattle.co_disk.specs.DiskModel.{read_of}
 use Rattle.co_disk.specs.DiskView.{DiskView}
@@ -45,9 +45,9 @@ spots_attached node a b log at_a at_b attached = elim attached [
   ]
 ]
 
-pub held_attached : (node : Node) (a b : DiskView) (log : LogView) (file : Spot → Option File) (reach : Spot → ℕ) → a.spot ≡ spot_of node 0 → b.spot ≡ spot_of node 1 → Agrees (file a.spot) (reach a.spot) (read_of a.state) → Agrees (file b.spot) (reach b.spot) (read_of b.state)
-    → IsAttached node a b log → IsHeld file reach log
-held_attached node a b log file reach at_a at_b agrees_a agrees_b attached =
+pub held_attached : (node : Node) (a b : DiskView) (log : LogView) (home : HomeView) → a.spot ≡ spot_of node 0 → b.spot ≡ spot_of node 1 → Agrees home a.spot (read_of a.state) → Agrees home b.spot (read_of b.state)
+    → IsAttached node a b log → IsHeld home log
+held_attached node a b log home at_a at_b agrees_a agrees_b attached =
     let spots = spots_attached node a b log at_a at_b attached in
     elim attached [
       | inl fresh ↦ here log a b fresh.0 agrees_a agrees_b spots
@@ -57,11 +57,11 @@ held_attached node a b log file reach at_a at_b agrees_a agrees_b attached =
       ]
     ]
   where
-    here : {version gate generation : ℕ} (l : LogView) (current spare : DiskView) → l ≡ built node version current spare gate generation → Agrees (file current.spot) (reach current.spot) (read_of current.state) → Agrees (file spare.spot) (reach spare.spot) (read_of spare.state) → HasSpots l → IsHeld file reach l
+    here : {version gate generation : ℕ} (l : LogView) (current spare : DiskView) → l ≡ built node version current spare gate generation → Agrees home current.spot (read_of current.state) → Agrees home spare.spot (read_of spare.state) → HasSpots l → IsHeld home l
     here l current spare is this that own = record {
       spots = own;
-      current = subst (λ (k : LogView). Agrees (file k.current.spot) (reach k.current.spot) (read_of k.current.state)) (sym is) this;
-      spare = subst (λ (k : LogView). Agrees (file k.spare.spot) (reach k.spare.spot) (read_of k.spare.state)) (sym is) that;
+      current = subst (λ (k : LogView). Agrees home k.current.spot (read_of k.current.state)) (sym is) this;
+      spare = subst (λ (k : LogView). Agrees home k.spare.spot (read_of k.spare.state)) (sym is) that;
     }
 
 -- no other file is one of its two
@@ -93,25 +93,25 @@ elsewhere node log one two other spots = elim spots [
 agrees_on : (file after : Option File) (reach further : ℕ) (bytes : List ℕ) → after ≡ file → further ≡ reach → Agrees file reach bytes → Agrees after further bytes
 agrees_on file after reach further bytes same still agrees = record { told = λ f is. agrees.told f (sym same ∙ is); room = omega (arith, agrees.room, still) }
 
-pub held_elsewhere : (node : Node) (file after : Spot → Option File) (reach further : Spot → ℕ) (log : LogView) → IsValidNode node → IsValidNode log.node → log.node ≢ node → OtherFilesStay node file after reach further → IsHeld file reach log → IsHeld after further log
-held_elsewhere node file after reach further log one two other stay held =
+pub held_elsewhere : (node : Node) (old new : HomeView) (log : LogView) → IsValidNode node → IsValidNode log.node → log.node ≢ node → OtherFilesStay node old new → IsHeld old log → IsHeld new log
+held_elsewhere node old new log one two other stay held =
     let away = elsewhere node log one two other held.spots in
     record {
       spots = held.spots;
-      current = agrees_on (file log.current.spot) (after log.current.spot) (reach log.current.spot) (further log.current.spot) (read_of log.current.state) (stay.files log.current.spot away.0 away.1) (stay.reaches log.current.spot away.0 away.1) held.current;
-      spare = agrees_on (file log.spare.spot) (after log.spare.spot) (reach log.spare.spot) (further log.spare.spot) (read_of log.spare.state) (stay.files log.spare.spot away.2 away.3) (stay.reaches log.spare.spot away.2 away.3) held.spare;
+      current = agrees_on (old.file log.current.spot) (new.file log.current.spot) (old.reach log.current.spot) (new.reach log.current.spot) (read_of log.current.state) (stay.files log.current.spot away.0 away.1) (stay.reaches log.current.spot away.0 away.1) held.current;
+      spare = agrees_on (old.file log.spare.spot) (new.file log.spare.spot) (old.reach log.spare.spot) (new.reach log.spare.spot) (read_of log.spare.state) (stay.files log.spare.spot away.2 away.3) (stay.reaches log.spare.spot away.2 away.3) held.spare;
     }
 
-module _ {H : Type 0} (file : H → Spot → Option File) (reach : H → Spot → ℕ) (entered : H → Option (List ℕ)) (faults : H → ℕ) (log : LogView) (spots : HasSpots log) where
+module _ (log : LogView) (spots : HasSpots log) where
   -- a call on one of its two files leaves all other nodes
-  pub current_only : (old new : H) → RestStays file reach entered faults log.current.spot old new → OtherNodesStay file reach entered faults log.node old new
+  pub current_only : (old new : HomeView) → RestStays log.current.spot old new → OtherNodesStay log.node old new
   current_only old new rest = record {
     others = record { files = λ s a b. rest.others.files s (not_current log s spots a b); reaches = λ s a b. rest.others.reaches s (not_current log s spots a b) };
     directory = rest.others.directory;
     count = rest.count;
   }
 
-  pub spare_only : (old new : H) → RestStays file reach entered faults log.spare.spot old new → OtherNodesStay file reach entered faults log.node old new
+  pub spare_only : (old new : HomeView) → RestStays log.spare.spot old new → OtherNodesStay log.node old new
   spare_only old new rest = record {
     others = record { files = λ s a b. rest.others.files s (not_spare log s spots a b); reaches = λ s a b. rest.others.reaches s (not_spare log s spots a b) };
     directory = rest.others.directory;
@@ -119,8 +119,8 @@ module _ {H : Type 0} (file : H → Spot → Option File) (reach : H → Spot �
   }
 
 -- one call after another
-pub others_then : {H : Type 0} (file : H → Spot → Option File) (reach : H → Spot → ℕ) (entered : H → Option (List ℕ)) (faults : H → ℕ) (node : Node) (old mid new : H) → OtherNodesStay file reach entered faults node old mid → OtherNodesStay file reach entered faults node mid new → OtherNodesStay file reach entered faults node old new
-others_then file reach entered faults node old mid new first then = record {
+pub others_then : (node : Node) (old mid new : HomeView) → OtherNodesStay node old mid → OtherNodesStay node mid new → OtherNodesStay node old new
+others_then node old mid new first then = record {
   others = record { files = λ s a b. then.others.files s a b ∙ first.others.files s a b; reaches = λ s a b. then.others.reaches s a b ∙ first.others.reaches s a b };
   directory = then.directory ∙ first.directory;
   count = omega (arith, first.count, then.count);

@@ -2,7 +2,7 @@
 use Rattle.std.specs.Prelude.{ℕ, ◌≡◌, ◌+◌, ◌≤◌, ◌<◌, ◌⊎◌, List, ◌++◌, length, Option, Some, Result, Ok, Err, IfErr, IsErrOf}
 use Rattle.std.specs.List.{AllByRecursion}
 use Rattle.co_base.specs.declared.mark.Mark.{Mark}
-use Rattle.co_outside.specs.Home.{File, IsClean, RestStays, HasFailed}
+use Rattle.co_outside.specs.Home.{HomeView, File, IsClean, RestStays, HasFailed}
 use Rattle.co_outside.specs.declared.spot.Spot.{Spot}
 use Rattle.co_record.specs.declared.record.Record.{Record}
 use Rattle.co_record.specs.Spelling.{IsSpelled}
@@ -42,16 +42,16 @@ AreSpelledFor log more (Err (InUse spot)) = ⊥
 AreSpelledFor log more (Err Memory) = Unit {0}
 
 -- What the log write of the waiting records and of these behind them leaves of the log and of the home, by the answer. It is never refused.
-pub record HasForced {H : Type 0} (file : H → Spot → Option File) (reach : H → Spot → ℕ) (entered : H → Option (List ℕ)) (faults : H → ℕ) (last_failed : H → Spot) (log after : LogView) (more : List Record) (old new : H) (result : Result (List Mark) LogFault) : Type 0 where
+pub record HasForced (log after : LogView) (more : List Record) (old new : HomeView) (result : Result (List Mark) LogFault) : Type 0 where
   pub forced : (items : List (ℕ × Record)) → IsLive log items → IsForced log items (log.waiting ++ more) after result
-  pub held : IsDone result → IsHeld (file new) (reach new) after
-  pub clean : IsDone result → IsClean (file new log.current.spot)
+  pub held : IsDone result → IsHeld new after
+  pub clean : IsDone result → IsClean new log.current.spot
   pub full : IsErrOf result (Full log.current.spot) → ⊥
-  pub told : (items : List (ℕ × Record)) → IsLive log items → (f : File) → file new log.current.spot ≡ Some f → IsDone result ⊎ OldOrBoth f.bytes log.gate items (log.waiting ++ more)
-  pub memory : (items : List (ℕ × Record)) → IsLive log items → IsErrOf result Memory → (f : File) → file new log.current.spot ≡ Some f → EndsAt f.bytes log.gate items
-  pub current : (items : List (ℕ × Record)) → IsOrdered log items → (c s : File) → file new log.current.spot ≡ Some c → file new log.spare.spot ≡ Some s → IsCurrentForced log items (log.waiting ++ more) c.bytes s.bytes result
-  pub short : BothWithin (file new) log
+  pub told : (items : List (ℕ × Record)) → IsLive log items → (f : File) → new.file log.current.spot ≡ Some f → IsDone result ⊎ OldOrBoth f.bytes log.gate items (log.waiting ++ more)
+  pub memory : (items : List (ℕ × Record)) → IsLive log items → IsErrOf result Memory → (f : File) → new.file log.current.spot ≡ Some f → EndsAt f.bytes log.gate items
+  pub current : (items : List (ℕ × Record)) → IsOrdered log items → (c s : File) → new.file log.current.spot ≡ Some c → new.file log.spare.spot ≡ Some s → IsCurrentForced log items (log.waiting ++ more) c.bytes s.bytes result
+  pub short : BothWithin (new.file) log
   pub of : IfErr result (IsOfForce log.current.spot)
-  pub rest : RestStays file reach entered faults log.current.spot old new
-  pub device : IsErrOf result (Device log.current.spot) → HasFailed faults last_failed log.current.spot old new
-  pub quiet : (IsErrOf result (Device log.current.spot) → ⊥) → faults new ≡ faults old
+  pub rest : RestStays log.current.spot old new
+  pub device : IsErrOf result (Device log.current.spot) → HasFailed log.current.spot old new
+  pub quiet : (IsErrOf result (Device log.current.spot) → ⊥) → new.faults ≡ old.faults

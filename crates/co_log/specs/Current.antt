@@ -3,7 +3,7 @@ use Rattle.std.specs.Prelude.{ℕ, ◌+◌, ◌≡◌, ◌⊎◌, Bool, true, fa
 use Rattle.co_base.specs.Nodes.{IsValidNode}
 use Rattle.co_base.specs.declared.mark.Mark.{Mark}
 use Rattle.co_base.specs.declared.node.Node.{Node}
-use Rattle.co_outside.specs.Home.{File}
+use Rattle.co_outside.specs.Home.{HomeView, File}
 use Rattle.co_outside.specs.declared.spot.Spot.{Spot}
 use Rattle.co_record.specs.declared.record.Record.{Record}
 use Rattle.co_record.specs.declared.record.Record.TheVariants.{Header}
@@ -40,8 +40,8 @@ pub record IsOrdered (log : LogView) (items : List (ℕ × Record)) : Type 0 whe
   pub older : IsOlder log.node log.spare.state.stable log.generation
 
 -- The log is of the newest version and in order with some records, and the home's files are its files.
-pub record IsReady (file : Spot → Option File) (reach : Spot → ℕ) (log : LogView) : Type 0 where
-  pub held : IsHeld file reach log
+pub record IsReady (home : HomeView) (log : LogView) : Type 0 where
+  pub held : IsHeld home log
   pub latest : log.version ≡ newest
   pub items : List (ℕ × Record)
   pub ordered : IsOrdered log items

@@ -3,7 +3,7 @@ use Rattle.std.specs.Prelude.{ℕ, ◌≡◌, ◌⊎◌, ◌≤◌, ◌<◌, ◌
 use Rattle.co_base.specs.Nodes.{node_byte}
 use Rattle.co_base.specs.declared.node.Node.{Node}
 use Rattle.co_outside.specs.declared.spot.Spot.{Spot}
-use Rattle.co_outside.specs.Home.{File, Agrees}
+use Rattle.co_outside.specs.Home.{HomeView, File, Agrees}
 use Rattle.co_disk.specs.DiskModel.{read_of}
 use Rattle.co_frame.specs.LogText.{most_log_bytes}
 use Rattle.co_disk.specs.DiskView.{DiskView}
@@ -48,10 +48,10 @@ HasSpots log =
     ⊎ ((log.current.spot ≡ spot_of log.node 1) × (log.spare.spot ≡ spot_of log.node 0))
 
 -- The home's files of a log are those of its node, and what reads of its disks give, where the home tells them.
-pub record IsHeld (file : Spot → Option File) (reach : Spot → ℕ) (log : LogView) : Type 0 where
+pub record IsHeld (home : HomeView) (log : LogView) : Type 0 where
   pub spots : HasSpots log
-  pub current : Agrees (file log.current.spot) (reach log.current.spot) (read_of log.current.state)
-  pub spare : Agrees (file log.spare.spot) (reach log.spare.spot) (read_of log.spare.state)
+  pub current : Agrees home log.current.spot (read_of log.current.state)
+  pub spare : Agrees home log.spare.spot (read_of log.spare.state)
 
 -- a record that may be forced: a prepare, a commit, an abort or an end
 abbrev pub IsForcible : Record → Type 0

@@ -1,22 +1,22 @@
 -- What a call on the log of one node leaves of the directory.
 use Rattle.std.specs.Prelude.{ℕ, ◌≡◌, ◌≢◌, ◌≤◌, List, Option}
 use Rattle.co_base.specs.declared.node.Node.{Node}
-use Rattle.co_outside.specs.Home.{File}
+use Rattle.co_outside.specs.Home.{HomeView, File}
 use Rattle.co_outside.specs.declared.spot.Spot.{Spot}
 use Rattle.co_frame.specs.LogText.{most_log_bytes}
 use Rattle.co_log.specs.Attaching.{IsWithin}
 use Rattle.co_log.specs.LogView.{LogView, spot_of}
 
 -- all files but the two of this node are as they were
-pub record OtherFilesStay (node : Node) (file after : Spot → Option File) (reach further : Spot → ℕ) : Type 0 where
-  pub files : (s : Spot) → s ≢ spot_of node 0 → s ≢ spot_of node 1 → after s ≡ file s
-  pub reaches : (s : Spot) → s ≢ spot_of node 0 → s ≢ spot_of node 1 → further s ≡ reach s
+pub record OtherFilesStay (node : Node) (old new : HomeView) : Type 0 where
+  pub files : (s : Spot) → s ≢ spot_of node 0 → s ≢ spot_of node 1 → new.file s ≡ old.file s
+  pub reaches : (s : Spot) → s ≢ spot_of node 0 → s ≢ spot_of node 1 → new.reach s ≡ old.reach s
 
 -- So they are, the directory stays entered, and the count of faults does not fall.
-pub record OtherNodesStay {H : Type 0} (file : H → Spot → Option File) (reach : H → Spot → ℕ) (entered : H → Option (List ℕ)) (faults : H → ℕ) (node : Node) (old new : H) : Type 0 where
-  pub others : OtherFilesStay node (file old) (file new) (reach old) (reach new)
-  pub directory : entered new ≡ entered old
-  pub count : faults old ≤ faults new
+pub record OtherNodesStay (node : Node) (old new : HomeView) : Type 0 where
+  pub others : OtherFilesStay node (old.file) (new.file) (old.reach) (new.reach)
+  pub directory : new.entered ≡ old.entered
+  pub count : old.faults ≤ new.faults
 
 -- both files of a log are within the most bytes of a file, where the home tells them
 abbrev pub BothWithin : (Spot → Option File) → LogView → Type 0

@@ -21,21 +21,21 @@ IsOfReread gives file disk (InUse spot) = ⊥
 IsOfReread gives file disk Memory = Unit {0}
 
 -- The file of the current disk was read, and then that of the spare was not.
-pub record IsSpareUnread {H : Type 0} (gives : H → Spot → ℕ → List ℕ → Type 0) (file : H → Spot → Option File) (reach : H → Spot → ℕ) (entered : H → Option (List ℕ)) (faults : H → ℕ) (log : LogView) (old : H) (e : LogFault) : Type 0 where
+pub record IsSpareUnread {H : Type 0} (gives : H → Spot → ℕ → List ℕ → Type 0) (log : LogView) (old : H) (e : LogFault) : Type 0 where
   pub between : H
   pub current : gives old log.current.spot 268435457 (read_of log.current.state)
-  pub first : RestStays file reach entered faults log.current.spot old between
-  pub fault : IsOfReread (gives between log.spare.spot 268435457) (file old log.spare.spot) log.spare e
+  pub first : RestStays log.current.spot old between
+  pub fault : IsOfReread (gives between log.spare.spot 268435457) (old.file log.spare.spot) log.spare e
 
 -- why a log was not read again
-abbrev pub IsOfReattach : {H : Type 0} → (H → Spot → ℕ → List ℕ → Type 0) → (H → Spot → Option File) → (H → Spot → ℕ) → (H → Option (List ℕ)) → (H → ℕ) → LogView → H → LogFault → Type 0
-IsOfReattach gives file reach entered faults log old e =
-    IsOfReread (gives old log.current.spot 268435457) (file old log.current.spot) log.current e ⊎ IsSpareUnread gives file reach entered faults log old e
+abbrev pub IsOfReattach : {H : Type 0} → (H → Spot → ℕ → List ℕ → Type 0) → LogView → H → LogFault → Type 0
+IsOfReattach gives log old e =
+    IsOfReread (gives old log.current.spot 268435457) (old.file log.current.spot) log.current e ⊎ IsSpareUnread gives log old e
 
 -- Both files were read, one after the other, and each gave what the log keeps of it.
-pub record AreReread {H : Type 0} (gives : H → Spot → ℕ → List ℕ → Type 0) (file : H → Spot → Option File) (reach : H → Spot → ℕ) (entered : H → Option (List ℕ)) (faults : H → ℕ) (log : LogView) (old new : H) : Type 0 where
+pub record AreReread {H : Type 0} (gives : H → Spot → ℕ → List ℕ → Type 0) (log : LogView) (old new : H) : Type 0 where
   pub between : H
   pub current : gives old log.current.spot 268435457 (read_of log.current.state)
-  pub first : RestStays file reach entered faults log.current.spot old between
+  pub first : RestStays log.current.spot old between
   pub spare : gives between log.spare.spot 268435457 (read_of log.spare.state)
-  pub second : RestStays file reach entered faults log.spare.spot between new
+  pub second : RestStays log.spare.spot between new

@@ -41,8 +41,8 @@ flipped node x y (inl own) = inr (own.1, own.0)
 flipped node x y (inr own) = inl (own.1, own.0)
 
 -- a node of whose told files the one is current has its records
-pub current_records : (file : Spot → Option File) (node : Node) (x y : Spot) (c s : File) (version generation : ℕ) (items : Items) → ArePartsOf node x y → IsWithin most_log_bytes (file x) → IsWithin most_log_bytes (file y)
-    → file x ≡ Some c → file y ≡ Some s → IsCurrentOf node version generation c.bytes s.bytes items → HasRecordsIn file node items
+pub current_records : (file : Spot → Option File) (node : Node) (x y : Spot) (c s : File) (version generation : ℕ) (items : Items) → ArePartsOf node x y → IsWithin most_log_bytes (x.file) → IsWithin most_log_bytes (y.file)
+    → x.file ≡ Some c → y.file ≡ Some s → IsCurrentOf node version generation c.bytes s.bytes items → HasRecordsIn file node items
 current_records file node x y c s version generation items parts within_x within_y is_c is_s current = elim parts [
   | inl own ↦ (
     0,
@@ -120,27 +120,27 @@ pub filled_wants : (log : LogView) (items : Items) (more : List Record) (c s : L
 filled_wants log items more c s fault is current = subst (λ (r : Result Mark LogFault). IsCurrentAfter log items more c s r) is current
 
 -- What is known of a log write at one file of a node when it has ended, by its answer.
-pub record Wrote {H T : Type 0} (file : H → Spot → Option File) (reach : H → Spot → ℕ) (entered : H → Option (List ℕ)) (faults : H → ℕ) (last_failed : H → Spot) (log after : LogView) (at : Spot) (long : Type 0) (this that : List Record) (old new : H) (result : Result T LogFault) : Type 0 where
+pub record Wrote {T : Type 0} (log after : LogView) (at : Spot) (long : Type 0) (this that : List Record) (old new : HomeView) (result : Result T LogFault) : Type 0 where
   pub spots : HasSpots log
   pub its : (at ≡ log.current.spot) ⊎ (at ≡ log.spare.spot)
-  pub held : IsDone result → IsHeld (file new) (reach new) after
-  pub clean : IsDone result → IsClean (file new at)
+  pub held : IsDone result → IsHeld new after
+  pub clean : IsDone result → IsClean new at
   pub full : IsErrOf result (Full at) → long
   pub overlong : long → IsOverlong that
   pub too_long : long → IsErrOf result (Full at) ⊎ IsErrOf result Memory
   pub untouched : long → new ≡ old
-  pub broken : IsErrOf result (Device at) → LeftAs (file new) log.node this that
-  pub wanting : IsErrOf result Memory → LeftAs (file new) log.node this this
-  pub short : BothWithin (file new) log
-  pub rest : RestStays file reach entered faults at old new
-  pub device : IsErrOf result (Device at) → HasFailed faults last_failed at old new
-  pub quiet : (IsErrOf result (Device at) → ⊥) → faults new ≡ faults old
+  pub broken : IsErrOf result (Device at) → LeftAs (new.file) log.node this that
+  pub wanting : IsErrOf result Memory → LeftAs (new.file) log.node this this
+  pub short : BothWithin (new.file) log
+  pub rest : RestStays at old new
+  pub device : IsErrOf result (Device at) → HasFailed at old new
+  pub quiet : (IsErrOf result (Device at) → ⊥) → new.faults ≡ old.faults
 
-module _ {H : Type 0} (file : H → Spot → Option File) (reach : H → Spot → ℕ) (entered : H → Option (List ℕ)) (faults : H → ℕ) (last_failed : H → Spot) (log after : LogView) (at : Spot) (long : Type 0) (this that : List Record) (old new : H) where
+module _ (log after : LogView) (at : Spot) (long : Type 0) (this that : List Record) (old new : HomeView) where
   -- the files of the node are the one that was written and one that stays
-  clean_kept : (s : Spot) → (s ≡ log.current.spot) ⊎ (s ≡ log.spare.spot) → HasSpots log → (at ≡ log.current.spot) ⊎ (at ≡ log.spare.spot) → IsClean (file new at) → RestStays file reach entered faults at old new → IsClean (file old s) → IsClean (file new s)
-  clean_kept s (inl here) spots (inl is) clean rest was = subst (λ (t : Spot). IsClean (file new t)) (is ∙ sym here) clean
-  clean_kept s (inr here) spots (inr is) clean rest was = subst (λ (t : Spot). IsClean (file new t)) (is ∙ sym here) clean
+  clean_kept : (s : Spot) → (s ≡ log.current.spot) ⊎ (s ≡ log.spare.spot) → HasSpots log → (at ≡ log.current.spot) ⊎ (at ≡ log.spare.spot) → IsClean new at → RestStays at old new → IsClean old s → IsClean new s
+  clean_kept s (inl here) spots (inl is) clean rest was = subst (λ (t : Spot). IsClean new t) (is ∙ sym here) clean
+  clean_kept s (inr here) spots (inr is) clean rest was = subst (λ (t : Spot). IsClean new t) (is ∙ sym here) clean
   clean_kept s (inl here) spots (inr is) clean rest was = subst (λ (o : Option File). IsClean o) (sym (rest.others.files s (λ e. spots_apart log spots (sym here ∙ e ∙ is)))) was
   clean_kept s (inr here) spots (inl is) clean rest was = subst (λ (o : Option File). IsClean o) (sym (rest.others.files s (λ e. spots_apart log spots (sym is ∙ sym e ∙ here)))) was
 
@@ -152,18 +152,18 @@ module _ {H : Type 0} (file : H → Spot → Option File) (reach : H → Spot �
   place_b (inl own) = inr (sym own.1)
   place_b (inr own) = inl (sym own.0)
 
-  served : {T : Type 0} (result : Result T LogFault) → Wrote file reach entered faults last_failed log after at long this that old new result → IsDone result → (IsErrOf result (Device at) → ⊥) → IsServed log.node after (seen file reach faults last_failed old) (seen file reach faults last_failed new)
+  served : {T : Type 0} (result : Result T LogFault) → Wrote log after at long this that old new result → IsDone result → (IsErrOf result (Device at) → ⊥) → IsServed log.node after (seen old) (seen new)
   served result w done silent = record {
     held = w.held done;
     clean_a = clean_kept (spot_of log.node 0) (place_a w.spots) w.spots w.its (w.clean done) w.rest;
     clean_b = clean_kept (spot_of log.node 1) (place_b w.spots) w.spots w.its (w.clean done) w.rest;
-    within = node_within (file new) log w.spots w.short;
+    within = node_within (new.file) log w.spots w.short;
     quiet = w.quiet silent;
   }
 
-  pub fault_answered : (T : Type 0) (e : LogFault) (out : Result Written NodeFault) → IsOfForce at e → Wrote {T = T} file reach entered faults last_failed log after at long this that old new (Err e) → IsPassedOn e out → IsAnswered log.node at long this that after (seen file reach faults last_failed old) (seen file reach faults last_failed new) out
+  pub fault_answered : (T : Type 0) (e : LogFault) (out : Result Written NodeFault) → IsOfForce at e → Wrote {T = T} log after at long this that old new (Err e) → IsPassedOn e out → IsAnswered log.node at long this that after (seen old) (seen new) out
   fault_answered T (Stopped call stable marks) out of w is =
-      subst (IsAnswered log.node at long this that after (seen file reach faults last_failed old) (seen file reach faults last_failed new)) (sym is) (λ l. none (w.too_long l), served (Err (Stopped call stable marks)) w tt (λ e. absurd cc))
+      subst (IsAnswered log.node at long this that after (seen old) (seen new)) (sym is) (λ l. none (w.too_long l), served (Err (Stopped call stable marks)) w tt (λ e. absurd cc))
     where
       none : (IsErrOf {T = T} (Err (Stopped call stable marks)) (Full at)) ⊎ (IsErrOf {T = T} (Err (Stopped call stable marks)) Memory) → ⊥
       none (inl e) = absurd cc
@@ -171,7 +171,7 @@ module _ {H : Type 0} (file : H → Spot → Option File) (reach : H → Spot �
   fault_answered T (Device spot) out of w is =
       let it : IsErrOf {T = T} (Err (Device spot)) (Device at) = ap (λ (s : Spot). Err (Device s)) of in
       let failed = w.device it in
-      subst (IsAnswered log.node at long this that after (seen file reach faults last_failed old) (seen file reach faults last_failed new)) (sym is)
+      subst (IsAnswered log.node at long this that after (seen old) (seen new)) (sym is)
       (λ l. none (w.too_long l), record { spot = of; count = failed.count; last = failed.named ∙ sym of; left = w.broken it })
     where
       none : (IsErrOf {T = T} (Err (Device spot)) (Full at)) ⊎ (IsErrOf {T = T} (Err (Device spot)) Memory) → ⊥
@@ -179,9 +179,9 @@ module _ {H : Type 0} (file : H → Spot → Option File) (reach : H → Spot �
       none (inr e) = absurd cc
   fault_answered T (Full spot) out of w is =
       let l = w.full (ap (λ (s : Spot). Err (Full s)) of) in
-      subst (IsAnswered log.node at long this that after (seen file reach faults last_failed old) (seen file reach faults last_failed new)) (sym is) (record { spot = of; long = l; overlong = w.overlong l; untouched = ap (seen file reach faults last_failed) (w.untouched l) })
+      subst (IsAnswered log.node at long this that after (seen old) (seen new)) (sym is) (record { spot = of; long = l; overlong = w.overlong l; untouched = ap (seen file reach faults last_failed) (w.untouched l) })
   fault_answered T Memory out of w is =
-      subst (IsAnswered log.node at long this that after (seen file reach faults last_failed old) (seen file reach faults last_failed new)) (sym is) (record { left = w.wanting refl; quiet = w.quiet (λ e. absurd cc) })
+      subst (IsAnswered log.node at long this that after (seen old) (seen new)) (sym is) (record { left = w.wanting refl; quiet = w.quiet (λ e. absurd cc) })
   fault_answered T (Bad spot place) out of w is = absurd of
   fault_answered T (Differs spot place kept read) out of w is = absurd of
   fault_answered T (InUse spot) out of w is = absurd of
@@ -219,7 +219,7 @@ pub never_full : (at : Spot) (e : LogFault) → IsOfClosing at e → IsErrOf {T 
 never_full at e of is = subst (λ (r : Result (Unit {0}) LogFault). IfErr r (IsOfClosing at)) is of
 
 -- a call on one of its two files leaves all other nodes
-pub others_stay : {H : Type 0} (file : H → Spot → Option File) (reach : H → Spot → ℕ) (entered : H → Option (List ℕ)) (faults : H → ℕ) (log : LogView) (at : Spot) (old new : H) → HasSpots log → (at ≡ log.current.spot) ⊎ (at ≡ log.spare.spot)
-    → RestStays file reach entered faults at old new → OtherNodesStay file reach entered faults log.node old new
-others_stay file reach entered faults log at old new spots (inl is) rest = current_only file reach entered faults log spots old new (subst (λ (s : Spot). RestStays file reach entered faults s old new) is rest)
-others_stay file reach entered faults log at old new spots (inr is) rest = spare_only file reach entered faults log spots old new (subst (λ (s : Spot). RestStays file reach entered faults s old new) is rest)
+pub others_stay : (log : LogView) (at : Spot) (old new : HomeView) → HasSpots log → (at ≡ log.current.spot) ⊎ (at ≡ log.spare.spot)
+    → RestStays at old new → OtherNodesStay log.node old new
+others_stay log at old new spots (inl is) rest = current_only log spots old new (subst (λ (s : Spot). RestStays s old new) is rest)
+others_stay log at old new spots (inr is) rest = spare_only log spots old new (subst (λ (s : Spot). RestStays s old new) is rest)

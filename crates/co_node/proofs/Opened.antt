@@ -6,7 +6,7 @@ use Rattle.co_base.specs.Nodes.{IsValidNode}
 use Rattle.co_base.specs.declared.node.Node.{Node}
 use Rattle.co_disk.specs.DiskModel.{read_of}
 use Rattle.co_disk.specs.DiskView.{DiskView}
-use Rattle.co_outside.specs.Home.{File, Agrees}
+use Rattle.co_outside.specs.Home.{HomeView, File, Agrees}
 use Rattle.co_outside.specs.declared.spot.Spot.{Spot}
 use Rattle.co_frame.specs.LogText.{most_log_bytes}
 use Rattle.co_record.specs.Format.{newest}
@@ -78,27 +78,27 @@ made_stands owner a b log after valid attached none m =
     }
 
 -- the files of the node have the records of the current one
-pub told_records : (owner : Node) (file : Spot → Option File) (reach : Spot → ℕ) (log : LogView) (l : LogState) → RepresentsLog owner log l → IsHeld file reach log → AreWithin file owner
-    → AreTold file owner → (items : Items) × HasRecordsIn file owner items × (newest_first items ≡ l.stable)
-told_records owner file reach log l s held within told =
+pub told_records : (owner : Node) (home : HomeView) (log : LogView) (l : LogState) → RepresentsLog owner log l → IsHeld home log → AreWithin home.file owner
+    → AreTold home.file owner → (items : Items) × HasRecordsIn home.file owner items × (newest_first items ≡ l.stable)
+told_records owner home log l s held within told =
     let own = subst (AreWithin file) (sym s.owned) within in
-    let files = told_of file log held.spots (subst (AreTold file) (sym s.owned) told) in
-    let is = held_current file reach log s.items files.current files.spare held s.ordered files.is_current files.is_spare in
-    let here = old_records file log log.version log.generation s.items held.spots (both_within file log held.spots own) files is in
-    (s.items, subst (λ (n : Node). HasRecordsIn file n s.items) s.owned here, sym s.stable)
+    let files = told_of home.file log held.spots (subst (AreTold file) (sym s.owned) told) in
+    let is = held_current home log s.items files.current files.spare held s.ordered files.is_current files.is_spare in
+    let here = old_records home.file log log.version log.generation s.items held.spots (both_within home.file log held.spots own) files is in
+    (s.items, subst (λ (n : Node). HasRecordsIn home.file n s.items) s.owned here, sym s.stable)
 
 -- a told file is as long as what its disk gives
 told_within : (file : Option File) (reach : ℕ) (d : DiskView) → Agrees file reach (read_of d.state) → IsShort d → IsWithin most_log_bytes file
 told_within file reach d agrees short f is = subst (λ (bytes : List ℕ). length bytes ≤ most_log_bytes) (sym (agrees.told f is)) short
 
 -- so the files of a log that stands are not too long
-pub files_within : (owner : Node) (file : Spot → Option File) (reach : Spot → ℕ) (log : LogView) (l : LogState) → RepresentsLog owner log l → IsHeld file reach log → IsShort log.current × IsShort log.spare → AreWithin file owner
-files_within owner file reach log l s held short =
-    let both : BothWithin file log = (told_within (file log.current.spot) (reach log.current.spot) log.current held.current short.0, told_within (file log.spare.spot) (reach log.spare.spot) log.spare held.spare short.1) in
-    subst (AreWithin file) s.owned (node_within file log held.spots both)
+pub files_within : (owner : Node) (home : HomeView) (log : LogView) (l : LogState) → RepresentsLog owner log l → IsHeld home log → IsShort log.current × IsShort log.spare → AreWithin home.file owner
+files_within owner home log l s held short =
+    let both : BothWithin home.file log = (told_within (home.file log.current.spot) (home.reach log.current.spot) log.current held.current short.0, told_within (home.file log.spare.spot) (home.reach log.spare.spot) log.spare held.spare short.1) in
+    subst (AreWithin file) s.owned (node_within home.file log held.spots both)
 
 -- before a log write the files have the records of the log
-pub left_before : (owner : Node) (file : Spot → Option File) (reach : Spot → ℕ) (log : LogView) (l : LogState) → RepresentsLog owner log l → IsHeld file reach log → IsShort log.current × IsShort log.spare → LeftAs file owner l.stable l.stable
-left_before owner file reach log l s held short told =
-    let here = told_records owner file reach log l s held (files_within owner file reach log l s held short) told in
+pub left_before : (owner : Node) (home : HomeView) (log : LogView) (l : LogState) → RepresentsLog owner log l → IsHeld home log → IsShort log.current × IsShort log.spare → LeftAs home.file owner l.stable l.stable
+left_before owner home log l s held short told =
+    let here = told_records owner home log l s held (files_within owner home log l s held short) told in
     (here.0, here.1, inl here.2)

@@ -16,9 +16,9 @@ use Rattle.co_node.specs.NodeLog.{RepresentsLog}
 use Rattle.co_node.proofs.Opened.{left_before}
 use Rattle.co_node.proofs.Sizes.{forced_is_overlong}
 
-pub unspelled_answered : (owner : Node) (log : LogView) (l : LogState) (more : List Record) (home : HomeView) (e : NodeFault) → RepresentsLog owner log l → IsHeld home.file home.reach log → IsShort log.current × IsShort log.spare → 1 ≤ length more
+pub unspelled_answered : (owner : Node) (log : LogView) (l : LogState) (more : List Record) (home : HomeView) (e : NodeFault) → RepresentsLog owner log l → IsHeld home log → IsShort log.current × IsShort log.spare → 1 ≤ length more
     → AreSpelledOut log more (Err e) → IsAnswered owner log.current.spot (IsTooLong log.gate (log.waiting ++ more)) l.stable (with_batch l (reverse more)).stable log home home (Err e)
 unspelled_answered owner log l more home (Device spot) s held short some is = absurd is
 unspelled_answered owner log l more home (Differs spot at kept read) s held short some is = absurd is
 unspelled_answered owner log l more home (Full spot) s held short some is = record { spot = is.0; long = is.1; overlong = forced_is_overlong owner log l more s some is.1; untouched = refl }
-unspelled_answered owner log l more home Memory s held short some is = record { left = left_before owner home.file home.reach log l s held short; quiet = refl }
+unspelled_answered owner log l more home Memory s held short some is = record { left = left_before owner home log l s held short; quiet = refl }

@@ -22,8 +22,8 @@ pub record HomeView : Type 0 where
   pub faults : ℕ
   pub last_failed : Spot
 
-abbrev pub seen : {H : Type 0} → (H → Spot → Option File) → (H → Spot → ℕ) → (H → ℕ) → (H → Spot) → H → HomeView
-seen file reach faults last_failed home = record { file = file home; reach = reach home; faults = faults home; last_failed = last_failed home }
+abbrev pub seen : H → HomeView
+seen home = record { file = home.file; reach = home.reach; faults = home.faults; last_failed = home.last_failed }
 
 -- both files of the node are told
 pub record AreTold (file : Spot → Option File) (node : Node) : Type 0 where
@@ -44,16 +44,16 @@ LeftAs file node this that =
 
 -- The log is held by the directory, no file of the node that was clean is not, none is too long, and no fault was met.
 pub record IsServed (node : Node) (log : LogView) (old new : HomeView) : Type 0 where
-  pub held : IsHeld new.file new.reach log
-  pub clean_a : IsClean (old.file (spot_of node 0)) → IsClean (new.file (spot_of node 0))
-  pub clean_b : IsClean (old.file (spot_of node 1)) → IsClean (new.file (spot_of node 1))
+  pub held : IsHeld new.new.file.reach log
+  pub clean_a : IsClean old (spot_of node 0) → IsClean new (spot_of node 0)
+  pub clean_b : IsClean old (spot_of node 1) → IsClean new (spot_of node 1)
   pub within : AreWithin new.file node
   pub quiet : new.faults ≡ old.faults
 
 -- The directory failed in this call at this file; the files have the old records or those of the completed write.
 pub record IsFailed (node : Node) (at named : Spot) (this that : List Record) (old new : HomeView) : Type 0 where
   pub spot : named ≡ at
-  pub count : HasRisen old.faults new.faults
+  pub count : HasRisen old.new.faults.faults
   pub last : new.last_failed ≡ named
   pub left : LeftAs new.file node this that
 

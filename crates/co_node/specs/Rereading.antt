@@ -10,9 +10,9 @@ use Rattle.co_log.specs.declared.fault.NodeFault.TheVariants.{Device, Differs, F
 
 -- Both files gave what the log keeps of them; or the directory failed at one of them; or one of them differs, where the directory does not
 -- tell it; or there was no memory. No fault was met but where the directory failed.
-abbrev pub IsReread : {H : Type 0} → (H → Spot → ℕ → List ℕ → Type 0) → (H → Spot → Option File) → (H → Spot → ℕ) → (H → Option (List ℕ)) → (H → ℕ) → (H → Spot) → LogView → H → H → Result (Unit {0}) NodeFault → Type 0
-IsReread gives file reach entered faults last_failed l old new (Ok done) = AreReread gives file reach entered faults l old new × (faults new ≡ faults old)
-IsReread gives file reach entered faults last_failed l old new (Err (Device spot)) = IsOfReattach gives file reach entered faults l old (log.Device spot) × HasFailed faults last_failed spot old new
-IsReread gives file reach entered faults last_failed l old new (Err (Differs spot at kept read)) = IsOfReattach gives file reach entered faults l old (log.Differs spot at kept read) × (faults new ≡ faults old)
-IsReread gives file reach entered faults last_failed l old new (Err (Full spot)) = ⊥
-IsReread gives file reach entered faults last_failed l old new (Err Memory) = faults new ≡ faults old
+abbrev pub IsReread : {H : Type 0} → (H → Spot → ℕ → List ℕ → Type 0) → LogView → H → H → Result (Unit {0}) NodeFault → Type 0
+IsReread gives l old new (Ok done) = AreReread gives l old new × (new.faults ≡ old.faults)
+IsReread gives l old new (Err (Device spot)) = IsOfReattach gives l old (log.Device spot) × HasFailed spot old new
+IsReread gives l old new (Err (Differs spot at kept read)) = IsOfReattach gives l old (log.Differs spot at kept read) × (new.faults ≡ old.faults)
+IsReread gives l old new (Err (Full spot)) = ⊥
+IsReread gives l old new (Err Memory) = new.faults ≡ old.faults

@@ -8,7 +8,7 @@ use Rattle.co_base.specs.declared.head.Head.{Head}
 use Rattle.co_base.specs.declared.head.Kind.{Kind}
 use Rattle.co_base.specs.declared.node.Node.TheVariants.{Member, Coord}
 use Rattle.co_outside.specs.declared.spot.Spot.{Spot}
-use Rattle.co_outside.specs.Home.{File, IsClean}
+use Rattle.co_outside.specs.Home.{HomeView, File, IsClean}
 use Rattle.co_log.specs.LogView.{LogView}
 use Rattle.co_plain.specs.Opening.{Found, opened_member, opened_coord, used_numbers, member_headers, coord_headers}
 use Rattle.co_plain.specs.MemberView.{Numbers}
@@ -52,29 +52,29 @@ opened_nodes takes stands_for file resume head member_logs coord_logs member_pas
       marks = marks ∙ ap (λ k. member_headers (length head.kinds) j.found_member ++ coord_headers k j.found_coord) j.many_coords;
     }
 
-pub kept_nodes : {E : Type 0} (takes : Kind → Type 0) (stands_for : E → EngineState → Type 0) (file : Spot → Option File) (reach : Spot → ℕ) (head : Head) (found_member found_coord : ℕ → Found) (these : List (MemberOn E)) (those : List CoordOn)
-    → AreMembersAt takes stands_for head.kinds head.coords found_member these → AreCoordsAt (length head.kinds) found_coord those → AreOwnMembers file reach these → AreOwnCoords file reach those → AreKept file reach these those
-kept_nodes takes stands_for file reach head found_member found_coord these those ms cs own owns = record {
+pub kept_nodes : {E : Type 0} (takes : Kind → Type 0) (stands_for : E → EngineState → Type 0) (home : HomeView) (head : Head) (found_member found_coord : ℕ → Found) (these : List (MemberOn E)) (those : List CoordOn)
+    → AreMembersAt takes stands_for head.kinds head.coords found_member these → AreCoordsAt (length head.kinds) found_coord those → AreOwnMembers home these → AreOwnCoords home those → AreKept home these those
+kept_nodes takes stands_for home head found_member found_coord these those ms cs own owns = record {
   member = λ p m is.
       let at = all_from_first (λ q x. IsMemberAt takes stands_for head.coords q x (opened_member head.kinds (suc q) (found_member (suc q)))) these p m ms is in
-      let log = all_from_first (λ q x. IsOwnLog file reach (Member (suc q)) x.log) these p m own is in
-      subst (λ k. IsKept file reach (Member k) m.log) (sym at.number) log.kept;
+      let log = all_from_first (λ q x. IsOwnLog home (Member (suc q)) x.log) these p m own is in
+      subst (λ k. IsKept home (Member k) m.log) (sym at.number) log.kept;
   coord = λ p c is.
       let at = all_from_first (λ q y. IsCoordAt (length head.kinds) q y (opened_coord (suc q) (found_coord (suc q)))) those p c cs is in
-      let log = all_from_first (λ q y. IsOwnLog file reach (Coord (suc q)) y.log) those p c owns is in
-      subst (λ k. IsKept file reach (Coord k) c.log) (sym at.number) log.kept;
+      let log = all_from_first (λ q y. IsOwnLog home (Coord (suc q)) y.log) those p c owns is in
+      subst (λ k. IsKept home (Coord k) c.log) (sym at.number) log.kept;
 }
 
 -- ---- the logs of one sort, while those of the other are made
 
-pub coords_left : (file after : Spot → Option File) (reach further : Spot → ℕ) (logs : List LogView) → length logs ≤ 8 → ((c : ℕ) → IsValidNode (Coord c) → NodeStays (Coord c) file after reach further) → AreOwnLogs file reach Coord 0 logs → AreOwnLogs after further Coord 0 logs
-coords_left file after reach further logs few left kept = own_all_stay Coord 0 file after reach further logs (λ q low high. left (suc q) (omega arith, omega (arith, high, few))) kept
+pub coords_left : (old new : HomeView) (logs : List LogView) → length logs ≤ 8 → ((c : ℕ) → IsValidNode (Coord c) → NodeStays (Coord c) old new) → AreOwnLogs old.file reach Coord 0 logs → AreOwnLogs new Coord 0 logs
+coords_left old new logs few left kept = own_all_stay Coord 0 old new logs (λ q low high. left (suc q) (omega arith, omega (arith, high, few))) kept
 
-pub own_members_stay : {E : Type 0} (file after : Spot → Option File) (reach further : Spot → ℕ) (these : List (MemberOn E)) → length these ≤ 16 → ((m : ℕ) → IsValidNode (Member m) → NodeStays (Member m) file after reach further)
-    → AreOwnMembers file reach these → AreOwnMembers after further these
-own_members_stay file after reach further these few left kept =
-    all_from_map (λ q x. IsOwnLog file reach (Member (suc q)) x.log) (λ q x. IsOwnLog after further (Member (suc q)) x.log) 0 these
-    (λ q x low high own. own_stays (Member (suc q)) file after reach further x.log (left (suc q) (omega arith, omega (arith, high, few))) own) kept
+pub own_members_stay : {E : Type 0} (old new : HomeView) (these : List (MemberOn E)) → length these ≤ 16 → ((m : ℕ) → IsValidNode (Member m) → NodeStays (Member m) old new)
+    → AreOwnMembers old these → AreOwnMembers new these
+own_members_stay old new these few left kept =
+    all_from_map (λ q x. IsOwnLog old (Member (suc q)) x.log) (λ q x. IsOwnLog new (Member (suc q)) x.log) 0 these
+    (λ q x low high own. own_stays (Member (suc q)) old new x.log (left (suc q) (omega arith, omega (arith, high, few))) own) kept
 
 -- ---- answers
 

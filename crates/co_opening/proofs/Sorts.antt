@@ -4,7 +4,7 @@ use Rattle.std.specs.Prelude.{Option}
 use Rattle.co_base.specs.Nodes.{IsValidNode}
 use Rattle.co_base.specs.declared.node.Node.{Node}
 use Rattle.co_base.specs.declared.node.Node.TheVariants.{Member, Coord}
-use Rattle.co_outside.specs.Home.{File}
+use Rattle.co_outside.specs.Home.{HomeView, File}
 use Rattle.co_outside.specs.declared.spot.Spot.{Spot}
 use Rattle.co_log.specs.LogView.{LogView}
 use Rattle.co_log.specs.Others.{OtherFilesStay}
@@ -37,8 +37,8 @@ nodes_apart Members p q other e = other (let h : Member p ≡ Member q = e in le
 nodes_apart Coords p q other e = other (let h : Coord p ≡ Coord q = e in let same : p ≡ q = cc in same)
 
 -- nodes of the other sort are left
-abbrev pub OthersLeft : Sort → (file after : Spot → Option File) (reach further : Spot → ℕ) → Type 0
-OthersLeft sort file after reach further = (n : Node) → IsValidNode n → ((p : ℕ) → n ≢ node_in sort p) → NodeStays n file after reach further
+abbrev pub OthersLeft : Sort → (old new : HomeView) → Type 0
+OthersLeft sort old new = (n : Node) → IsValidNode n → ((p : ℕ) → n ≢ node_in sort p) → NodeStays n old new
 
 module _ (sort : Sort) (place count : ℕ) (h : place < count) (most : count ≤ most_in sort) (this : Node) (at : this ≡ node_in sort (place + 1)) where
   is : this ≡ node_in sort (suc place)
@@ -83,6 +83,6 @@ pub sorts_apart : (c m : ℕ) → Coord c ≢ Member m
 sorts_apart c m e = absurd (let h : Coord c ≡ Member m = e in cc)
 
 -- members are left while the logs of coordinators are attached
-pub members_left : (file after : Spot → Option File) (reach further : Spot → ℕ) (logs : List LogView) → length logs ≤ 16 → OthersLeft Coords file after reach further → AreOwnLogs file reach Member 0 logs → AreOwnLogs after further Member 0 logs
-members_left file after reach further logs few left kept =
-    own_all_stay Member 0 file after reach further logs (λ q low high. left (Member (suc q)) (omega arith, omega (arith, high, few)) (λ p. apart_sorts (suc q) p)) kept
+pub members_left : (old new : HomeView) (logs : List LogView) → length logs ≤ 16 → OthersLeft Coords old new → AreOwnLogs old.file reach Member 0 logs → AreOwnLogs new Member 0 logs
+members_left old new logs few left kept =
+    own_all_stay Member 0 old new logs (λ q low high. left (Member (suc q)) (omega arith, omega (arith, high, few)) (λ p. apart_sorts (suc q) p)) kept

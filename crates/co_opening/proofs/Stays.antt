@@ -3,7 +3,7 @@ use Rattle.std.proofs.Common.{◌≡◌, ◌≢◌, ℕ, suc, ◌+◌, ◌≤◌
 use Rattle.std.specs.Prelude.{Option}
 use Rattle.co_base.specs.Nodes.{IsValidNode}
 use Rattle.co_base.specs.declared.node.Node.{Node}
-use Rattle.co_outside.specs.Home.{File, Agrees}
+use Rattle.co_outside.specs.Home.{HomeView, File, Agrees}
 use Rattle.co_outside.specs.declared.spot.Spot.{Spot}
 use Rattle.co_frame.specs.LogText.{most_log_bytes}
 use Rattle.co_log.specs.Attaching.{IsWithin}
@@ -17,8 +17,8 @@ elsewhere : (this that : Node) (p q : ℕ) → IsValidNode this → IsValidNode 
 elsewhere this that p q one two other e = other (bytes_apart that this two one (ap (λ (s : Spot). s.node) e))
 
 -- a call on one node leaves each other one
-pub stays_elsewhere : (this that : Node) (file after : Spot → Option File) (reach further : Spot → ℕ) → IsValidNode this → IsValidNode that → that ≢ this → OtherFilesStay this file after reach further → NodeStays that file after reach further
-stays_elsewhere this that file after reach further one two other stay = record {
+pub stays_elsewhere : (this that : Node) (old new : HomeView) → IsValidNode this → IsValidNode that → that ≢ this → OtherFilesStay this old new → NodeStays that old new
+stays_elsewhere this that old new one two other stay = record {
   file_a = stay.files (spot_of that 0) (elsewhere this that 0 0 one two other) (elsewhere this that 0 1 one two other);
   file_b = stay.files (spot_of that 1) (elsewhere this that 1 0 one two other) (elsewhere this that 1 1 one two other);
   reach_a = stay.reaches (spot_of that 0) (elsewhere this that 0 0 one two other) (elsewhere this that 0 1 one two other);
@@ -41,19 +41,19 @@ at_each : (Stays : Spot → Type 0) (log : LogView) → HasSpots log → Stays (
 at_each Stays log (inl own) a b = (subst Stays (sym own.0) a, subst Stays (sym own.1) b)
 at_each Stays log (inr own) a b = (subst Stays (sym own.0) b, subst Stays (sym own.1) a)
 
-pub own_stays : (node : Node) (file after : Spot → Option File) (reach further : Spot → ℕ) (log : LogView) → NodeStays node file after reach further → IsOwnLog file reach node log → IsOwnLog after further node log
-own_stays node file after reach further log stay own =
-    let here : NodeStays log.node file after reach further = subst (λ (n : Node). NodeStays n file after reach further) (sym own.owned) stay in
+pub own_stays : (node : Node) (old new : HomeView) (log : LogView) → NodeStays node old new → IsOwnLog old node log → IsOwnLog new node log
+own_stays node old new log stay own =
+    let here : NodeStays log.node old new = subst (λ (n : Node). NodeStays n old new) (sym own.owned) stay in
     let spots = own.kept.held.spots in
-    let files = at_each (λ s. after s ≡ file s) log spots here.file_a here.file_b in
-    let reaches = at_each (λ s. further s ≡ reach s) log spots here.reach_a here.reach_b in
+    let files = at_each (λ s. new.file s ≡ old.file s) log spots here.file_a here.file_b in
+    let reaches = at_each (λ s. new.reach s ≡ old.reach s) log spots here.reach_a here.reach_b in
     record {
       owned = own.owned;
       kept = record {
         held = record {
           spots = spots;
-          current = agrees_on (file log.current.spot) (after log.current.spot) (reach log.current.spot) (further log.current.spot) _ files.0 reaches.0 own.kept.held.current;
-          spare = agrees_on (file log.spare.spot) (after log.spare.spot) (reach log.spare.spot) (further log.spare.spot) _ files.1 reaches.1 own.kept.held.spare;
+          current = agrees_on (old.file log.current.spot) (new.file log.current.spot) (old.reach log.current.spot) (new.reach log.current.spot) _ files.0 reaches.0 own.kept.held.current;
+          spare = agrees_on (old.file log.spare.spot) (new.file log.spare.spot) (old.reach log.spare.spot) (new.reach log.spare.spot) _ files.1 reaches.1 own.kept.held.spare;
         };
         within = record {
           a = subst (IsWithin most_log_bytes) (sym stay.file_a) own.kept.within.a;
@@ -63,8 +63,8 @@ own_stays node file after reach further log stay own =
     }
 
 -- so of all nodes of a sort that are left
-pub own_all_stay : (node : ℕ → Node) (p : ℕ) (file after : Spot → Option File) (reach further : Spot → ℕ) (logs : List LogView)
-    → ((q : ℕ) → p ≤ q → q < p + length logs → NodeStays (node (suc q)) file after reach further) → AreOwnLogs file reach node p logs → AreOwnLogs after further node p logs
-own_all_stay node p file after reach further logs stay all =
-    all_from_map (λ q log. IsOwnLog file reach (node (suc q)) log) (λ q log. IsOwnLog after further (node (suc q)) log) p logs
-    (λ q log low high own. own_stays (node (suc q)) file after reach further log (stay q low high) own) all
+pub own_all_stay : (node : ℕ → Node) (p : ℕ) (old new : HomeView) (logs : List LogView)
+    → ((q : ℕ) → p ≤ q → q < p + length logs → NodeStays (node (suc q)) old new) → AreOwnLogs old node p logs → AreOwnLogs new node p logs
+own_all_stay node p old new logs stay all =
+    all_from_map (λ q log. IsOwnLog old (node (suc q)) log) (λ q log. IsOwnLog new (node (suc q)) log) p logs
+    (λ q log low high own. own_stays (node (suc q)) old new log (stay q low high) own) all

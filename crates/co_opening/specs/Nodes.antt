@@ -4,7 +4,7 @@ use Rattle.co_base.specs.declared.head.Kind.{Kind}
 use Rattle.co_base.specs.declared.node.Node.{Node}
 use Rattle.co_base.specs.declared.node.Node.TheVariants as node
 use Rattle.co_outside.specs.declared.spot.Spot.{Spot}
-use Rattle.co_outside.specs.Home.{File}
+use Rattle.co_outside.specs.Home.{HomeView, File}
 use Rattle.co_log.specs.LogView.{LogView, IsHeld}
 use Rattle.co_node.specs.Answers.{AreWithin}
 use Rattle.co_plain.specs.declared.coord_state.CoordState.{CoordState}
@@ -29,11 +29,11 @@ pub record IsCoordAt (members p : ℕ) (c : Coord) (y : CoordState) : Type 0 whe
   pub stands : RepresentsCoord c y
 
 -- the directory holds the log of this node, and neither of its files is too long
-pub record IsKept (file : Spot → Option File) (reach : Spot → ℕ) (owner : Node) (log : LogView) : Type 0 where
-  pub held : IsHeld file reach log
-  pub within : AreWithin file owner
+pub record IsKept (home : HomeView) (owner : Node) (log : LogView) : Type 0 where
+  pub held : IsHeld home log
+  pub within : AreWithin home.file owner
 
 -- the directory holds the logs of all nodes
-pub record AreKept {E : Type 0} (file : Spot → Option File) (reach : Spot → ℕ) (members : List (Member E)) (coords : List Coord) : Type 0 where
-  pub member : (p : ℕ) (m : Member E) → slice_get members p ≡ Some m → IsKept file reach (node.Member m.number) m.log
-  pub coord : (p : ℕ) (c : Coord) → slice_get coords p ≡ Some c → IsKept file reach (node.Coord c.number) c.log
+pub record AreKept {E : Type 0} (home : HomeView) (members : List (Member E)) (coords : List Coord) : Type 0 where
+  pub member : (p : ℕ) (m : Member E) → slice_get members p ≡ Some m → IsKept home (node.Member m.number) m.log
+  pub coord : (p : ℕ) (c : Coord) → slice_get coords p ≡ Some c → IsKept home (node.Coord c.number) c.log

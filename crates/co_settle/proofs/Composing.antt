@@ -100,15 +100,15 @@ ended_as (world.Old spot) old new other h = h
 ended_as world.Memory old new other h = h
 
 -- so what differs was not told
-pub untold_for : {H : Type 0} (file : H → Spot → Option File) (reach : H → Spot → ℕ) (faults : H → ℕ) (last_failed : H → Spot) (fault : WorldFault) (old : H) (new : HomeView) → HasEndedAs fault (seen file reach faults last_failed old) new → IsUntoldFor file fault
-untold_for file reach faults last_failed (world.Device spot) old new h = tt
-untold_for file reach faults last_failed (world.Differs spot at kept read) old new h = (old, h.1, h.2)
-untold_for file reach faults last_failed (world.InUse spot) old new h = tt
-untold_for file reach faults last_failed (world.Bad spot at) old new h = tt
-untold_for file reach faults last_failed (world.Full spot) old new h = tt
-untold_for file reach faults last_failed world.Count old new h = tt
-untold_for file reach faults last_failed (world.Old spot) old new h = tt
-untold_for file reach faults last_failed world.Memory old new h = tt
+pub untold_for : (fault : WorldFault) (old : HomeView) (new : HomeView) → HasEndedAs fault (seen old) new → IsUntoldFor file fault
+untold_for (world.Device spot) old new h = tt
+untold_for (world.Differs spot at kept read) old new h = (old, h.1, h.2)
+untold_for (world.InUse spot) old new h = tt
+untold_for (world.Bad spot at) old new h = tt
+untold_for (world.Full spot) old new h = tt
+untold_for world.Count old new h = tt
+untold_for (world.Old spot) old new h = tt
+untold_for world.Memory old new h = tt
 
 -- ---- one event
 

@@ -38,7 +38,7 @@ DoesAll takes stands_for s events old new before after w file Gives (Err fault) 
 
 -- How the directory failed, by the fault; no fault of opening ever comes, and the limit on transactions is not met.
 abbrev pub HasEnded : WorldFault → HomeView → HomeView → Type 0
-HasEnded (world.Device spot) old new = HasRisen old.faults new.faults × (new.last_failed ≡ spot)
+HasEnded (world.Device spot) old new = HasRisen old.new.faults.faults × (new.last_failed ≡ spot)
 HasEnded (world.Differs spot at kept read) old new = new.faults ≡ old.faults
 HasEnded (world.InUse spot) old new = ⊥
 HasEnded (world.Bad spot at) old new = ⊥
@@ -48,8 +48,8 @@ HasEnded (world.Old spot) old new = ⊥
 HasEnded world.Memory old new = new.faults ≡ old.faults
 
 -- where a file differs from what is kept of it, the directory did not tell it when it was read again
-abbrev pub IsUntoldFor : {H : Type 0} → (H → Spot → Option File) → WorldFault → Type 0
-IsUntoldFor {H = H} file (world.Differs spot at kept read) = (home : H) × (file home spot ≡ None) × (spot.part < 2)
+abbrev pub IsUntoldFor : WorldFault → Type 0
+IsUntoldFor {H = H} file (world.Differs spot at kept read) = (home : HomeView) × (home.file spot ≡ None) × (spot.part < 2)
 IsUntoldFor file _ = Unit {0}
 
 -- how a call leaves the directory, by its answer

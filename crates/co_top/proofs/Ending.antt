@@ -98,7 +98,7 @@ module _ {E : Type 0} (takes : Kind → Type 0) (stands_for : E → EngineState 
 
     module _ (home : HomeView) (w : World E) where
       files_of : (events : List Event) → StandsFor takes stands_for s0 home w events → AreLeftAs home.file (run (lines events) s0)
-      files_of events f = held_left takes stands_for w (run (lines events) s0) home.file home.reach f.stands f.held
+      files_of events f = held_left takes stands_for w (run (lines events) s0) home f.stands f.held
 
       near_left : (events : List Event) (valid : AllByRecursion (HasLine head) events) (left : (t : List ℕ) → Some text ≡ Some t → (rest : List ℕ) × StandsBehind head t events rest) →
           IsLeftNear head s0 (Some text) events left home.file → AreLeftByFault (ran events valid (left text refl)) home.file
@@ -144,7 +144,7 @@ module _ {E : Type 0} (takes : Kind → Type 0) (stands_for : E → EngineState 
       over (Err (status.Transcript number)) p = absurd p
 
       -- no line was played: a front of the text of the head was put
-      pub first : IsStreamed text now → RepresentsWorld takes stands_for w s0 → AreHeld home.file home.reach w → (count : ℕ) × (told ≡ Some (held ++ take count (opening_text head items))) →
+      pub first : IsStreamed text now → RepresentsWorld takes stands_for w s0 → AreHeld home w → (count : ℕ) × (told ≡ Some (held ++ take count (opening_text head items))) →
           (done : HasRunInPart resume input now held old told) × AreLeftBy done.ran home.file
       first streamed stands kept p =
           let r = ran [] tt (text, AtStart text) in (
@@ -201,7 +201,7 @@ unheaded resume input now streamed held old told same (status.Transcript number)
 
 -- the text of the first line was not put whole
 module _ {E : Type 0} (takes : Kind → Type 0) (stands_for : E → EngineState → Type 0) (resume : Bool) (input : List ℕ) (now : Option (List ℕ)) (streamed : IsStreamed input now) (held : List ℕ) (old : Spot → Option File) (head : Head) (text : List ℕ) (headed : IsHeaded input head text)
-    (w : World E) (items : List Item) (at : IsAttachedOver takes stands_for old head resume w items) (home : HomeView) (kept : AreHeld home.file home.reach w) (told : Option (List ℕ)) where
+    (w : World E) (items : List Item) (at : IsAttachedOver takes stands_for old head resume w items) (home : HomeView) (kept : AreHeld home w) (told : Option (List ℕ)) where
   cut_text : IsPutInPart (opening_text head items) (Some held) told → (done : HasRunInPart resume input now held old told) × AreLeftBy done.ran home.file
   cut_text p = first takes stands_for resume input held old head text headed w items at now told home w (streamed_behind input text now headed.behind streamed) at.stands kept (p held refl)
 

@@ -138,7 +138,7 @@ module _ (head : Head) (s0 : Federation) (text held told : Option (List ℕ)) (p
     stands_one st = record { stands = subst (RepresentsWorld takes stands_for w) (sym (run_one p.events e s0)) st.stands; held = st.held }
 
     files_one : HasStepped takes stands_for z e home w → AreLeftAs home.file (run (lines es) s0)
-    files_one st = let f = stands_one st in held_left takes stands_for w (run (lines es) s0) home.file home.reach f.stands f.held
+    files_one st = let f = stands_one st in held_left takes stands_for w (run (lines es) s0) home f.stands f.held
 
     near : AreLeftNear home.file z (step_line z e).state (step_line (disarmed z) e).state → IsLeftNear head s0 text p.events p.left home.file
     near (inl before) = inl before
@@ -229,7 +229,7 @@ module _ {E : Type 0} (takes : Kind → Type 0) (stands_for : E → EngineState 
   reads_over now streamed (status.Limit limit.Transactions) after own f = absurd own
   reads_over now streamed (status.Limit (limit.Log spot)) after own f = absurd own
   reads_over now streamed status.Memory after own f =
-      record { done = whole_part head s0 text held told p.done; streamed = streamed; files = inl (held_left takes stands_for w (run (lines p.done.events) s0) home.file home.reach p.stands.stands p.stands.held) }
+      record { done = whole_part head s0 text held told p.done; streamed = streamed; files = inl (held_left takes stands_for w (run (lines p.done.events) s0) home p.stands.stands p.stands.held) }
   reads_over now streamed (status.OldLog spot) after own f = absurd own
   reads_over now streamed (status.NotSerial txn at) after own f = absurd own
   reads_over now streamed (status.Transcript at) after own f = absurd own

@@ -50,7 +50,7 @@ pub record IsToldInPart (head : Head) (s0 : Federation) (text held told : Option
 -- the federation stands for what these events leave, and the directory holds its logs
 pub record StandsFor {E : Type 0} (takes : Kind → Type 0) (stands_for : E → EngineState → Type 0) (s0 : Federation) (home : HomeView) (w : World E) (events : List Event) : Type 0 where
   pub stands : RepresentsWorld takes stands_for w (run (lines events) s0)
-  pub held : AreHeld home.file home.reach w
+  pub held : AreHeld home w
 
 -- The files have what these events left, or what was left of the event of the next line: it was begun, and a stop that was armed counts or does not.
 abbrev pub IsLeftNear : (head : Head) → Federation → (text : Option (List ℕ)) → (events : List Event) → ((t : List ℕ) → text ≡ Some t → (rest : List ℕ) × StandsBehind head t events rest) → (Spot → Option File) → Type 0

@@ -45,7 +45,7 @@ HasEnded old new _ = new.faults ≡ old.faults
 -- the federation stands for the state that the event leaves, and the directory holds its logs
 pub record HasStepped {E : Type 0} (takes : Kind → Type 0) (stands_for : E → EngineState → Type 0) (s : Federation) (event : Event) (home : HomeView) (w : World E) : Type 0 where
   pub stands : RepresentsWorld takes stands_for w (step_line s event).state
-  pub held : AreHeld home.file home.reach w
+  pub held : AreHeld home w
 
 -- nothing was told, and the files have what a fault of the event may leave
 abbrev pub HasFaulted : Federation → Event → Option (List ℕ) → Option (List ℕ) → HomeView → Type 0

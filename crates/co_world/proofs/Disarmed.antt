@@ -2,7 +2,7 @@
 use Rattle.std.proofs.Common.{◌≡◌, ◌<◌, ◌≤◌, ◌+◌, ◌≢◌, ◌⊎◌, inl, inr, ℕ, suc, List, length, set, slice_get, Option, None, Some, refl, sym, ap, ◌∙◌, subst, arith, length-set}
 use Rattle.co_base.specs.declared.head.Kind.{Kind}
 use Rattle.co_base.specs.declared.node.Node.TheVariants as node
-use Rattle.co_outside.specs.Home.{File}
+use Rattle.co_outside.specs.Home.{HomeView, File}
 use Rattle.co_outside.specs.declared.spot.Spot.{Spot}
 use Rattle.co_log.specs.LogView.{IsHeld}
 use Rattle.co_plain.specs.CoordStep.{with_coord_log}
@@ -52,12 +52,12 @@ module _ {M : Type 0} (R : M → M → Type 0) where
 
 pub record MemberDisarmed {E : Type 0} (stands_for : E → EngineState → Type 0) (n m : Member E) : Type 0 where
   pub did : (x : MemberState) → RepresentsMember stands_for n x → RepresentsMember stands_for m (with_log x (with_stop x.log None))
-  pub held : (file : Spot → Option File) (reach : Spot → ℕ) → IsHeld file reach n.log → IsHeld file reach m.log
+  pub held : (home : HomeView) → IsHeld home n.log → IsHeld home m.log
   pub same : IsSameMember n m
 
 pub record CoordDisarmed (n m : Coord) : Type 0 where
   pub did : (y : CoordState) → RepresentsCoord n y → RepresentsCoord m (with_coord_log y (with_stop y.log None))
-  pub held : (file : Spot → Option File) (reach : Spot → ℕ) → IsHeld file reach n.log → IsHeld file reach m.log
+  pub held : (home : HomeView) → IsHeld home n.log → IsHeld home m.log
   pub same : IsSameCoord n m
 
 pub record IsDisarmedTo {E : Type 0} (stands_for : E → EngineState → Type 0) (old new : World E) (k j : ℕ) : Type 0 where
@@ -94,15 +94,15 @@ module _ {E : Type 0} (takes : Kind → Type 0) (stands_for : E → EngineState 
         homes = r.homes;
       }
 
-  pub disarmed_held : (file : Spot → Option File) (reach : Spot → ℕ) → AreHeld file reach old → AreHeld file reach new
-  disarmed_held file reach held =
+  pub disarmed_held : (home : HomeView) → AreHeld home old → AreHeld home new
+  disarmed_held home held =
       record {
         member = λ p m is.
             let x = d.members.done p m (within_list new.members.items p m is) is in
             let was = held.member p x.0 x.1 in
-            subst (λ n. IsKept file reach (node.Member n) m.log) (sym x.2.same.number) (record { held = x.2.held file reach was.held; within = was.within });
+            subst (λ n. IsKept home (node.Member n) m.log) (sym x.2.same.number) (record { held = x.2.held home was.held; within = was.within });
         coord = λ p c is.
             let x = d.coords.done p c (within_list new.coords.items p c is) is in
             let was = held.coord p x.0 x.1 in
-            subst (λ n. IsKept file reach (node.Coord n) c.log) (sym x.2.same.number) (record { held = x.2.held file reach was.held; within = was.within });
+            subst (λ n. IsKept home (node.Coord n) c.log) (sym x.2.same.number) (record { held = x.2.held home was.held; within = was.within });
       }

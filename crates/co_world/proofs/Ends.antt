@@ -41,11 +41,11 @@ module _ {A : Type 0} where
 
   -- the logs are held after it
   pub served_after : {E F : Type 0} (result : Result A WorldFault) (w : World E) (z : World F) (u v : HomeView) → AreServed w u v →
-      OnOk result (AreKept v.file v.reach z.members.items z.coords.items) → OnOk result (AreServed z u v)
+      OnOk result (AreKept v z.members.items z.coords.items) → OnOk result (AreServed z u v)
   served_after (Ok a) w z u v served kept = record { kept = kept; clean = served.clean; quiet = served.quiet }
   served_after (Err fault) w z u v served kept = tt
 
-  pub served_alone : {E : Type 0} (result : Result A WorldFault) (w : World E) (v : HomeView) → OnOk result (AreKept v.file v.reach w.members.items w.coords.items) → OnOk result (AreServed w v v)
+  pub served_alone : {E : Type 0} (result : Result A WorldFault) (w : World E) (v : HomeView) → OnOk result (AreKept v w.members.items w.coords.items) → OnOk result (AreServed w v v)
   served_alone (Ok a) w v kept = record { kept = kept; clean = λ s clean. clean; quiet = refl }
   served_alone (Err fault) w v kept = tt
 

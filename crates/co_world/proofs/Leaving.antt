@@ -125,9 +125,9 @@ local_commit_stable m t carried x =
 -- ---- what is left where a call does not answer
 
 -- before a log write the files have the records of the log
-pub kept_left : (owner : Node) (file : Spot → Option File) (reach : Spot → ℕ) (log : LogView) (l : LogState) (that : List Record) → RepresentsLog owner log l → IsKept file reach owner log → LeftAs file owner l.stable that
-kept_left owner file reach log l that s kept told =
-    let here = told_records owner file reach log l s kept.held kept.within told in
+pub kept_left : (owner : Node) (home : HomeView) (log : LogView) (l : LogState) (that : List Record) → RepresentsLog owner log l → IsKept home owner log → LeftAs home.file owner l.stable that
+kept_left owner home log l that s kept told =
+    let here = told_records owner home log l s kept.held kept.within told in
     (here.0, here.1, inl here.2)
 
 module _ (owner : Node) (at : Spot) (long : Type 0) (this that : List Record) (log : LogView) (old new : HomeView) where
@@ -160,16 +160,16 @@ checkpoint_left m x log after old new out answered before = checkpoint_by_left m
 
 -- ---- by the calls of a member
 
-pub plan_left : (w : Writes) (owner : Node) (l : LogState) (log after : LogView) (old new : HomeView) (out : Result MemberStep NodeFault) (completed : List Record) → stable_after w l ≡ completed → RepresentsLog owner log l → IsKept old.file old.reach owner log
+pub plan_left : (w : Writes) (owner : Node) (l : LogState) (log after : LogView) (old new : HomeView) (out : Result MemberStep NodeFault) (completed : List Record) → stable_after w l ≡ completed → RepresentsLog owner log l → IsKept old.old.file.reach owner log
     → IsAnsweredFor w owner l log after old new (written_by out) → IfErr out (IsLeftBy new.file owner l.stable completed)
 plan_left w owner l log after old new out completed same stands kept answered =
-    member_left owner log.current.spot (IsTooLongFor w log) l.stable (stable_after w l) after old new out completed same answered (kept_left owner old.file old.reach log l (stable_after w l) stands kept)
+    member_left owner log.current.spot (IsTooLongFor w log) l.stable (stable_after w l) after old new out completed same answered (kept_left owner old.old.file.reach log l (stable_after w l) stands kept)
 
 -- there was no memory, and nothing was written
-pub still_left : {A : Type 0} (out : Result A NodeFault) (owner : Node) (file : Spot → Option File) (reach : Spot → ℕ) (log : LogView) (l : LogState) (that : List Record) → IfErr out (λ e. e ≡ Memory) → RepresentsLog owner log l → IsKept file reach owner log →
-    IfErr out (IsLeftBy file owner l.stable that)
-still_left (Ok d) owner file reach log l that memory stands kept = tt
-still_left (Err e) owner file reach log l that memory stands kept = subst (IsLeftBy file owner l.stable that) (sym memory) (kept_left owner file reach log l that stands kept, tt)
+pub still_left : {A : Type 0} (out : Result A NodeFault) (owner : Node) (home : HomeView) (log : LogView) (l : LogState) (that : List Record) → IfErr out (λ e. e ≡ Memory) → RepresentsLog owner log l → IsKept home owner log →
+    IfErr out (IsLeftBy home.file owner l.stable that)
+still_left (Ok d) owner home log l that memory stands kept = tt
+still_left (Err e) owner home log l that memory stands kept = subst (IsLeftBy home.file owner l.stable that) (sym memory) (kept_left owner home log l that stands kept, tt)
 
 pub never_left : {A : Type 0} (out : Result A NodeFault) (P : NodeFault → Type 0) → IsOk out → IfErr out P
 never_left (Ok d) P done = tt
@@ -188,21 +188,21 @@ not_full records (Differs spot place kept read) h = tt
 not_full records (Full spot) h = absurd h
 not_full records Memory h = tt
 
-pub restart_left : {A : Type 0} (out : Result A NodeFault) (owner : Node) (file after : Spot → Option File) (reach further : Spot → ℕ) (log : LogView) (l : LogState) (that : List Record) → IfErr out IsNotFull → RepresentsLog owner log l → IsKept file reach owner log
-    → after log.current.spot ≡ file log.current.spot → after log.spare.spot ≡ file log.spare.spot → OtherFilesStay log.node file after reach further → IfErr out (IsLeftBy after owner l.stable that)
-restart_left (Ok d) owner file after reach further log l that read stands kept current spare stay = tt
-restart_left (Err e) owner file after reach further log l that read stands kept current spare stay =
-    let same = files_stay owner log file after reach further stands.owned kept.held.spots current spare (subst (λ (n : Node). OtherFilesStay n file after reach further) stands.owned stay) in
-    (subst (λ (f : Spot → Option File). LeftAs f owner l.stable that) (sym (λ i s. same s i)) (kept_left owner file reach log l that stands kept), not_full that e read)
+pub restart_left : {A : Type 0} (out : Result A NodeFault) (owner : Node) (old new : HomeView) (log : LogView) (l : LogState) (that : List Record) → IfErr out IsNotFull → RepresentsLog owner log l → IsKept old owner log
+    → new.file log.current.spot ≡ old.file log.current.spot → new.file log.spare.spot ≡ old.file log.spare.spot → OtherFilesStay log.node old new → IfErr out (IsLeftBy new.file owner l.stable that)
+restart_left (Ok d) owner old new log l that read stands kept current spare stay = tt
+restart_left (Err e) owner old new log l that read stands kept current spare stay =
+    let same = files_stay owner log old new stands.owned kept.held.spots current spare (subst (λ (n : Node). OtherFilesStay n old new) stands.owned stay) in
+    (subst (λ (f : Spot → Option File). LeftAs f owner l.stable that) (sym (λ i s. same s i)) (kept_left owner old log l that stands kept), not_full that e read)
 
-module _ {H : Type 0} (gives : H → Spot → ℕ → List ℕ → Type 0) (file : H → Spot → Option File) (reach : H → Spot → ℕ) (entered : H → Option (List ℕ)) (faults : H → ℕ) (last_failed : H → Spot) (log : LogView) (old new : H) where
-  pub reread_alone : (e : NodeFault) → IsReread gives file reach entered faults last_failed log old new (Err e) → IsNotFull e
+module _ {H : Type 0} (gives : H → Spot → ℕ → List ℕ → Type 0) (log : LogView) (old new : H) where
+  pub reread_alone : (e : NodeFault) → IsReread gives log old new (Err e) → IsNotFull e
   reread_alone (Device spot) reread = tt
   reread_alone (Differs spot place kept read) reread = tt
   reread_alone (Full spot) reread = absurd reread
   reread_alone Memory reread = tt
 
-  pub member_read : {R : Type 0} (running : Option R) (out : Result MemberStep NodeFault) → (is_some running ≡ true → IsOk out × (new ≡ old)) → (running ≡ None → IsReread gives file reach entered faults last_failed log old new (read_by out)) → IfErr out IsNotFull
+  pub member_read : {R : Type 0} (running : Option R) (out : Result MemberStep NodeFault) → (is_some running ≡ true → IsOk out × (new ≡ old)) → (running ≡ None → IsReread gives log old new (read_by out)) → IfErr out IsNotFull
   member_read running (Ok d) stays reread = tt
   member_read None (Err e) stays reread = reread_alone e (reread refl)
   member_read (Some r) (Err e) stays reread = let h : false ≡ true = (stays refl).0 in absurd cc

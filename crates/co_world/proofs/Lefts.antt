@@ -17,7 +17,7 @@ use Rattle.co_durable.specs.declared.fault.WorldFault.{WorldFault}
 use Rattle.co_durable.specs.declared.fault.WorldFault.TheVariants as world
 use Rattle.std.specs.Prelude.{IfErr, Result, Ok, Err}
 use Rattle.co_world.specs.Served.{IsOfNoFile, of_node}
-use Rattle.co_outside.specs.Home.{File}
+use Rattle.co_outside.specs.Home.{HomeView, File}
 use Rattle.co_outside.specs.declared.spot.Spot.{Spot}
 use Rattle.co_base.specs.declared.mark.Mark.{Mark}
 use Rattle.co_message.specs.declared.message.Message.{Message}
@@ -54,22 +54,22 @@ some_at (x ∷ ms) (suc p) h = some_at ms p (omega (arith, h))
 
 module _ {E : Type 0} (takes : Kind → Type 0) (stands_for : E → EngineState → Type 0) where
   -- the files of its nodes have the stable records of the plain federation
-  pub held_left : (w : World E) (s : Federation) (file : Spot → Option File) (reach : Spot → ℕ) → RepresentsWorld takes stands_for w s → AreHeld file reach w → AreLeftAs file s
-  held_left w s file reach r held = record {
+  pub held_left : (w : World E) (s : Federation) (home : HomeView) → RepresentsWorld takes stands_for w s → AreHeld home w → AreLeftAs home.file s
+  held_left w s home r held = record {
     member = λ k from to.
         let next : suc (k - 1) ≡ k = omega arith in
         let found = some_at w.members.items (k - 1) (omega (arith, from, to, r.kinds)) in
         let here = r.member (k - 1) found.0 found.1 in
         let kept = held.member (k - 1) found.0 found.1 in
-        let told : HasStable file (node.Member found.0.number) (s.member (suc (k - 1))).log.stable = told_records (node.Member found.0.number) file reach found.0.log (s.member (suc (k - 1))).log here.stands.log kept.held kept.within in
-        subst (λ (j : ℕ). HasStable file (node.Member j) (s.member j).log.stable) next (subst (λ (j : ℕ). HasStable file (node.Member j) (s.member (suc (k - 1))).log.stable) here.number told);
+        let told : HasStable home.file (node.Member found.0.number) (s.member (suc (k - 1))).log.stable = told_records (node.Member found.0.number) home found.0.log (s.member (suc (k - 1))).log here.stands.log kept.held kept.within in
+        subst (λ (j : ℕ). HasStable home.file (node.Member j) (s.member j).log.stable) next (subst (λ (j : ℕ). HasStable home.file (node.Member j) (s.member (suc (k - 1))).log.stable) here.number told);
     coord = λ k from to.
         let next : suc (k - 1) ≡ k = omega arith in
         let found = some_at w.coords.items (k - 1) (omega (arith, from, to, r.coordinators)) in
         let here = r.coord (k - 1) found.0 found.1 in
         let kept = held.coord (k - 1) found.0 found.1 in
-        let told : HasStable file (node.Coord found.0.number) (s.coord (suc (k - 1))).log.stable = told_records (node.Coord found.0.number) file reach found.0.log (s.coord (suc (k - 1))).log here.stands.log kept.held kept.within in
-        subst (λ (j : ℕ). HasStable file (node.Coord j) (s.coord j).log.stable) next (subst (λ (j : ℕ). HasStable file (node.Coord j) (s.coord (suc (k - 1))).log.stable) here.number told);
+        let told : HasStable home.file (node.Coord found.0.number) (s.coord (suc (k - 1))).log.stable = told_records (node.Coord found.0.number) home found.0.log (s.coord (suc (k - 1))).log here.stands.log kept.held kept.within in
+        subst (λ (j : ℕ). HasStable home.file (node.Coord j) (s.coord j).log.stable) next (subst (λ (j : ℕ). HasStable home.file (node.Coord j) (s.coord (suc (k - 1))).log.stable) here.number told);
   }
 
 -- ---- one node
@@ -102,8 +102,8 @@ left_split file owner this that left = by (are_told file owner)
     by (inr not_told) = inl (λ told. absurd (not_told told))
 
 -- the files of another node keep their records
-other_stable : (this that : Node) (file after : Spot → Option File) (reach further : Spot → ℕ) (records : List Record) → IsValidNode this → IsValidNode that → that ≢ this → OtherFilesStay this file after reach further → HasStable file that records → HasStable after that records
-other_stable this that file after reach further records one two other stay has told =
+other_stable : (this that : Node) (old new : HomeView) (records : List Record) → IsValidNode this → IsValidNode that → that ≢ this → OtherFilesStay this old new → HasStable old.file that records → HasStable new.file that records
+other_stable this that old new records one two other stay has told =
     let same_a = stay.files (spot_of that 0) (apart this that 0 0 one two other) (apart this that 0 1 one two other) in
     let same_b = stay.files (spot_of that 1) (apart this that 1 0 one two other) (apart this that 1 1 one two other) in
     let found = has (record { a = told.a; b = told.b; is_a = sym same_a ∙ told.is_a; is_b = sym same_b ∙ told.is_b }) in
@@ -147,10 +147,10 @@ pub record AreFew (s : Federation) : Type 0 where
   pub members : length s.kinds ≤ 16
   pub coords : s.coordinators ≤ 8
 
-module _ (s : Federation) (few : AreFew s) (file after : Spot → Option File) (reach further : Spot → ℕ) (before : AreLeftAs file s) where
+module _ (s : Federation) (few : AreFew s) (old new : HomeView) (before : AreLeftAs old.file s) where
   -- the member of a number has these records now, and all others what they had
-  member_left_as : (k : ℕ) (next : Federation) → 1 ≤ k → k ≤ length s.kinds → OtherFilesStay (node.Member k) file after reach further → next.kinds ≡ s.kinds → next.coordinators ≡ s.coordinators
-      → ((i : ℕ) → k ≢ i → (next.member i).log.stable ≡ (s.member i).log.stable) → ((c : ℕ) → (next.coord c).log.stable ≡ (s.coord c).log.stable) → HasStable after (node.Member k) (next.member k).log.stable → AreLeftAs after next
+  member_left_as : (k : ℕ) (next : Federation) → 1 ≤ k → k ≤ length s.kinds → OtherFilesStay (node.Member k) old new → next.kinds ≡ s.kinds → next.coordinators ≡ s.coordinators
+      → ((i : ℕ) → k ≢ i → (next.member i).log.stable ≡ (s.member i).log.stable) → ((c : ℕ) → (next.coord c).log.stable ≡ (s.coord c).log.stable) → HasStable new.file (node.Member k) (next.member k).log.stable → AreLeftAs new.file next
   member_left_as k next from to stay kinds coordinators members coords now =
       let this : IsValidNode (node.Member k) = (from, omega (arith, to, few.members)) in
       record {
@@ -158,55 +158,55 @@ module _ (s : Federation) (few : AreFew s) (file after : Spot → Option File) (
         coord = λ c low high.
             let bound : c ≤ s.coordinators = subst (λ (n : ℕ). c ≤ n) coordinators high in
             let that : IsValidNode (node.Coord c) = (low, omega (arith, bound, few.coords)) in
-            subst (λ (rs : List Record). HasStable after (node.Coord c) rs) (sym (coords c)) (other_stable (node.Member k) (node.Coord c) file after reach further (s.coord c).log.stable this that (λ e. no_member e) stay (before.coord c low bound));
+            subst (λ (rs : List Record). HasStable new.file (node.Coord c) rs) (sym (coords c)) (other_stable (node.Member k) (node.Coord c) old new (s.coord c).log.stable this that (λ e. no_member e) stay (before.coord c low bound));
       }
     where
-      by : (i : ℕ) → 1 ≤ i → i ≤ length s.kinds → (k ≡ i) ⊎ (k ≢ i) → HasStable after (node.Member i) (next.member i).log.stable
-      by i low high (inl same) = subst (λ (j : ℕ). HasStable after (node.Member j) (next.member j).log.stable) same now
+      by : (i : ℕ) → 1 ≤ i → i ≤ length s.kinds → (k ≡ i) ⊎ (k ≢ i) → HasStable new.file (node.Member i) (next.member i).log.stable
+      by i low high (inl same) = subst (λ (j : ℕ). HasStable new.file (node.Member j) (next.member j).log.stable) same now
       by i low high (inr other) =
-          subst (λ (rs : List Record). HasStable after (node.Member i) rs) (sym (members i other))
-          (other_stable (node.Member k) (node.Member i) file after reach further (s.member i).log.stable (from, omega (arith, to, few.members)) (low, omega (arith, high, few.members)) (λ e. other (sym (member_number e))) stay (before.member i low high))
+          subst (λ (rs : List Record). HasStable new.file (node.Member i) rs) (sym (members i other))
+          (other_stable (node.Member k) (node.Member i) old new (s.member i).log.stable (from, omega (arith, to, few.members)) (low, omega (arith, high, few.members)) (λ e. other (sym (member_number e))) stay (before.member i low high))
 
-  coord_left_as : (k : ℕ) (next : Federation) → 1 ≤ k → k ≤ s.coordinators → OtherFilesStay (node.Coord k) file after reach further → next.kinds ≡ s.kinds → next.coordinators ≡ s.coordinators
-      → ((i : ℕ) → k ≢ i → (next.coord i).log.stable ≡ (s.coord i).log.stable) → ((m : ℕ) → (next.member m).log.stable ≡ (s.member m).log.stable) → HasStable after (node.Coord k) (next.coord k).log.stable → AreLeftAs after next
+  coord_left_as : (k : ℕ) (next : Federation) → 1 ≤ k → k ≤ s.coordinators → OtherFilesStay (node.Coord k) old new → next.kinds ≡ s.kinds → next.coordinators ≡ s.coordinators
+      → ((i : ℕ) → k ≢ i → (next.coord i).log.stable ≡ (s.coord i).log.stable) → ((m : ℕ) → (next.member m).log.stable ≡ (s.member m).log.stable) → HasStable new.file (node.Coord k) (next.coord k).log.stable → AreLeftAs new.file next
   coord_left_as k next from to stay kinds coordinators coords members now =
       let this : IsValidNode (node.Coord k) = (from, omega (arith, to, few.coords)) in
       record {
         member = λ m low high.
             let bound : m ≤ length s.kinds = subst (λ (ks : List Kind). m ≤ length ks) kinds high in
             let that : IsValidNode (node.Member m) = (low, omega (arith, bound, few.members)) in
-            subst (λ (rs : List Record). HasStable after (node.Member m) rs) (sym (members m)) (other_stable (node.Coord k) (node.Member m) file after reach further (s.member m).log.stable this that (λ e. no_member (sym e)) stay (before.member m low bound));
+            subst (λ (rs : List Record). HasStable new.file (node.Member m) rs) (sym (members m)) (other_stable (node.Coord k) (node.Member m) old new (s.member m).log.stable this that (λ e. no_member (sym e)) stay (before.member m low bound));
         coord = λ i low high. by i low (subst (λ (n : ℕ). i ≤ n) coordinators high) (number_is k i);
       }
     where
-      by : (i : ℕ) → 1 ≤ i → i ≤ s.coordinators → (k ≡ i) ⊎ (k ≢ i) → HasStable after (node.Coord i) (next.coord i).log.stable
-      by i low high (inl same) = subst (λ (j : ℕ). HasStable after (node.Coord j) (next.coord j).log.stable) same now
+      by : (i : ℕ) → 1 ≤ i → i ≤ s.coordinators → (k ≡ i) ⊎ (k ≢ i) → HasStable new.file (node.Coord i) (next.coord i).log.stable
+      by i low high (inl same) = subst (λ (j : ℕ). HasStable new.file (node.Coord j) (next.coord j).log.stable) same now
       by i low high (inr other) =
-          subst (λ (rs : List Record). HasStable after (node.Coord i) rs) (sym (coords i other))
-          (other_stable (node.Coord k) (node.Coord i) file after reach further (s.coord i).log.stable (from, omega (arith, to, few.coords)) (low, omega (arith, high, few.coords)) (λ e. other (sym (coord_number e))) stay (before.coord i low high))
+          subst (λ (rs : List Record). HasStable new.file (node.Coord i) rs) (sym (coords i other))
+          (other_stable (node.Coord k) (node.Coord i) old new (s.coord i).log.stable (from, omega (arith, to, few.coords)) (low, omega (arith, high, few.coords)) (λ e. other (sym (coord_number e))) stay (before.coord i low high))
 
   -- a fault of one member leaves the old records of all nodes, or those of the completed write
-  pub member_fault_left : (k : ℕ) (x : MemberState) → 1 ≤ k → k ≤ length s.kinds → OtherFilesStay (node.Member k) file after reach further → LeftAs after (node.Member k) (s.member k).log.stable x.log.stable
-      → AreLeftAs after s ⊎ AreLeftAs after (with_member (disarmed s) k x)
-  member_fault_left k x from to stay left = by (left_split after (node.Member k) (s.member k).log.stable x.log.stable left)
+  pub member_fault_left : (k : ℕ) (x : MemberState) → 1 ≤ k → k ≤ length s.kinds → OtherFilesStay (node.Member k) old new → LeftAs new.file (node.Member k) (s.member k).log.stable x.log.stable
+      → AreLeftAs new.file s ⊎ AreLeftAs new.file (with_member (disarmed s) k x)
+  member_fault_left k x from to stay left = by (left_split new.file (node.Member k) (s.member k).log.stable x.log.stable left)
     where
-      by : HasStable after (node.Member k) (s.member k).log.stable ⊎ HasStable after (node.Member k) x.log.stable → AreLeftAs after s ⊎ AreLeftAs after (with_member (disarmed s) k x)
+      by : HasStable new.file (node.Member k) (s.member k).log.stable ⊎ HasStable new.file (node.Member k) x.log.stable → AreLeftAs new.file s ⊎ AreLeftAs new.file (with_member (disarmed s) k x)
       by (inl old) = inl (member_left_as k s from to stay refl refl (λ i other. refl) (λ c. refl) old)
       by (inr new) =
           inr
           (member_left_as k (with_member (disarmed s) k x) from to stay refl refl (λ i other. ap (λ (y : MemberState). y.log.stable) (at_other (disarmed s).member k i x other)) (λ c. refl)
-          (subst (λ (y : MemberState). HasStable after (node.Member k) y.log.stable) (sym (at_same (disarmed s).member k x)) new))
+          (subst (λ (y : MemberState). HasStable new.file (node.Member k) y.log.stable) (sym (at_same (disarmed s).member k x)) new))
 
-  pub coord_fault_left : (k : ℕ) (y : CoordState) → 1 ≤ k → k ≤ s.coordinators → OtherFilesStay (node.Coord k) file after reach further → LeftAs after (node.Coord k) (s.coord k).log.stable y.log.stable
-      → AreLeftAs after s ⊎ AreLeftAs after (with_coord (disarmed s) k y)
-  coord_fault_left k y from to stay left = by (left_split after (node.Coord k) (s.coord k).log.stable y.log.stable left)
+  pub coord_fault_left : (k : ℕ) (y : CoordState) → 1 ≤ k → k ≤ s.coordinators → OtherFilesStay (node.Coord k) old new → LeftAs new.file (node.Coord k) (s.coord k).log.stable y.log.stable
+      → AreLeftAs new.file s ⊎ AreLeftAs new.file (with_coord (disarmed s) k y)
+  coord_fault_left k y from to stay left = by (left_split new.file (node.Coord k) (s.coord k).log.stable y.log.stable left)
     where
-      by : HasStable after (node.Coord k) (s.coord k).log.stable ⊎ HasStable after (node.Coord k) y.log.stable → AreLeftAs after s ⊎ AreLeftAs after (with_coord (disarmed s) k y)
+      by : HasStable new.file (node.Coord k) (s.coord k).log.stable ⊎ HasStable new.file (node.Coord k) y.log.stable → AreLeftAs new.file s ⊎ AreLeftAs new.file (with_coord (disarmed s) k y)
       by (inl old) = inl (coord_left_as k s from to stay refl refl (λ i other. refl) (λ m. refl) old)
       by (inr new) =
           inr
           (coord_left_as k (with_coord (disarmed s) k y) from to stay refl refl (λ i other. ap (λ (z : CoordState). z.log.stable) (at_other (disarmed s).coord k i y other)) (λ m. refl)
-          (subst (λ (z : CoordState). HasStable after (node.Coord k) z.log.stable) (sym (at_same (disarmed s).coord k y)) new))
+          (subst (λ (z : CoordState). HasStable new.file (node.Coord k) z.log.stable) (sym (at_same (disarmed s).coord k y)) new))
 
 -- a fault of a node that is told as one of the federation
 full_with : (s : Federation) (records : List Record) → (IsOverlong records → HasOverlong s) → (fault : NodeFault) → IsFullWith records fault → IsFullIn s (of_node fault)
@@ -215,42 +215,42 @@ full_with s records so (log.Differs spot at kept read) full = tt
 full_with s records so (log.Full spot) full = so full
 full_with s records so log.Memory full = tt
 
-module _ {E : Type 0} (takes : Kind → Type 0) (stands_for : E → EngineState → Type 0) (w : World E) (s : Federation) (stands : RepresentsWorld takes stands_for w s) (file after : Spot → Option File) (reach further : Spot → ℕ) (held : AreHeld file reach w) where
+module _ {E : Type 0} (takes : Kind → Type 0) (stands_for : E → EngineState → Type 0) (w : World E) (s : Federation) (stands : RepresentsWorld takes stands_for w s) (old new : HomeView) (held : AreHeld old w) where
   -- a fault at the member of a number
-  pub member_fault : (k p : ℕ) (m : Member E) (call : MemberCall) → suc p ≡ k → slice_get w.members.items p ≡ Some m → OtherFilesStay (node.Member m.number) file after reach further
-      → (fault : NodeFault) → ((x : MemberState) → RepresentsMember stands_for m x → IsLeftBy after (node.Member m.number) x.log.stable (member_does m.number call (member_disarmed x)).state.log.stable fault)
-      → AreLeftWith after s (with_member (disarmed s) k (member_does k call (member_disarmed (s.member k))).state) (of_node fault)
+  pub member_fault : (k p : ℕ) (m : Member E) (call : MemberCall) → suc p ≡ k → slice_get w.members.items p ≡ Some m → OtherFilesStay (node.Member m.number) old new
+      → (fault : NodeFault) → ((x : MemberState) → RepresentsMember stands_for m x → IsLeftBy new.file (node.Member m.number) x.log.stable (member_does m.number call (member_disarmed x)).state.log.stable fault)
+      → AreLeftWith new.file s (with_member (disarmed s) k (member_does k call (member_disarmed (s.member k))).state) (of_node fault)
   member_fault k p m call next is stay fault left =
       let here = stands.member p m is in
       let number : m.number ≡ k = here.number ∙ next in
       let below = within_list w.members.items p m is in
       let few : AreFew s = record { members = stands.few_members; coords = stands.few_coordinators } in
       let at_p = left (s.member (suc p)) here.stands in
-      let at_number = subst (λ (j : ℕ). IsLeftBy after (node.Member j) (s.member (suc p)).log.stable (member_does j call (member_disarmed (s.member (suc p)))).state.log.stable fault) number at_p in
-      let at_k = subst (λ (j : ℕ). IsLeftBy after (node.Member k) (s.member j).log.stable (member_does k call (member_disarmed (s.member j))).state.log.stable fault) next at_number in
+      let at_number = subst (λ (j : ℕ). IsLeftBy new.file (node.Member j) (s.member (suc p)).log.stable (member_does j call (member_disarmed (s.member (suc p)))).state.log.stable fault) number at_p in
+      let at_k = subst (λ (j : ℕ). IsLeftBy new.file (node.Member k) (s.member j).log.stable (member_does k call (member_disarmed (s.member j))).state.log.stable fault) next at_number in
       let x = (member_does k call (member_disarmed (s.member k))).state in
       let low : 1 ≤ k = omega (arith, next) in
       let high : k ≤ length s.kinds = omega (arith, below, stands.kinds, next) in (
-        member_fault_left s few file after reach further (held_left takes stands_for w s file reach stands held) k x low high (subst (λ (j : ℕ). OtherFilesStay (node.Member j) file after reach further) number stay) at_k.0,
+        member_fault_left s few old new (held_left takes stands_for w s old stands held) k x low high (subst (λ (j : ℕ). OtherFilesStay (node.Member j) old new) number stay) at_k.0,
         full_with (with_member (disarmed s) k x) x.log.stable (λ long. OverlongMember k low high (subst (λ (y : MemberState). IsOverlong y.log.stable) (sym (at_same (disarmed s).member k x)) long)) fault at_k.1,
       )
 
   -- so for a coordinator
-  pub coord_fault : (k p : ℕ) (c : Coord) (call : CoordCall) → suc p ≡ k → slice_get w.coords.items p ≡ Some c → OtherFilesStay (node.Coord c.number) file after reach further
-      → (fault : NodeFault) → ((y : CoordState) → RepresentsCoord c y → IsLeftBy after (node.Coord c.number) y.log.stable (coord_does c.number call (coord_disarmed y)).state.log.stable fault)
-      → AreLeftWith after s (with_coord (disarmed s) k (coord_does k call (coord_disarmed (s.coord k))).state) (of_node fault)
+  pub coord_fault : (k p : ℕ) (c : Coord) (call : CoordCall) → suc p ≡ k → slice_get w.coords.items p ≡ Some c → OtherFilesStay (node.Coord c.number) old new
+      → (fault : NodeFault) → ((y : CoordState) → RepresentsCoord c y → IsLeftBy new.file (node.Coord c.number) y.log.stable (coord_does c.number call (coord_disarmed y)).state.log.stable fault)
+      → AreLeftWith new.file s (with_coord (disarmed s) k (coord_does k call (coord_disarmed (s.coord k))).state) (of_node fault)
   coord_fault k p c call next is stay fault left =
       let here = stands.coord p c is in
       let number : c.number ≡ k = here.number ∙ next in
       let below = within_list w.coords.items p c is in
       let few : AreFew s = record { members = stands.few_members; coords = stands.few_coordinators } in
       let at_p = left (s.coord (suc p)) here.stands in
-      let at_number = subst (λ (j : ℕ). IsLeftBy after (node.Coord j) (s.coord (suc p)).log.stable (coord_does j call (coord_disarmed (s.coord (suc p)))).state.log.stable fault) number at_p in
-      let at_k = subst (λ (j : ℕ). IsLeftBy after (node.Coord k) (s.coord j).log.stable (coord_does k call (coord_disarmed (s.coord j))).state.log.stable fault) next at_number in
+      let at_number = subst (λ (j : ℕ). IsLeftBy new.file (node.Coord j) (s.coord (suc p)).log.stable (coord_does j call (coord_disarmed (s.coord (suc p)))).state.log.stable fault) number at_p in
+      let at_k = subst (λ (j : ℕ). IsLeftBy new.file (node.Coord k) (s.coord j).log.stable (coord_does k call (coord_disarmed (s.coord j))).state.log.stable fault) next at_number in
       let y = (coord_does k call (coord_disarmed (s.coord k))).state in
       let low : 1 ≤ k = omega (arith, next) in
       let high : k ≤ s.coordinators = omega (arith, below, stands.coordinators, next) in (
-        coord_fault_left s few file after reach further (held_left takes stands_for w s file reach stands held) k y low high (subst (λ (j : ℕ). OtherFilesStay (node.Coord j) file after reach further) number stay) at_k.0,
+        coord_fault_left s few old new (held_left takes stands_for w s old stands held) k y low high (subst (λ (j : ℕ). OtherFilesStay (node.Coord j) old new) number stay) at_k.0,
         full_with (with_coord (disarmed s) k y) y.log.stable (λ long. OverlongCoord k low high (subst (λ (z : CoordState). IsOverlong z.log.stable) (sym (at_same (disarmed s).coord k y)) long)) fault at_k.1,
       )
 

@@ -11,7 +11,7 @@ use Rattle.co_member.specs.Standing.{RepresentsMember, HasAnswered, IsSame}
 use Rattle.co_member.specs.declared.member.Member.{Member}
 use Rattle.co_message.specs.declared.answer.Answer.{Answer}
 use Rattle.co_opening.specs.Nodes.{IsMemberAt, IsKept}
-use Rattle.co_outside.specs.Home.{File}
+use Rattle.co_outside.specs.Home.{HomeView, File}
 use Rattle.co_outside.specs.declared.spot.Spot.{Spot}
 use Rattle.co_plain.specs.Federation.{Federation, with_member}
 use Rattle.co_plain.specs.Invariants.{Memory, view, stands}
@@ -68,20 +68,20 @@ module _ {E : Type 0} (w after : World E) (p : ℕ) (m n : Member E) (changed : 
           }
 
   -- a log that is the same one is held as before
-  pub changed_held : (file : Spot → Option File) (reach : Spot → ℕ) → n.log ≡ m.log → AreHeld file reach w → AreHeld file reach after
-  changed_held file reach same held =
+  pub changed_held : (home : HomeView) → n.log ≡ m.log → AreHeld home w → AreHeld home after
+  changed_held home same held =
       record {
         member = λ i q is. at i q (set_cases w.members.items p i n q (subst (λ (ms : List (Member E)). slice_get ms i ≡ Some q) changed.members is));
         coord = λ i c is. held.coord i c (subst (λ (cs : List Coord). slice_get cs i ≡ Some c) changed.coords is);
       }
     where
-      now : IsKept file reach (node.Member n.number) n.log
+      now : IsKept home (node.Member n.number) n.log
       now =
-          subst (λ (k : ℕ). IsKept file reach (node.Member k) n.log) (sym changed.same.number)
-          (subst (λ (l : LogView). IsKept file reach (node.Member m.number) l) (sym same) (held.member p m changed.here))
+          subst (λ (k : ℕ). IsKept home (node.Member k) n.log) (sym changed.same.number)
+          (subst (λ (l : LogView). IsKept home (node.Member m.number) l) (sym same) (held.member p m changed.here))
 
-      at : (i : ℕ) (q : Member E) → ((p ≡ i) × (n ≡ q)) ⊎ ((p ≢ i) × (slice_get w.members.items i ≡ Some q)) → IsKept file reach (node.Member q.number) q.log
-      at i q (inl is) = subst (λ (z : Member E). IsKept file reach (node.Member z.number) z.log) is.1 now
+      at : (i : ℕ) (q : Member E) → ((p ≡ i) × (n ≡ q)) ⊎ ((p ≢ i) × (slice_get w.members.items i ≡ Some q)) → IsKept home (node.Member q.number) q.log
+      at i q (inl is) = subst (λ (z : Member E). IsKept home (node.Member z.number) z.log) is.1 now
       at i q (inr is) = held.member i q is.1
 
   -- what the member of a number answered, and what the federation is after it

@@ -53,14 +53,14 @@ clean_everywhere a b old new others at_a at_b s = by (same_or_other s a) (same_o
     by (inr n) (inr m) was = subst (λ (o : Option File). IsClean o) (sym (others s n m)) was
 
 -- the files of a log stay, and all others do
-pub files_stay : (owner : Node) (log : LogView) (file after : Spot → Option File) (reach further : Spot → ℕ) → log.node ≡ owner → HasSpots log → after log.current.spot ≡ file log.current.spot → after log.spare.spot ≡ file log.spare.spot
-    → OtherFilesStay owner file after reach further → (s : Spot) → after s ≡ file s
-files_stay owner log file after reach further owned spots current spare stay =
-    all_stay after file (spot_of owner 0) (spot_of owner 1) (at_a spots) (at_b spots) stay.files
+pub files_stay : (owner : Node) (log : LogView) (old new : HomeView) → log.node ≡ owner → HasSpots log → new.file log.current.spot ≡ old.file log.current.spot → new.file log.spare.spot ≡ old.file log.spare.spot
+    → OtherFilesStay owner old new → (s : Spot) → new.file s ≡ old.file s
+files_stay owner log old new owned spots current spare stay =
+    all_stay new.file old.file (spot_of owner 0) (spot_of owner 1) (at_a spots) (at_b spots) stay.files
   where
-    at_a : HasSpots log → after (spot_of owner 0) ≡ file (spot_of owner 0)
-    at_a (inl own) = subst (λ (s : Spot). after s ≡ file s) (own.0 ∙ ap (λ (n : Node). spot_of n 0) owned) current
-    at_a (inr own) = subst (λ (s : Spot). after s ≡ file s) (own.1 ∙ ap (λ (n : Node). spot_of n 0) owned) spare
+    at_a : HasSpots log → new.file (spot_of owner 0) ≡ old.file (spot_of owner 0)
+    at_a (inl own) = subst (λ (s : Spot). new.file s ≡ old.file s) (own.0 ∙ ap (λ (n : Node). spot_of n 0) owned) current
+    at_a (inr own) = subst (λ (s : Spot). new.file s ≡ old.file s) (own.1 ∙ ap (λ (n : Node). spot_of n 0) owned) spare
 
     at_b : HasSpots log → after (spot_of owner 1) ≡ file (spot_of owner 1)
     at_b (inl own) = subst (λ (s : Spot). after s ≡ file s) (own.1 ∙ ap (λ (n : Node). spot_of n 1) owned) spare
@@ -69,12 +69,12 @@ files_stay owner log file after reach further owned spots current spare stay =
 -- ---- a call that may write
 
 module _ (owner : Node) (at : Spot) (long : Type 0) (this that : List Record) (log : LogView) (old new : HomeView) where
-  pub answered_served : (r : Result Written NodeFault) → IsAnswered owner at long this that log old new r → OtherFilesStay owner old.file new.file old.reach new.reach → OnOk r (IsServed owner log old new)
+  pub answered_served : (r : Result Written NodeFault) → IsAnswered owner at long this that log old new r → OtherFilesStay owner old.new.file.old.file.new.reach.reach → OnOk r (IsServed owner log old new)
   answered_served (Ok written) answered stay =
       let node = answered.1 in
       record {
         kept = record { held = node.held; within = node.within };
-        clean = clean_everywhere (spot_of owner 0) (spot_of owner 1) old.file new.file stay.files node.clean_a node.clean_b;
+        clean = clean_everywhere (spot_of owner 0) (spot_of owner 1) old.new.file.file stay.files node.clean_a node.clean_b;
         quiet = node.quiet;
       }
   answered_served (Err e) answered stay = tt
@@ -86,7 +86,7 @@ module _ (owner : Node) (at : Spot) (long : Type 0) (this that : List Record) (l
   answered_ended (Err (Full spot)) answered = ap (λ (v : HomeView). v.faults) answered.untouched
   answered_ended (Err Memory) answered = answered.quiet
 
-  pub member_served : (out : Result MemberStep NodeFault) → IsAnswered owner at long this that log old new (written_by_member out) → OtherFilesStay owner old.file new.file old.reach new.reach → OnOk out (IsServed owner log old new)
+  pub member_served : (out : Result MemberStep NodeFault) → IsAnswered owner at long this that log old new (written_by_member out) → OtherFilesStay owner old.new.file.old.file.new.reach.reach → OnOk out (IsServed owner log old new)
   member_served (Ok d) answered stay = answered_served (written_by_member (Ok d)) answered stay
   member_served (Err e) answered stay = tt
 
@@ -94,7 +94,7 @@ module _ (owner : Node) (at : Spot) (long : Type 0) (this that : List Record) (l
   member_ended (Ok d) answered = tt
   member_ended (Err e) answered = answered_ended (Err e) answered
 
-  pub coord_served : (out : Result CoordStep NodeFault) → IsAnswered owner at long this that log old new (written_by_coord out) → OtherFilesStay owner old.file new.file old.reach new.reach → OnOk out (IsServed owner log old new)
+  pub coord_served : (out : Result CoordStep NodeFault) → IsAnswered owner at long this that log old new (written_by_coord out) → OtherFilesStay owner old.new.file.old.file.new.reach.reach → OnOk out (IsServed owner log old new)
   coord_served (Ok d) answered stay = answered_served (written_by_coord (Ok d)) answered stay
   coord_served (Err e) answered stay = tt
 
@@ -104,33 +104,33 @@ module _ (owner : Node) (at : Spot) (long : Type 0) (this that : List Record) (l
 
 -- a plan of a member, and one of a coordinator
 pub plan_served : (w : MemberWrites) (owner : Node) (l : LogState) (log after : LogView) (old new : HomeView) (out : Result MemberStep NodeFault) → IsMemberAnsweredFor w owner l log after old new (written_by_member out) → log.node ≡ owner
-    → OtherFilesStay log.node old.file new.file old.reach new.reach → OnOk out (IsServed owner after old new)
+    → OtherFilesStay log.node old.new.file.old.file.new.reach.reach → OnOk out (IsServed owner after old new)
 plan_served w owner l log after old new out answered owned stay =
-    member_served owner log.current.spot (IsMemberTooLongFor w log) l.stable (member_stable_after w l) after old new out answered (subst (λ (n : Node). OtherFilesStay n old.file new.file old.reach new.reach) owned stay)
+    member_served owner log.current.spot (IsMemberTooLongFor w log) l.stable (member_stable_after w l) after old new out answered (subst (λ (n : Node). OtherFilesStay n old.new.file.old.file.new.reach.reach) owned stay)
 
 pub plan_ended : (w : MemberWrites) (owner : Node) (l : LogState) (log after : LogView) (old new : HomeView) (out : Result MemberStep NodeFault) → IsMemberAnsweredFor w owner l log after old new (written_by_member out) → IfErr out (λ fault. HasFailedAs fault old new)
 plan_ended w owner l log after old new out answered = member_ended owner log.current.spot (IsMemberTooLongFor w log) l.stable (member_stable_after w l) after old new out answered
 
 pub coord_plan_served : (w : CoordWrites) (owner : Node) (l : LogState) (log after : LogView) (old new : HomeView) (out : Result CoordStep NodeFault) → IsCoordAnsweredFor w owner l log after old new (written_by_coord out) → log.node ≡ owner
-    → OtherFilesStay log.node old.file new.file old.reach new.reach → OnOk out (IsServed owner after old new)
+    → OtherFilesStay log.node old.new.file.old.file.new.reach.reach → OnOk out (IsServed owner after old new)
 coord_plan_served w owner l log after old new out answered owned stay =
-    coord_served owner log.current.spot (IsCoordTooLongFor w log) l.stable (coord_stable_after w l) after old new out answered (subst (λ (n : Node). OtherFilesStay n old.file new.file old.reach new.reach) owned stay)
+    coord_served owner log.current.spot (IsCoordTooLongFor w log) l.stable (coord_stable_after w l) after old new out answered (subst (λ (n : Node). OtherFilesStay n old.new.file.old.file.new.reach.reach) owned stay)
 
 pub coord_plan_ended : (w : CoordWrites) (owner : Node) (l : LogState) (log after : LogView) (old new : HomeView) (out : Result CoordStep NodeFault) → IsCoordAnsweredFor w owner l log after old new (written_by_coord out) → IfErr out (λ fault. HasFailedAs fault old new)
 coord_plan_ended w owner l log after old new out answered = coord_ended owner log.current.spot (IsCoordTooLongFor w log) l.stable (coord_stable_after w l) after old new out answered
 
 -- ---- a checkpoint
 
-checkpoint_by_served : (m : ℕ) (x : MemberState) (log after : LogView) (old new : HomeView) (out : Result MemberStep NodeFault) (closed : Bool) → IsAnsweredIn closed m x log after old new (written_by_member out) → OtherFilesStay (node.Member m) old.file new.file old.reach new.reach
+checkpoint_by_served : (m : ℕ) (x : MemberState) (log after : LogView) (old new : HomeView) (out : Result MemberStep NodeFault) (closed : Bool) → IsAnsweredIn closed m x log after old new (written_by_member out) → OtherFilesStay (node.Member m) old.new.file.old.file.new.reach.reach
     → OnOk out (IsServed (node.Member m) after old new)
 checkpoint_by_served m x log after old new out false answered stay = member_served (node.Member m) log.spare.spot ⊥ x.log.stable x.log.stable after old new out answered stay
 checkpoint_by_served m x log after old new out true answered stay =
     member_served (node.Member m) log.spare.spot (IsOverfull log (spare_items x)) x.log.stable (member_spare m x (next_generation (generation_of x.log.stable))) after old new out answered stay
 
-pub checkpoint_served : (m : ℕ) (x : MemberState) (log after : LogView) (old new : HomeView) (out : Result MemberStep NodeFault) → IsMemberCheckpointed m x log after old new (written_by_member out) → log.node ≡ node.Member m → OtherFilesStay log.node old.file new.file old.reach new.reach
+pub checkpoint_served : (m : ℕ) (x : MemberState) (log after : LogView) (old new : HomeView) (out : Result MemberStep NodeFault) → IsMemberCheckpointed m x log after old new (written_by_member out) → log.node ≡ node.Member m → OtherFilesStay log.node old.new.file.old.file.new.reach.reach
     → OnOk out (IsServed (node.Member m) after old new)
 checkpoint_served m x log after old new out answered owned stay =
-    checkpoint_by_served m x log after old new out x.log.spare_closed answered (subst (λ (n : Node). OtherFilesStay n old.file new.file old.reach new.reach) owned stay)
+    checkpoint_by_served m x log after old new out x.log.spare_closed answered (subst (λ (n : Node). OtherFilesStay n old.new.file.old.file.new.reach.reach) owned stay)
 
 checkpoint_by_ended : (m : ℕ) (x : MemberState) (log after : LogView) (old new : HomeView) (out : Result MemberStep NodeFault) (closed : Bool) → IsAnsweredIn closed m x log after old new (written_by_member out) → IfErr out (λ fault. HasFailedAs fault old new)
 checkpoint_by_ended m x log after old new out false answered = member_ended (node.Member m) log.spare.spot ⊥ x.log.stable x.log.stable after old new out answered
@@ -140,16 +140,16 @@ checkpoint_by_ended m x log after old new out true answered =
 pub checkpoint_ended : (m : ℕ) (x : MemberState) (log after : LogView) (old new : HomeView) (out : Result MemberStep NodeFault) → IsMemberCheckpointed m x log after old new (written_by_member out) → IfErr out (λ fault. HasFailedAs fault old new)
 checkpoint_ended m x log after old new out answered = checkpoint_by_ended m x log after old new out x.log.spare_closed answered
 
-coord_checkpoint_by_served : (owner : Node) (y : CoordState) (log after : LogView) (old new : HomeView) (out : Result CoordStep NodeFault) (closed : Bool) → IsCoordCheckpointed closed owner y log after old new (written_by_coord out) → OtherFilesStay owner old.file new.file old.reach new.reach
+coord_checkpoint_by_served : (owner : Node) (y : CoordState) (log after : LogView) (old new : HomeView) (out : Result CoordStep NodeFault) (closed : Bool) → IsCoordCheckpointed closed owner y log after old new (written_by_coord out) → OtherFilesStay owner old.new.file.old.file.new.reach.reach
     → OnOk out (IsServed owner after old new)
 coord_checkpoint_by_served owner y log after old new out false answered stay = coord_served owner log.spare.spot ⊥ y.log.stable y.log.stable after old new out answered stay
 coord_checkpoint_by_served owner y log after old new out true answered stay =
     coord_served owner log.spare.spot (IsOverfull log (reverse (restated y))) y.log.stable (filled_with owner y.log (restated y)) after old new out answered stay
 
-pub coord_checkpoint_served : (owner : Node) (y : CoordState) (log after : LogView) (old new : HomeView) (out : Result CoordStep NodeFault) → IsCoordCheckpointed y.log.spare_closed owner y log after old new (written_by_coord out) → log.node ≡ owner → OtherFilesStay log.node old.file new.file old.reach new.reach
+pub coord_checkpoint_served : (owner : Node) (y : CoordState) (log after : LogView) (old new : HomeView) (out : Result CoordStep NodeFault) → IsCoordCheckpointed y.log.spare_closed owner y log after old new (written_by_coord out) → log.node ≡ owner → OtherFilesStay log.node old.new.file.old.file.new.reach.reach
     → OnOk out (IsServed owner after old new)
 coord_checkpoint_served owner y log after old new out answered owned stay =
-    coord_checkpoint_by_served owner y log after old new out y.log.spare_closed answered (subst (λ (n : Node). OtherFilesStay n old.file new.file old.reach new.reach) owned stay)
+    coord_checkpoint_by_served owner y log after old new out y.log.spare_closed answered (subst (λ (n : Node). OtherFilesStay n old.new.file.old.file.new.reach.reach) owned stay)
 
 coord_checkpoint_by_ended : (owner : Node) (y : CoordState) (log after : LogView) (old new : HomeView) (out : Result CoordStep NodeFault) (closed : Bool) → IsCoordCheckpointed closed owner y log after old new (written_by_coord out) → IfErr out (λ fault. HasFailedAs fault old new)
 coord_checkpoint_by_ended owner y log after old new out false answered = coord_ended owner log.spare.spot ⊥ y.log.stable y.log.stable after old new out answered
@@ -161,12 +161,12 @@ coord_checkpoint_ended owner y log after old new out answered = coord_checkpoint
 
 -- ---- a call that is not given the directory
 
-pub still_served : {A : Type 0} (out : Result A NodeFault) (owner : Node) (log after : LogView) (home : HomeView) → IsKept home.file home.reach owner log → IsHeld home.file home.reach after → OnOk out (IsServed owner after home home)
+pub still_served : {A : Type 0} (out : Result A NodeFault) (owner : Node) (log after : LogView) (home : HomeView) → IsKept home.home.file.reach owner log → IsHeld home.home.file.after.reach → OnOk out (IsServed owner after home home)
 still_served (Ok d) owner log after home kept held = record { kept = record { held = held; within = kept.within }; clean = λ s was. was; quiet = refl }
 still_served (Err e) owner log after home kept held = tt
 
-pub same_served : {A : Type 0} (out : Result A NodeFault) (owner : Node) (log after : LogView) (home : HomeView) → IsKept home.file home.reach owner log → after ≡ log → OnOk out (IsServed owner after home home)
-same_served out owner log after home kept same = still_served out owner log after home kept (subst (λ (l : LogView). IsHeld home.file home.reach l) (sym same) kept.held)
+pub same_served : {A : Type 0} (out : Result A NodeFault) (owner : Node) (log after : LogView) (home : HomeView) → IsKept home.home.file.reach owner log → after ≡ log → OnOk out (IsServed owner after home home)
+same_served out owner log after home kept same = still_served out owner log after home kept (subst (λ (l : LogView). IsHeld home.home.file.reach l) (sym same) kept.held)
 
 pub still_ended : {A : Type 0} (out : Result A NodeFault) (home : HomeView) → IfErr out (λ e. e ≡ Memory) → IfErr out (λ fault. HasFailedAs fault home home)
 still_ended (Ok d) home memory = tt
@@ -176,24 +176,24 @@ pub done_ended : {A : Type 0} (out : Result A NodeFault) (old new : HomeView) �
 done_ended (Ok d) old new done = tt
 done_ended (Err e) old new done = absurd cc
 
-pub others_still : {H : Type 0} (file : H → Spot → Option File) (reach : H → Spot → ℕ) (entered : H → Option (List ℕ)) (faults : H → ℕ) (owner : Node) (home : H) → OtherNodesStay file reach entered faults owner home home
-others_still file reach entered faults owner home = record { others = record { files = λ s a b. refl; reaches = λ s a b. refl }; directory = refl; count = omega arith }
+pub others_still : (owner : Node) (home : HomeView) → OtherNodesStay owner home home
+others_still owner home = record { others = record { files = λ s a b. refl; reaches = λ s a b. refl }; directory = refl; count = omega arith }
 
 -- ---- a restart
 
-module _ {H : Type 0} (gives : H → Spot → ℕ → List ℕ → Type 0) (file : H → Spot → Option File) (reach : H → Spot → ℕ) (entered : H → Option (List ℕ)) (faults : H → ℕ) (last_failed : H → Spot) (log : LogView) (old new : H) where
+module _ {H : Type 0} (gives : H → Spot → ℕ → List ℕ → Type 0) (log : LogView) (old new : H) where
   -- how a restart leaves the directory, apart from its faults
   pub record IsLeft (owner : Node) (after : LogView) : Type 0 where
     pub owned : log.node ≡ owner
-    pub kept : IsKept (file old) (reach old) owner log
-    pub held : IsHeld (file new) (reach new) after
-    pub current : file new log.current.spot ≡ file old log.current.spot
-    pub spare : file new log.spare.spot ≡ file old log.spare.spot
-    pub rest : OtherNodesStay file reach entered faults owner old new
+    pub kept : IsKept old owner log
+    pub held : IsHeld new after
+    pub current : new.file log.current.spot ≡ old.file log.current.spot
+    pub spare : new.file log.spare.spot ≡ old.file log.spare.spot
+    pub rest : OtherNodesStay owner old new
 
-  left_served : (owner : Node) (after : LogView) → IsLeft owner after → faults new ≡ faults old → IsServed owner after (seen file reach faults last_failed old) (seen file reach faults last_failed new)
+  left_served : (owner : Node) (after : LogView) → IsLeft owner after → new.faults ≡ old.faults → IsServed owner after (seen old) (seen new)
   left_served owner after left quiet =
-      let stay = files_stay owner log (file old) (file new) (reach old) (reach new) left.owned left.kept.held.spots left.current left.spare left.rest.others in
+      let stay = files_stay owner log (old.file) (new.file) (old.reach) (new.reach) left.owned left.kept.held.spots left.current left.spare left.rest.others in
       record {
         kept = record {
           held = left.held;
@@ -213,11 +213,11 @@ module _ {H : Type 0} (gives : H → Spot → ℕ → List ℕ → Type 0) (file
   in_parts spot (inr are) (inl is) = let p : spot.part ≡ 1 = ap (λ (s : Spot). s.part) (is ∙ are.0) in omega (arith, p)
   in_parts spot (inr are) (inr is) = let p : spot.part ≡ 0 = ap (λ (s : Spot). s.part) (is ∙ are.1) in omega (arith, p)
 
-  named_untold : (spot : Spot) (at : ℕ) (kept read : Option ℕ) → HasSpots log → IsOfReattach gives file reach entered faults log old (log_fault.Differs spot at kept read) → (file old spot ≡ None) × (spot.part < 2)
-  named_untold spot at kept read spots (inl of) = (ap (file old) of.0 ∙ of.1.2.untold, in_parts spot spots (inl of.0))
-  named_untold spot at kept read spots (inr of) = (ap (file old) of.fault.0 ∙ of.fault.1.2.untold, in_parts spot spots (inr of.fault.0))
+  named_untold : (spot : Spot) (at : ℕ) (kept read : Option ℕ) → HasSpots log → IsOfReattach gives log old (log_fault.Differs spot at kept read) → (old.file spot ≡ None) × (spot.part < 2)
+  named_untold spot at kept read spots (inl of) = (ap (old.file) of.0 ∙ of.1.2.untold, in_parts spot spots (inl of.0))
+  named_untold spot at kept read spots (inr of) = (ap (old.file) of.fault.0 ∙ of.fault.1.2.untold, in_parts spot spots (inr of.fault.0))
 
-  reread_ended : HasSpots log → (r : Result (Unit {0}) NodeFault) → IsReread gives file reach entered faults last_failed log old new r → IfErr r (λ fault. HasFailedAs fault (seen file reach faults last_failed old) (seen file reach faults last_failed new))
+  reread_ended : HasSpots log → (r : Result (Unit {0}) NodeFault) → IsReread gives log old new r → IfErr r (λ fault. HasFailedAs fault (seen old) (seen new))
   reread_ended spots (Ok done) reread = tt
   reread_ended spots (Err (Device spot)) reread = (reread.1.count, reread.1.named)
   reread_ended spots (Err (Differs spot at kept read)) reread = let untold = named_untold spot at kept read spots reread.0 in (reread.1, untold.0, untold.1)
@@ -226,26 +226,26 @@ module _ {H : Type 0} (gives : H → Spot → ℕ → List ℕ → Type 0) (file
 
   -- a member that was up, or down
   pub member_restarted : {R : Type 0} (owner : Node) (after : LogView) (running : Option R) (out : Result MemberStep NodeFault) → IsLeft owner after → (is_some running ≡ true → IsOk out × (new ≡ old))
-      → (running ≡ None → IsReread gives file reach entered faults last_failed log old new (read_by out)) → OnOk out (IsServed owner after (seen file reach faults last_failed old) (seen file reach faults last_failed new))
+      → (running ≡ None → IsReread gives log old new (read_by out)) → OnOk out (IsServed owner after (seen old) (seen new))
   member_restarted owner after None (Ok d) left stays reread = left_served owner after left ((reread refl).1)
   member_restarted owner after (Some r) (Ok d) left stays reread = left_served owner after left (ap faults (stays refl).1)
   member_restarted owner after running (Err e) left stays reread = tt
 
-  pub member_unrestarted : {R : Type 0} → HasSpots log → (running : Option R) (out : Result MemberStep NodeFault) → (is_some running ≡ true → IsOk out × (new ≡ old)) → (running ≡ None → IsReread gives file reach entered faults last_failed log old new (read_by out))
-      → IfErr out (λ fault. HasFailedAs fault (seen file reach faults last_failed old) (seen file reach faults last_failed new))
+  pub member_unrestarted : {R : Type 0} → HasSpots log → (running : Option R) (out : Result MemberStep NodeFault) → (is_some running ≡ true → IsOk out × (new ≡ old)) → (running ≡ None → IsReread gives log old new (read_by out))
+      → IfErr out (λ fault. HasFailedAs fault (seen old) (seen new))
   member_unrestarted spots running (Ok d) stays reread = tt
   member_unrestarted spots None (Err e) stays reread = reread_ended spots (Err e) (reread refl)
   member_unrestarted spots (Some r) (Err e) stays reread = let h : false ≡ true = (stays refl).0 in absurd cc
 
   -- so for a coordinator
-  pub coord_restarted : (owner : Node) (after : LogView) (up : Bool) (out : Result CoordStep NodeFault) → IsLeft owner after → IsRestarted up gives file reach entered faults last_failed log old new out
-      → OnOk out (IsServed owner after (seen file reach faults last_failed old) (seen file reach faults last_failed new))
+  pub coord_restarted : (owner : Node) (after : LogView) (up : Bool) (out : Result CoordStep NodeFault) → IsLeft owner after → IsRestarted up gives log old new out
+      → OnOk out (IsServed owner after (seen old) (seen new))
   coord_restarted owner after true (Ok d) left is = left_served owner after left (ap faults is.1)
   coord_restarted owner after false (Ok d) left is = left_served owner after left is.1
   coord_restarted owner after up (Err e) left is = tt
 
-  pub coord_unrestarted : HasSpots log → (up : Bool) (out : Result CoordStep NodeFault) → IsRestarted up gives file reach entered faults last_failed log old new out
-      → IfErr out (λ fault. HasFailedAs fault (seen file reach faults last_failed old) (seen file reach faults last_failed new))
+  pub coord_unrestarted : HasSpots log → (up : Bool) (out : Result CoordStep NodeFault) → IsRestarted up gives log old new out
+      → IfErr out (λ fault. HasFailedAs fault (seen old) (seen new))
   coord_unrestarted spots up (Ok d) is = tt
   coord_unrestarted spots true (Err e) is = let h : false ≡ true = is.0 in absurd cc
   coord_unrestarted spots false (Err e) is = reread_ended spots (Err e) is

@@ -7,7 +7,7 @@ use Rattle.co_plain.specs.declared.coord_state.CoordState.{CoordState}
 use Rattle.co_plain.specs.declared.member_state.MemberState.{MemberState}
 use Rattle.co_base.specs.declared.mark.Mark.{Mark}
 use Rattle.co_message.specs.declared.message.Message.{Message}
-use Rattle.co_outside.specs.Home.{File}
+use Rattle.co_outside.specs.Home.{HomeView, File}
 use Rattle.co_outside.specs.declared.spot.Spot.{Spot}
 use Rattle.co_plain.specs.Wire.{send_all}
 use Rattle.co_plain.specs.Numbers.{has_number}
@@ -172,5 +172,5 @@ module _ {E : Type 0} (takes : Kind → Type 0) (stands_for : E → EngineState 
         homes = r.homes;
       })
 
-  pub noted_held : (w after : World E) (file : Spot → Option File) (reach : Spot → ℕ) → after ≡ record w { wire = after.wire } → AreHeld file reach w → AreHeld file reach after
-  noted_held w after file reach rest held = subst (λ (v : World E). AreHeld file reach v) (sym rest) (record { member = held.member; coord = held.coord })
+  pub noted_held : (w after : World E) (home : HomeView) → after ≡ record w { wire = after.wire } → AreHeld home w → AreHeld home after
+  noted_held w after home rest held = subst (λ (v : World E). AreHeld home v) (sym rest) (record { member = held.member; coord = held.coord })

@@ -14,14 +14,14 @@ use Rattle.co_world.specs.declared.world.World.{World}
 
 -- The log of the node is held, no file that was clean is not, and no fault was met.
 pub record IsServed (node : Node) (log : LogView) (old new : HomeView) : Type 0 where
-  pub kept : IsKept new.file new.reach node log
-  pub clean : (s : Spot) → IsClean (old.file s) → IsClean (new.file s)
+  pub kept : IsKept new node log
+  pub clean : (s : Spot) → IsClean old s → IsClean new s
   pub quiet : new.faults ≡ old.faults
 
 -- so are the logs of all nodes
 pub record AreServed {E : Type 0} (w : World E) (old new : HomeView) : Type 0 where
-  pub kept : AreKept new.file new.reach w.members.items w.coords.items
-  pub clean : (s : Spot) → IsClean (old.file s) → IsClean (new.file s)
+  pub kept : AreKept new w.members.items w.coords.items
+  pub clean : (s : Spot) → IsClean old s → IsClean new s
   pub quiet : new.faults ≡ old.faults
 
 -- The directory failed at this file, or no fault was met. Only a file of a log that the directory does not tell can differ from what is kept of it.

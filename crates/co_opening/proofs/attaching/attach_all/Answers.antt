@@ -37,5 +37,5 @@ pub returns-clause-kept_members : goal.returns-clause-kept_members
 returns-clause-kept_members g c =
     let many : length c.in_ok-members.members.items ≡ c.len-count.result =
     pairs_length (IsAttachedTo (g.H.Home.seen c.args.home.now).file c.args.resume) (member_nodes c.len-count.result) c.in_ok-members.members.items c.in_ok-members.ensures.attached ∙ so_many Member c.len-count.result in
-    members_left (g.H.Home.seen c.attach_sort.new.home).file (g.H.Home.seen c.attach_sort-2.new.home).file (g.H.Home.seen c.attach_sort.new.home).reach (g.H.Home.seen c.attach_sort-2.new.home).reach c.in_ok-members.members.items (omega (arith, many, c.len-count.ensures, c.args.head.now.members))
+    members_left (g.H.Home.seen c.attach_sort.new.home) (g.H.Home.seen c.attach_sort-2.new.home) c.in_ok-members.members.items (omega (arith, many, c.len-count.ensures, c.args.head.now.members))
     c.attach_sort-2.ensures.others c.in_ok-members.ensures.kept

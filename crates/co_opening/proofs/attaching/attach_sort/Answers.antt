@@ -34,7 +34,7 @@ loop-place-preserved g c =
       attached = attached_on c.args.sort c.loop-place.place c.args.count c.loop-place-test.true c.requires c.node.result c.node.ensures (g.H.Home.seen c.args.home.now).file (g.H.Home.seen c.loop-place.home).file c.args.resume
           c.loop-place.logs.items c.push.new.self.items c.in_ok-log.log c.in_ok-push.ensures.items i.reads.files i.attached c.in_ok-log.ensures.attached;
       many = search rules;
-      kept = kept_on c.args.sort c.loop-place.place c.args.count c.loop-place-test.true c.requires c.node.result c.node.ensures (g.H.Home.seen c.loop-place.home).file (g.H.Home.seen c.attach_log.new.home).file (g.H.Home.seen c.loop-place.home).reach (g.H.Home.seen c.attach_log.new.home).reach
+      kept = kept_on c.args.sort c.loop-place.place c.args.count c.loop-place-test.true c.requires c.node.result c.node.ensures (g.H.Home.seen c.loop-place.home) (g.H.Home.seen c.attach_log.new.home)
           c.loop-place.logs.items c.push.new.self.items c.in_ok-log.log c.in_ok-push.ensures.items i.many i.kept c.attach_log.ensures.others c.in_ok-log.ensures.kept;
       reads = reads_on (g.H.Home.seen c.args.home.now) (g.H.Home.seen c.loop-place.home) (g.H.Home.seen c.attach_log.new.home) i.reads c.attach_log.ensures.reads;
       others = others_on c.args.sort c.loop-place.place c.args.count c.loop-place-test.true c.requires c.node.result c.node.ensures

@@ -14,6 +14,6 @@ invariant-loop-place g l = record {
   many : length l.logs.items ≡ l.place;
   kept : AreOwnLogs (g.H.Home.seen l.home) (node_in l.sort) 0 l.logs.items;
   reads : OnlyReads (g.H.Home.seen l.initial.home) (g.H.Home.seen l.home);
-  others : (n : Node) → IsValidNode n → ((p : ℕ) → n ≢ node_in l.sort p) → NodeStays n (g.H.Home.seen l.initial.home).file (g.H.Home.seen l.home).file (g.H.Home.seen l.initial.home).reach (g.H.Home.seen l.home).reach;
+  others : (n : Node) → IsValidNode n → ((p : ℕ) → n ≢ node_in l.sort p) → NodeStays n (g.H.Home.seen l.initial.home) (g.H.Home.seen l.home);
   quiet : (g.H.Home.seen l.home).faults ≡ (g.H.Home.seen l.initial.home).faults;
 }

@@ -33,9 +33,9 @@ loop-log-preserved g c =
       marked = λ found f.
           marks_on (λ n. coord_headers n found) (header_mark (Coord (suc c.loop-log.place)) (found (suc c.loop-log.place)).records) c.args.marks.now c.loop-log.marks c.open_coord.new.marks c.loop-log.place refl
           (c.in_ok-coord.ensures.marks (found (suc c.loop-log.place)) (both_next (λ q l t. IsCoordFound c.args.members (suc q) l t (found (suc q))) c.loop-log.place c.loop-log.log-iterator.rest.items c.next.new.self.rest.items c.loop-log.pasts.rest.items c.next-in-loop-log.new.self.rest.items c.in-Some.log c.in-Some-next.past c.in-Some.ensures.steps.0 c.in-Some-next.ensures.items (c.loop-log.invariant.found found f)).0) (c.loop-log.invariant.marked found f);
-      to_keep = to_keep_on Coords c.loop-log.place few (g.H.Home.seen c.loop-log.home).file (g.H.Home.seen c.open_coord.new.home).file (g.H.Home.seen c.loop-log.home).reach (g.H.Home.seen c.open_coord.new.home).reach c.open_coord.ensures.rest.others c.loop-log.log-iterator.rest.items c.next.new.self.rest.items c.in-Some.log c.in-Some.ensures.steps.0
+      to_keep = to_keep_on Coords c.loop-log.place few (g.H.Home.seen c.loop-log.home) (g.H.Home.seen c.open_coord.new.home) c.open_coord.ensures.rest.others c.loop-log.log-iterator.rest.items c.next.new.self.rest.items c.in-Some.log c.in-Some.ensures.steps.0
           (let many : c.loop-log.place + length c.loop-log.log-iterator.rest.items ≡ (length c.args.logs.items) = c.loop-log.invariant.left in omega (arith, many, c.requires.few)) i.to_keep;
-      kept = kept_on Coords c.loop-log.place few (g.H.Home.seen c.loop-log.home).file (g.H.Home.seen c.open_coord.new.home).file (g.H.Home.seen c.loop-log.home).reach (g.H.Home.seen c.open_coord.new.home).reach c.open_coord.ensures.rest.others (λ x. x.log) c.loop-log.coords.items c.push.new.self.items c.in_ok-coord.coord c.in_ok-push.ensures.items
+      kept = kept_on Coords c.loop-log.place few (g.H.Home.seen c.loop-log.home) (g.H.Home.seen c.open_coord.new.home) c.open_coord.ensures.rest.others (λ x. x.log) c.loop-log.coords.items c.push.new.self.items c.in_ok-coord.coord c.in_ok-push.ensures.items
           c.loop-log.invariant.done i.kept c.in_ok-coord.ensures.kept;
       clean = λ s was. c.in_ok-coord.ensures.clean s (c.loop-log.invariant.clean s was);
       others = λ k own.

@@ -55,9 +55,9 @@ loop-log-preserved g c =
       marked = λ found f.
           marks_on (λ n. member_headers n found) (header_mark (Member (suc c.loop-log.place)) (found (suc c.loop-log.place)).records) c.args.marks.now c.loop-log.marks c.open_member.new.marks c.loop-log.place refl
           (c.in_ok-member.ensures.marks (found (suc c.loop-log.place)) (both_next (λ q l t. IsMemberFound c.args.coords (suc q) l t (found (suc q))) c.loop-log.place c.loop-log.log-iterator.rest.items c.next.new.self.rest.items c.loop-log.pasts.rest.items c.next-in-loop-log.new.self.rest.items c.in-Some.log c.in-Some-next.past c.in-Some.ensures.steps.0 c.in-Some-next.ensures.items (c.loop-log.invariant.found found f)).0) (c.loop-log.invariant.marked found f);
-      to_keep = to_keep_on Members c.loop-log.place few (g.H.Home.seen c.loop-log.home).file (g.H.Home.seen c.open_member.new.home).file (g.H.Home.seen c.loop-log.home).reach (g.H.Home.seen c.open_member.new.home).reach c.open_member.ensures.rest.others c.loop-log.log-iterator.rest.items c.next.new.self.rest.items c.in-Some.log c.in-Some.ensures.steps.0
+      to_keep = to_keep_on Members c.loop-log.place few (g.H.Home.seen c.loop-log.home) (g.H.Home.seen c.open_member.new.home) c.open_member.ensures.rest.others c.loop-log.log-iterator.rest.items c.next.new.self.rest.items c.in-Some.log c.in-Some.ensures.steps.0
           (let many : c.loop-log.place + length c.loop-log.log-iterator.rest.items ≡ (length c.args.kinds.now) = c.loop-log.invariant.left in omega (arith, many, c.requires.few)) i.to_keep;
-      kept = kept_on Members c.loop-log.place few (g.H.Home.seen c.loop-log.home).file (g.H.Home.seen c.open_member.new.home).file (g.H.Home.seen c.loop-log.home).reach (g.H.Home.seen c.open_member.new.home).reach c.open_member.ensures.rest.others (λ x. x.log) c.loop-log.members.items c.push.new.self.items c.in_ok-member.member c.in_ok-push.ensures.items
+      kept = kept_on Members c.loop-log.place few (g.H.Home.seen c.loop-log.home) (g.H.Home.seen c.open_member.new.home) c.open_member.ensures.rest.others (λ x. x.log) c.loop-log.members.items c.push.new.self.items c.in_ok-member.member c.in_ok-push.ensures.items
           c.loop-log.invariant.done i.kept c.in_ok-member.ensures.kept;
       clean = λ s was. c.in_ok-member.ensures.clean s (c.loop-log.invariant.clean s was);
       others = λ k own.

@@ -19,7 +19,7 @@ invariant-loop-log g l = record {
   to_keep : AreOwnLogs (g.H.Home.seen l.home) Member l.place l.log-iterator.rest.items;
   kept : AreOwnMembers (g.H.Home.seen l.home) l.members.items;
   clean : (s : Spot) → IsClean (g.H.Home.seen l.initial.home) s → IsClean (g.H.Home.seen l.home) s;
-  others : (c : ℕ) → IsValidNode (Coord c) → NodeStays (Coord c) (g.H.Home.seen l.initial.home).file (g.H.Home.seen l.home).file (g.H.Home.seen l.initial.home).reach (g.H.Home.seen l.home).reach;
+  others : (c : ℕ) → IsValidNode (Coord c) → NodeStays (Coord c) (g.H.Home.seen l.initial.home) (g.H.Home.seen l.home);
   entered : (g.H.Home.seen l.home).entered ≡ (g.H.Home.seen l.initial.home).entered;
   quiet : (g.H.Home.seen l.home).faults ≡ (g.H.Home.seen l.initial.home).faults;
 }

@@ -12,7 +12,7 @@ use Rattle.co_opening.proofs.opening.make_nodes.Goals as goal
 
 pub open_coords-requires-clause-kept : goal.open_coords-requires-clause-kept
 open_coords-requires-clause-kept g c =
-    coords_left (g.H.Home.seen c.args.home.now).file (g.H.Home.seen c.open_members.new.home).file (g.H.Home.seen c.args.home.now).reach (g.H.Home.seen c.open_members.new.home).reach c.args.logs.coords.items
+    coords_left (g.H.Home.seen c.args.home.now) (g.H.Home.seen c.open_members.new.home) c.args.logs.coords.items
     (omega (arith, c.requires.judged.2.many_coords, c.args.head.now.coordinators)) c.open_members.ensures.others c.requires.kept_coords
 
 pub returns-in_err-coords-clause-device : goal.returns-in_err-coords-clause-device
@@ -43,7 +43,7 @@ returns-clause-kept g c =
     kept_nodes g.E.Engine.takes g.E.Engine.stands_for (g.H.Home.seen c.open_coords.new.home) c.args.head.now j.found_member j.found_coord c.in_ok-members.members.items c.in_ok-coords.coords.items
     (subst (λ (ks : List Kind). AreMembersAt g.E.Engine.takes g.E.Engine.stands_for ks c.args.head.now.coords j.found_member c.in_ok-members.members.items) c.as_slice-kinds.ensures (c.in_ok-members.ensures.opened j.found_member j.members))
     (subst (λ n. AreCoordsAt n j.found_coord c.in_ok-coords.coords.items) c.len-count.ensures (c.in_ok-coords.ensures.opened j.found_coord found))
-    (own_members_stay (g.H.Home.seen c.open_members.new.home).file (g.H.Home.seen c.open_coords.new.home).file (g.H.Home.seen c.open_members.new.home).reach (g.H.Home.seen c.open_coords.new.home).reach c.in_ok-members.members.items
+    (own_members_stay (g.H.Home.seen c.open_members.new.home) (g.H.Home.seen c.open_coords.new.home) c.in_ok-members.members.items
     (let many : length c.in_ok-members.members.items ≡ length c.args.head.now.kinds = c.in_ok-members.ensures.many ∙ ap (λ (ks : List Kind). length ks) c.as_slice-kinds.ensures in omega (arith, many, c.args.head.now.members))
     c.open_coords.ensures.others c.in_ok-members.ensures.kept)
     c.in_ok-coords.ensures.kept

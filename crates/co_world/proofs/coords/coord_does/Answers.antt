@@ -170,4 +170,4 @@ returns-in-Restart-clause-left g c = λ y r.
     let m = c.args.coord.now in
     let n = node.Coord m.number in
     subst (λ (k : CoordCall). IfErr c.restart.result (IsLeftBy (g.H.Home.seen c.restart.new.home).file n y.log.stable (coord_does m.number k (coord_disarmed y)).state.log.stable)) (sym c.in-Restart.is)
-    (restart_left c.restart.result n (g.H.Home.seen c.args.home.now).file (g.H.Home.seen c.restart.new.home).file (g.H.Home.seen c.args.home.now).reach (g.H.Home.seen c.restart.new.home).reach m.log y.log _ (coord_read g.H.Home.gives g.H.Home.seen m.log c.args.home.now c.restart.new.home (is_up m) c.restart.result c.restart.ensures.reread) r.log c.requires.kept c.restart.ensures.files.0 c.restart.ensures.files.1 c.restart.ensures.rest.others)
+    (restart_left c.restart.result n (g.H.Home.seen c.args.home.now) (g.H.Home.seen c.restart.new.home) m.log y.log _ (coord_read g.H.Home.gives g.H.Home.seen m.log c.args.home.now c.restart.new.home (is_up m) c.restart.result c.restart.ensures.reread) r.log c.requires.kept c.restart.ensures.files.0 c.restart.ensures.files.1 c.restart.ensures.rest.others)

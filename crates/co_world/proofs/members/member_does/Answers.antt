@@ -194,4 +194,4 @@ returns-in-Restart-clause-left g c = λ x r.
     let m = c.args.member.now in
     let n = node.Member m.number in
     subst (λ (k : MemberCall). IfErr c.restart.result (IsLeftBy (g.H.Home.seen c.restart.new.home).file n x.log.stable (member_does m.number k (member_disarmed x)).state.log.stable)) (sym c.in-Restart.is)
-    (restart_left c.restart.result n (g.H.Home.seen c.args.home.now).file (g.H.Home.seen c.restart.new.home).file (g.H.Home.seen c.args.home.now).reach (g.H.Home.seen c.restart.new.home).reach m.log x.log _ (member_read g.H.Home.gives g.H.Home.seen m.log c.args.home.now c.restart.new.home m.running c.restart.result c.restart.ensures.stays c.restart.ensures.reread) r.log c.requires.kept c.restart.ensures.files.0 c.restart.ensures.files.1 c.restart.ensures.rest.others)
+    (restart_left c.restart.result n (g.H.Home.seen c.args.home.now) (g.H.Home.seen c.restart.new.home) m.log x.log _ (member_read g.H.Home.gives g.H.Home.seen m.log c.args.home.now c.restart.new.home m.running c.restart.result c.restart.ensures.stays c.restart.ensures.reread) r.log c.requires.kept c.restart.ensures.files.0 c.restart.ensures.files.1 c.restart.ensures.rest.others)

@@ -41,8 +41,8 @@ returns-clause-served g c =
     let old = g.H.Home.seen c.args.home.now in
     let new = g.H.Home.seen c.coord_does.new.home in
     let served = c.in_ok-did.ensures.served in
-    on_ok c.tells_of_coord.result {A = AreHeld new.file new.reach c.tells_of_coord.new.self} {B = AreServed c.tells_of_coord.new.self old new} (λ kept. record { kept = kept; clean = served.clean; quiet = served.quiet })
-    (c.tells_of_coord.ensures.held new.file new.reach served.kept)
+    on_ok c.tells_of_coord.result {A = AreHeld new c.tells_of_coord.new.self} {B = AreServed c.tells_of_coord.new.self old new} (λ kept. record { kept = kept; clean = served.clean; quiet = served.quiet })
+    (c.tells_of_coord.ensures.held new served.kept)
 
 pub returns-clause-ended : goal.returns-clause-ended
 returns-clause-ended g c =

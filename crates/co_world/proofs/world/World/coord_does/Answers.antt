@@ -68,4 +68,4 @@ returns-in-Err-clause-left g c = λ s r.
     let next : suc (c.from.result - 1) ≡ c.args.coord = omega arith in
     let here = at_place w.coords.items (c.from.result - 1) c.index_mut.result.now place c.index_mut.ensures.value in
     subst (AreLeftWith (g.H.Home.seen c.coord_does.new.home).file s (with_coord (disarmed s) c.args.coord (coord_does c.args.coord c.args.call (coord_disarmed (s.coord c.args.coord))).state)) (sym c.of_node.ensures)
-    (coord_fault g.E.Engine.takes g.E.Engine.stands_for w s r (g.H.Home.seen c.args.home.now).file (g.H.Home.seen c.coord_does.new.home).file (g.H.Home.seen c.args.home.now).reach (g.H.Home.seen c.coord_does.new.home).reach c.requires.held c.args.coord (c.from.result - 1) c.index_mut.result.now c.args.call next here c.in-Err.ensures.rest.others c.in-Err.fault c.in-Err.ensures.left)
+    (coord_fault g.E.Engine.takes g.E.Engine.stands_for w s r (g.H.Home.seen c.args.home.now) (g.H.Home.seen c.coord_does.new.home) c.requires.held c.args.coord (c.from.result - 1) c.index_mut.result.now c.args.call next here c.in-Err.ensures.rest.others c.in-Err.fault c.in-Err.ensures.left)

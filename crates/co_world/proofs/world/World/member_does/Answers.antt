@@ -76,4 +76,4 @@ returns-in-Err-clause-left g c = λ s r.
     let next : suc (c.from.result - 1) ≡ c.args.member = omega arith in
     let here = at_place w.members.items (c.from.result - 1) c.index_mut.result.now place c.index_mut.ensures.value in
     subst (AreLeftWith (g.H.Home.seen c.member_does.new.home).file s (with_member (disarmed s) c.args.member (member_does c.args.member c.args.call (member_disarmed (s.member c.args.member))).state)) (sym c.of_node.ensures)
-    (member_fault g.E.Engine.takes g.E.Engine.stands_for w s r (g.H.Home.seen c.args.home.now).file (g.H.Home.seen c.member_does.new.home).file (g.H.Home.seen c.args.home.now).reach (g.H.Home.seen c.member_does.new.home).reach c.requires.held c.args.member (c.from.result - 1) c.index_mut.result.now c.args.call next here c.in-Err.ensures.rest.others c.in-Err.fault c.in-Err.ensures.left)
+    (member_fault g.E.Engine.takes g.E.Engine.stands_for w s r (g.H.Home.seen c.args.home.now) (g.H.Home.seen c.member_does.new.home) c.requires.held c.args.member (c.from.result - 1) c.index_mut.result.now c.args.call next here c.in-Err.ensures.rest.others c.in-Err.fault c.in-Err.ensures.left)
