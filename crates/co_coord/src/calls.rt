@@ -3,7 +3,7 @@ ghost use Rattle.std.specs.Prelude.{◌≡◌, ◌≤◌, ℕ, true, Option, Non
 ghost use Rattle.co_log.specs.LogView.{IsHeld};
 ghost use Rattle.co_log.specs.declared.fault.NodeFault.TheVariants.{Memory};
 ghost use Rattle.co_outside.specs.declared.spot.Spot.{Spot};
-ghost use Rattle.co_outside.specs.Home.{File};
+ghost use Rattle.co_outside.specs.Home.{HomeView, File};
 ghost use Rattle.co_plain.specs.CoordLog.{coord_arm};
 ghost use Rattle.co_plain.specs.CoordStep.{with_coord_log};
 ghost use Rattle.co_plain.specs.Coordinator.{coord_begin, coord_abort, coord_timer, coord_resend};
@@ -84,7 +84,7 @@ impl Coord {
         requires stop { (1 ≤ stop) × (stop ≤ 4) }
         ensures did { (y : CoordState) → RepresentsCoord self.old y → IfOk result (λ d. HasDone (coord_arm y stop leaves) d self.new) }
         ensures done { IsOk result }
-        ensures held { (file : Spot → Option File) (reach : Spot → ℕ) → IsHeld file reach self.old.log → IsHeld file reach self.new.log }
+        ensures held { (home : HomeView) → IsHeld home self.old.log → IsHeld home self.new.log }
         ensures same { IsSame self.old self.new }
     {
         co_node::arm(&mut self.log, stop, leaves);
@@ -98,7 +98,7 @@ impl Coord {
     /// Takes an armed stop away, also while the coordinator is down. Takes no memory.
     pub fn disarm(&mut self)
         ensures did { (y : CoordState) → RepresentsCoord self.old y → RepresentsCoord self.new (with_coord_log y (with_stop y.log None)) }
-        ensures held { (file : Spot → Option File) (reach : Spot → ℕ) → IsHeld file reach self.old.log → IsHeld file reach self.new.log }
+        ensures held { (home : HomeView) → IsHeld home self.old.log → IsHeld home self.new.log }
         ensures same { IsSame self.old self.new }
     {
         co_node::disarm(&mut self.log);

@@ -13,7 +13,7 @@ use Rattle.co_log.specs.Others.{BothWithin}
 use Rattle.co_log.proofs.Spots.{spots_apart}
 
 -- a told file that is what a disk gives
-pub agreed_within : (file : Option File) (reach : ℕ) (disk : DiskView) → Agrees file reach (read_of disk.state) → IsShort disk → IsWithin 268435456 file
+pub agreed_within : (home : HomeView) (disk : DiskView) → Agrees home disk.spot (read_of disk.state) → IsShort disk → IsWithin 268435456 (home.file disk.spot)
 agreed_within file reach disk agrees short = λ f told. omega (arith, short, ap (λ (b : List ℕ). length b) (agrees.told f told))
 
 -- what a read gives while a log write is on its way
@@ -31,19 +31,19 @@ image_within file stable batch gate within end short images = λ f told.
     elim (images f told) [ inl early ↦ omega (arith, early.no_longer, both.0) | inr late ↦ omega (arith, late.no_longer, both.1) ]
 
 same_within : (file after : Option File) → after ≡ file → IsWithin 268435456 file → IsWithin 268435456 after
-same_within after.file same within = λ f told. within f (sym same ∙ told)
+same_within file after same within = λ f told. within f (sym same ∙ told)
 
 -- both files are within their bounds where nothing was called
 pub held_within : (home : HomeView) (log : LogView) → IsHeld home log → IsShort log.current → IsShort log.spare → BothWithin home.file log
-held_within home log held current spare = (agreed_within (home.file log.current.spot) (home.reach log.current.spot) log.current held.current current, agreed_within (home.file log.spare.spot) (home.reach log.spare.spot) log.spare held.spare spare)
+held_within home log held current spare = (agreed_within home log.current held.current current, agreed_within home log.spare held.spare spare)
 
 module _ (old new : HomeView) (log : LogView) (held : IsHeld old log) where
   -- after calls on the current file alone
-  pub current_within : IsShort log.spare → RestStays log.current.spot old new → IsWithin 268435456 (new.file log.current.spot) → BothWithin (new.file) log
+  pub current_within : IsShort log.spare → RestStays log.current.spot old new → IsWithin 268435456 (new.file log.current.spot) → BothWithin new.file log
   current_within spare rest within =
-      (within, same_within (old.file log.spare.spot) (new.file log.spare.spot) (rest.others.files log.spare.spot (λ e. spots_apart log held.spots (sym e))) (agreed_within (old.file log.spare.spot) (old.reach log.spare.spot) log.spare held.spare spare))
+      (within, same_within (old.file log.spare.spot) (new.file log.spare.spot) (rest.others.files log.spare.spot (λ e. spots_apart log held.spots (sym e))) (agreed_within old log.spare held.spare spare))
 
   -- and on the spare alone
-  pub spare_within : IsShort log.current → RestStays log.spare.spot old new → IsWithin 268435456 (new.file log.spare.spot) → BothWithin (new.file) log
+  pub spare_within : IsShort log.current → RestStays log.spare.spot old new → IsWithin 268435456 (new.file log.spare.spot) → BothWithin new.file log
   spare_within current rest within =
-      (same_within (old.file log.current.spot) (new.file log.current.spot) (rest.others.files log.current.spot (λ e. spots_apart log held.spots e)) (agreed_within (old.file log.current.spot) (old.reach log.current.spot) log.current held.current current), within)
+      (same_within (old.file log.current.spot) (new.file log.current.spot) (rest.others.files log.current.spot (λ e. spots_apart log held.spots e)) (agreed_within old log.current held.current current), within)

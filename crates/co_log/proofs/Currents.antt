@@ -110,7 +110,7 @@ filled_current old new log disk more stable held rest agrees still ends items o 
 -- the old file stays current where nothing was called
 pub untouched_current : (home : HomeView) (log : LogView) → IsHeld home log → log.spare.state.pending ≡ [] → begins_closed log.spare.state.stable ≡ true
     → (items : List (ℕ × Record)) → IsOrdered log items → (c s : File) → home.file log.current.spot ≡ Some c → home.file log.spare.spot ≡ Some s → IsOldCurrent log items c.bytes s.bytes
-untouched_current file home.reach log held still closed items o c s told_c told_s =
+untouched_current home log held still closed items o c s told_c told_s =
     old_current log items c.bytes s.bytes o (held.current.told c told_c ∙ read_stable log.current.state o.live.still) (none_older log.node s.bytes log.generation (closed_file log.spare.state s.bytes still closed (held.spare.told s told_s)))
 
 -- and where its spare is closed
@@ -135,7 +135,7 @@ pub faulted_current : (old new : HomeView) (log : LogView) (more : List Record) 
     → begins_closed log.spare.state.stable ≡ true → RestStays log.spare.spot old new → IsOfAppend log.spare.spot e → ((f : File) → new.file log.spare.spot ≡ Some f → OldOrBoth f.bytes 0 [] (filling log more))
     → (e ≡ Full log.spare.spot → new ≡ old) → (e ≡ Memory → (f : File) → new.file log.spare.spot ≡ Some f → EndsAt f.bytes 0 [])
     → (items : List (ℕ × Record)) → IsOrdered log items → (c s : File) → new.file log.current.spot ≡ Some c → new.file log.spare.spot ≡ Some s → IsCurrentAfter log items more c.bytes s.bytes (Err e)
-faulted_current {H = H} old new log more e held still closed rest of either full early items o c s told_c told_s =
+faulted_current old new log more e held still closed rest of either full early items o c s told_c told_s =
     current_fault log items more c.bytes s.bytes log.spare.spot e of o (current_told old new log log.spare.spot c held o.live.still refl rest told_c) (either s told_s)
     (λ is. closed_file log.spare.state s.bytes still closed (held.spare.told s (subst (λ (h : HomeView). h.file log.spare.spot ≡ Some s) (full is) told_s)))
     (λ is. early is s told_s)
@@ -162,8 +162,8 @@ force_fault log latest items more current spare at (InUse spot) of begins older 
 force_fault log latest items more current spare at Memory of begins older either full memory = now_current log latest items false log.gate more current spare begins older (memory refl)
 
 -- the told spare is what the log keeps of it, after calls on the current file alone, and so it is older
-pub spare_older : (file after : Spot → Option File) (reach : Spot → ℕ) (log : LogView) (items : List (ℕ × Record)) (f : File) → IsHeld file reach log → IsOrdered log items → after log.spare.spot ≡ file log.spare.spot → after log.spare.spot ≡ Some f → IsOlder log.node f.bytes log.generation
-spare_older file after reach log items f held o kept told = subst (λ (b : List ℕ). IsOlder log.node b log.generation) (sym (held.spare.told f (sym kept ∙ told) ∙ read_stable log.spare.state o.still)) o.older
+pub spare_older : (old new : HomeView) (log : LogView) (items : List (ℕ × Record)) (f : File) → IsHeld old log → IsOrdered log items → new.file log.spare.spot ≡ old.file log.spare.spot → new.file log.spare.spot ≡ Some f → IsOlder log.node f.bytes log.generation
+spare_older old new log items f held o kept told = subst (λ (b : List ℕ). IsOlder log.node b log.generation) (sym (held.spare.told f (sym kept ∙ told) ∙ read_stable log.spare.state o.still)) o.older
 
 module _ (old new : HomeView) (log : LogView) (held : IsHeld old log) (rest : RestStays log.current.spot old new) (latest : log.version ≡ newest) where
   spare_kept : new.file log.spare.spot ≡ old.file log.spare.spot
@@ -174,14 +174,14 @@ module _ (old new : HomeView) (log : LogView) (held : IsHeld old log) (rest : Re
       → (c s : File) → new.file log.current.spot ≡ Some c → new.file log.spare.spot ≡ Some s → IsOldCurrent log (next_items stable log.gate items more) c.bytes s.bytes
   forced_current disk items more stable agrees still ends o c s told_c told_s =
       let whole : c.bytes ≡ disk.state.stable = agrees.told c told_c ∙ read_stable disk.state still in
-      now_current log latest items stable log.gate more c.bytes s.bytes o.header (spare_older (old.file) (new.file) (old.reach) log items s held o spare_kept told_s) (subst (λ (b : List ℕ). EndsAfter stable b log.gate items more) (sym whole) ends)
+      now_current log latest items stable log.gate more c.bytes s.bytes o.header (spare_older old new log items s held o spare_kept told_s) (subst (λ (b : List ℕ). EndsAfter stable b log.gate items more) (sym whole) ends)
 
   -- and where it met one
   pub force_faulted : (items : List (ℕ × Record)) (more : List Record) (e : LogFault) → IsOfAppend log.current.spot e → ((f : File) → new.file log.current.spot ≡ Some f → OldOrBoth f.bytes log.gate items more) → (e ≡ Full log.current.spot → new ≡ old)
       → (e ≡ Memory → (f : File) → new.file log.current.spot ≡ Some f → EndsAt f.bytes log.gate items) → IsOrdered log items
       → (c s : File) → new.file log.current.spot ≡ Some c → new.file log.spare.spot ≡ Some s → IsCurrentForced log items more c.bytes s.bytes (Err e)
   force_faulted items more e of either full early o c s told_c told_s =
-      force_fault log latest items more c.bytes s.bytes log.current.spot e of o.header (spare_older (old.file) (new.file) (old.reach) log items s held o spare_kept told_s) (either c told_c)
+      force_fault log latest items more c.bytes s.bytes log.current.spot e of o.header (spare_older old new log items s held o spare_kept told_s) (either c told_c)
       (λ is.
       let before : old.file log.current.spot ≡ Some c = subst (λ (h : HomeView). h.file log.current.spot ≡ Some c) (full is) told_c in
       subst (λ (b : List ℕ). EndsAt b log.gate items) (sym (held.current.told c before ∙ read_stable log.current.state o.live.still)) (ends_newest log items latest o.live))
@@ -202,5 +202,5 @@ made_fault log current spare at (InUse spot) of not_full either memory none = ab
 made_fault log current spare at Memory of not_full either memory none = (ends_at_front current [] (memory refl), none)
 
 -- the told spare of a fresh log has no batch, where no call was on it
-pub spare_none : (file after : Spot → Option File) (reach : Spot → ℕ) (log : LogView) (f : File) → IsHeld file reach log → IsFresh log → after log.spare.spot ≡ file log.spare.spot → after log.spare.spot ≡ Some f → IsLogText f.bytes []
-spare_none file after reach log f held fresh kept told = subst (λ (b : List ℕ). IsLogText b []) (sym (held.spare.told f (sym kept ∙ told) ∙ read_stable log.spare.state fresh.spare_still)) fresh.spare_none
+pub spare_none : (old new : HomeView) (log : LogView) (f : File) → IsHeld old log → IsFresh log → new.file log.spare.spot ≡ old.file log.spare.spot → new.file log.spare.spot ≡ Some f → IsLogText f.bytes []
+spare_none old new log f held fresh kept told = subst (λ (b : List ℕ). IsLogText b []) (sym (held.spare.told f (sym kept ∙ told) ∙ read_stable log.spare.state fresh.spare_still)) fresh.spare_none

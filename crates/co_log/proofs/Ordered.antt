@@ -268,14 +268,14 @@ ordered_same log after items node version current spare gate generation o = reco
   older = older_moved log after after.spare.state.stable node generation (subst (λ (d : DiskView). IsOlder log.node d.state.stable log.generation) (sym spare) o.older);
 }
 
-pub ready_kept : (file further : Spot → Option File) (reach room : Spot → ℕ) (log after : LogView) → IsReady file reach log → after.node ≡ log.node → after.version ≡ log.version → after.current ≡ log.current → after.spare ≡ log.spare → after.gate ≡ log.gate → after.generation ≡ log.generation
-    → IsHeld further room after → IsReady further room after
-ready_kept file further reach room log after r node version current spare gate generation held =
+pub ready_kept : (old new : HomeView) (log after : LogView) → IsReady old log → after.node ≡ log.node → after.version ≡ log.version → after.current ≡ log.current → after.spare ≡ log.spare → after.gate ≡ log.gate → after.generation ≡ log.generation
+    → IsHeld new after → IsReady new after
+ready_kept old new log after r node version current spare gate generation held =
     record { held = held; latest = version ∙ r.latest; items = r.items; ordered = ordered_same log after r.items node version current spare gate generation r.ordered }
 
 -- and its home
 pub ready_same : (home : HomeView) (log after : LogView) → IsReady home log → after.node ≡ log.node → after.version ≡ log.version → after.current ≡ log.current → after.spare ≡ log.spare → after.gate ≡ log.gate → after.generation ≡ log.generation → IsReady home after
-ready_same home log after r node version current spare gate generation = ready_kept home.file home home.reach log after r node version current spare gate generation record {
+ready_same home log after r node version current spare gate generation = ready_kept home home log after r node version current spare gate generation record {
   spots = spots_moved log after node (ap (λ (d : DiskView). d.spot) current) (ap (λ (d : DiskView). d.spot) spare) r.held.spots;
   current = subst (λ (d : DiskView). Agrees home d.spot (read_of d.state)) (sym current) r.held.current;
   spare = subst (λ (d : DiskView). Agrees home d.spot (read_of d.state)) (sym spare) r.held.spare;

@@ -90,16 +90,16 @@ elsewhere node log one two other spots = elim spots [
   | inr own ↦ (λ e. spot_elsewhere node log.node 1 0 one two other (sym own.0 ∙ e), λ e. spot_elsewhere node log.node 1 1 one two other (sym own.0 ∙ e), λ e. spot_elsewhere node log.node 0 0 one two other (sym own.1 ∙ e), λ e. spot_elsewhere node log.node 0 1 one two other (sym own.1 ∙ e))
 ]
 
-agrees_on : (file after : Option File) (reach further : ℕ) (bytes : List ℕ) → after ≡ file → further ≡ reach → Agrees file reach bytes → Agrees after further bytes
-agrees_on file after reach further bytes same still agrees = record { told = λ f is. agrees.told f (sym same ∙ is); room = omega (arith, agrees.room, still) }
+agrees_on : (old new : HomeView) (spot : Spot) (bytes : List ℕ) → new.file spot ≡ old.file spot → new.reach spot ≡ old.reach spot → Agrees old spot bytes → Agrees new spot bytes
+agrees_on old new spot bytes same still agrees = record { told = λ f is. agrees.told f (sym same ∙ is); room = omega (arith, agrees.room, still) }
 
 pub held_elsewhere : (node : Node) (old new : HomeView) (log : LogView) → IsValidNode node → IsValidNode log.node → log.node ≢ node → OtherFilesStay node old new → IsHeld old log → IsHeld new log
 held_elsewhere node old new log one two other stay held =
     let away = elsewhere node log one two other held.spots in
     record {
       spots = held.spots;
-      current = agrees_on (old.file log.current.spot) (new.file log.current.spot) (old.reach log.current.spot) (new.reach log.current.spot) (read_of log.current.state) (stay.files log.current.spot away.0 away.1) (stay.reaches log.current.spot away.0 away.1) held.current;
-      spare = agrees_on (old.file log.spare.spot) (new.file log.spare.spot) (old.reach log.spare.spot) (new.reach log.spare.spot) (read_of log.spare.state) (stay.files log.spare.spot away.2 away.3) (stay.reaches log.spare.spot away.2 away.3) held.spare;
+      current = agrees_on old new log.current.spot (read_of log.current.state) (stay.files log.current.spot away.0 away.1) (stay.reaches log.current.spot away.0 away.1) held.current;
+      spare = agrees_on old new log.spare.spot (read_of log.spare.state) (stay.files log.spare.spot away.2 away.3) (stay.reaches log.spare.spot away.2 away.3) held.spare;
     }
 
 module _ (log : LogView) (spots : HasSpots log) where

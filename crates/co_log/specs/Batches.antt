@@ -1,4 +1,4 @@
--- Records that are spelled out for a log as one batch, and what the log write of a batch leaves.
+-- Records that are spelled out for a log as one batch.
 use Rattle.std.specs.Prelude.{ℕ, ◌≡◌, ◌+◌, ◌≤◌, ◌<◌, ◌⊎◌, List, ◌++◌, length, Option, Some, Result, Ok, Err, IfErr, IsErrOf}
 use Rattle.std.specs.List.{AllByRecursion}
 use Rattle.co_base.specs.declared.mark.Mark.{Mark}
@@ -40,18 +40,3 @@ AreSpelledFor log more (Err (Differs spot at kept read)) = ⊥
 AreSpelledFor log more (Err (Full spot)) = (spot ≡ log.current.spot) × IsTooLong log.gate (log.waiting ++ more)
 AreSpelledFor log more (Err (InUse spot)) = ⊥
 AreSpelledFor log more (Err Memory) = Unit {0}
-
--- What the log write of the waiting records and of these behind them leaves of the log and of the home, by the answer. It is never refused.
-pub record HasForced (log after : LogView) (more : List Record) (old new : HomeView) (result : Result (List Mark) LogFault) : Type 0 where
-  pub forced : (items : List (ℕ × Record)) → IsLive log items → IsForced log items (log.waiting ++ more) after result
-  pub held : IsDone result → IsHeld new after
-  pub clean : IsDone result → IsClean new log.current.spot
-  pub full : IsErrOf result (Full log.current.spot) → ⊥
-  pub told : (items : List (ℕ × Record)) → IsLive log items → (f : File) → new.file log.current.spot ≡ Some f → IsDone result ⊎ OldOrBoth f.bytes log.gate items (log.waiting ++ more)
-  pub memory : (items : List (ℕ × Record)) → IsLive log items → IsErrOf result Memory → (f : File) → new.file log.current.spot ≡ Some f → EndsAt f.bytes log.gate items
-  pub current : (items : List (ℕ × Record)) → IsOrdered log items → (c s : File) → new.file log.current.spot ≡ Some c → new.file log.spare.spot ≡ Some s → IsCurrentForced log items (log.waiting ++ more) c.bytes s.bytes result
-  pub short : BothWithin (new.file) log
-  pub of : IfErr result (IsOfForce log.current.spot)
-  pub rest : RestStays log.current.spot old new
-  pub device : IsErrOf result (Device log.current.spot) → HasFailed log.current.spot old new
-  pub quiet : (IsErrOf result (Device log.current.spot) → ⊥) → new.faults ≡ old.faults

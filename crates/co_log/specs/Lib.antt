@@ -16,3 +16,4 @@ pub mod NodeFaults
 pub mod NodeFiles
 pub mod Sizes
 pub mod Batches
+pub mod Calls

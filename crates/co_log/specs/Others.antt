@@ -14,7 +14,7 @@ pub record OtherFilesStay (node : Node) (old new : HomeView) : Type 0 where
 
 -- So they are, the directory stays entered, and the count of faults does not fall.
 pub record OtherNodesStay (node : Node) (old new : HomeView) : Type 0 where
-  pub others : OtherFilesStay node (old.file) (new.file) (old.reach) (new.reach)
+  pub others : OtherFilesStay node old new
   pub directory : new.entered ≡ old.entered
   pub count : old.faults ≤ new.faults
 

@@ -152,6 +152,7 @@ fn is_used(file: &Option<Disk>) -> bool
 }
 
 impl Log {
+    ghost use Rattle.co_log.specs.Calls.{HasAttached};
     ghost use Rattle.co_disk.specs.DiskView.{DiskView};
     ghost use Rattle.co_log.specs.Fresh.{IsFresh};
     ghost use Rattle.co_log.specs.LogView.{IsHeld, spot_of};
@@ -172,6 +173,14 @@ impl Log {
         node: Node,
         resume: bool,
     ) -> Result<Log, LogFault>
+        requires { IsValidNode node }
+        ensures { HasAttached node resume (H.seen home.old) (H.seen home.new) result }
+    {
+        Log::open(alloc, home, node, resume)
+    }
+
+    /// Reads both files, and builds the log over them.
+    fn open<H: Home>(alloc: Global, home: &mut H, node: Node, resume: bool) -> Result<Log, LogFault>
         requires { IsValidNode node }
         ensures attached { IfOk result (λ log. (a : DiskView) × (b : DiskView) × IsToldAs (spot_of node 0) ((H.seen home.old).file (spot_of node 0)) a
             × IsToldAs (spot_of node 1) ((H.seen home.old).file (spot_of node 1)) b × IsAttached node a b log) }

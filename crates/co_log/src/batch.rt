@@ -24,11 +24,12 @@ pub struct SpelledBatch {
 
 impl Log {
     ghost use Rattle.co_outside.specs.Home.{IsClean, RestStays, HasFailed};
-    ghost use Rattle.co_log.specs.Batches.{AreSpelledFor, IsBatchOf, HasForced};
+    ghost use Rattle.co_log.specs.Batches.{AreSpelledFor, IsBatchOf};
+    ghost use Rattle.co_log.specs.Calls.{MayForce, HasForced};
     ghost use Rattle.co_log.specs.Current.{IsOrdered, IsCurrentForced};
     ghost use Rattle.co_log.specs.Forcing.{IsForced, IsDone, IsOfForce};
     ghost use Rattle.co_log.specs.LogFile.{EndsAt, OldOrBoth};
-    ghost use Rattle.co_log.specs.LogView.{IsLive, IsHeld};
+    ghost use Rattle.co_log.specs.LogView.{IsLive, IsHeld, IsForcible};
     ghost use Rattle.co_log.specs.Others.{BothWithin};
 
     /// Spells out the waiting records, then the lent ones, and then those.
@@ -58,7 +59,7 @@ impl Log {
         item: Record,
     ) -> Result<SpelledBatch, LogFault>
         requires prepare { IsWritable prepare }
-        requires item { IsWritable item }
+        requires item { IsWritable item × IsForcible item }
         ensures { AreSpelledFor self.now (prepare.entry ∷ item ∷ []) result }
     {
         self.spell_all(&[prepare], &[item])
@@ -117,11 +118,9 @@ impl Log {
         home: &mut H,
         batch: SpelledBatch,
     ) -> Result<Marks, LogFault>
-        requires held { IsHeld (H.seen home.old) self.old }
-        requires newest { self.old.version ≡ newest }
-        requires live { (items : List (ℕ × Record)) × IsLive self.old items }
+        requires ready { MayForce (H.seen home.old) self.old }
         requires batch { (more : List Record) × IsBatchOf self.old more batch }
-        ensures { (more : List Record) → IsBatchOf self.old more batch → HasForced self.old self.new more (H.seen home.old) (H.seen home.new) result }
+        ensures { (more : List Record) → IsBatchOf self.old more batch → HasForced ⊥ self.old self.new more (H.seen home.old) (H.seen home.new) result }
     {
         self.lay_batch(home, batch)
     }

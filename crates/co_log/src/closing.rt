@@ -14,9 +14,8 @@ use crate::stop::arm_for;
 use crate::writing::write_through;
 use co_base::Marks;
 use co_disk::{Disk, DiskFault};
-use co_frame::CLOSED_GATE;
+use co_frame::{CLOSED_GATE, begins_closed};
 use co_outside::Home;
-use co_frame::begins_closed;
 
 /// Closes the first gate of a file without a batch, where it is not closed: two device calls, of which
 /// none is stopped.
@@ -50,6 +49,7 @@ pub(crate) fn close_unmade<H: Home>(disk: &mut Disk, home: &mut H) -> Result<(),
 }
 
 impl Log {
+    ghost use Rattle.co_log.specs.Calls.{HasClosed};
     ghost use Rattle.co_frame.specs.Gate.{begins_closed};
     ghost use Rattle.co_log.specs.Current.{IsCurrentOf, IsOrdered};
     ghost use Rattle.co_log.specs.Forcing.{IsDone};
@@ -63,6 +63,16 @@ impl Log {
     /// `Stopped` comes at the armed device call; `Device` where the home failed, and only there. Both files are within
     /// 268,435,456 bytes then.
     pub fn close_spare<H: Home>(&mut self, home: &mut H) -> Result<(), LogFault>
+        requires held { IsHeld (H.seen home.old) self.old }
+        requires still { self.old.spare.state.pending ≡ [] }
+        requires unclosed { begins_closed self.old.spare.state.stable ≡ false }
+        ensures { HasClosed self.old self.new (H.seen home.old) (H.seen home.new) result }
+    {
+        self.close(home)
+    }
+
+    /// Writes a closed gate at the front of the spare file, and syncs it.
+    fn close<H: Home>(&mut self, home: &mut H) -> Result<(), LogFault>
         requires held { IsHeld (H.seen home.old) self.old }
         requires still { self.old.spare.state.pending ≡ [] }
         requires unclosed { begins_closed self.old.spare.state.stable ≡ false }

@@ -1,6 +1,6 @@
 //! What holds of every log write.
 ghost use Rattle.std.specs.Prelude.{ℕ, List, Option, Some, None, Bool, ◌≡◌, ◌≢◌, ◌<◌, ◌≤◌, true, false, [], ◌∷◌, ◌++◌, ◌⊎◌, Result, length, if◌then◌else◌};
-ghost use Rattle.co_outside.specs.Home.{File};
+ghost use Rattle.co_outside.specs.Home.{HomeView, File};
 ghost use Rattle.co_outside.specs.declared.spot.Spot.{Spot};
 ghost use Rattle.std.specs.List.{AllByRecursion};
 ghost use Rattle.co_base.specs.declared.leaves.Leaves.{Leaves};
@@ -99,8 +99,8 @@ pub fn records_are_added()
 /// The told files of a log that is in order are current as the log has them, and the current one begins with an
 /// open gate.
 pub fn held_files_are_current()
-    ensures current { (file : Spot → Option File) (reach : Spot → ℕ) (log : LogView) (items : List (ℕ × Record)) (c s : File) → IsHeld file reach log → IsOrdered log items →
-        file log.current.spot ≡ Some c → file log.spare.spot ≡ Some s → IsCurrentOf log.node log.version log.generation c.bytes s.bytes items }
+    ensures current { (home : HomeView) (log : LogView) (items : List (ℕ × Record)) (c s : File) → IsHeld home log → IsOrdered log items →
+        home.file log.current.spot ≡ Some c → home.file log.spare.spot ≡ Some s → IsCurrentOf log.node log.version log.generation c.bytes s.bytes items }
     ensures opens { (log : LogView) (items : List (ℕ × Record)) → IsLive log items → begins_closed log.current.state.stable ≡ false }
 {}
 
@@ -109,8 +109,8 @@ pub fn held_files_are_current()
 pub fn logs_leave_each_other()
     ensures two { (log : LogView) → HasSpots log → log.current.spot ≢ log.spare.spot }
     ensures own { (log : LogView) (s : Spot) → HasSpots log → s ≢ spot_of log.node 0 → s ≢ spot_of log.node 1 → (s ≢ log.current.spot) × (s ≢ log.spare.spot) }
-    ensures held { (node : Node) (file after : Spot → Option File) (reach further : Spot → ℕ) (log : LogView) → IsValidNode node → IsValidNode log.node → log.node ≢ node →
-        OtherFilesStay node file after reach further → IsHeld file reach log → IsHeld after further log }
+    ensures held { (node : Node) (old new : HomeView) (log : LogView) → IsValidNode node → IsValidNode log.node → log.node ≢ node →
+        OtherFilesStay node old new → IsHeld old log → IsHeld new log }
 {}
 
 /// A start over two files of which one is current attaches that one as the current file, with its version, its

@@ -12,8 +12,8 @@ use crate::fault::LogFault;
 use crate::stop::Stop;
 use co_base::{Leaves, Marks, Node};
 use co_disk::Disk;
-use co_outside::{Home, Spot};
 use co_frame::begins_closed;
+use co_outside::{Home, Spot};
 use co_record::{LentPrepare, Record, Views};
 use std::alloc::{AllocError, Global};
 use std::marker::Model;
@@ -52,6 +52,7 @@ impl Model for Log {
 impl Log {
     ghost use Rattle.co_outside.specs.Home.{IsClean, RestStays, HasFailed};
     ghost use Rattle.co_log.specs.Appending.{IsTooLong};
+    ghost use Rattle.co_log.specs.Calls.{MayForce, HasForced};
     ghost use Rattle.co_frame.specs.Gate.{begins_closed};
     ghost use Rattle.co_log.specs.Forcing.{IsForced, IsDone, IsOfForce};
     ghost use Rattle.co_log.specs.LogFile.{EndsAt, OldOrBoth};
@@ -179,25 +180,10 @@ impl Log {
     /// device call, and the file has the old records alone then. Whatever the answer is, the file stays the current
     /// one, and both are within 268,435,456 bytes.
     pub fn force<H: Home>(&mut self, home: &mut H, item: Record) -> Result<Marks, LogFault>
-        requires held { IsHeld (H.seen home.old) self.old }
-        requires newest { self.old.version ≡ newest }
-        requires live { (items : List (ℕ × Record)) × IsLive self.old items }
-        requires writable { IsWritable item }
-        requires kind { IsForcible item }
-        ensures forced { (items : List (ℕ × Record)) → IsLive self.old items → IsForced self.old items (self.old.waiting ++ item ∷ []) self.new result }
-        ensures held { IsDone result → IsHeld (H.seen home.new) self.new }
-        ensures clean { IsDone result → IsClean (H.seen home.new) self.old.current.spot }
-        ensures full { IsErrOf result (LogFault.Full self.old.current.spot) → IsTooLong self.old.gate (self.old.waiting ++ item ∷ []) }
-        ensures too_long { IsTooLong self.old.gate (self.old.waiting ++ item ∷ []) → IsErrOf result (LogFault.Full self.old.current.spot) ⊎ IsErrOf result LogFault.Memory }
+        requires ready { MayForce (H.seen home.old) self.old }
+        requires item { IsWritable item × IsForcible item }
+        ensures called { HasForced (IsTooLong self.old.gate (self.old.waiting ++ item ∷ [])) self.old self.new (item ∷ []) (H.seen home.old) (H.seen home.new) result }
         ensures untouched { IsTooLong self.old.gate (self.old.waiting ++ item ∷ []) → (self.new ≡ self.old) × (home.new ≡ home.old) }
-        ensures told { (items : List (ℕ × Record)) → IsLive self.old items → (f : File) → (H.seen home.new).file self.old.current.spot ≡ Some f → IsDone result ⊎ OldOrBoth f.bytes self.old.gate items (self.old.waiting ++ item ∷ []) }
-        ensures memory { (items : List (ℕ × Record)) → IsLive self.old items → IsErrOf result LogFault.Memory → (f : File) → (H.seen home.new).file self.old.current.spot ≡ Some f → EndsAt f.bytes self.old.gate items }
-        ensures current { (items : List (ℕ × Record)) → IsOrdered self.old items → (c s : File) → (H.seen home.new).file self.old.current.spot ≡ Some c → (H.seen home.new).file self.old.spare.spot ≡ Some s → IsCurrentForced self.old items (self.old.waiting ++ item ∷ []) c.bytes s.bytes result }
-        ensures short { BothWithin (H.seen home.new).file self.old }
-        ensures faults { IfErr result (IsOfForce self.old.current.spot) }
-        ensures rest { RestStays self.old.current.spot (H.seen home.old) (H.seen home.new) }
-        ensures device { IsErrOf result (LogFault.Device self.old.current.spot) → HasFailed self.old.current.spot (H.seen home.old) (H.seen home.new) }
-        ensures quiet { (IsErrOf result (LogFault.Device self.old.current.spot) → ⊥) → (H.seen home.new).faults ≡ (H.seen home.old).faults }
     {
         self.force_all(home, &[], &[item])
     }
@@ -208,24 +194,10 @@ impl Log {
         home: &mut H,
         item: LentPrepare<'_>,
     ) -> Result<Marks, LogFault>
-        requires held { IsHeld (H.seen home.old) self.old }
-        requires newest { self.old.version ≡ newest }
-        requires live { (items : List (ℕ × Record)) × IsLive self.old items }
+        requires ready { MayForce (H.seen home.old) self.old }
         requires writable { IsWritable item }
-        ensures forced { (items : List (ℕ × Record)) → IsLive self.old items → IsForced self.old items (self.old.waiting ++ item.entry ∷ []) self.new result }
-        ensures held { IsDone result → IsHeld (H.seen home.new) self.new }
-        ensures clean { IsDone result → IsClean (H.seen home.new) self.old.current.spot }
-        ensures full { IsErrOf result (LogFault.Full self.old.current.spot) → IsTooLong self.old.gate (self.old.waiting ++ item.entry ∷ []) }
-        ensures too_long { IsTooLong self.old.gate (self.old.waiting ++ item.entry ∷ []) → IsErrOf result (LogFault.Full self.old.current.spot) ⊎ IsErrOf result LogFault.Memory }
+        ensures called { HasForced (IsTooLong self.old.gate (self.old.waiting ++ item.entry ∷ [])) self.old self.new (item.entry ∷ []) (H.seen home.old) (H.seen home.new) result }
         ensures untouched { IsTooLong self.old.gate (self.old.waiting ++ item.entry ∷ []) → (self.new ≡ self.old) × (home.new ≡ home.old) }
-        ensures told { (items : List (ℕ × Record)) → IsLive self.old items → (f : File) → (H.seen home.new).file self.old.current.spot ≡ Some f → IsDone result ⊎ OldOrBoth f.bytes self.old.gate items (self.old.waiting ++ item.entry ∷ []) }
-        ensures memory { (items : List (ℕ × Record)) → IsLive self.old items → IsErrOf result LogFault.Memory → (f : File) → (H.seen home.new).file self.old.current.spot ≡ Some f → EndsAt f.bytes self.old.gate items }
-        ensures current { (items : List (ℕ × Record)) → IsOrdered self.old items → (c s : File) → (H.seen home.new).file self.old.current.spot ≡ Some c → (H.seen home.new).file self.old.spare.spot ≡ Some s → IsCurrentForced self.old items (self.old.waiting ++ item.entry ∷ []) c.bytes s.bytes result }
-        ensures short { BothWithin (H.seen home.new).file self.old }
-        ensures faults { IfErr result (IsOfForce self.old.current.spot) }
-        ensures rest { RestStays self.old.current.spot (H.seen home.old) (H.seen home.new) }
-        ensures device { IsErrOf result (LogFault.Device self.old.current.spot) → HasFailed self.old.current.spot (H.seen home.old) (H.seen home.new) }
-        ensures quiet { (IsErrOf result (LogFault.Device self.old.current.spot) → ⊥) → (H.seen home.new).faults ≡ (H.seen home.old).faults }
     {
         self.force_all(home, &[item], &[])
     }

@@ -39,6 +39,7 @@ fn reread<H: Home>(disk: &mut Disk, home: &mut H) -> Result<(), LogFault>
 }
 
 impl Log {
+    ghost use Rattle.co_log.specs.Calls.{HasReattached};
     ghost use Rattle.co_log.specs.LogView.{IsHeld};
     ghost use Rattle.co_log.specs.Others.{OtherNodesStay};
 
@@ -49,6 +50,15 @@ impl Log {
     /// bytes there, and never over a home that tells it;
     /// `Device` where the home failed, and only there; `Memory` where there was none.
     pub fn reattach<H: Home>(&mut self, home: &mut H) -> Result<(), LogFault>
+        requires held { IsHeld (H.seen home.old) self.old }
+        ensures reattached { HasReattached H.gives H.seen self.old home.old home.new result }
+        ensures log { self.new ≡ self.old }
+    {
+        self.reread_both(home)
+    }
+
+    /// Reads the current file, and then the spare.
+    fn reread_both<H: Home>(&mut self, home: &mut H) -> Result<(), LogFault>
         requires held { IsHeld (H.seen home.old) self.old }
         ensures log { self.new ≡ self.old }
         ensures current { (H.seen home.new).file self.old.current.spot ≡ (H.seen home.old).file self.old.current.spot }

@@ -2,7 +2,7 @@
 ghost use Rattle.std.specs.Prelude.{◌≡◌, ◌≤◌, ℕ, true, Option, None, IfOk, IfErr, IsOk};
 ghost use Rattle.co_log.specs.LogView.{IsHeld};
 ghost use Rattle.co_log.specs.declared.fault.NodeFault.TheVariants.{Memory};
-ghost use Rattle.co_outside.specs.Home.{File};
+ghost use Rattle.co_outside.specs.Home.{HomeView, File};
 ghost use Rattle.co_outside.specs.declared.spot.Spot.{Spot};
 ghost use Rattle.co_plain.specs.LocalCommit.{member_local_abort};
 ghost use Rattle.co_plain.specs.LogWrite.{with_stop};
@@ -71,7 +71,7 @@ impl<E: Engine + Drop> Member<E> {
         requires stop { (1 ≤ stop) × (stop ≤ 4) }
         ensures did { (x : MemberState) → RepresentsMember E.stands_for self.old x → IfOk result (λ d. HasDone E.stands_for (member_arm x stop leaves) d self.new) }
         ensures done { IsOk result }
-        ensures held { (file : Spot → Option File) (reach : Spot → ℕ) → IsHeld file reach self.old.log → IsHeld file reach self.new.log }
+        ensures held { (home : HomeView) → IsHeld home self.old.log → IsHeld home self.new.log }
         ensures same { IsSame self.old self.new }
     {
         co_node::arm(&mut self.log, stop, leaves);
@@ -85,7 +85,7 @@ impl<E: Engine + Drop> Member<E> {
     /// Takes an armed stop away, also while the member is down. Takes no memory.
     pub fn disarm(&mut self)
         ensures did { (x : MemberState) → RepresentsMember E.stands_for self.old x → RepresentsMember E.stands_for self.new (with_log x (with_stop x.log None)) }
-        ensures held { (file : Spot → Option File) (reach : Spot → ℕ) → IsHeld file reach self.old.log → IsHeld file reach self.new.log }
+        ensures held { (home : HomeView) → IsHeld home self.old.log → IsHeld home self.new.log }
         ensures same { IsSame self.old self.new }
     {
         co_node::disarm(&mut self.log);

@@ -71,7 +71,7 @@ pub fn spell_both(
     item: Record,
 ) -> Result<SpelledBatch, NodeFault>
     requires prepare { IsWritable prepare }
-    requires item { IsWritable item }
+    requires item { IsWritable item × IsForcible item }
     ensures { AreSpelledOut log.now (prepare.entry ∷ item ∷ []) result }
 {
     match log.spell_both(prepare, item) {

@@ -1,6 +1,6 @@
 //! Crashes, restarts, armed stops and waiting records.
 ghost use Rattle.std.specs.Prelude.{◌≡◌, ◌≤◌, ◌++◌, ◌∷◌, [], ℕ, Option, None, Some, OnOk, OnErr};
-ghost use Rattle.co_outside.specs.Home.{File};
+ghost use Rattle.co_outside.specs.Home.{HomeView, File};
 ghost use Rattle.co_outside.specs.declared.spot.Spot.{Spot};
 ghost use Rattle.co_base.specs.declared.node.Node.{Node};
 ghost use Rattle.co_record.specs.Spelling.{IsWritable};
@@ -22,7 +22,7 @@ pub fn keep_waiting(log: &mut Log, item: Record) -> Result<(), AllocError>
     requires item { IsWritable item × MayWait item }
     ensures stands { (owner : Node) (l : LogState) → RepresentsLog owner log.old l → OnOk result (RepresentsLog owner log.new (with_waiting l item)) }
     ensures ok { OnOk result (log.new ≡ record log.old { waiting = log.old.waiting ++ item ∷ [] }) }
-    ensures held { (file : Spot → Option File) (reach : Spot → ℕ) → IsHeld file reach log.old → IsHeld file reach log.new }
+    ensures held { (home : HomeView) → IsHeld home log.old → IsHeld home log.new }
     ensures err { OnErr result (log.new ≡ log.old) }
 {
     log.later(item)
@@ -32,7 +32,7 @@ pub fn keep_waiting(log: &mut Log, item: Record) -> Result<(), AllocError>
 pub fn arm(log: &mut Log, stop: u8, leaves: Leaves)
     requires { (1 ≤ stop) × (stop ≤ 4) }
     ensures stands { (owner : Node) (l : LogState) → RepresentsLog owner log.old l → RepresentsLog owner log.new (with_stop l (Some (record { call = stop; leaves = leaves }))) }
-    ensures held { (file : Spot → Option File) (reach : Spot → ℕ) → IsHeld file reach log.old → IsHeld file reach log.new }
+    ensures held { (home : HomeView) → IsHeld home log.old → IsHeld home log.new }
 {
     log.arm(stop, leaves);
 }
@@ -40,7 +40,7 @@ pub fn arm(log: &mut Log, stop: u8, leaves: Leaves)
 /// Takes the armed stop away.
 pub fn disarm(log: &mut Log)
     ensures stands { (owner : Node) (l : LogState) → RepresentsLog owner log.old l → RepresentsLog owner log.new (with_stop l None) }
-    ensures held { (file : Spot → Option File) (reach : Spot → ℕ) → IsHeld file reach log.old → IsHeld file reach log.new }
+    ensures held { (home : HomeView) → IsHeld home log.old → IsHeld home log.new }
 {
     log.disarm();
 }

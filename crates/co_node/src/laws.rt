@@ -3,7 +3,7 @@ ghost use Rattle.std.specs.Prelude.{◌≡◌, ◌⊎◌, ℕ, Bool, [], None, O
 ghost use Rattle.co_base.specs.Nodes.{IsValidNode};
 ghost use Rattle.co_base.specs.declared.node.Node.{Node};
 ghost use Rattle.co_disk.specs.DiskView.{DiskView};
-ghost use Rattle.co_outside.specs.Home.{File};
+ghost use Rattle.co_outside.specs.Home.{HomeView, File};
 ghost use Rattle.co_outside.specs.declared.spot.Spot.{Spot};
 ghost use Rattle.co_record.specs.Format.{newest};
 ghost use Rattle.co_frame.specs.Gate.{begins_closed};
@@ -27,6 +27,6 @@ pub fn opened_logs_stand()
 
 /// The files of a node have exactly the stable records of the plain log that its log stands for, where the directory tells both.
 pub fn standing_logs_are_told()
-    ensures { (owner : Node) (file : Spot → Option File) (reach : Spot → ℕ) (log : LogView) (l : LogState) → RepresentsLog owner log l → IsHeld file reach log → AreWithin file owner →
-        AreTold file owner → (items : Items) × HasRecordsIn file owner items × (newest_first items ≡ l.stable) }
+    ensures { (owner : Node) (home : HomeView) (log : LogView) (l : LogState) → RepresentsLog owner log l → IsHeld home log → AreWithin home.file owner →
+        AreTold home.file owner → (items : Items) × HasRecordsIn home.file owner items × (newest_first items ≡ l.stable) }
 {}

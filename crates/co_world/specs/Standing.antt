@@ -33,5 +33,5 @@ pub record RepresentsWorld {E : Type 0} (takes : Kind → Type 0) (stands_for : 
   pub homes : (t : ℕ) (session : Session) → look s.sessions t ≡ Some session → IsNode (length s.kinds) s.coordinators session.by
 
 -- the directory holds the log of every node
-abbrev pub AreHeld : {E : Type 0} → (Spot → Option File) → (Spot → ℕ) → World E → Type 0
-AreHeld file reach w = AreKept file reach w.members.items w.coords.items
+abbrev pub AreHeld : {E : Type 0} → HomeView → World E → Type 0
+AreHeld home w = AreKept home w.members.items w.coords.items

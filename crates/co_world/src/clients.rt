@@ -4,7 +4,7 @@ ghost use Rattle.co_base.specs.declared.reply.Reply.{Reply};
 ghost use Rattle.co_durable.specs.declared.fault.WorldFault.TheVariants as world;
 ghost use Rattle.co_message.specs.declared.answer.Answer.{Answer};
 ghost use Rattle.co_message.specs.declared.event.Event.TheVariants as event;
-ghost use Rattle.co_outside.specs.Home.{File};
+ghost use Rattle.co_outside.specs.Home.{HomeView, File};
 ghost use Rattle.co_outside.specs.declared.spot.Spot.{Spot};
 ghost use Rattle.co_plain.specs.Federation.{Federation, with_member};
 ghost use Rattle.co_plain.specs.Member.{member_op};
@@ -163,7 +163,7 @@ impl<E: Engine + Drop> World<E> {
         ensures count { IsErrOf result WorldFault.Count ↔ IsOneMore self.old.sessions t }
         ensures items { (s : Federation) → RepresentsWorld E.takes E.stands_for self.old s → IfOk result (λ items. items ≡ numbered number (step_line s (event.Local t member)).items) }
         ensures stands { (s : Federation) → RepresentsWorld E.takes E.stands_for self.old s → OnOk result (RepresentsWorld E.takes E.stands_for self.new (step_line s (event.Local t member)).state) }
-        ensures held { (file : Spot → Option File) (reach : Spot → ℕ) → AreHeld file reach self.old → OnOk result (AreHeld file reach self.new) }
+        ensures held { (home : HomeView) → AreHeld home self.old → OnOk result (AreHeld home self.new) }
         ensures ended { IfErr result IsOfNoFile }
     {
         if self.used(t)? {
@@ -188,7 +188,7 @@ impl<E: Engine + Drop> World<E> {
         requires stands { (s : Federation) × RepresentsWorld E.takes E.stands_for self.old s × IsReady s }
         ensures items { (s : Federation) → RepresentsWorld E.takes E.stands_for self.old s → IsReady s → IfOk result (λ items. items ≡ numbered number (operate s t member op).items) }
         ensures stands { (s : Federation) → RepresentsWorld E.takes E.stands_for self.old s → IsReady s → OnOk result (RepresentsWorld E.takes E.stands_for self.new (operate s t member op).state) }
-        ensures held { (file : Spot → Option File) (reach : Spot → ℕ) → AreHeld file reach self.old → OnOk result (AreHeld file reach self.new) }
+        ensures held { (home : HomeView) → AreHeld home self.old → OnOk result (AreHeld home self.new) }
         ensures memory { IfErr result (λ fault. fault ≡ WorldFault.Memory) }
     {
         match self.sessions.may_act(t, Some(member)) {
@@ -203,7 +203,7 @@ impl<E: Engine + Drop> World<E> {
         requires stands { (s : Federation) × RepresentsWorld E.takes E.stands_for self.old s × IsReady s × ((session : Session) × (leave_to_visit (look s.sessions t) member ≡ Grants session)) }
         ensures items { (s : Federation) → RepresentsWorld E.takes E.stands_for self.old s → IsReady s → (session : Session) → leave_to_visit (look s.sessions t) member ≡ Grants session → IfOk result (λ items. items ≡ numbered number (operate s t member op).items) }
         ensures stands { (s : Federation) → RepresentsWorld E.takes E.stands_for self.old s → IsReady s → (session : Session) → leave_to_visit (look s.sessions t) member ≡ Grants session → OnOk result (RepresentsWorld E.takes E.stands_for self.new (operate s t member op).state) }
-        ensures held { (file : Spot → Option File) (reach : Spot → ℕ) → AreHeld file reach self.old → OnOk result (AreHeld file reach self.new) }
+        ensures held { (home : HomeView) → AreHeld home self.old → OnOk result (AreHeld home self.new) }
         ensures memory { IfErr result (λ fault. fault ≡ WorldFault.Memory) }
     {
         if !self.member_up(member) {
@@ -224,7 +224,7 @@ impl<E: Engine + Drop> World<E> {
         ensures stands { (s : Federation) → RepresentsWorld E.takes E.stands_for self.old s → IsReady s → (session : Session) → leave_to_visit (look s.sessions t) member ≡ Grants session →
             OnOk result (RepresentsWorld E.takes E.stands_for self.new (with_member s member (member_op (s.member member) t (count_at session.told member) op.now).state)) }
         ensures sessions { self.new.sessions ≡ self.old.sessions }
-        ensures held { (file : Spot → Option File) (reach : Spot → ℕ) → AreHeld file reach self.old → AreHeld file reach self.new }
+        ensures held { (home : HomeView) → AreHeld home self.old → AreHeld home self.new }
     {
         let carried = self.sessions.carried(t, member);
         match self.members[usize::from(member) - 1].op(t, carried, op) {
@@ -241,7 +241,7 @@ impl<E: Engine + Drop> World<E> {
         ensures memory { IfErr result (λ fault. fault ≡ world.Memory) }
         ensures stands { (s : Federation) → RepresentsWorld E.takes E.stands_for self.old s → (session : Session) → look s.sessions t ≡ Some session →
             OnOk result (RepresentsWorld E.takes E.stands_for self.new (entered s t session member op (reply_in answer.now))) }
-        ensures held { (file : Spot → Option File) (reach : Spot → ℕ) → AreHeld file reach self.old → AreHeld file reach self.new }
+        ensures held { (home : HomeView) → AreHeld home self.old → AreHeld home self.new }
     {
         match reply_in(self.alloc, answer)? {
             Some(reply) => Ok(self.sessions.answered(t, Site { member, op }, reply)?),
@@ -254,7 +254,7 @@ impl<E: Engine + Drop> World<E> {
         requires begun { holds self.old.sessions.sessions t ≡ true }
         ensures stands { (s : Federation) → RepresentsWorld E.takes E.stands_for self.old s → (session : Session) → look s.sessions t ≡ Some session →
             RepresentsWorld E.takes E.stands_for self.new (marked_asked s t session answered) }
-        ensures held { (file : Spot → Option File) (reach : Spot → ℕ) → AreHeld file reach self.old → AreHeld file reach self.new }
+        ensures held { (home : HomeView) → AreHeld home self.old → AreHeld home self.new }
     {
         if answered {
             self.sessions.asked(t);

@@ -1,6 +1,6 @@
 //! Armed stops are taken away.
 ghost use Rattle.std.specs.Prelude.{◌≡◌, ℕ, Option, length};
-ghost use Rattle.co_outside.specs.Home.{File};
+ghost use Rattle.co_outside.specs.Home.{HomeView, File};
 ghost use Rattle.co_outside.specs.declared.spot.Spot.{Spot};
 ghost use Rattle.co_plain.specs.Federation.{Federation};
 ghost use Rattle.co_plain.specs.Step.{disarmed};
@@ -13,7 +13,7 @@ impl<E: Engine + Drop> World<E> {
     /// Takes the armed stop of every node away, also of one that is down. Takes no memory.
     pub fn disarm(&mut self)
         ensures stands { (s : Federation) → RepresentsWorld E.takes E.stands_for self.old s → RepresentsWorld E.takes E.stands_for self.new (disarmed s) }
-        ensures held { (file : Spot → Option File) (reach : Spot → ℕ) → AreHeld file reach self.old → AreHeld file reach self.new }
+        ensures held { (home : HomeView) → AreHeld home self.old → AreHeld home self.new }
         ensures head { (length self.new.members.items ≡ length self.old.members.items) × (length self.new.coords.items ≡ length self.old.coords.items) }
     {
         for place in 0..self.members.len() {

@@ -1,6 +1,6 @@
 //! An event at one node, as a step of the federation.
 ghost use Rattle.std.specs.Prelude.{◌≡◌, ◌≤◌, ℕ, Option, length, IfOk, IfErr, IsErrOf, OnOk, true};
-ghost use Rattle.co_outside.specs.Home.{File};
+ghost use Rattle.co_outside.specs.Home.{HomeView, File};
 ghost use Rattle.co_outside.specs.declared.spot.Spot.{Spot};
 ghost use Rattle.co_plain.specs.Federation.{Federation, noted, items_of, message_list};
 ghost use Rattle.co_plain.specs.Runs.{numbered};
@@ -42,7 +42,7 @@ impl<E: Engine + Drop> World<E> {
     ) -> Result<Items, WorldFault>
         ensures items { IfOk result (λ items. items ≡ numbered number (items_of did.marks (message_list did.sent) did.answer)) }
         ensures stands { (s : Federation) → RepresentsWorld E.takes E.stands_for self.old s → OnOk result (RepresentsWorld E.takes E.stands_for self.new (noted s did.marks (message_list did.sent))) }
-        ensures held { (file : Spot → Option File) (reach : Spot → ℕ) → AreHeld file reach self.old → OnOk result (AreHeld file reach self.new) }
+        ensures held { (home : HomeView) → AreHeld home self.old → OnOk result (AreHeld home self.new) }
         ensures memory { IfErr result (λ fault. fault ≡ WorldFault.Memory) }
     {
         let MemberStep {
@@ -62,7 +62,7 @@ impl<E: Engine + Drop> World<E> {
     ) -> Result<Items, WorldFault>
         ensures items { IfOk result (λ items. items ≡ numbered number (items_of did.marks did.sent did.answer)) }
         ensures stands { (s : Federation) → RepresentsWorld E.takes E.stands_for self.old s → OnOk result (RepresentsWorld E.takes E.stands_for self.new (noted s did.marks did.sent)) }
-        ensures held { (file : Spot → Option File) (reach : Spot → ℕ) → AreHeld file reach self.old → OnOk result (AreHeld file reach self.new) }
+        ensures held { (home : HomeView) → AreHeld home self.old → OnOk result (AreHeld home self.new) }
         ensures memory { IfErr result (λ fault. fault ≡ WorldFault.Memory) }
     {
         let CoordStep {

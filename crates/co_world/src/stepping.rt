@@ -1,7 +1,7 @@
 //! One event of a schedule line.
 ghost use Rattle.std.specs.Prelude.{◌≡◌, ◌≤◌, ℕ, Option, length, IfOk, IfErr, IsErrOf, OnOk, ◌↔◌};
 ghost use Rattle.co_base.specs.declared.op.Op.TheVariants as op;
-ghost use Rattle.co_outside.specs.Home.{File};
+ghost use Rattle.co_outside.specs.Home.{HomeView, File};
 ghost use Rattle.co_outside.specs.declared.spot.Spot.{Spot};
 ghost use Rattle.co_plain.specs.Federation.{Federation};
 ghost use Rattle.co_plain.specs.Runs.{numbered};
@@ -54,7 +54,7 @@ impl<E: Engine + Drop> World<E> {
         requires stands { (s : Federation) × RepresentsWorld E.takes E.stands_for self.old s × IsReady s }
         ensures items { (s : Federation) → RepresentsWorld E.takes E.stands_for self.old s → IsReady s → IfOk result (λ items. items ≡ numbered number (operate s t member (op.Read key.now)).items) }
         ensures stands { (s : Federation) → RepresentsWorld E.takes E.stands_for self.old s → IsReady s → OnOk result (RepresentsWorld E.takes E.stands_for self.new (operate s t member (op.Read key.now)).state) }
-        ensures held { (file : Spot → Option File) (reach : Spot → ℕ) → AreHeld file reach self.old → OnOk result (AreHeld file reach self.new) }
+        ensures held { (home : HomeView) → AreHeld home self.old → OnOk result (AreHeld home self.new) }
         ensures memory { IfErr result (λ fault. fault ≡ WorldFault.Memory) }
     {
         self.operate(number, t, member, Op::Read(key.copy()?))
@@ -73,7 +73,7 @@ impl<E: Engine + Drop> World<E> {
         requires stands { (s : Federation) × RepresentsWorld E.takes E.stands_for self.old s × IsReady s }
         ensures items { (s : Federation) → RepresentsWorld E.takes E.stands_for self.old s → IsReady s → IfOk result (λ items. items ≡ numbered number (operate s t member (op.Write key.now value.now)).items) }
         ensures stands { (s : Federation) → RepresentsWorld E.takes E.stands_for self.old s → IsReady s → OnOk result (RepresentsWorld E.takes E.stands_for self.new (operate s t member (op.Write key.now value.now)).state) }
-        ensures held { (file : Spot → Option File) (reach : Spot → ℕ) → AreHeld file reach self.old → OnOk result (AreHeld file reach self.new) }
+        ensures held { (home : HomeView) → AreHeld home self.old → OnOk result (AreHeld home self.new) }
         ensures memory { IfErr result (λ fault. fault ≡ WorldFault.Memory) }
     {
         self.operate(number, t, member, Op::Write(key.copy()?, value.copy()?))
@@ -85,7 +85,7 @@ impl<E: Engine + Drop> World<E> {
         requires stands { (s : Federation) × RepresentsWorld E.takes E.stands_for self.old s × IsReady s }
         ensures items { (s : Federation) → RepresentsWorld E.takes E.stands_for self.old s → IsReady s → IfOk result (λ items. items ≡ numbered number (operate s t member (op.Erase key.now)).items) }
         ensures stands { (s : Federation) → RepresentsWorld E.takes E.stands_for self.old s → IsReady s → OnOk result (RepresentsWorld E.takes E.stands_for self.new (operate s t member (op.Erase key.now)).state) }
-        ensures held { (file : Spot → Option File) (reach : Spot → ℕ) → AreHeld file reach self.old → OnOk result (AreHeld file reach self.new) }
+        ensures held { (home : HomeView) → AreHeld home self.old → OnOk result (AreHeld home self.new) }
         ensures memory { IfErr result (λ fault. fault ≡ WorldFault.Memory) }
     {
         self.operate(number, t, member, Op::Erase(key.copy()?))
@@ -97,7 +97,7 @@ impl<E: Engine + Drop> World<E> {
         requires stands { (s : Federation) × RepresentsWorld E.takes E.stands_for self.old s × IsReady s }
         ensures items { (s : Federation) → RepresentsWorld E.takes E.stands_for self.old s → IsReady s → IfOk result (λ items. items ≡ numbered number (operate s t member (op.Scan range.now)).items) }
         ensures stands { (s : Federation) → RepresentsWorld E.takes E.stands_for self.old s → IsReady s → OnOk result (RepresentsWorld E.takes E.stands_for self.new (operate s t member (op.Scan range.now)).state) }
-        ensures held { (file : Spot → Option File) (reach : Spot → ℕ) → AreHeld file reach self.old → OnOk result (AreHeld file reach self.new) }
+        ensures held { (home : HomeView) → AreHeld home self.old → OnOk result (AreHeld home self.new) }
         ensures memory { IfErr result (λ fault. fault ≡ WorldFault.Memory) }
     {
         self.operate(number, t, member, Op::Scan(range.copy()?))

@@ -1,6 +1,6 @@
 //! The federation, and what one of its nodes does in it.
 ghost use Rattle.std.specs.Prelude.{◌≡◌, ◌≤◌, ℕ, Option, length, IfOk, IfErr, IsErrOf, OnOk};
-ghost use Rattle.co_outside.specs.Home.{File};
+ghost use Rattle.co_outside.specs.Home.{HomeView, File};
 ghost use Rattle.co_outside.specs.declared.spot.Spot.{Spot};
 ghost use Rattle.co_plain.specs.Federation.{Federation, answers, with_member, with_coord, noted, items_of};
 ghost use Rattle.co_plain.specs.Runs.{numbered};
@@ -148,7 +148,7 @@ impl<E: Engine + Drop> World<E> {
     ) -> Result<Items, WorldFault>
         ensures items { IfOk result (λ items. items ≡ numbered number (items_of marks.now messages.now answer)) }
         ensures stands { (s : Federation) → RepresentsWorld E.takes E.stands_for self.old s → OnOk result (RepresentsWorld E.takes E.stands_for self.new (noted s marks.now messages.now)) }
-        ensures held { (file : Spot → Option File) (reach : Spot → ℕ) → AreHeld file reach self.old → OnOk result (AreHeld file reach self.new) }
+        ensures held { (home : HomeView) → AreHeld home self.old → OnOk result (AreHeld home self.new) }
         ensures memory { IfErr result (λ fault. fault ≡ WorldFault.Memory) }
     {
         self.send(messages)?;

@@ -12,7 +12,7 @@ use Rattle.co_log.specs.Spare.{IsClosing, IsSpareImage}
 use Rattle.co_log.proofs.Unmade.{closed_by, spare_images, closed_spare, chosen_spare, read_stable}
 use Rattle.co_log.proofs.Currents.{closing_current}
 use Rattle.co_log.proofs.Stops.{stopped_early, all_stable}
-use Rattle.co_log.proofs.log.Log.close_spare.Goals as goal
+use Rattle.co_log.proofs.log.Log.close.Goals as goal
 
 pub returns-in-Err-Stopped-clause-closing : goal.returns-in-Err-Stopped-clause-closing
 returns-in-Err-Stopped-clause-closing g c =

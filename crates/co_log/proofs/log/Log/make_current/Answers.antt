@@ -12,7 +12,7 @@ use Rattle.co_record.specs.declared.record.Record.TheVariants.{Header}
 use Rattle.co_log.specs.Fresh.{IsMaking, header_alone}
 use Rattle.co_log.specs.LogView.{LogView}
 use Rattle.co_log.proofs.Unmade.{making}
-use Rattle.co_log.proofs.log.Log.make.Goals as goal
+use Rattle.co_log.proofs.log.Log.make_current.Goals as goal
 
 pub returns-in_err-ending-clause-told : goal.returns-in_err-ending-clause-told
 returns-in_err-ending-clause-told g c = λ f told.

@@ -6,7 +6,7 @@ use Rattle.co_disk.specs.DiskView.{DiskView}
 use Rattle.co_log.specs.Attaching.{used_of, IsToldAs, IsLonger}
 use Rattle.co_log.specs.LogView.{spot_of}
 use Rattle.co_log.proofs.Attached.{used_longer, unused_within, unused_text}
-use Rattle.co_log.proofs.log.Log.attach.Goals as goal
+use Rattle.co_log.proofs.log.Log.open.Goals as goal
 
 pub returns-then-is_used-2-clause-faults : goal.returns-then-is_used-2-clause-faults
 returns-then-is_used-2-clause-faults g c =

@@ -17,7 +17,7 @@ use Rattle.co_log.specs.Spare.{IsFilling, filling, filling_mark}
 use Rattle.co_log.proofs.Logs.{filled, filled_if}
 use Rattle.co_log.proofs.Ordered.{live_open}
 use Rattle.co_log.proofs.Unmade.{ends_at_once, closed_told}
-use Rattle.co_log.proofs.log.Log.fill_spare.Goals as goal
+use Rattle.co_log.proofs.log.Log.fill.Goals as goal
 
 pub returns-then-self-clause-told : goal.returns-then-self-clause-told
 returns-then-self-clause-told g c = inr (λ f told. closed_told c.args.self.now.spare.state f.bytes (filling c.args.self.now c.args.items.now) c.requires.still c.requires.closed (c.requires.held.spare.told f told))
