@@ -5,3 +5,4 @@ pub mod Laying
 pub mod Faults
 pub mod DiskView
 pub mod Stops
+pub mod Calls

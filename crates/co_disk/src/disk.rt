@@ -43,6 +43,7 @@ impl Model for Disk {
 impl Disk {
     ghost use Rattle.co_outside.specs.Home.{File, Agrees, IsClean, RestStays, HasFailed};
     ghost use Rattle.co_disk.specs.DiskModel.{read_of, stable_disk, after_write, after_sync, IsImage, IsSound};
+    ghost use Rattle.co_disk.specs.Calls.{HasAttached, HasCalled, HasCut, HasReread};
     ghost use Rattle.co_disk.specs.Faults.{IsOfAttach, IsOfWrite, IsOfSync, IsOfReread};
     ghost use Rattle.co_disk.specs.Homes.{IsImageIn};
     ghost use Rattle.co_disk.specs.Laying.{BeginWithin, EndWithin};
@@ -51,6 +52,13 @@ impl Disk {
     /// Reads the file of a spot; all its bytes are stable. `Long` comes where it has more than
     /// 268,435,456 bytes, `Device` only where the home failed, `Memory` where there was none.
     pub fn attach<H: Home>(alloc: Global, home: &mut H, spot: Spot) -> Result<Disk, DiskFault>
+        ensures { HasAttached (H.gives home.old spot 268435457) spot (H.seen home.old) (H.seen home.new) result }
+    {
+        Disk::read_file(alloc, home, spot)
+    }
+
+    /// Reads the file, and takes its bytes for stable.
+    fn read_file<H: Home>(alloc: Global, home: &mut H, spot: Spot) -> Result<Disk, DiskFault>
         ensures spot { IfOk result (λ d. d.spot ≡ spot) }
         ensures state { IfOk result (λ d. H.gives home.old spot 268435457 d.state.stable × (d.state ≡ stable_disk d.state.stable)) }
         ensures short { IfOk result (λ d. length d.state.stable ≤ 268435456) }
@@ -105,6 +113,17 @@ impl Disk {
         requires agrees { Agrees (H.seen home.old) self.old.spot (read_of self.old.state) }
         requires at { at ≤ length (read_of self.old.state) }
         requires end { at + length piece.now ≤ 268435456 }
+        ensures called { HasCalled (after_write self.old.state at piece.now) (after_write self.old.state at piece.now) IsOfWrite self.old self.new (H.seen home.old) (H.seen home.new) result }
+        ensures memory { length piece.now ≡ 1 → at < length (read_of self.old.state) → self.old.state.pending ≡ [] → IsErrOf result DiskFault.Memory → ⊥ }
+    {
+        self.write(home, at, piece)
+    }
+
+    /// Notes the write, and writes it through or leaves the image of a stop.
+    fn write<H: Home>(&mut self, home: &mut H, at: u32, piece: &[u8]) -> Result<(), DiskFault>
+        requires agrees { Agrees (H.seen home.old) self.old.spot (read_of self.old.state) }
+        requires at { at ≤ length (read_of self.old.state) }
+        requires end { at + length piece.now ≤ 268435456 }
         ensures spot { self.new.spot ≡ self.old.spot }
         ensures written { OnOk result (self.new.state ≡ after_write self.old.state at piece.now) }
         ensures passed { OnOk result (stop_here self.old.armed ≡ None) }
@@ -140,6 +159,15 @@ impl Disk {
     /// this is the device call of an armed stop: all writes are pending still, and the image that was
     /// chosen is left. Never answers `Memory`.
     pub fn sync<H: Home>(&mut self, home: &mut H) -> Result<(), DiskFault>
+        requires agrees { Agrees (H.seen home.old) self.old.spot (read_of self.old.state) }
+        ensures called { HasCalled (after_sync self.old.state) self.old.state IsOfSync self.old self.new (H.seen home.old) (H.seen home.new) result }
+        ensures clean { OnOk result (IsClean (H.seen home.new) self.old.spot) }
+    {
+        self.settle(home)
+    }
+
+    /// Syncs the file, or leaves the image of a stop.
+    fn settle<H: Home>(&mut self, home: &mut H) -> Result<(), DiskFault>
         requires agrees { Agrees (H.seen home.old) self.old.spot (read_of self.old.state) }
         ensures spot { self.new.spot ≡ self.old.spot }
         ensures synced { OnOk result (self.new.state ≡ after_sync self.old.state) }
@@ -190,6 +218,14 @@ impl Disk {
     /// armed stop is lost. `Device` comes only where the home failed, and no other fault does.
     pub fn power_cut<H: Home>(&mut self, home: &mut H, leaves: &Leaves) -> Result<(), DiskFault>
         requires agrees { Agrees (H.seen home.old) self.old.spot (read_of self.old.state) }
+        ensures { HasCut leaves.now self.old self.new (H.seen home.old) (H.seen home.new) result }
+    {
+        self.cut(home, leaves)
+    }
+
+    /// Takes the armed stop away, and leaves the image.
+    fn cut<H: Home>(&mut self, home: &mut H, leaves: &Leaves) -> Result<(), DiskFault>
+        requires agrees { Agrees (H.seen home.old) self.old.spot (read_of self.old.state) }
         ensures spot { self.new.spot ≡ self.old.spot }
         ensures left { IsLeft self.old.state leaves.now self.new.state }
         ensures disarmed { self.new.armed ≡ None }
@@ -211,6 +247,15 @@ impl Disk {
     /// with the first place and both bytes there; never over a home that tells the file. `Device` comes
     /// only where the home failed, `Memory` where there was none.
     pub fn reread<H: Home>(&mut self, home: &mut H) -> Result<(), DiskFault>
+        requires agrees { Agrees (H.seen home.old) self.old.spot (read_of self.old.state) }
+        ensures disk { self.new ≡ self.old }
+        ensures reread { HasReread (H.gives home.old self.old.spot 268435457) self.old (H.seen home.old) (H.seen home.new) result }
+    {
+        self.compare(home)
+    }
+
+    /// Compares what the file gives with what a read of the disk gives.
+    fn compare<H: Home>(&mut self, home: &mut H) -> Result<(), DiskFault>
         requires agrees { Agrees (H.seen home.old) self.old.spot (read_of self.old.state) }
         ensures disk { self.new ≡ self.old }
         ensures same { OnOk result (H.gives home.old self.old.spot 268435457 (read_of self.old.state)) }

@@ -14,7 +14,7 @@ use Rattle.co_log.proofs.Spots.{spots_apart}
 
 -- a told file that is what a disk gives
 pub agreed_within : (home : HomeView) (disk : DiskView) → Agrees home disk.spot (read_of disk.state) → IsShort disk → IsWithin 268435456 (home.file disk.spot)
-agreed_within file reach disk agrees short = λ f told. omega (arith, short, ap (λ (b : List ℕ). length b) (agrees.told f told))
+agreed_within home disk agrees short = λ f told. omega (arith, short, ap (λ (b : List ℕ). length b) (agrees.told f told))
 
 -- what a read gives while a log write is on its way
 pub pending_short : (stable batch : List ℕ) (gate : ℕ) → gate < length stable → gate + 1 + length batch ≤ 268435456 → length stable ≤ 268435456 → (length (read_of (batch_pending stable gate batch)) ≤ 268435456) × (length (read_of (gate_pending stable gate batch)) ≤ 268435456)

@@ -14,17 +14,6 @@ use Rattle.co_log.specs.declared.fault.NodeFault.TheVariants.{Device, Differs, F
 use Rattle.co_node.specs.Sizes.{IsOverlong}
 use Rattle.co_node.specs.declared.written.Written.{Written}
 
--- What contracts see of a directory: its files where it tells them, how far each reaches, how often it has failed, and
--- where it failed last.
-pub record HomeView : Type 0 where
-  pub file : Spot → Option File
-  pub reach : Spot → ℕ
-  pub faults : ℕ
-  pub last_failed : Spot
-
-abbrev pub seen : H → HomeView
-seen home = record { file = home.file; reach = home.reach; faults = home.faults; last_failed = home.last_failed }
-
 -- both files of the node are told
 pub record AreTold (file : Spot → Option File) (node : Node) : Type 0 where
   pub a : File
@@ -44,7 +33,7 @@ LeftAs file node this that =
 
 -- The log is held by the directory, no file of the node that was clean is not, none is too long, and no fault was met.
 pub record IsServed (node : Node) (log : LogView) (old new : HomeView) : Type 0 where
-  pub held : IsHeld new.new.file.reach log
+  pub held : IsHeld new log
   pub clean_a : IsClean old (spot_of node 0) → IsClean new (spot_of node 0)
   pub clean_b : IsClean old (spot_of node 1) → IsClean new (spot_of node 1)
   pub within : AreWithin new.file node

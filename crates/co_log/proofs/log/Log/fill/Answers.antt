@@ -81,7 +81,7 @@ returns-in_err-ending-clause-current g c =
     → IsCurrentAfter c.args.self.now kept items this.bytes that.bytes r) (sym is)
     (subst (λ (l : LogView). (kept : List (ℕ × Record)) → IsOrdered l kept → (this that : File) → (g.H.Home.seen c.append.new.home).file l.current.spot ≡ Some this → (g.H.Home.seen c.append.new.home).file l.spare.spot ≡ Some that → IsCurrentAfter l kept items this.bytes that.bytes (Err e)) c.self.view_is
     (faulted_current (g.H.Home.seen c.args.home.now) (g.H.Home.seen c.append.new.home) log items e held still closed c.in_err-ending.ensures.rest c.in_err-ending.ensures.faults (λ f told. c.in_err-ending.ensures.told [] ends f told)
-    (λ h. (c.append.ensures.untouched (c.append.ensures.full (c.in_err-ending.was ∙ ap Err h))).2) (λ h f told. c.append.ensures.memory [] ends (c.in_err-ending.was ∙ ap Err h) f told)))
+    (λ h. ap g.H.Home.seen (c.append.ensures.untouched (c.append.ensures.full (c.in_err-ending.was ∙ ap Err h))).2) (λ h f told. c.append.ensures.memory [] ends (c.in_err-ending.was ∙ ap Err h) f told)))
 
 pub returns-in_err-ending-clause-memory : goal.returns-in_err-ending-clause-memory
 returns-in_err-ending-clause-memory g c = λ is f told.

@@ -36,4 +36,4 @@ returns-in_err-ending-clause-current g c =
     made_fault log this.bytes that.bytes c.close_unmade.new.disk.spot e c.in_err-ending.ensures.faults (λ h. let long = c.append.ensures.full (c.in_err-ending.was ∙ ap Err h) in omega (arith, long))
     (subst (λ (l : LogView). OldOrBoth this.bytes 0 [] (Header l.node 1 ∷ [])) c.self.view_is (c.in_err-ending.ensures.told [] c.in_ok-close_unmade.ensures.ends this told'))
     (λ h. c.append.ensures.memory [] c.in_ok-close_unmade.ensures.ends (c.in_err-ending.was ∙ ap Err h) this told')
-    (spare_none (g.H.Home.seen c.args.home.now).file (g.H.Home.seen c.append.new.home).file (g.H.Home.seen c.args.home.now).reach log that c.requires.held c.requires.fresh kept told_that))
+    (spare_none (g.H.Home.seen c.args.home.now) (g.H.Home.seen c.append.new.home) log that c.requires.held c.requires.fresh kept told_that))

@@ -5,7 +5,7 @@ use Rattle.co_disk.specs.DiskModel.{read_of}
 use Rattle.co_disk.specs.DiskView.{DiskView}
 use Rattle.co_disk.specs.Faults.{IsFirstDifference}
 use Rattle.co_disk.proofs.Rereads.{never_told}
-use Rattle.co_disk.proofs.disk.Disk.reread.Goals as goal
+use Rattle.co_disk.proofs.disk.Disk.compare.Goals as goal
 
 pub returns-clause-faults : goal.returns-clause-faults
 returns-clause-faults g c =

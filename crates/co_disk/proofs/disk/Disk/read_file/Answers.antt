@@ -1,6 +1,6 @@
 use Rattle.std.proofs.Common.{◌∙◌, ◌<◌, sym, ap, length, List, ℕ, arith, take}
 use Rattle.co_disk.proofs.Writes.{whole_front, nothing_undone}
-use Rattle.co_disk.proofs.disk.Disk.attach.Goals as goal
+use Rattle.co_disk.proofs.disk.Disk.read_file.Goals as goal
 
 pub returns-clause-agrees : goal.returns-clause-agrees
 returns-clause-agrees g c =

@@ -11,7 +11,7 @@ use Rattle.co_disk.specs.Laying.{BeginWithin}
 use Rattle.co_disk.specs.Kept.{entries, state_of}
 use Rattle.co_disk.proofs.Leaving.{stable_reached, begins_written}
 use Rattle.co_disk.proofs.Writes.{not_written, torn_written, written_told, written_image}
-use Rattle.co_disk.proofs.disk.Disk.write_at.Goals as goal
+use Rattle.co_disk.proofs.disk.Disk.write.Goals as goal
 
 pub returns-in_err-note-clause-image : goal.returns-in_err-note-clause-image
 returns-in_err-note-clause-image g c =
