@@ -1,5 +1,5 @@
 -- The calls of a disk over a home: what each leaves of the disk and of the home, by its answer.
-use Rattle.std.specs.Prelude.{ℕ, ◌≡◌, ◌≤◌, ◌<◌, List, length, Option, Some, None, Result, OnOk, IfOk, IfErr, IsErrOf}
+use Rattle.std.specs.Prelude.{ℕ, ◌≡◌, ◌≤◌, ◌<◌, List, length, Some, None, Result, OnOk, IfOk, IfErr, IsErrOf}
 use Rattle.co_base.specs.declared.leaves.Leaves.{Leaves}
 use Rattle.co_outside.specs.declared.spot.Spot.{Spot}
 use Rattle.co_outside.specs.Home.{File, HomeView, Agrees, IsClean, RestStays, HasFailed}

@@ -1,5 +1,5 @@
 -- What a disk leaves in the home that it lies in.
-use Rattle.std.specs.Prelude.{ℕ, ◌≡◌, List, Option, Some}
+use Rattle.std.specs.Prelude.{◌≡◌, Option, Some}
 use Rattle.co_outside.specs.Home.{File, HomeView, Agrees}
 use Rattle.co_disk.specs.DiskModel.{DiskState, IsImage, read_of}
 use Rattle.co_disk.specs.DiskView.{DiskView}

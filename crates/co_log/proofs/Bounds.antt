@@ -2,7 +2,6 @@
 use Rattle.std.proofs.Common.{◌≡◌, ◌⊎◌, ℕ, ◌+◌, ◌<◌, ◌≤◌, List, [], ◌∷◌, length, ap, sym, ◌∙◌, arith, inl, inr}
 use Rattle.std.specs.Prelude.{Option, Some}
 use Rattle.co_outside.specs.Home.{HomeView, File, Agrees, RestStays}
-use Rattle.co_outside.specs.declared.spot.Spot.{Spot}
 use Rattle.co_disk.specs.DiskModel.{IsImage, read_of}
 use Rattle.co_disk.specs.DiskView.{DiskView}
 use Rattle.co_disk.proofs.Gets.{length_overlaid}

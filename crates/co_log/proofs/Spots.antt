@@ -1,10 +1,10 @@
 -- The two files of a log, and those of all others.
 use Rattle.std.proofs.Common.{◌≡◌, ◌≢◌, ℕ, sym, ap, subst, ◌∙◌, arith, inl, inr}
-use Rattle.std.specs.Prelude.{List, Option}
+use Rattle.std.specs.Prelude.{List}
 use Rattle.co_base.specs.Nodes.{IsValidNode, node_byte}
 use Rattle.co_base.specs.declared.node.Node.{Node}
 use Rattle.co_base.specs.declared.node.Node.TheVariants.{Member, Coord}
-use Rattle.co_outside.specs.Home.{HomeView, File, Agrees, RestStays}
+use Rattle.co_outside.specs.Home.{HomeView, Agrees, RestStays}
 use Rattle.co_outside.specs.declared.spot.Spot.{Spot}
 use Rattle.co_disk.specs.DiskModel.{read_of}
 use Rattle.co_disk.specs.DiskView.{DiskView}

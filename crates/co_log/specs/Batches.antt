@@ -1,9 +1,6 @@
 -- Records that are spelled out for a log as one batch.
-use Rattle.std.specs.Prelude.{ℕ, ◌≡◌, ◌+◌, ◌≤◌, ◌<◌, ◌⊎◌, List, ◌++◌, length, Option, Some, Result, Ok, Err, IfErr, IsErrOf}
+use Rattle.std.specs.Prelude.{ℕ, ◌≡◌, ◌+◌, ◌≤◌, ◌<◌, List, ◌++◌, length, Result, Ok, Err}
 use Rattle.std.specs.List.{AllByRecursion}
-use Rattle.co_base.specs.declared.mark.Mark.{Mark}
-use Rattle.co_outside.specs.Home.{HomeView, File, IsClean, RestStays, HasFailed}
-use Rattle.co_outside.specs.declared.spot.Spot.{Spot}
 use Rattle.co_record.specs.declared.record.Record.{Record}
 use Rattle.co_record.specs.Spelling.{IsSpelled}
 use Rattle.co_log.specs.declared.batch.SpelledBatch.{SpelledBatch}
@@ -11,12 +8,9 @@ use Rattle.co_log.specs.declared.fault.LogFault.{LogFault}
 use Rattle.co_log.specs.declared.fault.LogFault.TheVariants.{Device, Stopped, Bad, Differs, Full, InUse, Memory}
 use Rattle.co_log.specs.Appending.{IsTooLong}
 use Rattle.co_log.specs.BatchWrite.{closed_batch}
-use Rattle.co_log.specs.Current.{IsOrdered, IsCurrentForced}
-use Rattle.co_log.specs.Forcing.{IsForced, IsDone, IsOfForce}
-use Rattle.co_log.specs.LogFile.{spelled, EndsAt, OldOrBoth}
-use Rattle.co_log.specs.LogView.{LogView, IsLive, IsHeld}
+use Rattle.co_log.specs.LogFile.{spelled}
+use Rattle.co_log.specs.LogView.{LogView}
 use Rattle.co_log.specs.Marks.{marks_of}
-use Rattle.co_log.specs.Others.{BothWithin}
 
 -- These bytes are the batch of these records, with a closed gate behind it, and a file whose gate stands at this place is not too long with them.
 pub record IsBatchAt (gate : ℕ) (items : List Record) (bytes : List ℕ) : Type 0 where

@@ -1,5 +1,5 @@
 -- The calls of a log over a home: what a log write asks, and what each call leaves of the log and of the home, by its answer.
-use Rattle.std.specs.Prelude.{ℕ, ◌≡◌, ◌⊎◌, false, Bool, List, [], ◌++◌, Option, Some, Result, OnOk, IfOk, IfErr, IsErrOf}
+use Rattle.std.specs.Prelude.{ℕ, ◌≡◌, ◌⊎◌, false, Bool, List, [], ◌++◌, Some, Result, OnOk, IfOk, IfErr, IsErrOf}
 use Rattle.co_base.specs.declared.mark.Mark.{Mark}
 use Rattle.co_base.specs.declared.mark.MarkKind.TheVariants as kind
 use Rattle.co_base.specs.declared.node.Node.{Node}

@@ -3,7 +3,7 @@ use Rattle.std.specs.Prelude.{ℕ, ◌≡◌, ◌⊎◌, ◌≤◌, ◌<◌, ◌
 use Rattle.co_base.specs.Nodes.{node_byte}
 use Rattle.co_base.specs.declared.node.Node.{Node}
 use Rattle.co_outside.specs.declared.spot.Spot.{Spot}
-use Rattle.co_outside.specs.Home.{HomeView, File, Agrees}
+use Rattle.co_outside.specs.Home.{HomeView, Agrees}
 use Rattle.co_disk.specs.DiskModel.{read_of}
 use Rattle.co_frame.specs.LogText.{most_log_bytes}
 use Rattle.co_disk.specs.DiskView.{DiskView}

@@ -41,8 +41,8 @@ flipped node x y (inl own) = inr (own.1, own.0)
 flipped node x y (inr own) = inl (own.1, own.0)
 
 -- a node of whose told files the one is current has its records
-pub current_records : (file : Spot → Option File) (node : Node) (x y : Spot) (c s : File) (version generation : ℕ) (items : Items) → ArePartsOf node x y → IsWithin most_log_bytes (x.file) → IsWithin most_log_bytes (y.file)
-    → x.file ≡ Some c → y.file ≡ Some s → IsCurrentOf node version generation c.bytes s.bytes items → HasRecordsIn file node items
+pub current_records : (file : Spot → Option File) (node : Node) (x y : Spot) (c s : File) (version generation : ℕ) (items : Items) → ArePartsOf node x y → IsWithin most_log_bytes (file x) → IsWithin most_log_bytes (file y)
+    → file x ≡ Some c → file y ≡ Some s → IsCurrentOf node version generation c.bytes s.bytes items → HasRecordsIn file node items
 current_records file node x y c s version generation items parts within_x within_y is_c is_s current = elim parts [
   | inl own ↦ (
     0,
@@ -119,6 +119,10 @@ filled_left log items more c s fault at is current = subst (λ (r : Result Mark 
 pub filled_wants : (log : LogView) (items : Items) (more : List Record) (c s : List ℕ) (fault : LogFault) → IsErrOf {T = Mark} (Err fault) Memory → IsCurrentAfter log items more c s (Err fault) → IsOldCurrent log items c s
 filled_wants log items more c s fault is current = subst (λ (r : Result Mark LogFault). IsCurrentAfter log items more c s r) is current
 
+-- a file that stays is clean as it was
+pub still_clean : (old new : HomeView) (s : Spot) → new.file s ≡ old.file s → IsClean old s → IsClean new s
+still_clean old new s same was = λ f told. was f (sym same ∙ told)
+
 -- What is known of a log write at one file of a node when it has ended, by its answer.
 pub record Wrote {T : Type 0} (log after : LogView) (at : Spot) (long : Type 0) (this that : List Record) (old new : HomeView) (result : Result T LogFault) : Type 0 where
   pub spots : HasSpots log
@@ -129,9 +133,9 @@ pub record Wrote {T : Type 0} (log after : LogView) (at : Spot) (long : Type 0) 
   pub overlong : long → IsOverlong that
   pub too_long : long → IsErrOf result (Full at) ⊎ IsErrOf result Memory
   pub untouched : long → new ≡ old
-  pub broken : IsErrOf result (Device at) → LeftAs (new.file) log.node this that
-  pub wanting : IsErrOf result Memory → LeftAs (new.file) log.node this this
-  pub short : BothWithin (new.file) log
+  pub broken : IsErrOf result (Device at) → LeftAs new.file log.node this that
+  pub wanting : IsErrOf result Memory → LeftAs new.file log.node this this
+  pub short : BothWithin new.file log
   pub rest : RestStays at old new
   pub device : IsErrOf result (Device at) → HasFailed at old new
   pub quiet : (IsErrOf result (Device at) → ⊥) → new.faults ≡ old.faults
@@ -141,8 +145,8 @@ module _ (log after : LogView) (at : Spot) (long : Type 0) (this that : List Rec
   clean_kept : (s : Spot) → (s ≡ log.current.spot) ⊎ (s ≡ log.spare.spot) → HasSpots log → (at ≡ log.current.spot) ⊎ (at ≡ log.spare.spot) → IsClean new at → RestStays at old new → IsClean old s → IsClean new s
   clean_kept s (inl here) spots (inl is) clean rest was = subst (λ (t : Spot). IsClean new t) (is ∙ sym here) clean
   clean_kept s (inr here) spots (inr is) clean rest was = subst (λ (t : Spot). IsClean new t) (is ∙ sym here) clean
-  clean_kept s (inl here) spots (inr is) clean rest was = subst (λ (o : Option File). IsClean o) (sym (rest.others.files s (λ e. spots_apart log spots (sym here ∙ e ∙ is)))) was
-  clean_kept s (inr here) spots (inl is) clean rest was = subst (λ (o : Option File). IsClean o) (sym (rest.others.files s (λ e. spots_apart log spots (sym is ∙ sym e ∙ here)))) was
+  clean_kept s (inl here) spots (inr is) clean rest was = still_clean old new s (rest.others.files s (λ e. spots_apart log spots (sym here ∙ e ∙ is))) was
+  clean_kept s (inr here) spots (inl is) clean rest was = still_clean old new s (rest.others.files s (λ e. spots_apart log spots (sym is ∙ sym e ∙ here))) was
 
   place_a : HasSpots log → (spot_of log.node 0 ≡ log.current.spot) ⊎ (spot_of log.node 0 ≡ log.spare.spot)
   place_a (inl own) = inl (sym own.0)
@@ -152,18 +156,18 @@ module _ (log after : LogView) (at : Spot) (long : Type 0) (this that : List Rec
   place_b (inl own) = inr (sym own.1)
   place_b (inr own) = inl (sym own.0)
 
-  served : {T : Type 0} (result : Result T LogFault) → Wrote log after at long this that old new result → IsDone result → (IsErrOf result (Device at) → ⊥) → IsServed log.node after (seen old) (seen new)
+  served : {T : Type 0} (result : Result T LogFault) → Wrote log after at long this that old new result → IsDone result → (IsErrOf result (Device at) → ⊥) → IsServed log.node after old new
   served result w done silent = record {
     held = w.held done;
     clean_a = clean_kept (spot_of log.node 0) (place_a w.spots) w.spots w.its (w.clean done) w.rest;
     clean_b = clean_kept (spot_of log.node 1) (place_b w.spots) w.spots w.its (w.clean done) w.rest;
-    within = node_within (new.file) log w.spots w.short;
+    within = node_within new.file log w.spots w.short;
     quiet = w.quiet silent;
   }
 
-  pub fault_answered : (T : Type 0) (e : LogFault) (out : Result Written NodeFault) → IsOfForce at e → Wrote {T = T} log after at long this that old new (Err e) → IsPassedOn e out → IsAnswered log.node at long this that after (seen old) (seen new) out
+  pub fault_answered : (T : Type 0) (e : LogFault) (out : Result Written NodeFault) → IsOfForce at e → Wrote {T = T} log after at long this that old new (Err e) → IsPassedOn e out → IsAnswered log.node at long this that after old new out
   fault_answered T (Stopped call stable marks) out of w is =
-      subst (IsAnswered log.node at long this that after (seen old) (seen new)) (sym is) (λ l. none (w.too_long l), served (Err (Stopped call stable marks)) w tt (λ e. absurd cc))
+      subst (IsAnswered log.node at long this that after old new) (sym is) (λ l. none (w.too_long l), served (Err (Stopped call stable marks)) w tt (λ e. absurd cc))
     where
       none : (IsErrOf {T = T} (Err (Stopped call stable marks)) (Full at)) ⊎ (IsErrOf {T = T} (Err (Stopped call stable marks)) Memory) → ⊥
       none (inl e) = absurd cc
@@ -171,7 +175,7 @@ module _ (log after : LogView) (at : Spot) (long : Type 0) (this that : List Rec
   fault_answered T (Device spot) out of w is =
       let it : IsErrOf {T = T} (Err (Device spot)) (Device at) = ap (λ (s : Spot). Err (Device s)) of in
       let failed = w.device it in
-      subst (IsAnswered log.node at long this that after (seen old) (seen new)) (sym is)
+      subst (IsAnswered log.node at long this that after old new) (sym is)
       (λ l. none (w.too_long l), record { spot = of; count = failed.count; last = failed.named ∙ sym of; left = w.broken it })
     where
       none : (IsErrOf {T = T} (Err (Device spot)) (Full at)) ⊎ (IsErrOf {T = T} (Err (Device spot)) Memory) → ⊥
@@ -179,9 +183,9 @@ module _ (log after : LogView) (at : Spot) (long : Type 0) (this that : List Rec
       none (inr e) = absurd cc
   fault_answered T (Full spot) out of w is =
       let l = w.full (ap (λ (s : Spot). Err (Full s)) of) in
-      subst (IsAnswered log.node at long this that after (seen old) (seen new)) (sym is) (record { spot = of; long = l; overlong = w.overlong l; untouched = ap (seen file reach faults last_failed) (w.untouched l) })
+      subst (IsAnswered log.node at long this that after old new) (sym is) (record { spot = of; long = l; overlong = w.overlong l; untouched = w.untouched l })
   fault_answered T Memory out of w is =
-      subst (IsAnswered log.node at long this that after (seen old) (seen new)) (sym is) (record { left = w.wanting refl; quiet = w.quiet (λ e. absurd cc) })
+      subst (IsAnswered log.node at long this that after old new) (sym is) (record { left = w.wanting refl; quiet = w.quiet (λ e. absurd cc) })
   fault_answered T (Bad spot place) out of w is = absurd of
   fault_answered T (Differs spot place kept read) out of w is = absurd of
   fault_answered T (InUse spot) out of w is = absurd of

@@ -5,3 +5,4 @@ pub mod Sizes
 pub mod Homes
 pub mod Opened
 pub mod Spelled
+pub mod Forced

@@ -81,21 +81,21 @@ made_stands owner a b log after valid attached none m =
 pub told_records : (owner : Node) (home : HomeView) (log : LogView) (l : LogState) → RepresentsLog owner log l → IsHeld home log → AreWithin home.file owner
     → AreTold home.file owner → (items : Items) × HasRecordsIn home.file owner items × (newest_first items ≡ l.stable)
 told_records owner home log l s held within told =
-    let own = subst (AreWithin file) (sym s.owned) within in
-    let files = told_of home.file log held.spots (subst (AreTold file) (sym s.owned) told) in
+    let own = subst (AreWithin home.file) (sym s.owned) within in
+    let files = told_of home.file log held.spots (subst (AreTold home.file) (sym s.owned) told) in
     let is = held_current home log s.items files.current files.spare held s.ordered files.is_current files.is_spare in
     let here = old_records home.file log log.version log.generation s.items held.spots (both_within home.file log held.spots own) files is in
     (s.items, subst (λ (n : Node). HasRecordsIn home.file n s.items) s.owned here, sym s.stable)
 
 -- a told file is as long as what its disk gives
-told_within : (file : Option File) (reach : ℕ) (d : DiskView) → Agrees file reach (read_of d.state) → IsShort d → IsWithin most_log_bytes file
-told_within file reach d agrees short f is = subst (λ (bytes : List ℕ). length bytes ≤ most_log_bytes) (sym (agrees.told f is)) short
+told_within : (home : HomeView) (d : DiskView) → Agrees home d.spot (read_of d.state) → IsShort d → IsWithin most_log_bytes (home.file d.spot)
+told_within home d agrees short f is = subst (λ (bytes : List ℕ). length bytes ≤ most_log_bytes) (sym (agrees.told f is)) short
 
 -- so the files of a log that stands are not too long
 pub files_within : (owner : Node) (home : HomeView) (log : LogView) (l : LogState) → RepresentsLog owner log l → IsHeld home log → IsShort log.current × IsShort log.spare → AreWithin home.file owner
 files_within owner home log l s held short =
-    let both : BothWithin home.file log = (told_within (home.file log.current.spot) (home.reach log.current.spot) log.current held.current short.0, told_within (home.file log.spare.spot) (home.reach log.spare.spot) log.spare held.spare short.1) in
-    subst (AreWithin file) s.owned (node_within home.file log held.spots both)
+    let both : BothWithin home.file log = (told_within home log.current held.current short.0, told_within home log.spare held.spare short.1) in
+    subst (AreWithin home.file) s.owned (node_within home.file log held.spots both)
 
 -- before a log write the files have the records of the log
 pub left_before : (owner : Node) (home : HomeView) (log : LogView) (l : LogState) → RepresentsLog owner log l → IsHeld home log → IsShort log.current × IsShort log.spare → LeftAs home.file owner l.stable l.stable

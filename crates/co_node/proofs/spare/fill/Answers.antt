@@ -1,4 +1,4 @@
-use Rattle.std.proofs.Common.{◌≡◌, ◌∷◌, [], List, length, sym, refl, subst, inl, inr, ◌∙◌, slice_set, arith, ◌+◌}
+use Rattle.std.proofs.Common.{ap, ◌≡◌, ◌∷◌, [], List, length, sym, refl, subst, inl, inr, ◌∙◌, slice_set, arith, ◌+◌}
 use Rattle.std.specs.Prelude.{Err, reverse}
 use Rattle.co_base.specs.declared.mark.Mark.{Mark}
 use Rattle.co_base.specs.declared.node.Node.{Node}
@@ -29,14 +29,14 @@ returns-in_err-marks-clause-answered g c = λ owner l s.
 pub returns-in-Ok-clause-written : goal.returns-in-Ok-clause-written
 returns-in-Ok-clause-written g c = λ owner l s.
     let closed = s.spare ∙ sym c.requires.stands.2.spare ∙ c.requires.stands.3 in
-    fill_done owner c.args.log.now c.fill_spare.new.self l c.args.items.now c.in-Ok.mark c.of.result s closed (λ last. not_done c.args.log.now.spare.spot c.in-Ok.mark (c.in-Ok.ensures.overfull (inr last)))
-    (c.of.ensures ∙ one_set c.in_ok-marks.marks.items c.in-Ok.mark c.in_ok-marks.ensures) c.in-Ok.ensures.filling
+    fill_done owner c.args.log.now c.fill_spare.new.self l c.args.items.now c.in-Ok.mark c.of.result s closed (λ last. not_done c.args.log.now.spare.spot c.in-Ok.mark (c.in-Ok.ensures.called.overfull (inr last)))
+    (c.of.ensures ∙ one_set c.in_ok-marks.marks.items c.in-Ok.mark c.in_ok-marks.ensures) c.in-Ok.ensures.called.filled
 
 pub returns-in-Err-clause-written : goal.returns-in-Err-clause-written
 returns-in-Err-clause-written g c = λ owner l s.
     let closed = s.spare ∙ sym c.requires.stands.2.spare ∙ c.requires.stands.3 in
     fill_ended owner c.args.log.now c.fill_spare.new.self l c.args.items.now c.in-Err.fault c.stopped.result s closed
-    (λ call stable marks is last. not_stopped c.args.log.now.spare.spot c.in-Err.fault call stable marks is (c.in-Err.ensures.overfull (inr last))) c.in-Err.ensures.filling c.stopped.ensures
+    (λ call stable marks is last. not_stopped c.args.log.now.spare.spot c.in-Err.fault call stable marks is (c.in-Err.ensures.called.overfull (inr last))) c.in-Err.ensures.called.filled c.stopped.ensures
 
 pub returns-in-Err-clause-answered : goal.returns-in-Err-clause-answered
 returns-in-Err-clause-answered g c = λ owner l s.
@@ -48,27 +48,27 @@ returns-in-Err-clause-answered g c = λ owner l s.
     record {
       spots = c.requires.held.spots;
       its = inr refl;
-      held = c.in-Err.ensures.held;
-      clean = c.in-Err.ensures.clean;
-      full = c.in-Err.ensures.full;
+      held = c.in-Err.ensures.called.held;
+      clean = c.in-Err.ensures.called.clean;
+      full = c.in-Err.ensures.called.full;
       overlong = filled_is_overlong owner log l items s;
-      too_long = c.in-Err.ensures.overfull;
-      untouched = λ long. (c.in-Err.ensures.untouched long).1;
+      too_long = c.in-Err.ensures.called.overfull;
+      untouched = λ long. ap g.H.Home.seen (c.in-Err.ensures.untouched long).1;
       broken = λ is told.
           let files = told_of file log c.requires.held.spots told in
-          let next = next_is owner log l s (λ last. not_failed log.spare.spot log.spare.spot c.in-Err.fault is (c.in-Err.ensures.overfull (inr last))) in
-          elim (filled_left log s.items items files.current.bytes files.spare.bytes c.in-Err.fault log.spare.spot is (c.in-Err.ensures.current s.items s.ordered files.current files.spare files.is_current files.is_spare)) [
-            | inl old ↦ (s.items, old_records file log log.version log.generation s.items c.requires.held.spots c.in-Err.ensures.short files old, inl (sym s.stable))
-            | inr new ↦ (placed_from 5 (filling log items), new_records file log newest (log.generation + 1) (placed_from 5 (filling log items)) c.requires.held.spots c.in-Err.ensures.short files new, inr (filled_newest owner log l items s next))
+          let next = next_is owner log l s (λ last. not_failed log.spare.spot log.spare.spot c.in-Err.fault is (c.in-Err.ensures.called.overfull (inr last))) in
+          elim (filled_left log s.items items files.current.bytes files.spare.bytes c.in-Err.fault log.spare.spot is (c.in-Err.ensures.called.current s.items s.ordered files.current files.spare files.is_current files.is_spare)) [
+            | inl old ↦ (s.items, old_records file log log.version log.generation s.items c.requires.held.spots c.in-Err.ensures.called.short files old, inl (sym s.stable))
+            | inr new ↦ (placed_from 5 (filling log items), new_records file log newest (log.generation + 1) (placed_from 5 (filling log items)) c.requires.held.spots c.in-Err.ensures.called.short files new, inr (filled_newest owner log l items s next))
           ];
       wanting = λ is told.
           let files = told_of file log c.requires.held.spots told in
-          let old = filled_wants log s.items items files.current.bytes files.spare.bytes c.in-Err.fault is (c.in-Err.ensures.current s.items s.ordered files.current files.spare files.is_current files.is_spare) in
-          (s.items, old_records file log log.version log.generation s.items c.requires.held.spots c.in-Err.ensures.short files old, inl (sym s.stable));
-      short = c.in-Err.ensures.short;
-      rest = c.in-Err.ensures.rest;
-      device = c.in-Err.ensures.device;
-      quiet = c.in-Err.ensures.quiet;
+          let old = filled_wants log s.items items files.current.bytes files.spare.bytes c.in-Err.fault is (c.in-Err.ensures.called.current s.items s.ordered files.current files.spare files.is_current files.is_spare) in
+          (s.items, old_records file log log.version log.generation s.items c.requires.held.spots c.in-Err.ensures.called.short files old, inl (sym s.stable));
+      short = c.in-Err.ensures.called.short;
+      rest = c.in-Err.ensures.called.rest;
+      device = c.in-Err.ensures.called.device;
+      quiet = c.in-Err.ensures.called.quiet;
     } in
     subst (λ (n : Node). IsAnswered n log.spare.spot (IsOverfull log items) l.stable that c.fill_spare.new.self (g.H.Home.seen c.args.home.now) (g.H.Home.seen c.fill_spare.new.home) c.stopped.result) s.owned
-    (fault_answered log c.fill_spare.new.self log.spare.spot (IsOverfull log items) l.stable that (g.H.Home.seen c.args.home.now) (g.H.Home.seen c.fill_spare.new.home) _ c.in-Err.fault c.stopped.result c.in-Err.ensures.faults wrote c.stopped.ensures)
+    (fault_answered log c.fill_spare.new.self log.spare.spot (IsOverfull log items) l.stable that (g.H.Home.seen c.args.home.now) (g.H.Home.seen c.fill_spare.new.home) _ c.in-Err.fault c.stopped.result c.in-Err.ensures.called.faults wrote c.stopped.ensures)
