@@ -2,7 +2,7 @@
 use Rattle.std.specs.Prelude.{ℕ, ◌≡◌, ◌⊎◌, true, List, Option, ◌≤◌}
 use Rattle.co_base.specs.declared.node.Node.{Node}
 use Rattle.co_outside.specs.declared.spot.Spot.{Spot}
-use Rattle.co_outside.specs.Home.{File}
+use Rattle.co_outside.specs.Home.{HomeView, File}
 use Rattle.co_disk.specs.DiskView.{DiskView}
 use Rattle.co_log.specs.declared.fault.LogFault.TheVariants as log
 use Rattle.co_log.specs.LogView.{spot_of, LogView}

@@ -3,7 +3,7 @@ use Rattle.std.specs.Prelude.{ℕ, ◌≡◌, ◌⊎◌, List, Option, Some, Res
 use Rattle.co_base.specs.declared.node.Node.{Node}
 use Rattle.co_outside.specs.declared.spot.Spot.{Spot}
 use Rattle.co_outside.specs.Faults.{HasRisen}
-use Rattle.co_outside.specs.Home.{File, IsClean}
+use Rattle.co_outside.specs.Home.{HomeView, File, IsClean}
 use Rattle.co_record.specs.declared.record.Record.{Record}
 use Rattle.co_frame.specs.LogText.{most_log_bytes}
 use Rattle.co_log.specs.Attaching.{IsWithin}
@@ -42,7 +42,7 @@ pub record IsServed (node : Node) (log : LogView) (old new : HomeView) : Type 0 
 -- The directory failed in this call at this file; the files have the old records or those of the completed write.
 pub record IsFailed (node : Node) (at named : Spot) (this that : List Record) (old new : HomeView) : Type 0 where
   pub spot : named ≡ at
-  pub count : HasRisen old.new.faults.faults
+  pub count : HasRisen old.faults new.faults
   pub last : new.last_failed ≡ named
   pub left : LeftAs new.file node this that
 

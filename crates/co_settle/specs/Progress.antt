@@ -38,7 +38,7 @@ DoesAll takes stands_for s events old new before after w file Gives (Err fault) 
 
 -- How the directory failed, by the fault; no fault of opening ever comes, and the limit on transactions is not met.
 abbrev pub HasEnded : WorldFault → HomeView → HomeView → Type 0
-HasEnded (world.Device spot) old new = HasRisen old.new.faults.faults × (new.last_failed ≡ spot)
+HasEnded (world.Device spot) old new = HasRisen old.faults new.faults × (new.last_failed ≡ spot)
 HasEnded (world.Differs spot at kept read) old new = new.faults ≡ old.faults
 HasEnded (world.InUse spot) old new = ⊥
 HasEnded (world.Bad spot at) old new = ⊥

@@ -71,10 +71,10 @@ pub checkpoint_left : (c : ℕ) (y : CoordState) (log after : LogView) (old new 
     → IfErr out (IsLeftBy new.file (node.Coord c) y.log.stable (coord_checkpoint c (coord_disarmed y)).state.log.stable)
 checkpoint_left c y log after old new out answered before = checkpoint_by_left c y log after old new out y.log.spare_closed answered before
 
-pub plan_left : (w : Writes) (owner : Node) (y : CoordState) (log after : LogView) (old new : HomeView) (out : Result CoordStep NodeFault) (completed : List Record) → stable_after w y.log ≡ completed → RepresentsLog owner log y.log → IsKept old.old.file.reach owner log
+pub plan_left : (w : Writes) (owner : Node) (y : CoordState) (log after : LogView) (old new : HomeView) (out : Result CoordStep NodeFault) (completed : List Record) → stable_after w y.log ≡ completed → RepresentsLog owner log y.log → IsKept old owner log
     → IsAnsweredFor w owner y.log log after old new (written_by out) → IfErr out (IsLeftBy new.file owner y.log.stable completed)
 plan_left w owner y log after old new out completed same stands kept answered =
-    coord_left owner log.current.spot (IsTooLongFor w log) y.log.stable (stable_after w y.log) after old new out completed same answered (kept_left owner old.old.file.reach log y.log (stable_after w y.log) stands kept)
+    coord_left owner log.current.spot (IsTooLongFor w log) y.log.stable (stable_after w y.log) after old new out completed same answered (kept_left owner old log y.log (stable_after w y.log) stands kept)
 
 -- a restart writes nothing
 pub coord_read : {H : Type 0} (gives : H → Spot → ℕ → List ℕ → Type 0) (log : LogView) (old new : H) (up : Bool) (out : Result CoordStep NodeFault) →

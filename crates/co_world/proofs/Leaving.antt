@@ -160,10 +160,10 @@ checkpoint_left m x log after old new out answered before = checkpoint_by_left m
 
 -- ---- by the calls of a member
 
-pub plan_left : (w : Writes) (owner : Node) (l : LogState) (log after : LogView) (old new : HomeView) (out : Result MemberStep NodeFault) (completed : List Record) → stable_after w l ≡ completed → RepresentsLog owner log l → IsKept old.old.file.reach owner log
+pub plan_left : (w : Writes) (owner : Node) (l : LogState) (log after : LogView) (old new : HomeView) (out : Result MemberStep NodeFault) (completed : List Record) → stable_after w l ≡ completed → RepresentsLog owner log l → IsKept old owner log
     → IsAnsweredFor w owner l log after old new (written_by out) → IfErr out (IsLeftBy new.file owner l.stable completed)
 plan_left w owner l log after old new out completed same stands kept answered =
-    member_left owner log.current.spot (IsTooLongFor w log) l.stable (stable_after w l) after old new out completed same answered (kept_left owner old.old.file.reach log l (stable_after w l) stands kept)
+    member_left owner log.current.spot (IsTooLongFor w log) l.stable (stable_after w l) after old new out completed same answered (kept_left owner old log l (stable_after w l) stands kept)
 
 -- there was no memory, and nothing was written
 pub still_left : {A : Type 0} (out : Result A NodeFault) (owner : Node) (home : HomeView) (log : LogView) (l : LogState) (that : List Record) → IfErr out (λ e. e ≡ Memory) → RepresentsLog owner log l → IsKept home owner log →

@@ -69,12 +69,12 @@ files_stay owner log old new owned spots current spare stay =
 -- ---- a call that may write
 
 module _ (owner : Node) (at : Spot) (long : Type 0) (this that : List Record) (log : LogView) (old new : HomeView) where
-  pub answered_served : (r : Result Written NodeFault) → IsAnswered owner at long this that log old new r → OtherFilesStay owner old.new.file.old.file.new.reach.reach → OnOk r (IsServed owner log old new)
+  pub answered_served : (r : Result Written NodeFault) → IsAnswered owner at long this that log old new r → OtherFilesStay owner old new → OnOk r (IsServed owner log old new)
   answered_served (Ok written) answered stay =
       let node = answered.1 in
       record {
         kept = record { held = node.held; within = node.within };
-        clean = clean_everywhere (spot_of owner 0) (spot_of owner 1) old.new.file.file stay.files node.clean_a node.clean_b;
+        clean = clean_everywhere (spot_of owner 0) (spot_of owner 1) old.file new.file stay.files node.clean_a node.clean_b;
         quiet = node.quiet;
       }
   answered_served (Err e) answered stay = tt
@@ -86,7 +86,7 @@ module _ (owner : Node) (at : Spot) (long : Type 0) (this that : List Record) (l
   answered_ended (Err (Full spot)) answered = ap (λ (v : HomeView). v.faults) answered.untouched
   answered_ended (Err Memory) answered = answered.quiet
 
-  pub member_served : (out : Result MemberStep NodeFault) → IsAnswered owner at long this that log old new (written_by_member out) → OtherFilesStay owner old.new.file.old.file.new.reach.reach → OnOk out (IsServed owner log old new)
+  pub member_served : (out : Result MemberStep NodeFault) → IsAnswered owner at long this that log old new (written_by_member out) → OtherFilesStay owner old new → OnOk out (IsServed owner log old new)
   member_served (Ok d) answered stay = answered_served (written_by_member (Ok d)) answered stay
   member_served (Err e) answered stay = tt
 
@@ -94,7 +94,7 @@ module _ (owner : Node) (at : Spot) (long : Type 0) (this that : List Record) (l
   member_ended (Ok d) answered = tt
   member_ended (Err e) answered = answered_ended (Err e) answered
 
-  pub coord_served : (out : Result CoordStep NodeFault) → IsAnswered owner at long this that log old new (written_by_coord out) → OtherFilesStay owner old.new.file.old.file.new.reach.reach → OnOk out (IsServed owner log old new)
+  pub coord_served : (out : Result CoordStep NodeFault) → IsAnswered owner at long this that log old new (written_by_coord out) → OtherFilesStay owner old new → OnOk out (IsServed owner log old new)
   coord_served (Ok d) answered stay = answered_served (written_by_coord (Ok d)) answered stay
   coord_served (Err e) answered stay = tt
 
@@ -104,33 +104,33 @@ module _ (owner : Node) (at : Spot) (long : Type 0) (this that : List Record) (l
 
 -- a plan of a member, and one of a coordinator
 pub plan_served : (w : MemberWrites) (owner : Node) (l : LogState) (log after : LogView) (old new : HomeView) (out : Result MemberStep NodeFault) → IsMemberAnsweredFor w owner l log after old new (written_by_member out) → log.node ≡ owner
-    → OtherFilesStay log.node old.new.file.old.file.new.reach.reach → OnOk out (IsServed owner after old new)
+    → OtherFilesStay log.node old new → OnOk out (IsServed owner after old new)
 plan_served w owner l log after old new out answered owned stay =
-    member_served owner log.current.spot (IsMemberTooLongFor w log) l.stable (member_stable_after w l) after old new out answered (subst (λ (n : Node). OtherFilesStay n old.new.file.old.file.new.reach.reach) owned stay)
+    member_served owner log.current.spot (IsMemberTooLongFor w log) l.stable (member_stable_after w l) after old new out answered (subst (λ (n : Node). OtherFilesStay n old new) owned stay)
 
 pub plan_ended : (w : MemberWrites) (owner : Node) (l : LogState) (log after : LogView) (old new : HomeView) (out : Result MemberStep NodeFault) → IsMemberAnsweredFor w owner l log after old new (written_by_member out) → IfErr out (λ fault. HasFailedAs fault old new)
 plan_ended w owner l log after old new out answered = member_ended owner log.current.spot (IsMemberTooLongFor w log) l.stable (member_stable_after w l) after old new out answered
 
 pub coord_plan_served : (w : CoordWrites) (owner : Node) (l : LogState) (log after : LogView) (old new : HomeView) (out : Result CoordStep NodeFault) → IsCoordAnsweredFor w owner l log after old new (written_by_coord out) → log.node ≡ owner
-    → OtherFilesStay log.node old.new.file.old.file.new.reach.reach → OnOk out (IsServed owner after old new)
+    → OtherFilesStay log.node old new → OnOk out (IsServed owner after old new)
 coord_plan_served w owner l log after old new out answered owned stay =
-    coord_served owner log.current.spot (IsCoordTooLongFor w log) l.stable (coord_stable_after w l) after old new out answered (subst (λ (n : Node). OtherFilesStay n old.new.file.old.file.new.reach.reach) owned stay)
+    coord_served owner log.current.spot (IsCoordTooLongFor w log) l.stable (coord_stable_after w l) after old new out answered (subst (λ (n : Node). OtherFilesStay n old new) owned stay)
 
 pub coord_plan_ended : (w : CoordWrites) (owner : Node) (l : LogState) (log after : LogView) (old new : HomeView) (out : Result CoordStep NodeFault) → IsCoordAnsweredFor w owner l log after old new (written_by_coord out) → IfErr out (λ fault. HasFailedAs fault old new)
 coord_plan_ended w owner l log after old new out answered = coord_ended owner log.current.spot (IsCoordTooLongFor w log) l.stable (coord_stable_after w l) after old new out answered
 
 -- ---- a checkpoint
 
-checkpoint_by_served : (m : ℕ) (x : MemberState) (log after : LogView) (old new : HomeView) (out : Result MemberStep NodeFault) (closed : Bool) → IsAnsweredIn closed m x log after old new (written_by_member out) → OtherFilesStay (node.Member m) old.new.file.old.file.new.reach.reach
+checkpoint_by_served : (m : ℕ) (x : MemberState) (log after : LogView) (old new : HomeView) (out : Result MemberStep NodeFault) (closed : Bool) → IsAnsweredIn closed m x log after old new (written_by_member out) → OtherFilesStay (node.Member m) old new
     → OnOk out (IsServed (node.Member m) after old new)
 checkpoint_by_served m x log after old new out false answered stay = member_served (node.Member m) log.spare.spot ⊥ x.log.stable x.log.stable after old new out answered stay
 checkpoint_by_served m x log after old new out true answered stay =
     member_served (node.Member m) log.spare.spot (IsOverfull log (spare_items x)) x.log.stable (member_spare m x (next_generation (generation_of x.log.stable))) after old new out answered stay
 
-pub checkpoint_served : (m : ℕ) (x : MemberState) (log after : LogView) (old new : HomeView) (out : Result MemberStep NodeFault) → IsMemberCheckpointed m x log after old new (written_by_member out) → log.node ≡ node.Member m → OtherFilesStay log.node old.new.file.old.file.new.reach.reach
+pub checkpoint_served : (m : ℕ) (x : MemberState) (log after : LogView) (old new : HomeView) (out : Result MemberStep NodeFault) → IsMemberCheckpointed m x log after old new (written_by_member out) → log.node ≡ node.Member m → OtherFilesStay log.node old new
     → OnOk out (IsServed (node.Member m) after old new)
 checkpoint_served m x log after old new out answered owned stay =
-    checkpoint_by_served m x log after old new out x.log.spare_closed answered (subst (λ (n : Node). OtherFilesStay n old.new.file.old.file.new.reach.reach) owned stay)
+    checkpoint_by_served m x log after old new out x.log.spare_closed answered (subst (λ (n : Node). OtherFilesStay n old new) owned stay)
 
 checkpoint_by_ended : (m : ℕ) (x : MemberState) (log after : LogView) (old new : HomeView) (out : Result MemberStep NodeFault) (closed : Bool) → IsAnsweredIn closed m x log after old new (written_by_member out) → IfErr out (λ fault. HasFailedAs fault old new)
 checkpoint_by_ended m x log after old new out false answered = member_ended (node.Member m) log.spare.spot ⊥ x.log.stable x.log.stable after old new out answered
@@ -140,16 +140,16 @@ checkpoint_by_ended m x log after old new out true answered =
 pub checkpoint_ended : (m : ℕ) (x : MemberState) (log after : LogView) (old new : HomeView) (out : Result MemberStep NodeFault) → IsMemberCheckpointed m x log after old new (written_by_member out) → IfErr out (λ fault. HasFailedAs fault old new)
 checkpoint_ended m x log after old new out answered = checkpoint_by_ended m x log after old new out x.log.spare_closed answered
 
-coord_checkpoint_by_served : (owner : Node) (y : CoordState) (log after : LogView) (old new : HomeView) (out : Result CoordStep NodeFault) (closed : Bool) → IsCoordCheckpointed closed owner y log after old new (written_by_coord out) → OtherFilesStay owner old.new.file.old.file.new.reach.reach
+coord_checkpoint_by_served : (owner : Node) (y : CoordState) (log after : LogView) (old new : HomeView) (out : Result CoordStep NodeFault) (closed : Bool) → IsCoordCheckpointed closed owner y log after old new (written_by_coord out) → OtherFilesStay owner old new
     → OnOk out (IsServed owner after old new)
 coord_checkpoint_by_served owner y log after old new out false answered stay = coord_served owner log.spare.spot ⊥ y.log.stable y.log.stable after old new out answered stay
 coord_checkpoint_by_served owner y log after old new out true answered stay =
     coord_served owner log.spare.spot (IsOverfull log (reverse (restated y))) y.log.stable (filled_with owner y.log (restated y)) after old new out answered stay
 
-pub coord_checkpoint_served : (owner : Node) (y : CoordState) (log after : LogView) (old new : HomeView) (out : Result CoordStep NodeFault) → IsCoordCheckpointed y.log.spare_closed owner y log after old new (written_by_coord out) → log.node ≡ owner → OtherFilesStay log.node old.new.file.old.file.new.reach.reach
+pub coord_checkpoint_served : (owner : Node) (y : CoordState) (log after : LogView) (old new : HomeView) (out : Result CoordStep NodeFault) → IsCoordCheckpointed y.log.spare_closed owner y log after old new (written_by_coord out) → log.node ≡ owner → OtherFilesStay log.node old new
     → OnOk out (IsServed owner after old new)
 coord_checkpoint_served owner y log after old new out answered owned stay =
-    coord_checkpoint_by_served owner y log after old new out y.log.spare_closed answered (subst (λ (n : Node). OtherFilesStay n old.new.file.old.file.new.reach.reach) owned stay)
+    coord_checkpoint_by_served owner y log after old new out y.log.spare_closed answered (subst (λ (n : Node). OtherFilesStay n old new) owned stay)
 
 coord_checkpoint_by_ended : (owner : Node) (y : CoordState) (log after : LogView) (old new : HomeView) (out : Result CoordStep NodeFault) (closed : Bool) → IsCoordCheckpointed closed owner y log after old new (written_by_coord out) → IfErr out (λ fault. HasFailedAs fault old new)
 coord_checkpoint_by_ended owner y log after old new out false answered = coord_ended owner log.spare.spot ⊥ y.log.stable y.log.stable after old new out answered
@@ -161,12 +161,12 @@ coord_checkpoint_ended owner y log after old new out answered = coord_checkpoint
 
 -- ---- a call that is not given the directory
 
-pub still_served : {A : Type 0} (out : Result A NodeFault) (owner : Node) (log after : LogView) (home : HomeView) → IsKept home.home.file.reach owner log → IsHeld home.home.file.after.reach → OnOk out (IsServed owner after home home)
+pub still_served : {A : Type 0} (out : Result A NodeFault) (owner : Node) (log after : LogView) (home : HomeView) → IsKept home owner log → IsHeld home.home.file.after.reach → OnOk out (IsServed owner after home home)
 still_served (Ok d) owner log after home kept held = record { kept = record { held = held; within = kept.within }; clean = λ s was. was; quiet = refl }
 still_served (Err e) owner log after home kept held = tt
 
-pub same_served : {A : Type 0} (out : Result A NodeFault) (owner : Node) (log after : LogView) (home : HomeView) → IsKept home.home.file.reach owner log → after ≡ log → OnOk out (IsServed owner after home home)
-same_served out owner log after home kept same = still_served out owner log after home kept (subst (λ (l : LogView). IsHeld home.home.file.reach l) (sym same) kept.held)
+pub same_served : {A : Type 0} (out : Result A NodeFault) (owner : Node) (log after : LogView) (home : HomeView) → IsKept home owner log → after ≡ log → OnOk out (IsServed owner after home home)
+same_served out owner log after home kept same = still_served out owner log after home kept (subst (λ (l : LogView). IsHeld home l) (sym same) kept.held)
 
 pub still_ended : {A : Type 0} (out : Result A NodeFault) (home : HomeView) → IfErr out (λ e. e ≡ Memory) → IfErr out (λ fault. HasFailedAs fault home home)
 still_ended (Ok d) home memory = tt

@@ -3,7 +3,7 @@ use Rattle.std.specs.Prelude.{ℕ, suc, ◌≡◌, ◌≤◌, length, slice_get,
 use Rattle.co_base.specs.declared.head.Kind.{Kind}
 use Rattle.co_record.specs.Format.{most_members, most_coordinators}
 use Rattle.co_outside.specs.declared.spot.Spot.{Spot}
-use Rattle.co_outside.specs.Home.{File}
+use Rattle.co_outside.specs.Home.{HomeView, File}
 use Rattle.co_plain.specs.Numbers.{has_number}
 use Rattle.co_plain.specs.Federation.{Federation}
 use Rattle.co_plain.specs.declared.session.Session.{Session}
