@@ -1,7 +1,7 @@
 -- What a log tells of a coordinator: its table after a start, what a restart rests on, and how it leaves the directory.
 use Rattle.std.specs.Prelude.{ℕ, Bool, true, false, ◌≡◌, List, map, reverse, Option, None, Result, Ok, Err, IsOk}
 use Rattle.std.specs.FinMap.{entries}
-use Rattle.co_outside.specs.Home.{File}
+use Rattle.co_outside.specs.Home.{HomeView, File}
 use Rattle.co_outside.specs.declared.spot.Spot.{Spot}
 use Rattle.co_log.specs.LogView.{LogView}
 use Rattle.co_log.specs.declared.fault.NodeFault.{NodeFault}
@@ -36,6 +36,6 @@ reread_by (Ok d) = Ok tt
 reread_by (Err e) = Err e
 
 -- A coordinator that is up answers and leaves the directory; one that is down reads the files of its log again.
-abbrev pub IsRestarted : {H : Type 0} → Bool → (H → Spot → ℕ → List ℕ → Type 0) → LogView → H → H → Result CoordStep NodeFault → Type 0
-IsRestarted true gives l old new result = IsOk result × (new ≡ old)
-IsRestarted false gives l old new result = IsReread gives l old new (reread_by result)
+abbrev pub IsRestarted : {H : Type 0} → Bool → (H → Spot → ℕ → List ℕ → Type 0) → (H → HomeView) → LogView → H → H → Result CoordStep NodeFault → Type 0
+IsRestarted true gives seen l old new result = IsOk result × (new ≡ old)
+IsRestarted false gives seen l old new result = IsReread gives seen l old new (reread_by result)

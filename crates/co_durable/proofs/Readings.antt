@@ -44,18 +44,17 @@ logs_moved now before nodes logs stay pairs = subst (λ (f : Spot → Option Fil
 pub unread_moved : (now before : Spot → Option File) (nodes : List Node) (fault : WorldFault) → ((s : Spot) → now s ≡ before s) → IsFirstUnread now nodes fault → IsFirstUnread before nodes fault
 unread_moved now before nodes fault stay unread = subst (λ (f : Spot → Option File). IsFirstUnread f nodes fault) (same_files now before stay) unread
 
-module _ where
-  pub nothing_read : (h : HomeView) → OnlyReads h h
-  nothing_read h = record { files = λ s. refl; directory = refl; count = omega arith }
+pub nothing_read : (h : HomeView) → OnlyReads h h
+nothing_read h = record { files = λ s. refl; directory = refl; count = omega arith }
 
-  -- one reading after another
-  pub reads_on : (old mid new : HomeView) → OnlyReads old mid → OnlyReads mid new → OnlyReads old new
-  reads_on old mid new first then = record {
-    files = λ s. then.files s ∙ first.files s;
-    directory = then.directory ∙ first.directory;
-    count = omega (arith, first.count, then.count);
-  }
+-- one reading after another
+pub reads_on : (old mid new : HomeView) → OnlyReads old mid → OnlyReads mid new → OnlyReads old new
+reads_on old mid new first then = record {
+  files = λ s. then.files s ∙ first.files s;
+  directory = then.directory ∙ first.directory;
+  count = omega (arith, first.count, then.count);
+}
 
-  -- a failure after a reading is one of both
-  pub fails_later : (old mid new : HomeView) (spot : Spot) → old.faults ≤ mid.faults → HasFailed spot mid new → HasFailed spot old new
-  fails_later old mid new spot count failed = record { count = omega (arith, count, failed.count); named = failed.named }
+-- a failure after a reading is one of both
+pub fails_later : (old mid new : HomeView) (spot : Spot) → old.faults ≤ mid.faults → HasFailed spot mid new → HasFailed spot old new
+fails_later old mid new spot count failed = record { count = omega (arith, count, failed.count); named = failed.named }

@@ -1,13 +1,12 @@
 -- Logs that are opened, and the files of logs that stand.
 use Rattle.std.proofs.Common.{◌≡◌, ◌⊎◌, ℕ, List, [], ◌∷◌, refl, sym, ap, subst, ◌∙◌, inl, inr}
-use Rattle.std.specs.Prelude.{reverse, length, ◌≤◌, Option, option_map}
+use Rattle.std.specs.Prelude.{reverse, length, ◌≤◌, option_map}
 use Rattle.std.proofs.lemmas.List.{reverse-reverse}
 use Rattle.co_base.specs.Nodes.{IsValidNode}
 use Rattle.co_base.specs.declared.node.Node.{Node}
 use Rattle.co_disk.specs.DiskModel.{read_of}
 use Rattle.co_disk.specs.DiskView.{DiskView}
-use Rattle.co_outside.specs.Home.{HomeView, File, Agrees}
-use Rattle.co_outside.specs.declared.spot.Spot.{Spot}
+use Rattle.co_outside.specs.Home.{HomeView, Agrees}
 use Rattle.co_frame.specs.LogText.{most_log_bytes}
 use Rattle.co_record.specs.Format.{newest}
 use Rattle.co_frame.specs.Gate.{begins_closed}

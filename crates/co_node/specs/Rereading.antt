@@ -1,7 +1,7 @@
 -- How the files of a node are read again, by the answer.
-use Rattle.std.specs.Prelude.{ℕ, ◌≡◌, List, Option, Result, Ok, Err}
+use Rattle.std.specs.Prelude.{ℕ, ◌≡◌, List, Result, Ok, Err}
 use Rattle.co_outside.specs.declared.spot.Spot.{Spot}
-use Rattle.co_outside.specs.Home.{HomeView, File, HasFailed}
+use Rattle.co_outside.specs.Home.{HomeView, HasFailed}
 use Rattle.co_log.specs.LogView.{LogView}
 use Rattle.co_log.specs.Rereading.{IsOfReattach, AreReread}
 use Rattle.co_log.specs.declared.fault.LogFault.TheVariants as log

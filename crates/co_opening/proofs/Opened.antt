@@ -67,7 +67,7 @@ kept_nodes takes stands_for home head found_member found_coord these those ms cs
 
 -- ---- the logs of one sort, while those of the other are made
 
-pub coords_left : (old new : HomeView) (logs : List LogView) → length logs ≤ 8 → ((c : ℕ) → IsValidNode (Coord c) → NodeStays (Coord c) old new) → AreOwnLogs old.file reach Coord 0 logs → AreOwnLogs new Coord 0 logs
+pub coords_left : (old new : HomeView) (logs : List LogView) → length logs ≤ 8 → ((c : ℕ) → IsValidNode (Coord c) → NodeStays (Coord c) old new) → AreOwnLogs old Coord 0 logs → AreOwnLogs new Coord 0 logs
 coords_left old new logs few left kept = own_all_stay Coord 0 old new logs (λ q low high. left (suc q) (omega arith, omega (arith, high, few))) kept
 
 pub own_members_stay : {E : Type 0} (old new : HomeView) (these : List (MemberOn E)) → length these ≤ 16 → ((m : ℕ) → IsValidNode (Member m) → NodeStays (Member m) old new)

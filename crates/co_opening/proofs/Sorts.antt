@@ -47,19 +47,19 @@ module _ (sort : Sort) (place count : ℕ) (h : place < count) (most : count ≤
   valid : IsValidNode this
   valid = subst IsValidNode (sym is) (node_valid sort place count h most)
 
-  pub others_on : (file mid after : Spot → Option File) (reach between further : Spot → ℕ) → OthersLeft sort file mid reach between → OtherFilesStay this mid after between further → OthersLeft sort file after reach further
-  others_on file mid after reach between further left stay = λ n own out.
-      stays_on n file mid after reach between further (left n own out) (stays_elsewhere this n mid after between further valid own (λ e. out (suc place) (e ∙ is)) stay)
+  pub others_on : (old mid new : HomeView) → OthersLeft sort old mid → OtherFilesStay this mid new → OthersLeft sort old new
+  others_on old mid new left stay = λ n own out.
+      stays_on n old mid new (left n own out) (stays_elsewhere this n mid new valid own (λ e. out (suc place) (e ∙ is)) stay)
 
-  pub kept_on : (mid after : Spot → Option File) (between further : Spot → ℕ) (logs more : List LogView) (log : LogView) → more ≡ logs ++ log ∷ [] → length logs ≡ place → AreOwnLogs mid between (node_in sort) 0 logs
-      → OtherFilesStay this mid after between further → IsOwnLog after further this log → AreOwnLogs after further (node_in sort) 0 more
-  kept_on mid after between further logs more log pushed many kept stay own =
-      let all : AreOwnLogs after further (node_in sort) 0 logs =
-      own_all_stay (node_in sort) 0 mid after between further logs
+  pub kept_on : (mid new : HomeView) (logs more : List LogView) (log : LogView) → more ≡ logs ++ log ∷ [] → length logs ≡ place → AreOwnLogs mid (node_in sort) 0 logs
+      → OtherFilesStay this mid new → IsOwnLog new this log → AreOwnLogs new (node_in sort) 0 more
+  kept_on mid new logs more log pushed many kept stay own =
+      let all : AreOwnLogs new (node_in sort) 0 logs =
+      own_all_stay (node_in sort) 0 mid new logs
       (λ q low high.
       let below : q < place = omega (arith, high, many) in
-      stays_elsewhere this (node_in sort (suc q)) mid after between further valid (node_valid sort q count (omega (arith, below, h)) most) (λ e. nodes_apart sort (suc q) (suc place) (λ same. omega (arith, same, below)) (e ∙ is)) stay) kept in
-      subst (AreOwnLogs after further (node_in sort) 0) (sym pushed) (all_from_next (λ q l. IsOwnLog after further (node_in sort (suc q)) l) logs place log many all (subst (λ n. IsOwnLog after further n log) is own))
+      stays_elsewhere this (node_in sort (suc q)) mid new valid (node_valid sort q count (omega (arith, below, h)) most) (λ e. nodes_apart sort (suc q) (suc place) (λ same. omega (arith, same, below)) (e ∙ is)) stay) kept in
+      subst (AreOwnLogs new (node_in sort) 0) (sym pushed) (all_from_next (λ q l. IsOwnLog new (node_in sort (suc q)) l) logs place log many all (subst (λ n. IsOwnLog new n log) is own))
 
   pub attached_on : (file mid : Spot → Option File) (resume : Bool) (logs more : List LogView) (log : LogView) → more ≡ logs ++ log ∷ [] → ((s : Spot) → mid s ≡ file s) → EachPair (IsAttachedTo file resume) (nodes_in sort place) logs → IsAttachedTo mid resume this log
       → EachPair (IsAttachedTo file resume) (nodes_in sort (place + 1)) more
@@ -83,6 +83,6 @@ pub sorts_apart : (c m : ℕ) → Coord c ≢ Member m
 sorts_apart c m e = absurd (let h : Coord c ≡ Member m = e in cc)
 
 -- members are left while the logs of coordinators are attached
-pub members_left : (old new : HomeView) (logs : List LogView) → length logs ≤ 16 → OthersLeft Coords old new → AreOwnLogs old.file reach Member 0 logs → AreOwnLogs new Member 0 logs
+pub members_left : (old new : HomeView) (logs : List LogView) → length logs ≤ 16 → OthersLeft Coords old new → AreOwnLogs old Member 0 logs → AreOwnLogs new Member 0 logs
 members_left old new logs few left kept =
     own_all_stay Member 0 old new logs (λ q low high. left (Member (suc q)) (omega arith, omega (arith, high, few)) (λ p. apart_sorts (suc q) p)) kept

@@ -25,16 +25,16 @@ stays_elsewhere this that old new one two other stay = record {
   reach_b = stay.reaches (spot_of that 1) (elsewhere this that 1 0 one two other) (elsewhere this that 1 1 one two other);
 }
 
-pub stays_on : (node : Node) (file mid after : Spot → Option File) (reach between further : Spot → ℕ) → NodeStays node file mid reach between → NodeStays node mid after between further → NodeStays node file after reach further
-stays_on node file mid after reach between further one two = record {
+pub stays_on : (node : Node) (old mid new : HomeView) → NodeStays node old mid → NodeStays node mid new → NodeStays node old new
+stays_on node old mid new one two = record {
   file_a = two.file_a ∙ one.file_a;
   file_b = two.file_b ∙ one.file_b;
   reach_a = two.reach_a ∙ one.reach_a;
   reach_b = two.reach_b ∙ one.reach_b;
 }
 
-agrees_on : (file after : Option File) (reach further : ℕ) (bytes : List ℕ) → after ≡ file → further ≡ reach → Agrees file reach bytes → Agrees after further bytes
-agrees_on file after reach further bytes same still agrees = record { told = λ f is. agrees.told f (sym same ∙ is); room = omega (arith, agrees.room, still) }
+agrees_on : (file after : Option File) (reach further : ℕ) (bytes : List ℕ) → after ≡ file → further ≡ reach → Agrees file reach bytes → Agrees new bytes
+agrees_on old new bytes same still agrees = record { told = λ f is. agrees.told f (sym same ∙ is); room = omega (arith, agrees.room, still) }
 
 -- what is so at both files of a node is so at each file of its log
 at_each : (Stays : Spot → Type 0) (log : LogView) → HasSpots log → Stays (spot_of log.node 0) → Stays (spot_of log.node 1) → Stays log.current.spot × Stays log.spare.spot
@@ -52,8 +52,8 @@ own_stays node old new log stay own =
       kept = record {
         held = record {
           spots = spots;
-          current = agrees_on (old.file log.current.spot) (new.file log.current.spot) (old.reach log.current.spot) (new.reach log.current.spot) _ files.0 reaches.0 own.kept.held.current;
-          spare = agrees_on (old.file log.spare.spot) (new.file log.spare.spot) (old.reach log.spare.spot) (new.reach log.spare.spot) _ files.1 reaches.1 own.kept.held.spare;
+          current = agrees_on old new log.current.spot _ files.0 reaches.0 own.kept.held.current;
+          spare = agrees_on old new log.spare.spot _ files.1 reaches.1 own.kept.held.spare;
         };
         within = record {
           a = subst (IsWithin most_log_bytes) (sym stay.file_a) own.kept.within.a;

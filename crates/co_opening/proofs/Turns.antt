@@ -16,8 +16,8 @@ use Rattle.co_opening.proofs.From.{all_from_map, all_from_next, both_next}
 use Rattle.co_opening.proofs.Sorts.{next_of, number_valid, nodes_apart}
 use Rattle.co_opening.proofs.Stays.{stays_elsewhere, stays_on, own_stays, own_all_stay}
 
-pub leaves : (this that : Node) (file mid after : Spot → Option File) (reach between further : Spot → ℕ) → IsValidNode this → IsValidNode that → that ≢ this → NodeStays that file mid reach between → OtherFilesStay this mid after between further → NodeStays that file after reach further
-leaves this that file mid after reach between further one two other left stay = stays_on that file mid after reach between further left (stays_elsewhere this that mid after between further one two other stay)
+pub leaves : (this that : Node) (old mid new : HomeView) → IsValidNode this → IsValidNode that → that ≢ this → NodeStays that old mid → OtherFilesStay this mid new → NodeStays that old new
+leaves this that old mid new one two other left stay = stays_on that old mid new left (stays_elsewhere this that mid new one two other stay)
 
 pub one_less : {A : Type 0} (place n : ℕ) (old new : List A) (x : A) → old ≡ x ∷ new → place + length old ≡ n → place + 1 + length new ≡ n
 one_less place n old new x is many = let e : length old ≡ suc (length new) = ap length is in omega (arith, e, many)
@@ -37,24 +37,24 @@ pub marks_on : (headers : ℕ → List Mark) (here before mid after : List Mark)
 marks_on headers here before mid after place next two one =
     two ∙ ap (λ (ms : List Mark). ms ++ here) one ∙ append_assoc before (headers place) here ∙ ap (λ (ms : List Mark). before ++ ms) (sym next) ∙ ap (λ n. before ++ headers n) (sym (next_of place))
 
-module _ (sort : Sort) (place : ℕ) (few : suc place ≤ most_in sort) (old new : HomeView) (stay : OtherFilesStay (node_in sort (suc place)) old new) where
+module _ (sort : Sort) (place : ℕ) (few : suc place ≤ most_in sort) (before after : HomeView) (stay : OtherFilesStay (node_in sort (suc place)) before after) where
   -- another node of the sort is left
-  other_stays : (q : ℕ) → suc q ≤ most_in sort → (q ≡ place → ⊥) → NodeStays (node_in sort (suc q)) old new
+  other_stays : (q : ℕ) → suc q ≤ most_in sort → (q ≡ place → ⊥) → NodeStays (node_in sort (suc q)) before after
   other_stays q below other =
-      stays_elsewhere (node_in sort (suc place)) (node_in sort (suc q)) old new (number_valid sort place few) (number_valid sort q below) (nodes_apart sort (suc q) (suc place) (λ same. other (omega (arith, same)))) stay
+      stays_elsewhere (node_in sort (suc place)) (node_in sort (suc q)) before after (number_valid sort place few) (number_valid sort q below) (nodes_apart sort (suc q) (suc place) (λ same. other (omega (arith, same)))) stay
 
   -- the logs of those that are not opened yet
-  pub to_keep_on : (old new : List LogView) (log : LogView) → old ≡ log ∷ new → place + length old ≤ most_in sort → AreOwnLogs old (node_in sort) place old → AreOwnLogs new (node_in sort) (place + 1) new
+  pub to_keep_on : (old new : List LogView) (log : LogView) → old ≡ log ∷ new → place + length old ≤ most_in sort → AreOwnLogs before (node_in sort) place old → AreOwnLogs after (node_in sort) (place + 1) new
   to_keep_on old new log is many kept =
-      let two : AreOwnLogs old (node_in sort) (suc place) new = (subst (AreOwnLogs old (node_in sort) place) is kept).1 in
+      let two : AreOwnLogs before (node_in sort) (suc place) new = (subst (AreOwnLogs before (node_in sort) place) is kept).1 in
       let e : length old ≡ suc (length new) = ap length is in
-      subst (λ n. AreOwnLogs new (node_in sort) n new) (sym (next_of place))
-      (own_all_stay (node_in sort) (suc place) old new new (λ q low high. other_stays q (omega (arith, high, e, many)) (λ same. omega (arith, low, same))) two)
+      subst (λ n. AreOwnLogs after (node_in sort) n new) (sym (next_of place))
+      (own_all_stay (node_in sort) (suc place) before after new (λ q low high. other_stays q (omega (arith, high, e, many)) (λ same. omega (arith, low, same))) two)
 
   -- and of those that are, with one more
-  pub kept_on : {N : Type 0} (log_of : N → LogView) (nodes more : List N) (n : N) → more ≡ nodes ++ n ∷ [] → length nodes ≡ place → AllFrom (λ q x. IsOwnLog old (node_in sort (suc q)) (log_of x)) 0 nodes
-      → IsOwnLog new (node_in sort (suc place)) (log_of n) → AllFrom (λ q x. IsOwnLog new (node_in sort (suc q)) (log_of x)) 0 more
+  pub kept_on : {N : Type 0} (log_of : N → LogView) (nodes more : List N) (n : N) → more ≡ nodes ++ n ∷ [] → length nodes ≡ place → AllFrom (λ q x. IsOwnLog before (node_in sort (suc q)) (log_of x)) 0 nodes
+      → IsOwnLog after (node_in sort (suc place)) (log_of n) → AllFrom (λ q x. IsOwnLog after (node_in sort (suc q)) (log_of x)) 0 more
   kept_on log_of nodes more n pushed many kept own =
-      all_on (λ q x. IsOwnLog new (node_in sort (suc q)) (log_of x)) place nodes more n pushed many
-      (all_from_map (λ q x. IsOwnLog old (node_in sort (suc q)) (log_of x)) (λ q x. IsOwnLog new (node_in sort (suc q)) (log_of x)) 0 nodes
-      (λ q x low high was. own_stays (node_in sort (suc q)) old new (log_of x) (other_stays q (omega (arith, high, many, few)) (λ same. omega (arith, same, high, many))) was) kept) own
+      all_on (λ q x. IsOwnLog after (node_in sort (suc q)) (log_of x)) place nodes more n pushed many
+      (all_from_map (λ q x. IsOwnLog before (node_in sort (suc q)) (log_of x)) (λ q x. IsOwnLog after (node_in sort (suc q)) (log_of x)) 0 nodes
+      (λ q x low high was. own_stays (node_in sort (suc q)) before after (log_of x) (other_stays q (omega (arith, high, many, few)) (λ same. omega (arith, same, high, many))) was) kept) own

@@ -20,5 +20,5 @@ pub record IsOwnLog (home : HomeView) (node : Node) (log : LogView) : Type 0 whe
   pub kept : IsKept home node log
 
 -- so it is of logs of one sort of nodes, the first of which has the number behind this one
-abbrev pub AreOwnLogs : (Spot → Option File) → (Spot → ℕ) → (ℕ → Node) → ℕ → List LogView → Type 0
-AreOwnLogs file reach node p logs = AllFrom (λ q log. IsOwnLog file reach (node (suc q)) log) p logs
+abbrev pub AreOwnLogs : HomeView → (ℕ → Node) → ℕ → List LogView → Type 0
+AreOwnLogs home node p logs = AllFrom (λ q log. IsOwnLog home (node (suc q)) log) p logs

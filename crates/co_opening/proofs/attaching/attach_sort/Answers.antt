@@ -17,13 +17,13 @@ returns-in_err-log-clause-unattached g c =
 pub returns-in_err-log-clause-others : goal.returns-in_err-log-clause-others
 returns-in_err-log-clause-others g c =
     others_on c.args.sort c.loop-place.place c.args.count c.loop-place-test.true c.requires c.node.result c.node.ensures
-    (g.H.Home.seen c.args.home.now).file (g.H.Home.seen c.loop-place.home).file (g.H.Home.seen c.attach_log.new.home).file (g.H.Home.seen c.args.home.now).reach (g.H.Home.seen c.loop-place.home).reach (g.H.Home.seen c.attach_log.new.home).reach
+    (g.H.Home.seen c.args.home.now) (g.H.Home.seen c.loop-place.home) (g.H.Home.seen c.attach_log.new.home)
     c.loop-place.invariant.others c.attach_log.ensures.others
 
 pub returns-in_err-push-clause-others : goal.returns-in_err-push-clause-others
 returns-in_err-push-clause-others g c =
     others_on c.args.sort c.loop-place.place c.args.count c.loop-place-test.true c.requires c.node.result c.node.ensures
-    (g.H.Home.seen c.args.home.now).file (g.H.Home.seen c.loop-place.home).file (g.H.Home.seen c.attach_log.new.home).file (g.H.Home.seen c.args.home.now).reach (g.H.Home.seen c.loop-place.home).reach (g.H.Home.seen c.attach_log.new.home).reach
+    (g.H.Home.seen c.args.home.now) (g.H.Home.seen c.loop-place.home) (g.H.Home.seen c.attach_log.new.home)
     c.loop-place.invariant.others c.attach_log.ensures.others
 
 pub loop-place-preserved : goal.loop-place-preserved
@@ -38,7 +38,7 @@ loop-place-preserved g c =
           c.loop-place.logs.items c.push.new.self.items c.in_ok-log.log c.in_ok-push.ensures.items i.many i.kept c.attach_log.ensures.others c.in_ok-log.ensures.kept;
       reads = reads_on (g.H.Home.seen c.args.home.now) (g.H.Home.seen c.loop-place.home) (g.H.Home.seen c.attach_log.new.home) i.reads c.attach_log.ensures.reads;
       others = others_on c.args.sort c.loop-place.place c.args.count c.loop-place-test.true c.requires c.node.result c.node.ensures
-          (g.H.Home.seen c.args.home.now).file (g.H.Home.seen c.loop-place.home).file (g.H.Home.seen c.attach_log.new.home).file (g.H.Home.seen c.args.home.now).reach (g.H.Home.seen c.loop-place.home).reach (g.H.Home.seen c.attach_log.new.home).reach
+          (g.H.Home.seen c.args.home.now) (g.H.Home.seen c.loop-place.home) (g.H.Home.seen c.attach_log.new.home)
           i.others c.attach_log.ensures.others;
       quiet = search rules;
     }

@@ -11,12 +11,12 @@ use Rattle.co_opening.proofs.coords.open_coords.Goals as goal
 
 pub returns-in_err-coord-clause-others : goal.returns-in_err-coord-clause-others
 returns-in_err-coord-clause-others g c = λ k own.
-    leaves (Coord (suc c.loop-log.place)) (Member k) (g.H.Home.seen c.args.home.now).file (g.H.Home.seen c.loop-log.home).file (g.H.Home.seen c.open_coord.new.home).file (g.H.Home.seen c.args.home.now).reach (g.H.Home.seen c.loop-log.home).reach (g.H.Home.seen c.open_coord.new.home).reach
+    leaves (Coord (suc c.loop-log.place)) (Member k) (g.H.Home.seen c.args.home.now) (g.H.Home.seen c.loop-log.home) (g.H.Home.seen c.open_coord.new.home)
     (number_valid Coords c.loop-log.place (place_below c.loop-log.place (length c.args.logs.items) 8 c.loop-log.log-iterator.rest.items c.next.new.self.rest.items c.in-Some.log c.in-Some.ensures.steps.0 c.loop-log.invariant.left c.requires.few)) own (λ e. apart_sorts k (suc c.loop-log.place) e) (c.loop-log.invariant.others k own) c.open_coord.ensures.rest.others
 
 pub returns-in_err-push-clause-others : goal.returns-in_err-push-clause-others
 returns-in_err-push-clause-others g c = λ k own.
-    leaves (Coord (suc c.loop-log.place)) (Member k) (g.H.Home.seen c.args.home.now).file (g.H.Home.seen c.loop-log.home).file (g.H.Home.seen c.open_coord.new.home).file (g.H.Home.seen c.args.home.now).reach (g.H.Home.seen c.loop-log.home).reach (g.H.Home.seen c.open_coord.new.home).reach
+    leaves (Coord (suc c.loop-log.place)) (Member k) (g.H.Home.seen c.args.home.now) (g.H.Home.seen c.loop-log.home) (g.H.Home.seen c.open_coord.new.home)
     (number_valid Coords c.loop-log.place (place_below c.loop-log.place (length c.args.logs.items) 8 c.loop-log.log-iterator.rest.items c.next.new.self.rest.items c.in-Some.log c.in-Some.ensures.steps.0 c.loop-log.invariant.left c.requires.few)) own (λ e. apart_sorts k (suc c.loop-log.place) e) (c.loop-log.invariant.others k own) c.open_coord.ensures.rest.others
 
 pub loop-log-preserved : goal.loop-log-preserved
@@ -39,7 +39,7 @@ loop-log-preserved g c =
           c.loop-log.invariant.done i.kept c.in_ok-coord.ensures.kept;
       clean = λ s was. c.in_ok-coord.ensures.clean s (c.loop-log.invariant.clean s was);
       others = λ k own.
-          leaves (Coord (suc c.loop-log.place)) (Member k) (g.H.Home.seen c.args.home.now).file (g.H.Home.seen c.loop-log.home).file (g.H.Home.seen c.open_coord.new.home).file (g.H.Home.seen c.args.home.now).reach (g.H.Home.seen c.loop-log.home).reach (g.H.Home.seen c.open_coord.new.home).reach
+          leaves (Coord (suc c.loop-log.place)) (Member k) (g.H.Home.seen c.args.home.now) (g.H.Home.seen c.loop-log.home) (g.H.Home.seen c.open_coord.new.home)
           (number_valid Coords c.loop-log.place (place_below c.loop-log.place (length c.args.logs.items) 8 c.loop-log.log-iterator.rest.items c.next.new.self.rest.items c.in-Some.log c.in-Some.ensures.steps.0 c.loop-log.invariant.left c.requires.few)) own (λ e. apart_sorts k (suc c.loop-log.place) e) (c.loop-log.invariant.others k own) c.open_coord.ensures.rest.others;
       entered = c.open_coord.ensures.rest.directory ∙ c.loop-log.invariant.entered;
       quiet = search rules;

@@ -33,12 +33,12 @@ returns-clause-marks g c = λ found f.
 
 pub returns-in_err-member-clause-others : goal.returns-in_err-member-clause-others
 returns-in_err-member-clause-others g c = λ k own.
-    leaves (Member (suc c.loop-log.place)) (Coord k) (g.H.Home.seen c.args.home.now).file (g.H.Home.seen c.loop-log.home).file (g.H.Home.seen c.open_member.new.home).file (g.H.Home.seen c.args.home.now).reach (g.H.Home.seen c.loop-log.home).reach (g.H.Home.seen c.open_member.new.home).reach
+    leaves (Member (suc c.loop-log.place)) (Coord k) (g.H.Home.seen c.args.home.now) (g.H.Home.seen c.loop-log.home) (g.H.Home.seen c.open_member.new.home)
     (number_valid Members c.loop-log.place (place_below c.loop-log.place (length c.args.kinds.now) 16 c.loop-log.log-iterator.rest.items c.next.new.self.rest.items c.in-Some.log c.in-Some.ensures.steps.0 c.loop-log.invariant.left c.requires.few)) own (λ e. sorts_apart k (suc c.loop-log.place) e) (c.loop-log.invariant.others k own) c.open_member.ensures.rest.others
 
 pub returns-in_err-push-clause-others : goal.returns-in_err-push-clause-others
 returns-in_err-push-clause-others g c = λ k own.
-    leaves (Member (suc c.loop-log.place)) (Coord k) (g.H.Home.seen c.args.home.now).file (g.H.Home.seen c.loop-log.home).file (g.H.Home.seen c.open_member.new.home).file (g.H.Home.seen c.args.home.now).reach (g.H.Home.seen c.loop-log.home).reach (g.H.Home.seen c.open_member.new.home).reach
+    leaves (Member (suc c.loop-log.place)) (Coord k) (g.H.Home.seen c.args.home.now) (g.H.Home.seen c.loop-log.home) (g.H.Home.seen c.open_member.new.home)
     (number_valid Members c.loop-log.place (place_below c.loop-log.place (length c.args.kinds.now) 16 c.loop-log.log-iterator.rest.items c.next.new.self.rest.items c.in-Some.log c.in-Some.ensures.steps.0 c.loop-log.invariant.left c.requires.few)) own (λ e. sorts_apart k (suc c.loop-log.place) e) (c.loop-log.invariant.others k own) c.open_member.ensures.rest.others
 
 pub loop-log-preserved : goal.loop-log-preserved
@@ -61,7 +61,7 @@ loop-log-preserved g c =
           c.loop-log.invariant.done i.kept c.in_ok-member.ensures.kept;
       clean = λ s was. c.in_ok-member.ensures.clean s (c.loop-log.invariant.clean s was);
       others = λ k own.
-          leaves (Member (suc c.loop-log.place)) (Coord k) (g.H.Home.seen c.args.home.now).file (g.H.Home.seen c.loop-log.home).file (g.H.Home.seen c.open_member.new.home).file (g.H.Home.seen c.args.home.now).reach (g.H.Home.seen c.loop-log.home).reach (g.H.Home.seen c.open_member.new.home).reach
+          leaves (Member (suc c.loop-log.place)) (Coord k) (g.H.Home.seen c.args.home.now) (g.H.Home.seen c.loop-log.home) (g.H.Home.seen c.open_member.new.home)
           (number_valid Members c.loop-log.place (place_below c.loop-log.place (length c.args.kinds.now) 16 c.loop-log.log-iterator.rest.items c.next.new.self.rest.items c.in-Some.log c.in-Some.ensures.steps.0 c.loop-log.invariant.left c.requires.few)) own (λ e. sorts_apart k (suc c.loop-log.place) e) (c.loop-log.invariant.others k own) c.open_member.ensures.rest.others;
       entered = c.open_member.ensures.rest.directory ∙ c.loop-log.invariant.entered;
       quiet = search rules;
