@@ -19,7 +19,7 @@ pub ready_waiting : (home : HomeView) (log after : LogView) (waiting : List Reco
 ready_waiting home log after waiting stop is ready =
     ready_same home log after ready (ap (λ (l : LogView). l.node) is) (ap (λ (l : LogView). l.version) is) (ap (λ (l : LogView). l.current) is) (ap (λ (l : LogView). l.spare) is) (ap (λ (l : LogView). l.gate) is) (ap (λ (l : LogView). l.generation) is)
 
--- its current home.file has records
+-- its current file has records
 pub ready_records : (home : HomeView) (log : LogView) → IsReady home log → (items : List (ℕ × Record)) × HasRecords (read_of log.current.state) items
 ready_records home log ready =
     (ready.items, subst (λ (b : List ℕ). HasRecords b ready.items) (sym (read_stable log.current.state ready.ordered.live.still)) (begun_records log.version log.node log.generation log.current.state.stable log.gate ready.items ready.ordered.live.known ready.ordered.header ready.ordered.live.ends))

@@ -100,15 +100,15 @@ ended_as (world.Old spot) old new other h = h
 ended_as world.Memory old new other h = h
 
 -- so what differs was not told
-pub untold_for : (fault : WorldFault) (old : HomeView) (new : HomeView) → HasEndedAs fault (seen old) new → IsUntoldFor file fault
-untold_for (world.Device spot) old new h = tt
-untold_for (world.Differs spot at kept read) old new h = (old, h.1, h.2)
-untold_for (world.InUse spot) old new h = tt
-untold_for (world.Bad spot at) old new h = tt
-untold_for (world.Full spot) old new h = tt
-untold_for world.Count old new h = tt
-untold_for (world.Old spot) old new h = tt
-untold_for world.Memory old new h = tt
+pub untold_for : {H : Type 0} (seen : H → HomeView) (fault : WorldFault) (old : H) (new : HomeView) → HasEndedAs fault (seen old) new → IsUntoldFor seen fault
+untold_for seen (world.Device spot) old new h = tt
+untold_for seen (world.Differs spot at kept read) old new h = (old, h.1, h.2)
+untold_for seen (world.InUse spot) old new h = tt
+untold_for seen (world.Bad spot at) old new h = tt
+untold_for seen (world.Full spot) old new h = tt
+untold_for seen world.Count old new h = tt
+untold_for seen (world.Old spot) old new h = tt
+untold_for seen world.Memory old new h = tt
 
 -- ---- one event
 

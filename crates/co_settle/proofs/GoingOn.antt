@@ -119,9 +119,9 @@ module _ {E : Type 0} (takes : Kind → Type 0) (stands_for : E → EngineState 
 
   -- a turn that was taken
   pub turned : {old : Option Numbers} (candidates : Option Numbers) (number : ℕ) (told next : Told) (before steps after : Steps) (w x : World E) (turns : ℕ) (going : IsGoing takes stands_for s number told before steps w old turns) (file : Spot → Option File) →
-      SomethingOpen (run (lines going.events) (disarmed s)) → TakesTurn takes stands_for (run (lines going.events) (disarmed s)) told next steps after x home.file (Ok tt) →
+      SomethingOpen (run (lines going.events) (disarmed s)) → TakesTurn takes stands_for (run (lines going.events) (disarmed s)) told next steps after x file (Ok tt) →
       AreKnown (run (lines going.events) (disarmed s)) candidates → IsGoing takes stands_for s number next before after x candidates (suc turns)
-  turned candidates number told next before steps after w x turns going home.file some taken known =
+  turned candidates number told next before steps after w x turns going file some taken known =
       let z = run (lines going.events) (disarmed s) in
       let es = turn_events z taken.0 in
       record {
@@ -135,14 +135,14 @@ module _ {E : Type 0} (takes : Kind → Type 0) (stands_for : E → EngineState 
 
   -- a turn that a fault cut short
   pub cut_turn : {candidates : Option Numbers} (number : ℕ) (told next : Told) (before steps after : Steps) (w x : World E) (turns : ℕ) (going : IsGoing takes stands_for s number told before steps w candidates turns) (file : Spot → Option File) (fault : WorldFault) →
-      SomethingOpen (run (lines going.events) (disarmed s)) → TakesTurn takes stands_for (run (lines going.events) (disarmed s)) told next steps after x home.file (Err fault) → IsCutShort s home.file fault
-  cut_turn number told next before steps after w x turns going home.file fault some taken =
+      SomethingOpen (run (lines going.events) (disarmed s)) → TakesTurn takes stands_for (run (lines going.events) (disarmed s)) told next steps after x file (Err fault) → IsCutShort s file fault
+  cut_turn number told next before steps after w x turns going file fault some taken =
       let z = run (lines going.events) (disarmed s) in
       let es = turn_events z taken.0 in
       record {
         events = going.events ++ es;
         settling = goes_on s going.events taken.0 going.settling some taken.1;
-        cut = cut_later going.events es (disarmed s) home.file fault taken.2;
+        cut = cut_later going.events es (disarmed s) file fault taken.2;
       }
 
   -- a fault between two turns
@@ -168,9 +168,9 @@ module _ {E : Type 0} (takes : Kind → Type 0) (stands_for : E → EngineState 
         stands = going.done.stands;
       }
 
-  pub cut_as : (number before : ℕ) (w : World E) (after : ℕ) (file : Spot → Option File) (result : Result (List Item) WorldFault) → (fault : WorldFault) → IsErr result × IsErrAnd result (λ f. f ≡ fault) → IsCutShort s home.file fault → SettlesAs takes stands_for s number before w after home.file result
-  cut_as number before w after home.file (Ok items) fault is h = absurd (let z : false ≡ true = is.0 in cc)
-  cut_as number before w after home.file (Err f) fault is h = subst (IsCutShort s file) (sym is.1) h
+  pub cut_as : (number before : ℕ) (w : World E) (after : ℕ) (file : Spot → Option File) (result : Result (List Item) WorldFault) → (fault : WorldFault) → IsErr result × IsErrAnd result (λ f. f ≡ fault) → IsCutShort s file fault → SettlesAs takes stands_for s number before w after file result
+  cut_as number before w after file (Ok items) fault is h = absurd (let z : false ≡ true = is.0 in cc)
+  cut_as number before w after file (Err f) fault is h = subst (IsCutShort s file) (sym is.1) h
 
 -- ---- the directory
 

@@ -48,9 +48,9 @@ HasEnded (world.Old spot) old new = ⊥
 HasEnded world.Memory old new = new.faults ≡ old.faults
 
 -- where a file differs from what is kept of it, the directory did not tell it when it was read again
-abbrev pub IsUntoldFor : WorldFault → Type 0
-IsUntoldFor {H = H} file (world.Differs spot at kept read) = (home : HomeView) × (home.file spot ≡ None) × (spot.part < 2)
-IsUntoldFor file _ = Unit {0}
+abbrev pub IsUntoldFor : {H : Type 0} → (H → HomeView) → WorldFault → Type 0
+IsUntoldFor {H = H} seen (world.Differs spot at kept read) = (home : H) × ((seen home).file spot ≡ None) × (spot.part < 2)
+IsUntoldFor seen _ = Unit {0}
 
 -- how a call leaves the directory, by its answer
 abbrev pub EndsAs : {A E : Type 0} → World E → HomeView → HomeView → Result A WorldFault → Type 0

@@ -73,7 +73,7 @@ fn pass_on<E: Engine + Drop, H: Home>(
     ensures did { (s : Federation) → RepresentsWorld E.takes E.stands_for world.old s → IsReached s →
         DoesAll E.takes E.stands_for s (passed sent) told.old told.new steps.old steps.new world.new (H.seen home.new).file (λ note. note ≡ next_note want member s sent) result }
     ensures ended { EndsAs world.new (H.seen home.old) (H.seen home.new) result }
-    ensures untold { IfErr result (IsUntoldFor) }
+    ensures untold { IfErr result (IsUntoldFor H.seen) }
     ensures entered { (H.seen home.new).entered ≡ (H.seen home.old).entered }
 {
     match sent {
@@ -100,7 +100,7 @@ pub(crate) fn do_exchange<E: Engine + Drop, H: Home>(
     ensures did { (s : Federation) → RepresentsWorld E.takes E.stands_for world.old s → IsReached s → IsEnabled s (exchange_of exchange) →
         DoesAll E.takes E.stands_for s (turn_events s (Exchanges (exchange_of exchange))) told.old told.new steps.old steps.new world.new (H.seen home.new).file (λ u. Unit {0}) result }
     ensures ended { EndsAs world.new (H.seen home.old) (H.seen home.new) result }
-    ensures untold { IfErr result (IsUntoldFor) }
+    ensures untold { IfErr result (IsUntoldFor H.seen) }
     ensures entered { (H.seen home.new).entered ≡ (H.seen home.old).entered }
 {
     let Exchange {

@@ -44,7 +44,7 @@ pub fn settle<E: Engine + Drop, H: Home>(
     ensures settled { (s : Federation) → RepresentsWorld E.takes E.stands_for world.old s → IsReached s → open_count s ≤ 65536 →
         SettlesAs E.takes E.stands_for s number steps.old.count world.new steps.new.count (H.seen home.new).file result }
     ensures ended { EndsAs world.new (H.seen home.old) (H.seen home.new) result }
-    ensures untold { IfErr result (IsUntoldFor) }
+    ensures untold { IfErr result (IsUntoldFor H.seen) }
     ensures entered { (H.seen home.new).entered ≡ (H.seen home.old).entered }
 {
     world.disarm();

@@ -74,7 +74,7 @@ pub(crate) fn take_step<E: Engine + Drop, H: Home>(
     ensures did { (s : Federation) → RepresentsWorld E.takes E.stands_for world.old s → IsReady s →
         DoesAll E.takes E.stands_for s (event ∷ []) told.old told.new steps.old steps.new world.new (H.seen home.new).file (λ note. note ≡ note_in (wanted_by want member) (step_line s event).items) result }
     ensures ended { EndsAs world.new (H.seen home.old) (H.seen home.new) result }
-    ensures untold { IfErr result (IsUntoldFor) }
+    ensures untold { IfErr result (IsUntoldFor H.seen) }
     ensures entered { (H.seen home.new).entered ≡ (H.seen home.old).entered }
 {
     match world.step(home, told.number + 1, &event) {

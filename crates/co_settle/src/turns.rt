@@ -35,7 +35,7 @@ pub(crate) fn take_turn<E: Engine + Drop, H: Home>(
         TakesTurn E.takes E.stands_for s told.old told.new steps.old steps.new world.new (H.seen home.new).file result }
     ensures busy { (s : Federation) → RepresentsWorld E.takes E.stands_for world.old s → IsReached s → AreKnown s candidates.old.numbers → AreKnown s candidates.new.numbers }
     ensures ended { EndsAs world.new (H.seen home.old) (H.seen home.new) result }
-    ensures untold { IfErr result (IsUntoldFor) }
+    ensures untold { IfErr result (IsUntoldFor H.seen) }
     ensures entered { (H.seen home.new).entered ≡ (H.seen home.old).entered }
 {
     if let Some(node) = world.first_down() {

@@ -46,15 +46,15 @@ settling_fault (Ok a) fault before old new is same h never = absurd (let z : fal
 settling_fault (Err f) fault before old new is same h never = subst (λ g. IsFaultOf g before new.faults) (sym is.1) (subst (λ n. IsFaultOf fault n new.faults) same (settling_ends fault old new h never))
 
 -- what was not opened met no file that differs
-pub unopened_untold : (old : Spot → Option File) (head : Head) (resume : Bool) (fault : WorldFault) → IsUnopened old head resume fault → IsUntoldFor file fault
-unopened_untold old.file head resume (world.Device spot) u = tt
-unopened_untold old.file head resume (world.Differs spot at kept read) u = absurd u
-unopened_untold old.file head resume (world.InUse spot) u = tt
-unopened_untold old.file head resume (world.Bad spot at) u = tt
-unopened_untold old.file head resume (world.Full spot) u = tt
-unopened_untold old.file head resume world.Count u = tt
-unopened_untold old.file head resume (world.Old spot) u = tt
-unopened_untold old.file head resume world.Memory u = tt
+pub unopened_untold : {H : Type 0} (seen : H → HomeView) (old : Spot → Option File) (head : Head) (resume : Bool) (fault : WorldFault) → IsUnopened old head resume fault → IsUntoldFor seen fault
+unopened_untold seen old head resume (world.Device spot) u = tt
+unopened_untold seen old head resume (world.Differs spot at kept read) u = absurd u
+unopened_untold seen old head resume (world.InUse spot) u = tt
+unopened_untold seen old head resume (world.Bad spot at) u = tt
+unopened_untold seen old head resume (world.Full spot) u = tt
+unopened_untold seen old head resume world.Count u = tt
+unopened_untold seen old head resume (world.Old spot) u = tt
+unopened_untold seen old head resume world.Memory u = tt
 
 -- a directory in memory tells every file of a log
 pub told_in_memory : (home : HomeMemory) (spot : Spot) → spot.part < 2 → memory_file home spot ≡ None → ⊥

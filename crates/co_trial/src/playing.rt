@@ -58,7 +58,7 @@ fn play<E: Engine + Drop, H: Home>(
         OnOk result (HasPlayed E.takes E.stands_for s number event told.old told.new decisions.old decisions.new world.new) }
     ensures held { OnOk result (AreHeld (H.seen home.new) world.new) }
     ensures ended { Ended (H.seen home.old).faults (H.seen home.new).faults result }
-    ensures untold { IfErr result (IsUntoldFor) }
+    ensures untold { IfErr result (IsUntoldFor H.seen) }
 {
     match world.step(home, number, &event) {
         Ok(items) => {
@@ -87,7 +87,7 @@ pub(crate) fn play_all<E: Engine + Drop, H: Home>(
         OnOk result (HasGone E.takes E.stands_for o number events told.old told.new decisions.new world.new) }
     ensures held { OnOk result (AreHeld (H.seen home.new) world.new) }
     ensures ended { Ended (H.seen home.old).faults (H.seen home.new).faults result }
-    ensures untold { IfErr result (IsUntoldFor) }
+    ensures untold { IfErr result (IsUntoldFor H.seen) }
 {
     let mut maker = Maker::new(alloc, number);
     for place in 0..events {

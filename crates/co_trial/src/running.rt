@@ -44,7 +44,7 @@ fn run_events<E: Engine + Drop, H: Home>(
     requires stands { (o : Opened) × RepresentsWorld E.takes E.stands_for world.old (start_of o) × AreRun (start_of o) decisions.old (start_of o).decided × Holds256 told.old.hasher (items_text (opening_told o)) }
     ensures done { IfOk result (λ settled. (o : Opened) × IsDone E.takes E.stands_for o number events told.new decisions.new world.new settled) }
     ensures ended { Ended (H.seen home.old).faults (H.seen home.new).faults result }
-    ensures untold { IfErr result (IsUntoldFor) }
+    ensures untold { IfErr result (IsUntoldFor H.seen) }
 {
     play_all(alloc, number, events, world, home, told, decisions)?;
     let mut steps = Steps::new();
@@ -104,7 +104,7 @@ fn open<E: Engine + Drop, H: Home>(
     ensures opened { IfOk result (λ world. (o : Opened) × RepresentsWorld E.takes E.stands_for world (start_of o) × Holds256 told.new.hasher (items_text (opening_told o))) }
     ensures held { IfOk result (AreHeld (H.seen home.new)) }
     ensures ended { Ended (H.seen home.old).faults (H.seen home.new).faults result }
-    ensures untold { IfErr result (IsUntoldFor) }
+    ensures untold { IfErr result (IsUntoldFor H.seen) }
 {
     let head = trial_head(alloc)?;
     match World::<E>::attach(alloc, home, &head, false) {
@@ -129,7 +129,7 @@ fn trial_in<E: Engine + Drop, H: Home>(
     requires empty { (s : Spot) → s.part < 2 → (H.seen home.old).file s ≡ Some empty_file }
     ensures trial { IfOk result (IsTrial number events) }
     ensures ended { Ended (H.seen home.old).faults (H.seen home.new).faults result }
-    ensures untold { IfErr result (IsUntoldFor) }
+    ensures untold { IfErr result (IsUntoldFor H.seen) }
 {
     let mut told = Told::new(alloc);
     let mut decisions = Decisions::new(alloc);

@@ -77,8 +77,8 @@ plan_left w owner y log after old new out completed same stands kept answered =
     coord_left owner log.current.spot (IsTooLongFor w log) y.log.stable (stable_after w y.log) after old new out completed same answered (kept_left owner old log y.log (stable_after w y.log) stands kept)
 
 -- a restart writes nothing
-pub coord_read : {H : Type 0} (gives : H → Spot → ℕ → List ℕ → Type 0) (log : LogView) (old new : H) (up : Bool) (out : Result CoordStep NodeFault) →
-    IsRestarted up gives log old new out → IfErr out IsNotFull
-coord_read gives log old new up (Ok d) is = tt
-coord_read gives log old new true (Err e) is = let h : false ≡ true = is.0 in absurd cc
-coord_read gives log old new false (Err e) is = reread_alone gives log old new e is
+pub coord_read : {H : Type 0} (gives : H → Spot → ℕ → List ℕ → Type 0) (seen : H → HomeView) (log : LogView) (old new : H) (up : Bool) (out : Result CoordStep NodeFault) →
+    IsRestarted up gives seen log old new out → IfErr out IsNotFull
+coord_read gives seen log old new up (Ok d) is = tt
+coord_read gives seen log old new true (Err e) is = let h : false ≡ true = is.0 in absurd cc
+coord_read gives seen log old new false (Err e) is = reread_alone gives seen log old new e is

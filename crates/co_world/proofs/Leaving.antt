@@ -195,14 +195,14 @@ restart_left (Err e) owner old new log l that read stands kept current spare sta
     let same = files_stay owner log old new stands.owned kept.held.spots current spare (subst (λ (n : Node). OtherFilesStay n old new) stands.owned stay) in
     (subst (λ (f : Spot → Option File). LeftAs f owner l.stable that) (sym (λ i s. same s i)) (kept_left owner old log l that stands kept), not_full that e read)
 
-module _ {H : Type 0} (gives : H → Spot → ℕ → List ℕ → Type 0) (log : LogView) (old new : H) where
-  pub reread_alone : (e : NodeFault) → IsReread gives log old new (Err e) → IsNotFull e
+module _ {H : Type 0} (gives : H → Spot → ℕ → List ℕ → Type 0) (seen : H → HomeView) (log : LogView) (old new : H) where
+  pub reread_alone : (e : NodeFault) → IsReread gives seen log old new (Err e) → IsNotFull e
   reread_alone (Device spot) reread = tt
   reread_alone (Differs spot place kept read) reread = tt
   reread_alone (Full spot) reread = absurd reread
   reread_alone Memory reread = tt
 
-  pub member_read : {R : Type 0} (running : Option R) (out : Result MemberStep NodeFault) → (is_some running ≡ true → IsOk out × (new ≡ old)) → (running ≡ None → IsReread gives log old new (read_by out)) → IfErr out IsNotFull
+  pub member_read : {R : Type 0} (running : Option R) (out : Result MemberStep NodeFault) → (is_some running ≡ true → IsOk out × (new ≡ old)) → (running ≡ None → IsReread gives seen log old new (read_by out)) → IfErr out IsNotFull
   member_read running (Ok d) stays reread = tt
   member_read None (Err e) stays reread = reread_alone e (reread refl)
   member_read (Some r) (Err e) stays reread = let h : false ≡ true = (stays refl).0 in absurd cc

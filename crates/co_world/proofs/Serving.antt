@@ -32,6 +32,7 @@ use Rattle.co_member.specs.Writing.{IsAnsweredFor as IsMemberAnsweredFor, IsTooL
 use Rattle.co_member.specs.declared.plan.Writes.{Writes as MemberWrites}
 use Rattle.co_log.specs.Spare.{IsOverfull}
 use Rattle.co_node.specs.Writes.{filled_with}
+use Rattle.co_node.proofs.Homes.{still_clean}
 use Rattle.co_plain.specs.LogWrite.{generation_of}
 use Rattle.co_plain.specs.MemberLog.{member_spare}
 use Rattle.co_plain.specs.Numbers.{next_generation}
@@ -44,13 +45,13 @@ use Rattle.co_world.specs.Served.{IsServed, HasFailedAs}
 -- ---- every file
 
 -- files that are clean at two places, and stay everywhere else
-clean_everywhere : (a b : Spot) (old new : Spot → Option File) → ((s : Spot) → s ≢ a → s ≢ b → new s ≡ old s) → (IsClean (old a) → IsClean (new a)) → (IsClean (old b) → IsClean (new b)) → (s : Spot) → IsClean (old s) → IsClean (new s)
+clean_everywhere : (a b : Spot) (old new : HomeView) → ((s : Spot) → s ≢ a → s ≢ b → new.file s ≡ old.file s) → (IsClean old a → IsClean new a) → (IsClean old b → IsClean new b) → (s : Spot) → IsClean old s → IsClean new s
 clean_everywhere a b old new others at_a at_b s = by (same_or_other s a) (same_or_other s b)
   where
-    by : (s ≡ a) ⊎ (s ≢ a) → (s ≡ b) ⊎ (s ≢ b) → IsClean (old s) → IsClean (new s)
-    by (inl e) other was = subst (λ (t : Spot). IsClean (new t)) (sym e) (at_a (subst (λ (t : Spot). IsClean (old t)) e was))
-    by (inr n) (inl e) was = subst (λ (t : Spot). IsClean (new t)) (sym e) (at_b (subst (λ (t : Spot). IsClean (old t)) e was))
-    by (inr n) (inr m) was = subst (λ (o : Option File). IsClean o) (sym (others s n m)) was
+    by : (s ≡ a) ⊎ (s ≢ a) → (s ≡ b) ⊎ (s ≢ b) → IsClean old s → IsClean new s
+    by (inl e) other was = subst (λ (t : Spot). IsClean new t) (sym e) (at_a (subst (λ (t : Spot). IsClean old t) e was))
+    by (inr n) (inl e) was = subst (λ (t : Spot). IsClean new t) (sym e) (at_b (subst (λ (t : Spot). IsClean old t) e was))
+    by (inr n) (inr m) was = still_clean old new s (others s n m) was
 
 -- the files of a log stay, and all others do
 pub files_stay : (owner : Node) (log : LogView) (old new : HomeView) → log.node ≡ owner → HasSpots log → new.file log.current.spot ≡ old.file log.current.spot → new.file log.spare.spot ≡ old.file log.spare.spot
@@ -74,7 +75,7 @@ module _ (owner : Node) (at : Spot) (long : Type 0) (this that : List Record) (l
       let node = answered.1 in
       record {
         kept = record { held = node.held; within = node.within };
-        clean = clean_everywhere (spot_of owner 0) (spot_of owner 1) old.file new.file stay.files node.clean_a node.clean_b;
+        clean = clean_everywhere (spot_of owner 0) (spot_of owner 1) old new stay.files node.clean_a node.clean_b;
         quiet = node.quiet;
       }
   answered_served (Err e) answered stay = tt
@@ -161,7 +162,7 @@ coord_checkpoint_ended owner y log after old new out answered = coord_checkpoint
 
 -- ---- a call that is not given the directory
 
-pub still_served : {A : Type 0} (out : Result A NodeFault) (owner : Node) (log after : LogView) (home : HomeView) → IsKept home owner log → IsHeld home.home.file.after.reach → OnOk out (IsServed owner after home home)
+pub still_served : {A : Type 0} (out : Result A NodeFault) (owner : Node) (log after : LogView) (home : HomeView) → IsKept home owner log → IsHeld home after → OnOk out (IsServed owner after home home)
 still_served (Ok d) owner log after home kept held = record { kept = record { held = held; within = kept.within }; clean = λ s was. was; quiet = refl }
 still_served (Err e) owner log after home kept held = tt
 
@@ -181,19 +182,19 @@ others_still owner home = record { others = record { files = λ s a b. refl; rea
 
 -- ---- a restart
 
-module _ {H : Type 0} (gives : H → Spot → ℕ → List ℕ → Type 0) (log : LogView) (old new : H) where
+module _ {H : Type 0} (gives : H → Spot → ℕ → List ℕ → Type 0) (seen : H → HomeView) (log : LogView) (old new : H) where
   -- how a restart leaves the directory, apart from its faults
   pub record IsLeft (owner : Node) (after : LogView) : Type 0 where
     pub owned : log.node ≡ owner
-    pub kept : IsKept old owner log
-    pub held : IsHeld new after
-    pub current : new.file log.current.spot ≡ old.file log.current.spot
-    pub spare : new.file log.spare.spot ≡ old.file log.spare.spot
-    pub rest : OtherNodesStay owner old new
+    pub kept : IsKept (seen old) owner log
+    pub held : IsHeld (seen new) after
+    pub current : (seen new).file log.current.spot ≡ (seen old).file log.current.spot
+    pub spare : (seen new).file log.spare.spot ≡ (seen old).file log.spare.spot
+    pub rest : OtherNodesStay owner (seen old) (seen new)
 
-  left_served : (owner : Node) (after : LogView) → IsLeft owner after → new.faults ≡ old.faults → IsServed owner after (seen old) (seen new)
+  left_served : (owner : Node) (after : LogView) → IsLeft owner after → (seen new).faults ≡ (seen old).faults → IsServed owner after (seen old) (seen new)
   left_served owner after left quiet =
-      let stay = files_stay owner log (old.file) (new.file) (old.reach) (new.reach) left.owned left.kept.held.spots left.current left.spare left.rest.others in
+      let stay = files_stay owner log (seen old) (seen new) left.owned left.kept.held.spots left.current left.spare left.rest.others in
       record {
         kept = record {
           held = left.held;
@@ -202,7 +203,7 @@ module _ {H : Type 0} (gives : H → Spot → ℕ → List ℕ → Type 0) (log 
             b = subst (λ (o : Option File). IsWithin most_log_bytes o) (sym (stay (spot_of owner 1))) left.kept.within.b;
           };
         };
-        clean = λ s was. subst (λ (o : Option File). IsClean o) (sym (stay s)) was;
+        clean = λ s was. still_clean (seen old) (seen new) s (stay s) was;
         quiet = quiet;
       }
 
@@ -213,11 +214,11 @@ module _ {H : Type 0} (gives : H → Spot → ℕ → List ℕ → Type 0) (log 
   in_parts spot (inr are) (inl is) = let p : spot.part ≡ 1 = ap (λ (s : Spot). s.part) (is ∙ are.0) in omega (arith, p)
   in_parts spot (inr are) (inr is) = let p : spot.part ≡ 0 = ap (λ (s : Spot). s.part) (is ∙ are.1) in omega (arith, p)
 
-  named_untold : (spot : Spot) (at : ℕ) (kept read : Option ℕ) → HasSpots log → IsOfReattach gives log old (log_fault.Differs spot at kept read) → (old.file spot ≡ None) × (spot.part < 2)
-  named_untold spot at kept read spots (inl of) = (ap (old.file) of.0 ∙ of.1.2.untold, in_parts spot spots (inl of.0))
-  named_untold spot at kept read spots (inr of) = (ap (old.file) of.fault.0 ∙ of.fault.1.2.untold, in_parts spot spots (inr of.fault.0))
+  named_untold : (spot : Spot) (at : ℕ) (kept read : Option ℕ) → HasSpots log → IsOfReattach gives seen log old (log_fault.Differs spot at kept read) → ((seen old).file spot ≡ None) × (spot.part < 2)
+  named_untold spot at kept read spots (inl of) = (ap (seen old).file of.0 ∙ of.1.2.untold, in_parts spot spots (inl of.0))
+  named_untold spot at kept read spots (inr of) = (ap (seen old).file of.fault.0 ∙ of.fault.1.2.untold, in_parts spot spots (inr of.fault.0))
 
-  reread_ended : HasSpots log → (r : Result (Unit {0}) NodeFault) → IsReread gives log old new r → IfErr r (λ fault. HasFailedAs fault (seen old) (seen new))
+  reread_ended : HasSpots log → (r : Result (Unit {0}) NodeFault) → IsReread gives seen log old new r → IfErr r (λ fault. HasFailedAs fault (seen old) (seen new))
   reread_ended spots (Ok done) reread = tt
   reread_ended spots (Err (Device spot)) reread = (reread.1.count, reread.1.named)
   reread_ended spots (Err (Differs spot at kept read)) reread = let untold = named_untold spot at kept read spots reread.0 in (reread.1, untold.0, untold.1)
@@ -226,25 +227,25 @@ module _ {H : Type 0} (gives : H → Spot → ℕ → List ℕ → Type 0) (log 
 
   -- a member that was up, or down
   pub member_restarted : {R : Type 0} (owner : Node) (after : LogView) (running : Option R) (out : Result MemberStep NodeFault) → IsLeft owner after → (is_some running ≡ true → IsOk out × (new ≡ old))
-      → (running ≡ None → IsReread gives log old new (read_by out)) → OnOk out (IsServed owner after (seen old) (seen new))
+      → (running ≡ None → IsReread gives seen log old new (read_by out)) → OnOk out (IsServed owner after (seen old) (seen new))
   member_restarted owner after None (Ok d) left stays reread = left_served owner after left ((reread refl).1)
-  member_restarted owner after (Some r) (Ok d) left stays reread = left_served owner after left (ap faults (stays refl).1)
+  member_restarted owner after (Some r) (Ok d) left stays reread = left_served owner after left (ap (λ h. (seen h).faults) (stays refl).1)
   member_restarted owner after running (Err e) left stays reread = tt
 
-  pub member_unrestarted : {R : Type 0} → HasSpots log → (running : Option R) (out : Result MemberStep NodeFault) → (is_some running ≡ true → IsOk out × (new ≡ old)) → (running ≡ None → IsReread gives log old new (read_by out))
+  pub member_unrestarted : {R : Type 0} → HasSpots log → (running : Option R) (out : Result MemberStep NodeFault) → (is_some running ≡ true → IsOk out × (new ≡ old)) → (running ≡ None → IsReread gives seen log old new (read_by out))
       → IfErr out (λ fault. HasFailedAs fault (seen old) (seen new))
   member_unrestarted spots running (Ok d) stays reread = tt
   member_unrestarted spots None (Err e) stays reread = reread_ended spots (Err e) (reread refl)
   member_unrestarted spots (Some r) (Err e) stays reread = let h : false ≡ true = (stays refl).0 in absurd cc
 
   -- so for a coordinator
-  pub coord_restarted : (owner : Node) (after : LogView) (up : Bool) (out : Result CoordStep NodeFault) → IsLeft owner after → IsRestarted up gives log old new out
+  pub coord_restarted : (owner : Node) (after : LogView) (up : Bool) (out : Result CoordStep NodeFault) → IsLeft owner after → IsRestarted up gives seen log old new out
       → OnOk out (IsServed owner after (seen old) (seen new))
-  coord_restarted owner after true (Ok d) left is = left_served owner after left (ap faults is.1)
+  coord_restarted owner after true (Ok d) left is = left_served owner after left (ap (λ h. (seen h).faults) is.1)
   coord_restarted owner after false (Ok d) left is = left_served owner after left is.1
   coord_restarted owner after up (Err e) left is = tt
 
-  pub coord_unrestarted : HasSpots log → (up : Bool) (out : Result CoordStep NodeFault) → IsRestarted up gives log old new out
+  pub coord_unrestarted : HasSpots log → (up : Bool) (out : Result CoordStep NodeFault) → IsRestarted up gives seen log old new out
       → IfErr out (λ fault. HasFailedAs fault (seen old) (seen new))
   coord_unrestarted spots up (Ok d) is = tt
   coord_unrestarted spots true (Err e) is = let h : false ≡ true = is.0 in absurd cc

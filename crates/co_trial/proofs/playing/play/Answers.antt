@@ -40,5 +40,5 @@ returns-in-Err-clause-ended g c =
 
 pub returns-in-Err-clause-untold : goal.returns-in-Err-clause-untold
 returns-in-Err-clause-untold g c =
-    subst (IsUntoldFor) (sym c.undone.ensures)
-    (untold_for c.in-Err.fault (g.H.Home.seen c.args.home.now) (g.H.Home.seen c.step.new.home) c.in-Err.ensures.ended)
+    subst (IsUntoldFor g.H.Home.seen) (sym c.undone.ensures)
+    (untold_for g.H.Home.seen c.in-Err.fault c.args.home.now (g.H.Home.seen c.step.new.home) c.in-Err.ensures.ended)

@@ -39,4 +39,4 @@ returns-in-Err-clause-ended g c =
     (λ spot e. (c.in-Err.ensures.device spot (ap Err e)).count)
 
 pub returns-in-Err-clause-untold : goal.returns-in-Err-clause-untold
-returns-in-Err-clause-untold g c = unopened_untold (g.H.Home.seen c.args.home.now).file c.in_ok-head.head _ c.in-Err.fault c.in-Err.ensures.refused
+returns-in-Err-clause-untold g c = unopened_untold g.H.Home.seen (g.H.Home.seen c.args.home.now).file c.in_ok-head.head _ c.in-Err.fault c.in-Err.ensures.refused
