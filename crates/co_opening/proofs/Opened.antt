@@ -28,6 +28,7 @@ use Rattle.co_opening.specs.declared.nodes.Nodes.{Nodes}
 use Rattle.co_opening.proofs.From.{all_from_first, all_from_map}
 use Rattle.co_opening.proofs.Stays.{own_stays, own_all_stay}
 use Rattle.co_opening.proofs.Judged.{laid_used}
+use Rattle.co_node.proofs.Homes.{still_clean}
 
 pub opened_nodes : {E : Type 0} (takes : Kind → Type 0) (stands_for : E → EngineState → Type 0) (file : Spot → Option File) (resume : Bool) (head : Head) (member_logs coord_logs : List LogView) (member_pasts : List MemberPast) (coord_pasts : List CoordPast)
     (j : AreJudged file resume head member_logs coord_logs member_pasts coord_pasts) (n : Nodes E) → length n.members.items ≡ length head.kinds → length n.coords.items ≡ length coord_logs
@@ -81,6 +82,6 @@ own_members_stay old new these few left kept =
 pub not_err : {T : Type 0} (x : T) (at : WorldFault) → IsErrOf (Ok x) at → ⊥
 not_err x at is = absurd cc
 
-pub clean_moved : {T : Type 0} (result : Result T WorldFault) (file mid after : Spot → Option File) → ((s : Spot) → mid s ≡ file s) → OnOk result ((s : Spot) → IsClean (mid s) → IsClean (after s)) → IfOk result (λ n. (s : Spot) → IsClean (file s) → IsClean (after s))
-clean_moved (Ok n) file mid after same clean = λ s was. clean s (subst IsClean (sym (same s)) was)
-clean_moved (Err e) file mid after same clean = tt
+pub clean_moved : {T : Type 0} (result : Result T WorldFault) (old mid new : HomeView) → ((s : Spot) → mid.file s ≡ old.file s) → OnOk result ((s : Spot) → IsClean mid s → IsClean new s) → IfOk result (λ n. (s : Spot) → IsClean old s → IsClean new s)
+clean_moved (Ok n) old mid new same clean = λ s was. clean s (still_clean old mid s (same s) was)
+clean_moved (Err e) old mid new same clean = tt

@@ -24,4 +24,4 @@ returns-in_err-used-clause-refused g c =
 
 pub returns-clause-clean : goal.returns-clause-clean
 returns-clause-clean g c =
-    clean_moved c.make_nodes.result (g.H.Home.seen c.args.home.now).file (g.H.Home.seen c.attach_all.new.home).file (g.H.Home.seen c.make_nodes.new.home).file c.attach_all.ensures.reads.files c.make_nodes.ensures.clean
+    clean_moved c.make_nodes.result (g.H.Home.seen c.args.home.now) (g.H.Home.seen c.attach_all.new.home) (g.H.Home.seen c.make_nodes.new.home) c.attach_all.ensures.reads.files c.make_nodes.ensures.clean

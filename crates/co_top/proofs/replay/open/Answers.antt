@@ -17,4 +17,4 @@ returns-clause-refused g c =
     subst (λ (f : Spot → Option File). IfErr c.attach.result (IsUnopenedAs f c.args.head.now c.args.resume)) (λ i s. c.enter.ensures.files s i) c.attach.ensures.refused
 
 pub returns-clause-clean : goal.returns-clause-clean
-returns-clause-clean g c = on_kept _ _ c.attach.result (λ clean s is. clean s (subst IsClean (sym (c.enter.ensures.files s)) is)) c.attach.ensures.clean
+returns-clause-clean g c = on_kept _ _ c.attach.result (λ clean s is. clean s (λ f told. is f (sym (c.enter.ensures.files s) ∙ told))) c.attach.ensures.clean
