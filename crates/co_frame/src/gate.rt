@@ -2,8 +2,8 @@
 ghost use Rattle.std.specs.Prelude.{◌≡◌};
 ghost use Rattle.co_frame.specs.Gate.{begins_open, begins_closed, opens_gate, closes_spare, batch_is_stable};
 
-use co_base::Leaves;
 use crate::batches::OPEN_GATE;
+use co_base::Leaves;
 
 /// Whether the bytes begin with an open gate.
 fn begins_open(bytes: &[u8]) -> bool

@@ -15,9 +15,8 @@ use crate::stop::arm_for;
 use crate::writing::write_through;
 use co_base::Marks;
 use co_disk::{Disk, DiskFault};
-use co_frame::CLOSED_GATE;
+use co_frame::{CLOSED_GATE, begins_closed};
 use co_outside::Home;
-use co_frame::begins_closed;
 
 /// Closes the first gate of a file without a batch, where it is not closed: two device calls, of which
 /// none is stopped.
