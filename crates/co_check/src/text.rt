@@ -1,5 +1,6 @@
 //! The text of a verdict.
-ghost use Rattle.std.specs.Prelude.{◌≡◌, ◌++◌, OnOk};
+ghost use Rattle.std.specs.Prelude.{◌≡◌, ◌++◌, OnOk, OnErr};
+ghost use Rattle.co_base.specs.Lent.{Begins};
 ghost use Rattle.co_durable.specs.Laying.{member_rows};
 ghost use Rattle.co_durable.specs.Text.{record_line, records_text};
 ghost use Rattle.co_durable.specs.Durable.{numbered_rows};
@@ -18,7 +19,8 @@ const MEMBERS: u8 = 16;
 
 /// Appends the line of a record: the member, the key and the value.
 fn append_row(into: &mut Vec<u8>, member: u8, row: &Row) -> Result<(), AllocError>
-    ensures { OnOk result (into.new.items ≡ into.old.items ++ record_line (record { member = member; row = row.now })) }
+    ensures ok { OnOk result (into.new.items ≡ into.old.items ++ record_line (record { member = member; row = row.now })) }
+    ensures err { OnErr result (Begins into.old.items into.new.items) }
 {
     into.push(b'm')?;
     into.extend_from_slice(Buffer::new().format(member).as_bytes())?;
@@ -32,7 +34,8 @@ fn append_row(into: &mut Vec<u8>, member: u8, row: &Row) -> Result<(), AllocErro
 
 /// Appends the lines of the records of a member.
 fn append_rows(into: &mut Vec<u8>, member: u8, rows: &[Row]) -> Result<(), AllocError>
-    ensures { OnOk result (into.new.items ≡ into.old.items ++ records_text (member_rows member rows.now)) }
+    ensures ok { OnOk result (into.new.items ≡ into.old.items ++ records_text (member_rows member rows.now)) }
+    ensures err { OnErr result (Begins into.old.items into.new.items) }
 {
     for row in rows {
         append_row(into, member, row)?;
@@ -42,7 +45,8 @@ fn append_rows(into: &mut Vec<u8>, member: u8, rows: &[Row]) -> Result<(), Alloc
 
 /// Appends the lines of the records of all members.
 fn append_map(into: &mut Vec<u8>, map: &SerialMap) -> Result<(), AllocError>
-    ensures { OnOk result (into.new.items ≡ into.old.items ++ records_text (numbered_rows (family_of map.now) 1 most_members)) }
+    ensures ok { OnOk result (into.new.items ≡ into.old.items ++ records_text (numbered_rows (family_of map.now) 1 most_members)) }
+    ensures err { OnErr result (Begins into.old.items into.new.items) }
 {
     for member in 1..MEMBERS + 1 {
         let rows = map.rows(member)?;
@@ -53,7 +57,8 @@ fn append_map(into: &mut Vec<u8>, map: &SerialMap) -> Result<(), AllocError>
 
 /// Appends what is told of a serial transcript.
 fn append_serial(into: &mut Vec<u8>, transactions: u32, map: &SerialMap) -> Result<(), AllocError>
-    ensures { OnOk result (into.new.items ≡ into.old.items ++ serial_text transactions map.now) }
+    ensures ok { OnOk result (into.new.items ≡ into.old.items ++ serial_text transactions map.now) }
+    ensures err { OnErr result (Begins into.old.items into.new.items) }
 {
     into.extend_from_slice(b"serial")?;
     append_number(into, u64::from(transactions))?;
@@ -63,7 +68,8 @@ fn append_serial(into: &mut Vec<u8>, transactions: u32, map: &SerialMap) -> Resu
 
 /// Appends what is told of a transcript that is not serial.
 fn append_difference(into: &mut Vec<u8>, txn: u32, line: u32) -> Result<(), AllocError>
-    ensures { OnOk result (into.new.items ≡ into.old.items ++ differs_text txn line) }
+    ensures ok { OnOk result (into.new.items ≡ into.old.items ++ differs_text txn line) }
+    ensures err { OnErr result (Begins into.old.items into.new.items) }
 {
     into.extend_from_slice(b"not serial")?;
     append_number(into, u64::from(txn))?;
@@ -74,8 +80,10 @@ fn append_difference(into: &mut Vec<u8>, txn: u32, line: u32) -> Result<(), Allo
 
 /// Appends the text of a verdict: `serial N` and the records that the serial run leaves, a line `NODE KEY VALUE` each, members ascending and
 /// the keys of each ascending; or `not serial T LINE`. N is how many transactions are committed.
+/// After want of memory the list begins with what it held.
 pub fn put_verdict(verdict: &Verdict, into: &mut Vec<u8>) -> Result<(), AllocError>
-    ensures { OnOk result (into.new.items ≡ into.old.items ++ verdict_text verdict.now) }
+    ensures ok { OnOk result (into.new.items ≡ into.old.items ++ verdict_text verdict.now) }
+    ensures err { OnErr result (Begins into.old.items into.new.items) }
 {
     match verdict {
         Verdict::Serial { transactions, map } => append_serial(into, *transactions, map),

@@ -1,5 +1,6 @@
 //! The text of items.
-ghost use Rattle.std.specs.Prelude.{◌≡◌, ◌++◌, ◌∷◌, [], IfOk, OnOk};
+ghost use Rattle.std.specs.Prelude.{◌≡◌, ◌++◌, ◌∷◌, [], IfOk, OnOk, OnErr};
+ghost use Rattle.co_base.specs.Lent.{Begins};
 ghost use Rattle.co_message.specs.declared.event.Event.{Event};
 ghost use Rattle.co_message.specs.declared.item.ItemKind.TheVariants as item;
 ghost use Rattle.co_plain.specs.Runs.{numbered};
@@ -9,9 +10,10 @@ use co_message::{Event, Item, ItemKind};
 use co_transcript::put_item;
 use std::alloc::AllocError;
 
-/// Appends the text of items.
+/// Appends the text of items. After want of memory the list begins with what it held.
 pub fn put_items(items: &[Item], into: &mut Vec<u8>) -> Result<(), AllocError>
-    ensures { OnOk result (into.new.items ≡ into.old.items ++ items_text items.now) }
+    ensures ok { OnOk result (into.new.items ≡ into.old.items ++ items_text items.now) }
+    ensures err { OnErr result (Begins into.old.items into.new.items) }
 {
     for item in items {
         put_item(item, into)?;
@@ -31,10 +33,11 @@ fn event_in(told: Item) -> Event
     }
 }
 
-/// Appends the text of the event of the line of this number, and gives the event back.
+/// Appends the text of the event of the line of this number, and gives the event back. After want of memory nothing is appended.
 pub fn put_event(number: u32, event: Event, into: &mut Vec<u8>) -> Result<Event, AllocError>
     ensures text { OnOk result (into.new.items ≡ into.old.items ++ items_text (numbered number (item.Event event ∷ []))) }
     ensures event { IfOk result (λ same. same ≡ event) }
+    ensures err { OnErr result (into.new.items ≡ into.old.items) }
 {
     let told = Item {
         number,

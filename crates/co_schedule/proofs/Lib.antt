@@ -1,3 +1,4 @@
+pub mod Begun
 pub mod Spaced
 pub mod Cutting
 pub mod Numbers

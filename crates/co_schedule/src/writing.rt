@@ -1,5 +1,6 @@
 //! Events as lines.
 ghost use Rattle.std.specs.Prelude.{◌≡◌, ◌<◌, ◌≤◌, [], ◌∷◌, map, ◌++◌, ◌⊎◌, length, OnOk, OnErr, IfErr, IsErrOf, decimal, codes};
+ghost use Rattle.co_base.specs.Lent.{Begins};
 ghost use Rattle.co_schedule.specs.Limits.{longest_line};
 ghost use Rattle.co_schedule.specs.Words.{space, behind, spaced};
 ghost use Rattle.co_schedule.specs.Spelling.{member_word, coord_word, node_word, leaves_word, message_words, event_words, line_text, head_text, kind_word};
@@ -10,23 +11,26 @@ use co_message::{Event, Message};
 use itoa::Buffer;
 use std::alloc::AllocError;
 
-/// Appends a space and the word.
+/// Appends a space and the word. After want of memory the list begins with what it held.
 pub fn append_word(out: &mut Vec<u8>, word: &[u8]) -> Result<(), AllocError>
-    ensures { OnOk result (out.new.items ≡ out.old.items ++ space ∷ word.now) }
+    ensures ok { OnOk result (out.new.items ≡ out.old.items ++ space ∷ word.now) }
+    ensures err { OnErr result (Begins out.old.items out.new.items) }
 {
     out.push(b' ')?;
     out.extend_from_slice(word)
 }
 
-/// Appends a space and the number.
+/// Appends a space and the number. After want of memory the list begins with what it held.
 pub fn append_number(out: &mut Vec<u8>, number: u64) -> Result<(), AllocError>
-    ensures { OnOk result (out.new.items ≡ out.old.items ++ space ∷ decimal number) }
+    ensures ok { OnOk result (out.new.items ≡ out.old.items ++ space ∷ decimal number) }
+    ensures err { OnErr result (Begins out.old.items out.new.items) }
 {
     append_word(out, Buffer::new().format(number).as_bytes())
 }
 
 fn append_named(out: &mut Vec<u8>, letter: u8, number: u8) -> Result<(), AllocError>
-    ensures { OnOk result (out.new.items ≡ out.old.items ++ space ∷ letter ∷ decimal number) }
+    ensures ok { OnOk result (out.new.items ≡ out.old.items ++ space ∷ letter ∷ decimal number) }
+    ensures err { OnErr result (Begins out.old.items out.new.items) }
 {
     out.push(b' ')?;
     out.push(letter)?;
@@ -34,20 +38,23 @@ fn append_named(out: &mut Vec<u8>, letter: u8, number: u8) -> Result<(), AllocEr
 }
 
 fn append_member(out: &mut Vec<u8>, number: u8) -> Result<(), AllocError>
-    ensures { OnOk result (out.new.items ≡ out.old.items ++ space ∷ member_word number) }
+    ensures ok { OnOk result (out.new.items ≡ out.old.items ++ space ∷ member_word number) }
+    ensures err { OnErr result (Begins out.old.items out.new.items) }
 {
     append_named(out, b'm', number)
 }
 
 fn append_coord(out: &mut Vec<u8>, number: u8) -> Result<(), AllocError>
-    ensures { OnOk result (out.new.items ≡ out.old.items ++ space ∷ coord_word number) }
+    ensures ok { OnOk result (out.new.items ≡ out.old.items ++ space ∷ coord_word number) }
+    ensures err { OnErr result (Begins out.old.items out.new.items) }
 {
     append_named(out, b'c', number)
 }
 
-/// Appends a space and the name of the node.
+/// Appends a space and the name of the node. After want of memory the list begins with what it held.
 pub fn append_node(out: &mut Vec<u8>, node: Node) -> Result<(), AllocError>
-    ensures { OnOk result (out.new.items ≡ out.old.items ++ space ∷ node_word node) }
+    ensures ok { OnOk result (out.new.items ≡ out.old.items ++ space ∷ node_word node) }
+    ensures err { OnErr result (Begins out.old.items out.new.items) }
 {
     match node {
         Node::Member(number) => append_member(out, number),
@@ -56,7 +63,8 @@ pub fn append_node(out: &mut Vec<u8>, node: Node) -> Result<(), AllocError>
 }
 
 fn append_leaves(out: &mut Vec<u8>, leaves: &Leaves) -> Result<(), AllocError>
-    ensures { OnOk result (out.new.items ≡ out.old.items ++ space ∷ leaves_word leaves.now) }
+    ensures ok { OnOk result (out.new.items ≡ out.old.items ++ space ∷ leaves_word leaves.now) }
+    ensures err { OnErr result (Begins out.old.items out.new.items) }
 {
     match leaves {
         Leaves::Old => append_word(out, b"old"),
@@ -70,7 +78,8 @@ fn append_leaves(out: &mut Vec<u8>, leaves: &Leaves) -> Result<(), AllocError>
 }
 
 fn append_at_member(out: &mut Vec<u8>, form: &[u8], txn: Txn, member: u8) -> Result<(), AllocError>
-    ensures { OnOk result (out.new.items ≡ out.old.items ++ spaced (form.now ∷ decimal txn ∷ member_word member ∷ [])) }
+    ensures ok { OnOk result (out.new.items ≡ out.old.items ++ spaced (form.now ∷ decimal txn ∷ member_word member ∷ [])) }
+    ensures err { OnErr result (Begins out.old.items out.new.items) }
 {
     out.extend_from_slice(form)?;
     append_number(out, u64::from(txn.0))?;
@@ -78,7 +87,8 @@ fn append_at_member(out: &mut Vec<u8>, form: &[u8], txn: Txn, member: u8) -> Res
 }
 
 fn append_at_coord(out: &mut Vec<u8>, form: &[u8], txn: Txn, coord: u8) -> Result<(), AllocError>
-    ensures { OnOk result (out.new.items ≡ out.old.items ++ spaced (form.now ∷ decimal txn ∷ coord_word coord ∷ [])) }
+    ensures ok { OnOk result (out.new.items ≡ out.old.items ++ spaced (form.now ∷ decimal txn ∷ coord_word coord ∷ [])) }
+    ensures err { OnErr result (Begins out.old.items out.new.items) }
 {
     out.extend_from_slice(form)?;
     append_number(out, u64::from(txn.0))?;
@@ -86,14 +96,16 @@ fn append_at_coord(out: &mut Vec<u8>, form: &[u8], txn: Txn, coord: u8) -> Resul
 }
 
 fn append_of_txn(out: &mut Vec<u8>, form: &[u8], txn: Txn) -> Result<(), AllocError>
-    ensures { OnOk result (out.new.items ≡ out.old.items ++ spaced (form.now ∷ decimal txn ∷ [])) }
+    ensures ok { OnOk result (out.new.items ≡ out.old.items ++ spaced (form.now ∷ decimal txn ∷ [])) }
+    ensures err { OnErr result (Begins out.old.items out.new.items) }
 {
     out.extend_from_slice(form)?;
     append_number(out, u64::from(txn.0))
 }
 
 fn append_of_node(out: &mut Vec<u8>, form: &[u8], node: Node) -> Result<(), AllocError>
-    ensures { OnOk result (out.new.items ≡ out.old.items ++ spaced (form.now ∷ node_word node ∷ [])) }
+    ensures ok { OnOk result (out.new.items ≡ out.old.items ++ spaced (form.now ∷ node_word node ∷ [])) }
+    ensures err { OnErr result (Begins out.old.items out.new.items) }
 {
     out.extend_from_slice(form)?;
     append_node(out, node)
@@ -106,7 +118,8 @@ fn append_from_coord(
     coord: u8,
     member: u8,
 ) -> Result<(), AllocError>
-    ensures { OnOk result (out.new.items ≡ out.old.items ++ behind (form.now ∷ decimal txn ∷ coord_word coord ∷ member_word member ∷ [])) }
+    ensures ok { OnOk result (out.new.items ≡ out.old.items ++ behind (form.now ∷ decimal txn ∷ coord_word coord ∷ member_word member ∷ [])) }
+    ensures err { OnErr result (Begins out.old.items out.new.items) }
 {
     append_word(out, form)?;
     append_number(out, u64::from(txn.0))?;
@@ -121,7 +134,8 @@ fn append_from_member(
     member: u8,
     coord: u8,
 ) -> Result<(), AllocError>
-    ensures { OnOk result (out.new.items ≡ out.old.items ++ behind (form.now ∷ decimal txn ∷ member_word member ∷ coord_word coord ∷ [])) }
+    ensures ok { OnOk result (out.new.items ≡ out.old.items ++ behind (form.now ∷ decimal txn ∷ member_word member ∷ coord_word coord ∷ [])) }
+    ensures err { OnErr result (Begins out.old.items out.new.items) }
 {
     append_word(out, form)?;
     append_number(out, u64::from(txn.0))?;
@@ -129,9 +143,10 @@ fn append_from_member(
     append_coord(out, coord)
 }
 
-/// Appends the words of the message, each behind a space.
+/// Appends the words of the message, each behind a space. After want of memory the list begins with what it held.
 pub fn append_message(out: &mut Vec<u8>, message: &Message) -> Result<(), AllocError>
-    ensures { OnOk result (out.new.items ≡ out.old.items ++ behind (message_words message.now)) }
+    ensures ok { OnOk result (out.new.items ≡ out.old.items ++ behind (message_words message.now)) }
+    ensures err { OnErr result (Begins out.old.items out.new.items) }
 {
     match *message {
         Message::Prepare {
@@ -166,9 +181,10 @@ pub fn append_message(out: &mut Vec<u8>, message: &Message) -> Result<(), AllocE
     }
 }
 
-/// Appends the line of the event, however long it is.
+/// Appends the line of the event, however long it is. After want of memory the list begins with what it held.
 pub fn append_event(out: &mut Vec<u8>, event: &Event) -> Result<(), AllocError>
-    ensures { OnOk result (out.new.items ≡ out.old.items ++ line_text event.now) }
+    ensures ok { OnOk result (out.new.items ≡ out.old.items ++ line_text event.now) }
+    ensures err { OnErr result (Begins out.old.items out.new.items) }
 {
     match event {
         Event::Begin { txn, coord } => append_at_coord(out, b"begin", *txn, *coord),
@@ -232,7 +248,8 @@ pub fn kind_text(kind: Kind) -> &'static [u8]
 }
 
 fn append_kinds(out: &mut Vec<u8>, kinds: &[Kind]) -> Result<(), AllocError>
-    ensures { OnOk result (out.new.items ≡ out.old.items ++ behind (map kind_word kinds.now)) }
+    ensures ok { OnOk result (out.new.items ≡ out.old.items ++ behind (map kind_word kinds.now)) }
+    ensures err { OnErr result (Begins out.old.items out.new.items) }
 {
     for kind in kinds {
         append_word(out, kind_text(*kind))?;
@@ -240,9 +257,10 @@ fn append_kinds(out: &mut Vec<u8>, kinds: &[Kind]) -> Result<(), AllocError>
     Ok(())
 }
 
-/// Appends the line of the head.
+/// Appends the line of the head. After want of memory the list begins with what it held.
 pub fn append_head(out: &mut Vec<u8>, head: &Head) -> Result<(), AllocError>
-    ensures { OnOk result (out.new.items ≡ out.old.items ++ head_text head.now) }
+    ensures ok { OnOk result (out.new.items ≡ out.old.items ++ head_text head.now) }
+    ensures err { OnErr result (Begins out.old.items out.new.items) }
 {
     out.extend_from_slice(b"members")?;
     append_kinds(out, head.kinds.as_slice())?;

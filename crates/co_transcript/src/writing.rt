@@ -1,5 +1,6 @@
 //! Items as lines.
 ghost use Rattle.std.specs.Prelude.{◌≡◌, [], ◌∷◌, ◌++◌, OnOk, OnErr, decimal};
+ghost use Rattle.co_base.specs.Lent.{Begins};
 ghost use Rattle.co_schedule.specs.Words.{space, behind};
 ghost use Rattle.co_schedule.specs.Spelling.{node_word};
 ghost use Rattle.co_transcript.specs.Spelling.{mark_word, cause_word, row_words, reply_form, reply_fields, answer_form, answer_fields, kind_words, item_text};
@@ -38,7 +39,8 @@ pub fn cause_text(cause: Cause) -> &'static [u8]
 }
 
 fn append_mark(out: &mut Vec<u8>, mark: &Mark) -> Result<(), AllocError>
-    ensures { OnOk result (out.new.items ≡ out.old.items ++ behind (node_word mark.now.node ∷ mark_word mark.now.kind ∷ decimal mark.now.number ∷ [])) }
+    ensures ok { OnOk result (out.new.items ≡ out.old.items ++ behind (node_word mark.now.node ∷ mark_word mark.now.kind ∷ decimal mark.now.number ∷ [])) }
+    ensures err { OnErr result (Begins out.old.items out.new.items) }
 {
     append_node(out, mark.node)?;
     append_word(out, mark_text(mark.kind))?;
@@ -46,7 +48,8 @@ fn append_mark(out: &mut Vec<u8>, mark: &Mark) -> Result<(), AllocError>
 }
 
 fn append_rows(out: &mut Vec<u8>, rows: &[Row]) -> Result<(), AllocError>
-    ensures { OnOk result (out.new.items ≡ out.old.items ++ behind (row_words rows.now)) }
+    ensures ok { OnOk result (out.new.items ≡ out.old.items ++ behind (row_words rows.now)) }
+    ensures err { OnErr result (Begins out.old.items out.new.items) }
 {
     for row in rows {
         append_word(out, row.key.text())?;
@@ -67,7 +70,8 @@ fn reply_text(reply: &Reply) -> &'static [u8]
 }
 
 fn append_reply_fields(out: &mut Vec<u8>, reply: &Reply) -> Result<(), AllocError>
-    ensures { OnOk result (out.new.items ≡ out.old.items ++ behind (reply_fields reply.now)) }
+    ensures ok { OnOk result (out.new.items ≡ out.old.items ++ behind (reply_fields reply.now)) }
+    ensures err { OnErr result (Begins out.old.items out.new.items) }
 {
     match reply {
         Reply::Got(Some(value)) => append_word(out, value.text()),
@@ -125,7 +129,8 @@ fn answer_text(answer: &Answer) -> &'static [u8]
 }
 
 fn append_answer_fields(out: &mut Vec<u8>, answer: &Answer) -> Result<(), AllocError>
-    ensures { OnOk result (out.new.items ≡ out.old.items ++ behind (answer_fields answer.now)) }
+    ensures ok { OnOk result (out.new.items ≡ out.old.items ++ behind (answer_fields answer.now)) }
+    ensures err { OnErr result (Begins out.old.items out.new.items) }
 {
     match answer {
         Answer::Replied(reply) => append_reply_fields(out, reply),
@@ -145,14 +150,16 @@ fn append_answer_fields(out: &mut Vec<u8>, answer: &Answer) -> Result<(), AllocE
 }
 
 fn append_answer(out: &mut Vec<u8>, answer: &Answer) -> Result<(), AllocError>
-    ensures { OnOk result (out.new.items ≡ out.old.items ++ behind (answer_form answer.now ++ answer_fields answer.now)) }
+    ensures ok { OnOk result (out.new.items ≡ out.old.items ++ behind (answer_form answer.now ++ answer_fields answer.now)) }
+    ensures err { OnErr result (Begins out.old.items out.new.items) }
 {
     append_word(out, answer_text(answer))?;
     append_answer_fields(out, answer)
 }
 
 fn append_kind(out: &mut Vec<u8>, what: &ItemKind) -> Result<(), AllocError>
-    ensures { OnOk result (out.new.items ≡ out.old.items ++ behind (kind_words what.now)) }
+    ensures ok { OnOk result (out.new.items ≡ out.old.items ++ behind (kind_words what.now)) }
+    ensures err { OnErr result (Begins out.old.items out.new.items) }
 {
     match what {
         ItemKind::Head(head) => {
@@ -179,7 +186,8 @@ fn append_kind(out: &mut Vec<u8>, what: &ItemKind) -> Result<(), AllocError>
 }
 
 fn append_item(out: &mut Vec<u8>, item: &Item) -> Result<(), AllocError>
-    ensures { OnOk result (out.new.items ≡ out.old.items ++ item_text item.now ++ 10 ∷ []) }
+    ensures ok { OnOk result (out.new.items ≡ out.old.items ++ item_text item.now ++ 10 ∷ []) }
+    ensures err { OnErr result (Begins out.old.items out.new.items) }
 {
     out.extend_from_slice(Buffer::new().format(item.number).as_bytes())?;
     append_kind(out, &item.what)?;

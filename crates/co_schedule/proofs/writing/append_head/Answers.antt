@@ -3,5 +3,5 @@ use Rattle.std.proofs.lemmas.Grind.{common_steps}
 use Rattle.co_schedule.proofs.Spaced.{behind-append}
 use Rattle.co_schedule.proofs.writing.append_head.Goals as goal
 
-pub returns : goal.returns
-returns c = grind (arith, common_steps, behind-append)
+pub returns-clause-ok : goal.returns-clause-ok
+returns-clause-ok c = grind (arith, common_steps, behind-append)
