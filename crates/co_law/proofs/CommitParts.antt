@@ -29,7 +29,7 @@ use Rattle.co_law_base.proofs.Commits.{commit_cases, spare_cases}
 use Rattle.co_law_base.proofs.Facts.{rest_of, over, CollectingEntry, Facts}
 use Rattle.co_law_base.proofs.ImageRules.{each_entry}
 use Rattle.co_law_base.proofs.Lookups.{is_nothing, look_none, without_cases}
-use Rattle.co_law_moves.specs.HandedVerdicts.{AreTrueVerdicts}
+use Rattle.co_plain.specs.Premises.{AreTrueVerdicts}
 use Rattle.co_law_moves.proofs.ByMoves.{run_leaves}
 use Rattle.co_law_moves.proofs.MoveByMove.{move_keeps}
 use Rattle.co_law_runs.proofs.Acts.{Moves}

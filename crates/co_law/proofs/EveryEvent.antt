@@ -13,14 +13,13 @@ use Rattle.co_plain.specs.Runs.{run}
 use Rattle.co_plain.specs.Step.{step}
 use Rattle.co_law_base.proofs.Carrying.{at_here}
 use Rattle.co_law_base.proofs.Facts.{Facts}
-use Rattle.co_law_moves.specs.HandedVerdicts.{AreTrueVerdicts, IsTrueVerdict}
+use Rattle.co_plain.specs.Premises.{AreTrueVerdicts, IsTrueVerdict, AreOpenable}
 use Rattle.co_law_moves.proofs.Steps.{run_keeps}
 use Rattle.co_law_moves.specs.EventMoves.{moves_of}
 use Rattle.co_law_moves.specs.MoveTraces.{IsItsMoves, IsDisarmedEverywhere, told_with, moves_trace}
 use Rattle.co_law_moves.proofs.NodesTold.{no_rest}
 use Rattle.co_law_moves.proofs.StepsMade.{event_made}
 use Rattle.co_law_moves.proofs.StepsTold.{step_told}
-use Rattle.co_law_moves.specs.OpenedLogs.{AreOpenable}
 use Rattle.co_law_moves.proofs.Start.{start_facts}
 
 event_is_made : (s : Federation) → Facts s → (h : Happening) → IsTrueVerdict s h → h ≢ happening.Disarm → IsItsMoves s h

@@ -7,14 +7,13 @@ use Rattle.co_plain.specs.Decisions.{IsPresumedAborted}
 use Rattle.co_plain.specs.Opening.{Found, opened}
 use Rattle.co_plain.specs.Runs.{run}
 use Rattle.co_law_base.proofs.Facts.{Facts}
-use Rattle.co_law_moves.specs.HandedVerdicts.{AreTrueVerdicts}
+use Rattle.co_plain.specs.Premises.{AreTrueVerdicts, AreOpenable}
 use Rattle.co_law_moves.proofs.Steps.{run_keeps}
 use Rattle.co_law_runs.proofs.Agreement.{run_more, run_works, opened_works, verdicts_parts}
 use Rattle.co_law_runs.specs.Finality.{IsFinal, IsLostAt, StaysLost}
 use Rattle.co_law_runs.proofs.DeadStays.{run_presumed}
 use Rattle.co_law_runs.proofs.Final.{timer_final}
 use Rattle.co_law_runs.proofs.LostStays.{run_lost}
-use Rattle.co_law_moves.specs.OpenedLogs.{AreOpenable}
 use Rattle.co_law_moves.proofs.Start.{start_facts}
 
 module _ (kinds : List Kind) (coords : ℕ) (fm fc : ℕ → Found) where

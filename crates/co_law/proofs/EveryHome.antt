@@ -36,12 +36,11 @@ use Rattle.co_plain.specs.SoundLogs.{unended_in}
 use Rattle.co_law_base.proofs.Facts.{Facts}
 use Rattle.co_law_base.proofs.LogMoves.{as_belongs}
 use Rattle.co_law_base.proofs.Sending.{send_cases}
-use Rattle.co_law_moves.specs.HandedVerdicts.{AreTrueVerdicts}
+use Rattle.co_plain.specs.Premises.{AreTrueVerdicts, AreOpenable}
 use Rattle.co_law_moves.proofs.Steps.{step_keeps}
 use Rattle.co_law_moves.proofs.Growing.{step_grows}
 use Rattle.co_law_moves.proofs.KeptFrom.{belongs_is}
 use Rattle.co_law_runs.proofs.Hopeless.{step_onward}
-use Rattle.co_law_moves.specs.OpenedLogs.{AreOpenable}
 use Rattle.co_law_moves.proofs.Start.{start_facts}
 use Rattle.co_law.specs.MessageHomes.{IsHome, Belongs, CommittedBefore, NamesHome, MessagesNameHomes}
 use Rattle.co_law.proofs.MemberNames.{MemberNames, quiet, names_prepare, names_decision, handed_home, names_vote, names_question, quiet_timer, quiet_operation, quiet_commit, quiet_abort, quiet_restart, quiet_checkpoint}

@@ -23,11 +23,10 @@ use Rattle.co_law_base.proofs.Commits.{unended_seen}
 use Rattle.co_law_base.proofs.Facts.{rest_of, by_coord, takes, ByTold, Named, OpenEntry, Facts}
 use Rattle.co_law_base.proofs.TwoViews.{committed_both}
 use Rattle.co_law_base.proofs.Sending.{told_parts, part_member}
-use Rattle.co_law_moves.specs.HandedVerdicts.{AreTrueVerdicts}
+use Rattle.co_plain.specs.Premises.{AreTrueVerdicts, AreOpenable}
 use Rattle.co_law_moves.proofs.Steps.{run_keeps}
 use Rattle.co_law_moves.proofs.KeptFrom.{living}
 use Rattle.co_law_runs.proofs.Agreement.{told_begun}
-use Rattle.co_law_moves.specs.OpenedLogs.{AreOpenable}
 use Rattle.co_law_moves.proofs.Start.{start_facts}
 use Rattle.co_law.specs.HeldOnes.{IsHeldFor, AskedAreHeld}
 use Rattle.co_law.proofs.CommitParts.{CommitParts, run_parts}

@@ -15,7 +15,7 @@ use Rattle.co_plain.specs.Decisions.{is_decided, told_of}
 use Rattle.co_plain.specs.Invariants.{Kept}
 use Rattle.co_plain.specs.Moves.{Move, Operate, Decide, CommitLocally, RecordYes, RecordAck, AskEnd, GuardsHold, all_effects, effect, entered_reply, marked_over, record_yes, record_ack, entry_at, with_decision, local_state}
 use Rattle.co_law_base.proofs.Facts.{Facts}
-use Rattle.co_law_moves.specs.OpenedLogs.{AreOpenable}
+use Rattle.co_plain.specs.Premises.{AreOpenable}
 use Rattle.co_law_moves.proofs.Start.{start_facts}
 use Rattle.co_law_moves.proofs.Growing.{Grows, stays, grows_on}
 use Rattle.co_law_moves.proofs.KeptFrom.{kept}

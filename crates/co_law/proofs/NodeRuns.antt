@@ -46,7 +46,7 @@ use Rattle.co_law_base.proofs.Facts.{by_coord}
 use Rattle.co_law_base.proofs.Sending.{parts_told, parts_ascend}
 use Rattle.co_law_moves.proofs.Own.{OwnFacts, spent}
 use Rattle.co_law_moves.proofs.OwnRuns.{own_step}
-use Rattle.co_law_runs.specs.OnlyTimers.{IsBetween, AreOwn}
+use Rattle.co_plain.specs.Premises.{IsBetween, AreOwn}
 use Rattle.co_law_runs.proofs.Fitting.{FitSessions, HomeFits, step_fits}
 use Rattle.co_law_node.specs.WholeMembers.{MemberStays}
 use Rattle.co_law_node.specs.WholeCoords.{EndsAlone, CoordStays}

@@ -4,9 +4,7 @@ use Rattle.co_base.specs.declared.head.Kind.{Kind}
 use Rattle.co_plain.specs.declared.happening.Happening.{Happening}
 use Rattle.co_plain.specs.Opening.{Found, opened}
 use Rattle.co_plain.specs.Runs.{run}
-use Rattle.co_law_moves.specs.HandedVerdicts.{AreTrueVerdicts}
-use Rattle.co_law_runs.specs.OnlyTimers.{AreOwn}
-use Rattle.co_law.specs.LeftLogs.{MayBeOpened}
+use Rattle.co_plain.specs.Premises.{AreTrueVerdicts, AreOwn, MayBeOpened}
 use Rattle.co_law.specs.WholeInvariants.{AreKeptWhole}
 use Rattle.co_law.proofs.EveryHome.{every_home}
 use Rattle.co_law.proofs.EveryRun.{every_kept}

@@ -16,7 +16,7 @@ use Rattle.co_state.specs.Table.{look}
 use Rattle.co_law_base.proofs.Lookups.{is_nothing, look_none}
 use Rattle.co_law_moves.proofs.Own.{OwnFacts}
 use Rattle.co_law_moves.proofs.OwnRuns.{own_run}
-use Rattle.co_law_runs.specs.OnlyTimers.{AreOwn}
+use Rattle.co_plain.specs.Premises.{AreOwn}
 use Rattle.co_law_runs.proofs.Fitting.{FitSessions, run_fits}
 use Rattle.co_law_node.specs.WholeNodes.{AreWhole}
 use Rattle.co_law_node.proofs.MemberLaws.{as_told, keeps_whole}

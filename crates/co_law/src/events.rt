@@ -7,9 +7,8 @@ ghost use Rattle.co_plain.specs.Federation.{Federation};
 ghost use Rattle.co_plain.specs.Opening.{Found, opened};
 ghost use Rattle.co_plain.specs.Runs.{run};
 ghost use Rattle.co_plain.specs.Step.{step};
-ghost use Rattle.co_law_moves.specs.HandedVerdicts.{AreTrueVerdicts, IsTrueVerdict};
+ghost use Rattle.co_plain.specs.Premises.{AreTrueVerdicts, IsTrueVerdict, AreOpenable};
 ghost use Rattle.co_law_moves.specs.MoveTraces.{IsItsMoves, IsDisarmedEverywhere};
-ghost use Rattle.co_law_moves.specs.OpenedLogs.{AreOpenable};
 
 /// Each event of a run is its list of moves: they leave what the event leaves, the guard of each holds where it is made,
 /// and the items of the event tell of these moves. To take all armed stops away is no event.

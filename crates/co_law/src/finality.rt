@@ -6,9 +6,8 @@ ghost use Rattle.co_plain.specs.declared.happening.Happening.{Happening};
 ghost use Rattle.co_plain.specs.Decisions.{IsPresumedAborted};
 ghost use Rattle.co_plain.specs.Opening.{Found, opened};
 ghost use Rattle.co_plain.specs.Runs.{run};
-ghost use Rattle.co_law_moves.specs.HandedVerdicts.{AreTrueVerdicts};
+ghost use Rattle.co_plain.specs.Premises.{AreTrueVerdicts, AreOpenable};
 ghost use Rattle.co_law_runs.specs.Finality.{IsFinal, IsLostAt, StaysLost};
-ghost use Rattle.co_law_moves.specs.OpenedLogs.{AreOpenable};
 
 /// A transaction that is presumed aborted stays so, whatever happens after: one that left its coordinator's table without
 /// a commit record (presumed abort, Mohan, Lindsay and Obermarck, TODS 1986), and a local one that was asked to end or

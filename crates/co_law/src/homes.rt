@@ -4,8 +4,7 @@ ghost use Rattle.co_base.specs.declared.head.Kind.{Kind};
 ghost use Rattle.co_plain.specs.declared.happening.Happening.{Happening};
 ghost use Rattle.co_plain.specs.Opening.{Found, opened};
 ghost use Rattle.co_plain.specs.Runs.{run};
-ghost use Rattle.co_law_moves.specs.HandedVerdicts.{AreTrueVerdicts};
-ghost use Rattle.co_law_moves.specs.OpenedLogs.{AreOpenable};
+ghost use Rattle.co_plain.specs.Premises.{AreTrueVerdicts, AreOpenable};
 ghost use Rattle.co_law.specs.HeldOnes.{AskedAreHeld};
 ghost use Rattle.co_law.specs.MessageHomes.{MessagesNameHomes};
 

@@ -9,8 +9,7 @@ ghost use Rattle.co_plain.specs.Runs.{run};
 ghost use Rattle.co_plain.specs.Promises.{SerialReads, LogsAlone, LogsStaySound, Acknowledged, MembersAgree};
 ghost use Rattle.co_plain.specs.Invariants.{Kept};
 ghost use Rattle.co_plain.specs.Moves.{Move, GuardsHold, all_effects};
-ghost use Rattle.co_law_moves.specs.HandedVerdicts.{AreTrueVerdicts};
-ghost use Rattle.co_law_moves.specs.OpenedLogs.{AreOpenable};
+ghost use Rattle.co_plain.specs.Premises.{AreTrueVerdicts, AreOpenable};
 
 /// Every state of a run has the ten invariants, and the two facts beside them.
 pub fn invariants()

@@ -9,7 +9,7 @@ ghost use Rattle.co_plain.specs.MemberView.{first_refused_at_member};
 ghost use Rattle.co_plain.specs.CoordView.{first_refused_at_coord};
 ghost use Rattle.co_plain.specs.Opening.{Found, OnlyOwnLogs, opened};
 ghost use Rattle.co_plain.specs.Runs.{run};
-ghost use Rattle.co_law_runs.specs.OnlyTimers.{AreOwn};
+ghost use Rattle.co_plain.specs.Premises.{AreOwn};
 ghost use Rattle.co_law_node.specs.WholeNodes.{AreWhole, AreWritable};
 ghost use Rattle.co_law_node.specs.Writable.{IsWithinBounds};
 

@@ -6,9 +6,8 @@ ghost use Rattle.co_plain.specs.declared.happening.Happening.{Happening};
 ghost use Rattle.co_plain.specs.MemberView.{first_refused_at_member};
 ghost use Rattle.co_plain.specs.Opening.{Found, OnlyOwnLogs, opened};
 ghost use Rattle.co_plain.specs.Runs.{run};
-ghost use Rattle.co_law_moves.specs.HandedVerdicts.{AreTrueVerdicts};
-ghost use Rattle.co_law_runs.specs.OnlyTimers.{AreOwn, AreOwnLogs};
-ghost use Rattle.co_law.specs.LeftLogs.{MayBeOpened, left};
+ghost use Rattle.co_plain.specs.Premises.{AreTrueVerdicts, AreOwn, AreOwnLogs, MayBeOpened};
+ghost use Rattle.co_law.specs.LeftLogs.{left};
 ghost use Rattle.co_law.specs.WholeInvariants.{AreKeptWhole};
 
 /// Every premise that the laws ask of opened logs holds of logs without records, whatever their spare files have: a spare

@@ -4,7 +4,7 @@ ghost use Rattle.co_message.specs.declared.event.Event.{Event};
 ghost use Rattle.co_plain.specs.declared.happening.Happening.{Happening};
 ghost use Rattle.co_plain.specs.Federation.{Federation};
 ghost use Rattle.co_plain.specs.Runs.{run, transcript, lines};
-ghost use Rattle.co_law_moves.specs.HandedVerdicts.{AreTrueVerdicts};
+ghost use Rattle.co_plain.specs.Premises.{AreTrueVerdicts};
 
 /// A run goes on from the state that it came to; so one more happening is one more step at its end.
 pub fn runs_go_on()

@@ -58,16 +58,7 @@ rest_of s =
 
 -- other coordinators, sessions and messages, with the same decisions and opened logs
 abbrev pub changed : Rest → (ℕ → CoordState) → Table Session → List Message → Rest
-changed r coord sessions sent =
-    record {
-      coord = coord;
-      sessions = sessions;
-      sent = sent;
-      decided = r.decided;
-      opened_member = r.opened_member;
-      opened_coord = r.opened_coord;
-      used = r.used;
-    }
+changed r coord sessions sent = record r { coord = coord; sessions = sessions; sent = sent }
 
 abbrev pub told : Rest → ℕ → List Told
 told r t = told_in (look r.sessions t)

@@ -11,7 +11,7 @@ use Rattle.co_plain.specs.CoordView.{recovered_commits, has_commit_of}
 use Rattle.co_plain.specs.Federation.{Federation}
 use Rattle.co_plain.specs.Decisions.{is_decided, votes_for, sites_of, replies_of}
 use Rattle.co_plain.specs.DurableRecords.{durable_in}
-use Rattle.co_plain.specs.SoundLogs.{unended_in, has_unended, log_votes_for, log_has_committed}
+use Rattle.co_plain.specs.SoundLogs.{unended_in, has_unended, log_votes_for, log_has_committed, LogsName, ByVote, ByCommit}
 use Rattle.co_plain.specs.Invariants.{Stable, view, takes_part_in, FilesAreSound}
 use Rattle.co_law_engine.proofs.YesTells.{in_some}
 use Rattle.co_law_base.proofs.Lookups.{holds_found, found_holds}
@@ -80,6 +80,22 @@ module _ (s : Federation) (f : Facts s) where
       by (inr p) (inl q) = apart d c members (and_parts (by_coord (look s.sessions t) d) (is_decided s.decided t) q).0 p
       by (inr p) (inr q) = f.numbers.one_commit t c d members others p q
 
+  abbrev Named : ℕ → ℕ → Type 0
+  Named = LogsName (λ m. (s.member m).log.stable) (λ c. (s.coord c).log.stable)
+
+  one_coordinator : (t c d : ℕ) → Named t c → Named t d → c ≡ d
+  one_coordinator t c d (ByVote m h) (ByVote n k) = one_belongs (rest_of s) f.numbers t c d (named' m t c h) (named' n t d k)
+  one_coordinator t c d (ByVote m h) (ByCommit k) =
+      let p = holds_found (recovered_commits (s.coord d).log.stable).unended t k in
+      vote_commit t c d p.0 (named' m t c h) p.1
+  one_coordinator t c d (ByCommit h) (ByVote n k) =
+      let p = holds_found (recovered_commits (s.coord c).log.stable).unended t h in
+      sym (vote_commit t d c p.0 (named' n t d k) p.1)
+  one_coordinator t c d (ByCommit h) (ByCommit k) =
+      let p = holds_found (recovered_commits (s.coord c).log.stable).unended t h in
+      let q = holds_found (recovered_commits (s.coord d).log.stable).unended t k in
+      one_commit t c d p.0 q.0 p.1 q.1
+
   no_unended : (m t c : ℕ) → log_votes_for (s.member m).log.stable t c ≡ true → has_unended (s.coord c).log.stable t ≡ false → settled (rest_of s) t → ⊥
   no_unended m t c h n d =
       let p = voted_open m t c h d in
@@ -89,17 +105,15 @@ module _ (s : Federation) (f : Facts s) where
   pub files_sound : FilesAreSound s
   files_sound =
       record {
-        one_vote = λ t m n c d h k. one_belongs (rest_of s) f.numbers t c d (named' m t c h) (named' n t d k);
-        vote_and_commit = λ t m c d h k. let p = holds_found (recovered_commits (s.coord d).log.stable).unended t k in vote_commit t c d p.0 (named' m t c h) p.1;
-        one_commit = λ t c d h k.
-            let p = holds_found (recovered_commits (s.coord c).log.stable).unended t h in
-            let q = holds_found (recovered_commits (s.coord d).log.stable).unended t k in
-            one_commit t c d p.0 q.0 p.1 q.1;
+        one_coordinator = one_coordinator;
         participants = λ t c m members h k. f.records.unended t c m members Stable h k;
         voters = λ t c m members h k.
             let p = voted_open m t c k (unended_settled s f c t members h) in
             subst (λ ns. has_number ns m ≡ true) (in_some (sym p.1 ∙ h)) p.2;
-        nowhere_committed = λ t m c n h k. false_from_ne_true (log_has_committed (s.member n).log.stable t)
-            (λ z. no_unended m t c h k (settled_from (rest_of s) t c (((f.members n).views Stable).homed t c z (named' m t c h))));
-        nowhere_decided = λ t m c d h k. false_from_ne_true (has_commit_of (s.coord d).log.stable t) (λ z. no_unended m t c h k (known_settled d t z));
+        undecided = λ t m c h k.
+            record {
+              uncommitted = λ n. false_from_ne_true (log_has_committed (s.member n).log.stable t)
+                  (λ z. no_unended m t c h k (settled_from (rest_of s) t c (((f.members n).views Stable).homed t c z (named' m t c h))));
+              undecided = λ d. false_from_ne_true (has_commit_of (s.coord d).log.stable t) (λ z. no_unended m t c h k (known_settled d t z));
+            };
       }

@@ -11,7 +11,7 @@ use Rattle.co_plain.specs.CoordView.{has_commit_of}
 use Rattle.co_plain.specs.Sessions.{same_node}
 use Rattle.co_plain.specs.Federation.{Federation}
 use Rattle.co_plain.specs.Decisions.{is_decided, is_asked}
-use Rattle.co_plain.specs.Invariants.{is_over}
+use Rattle.co_plain.specs.Invariants.{is_asked_or_used}
 use Rattle.co_law_base.proofs.Facts.{by_coord}
 use Rattle.co_law_base.proofs.Commits.{unended_some}
 use Rattle.co_law_moves.specs.OwnFacts.{BegunAt, TableIsOwn, KeptByEach}
@@ -27,7 +27,7 @@ begun_at (Some session) c h = by session.by refl h
 
 module _ (s : Federation) (f : OwnFacts s) where
   -- who is in a table past its first entry was asked to end, or stands in an opened log
-  past_idle : (t c : ℕ) (e : Entry) → look (s.coord c).table t ≡ Some e → e ≢ entry.Idle → is_over s t ≡ true
+  past_idle : (t c : ℕ) (e : Entry) → look (s.coord c).table t ≡ Some e → e ≢ entry.Idle → is_asked_or_used s t ≡ true
   past_idle t c entry.Idle h n = absurd (n refl)
   past_idle t c (entry.Collecting parts yeses) h n = or_left (is_asked s t) (holds s.used t) ((f.coords c).collecting t parts yeses h).asked
   past_idle t c (entry.Committed members acks) h n = (f.coords c).unended_over t members ((f.coords c).committed t members acks h).recorded

@@ -17,11 +17,11 @@ use Rattle.co_plain.specs.Numbers.{has_number}
 use Rattle.co_plain.specs.CoordView.{has_commit_of}
 use Rattle.co_plain.specs.Sessions.{same_node, count_at}
 use Rattle.co_plain.specs.Federation.{Federation}
-use Rattle.co_plain.specs.Decisions.{is_decided, is_asked, votes_for, told_of, sites_of, BelongsTo, BegunThere, VotedBefore, IsPresumedAborted, AtCoordinator, AtMember, IsDecided, InThisRun, InOpenedFile}
+use Rattle.co_plain.specs.Decisions.{is_decided, is_asked, votes_for, told_of, sites_of, BelongsTo, BegunThere, VotedBefore, IsPresumedAborted, AtCoordinator, AtMember, IsSettled, InThisRun, InOpenedFile}
 use Rattle.co_plain.specs.DurableRecords.{durable_records, starting_records}
 use Rattle.co_plain.specs.SoundLogs.{unended_in, log_has_committed}
 use Rattle.co_plain.specs.Promises.{serial_records}
-use Rattle.co_plain.specs.Invariants.{Side, Stable, view, stands, takes_part_in, TakesPart, HeldOperations, NamedBefore, InstalledIsSerial, OnlyAbortsWait, CoordinatorMatchesMembers, Kept, told_here, is_begun, is_over}
+use Rattle.co_plain.specs.Invariants.{Side, Stable, view, stands, takes_part_in, TakesPart, HeldOperations, NamedBefore, InstalledIsSerial, OnlyAbortsWait, CoordinatorMatchesMembers, Kept, told_here, is_begun, is_asked_or_used}
 use Rattle.co_law_base.proofs.Lookups.{holds_found, found_holds}
 use Rattle.co_law_base.proofs.ViewMoves.{each_decided}
 use Rattle.co_law_base.proofs.ViewRules.{as_invariant}
@@ -73,7 +73,7 @@ living s t c b n = by (alive (rest_of s) c t) refl
     by true e = e
     by false e = absurd (n (dead_is s t c b e))
 
-pub settled_is : (s : Federation) (t : ℕ) → settled (rest_of s) t → IsDecided s t
+pub settled_is : (s : Federation) (t : ℕ) → settled (rest_of s) t → IsSettled s t
 settled_is s t (Here h) = InThisRun h
 settled_is s t (Before c h) = InOpenedFile c h
 
@@ -109,7 +109,7 @@ module _ (s0 s : Federation) (f : Facts s) (g : Grows s0 s) where
   to_stable : (m t : ℕ) → holds (s.member m).committed t ≡ true → holds (view Stable (s.member m)).committed t ≡ true
   to_stable m t h = sym (ap (λ n. holds n t) (committed_both (rest_of s) m (s.member m) (f.members m))) ∙ h
 
-  not_idle : (t c : ℕ) (e : Entry) → look (s.coord c).table t ≡ Some e → e ≢ entry.Idle → is_over s t ≡ true
+  not_idle : (t c : ℕ) (e : Entry) → look (s.coord c).table t ≡ Some e → e ≢ entry.Idle → is_asked_or_used s t ≡ true
   not_idle t c entry.Idle q n = absurd (n refl)
   not_idle t c (entry.Collecting parts yeses) q n = or_left (is_asked s t) (holds s.used t) ((f.coords c).collecting t parts yeses q).asked
   not_idle t c (entry.Committed members acks) q n = (f.coords c).unended_over t members ((f.coords c).committed t members acks q).recorded
@@ -203,7 +203,7 @@ module _ (s0 s : Federation) (f : Facts s) (g : Grows s0 s) where
       record {
         conflict_free = λ m side. ((f.members m).views side).free;
         replays = λ m side. as_invariant (view side (s.member m)) (told_here s m) (is_begun s) ((f.members m).views side).replay;
-        told_durable =
+        said_durable =
             record {
               votes = λ t m c side h alive'. f.sent.yeses_stand t m c side h (living s t c (f.sent.votes_named t m c true h) alive');
               acks = λ t m c side h. f.sent.acks_stand t m c side h;

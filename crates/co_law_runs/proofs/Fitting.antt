@@ -36,7 +36,7 @@ use Rattle.co_plain.specs.Federation.{Federation, answers, at_member, at_coord, 
 use Rattle.co_plain.specs.Step.{up_member, up_coord, is_used, begin_where, local_where, entered, operated, operate_with, marked_asked, coord_answers, local_answers, commit_at, commit_with, abort_at, abort_with, arrives, timer_at, crash_at, restart_at, arm_at, checkpoint_at, reply_in, is_stopped, is_held, step_line, step}
 use Rattle.co_plain.specs.Runs.{run}
 use Rattle.co_law_base.proofs.Lookups.{put_cases}
-use Rattle.co_law_runs.specs.OnlyTimers.{IsBetween, NamesOwnNode, IsOwn, AreOwn}
+use Rattle.co_plain.specs.Premises.{IsBetween, NamesOwnNode, IsOwn, AreOwn}
 
 abbrev pub HomeFits : ℕ → ℕ → Node → Type 0
 HomeFits n k (node.Member m) = IsBetween m n

@@ -40,9 +40,9 @@ use Rattle.co_law_moves.proofs.Steps.{step_keeps}
 use Rattle.co_law_moves.proofs.MemberEvents.{active_is, installed_is, votes_own}
 use Rattle.co_law_moves.proofs.Onward.{present}
 use Rattle.co_law_runs.proofs.Working.{Working}
-use Rattle.co_law_moves.specs.HandedVerdicts.{AreTrueVerdicts}
+use Rattle.co_plain.specs.Premises.{AreTrueVerdicts, IsBetween}
 use Rattle.co_law_moves.specs.MoveTraces.{run_items}
-use Rattle.co_law_runs.specs.OnlyTimers.{IsBetween, EndsForGood, SomeTimerEnds, tells_commit}
+use Rattle.co_law_runs.specs.OnlyTimers.{EndsForGood, SomeTimerEnds, tells_commit}
 use Rattle.co_law_runs.proofs.Fitting.{FitSessions, HomeFits}
 use Rattle.co_law_runs.proofs.Hopeless.{Hopeless, Dead, Lost, run_tells_none, step_works}
 

@@ -34,7 +34,7 @@ use Rattle.co_plain.specs.CoordStep.{members_of}
 use Rattle.co_plain.specs.Sessions.{told_at, count_at, parts_of}
 use Rattle.co_plain.specs.Wire.{was_sent}
 use Rattle.co_plain.specs.Federation.{Federation}
-use Rattle.co_plain.specs.Decisions.{is_decided, is_asked, told_of, votes_for, BelongsTo, IsPresumedAborted, IsDecided}
+use Rattle.co_plain.specs.Decisions.{is_decided, is_asked, told_of, votes_for, BelongsTo, IsPresumedAborted, IsSettled}
 use Rattle.co_plain.specs.SoundLogs.{AreSound, log_has_committed, unended_in}
 use Rattle.co_plain.specs.Promises.{serial_records, AreDecidedOnce}
 
@@ -83,7 +83,7 @@ abbrev pub told_here : Federation → ℕ → ℕ → List Told
 told_here s m t = told_at (told_of s t) m
 
 -- 3. What a member told is durable.
-pub record ToldIsDurable (s : Federation) : Type 0 where
+pub record SaidIsDurable (s : Federation) : Type 0 where
   pub votes : (t m c : ℕ) (side : Side) → was_sent s.sent (message.Vote t m c true) ≡ true → ¬ (IsPresumedAborted s t) →
       stands (view side (s.member m)) t ≡ true
   pub acks : (t m c : ℕ) (side : Side) → was_sent s.sent (message.Ack t m c) ≡ true →
@@ -91,9 +91,9 @@ pub record ToldIsDurable (s : Federation) : Type 0 where
 
 -- 4. The installed records are the serial ones, but for what decided voted transactions wrote.
 pub record InstalledIsSerial (s s0 : Federation) (m : ℕ) (v : MemberView) : Type 0 where
-  pub untouched : (key : List ℕ) → ((t : ℕ) (vote : Vote) → look v.voted t ≡ Some vote → IsDecided s t → writes_key vote.sets.writes key ≡ false) →
+  pub untouched : (key : List ℕ) → ((t : ℕ) (vote : Vote) → look v.voted t ≡ Some vote → IsSettled s t → writes_key vote.sets.writes key ≡ false) →
       get (serial_records s0 s.decided m) key ≡ get v.records key
-  pub overlaid : (t : ℕ) (vote : Vote) (key : List ℕ) (records : Records) → look v.voted t ≡ Some vote → IsDecided s t →
+  pub overlaid : (t : ℕ) (vote : Vote) (key : List ℕ) (records : Records) → look v.voted t ≡ Some vote → IsSettled s t →
       writes_key vote.sets.writes key ≡ true → get (serial_records s0 s.decided m) key ≡ get (with_changes records vote.sets.writes) key
   pub decided_stand : (d : Decided) (later earlier : List Decided) → s.decided ≡ later ++ d ∷ earlier → 1 ≤ count_at d.told m →
       stands v d.txn ≡ true
@@ -107,7 +107,7 @@ pub data TakesPart (s : Federation) (t m : ℕ) : Type 0 where
 pub record DecisionsAreTrue (s : Federation) : Type 0 where
   pub aborts : (t c m : ℕ) → was_sent s.sent (message.Decide t c m false) ≡ true →
       IsPresumedAborted s t ⊎ (log_has_committed (s.member m).log.stable t ≡ true)
-  pub commits : (t c m : ℕ) → was_sent s.sent (message.Decide t c m true) ≡ true → IsDecided s t × TakesPart s t m
+  pub commits : (t c m : ℕ) → was_sent s.sent (message.Decide t c m true) ≡ true → IsSettled s t × TakesPart s t m
 
 -- the operations that a member keeps are those that the client was told of, each with the reply that the
 -- records at its stamp give with the earlier writes laid over
@@ -142,14 +142,14 @@ txn_of (message.Ask t m c) = t
 txn_of (message.Ack t m c) = t
 
 -- asked in its session, or in an opened log
-abbrev pub is_over : Federation → ℕ → Bool
-is_over s t = is_asked s t || holds s.used t
+abbrev pub is_asked_or_used : Federation → ℕ → Bool
+is_asked_or_used s t = is_asked s t || holds s.used t
 
 -- 7. Only a transaction that was asked to end is past its last operation.
 pub record OnlyAskedVote (s : Federation) : Type 0 where
-  pub standing : (t m : ℕ) (side : Side) → stands (view side (s.member m)) t ≡ true → is_over s t ≡ true
-  pub in_table : (t c : ℕ) (e : Entry) → look (s.coord c).table t ≡ Some e → e ≢ entry.Idle → is_over s t ≡ true
-  pub named : (note : Message) → was_sent s.sent note ≡ true → is_over s (txn_of note) ≡ true
+  pub standing : (t m : ℕ) (side : Side) → stands (view side (s.member m)) t ≡ true → is_asked_or_used s t ≡ true
+  pub in_table : (t c : ℕ) (e : Entry) → look (s.coord c).table t ≡ Some e → e ≢ entry.Idle → is_asked_or_used s t ≡ true
+  pub named : (note : Message) → was_sent s.sent note ≡ true → is_asked_or_used s (txn_of note) ≡ true
   pub begun_is_new : (t : ℕ) → holds s.sessions t ≡ true → holds s.used t ≡ false
   pub marked : (t m : ℕ) (mark : AskedMark) → look (s.member m).asked t ≡ Some mark →
       (holds (s.member m).engine.active t ≡ true) × (was_sent s.sent (message.Prepare t mark.coord m mark.count) ≡ true)
@@ -240,7 +240,7 @@ DecidedKeepsSession s =
 pub record Kept (s0 s : Federation) : Type 0 where
   pub conflict_free : (m : ℕ) (side : Side) → VotedAreConflictFree (view side (s.member m))
   pub replays : (m : ℕ) (side : Side) → VotedReplay (view side (s.member m)) (told_here s m) (is_begun s)
-  pub told_durable : ToldIsDurable s
+  pub said_durable : SaidIsDurable s
   pub serial : (m : ℕ) (side : Side) → InstalledIsSerial s s0 m (view side (s.member m))
   pub true_decisions : DecisionsAreTrue s
   pub active : ActiveMatchesSession s

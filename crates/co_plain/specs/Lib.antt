@@ -23,4 +23,5 @@ pub mod SoundLogs
 pub mod CommitmentOrder
 pub mod Promises
 pub mod Invariants
+pub mod Premises
 pub mod Moves

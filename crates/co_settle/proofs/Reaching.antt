@@ -27,10 +27,9 @@ use Rattle.co_law.proofs.WritableRuns.{are_writable}
 use Rattle.co_law.specs.MessageHomes.{IsHome, Belongs, CommittedBefore, MessagesNameHomes}
 use Rattle.co_law_base.proofs.Lookups.{is_nothing, look_none}
 use Rattle.co_law_moves.proofs.Growing.{run_grows}
-use Rattle.co_law_moves.specs.HandedVerdicts.{AreTrueVerdicts, IsTrueVerdict}
+use Rattle.co_plain.specs.Premises.{AreTrueVerdicts, IsTrueVerdict, AreOwn, AreOwnLogs, IsOwn, IsBetween, NamesOwnNode}
 use Rattle.co_law_node.specs.WholeNodes.{AreWhole, AreWritable}
 use Rattle.co_law_runs.proofs.Fitting.{Fit, HomeFits, run_fits}
-use Rattle.co_law_runs.specs.OnlyTimers.{AreOwn, AreOwnLogs, IsOwn, IsBetween, NamesOwnNode}
 use Rattle.co_law_settle.proofs.Settled.{Reached, reached}
 use Rattle.co_world.specs.Conditions.{IsReady}
 use Rattle.co_settle.specs.Reached.{IsReached}
