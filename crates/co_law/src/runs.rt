@@ -17,6 +17,12 @@ pub fn transcripts_go_on()
         transcript number (events ++ more) s ≡ transcript number events s ++ transcript (number + length events) more (run (lines events) s) }
 {}
 
+/// Nothing that happens changes the opened logs, so the serial run starts from the same records in every state.
+pub fn opened_logs_stay()
+    ensures members { (hs : List Happening) (s : Federation) → (run hs s).opened_member ≡ s.opened_member }
+    ensures coordinators { (hs : List Happening) (s : Federation) → (run hs s).opened_coord ≡ s.opened_coord }
+{}
+
 /// Schedule lines hand no verdict, so what is handed in a schedule is true.
 pub fn lines_hand_no_verdict()
     ensures { (events : List Event) (s : Federation) → AreTrueVerdicts (lines events) s }
