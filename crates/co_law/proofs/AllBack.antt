@@ -15,17 +15,19 @@ use Rattle.co_plain.specs.Federation.{Federation}
 use Rattle.co_plain.specs.MemberView.{recovered_view}
 use Rattle.co_plain.specs.Sessions.{same_node, count_at}
 use Rattle.co_plain.specs.SoundLogs.{unended_in, has_unended, log_has_committed, ByVote, ByCommit}
-use Rattle.co_plain.specs.Invariants.{Side, Stable, view, stands, takes_part_in, ends_only, OnlyAbortsWait}
+use Rattle.co_plain.specs.Invariants.{Side, Stable, view, stands, takes_part_in, ends_only, is_settled_vote, OnlyAbortsWait}
 use Rattle.co_plain.specs.CoordInvariants.{BegunAt, IsOpenEntry, OwnEnds, IsHeldFor, ViewMatchesCoordinators}
 use Rattle.co_plain.specs.AllInvariants.{AllInvariants}
-use Rattle.co_law_base.proofs.Carrying.{votes_stand}
+use Rattle.co_law_base.proofs.Carrying.{votes_stand, settled_home, settled_from}
 use Rattle.co_law_base.proofs.Commits.{unended_seen}
-use Rattle.co_law_base.proofs.Facts.{rest_of, serial_start, serial_of, by_coord, alive, belongs, Begun, Voted, Each, OnlyAborts, ReadSerially, OpenEntry, NumberFacts, ViewFacts, MemberFacts, CoordHas, Facts}
+use Rattle.co_law_base.proofs.Facts.{rest_of, serial_start, serial_of, settled, by_coord, alive, belongs, Begun, Voted, Each, OnlyAborts, ReadSerially, OpenEntry, NumberFacts, ViewFacts, MemberFacts, CoordHas, Facts}
+use Rattle.co_law_base.proofs.ImageRules.{IsImage}
 use Rattle.co_law_base.proofs.LogMoves.{as_belongs, dead_there}
 use Rattle.co_law_base.proofs.Lookups.{holds_found, found_holds}
 use Rattle.co_law_base.proofs.TwoViews.{committed_both}
 use Rattle.co_law_base.proofs.VoteMoves.{as_settled}
-use Rattle.co_law_moves.proofs.KeptFrom.{belongs_is, settled_is}
+use Rattle.co_law_moves.proofs.KeptFrom.{belongs_is}
+use Rattle.co_law_moves.proofs.Laid.{laid_image}
 use Rattle.co_law_moves.proofs.MoveByMove.{as_takes}
 use Rattle.co_law_moves.proofs.Own.{AtCoord, OwnFacts}
 use Rattle.co_law_runs.proofs.Agreement.{told_begun}
@@ -94,10 +96,10 @@ module _ (s : Federation) (i : AllInvariants s) where
         free = i.conflict_free m side;
         replay = λ t vote b e. record { replays = replays.replays t vote b e; reads = replays.reads t vote b e; writes = replays.writes t vote b e };
         image =
-            record {
-              untouched = λ key h. serial.untouched key (λ t vote e d. h t vote e (as_settled s t d));
-              written = λ t vote key e d w records. serial.overlaid t vote key records e (settled_is s t d) w;
-            };
+            subst (λ records. IsImage records (settled (rest_of s)) (view side (s.member m))) serial.serial
+            (laid_image (is_settled_vote s) (settled (rest_of s)) (view side (s.member m)) (i.conflict_free m side)
+            (λ t vote e h. settled_from (rest_of s) t vote.coord h)
+            (λ t vote e d. settled_home (rest_of s) numbers t vote.coord (as_belongs s t vote.coord (v.named t vote.coord (ap (λ o. votes_for o vote.coord) e ∙ eq-eqb vote.coord vote.coord refl))) d));
         named = λ t c h. as_belongs s t c (v.named t c h);
         over = λ t h. i.asked.standing t m side h;
         apart = v.apart;

@@ -15,7 +15,7 @@ use Rattle.co_plain.specs.SoundLogs.{unended_in, has_unended, log_votes_for, log
 use Rattle.co_plain.specs.Invariants.{Stable, view, takes_part_in, FilesAreSound}
 use Rattle.co_law_engine.proofs.YesTells.{in_some}
 use Rattle.co_law_base.proofs.Lookups.{holds_found, found_holds}
-use Rattle.co_law_base.proofs.ImageRules.{durable_serial}
+use Rattle.co_law_base.proofs.ImageRules.{laid_serial}
 use Rattle.co_law_base.proofs.Commits.{unended_seen}
 use Rattle.co_law_base.proofs.Facts.{rest_of, settled, Here, Before, by_coord, belongs, Begun, Voted, serial, serial_of, ReadSerially, ViewFacts, Facts}
 use Rattle.co_law_base.proofs.Carrying.{one_belongs, settled_alive, settled_from, by_coord_begun, same_coord}
@@ -52,7 +52,7 @@ module _ (s : Federation) (f : Facts s) where
   -- the logs alone give the serial records
   pub logs_give : (m : ℕ) → durable_in s m ≡ serial (rest_of s) m
   logs_give m =
-      durable_serial (serial (rest_of s) m) (settled (rest_of s)) (λ c. (s.coord c).log.stable) (view Stable (s.member m)) ((f.members m).views Stable).image
+      laid_serial (serial (rest_of s) m) (settled (rest_of s)) (λ t vote. has_commit_of (s.coord vote.coord).log.stable t) (view Stable (s.member m)) ((f.members m).views Stable).image
       (λ t vote e h. known_settled vote.coord t h)
       (λ t vote e d. let p = voted_open m t vote.coord (ap (λ o. votes_for o vote.coord) e ∙ eq-eqb vote.coord vote.coord refl) d in unended_seen (s.coord vote.coord).log.stable t p.0 p.1)
 

@@ -21,12 +21,13 @@ use Rattle.co_plain.specs.Decisions.{is_decided, is_asked, votes_for, told_of, s
 use Rattle.co_plain.specs.DurableRecords.{durable_records, starting_records}
 use Rattle.co_plain.specs.SoundLogs.{unended_in, log_has_committed}
 use Rattle.co_plain.specs.Promises.{serial_records}
-use Rattle.co_plain.specs.Invariants.{Side, Stable, view, stands, takes_part_in, TakesPart, HeldOperations, NamedBefore, InstalledIsSerial, OnlyAbortsWait}
+use Rattle.co_plain.specs.Invariants.{Side, Stable, view, stands, takes_part_in, TakesPart, HeldOperations, NamedBefore, is_settled_vote, InstalledIsSerial, OnlyAbortsWait}
 use Rattle.co_law_base.proofs.Lookups.{holds_found, found_holds}
+use Rattle.co_law_base.proofs.ImageRules.{laid_serial}
 use Rattle.co_law_base.proofs.ViewMoves.{each_decided}
 use Rattle.co_law_base.proofs.ViewRules.{as_invariant}
-use Rattle.co_law_base.proofs.Facts.{rest_of, settled, Here, Before, settled_at, alive, by_coord, belongs, Begun, Voted, takes, ByTold, Named, OnlyAborts, Each, Facts}
-use Rattle.co_law_base.proofs.Carrying.{one_belongs, settled_alive, by_coord_begun, held_on}
+use Rattle.co_law_base.proofs.Facts.{rest_of, settled, Here, Before, settled_at, alive, by_coord, belongs, Begun, Voted, takes, ByTold, Named, serial, OnlyAborts, Each, Facts}
+use Rattle.co_law_base.proofs.Carrying.{one_belongs, settled_alive, settled_home, settled_from, by_coord_begun}
 use Rattle.co_law_base.proofs.TwoViews.{committed_both}
 use Rattle.co_law_base.proofs.Commits.{unended_seen}
 use Rattle.co_law_base.proofs.VoteMoves.{as_settled}
@@ -103,8 +104,10 @@ module _ (s : Federation) (f : Facts s) where
   image m side =
       let v = (f.members m).views side in
       record {
-        untouched = λ key h. v.image.untouched key (λ t vote e d. h t vote e (settled_is s t d));
-        overlaid = λ t vote key records e d w. v.image.written t vote key e (as_settled s t d) w records;
+        serial =
+            laid_serial (serial (rest_of s) m) (settled (rest_of s)) (is_settled_vote s) (view side (s.member m)) v.image
+            (λ t vote e h. settled_from (rest_of s) t vote.coord h)
+            (λ t vote e d. settled_home (rest_of s) f.numbers t vote.coord (v.named t vote.coord (ap (λ o. votes_for o vote.coord) e ∙ eq-eqb vote.coord vote.coord refl)) d);
         decided_stand = λ d later earlier q h. each_at (λ e. 1 ≤ count_at e.told m → stands (view side (s.member m)) e.txn ≡ true) s.decided later earlier d v.done q h;
       }
 

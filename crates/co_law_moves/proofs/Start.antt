@@ -26,7 +26,7 @@ use Rattle.co_law_base.proofs.Commits.{lacks_at_first, unended_seen, unended_som
 use Rattle.co_law_base.proofs.ImageRules.{IsImage}
 use Rattle.co_law_base.proofs.Facts.{rest_of, asked, settled, Here, Before, alive, by_coord, settled_at, belongs, Begun, Voted, Named, serial, ViewFacts, MemberFacts, CommittedEntry, CoordHas, Facts}
 use Rattle.co_plain.specs.Premises.{AreOpenable}
-use Rattle.co_law_moves.proofs.Laid.{durable_image}
+use Rattle.co_law_moves.proofs.Laid.{laid_image}
 
 pub made_view : (owner : Node) (rs : List Record) → recovered_view (made owner rs) ≡ recovered_view rs
 made_view owner [] = refl
@@ -88,7 +88,7 @@ module _ (kinds : List Kind) (coords : ℕ) (fm fc : ℕ → Found) (g : AreOpen
 
   image : (m : ℕ) → IsImage (serial (rest_of (opened kinds coords fm fc)) m) (settled (rest_of (opened kinds coords fm fc))) (recovered_view (fm m).records)
   image m =
-      durable_image (λ c. (fc c).records) (settled (rest_of (opened kinds coords fm fc))) (recovered_view (fm m).records) (g.free m)
+      laid_image (λ t vote. has_commit_of (fc vote.coord).records t) (settled (rest_of (opened kinds coords fm fc))) (recovered_view (fm m).records) (g.free m)
       (λ t vote f d. Before vote.coord d)
       (λ t vote f d. back t vote f d)
     where

@@ -1,7 +1,7 @@
 -- The invariants of every run, but for the ninth. Facts of a member are facts of its view, and hold of what its memory has and of
 -- what its stable records tell: the two sides.
 use Rattle.std.specs.Prelude.{ℕ, Bool, true, false, ◌||◌, ◌≡◌, ◌≢◌, ◌≤◌, ◌⊎◌, List, [], ◌∷◌, ◌++◌, length, Option, None, Some}
-use Rattle.std.specs.FinMap.{get}
+use Rattle.std.specs.FinMap.{entries}
 use Rattle.co_base.specs.declared.node.Node.TheVariants as node
 use Rattle.co_base.specs.declared.part.Part.{Part}
 use Rattle.co_base.specs.declared.written.Written.{Written}
@@ -15,7 +15,6 @@ use Rattle.co_state.specs.declared.engine_state.EngineState.{EngineState}
 use Rattle.co_state.specs.declared.engine_state.Operation.{Operation}
 use Rattle.co_state.specs.declared.engine_state.Vote.{Vote}
 use Rattle.co_state.specs.Table.{look, holds}
-use Rattle.co_state.specs.Keys.{writes_key}
 use Rattle.co_state.specs.Changes.{with_written, with_span, change_made, span_read, changes_of}
 use Rattle.co_state.specs.EngineState.{records_at}
 use Rattle.co_base.specs.Span.{Span}
@@ -36,6 +35,7 @@ use Rattle.co_plain.specs.Wire.{was_sent}
 use Rattle.co_plain.specs.Federation.{Federation}
 use Rattle.co_plain.specs.Decisions.{is_decided, is_asked, told_of, sites_of, replies_of, BelongsTo, IsPresumedAborted, IsSettled}
 use Rattle.co_plain.specs.SoundLogs.{AreSound, log_has_committed, unended_in}
+use Rattle.co_plain.specs.DurableRecords.{laid_where}
 use Rattle.co_plain.specs.Promises.{serial_records}
 
 -- the two sides of a member
@@ -89,13 +89,14 @@ pub record SaidIsDurable (s : Federation) : Type 0 where
   pub acks : (t m c : ℕ) (side : Side) → was_sent s.sent (message.Ack t m c) ≡ true →
       holds (view side (s.member m)).committed t ≡ true
 
--- 4. The installed records are the serial ones, but for what settled voted transactions wrote; who is decided and held
--- operations here stands here. And committed transactions read serially, each at its place of the decision order.
+-- whether a vote is settled: decided in this run, or committed in the opened file of its coordinator
+abbrev pub is_settled_vote : Federation → ℕ → Vote → Bool
+is_settled_vote s t vote = is_decided s.decided t || has_commit_of (s.opened_coord vote.coord) t
+
+-- 4. The serial records are the installed ones with the settled votes laid over, the least number first; and who is decided and
+-- held operations here stands here. And committed transactions read serially, each at its place of the decision order.
 pub record InstalledIsSerial (s : Federation) (m : ℕ) (v : MemberView) : Type 0 where
-  pub untouched : (key : List ℕ) → ((t : ℕ) (vote : Vote) → look v.voted t ≡ Some vote → IsSettled s t → writes_key vote.sets.writes key ≡ false) →
-      get (serial_records s s.decided m) key ≡ get v.records key
-  pub overlaid : (t : ℕ) (vote : Vote) (key : List ℕ) (records : Records) → look v.voted t ≡ Some vote → IsSettled s t →
-      writes_key vote.sets.writes key ≡ true → get (serial_records s s.decided m) key ≡ get (with_changes records vote.sets.writes) key
+  pub serial : laid_where (is_settled_vote s) v.records (entries v.voted) ≡ serial_records s s.decided m
   pub decided_stand : (d : Decided) (later earlier : List Decided) → s.decided ≡ later ++ d ∷ earlier → 1 ≤ count_at d.told m →
       stands v d.txn ≡ true
 
