@@ -27,7 +27,7 @@ pub use invariants::{
 pub use laws::{
     acknowledged, agreement, fresh_logs, logs_alone, readable_logs, serial_reads, sound_logs,
 };
-pub use nodes::{whole_nodes, writable_nodes};
+pub use nodes::{each_event_keeps_nodes, whole_nodes, writable_nodes};
 pub use opening::{allowed_logs_are_own, empty_logs, left_logs, whole_invariants};
 pub use order::{commitment_ordered, decisions_told, transcripts_ordered};
 pub use own::kept_by_each;

@@ -2,12 +2,17 @@
 -- operations that name nodes of the federation.
 use Rattle.std.specs.Prelude.{ℕ, true, false, ◌≡◌, ◌≤◌, List, [], ◌∷◌, length, reverse, None}
 use Rattle.co_base.specs.declared.head.Kind.{Kind}
+use Rattle.co_base.specs.declared.node.Node.{Node}
+use Rattle.co_base.specs.declared.node.Node.TheVariants as node
 use Rattle.co_message.specs.declared.event.Event.{Event}
 use Rattle.co_message.specs.declared.event.Event.TheVariants as event
 use Rattle.co_state.specs.Table.{look, holds}
 use Rattle.co_plain.specs.declared.happening.Happening.{Happening}
 use Rattle.co_plain.specs.declared.happening.Happening.TheVariants as happening
+use Rattle.co_plain.specs.declared.session.Session.{Session}
+use Rattle.co_plain.specs.Member.{most_operations}
 use Rattle.co_plain.specs.MemberView.{recovered_view, first_refused_at_member}
+use Rattle.co_plain.specs.Sessions.{count_at}
 use Rattle.co_plain.specs.CoordView.{has_commit_of, first_refused_at_coord}
 use Rattle.co_plain.specs.Federation.{Federation}
 use Rattle.co_plain.specs.Step.{step}
@@ -59,6 +64,11 @@ abbrev pub AreOwn : ℕ → ℕ → List Happening → Type 0
 AreOwn members coords [] = Unit {0}
 AreOwn members coords (h ∷ hs) = IsOwn members coords h × AreOwn members coords hs
 
+-- a node of a federation with so many members and coordinators
+abbrev pub IsOwnNode : ℕ → ℕ → Node → Type 0
+IsOwnNode members coords (node.Member m) = IsBetween m members
+IsOwnNode members coords (node.Coord c) = IsBetween c coords
+
 -- the opened logs are those of the federation's own nodes, and their votes name its coordinators
 pub record AreOwnLogs (kinds : List Kind) (coords : ℕ) (found_member found_coord : ℕ → Found) : Type 0 where
   pub own : OnlyOwnLogs kinds coords found_member found_coord
@@ -71,3 +81,10 @@ pub record MayBeOpened (kinds : List Kind) (coords : ℕ) (found_member found_co
   pub own : AreOwnLogs kinds coords found_member found_coord
   pub members_allowed : (m : ℕ) → first_refused_at_member coords (reverse (found_member m).records) ≡ None
   pub coords_allowed : (c : ℕ) → first_refused_at_coord (length kinds) (reverse (found_coord c).records) ≡ None
+
+-- What begins and operations of own nodes leave of a session: it was begun at one, its client was told of operations at own
+-- members alone, and of a bounded number at each.
+pub record IsOwnSession (members coords : ℕ) (session : Session) : Type 0 where
+  pub home : IsOwnNode members coords session.by
+  pub sites : (m : ℕ) → 1 ≤ count_at session.told m → IsBetween m members
+  pub few : (m : ℕ) → count_at session.told m ≤ most_operations
