@@ -15,7 +15,7 @@ use Rattle.co_plain.specs.Federation.{Federation}
 use Rattle.co_plain.specs.MemberView.{recovered_view}
 use Rattle.co_plain.specs.Sessions.{same_node, count_at}
 use Rattle.co_plain.specs.SoundLogs.{unended_in, has_unended, log_has_committed, ByVote, ByCommit}
-use Rattle.co_plain.specs.Invariants.{Side, Stable, view, stands, takes_part_in, ends_only, is_settled_vote, OnlyAbortsWait}
+use Rattle.co_plain.specs.Invariants.{Side, Memory, Stable, view, stands, takes_part_in, ends_only, is_settled_vote, OnlyAbortsWait}
 use Rattle.co_plain.specs.CoordInvariants.{BegunAt, IsOpenEntry, OwnEnds, IsHeldFor, ViewMatchesCoordinators}
 use Rattle.co_plain.specs.AllInvariants.{AllInvariants}
 use Rattle.co_law_base.proofs.Carrying.{votes_stand, settled_home, settled_from}
@@ -31,6 +31,7 @@ use Rattle.co_law_moves.proofs.Laid.{laid_image}
 use Rattle.co_law_moves.proofs.MoveByMove.{as_takes}
 use Rattle.co_law_moves.proofs.Own.{AtCoord, OwnFacts}
 use Rattle.co_law_runs.proofs.Agreement.{told_begun}
+use Rattle.co_law_runs.proofs.Working.{Working}
 use Rattle.co_law.proofs.AllFacts.{AllFacts}
 
 -- what is said at each place of a list is said of each of its parts
@@ -261,4 +262,11 @@ module _ (s : Federation) (i : AllInvariants s) where
       }
 
   pub all_back : AllFacts s
-  all_back = record { facts = facts; own = own; parts = i.commits.parts; opened = i.opened_sound }
+  all_back = record { facts = facts; own = own; parts = i.commits.parts; working = working; opened = i.opened_sound }
+    where
+      working : Working s
+      working =
+          record {
+            active = i.standers_told.active;
+            works = each_from (λ d. (m : ℕ) → stands (view Memory (s.member m)) d.txn ≡ true → 1 ≤ count_at d.told m) s.decided i.standers_told.decided;
+          }

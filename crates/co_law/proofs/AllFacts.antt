@@ -23,6 +23,9 @@ use Rattle.co_law_moves.proofs.OwnMoves.{own_move}
 use Rattle.co_law_moves.proofs.OwnRuns.{own_step}
 use Rattle.co_law_moves.proofs.Start.{start_facts}
 use Rattle.co_law_moves.proofs.Steps.{step_keeps}
+use Rattle.co_law_runs.proofs.Agreement.{opened_works}
+use Rattle.co_law_runs.proofs.Hopeless.{step_works}
+use Rattle.co_law_runs.proofs.Working.{Working, move_works}
 use Rattle.co_law.proofs.CommitParts.{CommitParts, move_parts, step_parts}
 use Rattle.co_law.proofs.MovesGrow.{effect_grows}
 use Rattle.co_law.proofs.OwnStart.{own_start}
@@ -31,6 +34,7 @@ pub record AllFacts (s : Federation) : Type 0 where
   pub facts : Facts s
   pub own : OwnFacts s
   pub parts : CommitParts s
+  pub working : Working s
   pub opened : AreSound s.opened_member s.opened_coord
 
 pub all_start : (kinds : List Kind) (coords : ℕ) (fm fc : ℕ → Found) → AreOpenable kinds coords fm fc → AllFacts (opened kinds coords fm fc)
@@ -38,6 +42,7 @@ all_start kinds coords fm fc g =
     record {
       facts = start_facts kinds coords fm fc g;
       own = own_start kinds coords fm fc g.free g.apart g.members_used g.coords_used;
+      working = opened_works kinds coords fm fc;
       parts = λ c t members e b. absurd (let z : false ≡ true = sym (ap is_some (look_none t)) ∙ b in cc);
       opened = g.sound;
     }
@@ -90,6 +95,7 @@ all_move s a move g =
       facts = move_keeps s a.facts move g;
       own = own_move s a.own move (guard_any s move g);
       parts = move_parts s a.facts a.parts move g;
+      working = move_works s a.facts move g a.working;
       opened = opened_stay s (effect s move) (effect_grows s move) a.opened;
     }
 
@@ -103,6 +109,7 @@ all_step s a h v =
       facts = step_keeps s a.facts h v;
       own = own_step s a.own h;
       parts = step_parts s a.facts h v a.parts;
+      working = step_works s a.facts h v a.working;
       opened = opened_stay s (step s h).state (step_grows s h) a.opened;
     }
 

@@ -1,8 +1,9 @@
 -- The invariants, from the facts.
-use Rattle.std.proofs.Common.{◌≡◌, ◌⊎◌, true, [], subst}
+use Rattle.std.proofs.Common.{◌≡◌, ◌⊎◌, ℕ, true, ◌≤◌, [], subst}
 use Rattle.co_plain.specs.Federation.{Federation}
 use Rattle.co_plain.specs.Decisions.{told_of, is_asked}
-use Rattle.co_plain.specs.Invariants.{view, told_here, is_begun}
+use Rattle.co_plain.specs.Sessions.{count_at}
+use Rattle.co_plain.specs.Invariants.{Memory, view, stands, told_here, is_begun}
 use Rattle.co_plain.specs.AllInvariants.{AllInvariants}
 use Rattle.co_law_base.proofs.Facts.{rest_of, serial_start, ReadSerially}
 use Rattle.co_law_base.proofs.LogMoves.{as_belongs}
@@ -89,6 +90,12 @@ all_from s a =
             local_asked = f.numbers.local_asked;
             decided_kept = λ d later earlier q.
                 each_at (λ e. (e.told ≡ []) ⊎ ((told_of s e.txn ≡ e.told) × (is_asked s e.txn ≡ true))) s.decided later earlier d f.numbers.kept q;
+          };
+      standers_told =
+          record {
+            active = a.working.active;
+            decided = λ d later earlier q.
+                each_at (λ e. (m : ℕ) → stands (view Memory (s.member m)) e.txn ≡ true → 1 ≤ count_at e.told m) s.decided later earlier d a.working.works q;
           };
       opened_sound = a.opened;
       opened_used = f.numbers.voted_used;

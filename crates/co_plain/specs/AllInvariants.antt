@@ -6,7 +6,7 @@ use Rattle.co_plain.specs.Federation.{Federation}
 use Rattle.co_plain.specs.Decisions.{is_decided}
 use Rattle.co_plain.specs.SoundLogs.{AreSound}
 use Rattle.co_plain.specs.Promises.{AreDecidedOnce}
-use Rattle.co_plain.specs.Invariants.{Side, view, stands, VotedAreConflictFree, VotedReplay, told_here, is_begun, SaidIsDurable, InstalledIsSerial, ReadsAreSerial, DecisionsAreTrue, ActiveMatchesSession, OnlyAskedVote, LogMatchesMemory, FilesAreSound, SessionsAreKept}
+use Rattle.co_plain.specs.Invariants.{Side, view, stands, VotedAreConflictFree, VotedReplay, told_here, is_begun, SaidIsDurable, InstalledIsSerial, ReadsAreSerial, DecisionsAreTrue, ActiveMatchesSession, OnlyAskedVote, LogMatchesMemory, FilesAreSound, SessionsAreKept, StandersWereTold}
 use Rattle.co_plain.specs.CoordInvariants.{TableMatchesLog, ViewMatchesCoordinators, CommitsMatchMembers, MessagesAreNamed, AskedAreHeld}
 
 pub record AllInvariants (s : Federation) : Type 0 where
@@ -39,6 +39,7 @@ pub record AllInvariants (s : Federation) : Type 0 where
   pub decided_once : AreDecidedOnce s.decided
   pub decided_begun : (t : ℕ) → is_decided s.decided t ≡ true → holds s.sessions t ≡ true
   pub sessions : SessionsAreKept s
+  pub standers_told : StandersWereTold s
   -- the opened logs were sound, and who stands in them is used
   pub opened_sound : AreSound s.opened_member s.opened_coord
   pub opened_used : (m t : ℕ) → stands (recovered_view (s.opened_member m)) t ≡ true → holds s.used t ≡ true

@@ -217,3 +217,9 @@ pub record SessionsAreKept (s : Federation) : Type 0 where
       session.asked ≡ true
   pub decided_kept : (d : Decided) (later earlier : List Decided) → s.decided ≡ later ++ d ∷ earlier →
       (d.told ≡ []) ⊎ ((told_of s d.txn ≡ d.told) × (is_asked s d.txn ≡ true))
+
+-- Who works at a member was told of operations there: who is active, by now; who is decided and stands there, at its decision.
+pub record StandersWereTold (s : Federation) : Type 0 where
+  pub active : (m t : ℕ) → holds (s.member m).engine.active t ≡ true → 1 ≤ count_at (told_of s t) m
+  pub decided : (d : Decided) (later earlier : List Decided) → s.decided ≡ later ++ d ∷ earlier →
+      (m : ℕ) → stands (view Memory (s.member m)) d.txn ≡ true → 1 ≤ count_at d.told m
