@@ -40,7 +40,7 @@ use Rattle.co_plain.specs.Runs.{run}
 use Rattle.co_plain.specs.Decisions.{is_decided}
 use Rattle.co_plain.specs.Promises.{says_committed, is_about, asks_for, is_acknowledged}
 use Rattle.co_law_base.proofs.Facts.{rest_of, by_coord, Facts}
-use Rattle.co_law_moves.specs.HandedVerdicts.{AreTrueVerdicts}
+use Rattle.co_plain.specs.Premises.{AreTrueVerdicts}
 use Rattle.co_law_moves.proofs.Marks.{aborts_quiet, ends_quiet, commit_marks}
 use Rattle.co_law_moves.proofs.CoordEvents.{decides_there}
 use Rattle.co_law_moves.proofs.ClientEvents.{by_there}

@@ -21,7 +21,7 @@ use Rattle.co_plain.specs.Decisions.{told_of, asked_in}
 use Rattle.co_plain.specs.Federation.{Federation}
 use Rattle.co_plain.specs.Invariants.{ends_only}
 use Rattle.co_plain.specs.Moves.{Move, Operate, MarkAsked, Cast, DropActive, DropVoted, Install, CommitLocally, CrashMember, RestartMember, ArmMember, CloseMemberSpare, FillMemberSpare, Begin, Collect, RecordYes, Decide, Leave, RecordAck, End, CrashCoord, RestartCoord, ArmCoord, CloseCoordSpare, FillCoordSpare, BeginLocal, AskEnd, Send, Guard, effect, entered_reply, marked_over, record_yes, record_ack, decide_entry, decide_members}
-use Rattle.co_plain.specs.Runs.{run}
+use Rattle.co_plain.specs.Step.{step}
 use Rattle.co_plain.specs.Sessions.{parts_of}
 use Rattle.co_plain.specs.SoundLogs.{unended_in}
 use Rattle.co_law_base.proofs.Carrying.{at_each}
@@ -29,8 +29,8 @@ use Rattle.co_law_base.proofs.Commits.{commit_cases, spare_cases}
 use Rattle.co_law_base.proofs.Facts.{rest_of, over, CollectingEntry, Facts}
 use Rattle.co_law_base.proofs.ImageRules.{each_entry}
 use Rattle.co_law_base.proofs.Lookups.{is_nothing, look_none, without_cases}
-use Rattle.co_law_moves.specs.HandedVerdicts.{AreTrueVerdicts}
-use Rattle.co_law_moves.proofs.ByMoves.{run_leaves}
+use Rattle.co_plain.specs.Premises.{IsTrueVerdict}
+use Rattle.co_law_moves.proofs.ByMoves.{step_leaves}
 use Rattle.co_law_moves.proofs.MoveByMove.{move_keeps}
 use Rattle.co_law_runs.proofs.Acts.{Moves}
 use Rattle.co_law_runs.proofs.ToldOn.{ToldOn, act_told}
@@ -124,7 +124,7 @@ module _ (s : Federation) (f : Facts s) (p : CommitParts s) where
           by (inl k) = is_nothing (sym (look_none u) ∙ k)
           by (inr k) = inl ((f.coords c).committed u ns k.0 k.1).recorded
 
-  move_parts : (move : Move) → Guard s move → CommitParts (effect s move)
+  pub move_parts : (move : Move) → Guard s move → CommitParts (effect s move)
   move_parts move h = by move h (move_keeps s f move h) (act_told s f (Moves move) h)
     where
       kept : (move : Move) → Facts (effect s move) → ToldOn s (effect s move) → ((c : ℕ) → ((effect s move).coord c).log.stable ≡ (s.coord c).log.stable) → CommitParts (effect s move)
@@ -173,7 +173,7 @@ module _ (s : Federation) (f : Facts s) (p : CommitParts s) where
       by (BeginLocal t m) h g told = kept (BeginLocal t m) g told (λ d. refl)
       by (Send note) h g told = kept (Send note) g told (λ d. refl)
 
-pub run_parts : (hs : List Happening) (s : Federation) → Facts s → AreTrueVerdicts hs s → CommitParts s → CommitParts (run hs s)
-run_parts =
-    run_leaves (λ s z. CommitParts s → CommitParts z) (λ s p. p) (λ s z w a b p. b (a p)) (λ s f move g p. move_parts s f p move g)
+pub step_parts : (s : Federation) → Facts s → (h : Happening) → IsTrueVerdict s h → CommitParts s → CommitParts (step s h).state
+step_parts =
+    step_leaves (λ s z. CommitParts s → CommitParts z) (λ s p. p) (λ s z w a b p. b (a p)) (λ s f move g p. move_parts s f p move g)
     (λ s f p c t members e b. p c t members e b)

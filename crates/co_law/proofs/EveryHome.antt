@@ -36,12 +36,11 @@ use Rattle.co_plain.specs.SoundLogs.{unended_in}
 use Rattle.co_law_base.proofs.Facts.{Facts}
 use Rattle.co_law_base.proofs.LogMoves.{as_belongs}
 use Rattle.co_law_base.proofs.Sending.{send_cases}
-use Rattle.co_law_moves.specs.HandedVerdicts.{AreTrueVerdicts}
+use Rattle.co_plain.specs.Premises.{AreTrueVerdicts, IsTrueVerdict, AreOpenable}
 use Rattle.co_law_moves.proofs.Steps.{step_keeps}
 use Rattle.co_law_moves.proofs.Growing.{step_grows}
 use Rattle.co_law_moves.proofs.KeptFrom.{belongs_is}
 use Rattle.co_law_runs.proofs.Hopeless.{step_onward}
-use Rattle.co_law_moves.specs.OpenedLogs.{AreOpenable}
 use Rattle.co_law_moves.proofs.Start.{start_facts}
 use Rattle.co_law.specs.MessageHomes.{IsHome, Belongs, CommittedBefore, NamesHome, MessagesNameHomes}
 use Rattle.co_law.proofs.MemberNames.{MemberNames, quiet, names_prepare, names_decision, handed_home, names_vote, names_question, quiet_timer, quiet_operation, quiet_commit, quiet_abort, quiet_restart, quiet_checkpoint}
@@ -216,14 +215,16 @@ home_on s z on (message.Ask t m c) h = on t c h
 home_on s z on (message.Ack t m c) (inl h) = inl (on t c h)
 home_on s z on (message.Ack t m c) (inr h) = inr h
 
-run_named : (hs : List Happening) (s : Federation) → Facts s → AreTrueVerdicts hs s → MessagesNameHomes s → MessagesNameHomes (run hs s)
-run_named [] s f v named = named
-run_named (h ∷ hs) s f v named =
-    run_named hs (step s h).state (step_keeps s f h v.0) v.1 (λ note e. home_on s (step s h).state on note (step_named s f named h note e))
+pub step_names : (s : Federation) → Facts s → (h : Happening) → IsTrueVerdict s h → MessagesNameHomes s → MessagesNameHomes (step s h).state
+step_names s f h v named note e = home_on s (step s h).state on note (step_named s f named h note e)
   where
     on : (t c : ℕ) → IsHome s t c → IsHome (step s h).state t c
-    on t c (Belongs b) = Belongs (belongs_is (step s h).state t c ((step_onward s f h v.0).belongs_on t c (as_belongs s t c b)))
+    on t c (Belongs b) = Belongs (belongs_is (step s h).state t c ((step_onward s f h v).belongs_on t c (as_belongs s t c b)))
     on t c (CommittedBefore members e) = CommittedBefore members (ap (λ logs. unended_in (logs c) t) (step_grows s h).coords ∙ e)
+
+run_named : (hs : List Happening) (s : Federation) → Facts s → AreTrueVerdicts hs s → MessagesNameHomes s → MessagesNameHomes (run hs s)
+run_named [] s f v named = named
+run_named (h ∷ hs) s f v named = run_named hs (step s h).state (step_keeps s f h v.0) v.1 (step_names s f h v.0 named)
 
 pub every_home : (kinds : List Kind) (coords : ℕ) (fm fc : ℕ → Found) (hs : List Happening) → AreOpenable kinds coords fm fc → AreTrueVerdicts hs (opened kinds coords fm fc) →
     MessagesNameHomes (run hs (opened kinds coords fm fc))

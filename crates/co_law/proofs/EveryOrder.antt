@@ -19,14 +19,13 @@ use Rattle.co_plain.specs.CommitmentOrder.{Trace, decided_in, trace_of, Precedes
 use Rattle.co_plain.specs.Invariants.{Memory}
 use Rattle.co_law_base.proofs.Lookups.{look_none}
 use Rattle.co_law_base.proofs.Facts.{Facts}
-use Rattle.co_law_moves.specs.HandedVerdicts.{AreTrueVerdicts}
+use Rattle.co_plain.specs.Premises.{AreTrueVerdicts, AreOpenable}
 use Rattle.co_law_moves.specs.MoveTraces.{run_items}
 use Rattle.co_law_runs.proofs.Acts.{ActedAs, acted}
 use Rattle.co_law_runs.proofs.Deciders.{homed}
 use Rattle.co_law_runs.proofs.Traced.{acts_traced}
 use Rattle.co_law_runs.proofs.AtDecision.{Fresh}
 use Rattle.co_law_runs.proofs.Ordered.{ordered}
-use Rattle.co_law_moves.specs.OpenedLogs.{AreOpenable}
 use Rattle.co_law_moves.proofs.Start.{start_facts}
 use Rattle.co_law.proofs.GoingOn.{lines_true}
 

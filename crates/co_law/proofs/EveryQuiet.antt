@@ -15,14 +15,13 @@ use Rattle.co_plain.specs.SoundLogs.{unended_in, log_has_voted, log_has_committe
 use Rattle.co_plain.specs.Quiet.{IsOpen, IsQuiet}
 use Rattle.co_law_base.proofs.Lookups.{look_none}
 use Rattle.co_law_base.proofs.Facts.{Facts}
-use Rattle.co_law_moves.specs.HandedVerdicts.{AreTrueVerdicts}
+use Rattle.co_plain.specs.Premises.{AreTrueVerdicts, IsBetween, AreOwn, AreOwnLogs, AreOpenable}
 use Rattle.co_law_moves.proofs.Steps.{run_keeps}
 use Rattle.co_law_moves.proofs.Growing.{run_grows}
 use Rattle.co_law_runs.proofs.Agreement.{run_works, opened_works}
-use Rattle.co_law_runs.specs.OnlyTimers.{IsBetween, AreOwn, AreOwnLogs, SomeTimerEnds}
+use Rattle.co_law_runs.specs.OnlyTimers.{SomeTimerEnds}
 use Rattle.co_law_runs.proofs.Fitting.{Fit, FitSessions, run_fits}
 use Rattle.co_law_runs.proofs.InQuiet.{OpenedFit, timer_there, ends_for_good}
-use Rattle.co_law_moves.specs.OpenedLogs.{AreOpenable}
 use Rattle.co_law_moves.proofs.Start.{start_facts}
 
 -- whose log tells something is a member of the federation

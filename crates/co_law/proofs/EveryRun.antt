@@ -7,9 +7,7 @@ use Rattle.co_plain.specs.Opening.{Found, opened}
 use Rattle.co_plain.specs.Runs.{run}
 use Rattle.co_plain.specs.Decisions.{sites_of}
 use Rattle.co_plain.specs.Promises.{SerialReads, LogsAlone, LogsStaySound, Acknowledged, MembersAgree}
-use Rattle.co_plain.specs.Invariants.{Kept}
-use Rattle.co_law_moves.specs.HandedVerdicts.{AreTrueVerdicts}
-use Rattle.co_law_moves.specs.OpenedLogs.{AreOpenable}
+use Rattle.co_plain.specs.Premises.{AreTrueVerdicts, AreOpenable}
 use Rattle.co_law_base.proofs.Facts.{rest_of, serial_start, ReadSerially, Facts}
 use Rattle.co_law_moves.proofs.Steps.{run_keeps}
 use Rattle.co_law_moves.proofs.Start.{start_facts}
@@ -17,7 +15,7 @@ use Rattle.co_law_moves.proofs.Growing.{Grows, run_grows}
 use Rattle.co_law_moves.proofs.Derived.{reads_at, logs_give, files_sound}
 use Rattle.co_law_runs.proofs.Agreement.{members_agree, opened_works}
 use Rattle.co_law.proofs.Acknowledging.{run_ack}
-use Rattle.co_law_moves.proofs.KeptFrom.{kept, same_serial}
+use Rattle.co_law_moves.proofs.KeptFrom.{same_serial}
 
 module _ (kinds : List Kind) (coords : ℕ) (fm fc : ℕ → Found) (hs : List Happening) (g : AreOpenable kinds coords fm fc) (v : AreTrueVerdicts hs (opened kinds coords fm fc)) where
   facts : Facts (run hs (opened kinds coords fm fc))
@@ -26,18 +24,15 @@ module _ (kinds : List Kind) (coords : ℕ) (fm fc : ℕ → Found) (hs : List H
   grows : Grows (opened kinds coords fm fc) (run hs (opened kinds coords fm fc))
   grows = run_grows hs (opened kinds coords fm fc)
 
-  pub every_kept : Kept (opened kinds coords fm fc) (run hs (opened kinds coords fm fc))
-  every_kept = kept (opened kinds coords fm fc) (run hs (opened kinds coords fm fc)) facts grows
-
   pub every_read : SerialReads (opened kinds coords fm fc) hs
   every_read later earlier d q =
       reads_at (serial_start (rest_of (run hs (opened kinds coords fm fc)))) later earlier d (subst (ReadSerially (serial_start (rest_of (run hs (opened kinds coords fm fc))))) q facts.serially)
-      ∙ ap (λ all. run_whole all (sites_of d.told)) (same_serial (opened kinds coords fm fc) (run hs (opened kinds coords fm fc)) facts grows earlier)
+      ∙ ap (λ all. run_whole all (sites_of d.told)) (same_serial (opened kinds coords fm fc) (run hs (opened kinds coords fm fc)) grows earlier)
 
   pub every_log : LogsAlone (opened kinds coords fm fc) hs
   every_log m =
       logs_give (run hs (opened kinds coords fm fc)) facts m
-      ∙ ap (λ all. all m) (same_serial (opened kinds coords fm fc) (run hs (opened kinds coords fm fc)) facts grows (run hs (opened kinds coords fm fc)).decided)
+      ∙ ap (λ all. all m) (same_serial (opened kinds coords fm fc) (run hs (opened kinds coords fm fc)) grows (run hs (opened kinds coords fm fc)).decided)
 
   pub every_sound : LogsStaySound (opened kinds coords fm fc) hs
   every_sound = files_sound (run hs (opened kinds coords fm fc)) facts

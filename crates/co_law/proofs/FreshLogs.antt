@@ -6,9 +6,9 @@ use Rattle.co_state.specs.declared.engine_state.Vote.{Vote}
 use Rattle.co_plain.specs.MemberView.{first_refused_at_member}
 use Rattle.co_plain.specs.Opening.{Found}
 use Rattle.co_plain.specs.Decisions.{votes_for}
-use Rattle.co_plain.specs.SoundLogs.{AreSound, log_votes_for, has_unended}
+use Rattle.co_plain.specs.SoundLogs.{AreSound, log_votes_for, has_unended, LogsName, ByVote, ByCommit}
 use Rattle.co_law_base.proofs.Lookups.{is_nothing, look_none}
-use Rattle.co_law_moves.specs.OpenedLogs.{AreOpenable}
+use Rattle.co_plain.specs.Premises.{AreOpenable}
 use Rattle.co_law.proofs.Readable.{readable}
 
 no_vote : {A : Type 0} (t c : ℕ) → log_votes_for [] t c ≡ true → A
@@ -17,16 +17,17 @@ no_vote t c h = absurd (let z : false ≡ true = sym (ap (λ o. votes_for o c) (
 no_commit : {A : Type 0} (t : ℕ) → has_unended [] t ≡ true → A
 no_commit t h = absurd (let z : false ≡ true = sym (ap is_some (look_none {X = List ℕ} t)) ∙ h in cc)
 
+no_name : {A : Type 0} (t c : ℕ) → LogsName (λ m. []) (λ d. []) t c → A
+no_name t c (ByVote m h) = no_vote t c h
+no_name t c (ByCommit h) = no_commit t h
+
 fresh_sound : AreSound (λ m. []) (λ c. [])
 fresh_sound =
     record {
-      one_vote = λ t m n c d h k. no_vote t c h;
-      vote_and_commit = λ t m c d h k. no_vote t c h;
-      one_commit = λ t c d h k. no_commit t h;
+      one_coordinator = λ t c d h k. no_name t c h;
       participants = λ t c m members h k. is_nothing (sym (look_none t) ∙ h);
       voters = λ t c m members h k. is_nothing (sym (look_none t) ∙ h);
-      nowhere_committed = λ t m c n h k. no_vote t c h;
-      nowhere_decided = λ t m c d h k. no_vote t c h;
+      undecided = λ t m c h k. no_vote t c h;
     }
 
 -- logs without records, whatever their spare files have

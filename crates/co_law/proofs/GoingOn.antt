@@ -7,7 +7,7 @@ use Rattle.co_plain.specs.declared.happening.Happening.TheVariants as happening
 use Rattle.co_plain.specs.Federation.{Federation}
 use Rattle.co_plain.specs.Runs.{run, numbered, transcript, lines}
 use Rattle.co_plain.specs.Step.{step}
-use Rattle.co_law_moves.specs.HandedVerdicts.{AreTrueVerdicts}
+use Rattle.co_plain.specs.Premises.{AreTrueVerdicts}
 
 -- a transcript and what follows it
 pub transcript_more : (number : ℕ) (es more : List Event) (s : Federation) →

@@ -23,14 +23,13 @@ use Rattle.co_law_base.proofs.Commits.{unended_seen}
 use Rattle.co_law_base.proofs.Facts.{rest_of, by_coord, takes, ByTold, Named, OpenEntry, Facts}
 use Rattle.co_law_base.proofs.TwoViews.{committed_both}
 use Rattle.co_law_base.proofs.Sending.{told_parts, part_member}
-use Rattle.co_law_moves.specs.HandedVerdicts.{AreTrueVerdicts}
+use Rattle.co_plain.specs.Premises.{AreTrueVerdicts, AreOpenable}
 use Rattle.co_law_moves.proofs.Steps.{run_keeps}
-use Rattle.co_law_moves.proofs.KeptFrom.{living}
+use Rattle.co_law_moves.proofs.KeptFrom.{living, takes_is}
 use Rattle.co_law_runs.proofs.Agreement.{told_begun}
-use Rattle.co_law_moves.specs.OpenedLogs.{AreOpenable}
 use Rattle.co_law_moves.proofs.Start.{start_facts}
-use Rattle.co_law.specs.HeldOnes.{IsHeldFor, AskedAreHeld}
-use Rattle.co_law.proofs.CommitParts.{CommitParts, run_parts}
+use Rattle.co_plain.specs.CoordInvariants.{IsHeldFor, AskedAreHeld}
+use Rattle.co_law.proofs.CommitParts.{CommitParts}
 
 module _ (s : Federation) (f : Facts s) (p : CommitParts s) where
   -- who takes part is named by the commit
@@ -55,7 +54,7 @@ module _ (s : Federation) (f : Facts s) (p : CommitParts s) where
       let z : true ≡ false = sym (((f.members m).views Memory).known t h (by_coord_begun (look s.sessions t) c o.begun_there)) ∙ o.undecided in cc
 
   held_for : (t c m : ℕ) → takes (rest_of s) t m → (takes_part_in (look (s.coord c).table t) m || holds (s.member m).committed t) ≡ true → IsHeldFor s t c m
-  held_for t c m part h = record { held = by (or_cases _ _ h); participant = participant; recorded = named t c m part }
+  held_for t c m part h = record { takes = takes_is s t m part; held = by (or_cases _ _ h); participant = participant; recorded = named t c m part }
     where
       in_table : (o : Option Entry) → takes_part_in o m ≡ true → is_some o ≡ true
       in_table None q = absurd (let z : false ≡ true = q in cc)
@@ -88,10 +87,3 @@ module _ (s : Federation) (f : Facts s) (p : CommitParts s) where
             let lives = living s t c (f.sent.asks_named t m c h) apart in
             held_for t c m (f.sent.asks_take t m c h lives) (f.sent.asks_held t m c h lives);
       }
-
-pub every_held : (kinds : List Kind) (coords : ℕ) (fm fc : ℕ → Found) (hs : List Happening) → AreOpenable kinds coords fm fc → AreTrueVerdicts hs (opened kinds coords fm fc) →
-    AskedAreHeld (run hs (opened kinds coords fm fc))
-every_held kinds coords fm fc hs g v =
-    asked_held (run hs (opened kinds coords fm fc)) (run_keeps hs (opened kinds coords fm fc) (start_facts kinds coords fm fc g) v)
-    (run_parts hs (opened kinds coords fm fc) (start_facts kinds coords fm fc g) v
-    (λ c t members e b. absurd (let z : false ≡ true = sym (ap is_some (look_none t)) ∙ b in cc)))

@@ -16,14 +16,13 @@ use Rattle.co_plain.specs.MemberView.{recovered_view, first_refused_at_member}
 use Rattle.co_plain.specs.Numbers.{has_number}
 use Rattle.co_plain.specs.Opening.{Found, OnlyOwnLogs, opened}
 use Rattle.co_plain.specs.Runs.{run}
-use Rattle.co_plain.specs.SoundLogs.{AreSound, log_votes_for, log_has_voted, log_has_committed, unended_in, has_unended}
+use Rattle.co_plain.specs.SoundLogs.{AreSound, log_votes_for, log_has_voted, log_has_committed, unended_in, has_unended, LogsName, ByVote, ByCommit}
 use Rattle.co_law_base.proofs.Lookups.{is_nothing, look_none}
-use Rattle.co_law_moves.specs.HandedVerdicts.{AreTrueVerdicts}
+use Rattle.co_plain.specs.Premises.{AreTrueVerdicts, IsBetween, AreOwn, AreOwnLogs, MayBeOpened}
 use Rattle.co_law_node.specs.WholeNodes.{AreWhole}
 use Rattle.co_law_node.proofs.Allowed.{tells, allowed_from}
 use Rattle.co_law_node.proofs.AllowedCommits.{commits_from, unended_up}
-use Rattle.co_law_runs.specs.OnlyTimers.{IsBetween, AreOwn, AreOwnLogs}
-use Rattle.co_law.specs.LeftLogs.{records_left, left, MayBeOpened}
+use Rattle.co_law.specs.LeftLogs.{records_left, left}
 use Rattle.co_law.proofs.EveryRun.{every_sound}
 use Rattle.co_law.proofs.FreshLogs.{empty_openable}
 use Rattle.co_law.proofs.Readable.{readable}
@@ -106,6 +105,10 @@ module _ (n k : ℕ) (ml cl : ℕ → List Record) (sound : AreSound ml cl) (am 
   commits : (t c : ℕ) → has_unended (records_left k cl c) t ≡ true → ((nat_le 1 c && nat_le c k) ≡ true) × (has_unended (cl c) t ≡ true)
   commits t c h = left_tells k cl (λ rs. has_unended rs t) (ap is_some (look_none {X = List ℕ} t)) c h
 
+  names : (t c : ℕ) → LogsName (λ m. records_left n ml m) (λ d. records_left k cl d) t c → LogsName ml cl t c
+  names t c (ByVote m h) = ByVote m (votes t c m h).1
+  names t c (ByCommit h) = ByCommit (commits t c h).1
+
   -- the coordinator of a vote is one of the federation
   voted_coord : (t c m : ℕ) → log_votes_for (ml m) t c ≡ true → (nat_le 1 c && nat_le c k) ≡ true
   voted_coord t c m h = between_own k c (vote_among k (ml m) (am m) t c h)
@@ -123,20 +126,19 @@ module _ (n k : ℕ) (ml cl : ℕ → List Record) (sound : AreSound ml cl) (am 
   pub left_sound : AreSound (λ m. records_left n ml m) (λ c. records_left k cl c)
   left_sound =
       record {
-        one_vote = λ t m j c d h q. sound.one_vote t m j c d (votes t c m h).1 (votes t d j q).1;
-        vote_and_commit = λ t m c d h q. sound.vote_and_commit t m c d (votes t c m h).1 (commits t d q).1;
-        one_commit = λ t c d h q. sound.one_commit t c d (commits t c h).1 (commits t d q).1;
+        one_coordinator = λ t c d h q. sound.one_coordinator t c d (names t c h) (names t d q);
         participants = λ t c m members h q.
             let e = (left_holds k cl (λ rs. unended_in rs t) (look_none t) c members h).1 in
             let own = up_own n members m (unended_up n (cl c) (commits_from n (cl c) (ac c)) t members e) q in
             ap (λ rs. log_has_voted rs t || log_has_committed rs t) (left_here n ml m own) ∙ sound.participants t c m members e q;
         voters = λ t c m members h q. sound.voters t c m members (left_holds k cl (λ rs. unended_in rs t) (look_none t) c members h).1 (votes t c m q).1;
-        nowhere_committed = λ t m c j h q.
+        undecided = λ t m c h q.
             let v = (votes t c m h).1 in
-            none_left (λ rs. log_has_committed rs t) (ap is_some (look_none t)) n ml j (sound.nowhere_committed t m c j v (unended_back t c m v q));
-        nowhere_decided = λ t m c d h q.
-            let v = (votes t c m h).1 in
-            none_left (λ rs. has_commit_of rs t) (ap is_some (look_none t)) k cl d (sound.nowhere_decided t m c d v (unended_back t c m v q));
+            let nowhere = sound.undecided t m c v (unended_back t c m v q) in
+            record {
+              uncommitted = λ j. none_left (λ rs. log_has_committed rs t) (ap is_some (look_none t)) n ml j (nowhere.uncommitted j);
+              undecided = λ d. none_left (λ rs. has_commit_of rs t) (ap is_some (look_none t)) k cl d (nowhere.undecided d);
+            };
       }
 
 pub every_left : (kinds : List Kind) (coords : ℕ) (fm fc : ℕ → Found) (hs : List Happening) (closed_m closed_c : ℕ → Bool) → 1 ≤ coords → MayBeOpened kinds coords fm fc →

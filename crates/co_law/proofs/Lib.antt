@@ -2,7 +2,7 @@ pub mod Acknowledging
 pub mod Readable
 pub mod OwnStart
 pub mod FreshLogs
-pub mod MoveRuns
+pub mod MovesGrow
 pub mod EveryRun
 pub mod EveryEvent
 pub mod EveryQuiet
@@ -20,5 +20,9 @@ pub mod CoordNames
 pub mod EveryHome
 pub mod CommitParts
 pub mod HeldOnes
+pub mod AllFacts
+pub mod AllFrom
+pub mod AllBack
+pub mod EveryInvariant
 pub mod LeftLogs
 pub mod WholeInvariants

@@ -46,8 +46,8 @@ use Rattle.co_law_base.proofs.Facts.{by_coord}
 use Rattle.co_law_base.proofs.Sending.{parts_told, parts_ascend}
 use Rattle.co_law_moves.proofs.Own.{OwnFacts, spent}
 use Rattle.co_law_moves.proofs.OwnRuns.{own_step}
-use Rattle.co_law_runs.specs.OnlyTimers.{IsBetween, AreOwn}
-use Rattle.co_law_runs.proofs.Fitting.{FitSessions, HomeFits, step_fits}
+use Rattle.co_plain.specs.Premises.{IsBetween, AreOwn, IsOwnNode}
+use Rattle.co_law_runs.proofs.Fitting.{FitSessions, step_fits}
 use Rattle.co_law_node.specs.WholeMembers.{MemberStays}
 use Rattle.co_law_node.specs.WholeCoords.{EndsAlone, CoordStays}
 
@@ -169,7 +169,7 @@ module _ (n k : ℕ) (some : 1 ≤ k) (P : ℕ → MemberState → Type 0) (Q : 
     where
       home : (session : Session) → look s.sessions t ≡ Some session → (at : Node) → session.by ≡ at → same_node at (node.Coord c) ≡ true → IsBetween c k
       home session e (node.Member m') p r = absurd (let z : false ≡ true = r in cc)
-      home session e (node.Coord d) p r = subst (λ j. IsBetween j k) (eqb-true d c r) (subst (HomeFits n k) p (q t session e).home)
+      home session e (node.Coord d) p r = subst (λ j. IsBetween j k) (eqb-true d c r) (subst (IsOwnNode n k) p (q t session e).home)
 
       by : (o : Option Session) → look s.sessions t ≡ o → by_coord o c ≡ true → IsBetween c k
       by None e r = absurd (let z : false ≡ true = r in cc)
@@ -298,7 +298,7 @@ module _ (n k : ℕ) (some : 1 ≤ k) (P : ℕ → MemberState → Type 0) (Q : 
   line (event.Arm at call leaves) = arm call leaves at
   line (event.Checkpoint at) = checkpoint at
 
-  step_nodes : (h : Happening) → HaveNodes P Q (step s h).state
+  pub step_nodes : (h : Happening) → HaveNodes P Q (step s h).state
   step_nodes (happening.Line e) = line e
   step_nodes (happening.Hand t m commit) =
       of_member m (s.member m).up (member_decide m (s.member m) t (coord_of (s.member m) t) commit)

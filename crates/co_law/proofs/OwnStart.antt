@@ -12,7 +12,8 @@ use Rattle.co_plain.specs.MemberView.{recovered_view, first_refused_at_member}
 use Rattle.co_plain.specs.Opening.{Found, OnlyOwnLogs, used_numbers, opened}
 use Rattle.co_plain.specs.Runs.{run}
 use Rattle.co_plain.specs.Decisions.{asked_in}
-use Rattle.co_plain.specs.Invariants.{Side, Memory, Stable, view}
+use Rattle.co_plain.specs.CoordView.{has_commit_of}
+use Rattle.co_plain.specs.Invariants.{Side, Memory, Stable, view, stands, VotedAreConflictFree}
 use Rattle.co_law_base.proofs.Lookups.{is_nothing, look_none}
 use Rattle.co_law_moves.specs.OwnFacts.{KeptByEach}
 use Rattle.co_law_moves.proofs.Own.{OwnView, OwnMember, OwnFacts}
@@ -21,16 +22,20 @@ use Rattle.co_law_moves.proofs.Start.{made_view, coord_facts}
 use Rattle.co_law_moves.proofs.OwnRuns.{own_run}
 use Rattle.co_law.proofs.Readable.{votes_free, votes_apart, members_used, coords_used}
 
-module _ (kinds : List Kind) (coords : ℕ) (fm fc : ℕ → Found) (own : OnlyOwnLogs kinds coords fm fc) (allowed : (m : ℕ) → first_refused_at_member coords (reverse (fm m).records) ≡ None) where
+-- from what the records of the opened logs tell
+module _ (kinds : List Kind) (coords : ℕ) (fm fc : ℕ → Found) (free : (m : ℕ) → VotedAreConflictFree (recovered_view (fm m).records))
+    (apart : (m t : ℕ) → holds (recovered_view (fm m).records).committed t ≡ true → holds (recovered_view (fm m).records).voted t ≡ false)
+    (members_used : (m t : ℕ) → stands (recovered_view (fm m).records) t ≡ true → holds (used_numbers (length kinds) coords fm fc) t ≡ true)
+    (coords_used : (c t : ℕ) → has_commit_of (fc c).records t ≡ true → holds (used_numbers (length kinds) coords fm fc) t ≡ true) where
   nobody : {A : Type 0} (t : ℕ) → holds (no_entries {X = Session}) t ≡ true → A
   nobody t h = absurd (let z : false ≡ true = sym (ap is_some (look_none {X = Session} t)) ∙ h in cc)
 
   view_own : (m : ℕ) → OwnView no_entries (used_numbers (length kinds) coords fm fc) (recovered_view (fm m).records)
   view_own m =
       record {
-        free = votes_free kinds coords fm fc own allowed m;
-        over = λ t h. or_right (asked_in (look no_entries t)) (holds (used_numbers (length kinds) coords fm fc) t) (members_used kinds coords fm fc own allowed m t h);
-        apart = votes_apart kinds coords fm fc own allowed m;
+        free = free m;
+        over = λ t h. or_right (asked_in (look no_entries t)) (holds (used_numbers (length kinds) coords fm fc) t) (members_used m t h);
+        apart = apart m;
         away = λ t h b. nobody t b;
       }
 
@@ -51,8 +56,8 @@ module _ (kinds : List Kind) (coords : ℕ) (fm fc : ℕ → Found) (own : OnlyO
   unsent : {A : Type 0} → false ≡ true → A
   unsent h = absurd (let z : false ≡ true = h in cc)
 
-  pub start_own : OwnFacts (opened kinds coords fm fc)
-  start_own =
+  pub own_start : OwnFacts (opened kinds coords fm fc)
+  own_start =
       record {
         numbers =
             record {
@@ -60,13 +65,19 @@ module _ (kinds : List Kind) (coords : ℕ) (fm fc : ℕ → Found) (own : OnlyO
               decided_begun = λ t h. unsent h;
               once = tt;
               local_asked = λ t m session h. is_nothing (sym (look_none t) ∙ h);
-              commit_used = coords_used kinds coords fm fc own allowed;
+              commit_used = coords_used;
             };
         members = member_own;
-        coords = coord_facts kinds coords fm fc (coords_used kinds coords fm fc own allowed);
+        coords = coord_facts kinds coords fm fc coords_used;
         ends = λ c. tt;
         sent = record { over = λ note h. unsent h; prepares = λ t c m n h. unsent h };
       }
+
+module _ (kinds : List Kind) (coords : ℕ) (fm fc : ℕ → Found) (own : OnlyOwnLogs kinds coords fm fc) (allowed : (m : ℕ) → first_refused_at_member coords (reverse (fm m).records) ≡ None) where
+  pub start_own : OwnFacts (opened kinds coords fm fc)
+  start_own =
+      own_start kinds coords fm fc (votes_free kinds coords fm fc own allowed) (votes_apart kinds coords fm fc own allowed)
+      (members_used kinds coords fm fc own allowed) (coords_used kinds coords fm fc own allowed)
 
   pub each_keeps : (hs : List Happening) → KeptByEach (run hs (opened kinds coords fm fc))
   each_keeps hs = kept_by_each (run hs (opened kinds coords fm fc)) (own_run hs (opened kinds coords fm fc) start_own)

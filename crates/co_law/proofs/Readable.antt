@@ -17,7 +17,7 @@ use Rattle.co_state.specs.Keys.{reads_meet, writes_meet}
 use Rattle.co_state.specs.VotingRule.{voted_holds}
 use Rattle.co_plain.specs.declared.member_view.MemberView.{MemberView}
 use Rattle.co_plain.specs.Numbers.{has_number}
-use Rattle.co_plain.specs.MemberView.{Numbers, with_number, with_numbers, numbers_from, nothing_known, told_by, recovered_view, install_in, sets_conflict, conflicts_with_voted, member_allows, first_refused_from, first_refused_at_member}
+use Rattle.co_plain.specs.MemberView.{Numbers, with_number, with_numbers, numbers_from, nothing_known, view_with, recovered_view, install_in, sets_conflict, conflicts_with_voted, member_allows, first_refused_from, first_refused_at_member}
 use Rattle.co_plain.specs.CoordView.{recovered_commits, has_commit_of}
 use Rattle.co_plain.specs.Opening.{Found, with_all, numbers_in, union_to, used_numbers, OnlyOwnLogs}
 use Rattle.co_plain.specs.SoundLogs.{AreSound}
@@ -27,7 +27,7 @@ use Rattle.co_law_base.proofs.Lookups.{is_nothing, look_none, same_number}
 use Rattle.co_law_base.proofs.Commits.{holds_more, holds_new, holds_cases}
 use Rattle.co_law_base.proofs.ViewRules.{three_parts, cast_free, forget_free, install_free}
 use Rattle.co_law_base.proofs.ViewMoves.{put_holds, holds_without}
-use Rattle.co_law_moves.specs.OpenedLogs.{AreOpenable}
+use Rattle.co_plain.specs.Premises.{AreOpenable}
 
 -- numbers laid into a set
 more_has : (n : Numbers) (ts : List ℕ) (t : ℕ) → holds n t ≡ true → holds (with_numbers n ts) t ≡ true
@@ -80,15 +80,15 @@ in_range a b h = let p = and_parts (nat_le 1 a) (nat_le a b) h in (grind (arith,
 -- what records tell, the oldest one first
 abbrev pub told_all : MemberView → List Record → MemberView
 told_all v [] = v
-told_all v (r ∷ rs) = told_all (told_by v r) rs
+told_all v (r ∷ rs) = told_all (view_with v r) rs
 
-told_more : (v : MemberView) (xs : List Record) (r : Record) → told_all v (xs ++ r ∷ []) ≡ told_by (told_all v xs) r
+told_more : (v : MemberView) (xs : List Record) (r : Record) → told_all v (xs ++ r ∷ []) ≡ view_with (told_all v xs) r
 told_more v [] r = refl
-told_more v (x ∷ xs) r = told_more (told_by v x) xs r
+told_more v (x ∷ xs) r = told_more (view_with v x) xs r
 
 pub told_turned : (rs : List Record) → recovered_view rs ≡ told_all nothing_known (reverse rs)
 told_turned [] = refl
-told_turned (r ∷ rs) = ap (λ v. told_by v r) (told_turned rs) ∙ sym (told_more nothing_known (reverse rs) r) ∙ ap (told_all nothing_known) (sym (reverse-append (r ∷ []) rs))
+told_turned (r ∷ rs) = ap (λ v. view_with v r) (told_turned rs) ∙ sym (told_more nothing_known (reverse rs) r) ∙ ap (told_all nothing_known) (sym (reverse-append (r ∷ []) rs))
 
 -- votes that neither conflict nor are committed
 record IsFree (v : MemberView) : Type 0 where
@@ -105,7 +105,7 @@ none_conflicts v sets h u other e =
     none_of None h = refl
     none_of (Some k) h = absurd (let z : false ≡ true = h in cc)
 
-free_step : (coords place : ℕ) (v : MemberView) (r : Record) → member_allows coords place v r ≡ true → IsFree v → IsFree (told_by v r)
+free_step : (coords place : ℕ) (v : MemberView) (r : Record) → member_allows coords place v r ≡ true → IsFree v → IsFree (view_with v r)
 free_step coords place v (log.Header a b) h f = f
 free_step coords place v (log.End t) h f = absurd (let z : false ≡ true = h in cc)
 free_step coords place v (log.Checkpoint rows undos committed) h f =
@@ -143,11 +143,11 @@ free_step coords place v (log.Prepare t coord count reads writes) h f =
 
 free_all : (coords place : ℕ) (v : MemberView) (rs : List Record) → first_refused_from coords place v rs ≡ None → IsFree v → IsFree (told_all v rs)
 free_all coords place v [] h f = f
-free_all coords place v (r ∷ rs) h f = by (free_all coords (suc place) (told_by v r) rs) (member_allows coords place v r) refl
+free_all coords place v (r ∷ rs) h f = by (free_all coords (suc place) (view_with v r) rs) (member_allows coords place v r) refl
   where
-    by : (first_refused_from coords (suc place) (told_by v r) rs ≡ None → IsFree (told_by v r) → IsFree (told_all (told_by v r) rs)) → (b : Bool) → member_allows coords place v r ≡ b → IsFree (told_all (told_by v r) rs)
-    by rest true e = rest (sym (ap (λ b. if b then first_refused_from coords (suc place) (told_by v r) rs else Some place) e) ∙ h) (free_step coords place v r e f)
-    by rest false e = absurd (let z : Some place ≡ None = sym (ap (λ b. if b then first_refused_from coords (suc place) (told_by v r) rs else Some place) e) ∙ h in cc)
+    by : (first_refused_from coords (suc place) (view_with v r) rs ≡ None → IsFree (view_with v r) → IsFree (told_all (view_with v r) rs)) → (b : Bool) → member_allows coords place v r ≡ b → IsFree (told_all (view_with v r) rs)
+    by rest true e = rest (sym (ap (λ b. if b then first_refused_from coords (suc place) (view_with v r) rs else Some place) e) ∙ h) (free_step coords place v r e f)
+    by rest false e = absurd (let z : Some place ≡ None = sym (ap (λ b. if b then first_refused_from coords (suc place) (view_with v r) rs else Some place) e) ∙ h in cc)
 
 nothing_free : IsFree nothing_known
 nothing_free = record { free = λ t u a b n e. is_nothing (sym (look_none t) ∙ e); apart = λ t h. ap is_some (look_none t) }

@@ -13,7 +13,7 @@ use Rattle.co_plain.specs.MemberView.{first_refused_at_member}
 use Rattle.co_plain.specs.Opening.{Found, OnlyOwnLogs, opened}
 use Rattle.co_plain.specs.Runs.{run}
 use Rattle.co_law_base.proofs.Lookups.{is_nothing, look_none}
-use Rattle.co_law_runs.specs.OnlyTimers.{AreOwn}
+use Rattle.co_plain.specs.Premises.{AreOwn}
 use Rattle.co_law_node.specs.WholeMembers.{IsAmong, IsWholeMember}
 use Rattle.co_law_node.specs.WholeCoords.{IsWholeCoord}
 use Rattle.co_law_node.specs.WholeNodes.{AreWritable}

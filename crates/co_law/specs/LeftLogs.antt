@@ -5,8 +5,7 @@ use Rattle.co_record.specs.declared.record.Record.{Record}
 use Rattle.co_plain.specs.CoordView.{first_refused_at_coord}
 use Rattle.co_plain.specs.MemberView.{first_refused_at_member}
 use Rattle.co_plain.specs.Opening.{Found}
-use Rattle.co_law_runs.specs.OnlyTimers.{AreOwnLogs}
-use Rattle.co_law_moves.specs.OpenedLogs.{AreOpenable}
+use Rattle.co_plain.specs.Premises.{AreOwnLogs, AreOpenable}
 
 -- of the first so many nodes; no other node has a file
 abbrev pub records_left : ℕ → (ℕ → List Record) → ℕ → List Record
@@ -14,11 +13,3 @@ records_left most logs n = if nat_le 1 n && nat_le n most then logs n else []
 
 abbrev pub left : ℕ → (ℕ → List Record) → (ℕ → Bool) → ℕ → Found
 left most logs closed n = record { records = records_left most logs n; spare_closed = closed n }
-
--- Logs of which every premise of the laws holds: they may be opened, they are those of the federation's own nodes, with votes
--- that name its coordinators, and the grammars allow them.
-pub record MayBeOpened (kinds : List Kind) (coords : ℕ) (found_member found_coord : ℕ → Found) : Type 0 where
-  pub openable : AreOpenable kinds coords found_member found_coord
-  pub own : AreOwnLogs kinds coords found_member found_coord
-  pub members_allowed : (m : ℕ) → first_refused_at_member coords (reverse (found_member m).records) ≡ None
-  pub coords_allowed : (c : ℕ) → first_refused_at_coord (length kinds) (reverse (found_coord c).records) ≡ None

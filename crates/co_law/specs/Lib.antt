@@ -1,5 +1,4 @@
 pub mod Refusals
 pub mod MessageHomes
-pub mod HeldOnes
 pub mod LeftLogs
 pub mod WholeInvariants

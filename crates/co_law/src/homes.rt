@@ -1,12 +1,13 @@
-//! Messages, the coordinators that they name, and whom these hold.
+//! Messages, and the coordinators that they name.
 ghost use Rattle.std.specs.Prelude.{ℕ, List};
 ghost use Rattle.co_base.specs.declared.head.Kind.{Kind};
 ghost use Rattle.co_plain.specs.declared.happening.Happening.{Happening};
+ghost use Rattle.co_plain.specs.AllInvariants.{AllInvariants};
+ghost use Rattle.co_plain.specs.Federation.{Federation};
 ghost use Rattle.co_plain.specs.Opening.{Found, opened};
 ghost use Rattle.co_plain.specs.Runs.{run};
-ghost use Rattle.co_law_moves.specs.HandedVerdicts.{AreTrueVerdicts};
-ghost use Rattle.co_law_moves.specs.OpenedLogs.{AreOpenable};
-ghost use Rattle.co_law.specs.HeldOnes.{AskedAreHeld};
+ghost use Rattle.co_plain.specs.Step.{step};
+ghost use Rattle.co_plain.specs.Premises.{AreOpenable, AreTrueVerdicts, IsTrueVerdict};
 ghost use Rattle.co_law.specs.MessageHomes.{MessagesNameHomes};
 
 /// In every state of a run each message that was sent, of whatever kind, names the coordinator of its transaction: the one
@@ -19,12 +20,8 @@ pub fn messages_name_homes()
         MessagesNameHomes (run hs (opened kinds coords found_member found_coord)) }
 {}
 
-/// Unless it is presumed aborted, a transaction that a member was asked to prepare, has voted, or asks about is held by its
-/// coordinator: it is in the table there or committed at the member; where it is in the table, the member is a participant of
-/// its entry; and a commit of it that waits for acknowledgements names the member.
-pub fn asked_ones_are_held()
-    ensures { (kinds : List Kind) (coords : ℕ) (found_member found_coord : ℕ → Found) (hs : List Happening) →
-        AreOpenable kinds coords found_member found_coord →
-        AreTrueVerdicts hs (opened kinds coords found_member found_coord) →
-        AskedAreHeld (run hs (opened kinds coords found_member found_coord)) }
+/// Each event keeps this, from any state that has it and all invariants.
+pub fn each_event_keeps_homes()
+    ensures { (s : Federation) (h : Happening) →
+        AllInvariants s → MessagesNameHomes s → IsTrueVerdict s h → MessagesNameHomes (step s h).state }
 {}

@@ -7,18 +7,7 @@ ghost use Rattle.co_plain.specs.MemberView.{first_refused_at_member};
 ghost use Rattle.co_plain.specs.SoundLogs.{AreSound};
 ghost use Rattle.co_plain.specs.Runs.{run};
 ghost use Rattle.co_plain.specs.Promises.{SerialReads, LogsAlone, LogsStaySound, Acknowledged, MembersAgree};
-ghost use Rattle.co_plain.specs.Invariants.{Kept};
-ghost use Rattle.co_plain.specs.Moves.{Move, GuardsHold, all_effects};
-ghost use Rattle.co_law_moves.specs.HandedVerdicts.{AreTrueVerdicts};
-ghost use Rattle.co_law_moves.specs.OpenedLogs.{AreOpenable};
-
-/// Every state of a run has the ten invariants, and the two facts beside them.
-pub fn invariants()
-    ensures { (kinds : List Kind) (coords : ℕ) (found_member found_coord : ℕ → Found) (hs : List Happening) →
-        AreOpenable kinds coords found_member found_coord →
-        AreTrueVerdicts hs (opened kinds coords found_member found_coord) →
-        Kept (opened kinds coords found_member found_coord) (run hs (opened kinds coords found_member found_coord)) }
-{}
+ghost use Rattle.co_plain.specs.Premises.{AreTrueVerdicts, AreOpenable};
 
 /// Committed transactions read what they read when run whole, one by one, in the order of their decisions
 /// (Bernstein, Hadzilacos and Goodman 1987, serializability).
@@ -76,12 +65,4 @@ pub fn readable_logs()
 pub fn fresh_logs()
     ensures { (kinds : List Kind) (coords : ℕ) (closed_member closed_coord : ℕ → Bool) →
         AreOpenable kinds coords (λ m. record { records = []; spare_closed = closed_member m }) (λ c. record { records = []; spare_closed = closed_coord c }) }
-{}
-
-/// Every list of moves keeps the invariants, where each guard holds where its move is made.
-pub fn moves()
-    ensures { (kinds : List Kind) (coords : ℕ) (found_member found_coord : ℕ → Found) (moves : List Move) →
-        AreOpenable kinds coords found_member found_coord →
-        GuardsHold moves (opened kinds coords found_member found_coord) →
-        Kept (opened kinds coords found_member found_coord) (all_effects moves (opened kinds coords found_member found_coord)) }
 {}

@@ -8,6 +8,7 @@
 mod events;
 mod finality;
 mod homes;
+mod invariants;
 mod laws;
 mod nodes;
 mod opening;
@@ -19,15 +20,17 @@ mod runs;
 
 pub use events::{disarming, events_are_moves};
 pub use finality::{lost_transactions_stay_lost, presumed_aborts_stay, timers_are_final};
-pub use homes::{asked_ones_are_held, messages_name_homes};
-pub use laws::{
-    acknowledged, agreement, fresh_logs, invariants, logs_alone, moves, readable_logs,
-    serial_reads, sound_logs,
+pub use homes::{each_event_keeps_homes, messages_name_homes};
+pub use invariants::{
+    all_have_what_each_keeps, all_invariants, each_event_keeps_all, moves, opened_logs_have_all,
 };
-pub use nodes::{whole_nodes, writable_nodes};
+pub use laws::{
+    acknowledged, agreement, fresh_logs, logs_alone, readable_logs, serial_reads, sound_logs,
+};
+pub use nodes::{each_event_keeps_nodes, whole_nodes, writable_nodes};
 pub use opening::{allowed_logs_are_own, empty_logs, left_logs, whole_invariants};
 pub use order::{commitment_ordered, decisions_told, transcripts_ordered};
 pub use own::kept_by_each;
 pub use quiet::only_timers;
 pub use refused::refused_lines;
-pub use runs::{lines_hand_no_verdict, runs_go_on, transcripts_go_on};
+pub use runs::{lines_hand_no_verdict, opened_logs_stay, runs_go_on, transcripts_go_on};

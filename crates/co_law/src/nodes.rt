@@ -9,7 +9,10 @@ ghost use Rattle.co_plain.specs.MemberView.{first_refused_at_member};
 ghost use Rattle.co_plain.specs.CoordView.{first_refused_at_coord};
 ghost use Rattle.co_plain.specs.Opening.{Found, OnlyOwnLogs, opened};
 ghost use Rattle.co_plain.specs.Runs.{run};
-ghost use Rattle.co_law_runs.specs.OnlyTimers.{AreOwn};
+ghost use Rattle.co_plain.specs.AllInvariants.{AllInvariants};
+ghost use Rattle.co_plain.specs.Federation.{Federation};
+ghost use Rattle.co_plain.specs.Step.{step};
+ghost use Rattle.co_plain.specs.Premises.{AreOwn, IsOwn};
 ghost use Rattle.co_law_node.specs.WholeNodes.{AreWhole, AreWritable};
 ghost use Rattle.co_law_node.specs.Writable.{IsWithinBounds};
 
@@ -26,6 +29,12 @@ pub fn whole_nodes()
         ((c : ℕ) → first_refused_at_coord (length kinds) (reverse (found_coord c).records) ≡ None) →
         AreOwn (length kinds) coords hs →
         AreWhole (length kinds) coords (run hs (opened kinds coords found_member found_coord)) }
+{}
+
+/// Each event keeps whole nodes, from any state that has them and all invariants, where a begin and an operation name own nodes.
+pub fn each_event_keeps_nodes()
+    ensures { (members coords : ℕ) (s : Federation) (h : Happening) →
+        1 ≤ coords → AllInvariants s → AreWhole members coords s → IsOwn members coords h → AreWhole members coords (step s h).state }
 {}
 
 /// Where the records of the opened logs are within their bounds and in order, those of every state are so, and whatever a

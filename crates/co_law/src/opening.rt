@@ -6,9 +6,8 @@ ghost use Rattle.co_plain.specs.declared.happening.Happening.{Happening};
 ghost use Rattle.co_plain.specs.MemberView.{first_refused_at_member};
 ghost use Rattle.co_plain.specs.Opening.{Found, OnlyOwnLogs, opened};
 ghost use Rattle.co_plain.specs.Runs.{run};
-ghost use Rattle.co_law_moves.specs.HandedVerdicts.{AreTrueVerdicts};
-ghost use Rattle.co_law_runs.specs.OnlyTimers.{AreOwn, AreOwnLogs};
-ghost use Rattle.co_law.specs.LeftLogs.{MayBeOpened, left};
+ghost use Rattle.co_plain.specs.Premises.{AreTrueVerdicts, AreOwn, AreOwnLogs, MayBeOpened};
+ghost use Rattle.co_law.specs.LeftLogs.{left};
 ghost use Rattle.co_law.specs.WholeInvariants.{AreKeptWhole};
 
 /// Every premise that the laws ask of opened logs holds of logs without records, whatever their spare files have: a spare
@@ -38,11 +37,11 @@ pub fn left_logs()
         (left coords (λ c. ((run hs (opened kinds coords found_member found_coord)).coord c).log.stable) closed_coord) }
 {}
 
-/// Over such logs every state has the invariants whole, in one place: those of every run, what each node keeps by itself,
-/// that each message names the coordinator of its transaction, who is held by it, and that nodes are whole.
+/// Over such logs every state has the invariants whole, in one place: all invariants of every run, that each message names the
+/// coordinator of its transaction, and that nodes are whole.
 pub fn whole_invariants()
     ensures { (kinds : List Kind) (coords : ℕ) (found_member found_coord : ℕ → Found) (hs : List Happening) →
         1 ≤ coords → MayBeOpened kinds coords found_member found_coord →
         AreTrueVerdicts hs (opened kinds coords found_member found_coord) → AreOwn (length kinds) coords hs →
-        AreKeptWhole kinds coords (opened kinds coords found_member found_coord) (run hs (opened kinds coords found_member found_coord)) }
+        AreKeptWhole kinds coords (run hs (opened kinds coords found_member found_coord)) }
 {}

@@ -7,9 +7,8 @@ ghost use Rattle.co_plain.specs.CommitmentOrder.{told_decisions, IsCommitmentOrd
 ghost use Rattle.co_plain.specs.Decisions.{decided_numbers};
 ghost use Rattle.co_plain.specs.Opening.{Found, opened};
 ghost use Rattle.co_plain.specs.Runs.{run, transcript, lines};
-ghost use Rattle.co_law_moves.specs.HandedVerdicts.{AreTrueVerdicts};
+ghost use Rattle.co_plain.specs.Premises.{AreTrueVerdicts, AreOpenable};
 ghost use Rattle.co_law_moves.specs.MoveTraces.{run_items};
-ghost use Rattle.co_law_moves.specs.OpenedLogs.{AreOpenable};
 
 /// The items of every run are commitment ordered: where an operation of one decided transaction stands before a
 /// conflicting one of another, it is decided first (Raz, The principle of commitment ordering, VLDB 1992). A transaction of

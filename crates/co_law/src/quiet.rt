@@ -5,9 +5,8 @@ ghost use Rattle.co_plain.specs.declared.happening.Happening.{Happening};
 ghost use Rattle.co_plain.specs.Opening.{Found, opened};
 ghost use Rattle.co_plain.specs.Quiet.{IsOpen, IsQuiet};
 ghost use Rattle.co_plain.specs.Runs.{run};
-ghost use Rattle.co_law_moves.specs.HandedVerdicts.{AreTrueVerdicts};
-ghost use Rattle.co_law_runs.specs.OnlyTimers.{AreOwn, AreOwnLogs, SomeTimerEnds};
-ghost use Rattle.co_law_moves.specs.OpenedLogs.{AreOpenable};
+ghost use Rattle.co_plain.specs.Premises.{AreTrueVerdicts, AreOwn, AreOwnLogs, AreOpenable};
+ghost use Rattle.co_law_runs.specs.OnlyTimers.{SomeTimerEnds};
 
 /// Where the run is quiet and a transaction is open, some open transaction has not voted: it is active at a member or
 /// idle at its coordinator. The timer there answers `dropped` or `aborted timer`, and after it no commit record of that

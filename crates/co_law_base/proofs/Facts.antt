@@ -30,7 +30,7 @@ use Rattle.co_plain.specs.Decisions.{sites_of, replies_of, is_decided, told_in, 
 use Rattle.co_plain.specs.DurableRecords.{durable_records}
 use Rattle.co_plain.specs.SoundLogs.{unended_in}
 use Rattle.co_plain.specs.Promises.{AreDecidedOnce}
-use Rattle.co_plain.specs.Invariants.{Side, Memory, Stable, view, stands, VotedAreConflictFree, KeptAsTold, takes_part_in, ends_only, txn_of}
+use Rattle.co_plain.specs.Invariants.{Side, Memory, Stable, view, stands, VotedAreConflictFree, KeptAsTold, StampsIn, takes_part_in, ends_only, txn_of}
 use Rattle.co_law_base.proofs.ViewRules.{AllReplay}
 use Rattle.co_law_base.proofs.ImageRules.{IsImage}
 
@@ -58,16 +58,7 @@ rest_of s =
 
 -- other coordinators, sessions and messages, with the same decisions and opened logs
 abbrev pub changed : Rest → (ℕ → CoordState) → Table Session → List Message → Rest
-changed r coord sessions sent =
-    record {
-      coord = coord;
-      sessions = sessions;
-      sent = sent;
-      decided = r.decided;
-      opened_member = r.opened_member;
-      opened_coord = r.opened_coord;
-      used = r.used;
-    }
+changed r coord sessions sent = record r { coord = coord; sessions = sessions; sent = sent }
 
 abbrev pub told : Rest → ℕ → List Told
 told r t = told_in (look r.sessions t)
@@ -154,10 +145,6 @@ pub record ViewFacts (r : Rest) (m : ℕ) (v : MemberView) : Type 0 where
   -- a vote is held by the table of its coordinator, unless that presumes it aborted
   pub held : (t c : ℕ) → votes_for (look v.voted t) c ≡ true → alive r c t ≡ true → takes_part_in (entry_of r c t) m ≡ true
   pub works : (t c : ℕ) → votes_for (look v.voted t) c ≡ true → alive r c t ≡ true → takes r t m
-
-abbrev pub StampsIn : ℕ → List Operation → Type 0
-StampsIn n [] = Unit {0}
-StampsIn n (o ∷ os) = (o.stamp ≤ n) × StampsIn n os
 
 -- only abort records of presumed aborted transactions wait
 abbrev pub OnlyAborts : Rest → List Record → Type 0

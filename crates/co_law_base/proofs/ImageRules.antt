@@ -7,7 +7,6 @@ use Rattle.std.specs.FinMap.{get, entries, entries_sorted, get-entries, same_map
 use Rattle.std.specs.FinMap.Entries.{find, below_all, is_sorted}
 use Rattle.std.specs.Ordering.{nat_cmp, eq_by_cmp, is_lt}
 use Rattle.co_base.specs.declared.written.Written.{Written}
-use Rattle.co_record.specs.declared.record.Record.{Record}
 use Rattle.co_serial.specs.Records.{Records, with_changes}
 use Rattle.co_state.specs.declared.engine_state.Sets.{Sets}
 use Rattle.co_state.specs.declared.engine_state.Vote.{Vote}
@@ -16,8 +15,7 @@ use Rattle.co_state.specs.Keys.{reads_key, writes_key, reads_meet, writes_meet}
 use Rattle.co_plain.specs.declared.member_view.MemberView.{MemberView}
 use Rattle.co_plain.specs.declared.session.Told.{Told}
 use Rattle.co_plain.specs.MemberView.{cast_in, forget_in, install_in}
-use Rattle.co_plain.specs.CoordView.{has_commit_of}
-use Rattle.co_plain.specs.DurableRecords.{with_decided, durable_of}
+use Rattle.co_plain.specs.DurableRecords.{laid_where}
 use Rattle.co_plain.specs.Invariants.{VotedAreConflictFree, Replays, told_spans}
 use Rattle.co_law_engine.proofs.Keys.{unchanged, overlaid}
 use Rattle.co_law_engine.proofs.YesTells.{in_some}
@@ -187,64 +185,64 @@ entry_has P (e ∷ es) h u x f = by (entry_has P es h.1 u x) (eq_by_cmp nat_cmp 
         subst (λ k. P k x) (sym (same_number u e.0 g)) (subst (P e.0) (in_some same) h.0)
     by rest false g = rest (sym (ap (λ c. cond c (Some e.1) (find nat_cmp u es)) g) ∙ f)
 
--- whether one of the votes is decided and wrote the key
-abbrev pub NoneWrites : (ℕ → List Record) → List (ℕ × Vote) → List ℕ → Type 0
-NoneWrites logs [] q = Unit {0}
-NoneWrites logs (e ∷ es) q = (has_commit_of (logs e.1.coord) e.0 ≡ true → writes_key e.1.sets.writes q ≡ false) × NoneWrites logs es q
+-- none of the votes that the test names wrote the key
+abbrev pub NoneWrites : (ℕ → Vote → Bool) → List (ℕ × Vote) → List ℕ → Type 0
+NoneWrites test [] q = Unit {0}
+NoneWrites test (e ∷ es) q = (test e.0 e.1 ≡ true → writes_key e.1.sets.writes q ≡ false) × NoneWrites test es q
 
 -- each that does gives the serial value
-abbrev pub EachGives : Records → (ℕ → List Record) → List (ℕ × Vote) → List ℕ → Type 0
-EachGives serial logs [] q = Unit {0}
-EachGives serial logs (e ∷ es) q =
-    (has_commit_of (logs e.1.coord) e.0 ≡ true → writes_key e.1.sets.writes q ≡ true → (r : Records) → get serial q ≡ get (with_changes r e.1.sets.writes) q)
-    × EachGives serial logs es q
+abbrev pub EachGives : Records → (ℕ → Vote → Bool) → List (ℕ × Vote) → List ℕ → Type 0
+EachGives serial test [] q = Unit {0}
+EachGives serial test (e ∷ es) q =
+    (test e.0 e.1 ≡ true → writes_key e.1.sets.writes q ≡ true → (r : Records) → get serial q ≡ get (with_changes r e.1.sets.writes) q)
+    × EachGives serial test es q
 
-laid_over : (serial : Records) (logs : ℕ → List Record) (r : Records) (es : List (ℕ × Vote)) (q : List ℕ) →
-    (NoneWrites logs es q → get serial q ≡ get r q) → EachGives serial logs es q → get serial q ≡ get (with_decided logs r es) q
-laid_over serial logs r [] q none each = none tt
-laid_over serial logs r (e ∷ es) q none each =
-    by (λ x f. laid_over serial logs x es q f each.1) (has_commit_of (logs e.1.coord) e.0) refl (writes_key e.1.sets.writes q) refl
+laid_over : (serial : Records) (test : ℕ → Vote → Bool) (r : Records) (es : List (ℕ × Vote)) (q : List ℕ) →
+    (NoneWrites test es q → get serial q ≡ get r q) → EachGives serial test es q → get serial q ≡ get (laid_where test r es) q
+laid_over serial test r [] q none each = none tt
+laid_over serial test r (e ∷ es) q none each =
+    by (λ x f. laid_over serial test x es q f each.1) (test e.0 e.1) refl (writes_key e.1.sets.writes q) refl
   where
-    by : ((x : Records) → (NoneWrites logs es q → get serial q ≡ get x q) → get serial q ≡ get (with_decided logs x es) q) →
-        (b : Bool) → has_commit_of (logs e.1.coord) e.0 ≡ b → (c : Bool) → writes_key e.1.sets.writes q ≡ c →
-        get serial q ≡ get (with_decided logs (if has_commit_of (logs e.1.coord) e.0 then with_changes r e.1.sets.writes else r) es) q
+    by : ((x : Records) → (NoneWrites test es q → get serial q ≡ get x q) → get serial q ≡ get (laid_where test x es) q) →
+        (b : Bool) → test e.0 e.1 ≡ b → (c : Bool) → writes_key e.1.sets.writes q ≡ c →
+        get serial q ≡ get (laid_where test (if test e.0 e.1 then with_changes r e.1.sets.writes else r) es) q
     by rest true d true w =
-        subst (λ b. get serial q ≡ get (with_decided logs (if b then with_changes r e.1.sets.writes else r) es) q) (sym d)
+        subst (λ b. get serial q ≡ get (laid_where test (if b then with_changes r e.1.sets.writes else r) es) q) (sym d)
         (rest (with_changes r e.1.sets.writes) (λ n. each.0 d w r))
     by rest true d false w =
-        subst (λ b. get serial q ≡ get (with_decided logs (if b then with_changes r e.1.sets.writes else r) es) q) (sym d)
+        subst (λ b. get serial q ≡ get (laid_where test (if b then with_changes r e.1.sets.writes else r) es) q) (sym d)
         (rest (with_changes r e.1.sets.writes) (λ n. none ((λ k. w), n) ∙ sym (unchanged e.1.sets.writes r q w)))
     by rest false d c w =
-        subst (λ b. get serial q ≡ get (with_decided logs (if b then with_changes r e.1.sets.writes else r) es) q) (sym d)
+        subst (λ b. get serial q ≡ get (laid_where test (if b then with_changes r e.1.sets.writes else r) es) q) (sym d)
         (rest r (λ n. none ((λ k. absurd (let z : true ≡ false = sym k ∙ d in cc)), n)))
 
-as_each : (logs : ℕ → List Record) (q : List ℕ) (es : List (ℕ × Vote)) → NoneWrites logs es q → EachEntry (λ u x. has_commit_of (logs x.coord) u ≡ true → writes_key x.sets.writes q ≡ false) es
-as_each logs q [] n = tt
-as_each logs q (e ∷ es) n = (n.0, as_each logs q es n.1)
+as_each : (test : ℕ → Vote → Bool) (q : List ℕ) (es : List (ℕ × Vote)) → NoneWrites test es q → EachEntry (λ u x. test u x ≡ true → writes_key x.sets.writes q ≡ false) es
+as_each test q [] n = tt
+as_each test q (e ∷ es) n = (n.0, as_each test q es n.1)
 
-as_gives : (serial : Records) (logs : ℕ → List Record) (q : List ℕ) (es : List (ℕ × Vote)) →
-    EachEntry (λ u x. has_commit_of (logs x.coord) u ≡ true → writes_key x.sets.writes q ≡ true → (r : Records) → get serial q ≡ get (with_changes r x.sets.writes) q) es →
-    EachGives serial logs es q
-as_gives serial logs q [] n = tt
-as_gives serial logs q (e ∷ es) n = (n.0, as_gives serial logs q es n.1)
+as_gives : (serial : Records) (test : ℕ → Vote → Bool) (q : List ℕ) (es : List (ℕ × Vote)) →
+    EachEntry (λ u x. test u x ≡ true → writes_key x.sets.writes q ≡ true → (r : Records) → get serial q ≡ get (with_changes r x.sets.writes) q) es →
+    EachGives serial test es q
+as_gives serial test q [] n = tt
+as_gives serial test q (e ∷ es) n = (n.0, as_gives serial test q es n.1)
 
--- The durable records are the serial ones: those that a view tells, with every decided vote laid over.
-pub durable_serial : (serial : Records) (settled : ℕ → Type 0) (logs : ℕ → List Record) (v : MemberView) → IsImage serial settled v →
-    ((t : ℕ) (vote : Vote) → look v.voted t ≡ Some vote → has_commit_of (logs vote.coord) t ≡ true → settled t) →
-    ((t : ℕ) (vote : Vote) → look v.voted t ≡ Some vote → settled t → has_commit_of (logs vote.coord) t ≡ true) →
-    durable_of logs v ≡ serial
-durable_serial serial settled logs v i there back =
+-- The serial records are those of a view, with every settled vote laid over.
+pub laid_serial : (serial : Records) (settled : ℕ → Type 0) (test : ℕ → Vote → Bool) (v : MemberView) → IsImage serial settled v →
+    ((t : ℕ) (vote : Vote) → look v.voted t ≡ Some vote → test t vote ≡ true → settled t) →
+    ((t : ℕ) (vote : Vote) → look v.voted t ≡ Some vote → settled t → test t vote ≡ true) →
+    laid_where test v.records (entries v.voted) ≡ serial
+laid_serial serial settled test v i there back =
     same_map nat_list_cmp_total (slice_cmp-IsAntisymmetric nat_cmp-IsAntisymmetric) _ _
-    (λ q. sym (laid_over serial logs v.records (entries v.voted) q
+    (λ q. sym (laid_over serial test v.records (entries v.voted) q
     (λ n. i.untouched q (λ t a f d. from_none q n t a f (back t a f d)))
     (all_give q)))
   where
-    from_none : (q : List ℕ) → NoneWrites logs (entries v.voted) q → (t : ℕ) (a : Vote) → look v.voted t ≡ Some a → has_commit_of (logs a.coord) t ≡ true → writes_key a.sets.writes q ≡ false
+    from_none : (q : List ℕ) → NoneWrites test (entries v.voted) q → (t : ℕ) (a : Vote) → look v.voted t ≡ Some a → test t a ≡ true → writes_key a.sets.writes q ≡ false
     from_none q n t a f =
-        entry_has (λ u x. has_commit_of (logs x.coord) u ≡ true → writes_key x.sets.writes q ≡ false) (entries v.voted) (as_each logs q (entries v.voted) n) t a (sym (get-entries v.voted t) ∙ f)
+        entry_has (λ u x. test u x ≡ true → writes_key x.sets.writes q ≡ false) (entries v.voted) (as_each test q (entries v.voted) n) t a (sym (get-entries v.voted t) ∙ f)
 
-    all_give : (q : List ℕ) → EachGives serial logs (entries v.voted) q
+    all_give : (q : List ℕ) → EachGives serial test (entries v.voted) q
     all_give q =
-        as_gives serial logs q (entries v.voted)
-        (each_entry (λ u x. has_commit_of (logs x.coord) u ≡ true → writes_key x.sets.writes q ≡ true → (r : Records) → get serial q ≡ get (with_changes r x.sets.writes) q)
+        as_gives serial test q (entries v.voted)
+        (each_entry (λ u x. test u x ≡ true → writes_key x.sets.writes q ≡ true → (r : Records) → get serial q ≡ get (with_changes r x.sets.writes) q)
         (entries v.voted) (entries_sorted v.voted) (λ t a f d w. i.written t a q (get-entries v.voted t ∙ f) (there t a (get-entries v.voted t ∙ f) d) w))

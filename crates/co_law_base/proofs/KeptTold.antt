@@ -10,8 +10,7 @@ use Rattle.co_state.specs.Changes.{changes_of}
 use Rattle.co_state.specs.EngineState.{records_now, records_at}
 use Rattle.co_plain.specs.declared.session.Told.{Told}
 use Rattle.co_plain.specs.Sessions.{told_at, count_at}
-use Rattle.co_plain.specs.Invariants.{KeptAsTold}
-use Rattle.co_law_base.proofs.Facts.{StampsIn}
+use Rattle.co_plain.specs.Invariants.{KeptAsTold, StampsIn}
 
 -- the same records at each stamp
 pub kept_same : (a b : EngineState) (os : List Operation) (told : List Told) → ((stamp : ℕ) → records_at a.base a.installed stamp ≡ records_at b.base b.installed stamp) →

@@ -21,10 +21,10 @@ use Rattle.co_plain.specs.MemberStep.{with_engine}
 use Rattle.co_plain.specs.Sessions.{told_at, count_at, with_told}
 use Rattle.co_plain.specs.Federation.{Federation, with_session, with_member}
 use Rattle.co_plain.specs.Decisions.{is_decided, told_in, asked_in}
-use Rattle.co_plain.specs.Invariants.{Side, Memory, Stable, view, stands, KeptAsTold}
+use Rattle.co_plain.specs.Invariants.{Side, Memory, Stable, view, stands, KeptAsTold, StampsIn}
 use Rattle.co_plain.specs.Moves.{Operate, effect, Guard, entered_reply, may_operate_at}
 use Rattle.co_law_base.proofs.Lookups.{put_here, put_there, put_cases, found_holds}
-use Rattle.co_law_base.proofs.Facts.{Before, rest_of, changed, told, told_here, asked, over, by_coord, StampsIn, ActiveFacts, ViewFacts, MemberFacts, NumberFacts, Facts}
+use Rattle.co_law_base.proofs.Facts.{Before, rest_of, changed, told, told_here, asked, over, by_coord, ActiveFacts, ViewFacts, MemberFacts, NumberFacts, Facts}
 use Rattle.co_law_base.proofs.Carrying.{at_each, LivesOn, StandsOn, stands_same, sent_on, records_on, Later, later_member, later_view, later_waiting, later_coord, later_records, later_sent}
 use Rattle.co_law_base.proofs.ViewMoves.{each_map, holds_put, put_holds}
 use Rattle.co_law_base.proofs.MemberFrame.{unended_settled}

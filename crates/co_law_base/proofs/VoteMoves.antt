@@ -20,7 +20,7 @@ use Rattle.co_plain.specs.LogWrite.{with_batch}
 use Rattle.co_plain.specs.MemberView.{cast_in, install_in, with_number}
 use Rattle.co_plain.specs.Wire.{was_sent}
 use Rattle.co_plain.specs.Federation.{Federation, with_member}
-use Rattle.co_plain.specs.Decisions.{IsDecided, InThisRun, InOpenedFile}
+use Rattle.co_plain.specs.Decisions.{IsSettled, InThisRun, InOpenedFile}
 use Rattle.co_plain.specs.Invariants.{Memory, Stable, view, stands, takes_part_in}
 use Rattle.co_plain.specs.Moves.{Cast, Install as InstallVote, effect, Guard, cast_state}
 use Rattle.co_law_engine.proofs.YesTells.{SaysYes, yes_parts, yes_apart, yes_sees}
@@ -135,7 +135,7 @@ keeps_cast s f t m c n g =
     grows u (inl h) = or_left _ _ (holds_put b.voted t vote u h)
     grows u (inr h) = or_right _ _ h
 
-pub as_settled : (s : Federation) (t : ℕ) → IsDecided s t → settled (rest_of s) t
+pub as_settled : (s : Federation) (t : ℕ) → IsSettled s t → settled (rest_of s) t
 as_settled s t (InThisRun h) = Here h
 as_settled s t (InOpenedFile c h) = Before c h
 

@@ -10,7 +10,7 @@ use Rattle.co_plain.specs.Federation.{Federation}
 use Rattle.co_plain.specs.Opening.{Found, opened}
 use Rattle.co_plain.specs.Runs.{run, transcript, lines}
 use Rattle.co_law_base.proofs.Lookups.{look_none}
-use Rattle.co_law_moves.specs.OpenedLogs.{AreOpenable}
+use Rattle.co_plain.specs.Premises.{AreOpenable}
 use Rattle.co_law.proofs.EveryRun.{every_acknowledged, every_read}
 use Rattle.co_law.proofs.FreshLogs.{empty_openable}
 use Rattle.co_law.proofs.GoingOn.{lines_true}

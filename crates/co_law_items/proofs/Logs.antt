@@ -14,7 +14,7 @@ use Rattle.co_state.specs.Table.{look}
 use Rattle.co_state.specs.declared.engine_state.Vote.{Vote}
 use Rattle.co_plain.specs.CoordView.{recovered_commits}
 use Rattle.co_plain.specs.LogWrite.{outcome_of, with_batch, crashed_log, marks_of, checkpoint_marks}
-use Rattle.co_plain.specs.MemberView.{install_in, told_by, recovered_view, engine_from}
+use Rattle.co_plain.specs.MemberView.{install_in, view_with, recovered_view, engine_from}
 use Rattle.co_plain.specs.Numbers.{next_generation}
 use Rattle.co_plain.specs.declared.log_state.LogState.{LogState}
 use Rattle.co_plain.specs.declared.log_state.Stop.{Stop}
@@ -73,7 +73,7 @@ module _ (P : List ℕ → Type 0) where
   installs_in v n t (Some vote) e =
       record { records = changes_named P vote.sets.writes v.records n.records (n.voted t vote e).2; voted = holds_without (IsVoteOf P) v.voted n.voted t }
 
-  tells : (v : MemberView) → IsViewOf v → (r : Record) → IsRecordOf r → IsViewOf (told_by v r)
+  tells : (v : MemberView) → IsViewOf v → (r : Record) → IsRecordOf r → IsViewOf (view_with v r)
   tells v n (log.Header owner generation) h = n
   tells v n (log.Prepare t coord count reads writes) h =
       record { records = n.records; voted = holds_put (IsVoteOf P) v.voted n.voted t (record { coord = coord; count = count; sets = record { reads = reads; writes = writes } }) h }

@@ -7,7 +7,7 @@ use Rattle.co_plain.specs.Step.{step, disarmed}
 use Rattle.co_plain.specs.Runs.{run}
 use Rattle.co_plain.specs.Moves.{Move, Guard, GuardsHold, effect, all_effects}
 use Rattle.co_law_base.proofs.Facts.{Facts}
-use Rattle.co_law_moves.specs.HandedVerdicts.{IsTrueVerdict, AreTrueVerdicts}
+use Rattle.co_plain.specs.Premises.{IsTrueVerdict, AreTrueVerdicts}
 use Rattle.co_law_moves.proofs.Steps.{step_keeps}
 use Rattle.co_law_moves.specs.EventMoves.{moves_of}
 use Rattle.co_law_moves.proofs.MoveByMove.{move_keeps}

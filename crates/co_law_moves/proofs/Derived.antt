@@ -11,11 +11,11 @@ use Rattle.co_plain.specs.CoordView.{recovered_commits, has_commit_of}
 use Rattle.co_plain.specs.Federation.{Federation}
 use Rattle.co_plain.specs.Decisions.{is_decided, votes_for, sites_of, replies_of}
 use Rattle.co_plain.specs.DurableRecords.{durable_in}
-use Rattle.co_plain.specs.SoundLogs.{unended_in, has_unended, log_votes_for, log_has_committed}
+use Rattle.co_plain.specs.SoundLogs.{unended_in, has_unended, log_votes_for, log_has_committed, LogsName, ByVote, ByCommit}
 use Rattle.co_plain.specs.Invariants.{Stable, view, takes_part_in, FilesAreSound}
 use Rattle.co_law_engine.proofs.YesTells.{in_some}
 use Rattle.co_law_base.proofs.Lookups.{holds_found, found_holds}
-use Rattle.co_law_base.proofs.ImageRules.{durable_serial}
+use Rattle.co_law_base.proofs.ImageRules.{laid_serial}
 use Rattle.co_law_base.proofs.Commits.{unended_seen}
 use Rattle.co_law_base.proofs.Facts.{rest_of, settled, Here, Before, by_coord, belongs, Begun, Voted, serial, serial_of, ReadSerially, ViewFacts, Facts}
 use Rattle.co_law_base.proofs.Carrying.{one_belongs, settled_alive, settled_from, by_coord_begun, same_coord}
@@ -52,7 +52,7 @@ module _ (s : Federation) (f : Facts s) where
   -- the logs alone give the serial records
   pub logs_give : (m : ℕ) → durable_in s m ≡ serial (rest_of s) m
   logs_give m =
-      durable_serial (serial (rest_of s) m) (settled (rest_of s)) (λ c. (s.coord c).log.stable) (view Stable (s.member m)) ((f.members m).views Stable).image
+      laid_serial (serial (rest_of s) m) (settled (rest_of s)) (λ t vote. has_commit_of (s.coord vote.coord).log.stable t) (view Stable (s.member m)) ((f.members m).views Stable).image
       (λ t vote e h. known_settled vote.coord t h)
       (λ t vote e d. let p = voted_open m t vote.coord (ap (λ o. votes_for o vote.coord) e ∙ eq-eqb vote.coord vote.coord refl) d in unended_seen (s.coord vote.coord).log.stable t p.0 p.1)
 
@@ -80,6 +80,22 @@ module _ (s : Federation) (f : Facts s) where
       by (inr p) (inl q) = apart d c members (and_parts (by_coord (look s.sessions t) d) (is_decided s.decided t) q).0 p
       by (inr p) (inr q) = f.numbers.one_commit t c d members others p q
 
+  abbrev Named : ℕ → ℕ → Type 0
+  Named = LogsName (λ m. (s.member m).log.stable) (λ c. (s.coord c).log.stable)
+
+  one_coordinator : (t c d : ℕ) → Named t c → Named t d → c ≡ d
+  one_coordinator t c d (ByVote m h) (ByVote n k) = one_belongs (rest_of s) f.numbers t c d (named' m t c h) (named' n t d k)
+  one_coordinator t c d (ByVote m h) (ByCommit k) =
+      let p = holds_found (recovered_commits (s.coord d).log.stable).unended t k in
+      vote_commit t c d p.0 (named' m t c h) p.1
+  one_coordinator t c d (ByCommit h) (ByVote n k) =
+      let p = holds_found (recovered_commits (s.coord c).log.stable).unended t h in
+      sym (vote_commit t d c p.0 (named' n t d k) p.1)
+  one_coordinator t c d (ByCommit h) (ByCommit k) =
+      let p = holds_found (recovered_commits (s.coord c).log.stable).unended t h in
+      let q = holds_found (recovered_commits (s.coord d).log.stable).unended t k in
+      one_commit t c d p.0 q.0 p.1 q.1
+
   no_unended : (m t c : ℕ) → log_votes_for (s.member m).log.stable t c ≡ true → has_unended (s.coord c).log.stable t ≡ false → settled (rest_of s) t → ⊥
   no_unended m t c h n d =
       let p = voted_open m t c h d in
@@ -89,17 +105,15 @@ module _ (s : Federation) (f : Facts s) where
   pub files_sound : FilesAreSound s
   files_sound =
       record {
-        one_vote = λ t m n c d h k. one_belongs (rest_of s) f.numbers t c d (named' m t c h) (named' n t d k);
-        vote_and_commit = λ t m c d h k. let p = holds_found (recovered_commits (s.coord d).log.stable).unended t k in vote_commit t c d p.0 (named' m t c h) p.1;
-        one_commit = λ t c d h k.
-            let p = holds_found (recovered_commits (s.coord c).log.stable).unended t h in
-            let q = holds_found (recovered_commits (s.coord d).log.stable).unended t k in
-            one_commit t c d p.0 q.0 p.1 q.1;
+        one_coordinator = one_coordinator;
         participants = λ t c m members h k. f.records.unended t c m members Stable h k;
         voters = λ t c m members h k.
             let p = voted_open m t c k (unended_settled s f c t members h) in
             subst (λ ns. has_number ns m ≡ true) (in_some (sym p.1 ∙ h)) p.2;
-        nowhere_committed = λ t m c n h k. false_from_ne_true (log_has_committed (s.member n).log.stable t)
-            (λ z. no_unended m t c h k (settled_from (rest_of s) t c (((f.members n).views Stable).homed t c z (named' m t c h))));
-        nowhere_decided = λ t m c d h k. false_from_ne_true (has_commit_of (s.coord d).log.stable t) (λ z. no_unended m t c h k (known_settled d t z));
+        undecided = λ t m c h k.
+            record {
+              uncommitted = λ n. false_from_ne_true (log_has_committed (s.member n).log.stable t)
+                  (λ z. no_unended m t c h k (settled_from (rest_of s) t c (((f.members n).views Stable).homed t c z (named' m t c h))));
+              undecided = λ d. false_from_ne_true (has_commit_of (s.coord d).log.stable t) (λ z. no_unended m t c h k (known_settled d t z));
+            };
       }

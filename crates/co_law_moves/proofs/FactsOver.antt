@@ -15,9 +15,8 @@ use Rattle.co_plain.specs.declared.session.Session.{Session}
 use Rattle.co_plain.specs.Sessions.{same_node, asked_to_end}
 use Rattle.co_plain.specs.Wire.{was_sent}
 use Rattle.co_plain.specs.Federation.{Federation, with_session, decided_where}
-use Rattle.co_plain.specs.Invariants.{Memory, txn_of}
+use Rattle.co_plain.specs.Invariants.{Memory, txn_of, OwnAborts}
 use Rattle.co_law_base.proofs.Facts.{rest_of, over, by_coord, CoordHas, Facts}
-use Rattle.co_law_moves.specs.OwnFacts.{OwnAborts}
 use Rattle.co_law_moves.specs.OwnGuards.{Logs, SoundLogs, AnyLogs, Where}
 use Rattle.co_law_moves.proofs.Own.{OwnFacts}
 use Rattle.co_law_moves.proofs.OwnClients.{asks_own}

@@ -17,16 +17,17 @@ use Rattle.co_plain.specs.Numbers.{has_number}
 use Rattle.co_plain.specs.CoordView.{has_commit_of}
 use Rattle.co_plain.specs.Sessions.{same_node, count_at}
 use Rattle.co_plain.specs.Federation.{Federation}
-use Rattle.co_plain.specs.Decisions.{is_decided, is_asked, votes_for, told_of, sites_of, BelongsTo, BegunThere, VotedBefore, IsPresumedAborted, AtCoordinator, AtMember, IsDecided, InThisRun, InOpenedFile}
+use Rattle.co_plain.specs.Decisions.{is_decided, is_asked, votes_for, told_of, sites_of, BelongsTo, BegunThere, VotedBefore, IsPresumedAborted, AtCoordinator, AtMember, IsSettled, InThisRun, InOpenedFile}
 use Rattle.co_plain.specs.DurableRecords.{durable_records, starting_records}
 use Rattle.co_plain.specs.SoundLogs.{unended_in, log_has_committed}
 use Rattle.co_plain.specs.Promises.{serial_records}
-use Rattle.co_plain.specs.Invariants.{Side, Stable, view, stands, takes_part_in, TakesPart, HeldOperations, NamedBefore, InstalledIsSerial, OnlyAbortsWait, CoordinatorMatchesMembers, Kept, told_here, is_begun, is_over}
+use Rattle.co_plain.specs.Invariants.{Side, Stable, view, stands, takes_part_in, TakesPart, HeldOperations, NamedBefore, is_settled_vote, InstalledIsSerial, OnlyAbortsWait}
 use Rattle.co_law_base.proofs.Lookups.{holds_found, found_holds}
+use Rattle.co_law_base.proofs.ImageRules.{laid_serial}
 use Rattle.co_law_base.proofs.ViewMoves.{each_decided}
 use Rattle.co_law_base.proofs.ViewRules.{as_invariant}
-use Rattle.co_law_base.proofs.Facts.{rest_of, settled, Here, Before, settled_at, alive, by_coord, belongs, Begun, Voted, takes, ByTold, Named, OnlyAborts, Each, Facts}
-use Rattle.co_law_base.proofs.Carrying.{one_belongs, settled_alive, by_coord_begun, held_on}
+use Rattle.co_law_base.proofs.Facts.{rest_of, settled, Here, Before, settled_at, alive, by_coord, belongs, Begun, Voted, takes, ByTold, Named, serial, OnlyAborts, Each, Facts}
+use Rattle.co_law_base.proofs.Carrying.{one_belongs, settled_alive, settled_home, settled_from, by_coord_begun}
 use Rattle.co_law_base.proofs.TwoViews.{committed_both}
 use Rattle.co_law_base.proofs.Commits.{unended_seen}
 use Rattle.co_law_base.proofs.VoteMoves.{as_settled}
@@ -73,7 +74,7 @@ living s t c b n = by (alive (rest_of s) c t) refl
     by true e = e
     by false e = absurd (n (dead_is s t c b e))
 
-pub settled_is : (s : Federation) (t : ℕ) → settled (rest_of s) t → IsDecided s t
+pub settled_is : (s : Federation) (t : ℕ) → settled (rest_of s) t → IsSettled s t
 settled_is s t (Here h) = InThisRun h
 settled_is s t (Before c h) = InOpenedFile c h
 
@@ -81,38 +82,34 @@ pub takes_is : (s : Federation) (t m : ℕ) → takes (rest_of s) t m → TakesP
 takes_is s t m (ByTold h) = HeldOperations h
 takes_is s t m (Named c members h k) = NamedBefore c members h k
 
-waiting_is : (s : Federation) (rs : List Record) → OnlyAborts (rest_of s) rs → OnlyAbortsWait s rs
+pub waiting_is : (s : Federation) (rs : List Record) → OnlyAborts (rest_of s) rs → OnlyAbortsWait s rs
 waiting_is s [] w = tt
-waiting_is s (log.Abort t ∷ rs) w = (dead_is s t w.0.0 w.0.1 w.0.2, waiting_is s rs w.1)
+waiting_is s (log.Abort t ∷ rs) w = ((w.0.0, belongs_is s t w.0.0 w.0.1, dead_is s t w.0.0 w.0.1 w.0.2), waiting_is s rs w.1)
 waiting_is s (log.Header a b ∷ rs) w = absurd w
 waiting_is s (log.Prepare a b c d e ∷ rs) w = absurd w
 waiting_is s (log.Commit a b ∷ rs) w = absurd w
 waiting_is s (log.End a ∷ rs) w = absurd w
 waiting_is s (log.Checkpoint a b c ∷ rs) w = absurd w
 
-module _ (s0 s : Federation) (f : Facts s) (g : Grows s0 s) where
+-- the opened logs are those from which the run began
+module _ (s0 s : Federation) (g : Grows s0 s) where
   pub same_start : starting_records s ≡ starting_records s0
   same_start = λ i. durable_records (g.members i) (g.coords i)
 
   pub same_serial : (ds : List Decided) → serial_records s ds ≡ serial_records s0 ds
   same_serial ds = ap (λ start. after start (reverse (map (λ d. sites_of d.told) ds))) same_start
 
-  image : (m : ℕ) (side : Side) → InstalledIsSerial s s0 m (view side (s.member m))
+module _ (s : Federation) (f : Facts s) where
+  pub image : (m : ℕ) (side : Side) → InstalledIsSerial s m (view side (s.member m))
   image m side =
       let v = (f.members m).views side in
       record {
-        untouched = λ key h. ap (λ all. get (all m) key) (sym (same_serial s.decided)) ∙ v.image.untouched key (λ t vote e d. h t vote e (settled_is s t d));
-        overlaid = λ t vote key records e d w. ap (λ all. get (all m) key) (sym (same_serial s.decided)) ∙ v.image.written t vote key e (as_settled s t d) w records;
+        serial =
+            laid_serial (serial (rest_of s) m) (settled (rest_of s)) (is_settled_vote s) (view side (s.member m)) v.image
+            (λ t vote e h. settled_from (rest_of s) t vote.coord h)
+            (λ t vote e d. settled_home (rest_of s) f.numbers t vote.coord (v.named t vote.coord (ap (λ o. votes_for o vote.coord) e ∙ eq-eqb vote.coord vote.coord refl)) d);
         decided_stand = λ d later earlier q h. each_at (λ e. 1 ≤ count_at e.told m → stands (view side (s.member m)) e.txn ≡ true) s.decided later earlier d v.done q h;
       }
-
-  to_stable : (m t : ℕ) → holds (s.member m).committed t ≡ true → holds (view Stable (s.member m)).committed t ≡ true
-  to_stable m t h = sym (ap (λ n. holds n t) (committed_both (rest_of s) m (s.member m) (f.members m))) ∙ h
-
-  not_idle : (t c : ℕ) (e : Entry) → look (s.coord c).table t ≡ Some e → e ≢ entry.Idle → is_over s t ≡ true
-  not_idle t c entry.Idle q n = absurd (n refl)
-  not_idle t c (entry.Collecting parts yeses) q n = or_left (is_asked s t) (holds s.used t) ((f.coords c).collecting t parts yeses q).asked
-  not_idle t c (entry.Committed members acks) q n = (f.coords c).unended_over t members ((f.coords c).committed t members acks q).recorded
 
   -- a commit that ended, at a member where the transaction stands
   ended_there : (t c m : ℕ) → settled (rest_of s) t → look (s.coord c).table t ≡ None → ((d : ℕ) → belongs (rest_of s) t d → d ≡ c) → stands (view Stable (s.member m)) t ≡ true →
@@ -128,7 +125,7 @@ module _ (s0 s : Federation) (f : Facts s) (g : Grows s0 s) where
           let held = ((f.members m).views Stable).held t p.0.coord mine (settled_alive (rest_of s) f.numbers t p.0.coord b d) in
           absurd (let z : false ≡ true = ap (λ o. takes_part_in o m) (sym none) ∙ ap (λ e. takes_part_in (look (s.coord e).table t) m) (sym (home p.0.coord b)) ∙ held in cc)
 
-  ended : (c m : ℕ) (d : Decided) (later earlier : List Decided) → s.decided ≡ later ++ d ∷ earlier → has_commit_of (s.coord c).log.stable d.txn ≡ true → look (s.coord c).table d.txn ≡ None → 1 ≤ count_at d.told m →
+  pub ended : (c m : ℕ) (d : Decided) (later earlier : List Decided) → s.decided ≡ later ++ d ∷ earlier → has_commit_of (s.coord c).log.stable d.txn ≡ true → look (s.coord c).table d.txn ≡ None → 1 ≤ count_at d.told m →
       log_has_committed (s.member m).log.stable d.txn ≡ true
   ended c m d later earlier q h none n =
       ended_there d.txn c m (Here decided) none (home (or_cases (by_coord (look s.sessions d.txn) c && is_decided s.decided d.txn) (has_commit_of (s.opened_coord c) d.txn) ((f.coords c).known d.txn h)))
@@ -141,7 +138,7 @@ module _ (s0 s : Federation) (f : Facts s) (g : Grows s0 s) where
       home (inl p) k b = one_belongs (rest_of s) f.numbers d.txn k c b (Begun (and_parts (by_coord (look s.sessions d.txn) c) (is_decided s.decided d.txn) p).0)
       home (inr o) k b = absurd (let z : true ≡ false = sym (f.numbers.commit_used c d.txn o) ∙ f.numbers.new d.txn (f.numbers.decided_begun d.txn decided) in cc)
 
-  ended_before : (t c m : ℕ) (members : List ℕ) → has_commit_of (s.coord c).log.stable t ≡ true → look (s.coord c).table t ≡ None → unended_in (s.opened_coord c) t ≡ Some members → has_number members m ≡ true →
+  pub ended_before : (t c m : ℕ) (members : List ℕ) → has_commit_of (s.coord c).log.stable t ≡ true → look (s.coord c).table t ≡ None → unended_in (s.opened_coord c) t ≡ Some members → has_number members m ≡ true →
       log_has_committed (s.member m).log.stable t ≡ true
   ended_before t c m members h none o k =
       ended_there t c m (Before c (unended_seen (s.opened_coord c) t members o)) none home (f.records.opened_stand t c m members Stable o k)
@@ -150,7 +147,7 @@ module _ (s0 s : Federation) (f : Facts s) (g : Grows s0 s) where
       home d (Voted n v) = f.numbers.vote_commit t n d c members v o
       home d (Begun b) = absurd (let z : true ≡ false = sym (f.numbers.commit_used c t (unended_seen (s.opened_coord c) t members o)) ∙ f.numbers.new t (by_coord_begun (look s.sessions t) d b) in cc)
 
-  committed_alive : (t m : ℕ) (side : Side) → holds (view side (s.member m)).committed t ≡ true → ¬ (IsPresumedAborted s t)
+  pub committed_alive : (t m : ℕ) (side : Side) → holds (view side (s.member m)).committed t ≡ true → ¬ (IsPresumedAborted s t)
   committed_alive t m side h (AtCoordinator c b none undecided unopened) =
       let z : settled_at (rest_of s) c t ≡ true = ((f.members m).views side).homed t c h (as_belongs s t c b) in
       let w : settled_at (rest_of s) c t ≡ false = or_from (is_decided s.decided t) (has_commit_of (s.opened_coord c) t) undecided unopened in
@@ -158,79 +155,7 @@ module _ (s0 s : Federation) (f : Facts s) (g : Grows s0 s) where
   committed_alive t m side h (AtMember session n e b undecided lost) =
       let z : true ≡ false = sym (((f.members m).views side).known t h (found_holds s.sessions t session e)) ∙ undecided in cc
 
-  known_or : (t c : ℕ) → has_commit_of (s.coord c).log.stable t ≡ true → (is_decided s.decided t || has_commit_of (s.opened_coord c) t) ≡ true
-  known_or t c h = by (or_cases (by_coord (look s.sessions t) c && is_decided s.decided t) (has_commit_of (s.opened_coord c) t) ((f.coords c).known t h))
-    where
-      by : ((by_coord (look s.sessions t) c && is_decided s.decided t) ≡ true) ⊎ (has_commit_of (s.opened_coord c) t ≡ true) → (is_decided s.decided t || has_commit_of (s.opened_coord c) t) ≡ true
-      by (inl p) = or_left (is_decided s.decided t) (has_commit_of (s.opened_coord c) t) (and_parts (by_coord (look s.sessions t) c) (is_decided s.decided t) p).1
-      by (inr k) = or_right (is_decided s.decided t) (has_commit_of (s.opened_coord c) t) k
-
-  agreement : CoordinatorMatchesMembers s
-  agreement =
-      record {
-        unended = λ t c m members side. f.records.unended t c m members side;
-        ended = ended;
-        ended_before = ended_before;
-        prepares_named = λ t c m n h. belongs_is s t c (f.sent.prepares_named t c m n h);
-        votes_named = λ t c m granted h. belongs_is s t c (f.sent.votes_named t m c granted h);
-        voted_named = λ t c m side h. belongs_is s t c (((f.members m).views side).named t c h);
-        committed_decided = λ t m side h b. ((f.members m).views side).known t h b;
-        committed_alive = committed_alive;
-        yeses_sent = λ t c m parts yeses e h. ((f.coords c).collecting t parts yeses e).yeses_sent m h;
-        acks_sent = λ t c m members acks e h. ((f.coords c).committed t members acks e).acks_sent m h;
-        prepared_held = λ t c m n h alive'. held_on _ _ _ (to_stable m t) (f.sent.prepares_held t c m n h (living s t c (f.sent.prepares_named t c m n h) alive'));
-        voted_held = λ t c m side h alive'. or_left _ _ (((f.members m).views side).held t c h (living s t c (((f.members m).views side).named t c h) alive'));
-        undecided_open = λ t c parts yeses e. let x = (f.coords c).collecting t parts yeses e in (x.still.undecided, x.still.unrecorded, x.lacks);
-        idle_open = λ t c e. let x = (f.coords c).idle t e in (x.undecided, x.unrecorded);
-        commits_known = known_or;
-        committed_recorded = λ t c members acks e. let x = (f.coords c).committed t members acks e in (x.recorded, x.lacks);
-        decided_once = f.numbers.once;
-        decided_begun = f.numbers.decided_begun;
-        only_ends_wait = λ c. (f.coords c).ends;
-      }
-
-  aborts_true : (t c m : ℕ) → (belongs (rest_of s) t c × (alive (rest_of s) c t ≡ false)) ⊎ (holds (view Stable (s.member m)).committed t ≡ true) →
-      IsPresumedAborted s t ⊎ (log_has_committed (s.member m).log.stable t ≡ true)
-  aborts_true t c m (inl p) = inl (dead_is s t c p.0 p.1)
+  pub aborts_true : (t c m : ℕ) → (belongs (rest_of s) t c × (alive (rest_of s) c t ≡ false)) ⊎ (holds (view Stable (s.member m)).committed t ≡ true) →
+      (BelongsTo s t c × IsPresumedAborted s t) ⊎ (log_has_committed (s.member m).log.stable t ≡ true)
+  aborts_true t c m (inl p) = inl (belongs_is s t c p.0, dead_is s t c p.0 p.1)
   aborts_true t c m (inr h) = inr h
-
-  session_kept : (d : Decided) → (d.told ≡ []) ⊎ ((told_of s d.txn ≡ d.told) × (is_asked s d.txn ≡ true)) → (d.told ≡ []) ⊎ (told_of s d.txn ≡ d.told)
-  session_kept d (inl e) = inl e
-  session_kept d (inr p) = inr p.0
-
-  pub kept : Kept s0 s
-  kept =
-      record {
-        conflict_free = λ m side. ((f.members m).views side).free;
-        replays = λ m side. as_invariant (view side (s.member m)) (told_here s m) (is_begun s) ((f.members m).views side).replay;
-        told_durable =
-            record {
-              votes = λ t m c side h alive'. f.sent.yeses_stand t m c side h (living s t c (f.sent.votes_named t m c true h) alive');
-              acks = λ t m c side h. f.sent.acks_stand t m c side h;
-            };
-        serial = image;
-        true_decisions =
-            record {
-              aborts = λ t c m h. aborts_true t c m (f.sent.aborts t c m h);
-              commits = λ t c m h. let p = f.sent.commits t c m h in (settled_is s t p.0, takes_is s t m p.1);
-            };
-        active =
-            record {
-              kept = λ t m os e. ((f.members m).active t os e).kept;
-              prepared = λ t c m n h. f.sent.prepares_count t c m n h;
-              collecting = λ t c parts yeses e. ((f.coords c).collecting t parts yeses e).parts_told;
-            };
-        asked =
-            record {
-              standing = λ t m side h. ((f.members m).views side).over t h;
-              in_table = not_idle;
-              named = λ note h. f.sent.over note h;
-              begun_is_new = f.numbers.new;
-              marked = λ t m mark e. (f.members m).marked t mark e;
-            };
-        logged = λ m. record { same = (f.members m).logged; waiting = waiting_is s (s.member m).log.waiting (f.members m).waiting };
-        agreement = agreement;
-        sound = files_sound s f;
-        local_home = λ t m n session e b d. f.numbers.local t m n session e b d;
-        session_kept = λ d later earlier q. session_kept d (each_at (λ e. (e.told ≡ []) ⊎ ((told_of s e.txn ≡ e.told) × (is_asked s e.txn ≡ true))) s.decided later earlier d f.numbers.kept q);
-      }

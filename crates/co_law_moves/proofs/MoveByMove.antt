@@ -23,7 +23,7 @@ use Rattle.co_law_base.proofs.Sending.{Allowed, keeps_send}
 use Rattle.co_law_base.proofs.AtCoord.{keeps_decide}
 use Rattle.co_law_base.proofs.Locally.{keeps_local}
 
-as_takes : (s : Federation) (t m : ℕ) → TakesPart s t m → takes (rest_of s) t m
+pub as_takes : (s : Federation) (t m : ℕ) → TakesPart s t m → takes (rest_of s) t m
 as_takes s t m (HeldOperations h) = ByTold h
 as_takes s t m (NamedBefore c members h k) = Named c members h k
 

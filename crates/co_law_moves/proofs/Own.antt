@@ -19,9 +19,9 @@ use Rattle.co_plain.specs.Wire.{was_sent}
 use Rattle.co_plain.specs.Federation.{Federation}
 use Rattle.co_plain.specs.Decisions.{is_decided, told_in, asked_in}
 use Rattle.co_plain.specs.Promises.{AreDecidedOnce}
-use Rattle.co_plain.specs.Invariants.{Side, Memory, view, stands, VotedAreConflictFree, KeptAsTold, txn_of}
-use Rattle.co_law_base.proofs.Facts.{rest_of, by_coord, StampsIn, CoordHas}
-use Rattle.co_law_moves.specs.OwnFacts.{OwnAborts, OwnEnds}
+use Rattle.co_plain.specs.Invariants.{Side, Memory, view, stands, VotedAreConflictFree, KeptAsTold, txn_of, StampsIn, OwnAborts}
+use Rattle.co_law_base.proofs.Facts.{rest_of, by_coord, CoordHas}
+use Rattle.co_plain.specs.CoordInvariants.{OwnEnds}
 
 -- asked to end, or in an opened log
 abbrev pub spent : Table Session → Numbers → ℕ → Bool

@@ -35,7 +35,7 @@ use Rattle.co_law_base.proofs.Beginning.{other_than}
 use Rattle.co_law_base.proofs.Sending.{send_cases, sent_still, parts_told}
 use Rattle.co_law_base.proofs.AtCoord.{ends_back}
 use Rattle.co_law_moves.proofs.Own.{spent, told_there, OwnView, OwnActive, OwnMember, OwnNumbers, OwnSent, OwnFacts}
-use Rattle.co_law_moves.specs.OwnFacts.{OwnEnds}
+use Rattle.co_plain.specs.CoordInvariants.{OwnEnds}
 use Rattle.co_law_moves.specs.OwnGuards.{AnyLogs, may_say}
 
 -- What must hold for the facts to go over to other sessions and messages.

@@ -23,7 +23,7 @@ use Rattle.co_law_base.proofs.Carrying.{at_each, ClientsOn, clients_coord}
 use Rattle.co_law_base.proofs.Commits.{unended_some}
 use Rattle.co_law_base.proofs.Tabled.{EntryFits, coord_put, coord_without}
 use Rattle.co_law_base.proofs.CoordMoves.{yes_fits, ack_fits, collect_fits, ended_has, crashed_has, filled_has}
-use Rattle.co_law_moves.specs.OwnFacts.{OwnEnds}
+use Rattle.co_plain.specs.CoordInvariants.{OwnEnds}
 use Rattle.co_law_moves.proofs.Own.{OwnFacts}
 
 -- the clients stay

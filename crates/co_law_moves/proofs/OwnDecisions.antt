@@ -28,7 +28,7 @@ use Rattle.co_law_base.proofs.KeptTold.{kept_install, stamps_more}
 use Rattle.co_law_base.proofs.VoteMoves.{active_found}
 use Rattle.co_law_base.proofs.AtCoord.{coord_each}
 use Rattle.co_law_base.proofs.Locally.{local_vote, member_after, coord_still}
-use Rattle.co_law_moves.specs.OwnFacts.{OwnEnds}
+use Rattle.co_plain.specs.CoordInvariants.{OwnEnds}
 use Rattle.co_law_moves.proofs.Own.{spent, told_there, OwnView, OwnActive, OwnMember, OwnNumbers, OwnFacts}
 use Rattle.co_law_moves.proofs.OwnMembers.{own_member, own_both}
 use Rattle.co_law_moves.proofs.OwnClients.{asks_own}

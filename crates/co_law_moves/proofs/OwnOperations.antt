@@ -17,10 +17,10 @@ use Rattle.co_plain.specs.MemberStep.{with_engine}
 use Rattle.co_plain.specs.Sessions.{told_at, count_at, with_told}
 use Rattle.co_plain.specs.Federation.{Federation, with_session, with_member}
 use Rattle.co_plain.specs.Decisions.{is_decided, told_in, asked_in}
-use Rattle.co_plain.specs.Invariants.{Side, Memory, Stable, view, stands, KeptAsTold}
+use Rattle.co_plain.specs.Invariants.{Side, Memory, Stable, view, stands, KeptAsTold, StampsIn}
 use Rattle.co_plain.specs.Moves.{Operate, effect, Guard, entered_reply, may_operate_at}
 use Rattle.co_law_base.proofs.Lookups.{put_here, put_there, put_cases, found_holds}
-use Rattle.co_law_base.proofs.Facts.{by_coord, StampsIn}
+use Rattle.co_law_base.proofs.Facts.{by_coord}
 use Rattle.co_law_base.proofs.ViewMoves.{holds_put, put_holds}
 use Rattle.co_law_base.proofs.KeptTold.{kept_same, count_told}
 use Rattle.co_law_base.proofs.Asking.{same_reading}

@@ -19,14 +19,14 @@ use Rattle.co_plain.specs.CoordStep.{table_from}
 use Rattle.co_plain.specs.Opening.{Found, made, used_numbers, opened}
 use Rattle.co_plain.specs.Federation.{Federation}
 use Rattle.co_plain.specs.Decisions.{votes_for}
-use Rattle.co_plain.specs.SoundLogs.{unended_in, has_unended}
+use Rattle.co_plain.specs.SoundLogs.{unended_in, has_unended, ByVote, ByCommit}
 use Rattle.co_plain.specs.Invariants.{Side, Memory, Stable, view, stands, takes_part_in}
 use Rattle.co_law_base.proofs.Lookups.{is_nothing, look_none, holds_found, found_holds}
 use Rattle.co_law_base.proofs.Commits.{lacks_at_first, unended_seen, unended_some, from_cases, from_found}
 use Rattle.co_law_base.proofs.ImageRules.{IsImage}
 use Rattle.co_law_base.proofs.Facts.{rest_of, asked, settled, Here, Before, alive, by_coord, settled_at, belongs, Begun, Voted, Named, serial, ViewFacts, MemberFacts, CommittedEntry, CoordHas, Facts}
-use Rattle.co_law_moves.specs.OpenedLogs.{AreOpenable}
-use Rattle.co_law_moves.proofs.Laid.{durable_image}
+use Rattle.co_plain.specs.Premises.{AreOpenable}
+use Rattle.co_law_moves.proofs.Laid.{laid_image}
 
 pub made_view : (owner : Node) (rs : List Record) → recovered_view (made owner rs) ≡ recovered_view rs
 made_view owner [] = refl
@@ -81,14 +81,14 @@ module _ (kinds : List Kind) (coords : ℕ) (fm fc : ℕ → Found) (g : AreOpen
     where
       by : (b : Bool) → has_unended (fc c).records t ≡ b → (members : List ℕ) × (unended_in (fc c).records t ≡ Some members)
       by true e = holds_found (recovered_commits (fc c).records).unended t e
-      by false e = absurd (let z : true ≡ false = sym k ∙ g.sound.nowhere_decided t m c d h e in cc)
+      by false e = absurd (let z : true ≡ false = sym k ∙ (g.sound.undecided t m c h e).undecided d in cc)
 
   own_vote : (m t : ℕ) (vote : Vote) → look (v m).voted t ≡ Some vote → votes_for (look (v m).voted t) vote.coord ≡ true
   own_vote m t vote e = ap (λ o. votes_for o vote.coord) e ∙ eq-eqb vote.coord vote.coord refl
 
   image : (m : ℕ) → IsImage (serial (rest_of (opened kinds coords fm fc)) m) (settled (rest_of (opened kinds coords fm fc))) (recovered_view (fm m).records)
   image m =
-      durable_image (λ c. (fc c).records) (settled (rest_of (opened kinds coords fm fc))) (recovered_view (fm m).records) (g.free m)
+      laid_image (λ t vote. has_commit_of (fc vote.coord).records t) (settled (rest_of (opened kinds coords fm fc))) (recovered_view (fm m).records) (g.free m)
       (λ t vote f d. Before vote.coord d)
       (λ t vote f d. back t vote f d)
     where
@@ -130,7 +130,7 @@ module _ (kinds : List Kind) (coords : ℕ) (fm fc : ℕ → Found) (g : AreOpen
         where
           by : (x : Bool) → has_unended (fc c).records t ≡ x → settled_at (rest_of (opened kinds coords fm fc)) c t ≡ true
           by true e = let p = holds_found (recovered_commits (fc c).records).unended t e in unended_seen (fc c).records t p.0 p.1
-          by false e = absurd (let z : true ≡ false = sym h ∙ g.sound.nowhere_committed t k c m b e in cc)
+          by false e = absurd (let z : true ≡ false = sym h ∙ (g.sound.undecided t k c b e).uncommitted m in cc)
 
   both : (m : ℕ) (P : MemberView → Type 0) → P (recovered_view (fm m).records) → (side : Side) → P (view side ((opened kinds coords fm fc).member m))
   both m P p Memory = p
@@ -165,9 +165,9 @@ module _ (kinds : List Kind) (coords : ℕ) (fm fc : ℕ → Found) (g : AreOpen
               kept = tt;
               voted_used = g.members_used;
               commit_used = g.coords_used;
-              one_vote = g.sound.one_vote;
-              vote_commit = λ t m c d members h k. g.sound.vote_and_commit t m c d h (found_holds (recovered_commits (fc d).records).unended t members k);
-              one_commit = λ t c d ms ns h k. g.sound.one_commit t c d (found_holds (recovered_commits (fc c).records).unended t ms h) (found_holds (recovered_commits (fc d).records).unended t ns k);
+              one_vote = λ t m n c d h k. g.sound.one_coordinator t c d (ByVote m h) (ByVote n k);
+              vote_commit = λ t m c d members h k. g.sound.one_coordinator t c d (ByVote m h) (ByCommit (found_holds (recovered_commits (fc d).records).unended t members k));
+              one_commit = λ t c d ms ns h k. g.sound.one_coordinator t c d (ByCommit (found_holds (recovered_commits (fc c).records).unended t ms h)) (ByCommit (found_holds (recovered_commits (fc d).records).unended t ns k));
               one_home = λ t m c d h k. let p = has_open m t c h d k in unended_seen (fc c).records t p.0 p.1;
             };
         members = member_facts;

@@ -44,7 +44,7 @@ use Rattle.co_law_base.proofs.Commits.{unended_seen}
 use Rattle.co_law_base.proofs.VoteMoves.{as_settled}
 use Rattle.co_law_base.proofs.LogMoves.{dead_there}
 use Rattle.co_law_base.proofs.Beginning.{keeps_begin, keeps_begin_local}
-use Rattle.co_law_moves.specs.HandedVerdicts.{IsTrueVerdict, AreTrueVerdicts}
+use Rattle.co_plain.specs.Premises.{IsTrueVerdict, AreTrueVerdicts}
 use Rattle.co_law_moves.proofs.Nodes.{drop_active_at, member_stays, coord_stays, arm_at as member_arm_at, coord_arm_at}
 use Rattle.co_law_moves.proofs.MemberEvents as members
 use Rattle.co_law_moves.proofs.CoordEvents as coords

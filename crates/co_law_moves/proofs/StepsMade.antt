@@ -31,7 +31,7 @@ use Rattle.co_plain.specs.Step.{up_member, member_step, up_coord, coord_step, co
 use Rattle.co_plain.specs.Moves.{Move, Begin, BeginLocal, CrashMember, CrashCoord, ArmMember, ArmCoord}
 use Rattle.co_law_base.proofs.Facts.{Facts}
 use Rattle.co_law_base.proofs.VoteMoves.{as_settled}
-use Rattle.co_law_moves.specs.HandedVerdicts.{IsTrueVerdict}
+use Rattle.co_plain.specs.Premises.{IsTrueVerdict}
 use Rattle.co_law_moves.proofs.Steps.{visits_there}
 use Rattle.co_law_moves.specs.EventMoves.{where_up, begin_moves, operate_moves, operate_with_moves, commit_entry_moves, local_commit_moves, commit_at_moves, commit_with_moves, abort_entry_moves, local_abort_moves, abort_at_moves, abort_with_moves, prepare_moves, commit_moves, abort_moves, decision_moves, yes_moves, no_moves, ask_moves, ack_moves, arrival_moves, timer_moves, coord_timer_moves, timer_at_moves, crash_at_moves, restart_at_moves, arm_at_moves, member_checkpoint_moves, coord_checkpoint_moves, checkpoint_at_moves, again_moves, question_moves, resend_moves, line_moves, moves_of}
 use Rattle.co_law_moves.proofs.Made.{where_map, Made, MadeOver, sound_made, no_move}

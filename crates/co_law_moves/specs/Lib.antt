@@ -1,6 +1,4 @@
 pub mod OwnFacts
 pub mod OwnGuards
-pub mod HandedVerdicts
-pub mod OpenedLogs
 pub mod EventMoves
 pub mod MoveTraces

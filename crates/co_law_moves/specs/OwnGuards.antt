@@ -5,9 +5,9 @@ use Rattle.co_message.specs.declared.message.Message.{Message}
 use Rattle.co_message.specs.declared.message.Message.TheVariants as message
 use Rattle.co_state.specs.Table.{holds}
 use Rattle.co_plain.specs.Federation.{Federation}
-use Rattle.co_plain.specs.Decisions.{BelongsTo, IsPresumedAborted, IsDecided}
+use Rattle.co_plain.specs.Decisions.{BelongsTo, IsPresumedAborted, IsSettled}
 use Rattle.co_plain.specs.SoundLogs.{log_has_committed}
-use Rattle.co_plain.specs.Invariants.{TakesPart, is_over}
+use Rattle.co_plain.specs.Invariants.{TakesPart, is_asked_or_used}
 use Rattle.co_plain.specs.Moves.{Move, DropVoted, Install, Send, Guard, effect, may_send}
 
 pub data Logs : Type 0 where
@@ -21,14 +21,14 @@ Where AnyLogs A = Unit {0}
 
 -- a decision is said of what was asked to end or stands in an opened log
 abbrev pub may_say : Logs → Federation → Message → Type 0
-may_say l s (message.Decide t c m true) = Where l (IsDecided s t × TakesPart s t m) × (is_over s t ≡ true)
+may_say l s (message.Decide t c m true) = Where l (IsSettled s t × TakesPart s t m) × (is_asked_or_used s t ≡ true)
 may_say l s (message.Decide t c m false) =
-    Where l ((BelongsTo s t c × IsPresumedAborted s t) ⊎ (log_has_committed (s.member m).log.stable t ≡ true)) × (is_over s t ≡ true)
+    Where l ((BelongsTo s t c × IsPresumedAborted s t) ⊎ (log_has_committed (s.member m).log.stable t ≡ true)) × (is_asked_or_used s t ≡ true)
 may_say l s note = may_send s note
 
 abbrev pub GuardOver : Logs → Federation → Move → Type 0
 GuardOver l s (DropVoted t m) = (holds (s.member m).engine.voted t ≡ true) × Where l (IsPresumedAborted s t)
-GuardOver l s (Install t m) = (holds (s.member m).engine.voted t ≡ true) × Where l (IsDecided s t)
+GuardOver l s (Install t m) = (holds (s.member m).engine.voted t ≡ true) × Where l (IsSettled s t)
 GuardOver l s (Send note) = may_say l s note
 GuardOver l s move = Guard s move
 

@@ -12,7 +12,7 @@ use Rattle.co_state.specs.Table.{look, holds, first_in, least_where}
 use Rattle.co_state.specs.Keys.{reads_meet, writes_meet}
 use Rattle.co_state.specs.VotingRule.{voted_holds}
 use Rattle.co_plain.specs.declared.member_view.MemberView.{MemberView}
-use Rattle.co_plain.specs.MemberView.{nothing_known, told_by, recovered_view, cast_in, install_in, forget_in, sets_conflict, conflicts_with_voted, member_allows, first_refused_from, first_refused_at_member}
+use Rattle.co_plain.specs.MemberView.{nothing_known, view_with, recovered_view, cast_in, install_in, forget_in, sets_conflict, conflicts_with_voted, member_allows, first_refused_from, first_refused_at_member}
 use Rattle.co_plain.specs.Invariants.{VotedAreConflictFree}
 use Rattle.co_law_engine.proofs.YesTells.{passes_none}
 use Rattle.co_law_base.proofs.Lookups.{is_nothing, look_none, put_cases, without_cases}
@@ -30,11 +30,11 @@ Allowed coords rs = AllAllowed (member_allows coords) recovered_view rs
 module _ (coords : ℕ) where
   pub allowed_from : (rs : List Record) → first_refused_at_member coords (reverse rs) ≡ None → Allowed coords rs
   allowed_from =
-      all_from_none (member_allows coords) told_by (first_refused_from coords) recovered_view (λ place v. refl) (λ place v r rs. refl) (λ r rs. refl)
+      all_from_none (member_allows coords) view_with (first_refused_from coords) recovered_view (λ place v. refl) (λ place v r rs. refl) (λ r rs. refl)
 
   pub none_from : (rs : List Record) → Allowed coords rs → first_refused_at_member coords (reverse rs) ≡ None
   none_from =
-      none_from_all (member_allows coords) told_by (first_refused_from coords) recovered_view (λ place v. refl) (λ place v r rs. refl) (λ r rs. refl)
+      none_from_all (member_allows coords) view_with (first_refused_from coords) recovered_view (λ place v. refl) (λ place v r rs. refl) (λ r rs. refl)
 
   pub older : (front rs : List Record) → Allowed coords (front ++ rs) → Allowed coords rs
   older = older_allowed (member_allows coords) recovered_view
@@ -132,7 +132,7 @@ no_way v sets h u other e =
     none_of None h = refl
     none_of (Some k) h = absurd (let z : true ≡ false = h in cc)
 
-pub told_step : (coords place : ℕ) (v : MemberView) (r : Record) → member_allows coords place v r ≡ true → Tells coords v → Tells coords (told_by v r)
+pub told_step : (coords place : ℕ) (v : MemberView) (r : Record) → member_allows coords place v r ≡ true → Tells coords v → Tells coords (view_with v r)
 told_step coords place v (log.Header a b) h f = f
 told_step coords place v (log.End t) h f = absurd (let z : false ≡ true = h in cc)
 told_step coords place v (log.Checkpoint rows undos committed) h f =

@@ -9,7 +9,7 @@ use Rattle.co_record.specs.declared.record.Record.TheVariants as log
 use Rattle.co_state.specs.Table.{holds}
 use Rattle.co_plain.specs.declared.coord_state.Entry.{Entry}
 use Rattle.co_plain.specs.declared.coord_state.Entry.TheVariants as entry
-use Rattle.co_plain.specs.CoordView.{coord_told_by, recovered_commits, all_up_to, coord_allows, first_refused_commit, first_refused_at_coord, has_commit_of}
+use Rattle.co_plain.specs.CoordView.{commits_with, recovered_commits, all_up_to, coord_allows, first_refused_commit, first_refused_at_coord, has_commit_of}
 use Rattle.co_plain.specs.CoordLog.{commit_onto, commits_onto}
 use Rattle.co_plain.specs.SoundLogs.{unended_in}
 use Rattle.co_law_base.proofs.Lookups.{is_nothing, look_none, without_cases}
@@ -23,11 +23,11 @@ AllowedCommits members rs = AllAllowed (coord_allows members) recovered_commits 
 module _ (members : ℕ) where
   pub commits_from : (rs : List Record) → first_refused_at_coord members (reverse rs) ≡ None → AllowedCommits members rs
   commits_from =
-      all_from_none (coord_allows members) coord_told_by (first_refused_commit members) recovered_commits (λ place v. refl) (λ place v r rs. refl) (λ r rs. refl)
+      all_from_none (coord_allows members) commits_with (first_refused_commit members) recovered_commits (λ place v. refl) (λ place v r rs. refl) (λ r rs. refl)
 
   pub no_refused : (rs : List Record) → AllowedCommits members rs → first_refused_at_coord members (reverse rs) ≡ None
   no_refused =
-      none_from_all (coord_allows members) coord_told_by (first_refused_commit members) recovered_commits (λ place v. refl) (λ place v r rs. refl) (λ r rs. refl)
+      none_from_all (coord_allows members) commits_with (first_refused_commit members) recovered_commits (λ place v. refl) (λ place v r rs. refl) (λ r rs. refl)
 
   pub older_commits : (front rs : List Record) → AllowedCommits members (front ++ rs) → AllowedCommits members rs
   older_commits = older_allowed (coord_allows members) recovered_commits

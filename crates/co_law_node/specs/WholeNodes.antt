@@ -1,6 +1,6 @@
 -- A federation of whole nodes, in which who may still act has neither voted nor been installed anywhere, and each prepare that was sent names a
 -- coordinator of the federation and is about some operations.
-use Rattle.std.specs.Prelude.{ℕ, true, false, ◌≡◌, ◌≤◌}
+use Rattle.std.specs.Prelude.{ℕ, true, false, ◌≡◌, ◌≤◌, Some}
 use Rattle.co_message.specs.declared.message.Message.TheVariants as message
 use Rattle.co_state.specs.Table.{look}
 use Rattle.co_plain.specs.declared.session.Session.{Session}
@@ -8,6 +8,7 @@ use Rattle.co_plain.specs.Sessions.{Grants, leave_to_visit, leave_to_end, count_
 use Rattle.co_plain.specs.Decisions.{told_of}
 use Rattle.co_plain.specs.Federation.{Federation}
 use Rattle.co_plain.specs.Member.{most_operations}
+use Rattle.co_plain.specs.Premises.{IsOwnSession}
 use Rattle.co_plain.specs.Wire.{was_sent}
 use Rattle.co_plain.specs.Invariants.{Memory, view, stands}
 use Rattle.co_law_node.specs.WholeMembers.{IsAmong, IsWholeMember}
@@ -22,6 +23,8 @@ pub record AreWhole (members coords : ℕ) (s : Federation) : Type 0 where
   pub ended : (t m : ℕ) (session : Session) → leave_to_end (look s.sessions t) ≡ Grants session → stands (view Memory (s.member m)) t ≡ false
   -- a client was told of a bounded number of operations at a member
   pub few : (t m : ℕ) → count_at (told_of s t) m ≤ most_operations
+  -- its sessions are of own nodes
+  pub sessions : (t : ℕ) (session : Session) → look s.sessions t ≡ Some session → IsOwnSession members coords session
   pub prepares : (t c m count : ℕ) → was_sent s.sent (message.Prepare t c m count) ≡ true → IsAmong coords c × (1 ≤ count)
 
 -- A federation whose nodes hold what can be written, and write what can be written next.

@@ -8,7 +8,7 @@ use Rattle.co_plain.specs.Runs.{run}
 use Rattle.co_plain.specs.CommitmentOrder.{Trace, trace_of}
 use Rattle.co_plain.specs.Moves.{Move, Operate, Install, CommitLocally, Begin, BeginLocal, Decide, Guard, GuardsHold, effect, all_effects}
 use Rattle.co_law_base.proofs.Facts.{Facts}
-use Rattle.co_law_moves.specs.HandedVerdicts.{IsTrueVerdict, AreTrueVerdicts}
+use Rattle.co_plain.specs.Premises.{IsTrueVerdict, AreTrueVerdicts}
 use Rattle.co_law_moves.proofs.Steps.{step_keeps}
 use Rattle.co_law_moves.specs.EventMoves.{moves_of}
 use Rattle.co_law_moves.specs.MoveTraces.{move_trace, moves_trace, run_items}

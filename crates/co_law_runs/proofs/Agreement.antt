@@ -21,7 +21,7 @@ use Rattle.co_law_base.proofs.Lookups.{look_none}
 use Rattle.co_law_base.proofs.Facts.{rest_of, told, asked, settled_at, Each, Facts}
 use Rattle.co_law_base.proofs.Carrying.{LivesOn}
 use Rattle.co_law_base.proofs.TwoViews.{committed_both}
-use Rattle.co_law_moves.specs.HandedVerdicts.{AreTrueVerdicts}
+use Rattle.co_plain.specs.Premises.{AreTrueVerdicts}
 use Rattle.co_law_moves.proofs.Steps.{run_keeps}
 use Rattle.co_law_moves.proofs.MoveOnward.{move_onward}
 use Rattle.co_law_moves.proofs.Onward.{Onward, onward_same, onward_on, disarm_onward, lives_back}

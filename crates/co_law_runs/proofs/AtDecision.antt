@@ -32,14 +32,14 @@ use Rattle.co_plain.specs.Wire.{was_sent}
 use Rattle.co_plain.specs.Federation.{Federation, with_member}
 use Rattle.co_plain.specs.CommitmentOrder.{Committed}
 use Rattle.co_plain.specs.Decisions.{told_of, told_in, asked_in, is_decided}
-use Rattle.co_plain.specs.Invariants.{Memory, view, stands, told_spans, told_changes, KeptAsTold}
+use Rattle.co_plain.specs.Invariants.{Memory, view, stands, told_spans, told_changes, KeptAsTold, StampsIn}
 use Rattle.co_plain.specs.Moves.{Move, Operate, Decide, CommitLocally, Guard, effect, entered_reply, marked_over, may_operate_at, session_by_member, local_state}
 use Rattle.co_law_engine.proofs.SetsMade.{unread, unwritten, reads-put, writes-put}
 use Rattle.co_law_base.proofs.Lookups.{put_here, holds_found, found_holds}
 use Rattle.co_law_base.proofs.Commits.{lacks_none, holds_new}
 use Rattle.co_law_base.proofs.ViewMoves.{each_map}
 use Rattle.co_law_base.proofs.ViewRules.{three_parts}
-use Rattle.co_law_base.proofs.Facts.{rest_of, Begun, OpenEntry, Facts, StampsIn}
+use Rattle.co_law_base.proofs.Facts.{rest_of, Begun, OpenEntry, Facts}
 use Rattle.co_law_base.proofs.Carrying.{LivesOn, by_coord_begun, at_here, one_lives}
 use Rattle.co_law_base.proofs.VoteMoves.{active_found}
 use Rattle.co_law_base.proofs.CoordMoves.{one_yes}

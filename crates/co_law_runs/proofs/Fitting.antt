@@ -36,34 +36,25 @@ use Rattle.co_plain.specs.Federation.{Federation, answers, at_member, at_coord, 
 use Rattle.co_plain.specs.Step.{up_member, up_coord, is_used, begin_where, local_where, entered, operated, operate_with, marked_asked, coord_answers, local_answers, commit_at, commit_with, abort_at, abort_with, arrives, timer_at, crash_at, restart_at, arm_at, checkpoint_at, reply_in, is_stopped, is_held, step_line, step}
 use Rattle.co_plain.specs.Runs.{run}
 use Rattle.co_law_base.proofs.Lookups.{put_cases}
-use Rattle.co_law_runs.specs.OnlyTimers.{IsBetween, NamesOwnNode, IsOwn, AreOwn}
-
-abbrev pub HomeFits : ℕ → ℕ → Node → Type 0
-HomeFits n k (node.Member m) = IsBetween m n
-HomeFits n k (node.Coord c) = IsBetween c k
-
-pub record Fits (n k : ℕ) (session : Session) : Type 0 where
-  pub home : HomeFits n k session.by
-  pub sites : (m : ℕ) → 1 ≤ count_at session.told m → IsBetween m n
-  pub few : (m : ℕ) → count_at session.told m ≤ most_operations
+use Rattle.co_plain.specs.Premises.{IsBetween, NamesOwnNode, IsOwn, AreOwn, IsOwnNode, IsOwnSession}
 
 abbrev pub FitSessions : ℕ → ℕ → Table Session → Type 0
-FitSessions n k sessions = (t : ℕ) (session : Session) → look sessions t ≡ Some session → Fits n k session
+FitSessions n k sessions = (t : ℕ) (session : Session) → look sessions t ≡ Some session → IsOwnSession n k session
 
 pub record Fit (n k : ℕ) (s z : Federation) : Type 0 where
   pub sessions : FitSessions n k z.sessions
   pub kinds : z.kinds ≡ s.kinds
   pub coordinators : z.coordinators ≡ s.coordinators
 
-put_fits : (n k : ℕ) (sessions : Table Session) (t : ℕ) (new : Session) → FitSessions n k sessions → Fits n k new → FitSessions n k (put sessions t new)
+put_fits : (n k : ℕ) (sessions : Table Session) (t : ℕ) (new : Session) → FitSessions n k sessions → IsOwnSession n k new → FitSessions n k (put sessions t new)
 put_fits n k sessions t new old fits u session e = by (put_cases sessions t new u session e)
   where
-    by : ((t ≡ u) × (new ≡ session)) ⊎ ((t ≢ u) × (look sessions u ≡ Some session)) → Fits n k session
-    by (inl p) = subst (Fits n k) p.1 fits
+    by : ((t ≡ u) × (new ≡ session)) ⊎ ((t ≢ u) × (look sessions u ≡ Some session)) → IsOwnSession n k session
+    by (inl p) = subst (IsOwnSession n k) p.1 fits
     by (inr p) = old u session p.1
 
-told_fits : (n k m : ℕ) (o : Told) (session : Session) → o.site.member ≡ m → IsBetween m n → count_at session.told m < most_operations → Fits n k session →
-    Fits n k (with_told session o)
+told_fits : (n k m : ℕ) (o : Told) (session : Session) → o.site.member ≡ m → IsBetween m n → count_at session.told m < most_operations → IsOwnSession n k session →
+    IsOwnSession n k (with_told session o)
 told_fits n k m o session e own room f = record { home = f.home; sites = λ j h. by j (o.site.member == j) refl h; few = λ j. short j (o.site.member == j) refl }
   where
     short : (j : ℕ) (b : Bool) → (o.site.member == j) ≡ b → (if o.site.member == j then count_at session.told j + 1 else count_at session.told j) ≤ most_operations
@@ -78,16 +69,16 @@ told_fits n k m o session e own room f = record { home = f.home; sites = λ j h.
 
 abbrev LeaveFits : ℕ → ℕ → Leave → Type 0
 LeaveFits n k (Refuses a) = Unit {0}
-LeaveFits n k (Grants session) = Fits n k session
+LeaveFits n k (Grants session) = IsOwnSession n k session
 
-unless_fits : (n k : ℕ) (session : Session) → Fits n k session → LeaveFits n k (unless_asked session)
+unless_fits : (n k : ℕ) (session : Session) → IsOwnSession n k session → LeaveFits n k (unless_asked session)
 unless_fits n k session f = by session.asked
   where
     by : (b : Bool) → LeaveFits n k (if b then Refuses answer.Asked else Grants session)
     by true = tt
     by false = f
 
-visit_fits : (n k m : ℕ) (o : Option Session) → ((session : Session) → o ≡ Some session → Fits n k session) → LeaveFits n k (leave_to_visit o m)
+visit_fits : (n k m : ℕ) (o : Option Session) → ((session : Session) → o ≡ Some session → IsOwnSession n k session) → LeaveFits n k (leave_to_visit o m)
 visit_fits n k m None f = tt
 visit_fits n k m (Some session) f = by (may_visit session.by m)
   where
@@ -95,7 +86,7 @@ visit_fits n k m (Some session) f = by (may_visit session.by m)
     by true = unless_fits n k session (f session refl)
     by false = tt
 
-end_fits : (n k : ℕ) (o : Option Session) → ((session : Session) → o ≡ Some session → Fits n k session) → LeaveFits n k (leave_to_end o)
+end_fits : (n k : ℕ) (o : Option Session) → ((session : Session) → o ≡ Some session → IsOwnSession n k session) → LeaveFits n k (leave_to_end o)
 end_fits n k None f = tt
 end_fits n k (Some session) f = unless_fits n k session (f session refl)
 
@@ -109,14 +100,14 @@ module _ (n k : ℕ) (s : Federation) (q : FitSessions n k s.sessions) where
   at_c : (z : Federation) → Fit n k s z → (c : ℕ) (did : CoordStep) → Fit n k s (at_coord z c did).state
   at_c z g c did = record { sessions = g.sessions; kinds = g.kinds; coordinators = g.coordinators }
 
-  sessions_grow : (t : ℕ) (session : Session) → Fits n k session → Fit n k s (with_session s t session)
+  sessions_grow : (t : ℕ) (session : Session) → IsOwnSession n k session → Fit n k s (with_session s t session)
   sessions_grow t session fits = record { sessions = put_fits n k s.sessions t session q fits; kinds = refl; coordinators = refl }
 
-  asked_grows : (t : ℕ) (session : Session) → Fits n k session → (b : Bool) → Fit n k s (marked_asked s t session b)
+  asked_grows : (t : ℕ) (session : Session) → IsOwnSession n k session → (b : Bool) → Fit n k s (marked_asked s t session b)
   asked_grows t session fits true = sessions_grow t (asked_to_end session) (record { home = fits.home; sites = fits.sites; few = fits.few })
   asked_grows t session fits false = stays
 
-  entered_grows : (t : ℕ) (session : Session) (m : ℕ) (o : Op) → IsBetween m n → Fits n k session → (reply : Option Reply) →
+  entered_grows : (t : ℕ) (session : Session) (m : ℕ) (o : Op) → IsBetween m n → IsOwnSession n k session → (reply : Option Reply) →
       ((r : Reply) → reply ≡ Some r → count_at session.told m < most_operations) → Fit n k s (entered s t session m o reply)
   entered_grows t session m o own fits None room = stays
   entered_grows t session m o own fits (Some reply) room =
@@ -133,7 +124,7 @@ module _ (n k : ℕ) (s : Federation) (q : FitSessions n k s.sessions) where
       by true true e q = absurd (let z : None ≡ Some r = q in cc)
       by true false e q = grind (arith, nat_tests, few, e)
 
-  new_fits : (at : Node) → HomeFits n k at → Fits n k (begun_by at)
+  new_fits : (at : Node) → IsOwnNode n k at → IsOwnSession n k (begun_by at)
   new_fits at home = record { home = home; sites = λ m h. absurd (omega (arith, h)); few = λ m. omega arith }
 
   begins : (t c : ℕ) → IsBetween c k → (used up : Bool) → Fit n k s (begin_where s t c used up).state
@@ -146,7 +137,7 @@ module _ (n k : ℕ) (s : Federation) (q : FitSessions n k s.sessions) where
   begins_local t m own false true = sessions_grow t (begun_by (node.Member m)) (new_fits (node.Member m) own)
   begins_local t m own false false = stays
 
-  operates_by : (t m : ℕ) (o : Op) (session : Session) → IsBetween m n → Fits n k session → (up : Bool) →
+  operates_by : (t m : ℕ) (o : Op) (session : Session) → IsBetween m n → IsOwnSession n k session → (up : Bool) →
       Fit n k s (operated s t session m o up (member_op (s.member m) t (count_at session.told m) o)).state
   operates_by t m o session own fits false = stays
   operates_by t m o session own fits true =
@@ -158,15 +149,15 @@ module _ (n k : ℕ) (s : Federation) (q : FitSessions n k s.sessions) where
   operates t m o own (Refuses a) fits = stays
   operates t m o own (Grants session) fits = operates_by t m o session own fits (s.member m).up
 
-  answers_c : (t : ℕ) (session : Session) → Fits n k session → (c : ℕ) (up : Bool) (did : CoordStep) → Fit n k s (coord_answers s t session c up did).state
+  answers_c : (t : ℕ) (session : Session) → IsOwnSession n k session → (c : ℕ) (up : Bool) (did : CoordStep) → Fit n k s (coord_answers s t session c up did).state
   answers_c t session fits c false did = stays
   answers_c t session fits c true did = at_c (marked_asked s t session (not (is_stopped did.answer))) (asked_grows t session fits (not (is_stopped did.answer))) c did
 
-  answers_m : (t : ℕ) (session : Session) → Fits n k session → (m : ℕ) (up : Bool) (did : MemberStep) → Fit n k s (local_answers s t session m up did).state
+  answers_m : (t : ℕ) (session : Session) → IsOwnSession n k session → (m : ℕ) (up : Bool) (did : MemberStep) → Fit n k s (local_answers s t session m up did).state
   answers_m t session fits m false did = stays
   answers_m t session fits m true did = at_m (marked_asked s t session (not (is_held did.answer))) (asked_grows t session fits (not (is_held did.answer))) m did
 
-  commits_at : (t : ℕ) (session : Session) → Fits n k session → (at : Node) → Fit n k s (commit_at s t session at).state
+  commits_at : (t : ℕ) (session : Session) → IsOwnSession n k session → (at : Node) → Fit n k s (commit_at s t session at).state
   commits_at t session fits (node.Coord c) = answers_c t session fits c (s.coord c).up (coord_commit c (s.coord c) t (parts_of session.told))
   commits_at t session fits (node.Member m) = answers_m t session fits m (s.member m).up (member_local_commit m (s.member m) t (count_at session.told m))
 
@@ -174,7 +165,7 @@ module _ (n k : ℕ) (s : Federation) (q : FitSessions n k s.sessions) where
   commits t (Refuses a) fits = stays
   commits t (Grants session) fits = commits_at t session fits session.by
 
-  aborts_at : (t : ℕ) (session : Session) → Fits n k session → (at : Node) → Fit n k s (abort_at s t session at).state
+  aborts_at : (t : ℕ) (session : Session) → IsOwnSession n k session → (at : Node) → Fit n k s (abort_at s t session at).state
   aborts_at t session fits (node.Coord c) = answers_c t session fits c (s.coord c).up (coord_abort c (s.coord c) t (parts_of session.told))
   aborts_at t session fits (node.Member m) = answers_m t session fits m (s.member m).up (member_local_abort (s.member m) t)
 

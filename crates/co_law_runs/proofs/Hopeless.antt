@@ -25,7 +25,7 @@ use Rattle.co_law_base.proofs.CoordMoves.{one_yes}
 use Rattle.co_law_base.proofs.LogMoves.{local_apart}
 use Rattle.co_law_base.proofs.VoteMoves.{as_settled}
 use Rattle.co_law_base.proofs.Sending.{told_parts, part_member}
-use Rattle.co_law_moves.specs.HandedVerdicts.{IsTrueVerdict, AreTrueVerdicts}
+use Rattle.co_plain.specs.Premises.{IsTrueVerdict, AreTrueVerdicts}
 use Rattle.co_law_moves.proofs.Steps.{step_keeps}
 use Rattle.co_law_moves.specs.EventMoves.{moves_of}
 use Rattle.co_law_moves.specs.MoveTraces.{move_trace, moves_trace, run_items}

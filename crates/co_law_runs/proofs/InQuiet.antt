@@ -40,10 +40,10 @@ use Rattle.co_law_moves.proofs.Steps.{step_keeps}
 use Rattle.co_law_moves.proofs.MemberEvents.{active_is, installed_is, votes_own}
 use Rattle.co_law_moves.proofs.Onward.{present}
 use Rattle.co_law_runs.proofs.Working.{Working}
-use Rattle.co_law_moves.specs.HandedVerdicts.{AreTrueVerdicts}
+use Rattle.co_plain.specs.Premises.{AreTrueVerdicts, IsBetween, IsOwnNode}
 use Rattle.co_law_moves.specs.MoveTraces.{run_items}
-use Rattle.co_law_runs.specs.OnlyTimers.{IsBetween, EndsForGood, SomeTimerEnds, tells_commit}
-use Rattle.co_law_runs.proofs.Fitting.{FitSessions, HomeFits}
+use Rattle.co_law_runs.specs.OnlyTimers.{EndsForGood, SomeTimerEnds, tells_commit}
+use Rattle.co_law_runs.proofs.Fitting.{FitSessions}
 use Rattle.co_law_runs.proofs.Hopeless.{Hopeless, Dead, Lost, run_tells_none, step_works}
 
 -- who lacks something
@@ -82,7 +82,7 @@ module _ (s : Federation) (q : FitSessions (length s.kinds) s.coordinators s.ses
   belongs_fits t c (Voted m h) = o.votes m t c h
   belongs_fits t c (Begun h) = by (look s.sessions t) refl h
     where
-      home : (at : Node) → HomeFits (length s.kinds) s.coordinators at → same_node at (node.Coord c) ≡ true → IsCoordinator s c
+      home : (at : Node) → IsOwnNode (length s.kinds) s.coordinators at → same_node at (node.Coord c) ≡ true → IsCoordinator s c
       home (node.Member m) fits k = absurd (let z : false ≡ true = k in cc)
       home (node.Coord d) fits k = subst (λ e. IsBetween e s.coordinators) (eqb-true d c k) fits
 

@@ -35,7 +35,7 @@ use Rattle.co_law_base.proofs.Carrying.{at_each}
 use Rattle.co_law_base.proofs.Facts.{rest_of, Facts}
 use Rattle.co_law_base.proofs.Lookups.{holds_found, look_none, put_here, put_there}
 use Rattle.co_law_base.proofs.TwoViews.{memory_to_stable}
-use Rattle.co_law_moves.specs.HandedVerdicts.{IsTrueVerdict, AreTrueVerdicts}
+use Rattle.co_plain.specs.Premises.{IsTrueVerdict, AreTrueVerdicts}
 use Rattle.co_law_moves.proofs.Steps.{step_keeps, run_keeps}
 use Rattle.co_law_base.proofs.Filling.{spare_tells}
 use Rattle.co_law_moves.specs.EventMoves.{moves_of}

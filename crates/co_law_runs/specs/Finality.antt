@@ -17,7 +17,7 @@ use Rattle.co_plain.specs.Invariants.{Side, view, stands}
 use Rattle.co_plain.specs.Runs.{run}
 use Rattle.co_plain.specs.Sessions.{same_node, count_at}
 use Rattle.co_plain.specs.Step.{step}
-use Rattle.co_law_moves.specs.HandedVerdicts.{AreTrueVerdicts}
+use Rattle.co_plain.specs.Premises.{AreTrueVerdicts}
 use Rattle.co_law_moves.specs.MoveTraces.{run_items}
 use Rattle.co_law_runs.specs.OnlyTimers.{ending_answer, tells_commit}
 

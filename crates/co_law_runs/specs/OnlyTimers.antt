@@ -20,34 +20,8 @@ use Rattle.co_plain.specs.Step.{step}
 use Rattle.co_plain.specs.CommitmentOrder.{Trace, Began, Operated, Committed, trace_of}
 use Rattle.co_plain.specs.Quiet.{IsNode}
 use Rattle.co_plain.specs.Settling.{timer_ends}
-use Rattle.co_law_moves.specs.HandedVerdicts.{AreTrueVerdicts}
+use Rattle.co_plain.specs.Premises.{AreTrueVerdicts}
 use Rattle.co_law_moves.specs.MoveTraces.{run_items}
-
-abbrev pub IsBetween : ℕ → ℕ → Type 0
-IsBetween n most = (1 ≤ n) × (n ≤ most)
-
--- Begins and operations name nodes of the federation; what else happens may name any.
-abbrev pub NamesOwnNode : ℕ → ℕ → Event → Type 0
-NamesOwnNode members coords (event.Begin t c) = IsBetween c coords
-NamesOwnNode members coords (event.Local t m) = IsBetween m members
-NamesOwnNode members coords (event.Read t m key) = IsBetween m members
-NamesOwnNode members coords (event.Write t m key value) = IsBetween m members
-NamesOwnNode members coords (event.Erase t m key) = IsBetween m members
-NamesOwnNode members coords (event.Scan t m span) = IsBetween m members
-NamesOwnNode members coords _ = Unit {0}
-
-abbrev pub IsOwn : ℕ → ℕ → Happening → Type 0
-IsOwn members coords (happening.Line e) = NamesOwnNode members coords e
-IsOwn members coords _ = Unit {0}
-
-abbrev pub AreOwn : ℕ → ℕ → List Happening → Type 0
-AreOwn members coords [] = Unit {0}
-AreOwn members coords (h ∷ hs) = IsOwn members coords h × AreOwn members coords hs
-
--- the opened logs are those of the federation's own nodes, and their votes name its coordinators
-pub record AreOwnLogs (kinds : List Kind) (coords : ℕ) (found_member found_coord : ℕ → Found) : Type 0 where
-  pub own : OnlyOwnLogs kinds coords found_member found_coord
-  pub votes : (m t c : ℕ) → votes_for (look (recovered_view (found_member m).records).voted t) c ≡ true → IsBetween c coords
 
 -- whether a commit record of the transaction becomes stable in a trace
 abbrev pub tells_commit : List Trace → ℕ → Bool

@@ -17,9 +17,8 @@ use Rattle.co_plain.specs.declared.member_step.MemberStep.{MemberStep}
 use Rattle.co_plain.specs.LogWrite.{outcome_of, with_batch}
 use Rattle.co_plain.specs.MemberStep.{with_log, dropped, forced_by}
 use Rattle.co_plain.specs.Member.{prepare_record, voted_state, installed_state, with_mark, vote_by}
-use Rattle.co_plain.specs.Quiet.{is_free}
+use Rattle.co_plain.specs.Quiet.{is_free, busy_at}
 use Rattle.co_law_base.proofs.Lookups.{put_here, put_there, without_here, without_there}
-use Rattle.co_law_settle.specs.Busy.{busy_at}
 use Rattle.co_law_settle.specs.SettlingMeasure.{weight, weight_at}
 use Rattle.co_law_settle.proofs.Falling.{MemberFalls, weight_least}
 

@@ -9,10 +9,9 @@ use Rattle.co_plain.specs.declared.coord_state.Entry.TheVariants as entry
 use Rattle.co_plain.specs.declared.member_state.AskedMark.{AskedMark}
 use Rattle.co_plain.specs.Federation.{Federation}
 use Rattle.co_plain.specs.Invariants.{Memory, view}
-use Rattle.co_plain.specs.Quiet.{Exchange, Prepares, Votes, Commits, Asks, IsEnabled, lacks_yes, lacks_ack, free_where_asked}
+use Rattle.co_plain.specs.Quiet.{Exchange, Prepares, Votes, Commits, Asks, IsEnabled, lacks_yes, lacks_ack, free_where_asked, busy_in, IsBusy, BusyAt, BusyIn}
 use Rattle.co_plain.specs.Settling.{exchange_txn}
 use Rattle.co_law_base.proofs.Carrying.{votes_held}
-use Rattle.co_law_settle.specs.Busy.{busy_in, IsBusy, BusyAt, BusyIn}
 
 collects : (o : Option Entry) (m : ℕ) → lacks_yes o m ≡ true → busy_in o ≡ true
 collects None m h = h

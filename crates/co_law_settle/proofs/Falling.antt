@@ -10,13 +10,12 @@ use Rattle.co_plain.specs.declared.coord_step.CoordStep.{CoordStep}
 use Rattle.co_plain.specs.declared.member_state.MemberState.{MemberState}
 use Rattle.co_plain.specs.declared.member_step.MemberStep.{MemberStep}
 use Rattle.co_plain.specs.Federation.{Federation, at_member, at_coord}
-use Rattle.co_plain.specs.Quiet.{IsMember, IsCoordinator, lacks_yes, lacks_ack}
+use Rattle.co_plain.specs.Quiet.{IsMember, IsCoordinator, lacks_yes, lacks_ack, busy_at, busy_in, IsBusy, BusyAt, BusyIn}
 use Rattle.co_plain.specs.Settling.{is_idle}
 use Rattle.co_law_base.proofs.Facts.{Facts}
 use Rattle.co_law_base.proofs.Carrying.{at_each}
 use Rattle.co_law_runs.proofs.Fitting.{FitSessions}
 use Rattle.co_law_runs.proofs.InQuiet.{OpenedFit}
-use Rattle.co_law_settle.specs.Busy.{busy_at, busy_in, IsBusy, BusyAt, BusyIn}
 use Rattle.co_law_settle.specs.SettlingTurns.{AllUp}
 use Rattle.co_law_settle.specs.SettlingMeasure.{any_to, yes_lacking, ack_lacking, weight, weight_at, left_between, left_idle}
 

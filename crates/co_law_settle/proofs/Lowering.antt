@@ -16,11 +16,10 @@ use Rattle.co_plain.specs.Coordinator.{coord_vote}
 use Rattle.co_plain.specs.Wire.{was_sent}
 use Rattle.co_plain.specs.Federation.{Federation, Stepped, at_member, at_coord, answers}
 use Rattle.co_plain.specs.Step.{step_line, up_coord, arrives}
-use Rattle.co_plain.specs.Quiet.{IsMember, IsCoordinator, lacks_yes, lacks_ack}
+use Rattle.co_plain.specs.Quiet.{IsMember, IsCoordinator, lacks_yes, lacks_ack, busy_at, busy_in, IsBusy}
 use Rattle.co_law_base.proofs.Facts.{Facts}
 use Rattle.co_law_base.proofs.Carrying.{at_here}
 use Rattle.co_law_moves.proofs.Steps.{step_keeps}
-use Rattle.co_law_settle.specs.Busy.{busy_at, busy_in, IsBusy}
 use Rattle.co_law_settle.specs.SettlingTurns.{AllUp, IsServed}
 use Rattle.co_law_settle.specs.SettlingMeasure.{any_to, yes_lacking, ack_lacking, weight_at, left_between, left_idle, RaisesNothing}
 use Rattle.co_law_settle.proofs.Falling.{Calm, Falls, falls_on, any_found, found_any, weight_falls, MemberFalls, member_calm, member_up, member_falls, member_wakes, CoordFalls, coord_calm, coord_up, coord_falls, coord_wakes}

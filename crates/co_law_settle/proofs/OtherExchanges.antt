@@ -27,11 +27,10 @@ use Rattle.co_plain.specs.Coordinator.{decisions_to, resend_entry, ack_entry, as
 use Rattle.co_plain.specs.Wire.{was_sent}
 use Rattle.co_plain.specs.Federation.{Federation, at_member, at_coord, message_list}
 use Rattle.co_plain.specs.Step.{step_line, up_coord, up_member}
-use Rattle.co_plain.specs.Quiet.{IsMember, IsCoordinator, Commits, Asks, IsEnabled, lacks_yes, lacks_ack}
+use Rattle.co_plain.specs.Quiet.{IsMember, IsCoordinator, Commits, Asks, IsEnabled, lacks_yes, lacks_ack, busy_in, IsBusy, BusyAt, BusyIn}
 use Rattle.co_law_base.proofs.Facts.{Facts}
 use Rattle.co_law_base.proofs.Carrying.{at_here, votes_held}
 use Rattle.co_law_base.proofs.Lookups.{holds_found}
-use Rattle.co_law_settle.specs.Busy.{busy_in, IsBusy, BusyAt, BusyIn}
 use Rattle.co_law_settle.specs.SettlingTurns.{AllUp, decides_for, acks_from, asks_from, wanted}
 use Rattle.co_law_settle.specs.SettlingMeasure.{weight, weight_at, left_between, yes_lacking, ack_lacking}
 use Rattle.co_law_settle.proofs.Falling.{Calm, MemberFalls}

@@ -24,21 +24,18 @@ use Rattle.co_plain.specs.Runs.{run, lines}
 use Rattle.co_plain.specs.Decisions.{votes_for}
 use Rattle.co_plain.specs.SoundLogs.{unended_in, log_has_voted, log_has_committed}
 use Rattle.co_plain.specs.Invariants.{Memory}
-use Rattle.co_plain.specs.Quiet.{node_up, IsMember, IsOpen, VotedAt, IsQuiet, IsEnabled, Exchange, settling_bound}
+use Rattle.co_plain.specs.Quiet.{node_up, IsMember, IsOpen, VotedAt, IsQuiet, IsEnabled, Exchange, settling_bound, IsBusy}
 use Rattle.co_plain.specs.Settling.{SettlesBy}
 use Rattle.co_law_base.proofs.Lookups.{look_none, found_holds}
 use Rattle.co_law_base.proofs.Facts.{Facts}
-use Rattle.co_law_moves.specs.HandedVerdicts.{AreTrueVerdicts}
+use Rattle.co_plain.specs.Premises.{AreTrueVerdicts, IsBetween, AreOwn, AreOwnLogs, AreOpenable}
 use Rattle.co_law_moves.proofs.Steps.{run_keeps, step_keeps}
 use Rattle.co_law_moves.proofs.Growing.{Grows, grows_on, run_grows}
 use Rattle.co_law_moves.proofs.Derived.{logs_give}
 use Rattle.co_law_moves.proofs.KeptFrom.{same_serial}
-use Rattle.co_law_runs.specs.OnlyTimers.{IsBetween, AreOwn, AreOwnLogs}
 use Rattle.co_law_runs.proofs.Fitting.{Fit, FitSessions, run_fits}
 use Rattle.co_law_runs.proofs.InQuiet.{OpenedFit}
-use Rattle.co_law_moves.specs.OpenedLogs.{AreOpenable}
 use Rattle.co_law_moves.proofs.Start.{start_facts}
-use Rattle.co_law_settle.specs.Busy.{IsBusy}
 use Rattle.co_law_settle.specs.SettlingTurns.{AllUp, Turn, Exchanges, turn_events, after_turn, AreServed, IsServed, IsAnswered, goes_to, node_arrives, CanTurn, IsUnarmed, IsNext, SomethingOpen, NothingOpen, AreTurns, turns_events, IsSettling, Settles}
 use Rattle.co_law_settle.specs.SettlingMeasure.{AreCounted, TurnLowers, pairs_in, numbers_in_state, events_left}
 use Rattle.co_law_settle.specs.SettledRecords.{HoldsSerially}

@@ -16,13 +16,12 @@ use Rattle.co_plain.specs.Coordinator.{timer_entry}
 use Rattle.co_plain.specs.CoordLog.{coord_restart_by}
 use Rattle.co_plain.specs.Federation.{Federation, at_member, at_coord}
 use Rattle.co_plain.specs.Step.{step_line, up_member, up_coord}
-use Rattle.co_plain.specs.Quiet.{IsMember, IsCoordinator}
+use Rattle.co_plain.specs.Quiet.{IsMember, IsCoordinator, busy_in, IsBusy, BusyAt, BusyIn}
 use Rattle.co_plain.specs.Settling.{is_idle}
 use Rattle.co_law_base.proofs.Facts.{Facts}
 use Rattle.co_law_base.proofs.Carrying.{at_here}
 use Rattle.co_law_base.proofs.Lookups.{without_here}
 use Rattle.co_law_moves.proofs.Steps.{step_keeps}
-use Rattle.co_law_settle.specs.Busy.{busy_in, IsBusy, BusyAt, BusyIn}
 use Rattle.co_law_settle.specs.SettlingTurns.{AllUp}
 use Rattle.co_law_settle.specs.SettlingMeasure.{any_to, weight, left_between, left_idle, yes_lacking, ack_lacking, weight_at}
 use Rattle.co_law_settle.proofs.Falling.{Calm, Falls, any_found, found_any, MemberFalls, member_calm, member_falls, member_wakes, CoordFalls, coord_calm, coord_falls, coord_wakes}

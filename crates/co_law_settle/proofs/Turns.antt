@@ -15,10 +15,9 @@ use Rattle.co_plain.specs.CoordLog.{coord_restart_by}
 use Rattle.co_plain.specs.Federation.{Federation, at_member, at_coord}
 use Rattle.co_plain.specs.Step.{step_line}
 use Rattle.co_plain.specs.Runs.{run, lines}
-use Rattle.co_plain.specs.Quiet.{IsMember, IsNode, node_up, Exchange, Prepares, Votes, Commits, Asks, IsEnabled}
+use Rattle.co_plain.specs.Quiet.{IsMember, IsNode, node_up, Exchange, Prepares, Votes, Commits, Asks, IsEnabled, IsBusy}
 use Rattle.co_plain.specs.Settling.{exchange_txn, exchange_member, timer_ends, is_idle, SettlesBy, ByRestart, ByExchange, ByTimer}
 use Rattle.co_law_base.proofs.Carrying.{at_each, at_here}
-use Rattle.co_law_settle.specs.Busy.{IsBusy}
 use Rattle.co_law_settle.specs.SettlingTurns.{AllUp, Turn, Restarts, Exchanges, Fires, first_event, wanted, turn_events, after_turn, turn_of, IsNext, CanTurn, AreTurns, turns_events, SomethingOpen}
 use Rattle.co_law_settle.specs.SettlingMeasure.{RaiseNothing, left_of, one_down, down_count, events_left, AreCounted, TurnLowers, lowered_by}
 use Rattle.co_law_settle.proofs.Falling.{Calm, Falls}

@@ -1,4 +1,3 @@
 pub mod SettlingTurns
 pub mod SettlingMeasure
 pub mod SettledRecords
-pub mod Busy

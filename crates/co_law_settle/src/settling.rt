@@ -11,9 +11,7 @@ ghost use Rattle.co_plain.specs.Quiet.{IsMember, IsOpen, IsQuiet, settling_bound
 ghost use Rattle.co_plain.specs.Runs.{run, lines};
 ghost use Rattle.co_plain.specs.Settling.{SettlesBy};
 ghost use Rattle.co_plain.specs.Step.{disarmed};
-ghost use Rattle.co_law_moves.specs.HandedVerdicts.{AreTrueVerdicts};
-ghost use Rattle.co_law_runs.specs.OnlyTimers.{AreOwn, AreOwnLogs};
-ghost use Rattle.co_law_moves.specs.OpenedLogs.{AreOpenable};
+ghost use Rattle.co_plain.specs.Premises.{AreTrueVerdicts, AreOwn, AreOwnLogs, AreOpenable};
 ghost use Rattle.co_law_settle.specs.SettlingTurns.{Turn, turn_events, IsNext, IsSettling, Settles, SomethingOpen, NothingOpen};
 ghost use Rattle.co_law_settle.specs.SettledRecords.{HoldsSerially};
 

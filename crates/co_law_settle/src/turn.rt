@@ -5,13 +5,10 @@ ghost use Rattle.co_message.specs.declared.event.Event.{Event};
 ghost use Rattle.co_plain.specs.declared.happening.Happening.{Happening};
 ghost use Rattle.co_plain.specs.Federation.{Federation};
 ghost use Rattle.co_plain.specs.Opening.{Found, opened};
-ghost use Rattle.co_plain.specs.Quiet.{IsOpen, IsEnabled, Exchange, open_pairs, open_count};
+ghost use Rattle.co_plain.specs.Quiet.{IsOpen, IsEnabled, Exchange, open_pairs, open_count, IsBusy};
 ghost use Rattle.co_plain.specs.Runs.{run};
 ghost use Rattle.co_plain.specs.Settling.{SettlesBy, exchange_txn};
-ghost use Rattle.co_law_moves.specs.HandedVerdicts.{AreTrueVerdicts};
-ghost use Rattle.co_law_runs.specs.OnlyTimers.{AreOwn, AreOwnLogs};
-ghost use Rattle.co_law_moves.specs.OpenedLogs.{AreOpenable};
-ghost use Rattle.co_law_settle.specs.Busy.{IsBusy};
+ghost use Rattle.co_plain.specs.Premises.{AreTrueVerdicts, AreOwn, AreOwnLogs, AreOpenable};
 ghost use Rattle.co_law_settle.specs.SettlingTurns.{Turn, Exchanges, turn_events, after_turn, AllUp, CanTurn, IsUnarmed, IsServed, IsAnswered, AreServed};
 ghost use Rattle.co_law_settle.specs.SettlingMeasure.{AreCounted, TurnLowers, left_of, pairs_in, numbers_in_state};
 

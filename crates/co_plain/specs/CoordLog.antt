@@ -68,7 +68,7 @@ coord_crash x = coord_says (coord_down x.log) answer.Crashed
 
 abbrev pub coord_restart_by : CoordState → Bool → CoordStep
 coord_restart_by x true = coord_says x answer.Running
-coord_restart_by x false = coord_says (record { up = true; table = x.table; log = x.log }) answer.Up
+coord_restart_by x false = coord_says (record x { up = true }) answer.Up
 
 abbrev pub coord_restart : CoordState → CoordStep
 coord_restart x = coord_restart_by x x.up

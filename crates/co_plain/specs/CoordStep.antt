@@ -28,10 +28,10 @@ abbrev pub coord_sends : CoordState → Answer → List Message → CoordStep
 coord_sends x a messages = record { state = x; answer = a; sent = messages; marks = [] }
 
 abbrev pub with_table : CoordState → Table Entry → CoordState
-with_table x table = record { up = x.up; table = table; log = x.log }
+with_table x table = record x { table = table }
 
 abbrev pub with_coord_log : CoordState → LogState → CoordState
-with_coord_log x l = record { up = x.up; table = x.table; log = l }
+with_coord_log x l = record x { log = l }
 
 -- whether the member takes part
 abbrev pub has_part : List Part → ℕ → Bool

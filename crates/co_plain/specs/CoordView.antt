@@ -15,18 +15,18 @@ abbrev pub unended_with : Table (List ℕ) → ℕ → List ℕ → Table (List 
 unended_with unended t [] = unended
 unended_with unended t (m ∷ ms) = put unended t (m ∷ ms)
 
-abbrev pub coord_told_by : CoordView → Record → CoordView
-coord_told_by v (log.Header node generation) = v
-coord_told_by v (log.Prepare t coord count reads writes) = v
-coord_told_by v (log.Commit t members) = record { unended = unended_with v.unended t members; seen = with_number v.seen t }
-coord_told_by v (log.Abort t) = v
-coord_told_by v (log.End t) = record { unended = without v.unended t; seen = v.seen }
-coord_told_by v (log.Checkpoint rows undos committed) = v
+abbrev pub commits_with : CoordView → Record → CoordView
+commits_with v (log.Header node generation) = v
+commits_with v (log.Prepare t coord count reads writes) = v
+commits_with v (log.Commit t members) = record { unended = unended_with v.unended t members; seen = with_number v.seen t }
+commits_with v (log.Abort t) = v
+commits_with v (log.End t) = record { unended = without v.unended t; seen = v.seen }
+commits_with v (log.Checkpoint rows undos committed) = v
 
 -- what a log tells, its newest record first
 abbrev pub recovered_commits : List Record → CoordView
 recovered_commits [] = no_commits
-recovered_commits (r ∷ rs) = coord_told_by (recovered_commits rs) r
+recovered_commits (r ∷ rs) = commits_with (recovered_commits rs) r
 
 abbrev pub all_up_to : ℕ → List ℕ → Bool
 all_up_to most [] = true
@@ -44,7 +44,7 @@ coord_allows members place v (log.End t) = holds v.unended t
 abbrev pub first_refused_commit : ℕ → ℕ → CoordView → List Record → Option ℕ
 first_refused_commit members place v [] = None
 first_refused_commit members place v (r ∷ rs) =
-    if coord_allows members place v r then first_refused_commit members (suc place) (coord_told_by v r) rs else Some place
+    if coord_allows members place v r then first_refused_commit members (suc place) (commits_with v r) rs else Some place
 
 -- of a whole log, its oldest record first: the place of the first record that is not allowed
 abbrev pub first_refused_at_coord : ℕ → List Record → Option ℕ

@@ -72,6 +72,6 @@ pub data IsPresumedAborted (s : Federation) (t : ℕ) : Type 0 where
       (session.asked || lost_operations s t m) ≡ true → IsPresumedAborted s t
 
 -- decided, in this run or by the opened file of some coordinator
-pub data IsDecided (s : Federation) (t : ℕ) : Type 0 where
-  InThisRun : is_decided s.decided t ≡ true → IsDecided s t
-  InOpenedFile : (c : ℕ) → has_commit_of (s.opened_coord c) t ≡ true → IsDecided s t
+pub data IsSettled (s : Federation) (t : ℕ) : Type 0 where
+  InThisRun : is_decided s.decided t ≡ true → IsSettled s t
+  InOpenedFile : (c : ℕ) → has_commit_of (s.opened_coord c) t ≡ true → IsSettled s t

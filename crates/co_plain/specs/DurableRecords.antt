@@ -1,6 +1,6 @@
 -- The durable records: what the logs alone give, whatever memory held. They are the records that each member's
 -- log tells, with the writes of each voted transaction laid over whose coordinator's log has its commit.
-use Rattle.std.specs.Prelude.{ℕ, List, [], ◌∷◌, if◌then◌else◌}
+use Rattle.std.specs.Prelude.{ℕ, Bool, List, [], ◌∷◌, if◌then◌else◌}
 use Rattle.std.specs.FinMap.{entries}
 use Rattle.co_record.specs.declared.record.Record.{Record}
 use Rattle.co_serial.specs.Records.{Records, with_changes}
@@ -11,13 +11,14 @@ use Rattle.co_plain.specs.MemberView.{recovered_view}
 use Rattle.co_plain.specs.CoordView.{has_commit_of}
 use Rattle.co_plain.specs.Federation.{Federation}
 
--- votes laid over records where they are decided, the least number first
+-- votes laid over records where a test says so, the least number first
+abbrev pub laid_where : (ℕ → Vote → Bool) → Records → List (ℕ × Vote) → Records
+laid_where test records [] = records
+laid_where test records (e ∷ es) = laid_where test (if test e.0 e.1 then with_changes records e.1.sets.writes else records) es
+
+-- where the log of their coordinator has the commit
 abbrev pub with_decided : (ℕ → List Record) → Records → List (ℕ × Vote) → Records
-with_decided coord_log records [] = records
-with_decided coord_log records (e ∷ es) =
-    with_decided coord_log
-    (if has_commit_of (coord_log e.1.coord) e.0 then with_changes records e.1.sets.writes else records)
-    es
+with_decided coord_log records es = laid_where (λ t vote. has_commit_of (coord_log vote.coord) t) records es
 
 abbrev pub durable_of : (ℕ → List Record) → MemberView → Records
 durable_of coord_log v = with_decided coord_log v.records (entries v.voted)

@@ -71,65 +71,17 @@ decide_all sessions decided (mark ∷ marks) =
     decide_all sessions (decided_by_kind mark.kind (look sessions mark.number) mark.node mark.number decided) marks
 
 abbrev pub with_member : Federation → ℕ → MemberState → Federation
-with_member s m x =
-    record {
-      kinds = s.kinds;
-      coordinators = s.coordinators;
-      member = with_at s.member m x;
-      coord = s.coord;
-      sessions = s.sessions;
-      sent = s.sent;
-      decided = s.decided;
-      opened_member = s.opened_member;
-      opened_coord = s.opened_coord;
-      used = s.used;
-    }
+with_member s m x = record s { member = with_at s.member m x }
 
 abbrev pub with_coord : Federation → ℕ → CoordState → Federation
-with_coord s c x =
-    record {
-      kinds = s.kinds;
-      coordinators = s.coordinators;
-      member = s.member;
-      coord = with_at s.coord c x;
-      sessions = s.sessions;
-      sent = s.sent;
-      decided = s.decided;
-      opened_member = s.opened_member;
-      opened_coord = s.opened_coord;
-      used = s.used;
-    }
+with_coord s c x = record s { coord = with_at s.coord c x }
 
 abbrev pub with_session : Federation → ℕ → Session → Federation
-with_session s t session =
-    record {
-      kinds = s.kinds;
-      coordinators = s.coordinators;
-      member = s.member;
-      coord = s.coord;
-      sessions = put s.sessions t session;
-      sent = s.sent;
-      decided = s.decided;
-      opened_member = s.opened_member;
-      opened_coord = s.opened_coord;
-      used = s.used;
-    }
+with_session s t session = record s { sessions = put s.sessions t session }
 
 -- the messages of a step are sent, and its marks may decide
 abbrev pub noted : Federation → List Mark → List Message → Federation
-noted s marks messages =
-    record {
-      kinds = s.kinds;
-      coordinators = s.coordinators;
-      member = s.member;
-      coord = s.coord;
-      sessions = s.sessions;
-      sent = send_all s.sent messages;
-      decided = decide_all s.sessions s.decided marks;
-      opened_member = s.opened_member;
-      opened_coord = s.opened_coord;
-      used = s.used;
-    }
+noted s marks messages = record s { sent = send_all s.sent messages; decided = decide_all s.sessions s.decided marks }
 
 abbrev pub message_list : Option Message → List Message
 message_list None = []

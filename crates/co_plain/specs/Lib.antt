@@ -23,4 +23,7 @@ pub mod SoundLogs
 pub mod CommitmentOrder
 pub mod Promises
 pub mod Invariants
+pub mod CoordInvariants
+pub mod AllInvariants
+pub mod Premises
 pub mod Moves

@@ -27,18 +27,18 @@ with_filled_spare l records = record { stable = records; waiting = []; armed = N
 
 -- the spare is closed, or is not where the write that closes it was stopped
 abbrev pub with_spare : LogState → Bool → LogState
-with_spare l closed = record { stable = l.stable; waiting = l.waiting; armed = None; spare_closed = closed }
+with_spare l closed = record l { armed = None; spare_closed = closed }
 
 -- a record that goes out with the next forced one
 abbrev pub with_waiting : LogState → Record → LogState
-with_waiting l r = record { stable = l.stable; waiting = r ∷ l.waiting; armed = l.armed; spare_closed = l.spare_closed }
+with_waiting l r = record l { waiting = r ∷ l.waiting }
 
 abbrev pub with_stop : LogState → Option Stop → LogState
-with_stop l stop = record { stable = l.stable; waiting = l.waiting; armed = stop; spare_closed = l.spare_closed }
+with_stop l stop = record l { armed = stop }
 
 -- what a crash leaves
 abbrev pub crashed_log : LogState → LogState
-crashed_log l = record { stable = l.stable; waiting = []; armed = None; spare_closed = l.spare_closed }
+crashed_log l = record l { waiting = []; armed = None }
 
 -- the marks of records that are listed newest first, the oldest mark first
 abbrev pub marks_of : Node → List Record → List Mark

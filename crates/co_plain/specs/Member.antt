@@ -51,7 +51,7 @@ prepare_record t coord count sets = log.Prepare t coord count sets.reads sets.wr
 -- an active transaction becomes voted, and its asked mark ends
 abbrev pub voted_state : MemberState → ℕ → ℕ → ℕ → MemberState
 voted_state x t coord count =
-    record { up = x.up; engine = after_cast x.engine t coord count; committed = x.committed; asked = without x.asked t; log = x.log }
+    record x { engine = after_cast x.engine t coord count; asked = without x.asked t }
 
 -- The vote on a transaction, by the verdict on it. A yes is sent once its record is stable; a no at once,
 -- and the transaction is dropped; nothing is sent while another one is in the way.
@@ -78,7 +78,7 @@ coord_of x t = coord_in (look x.engine.voted t)
 -- a prepare is marked, so that a vote that is held can be tried again
 abbrev pub with_mark : MemberState → ℕ → ℕ → ℕ → MemberState
 with_mark x t coord count =
-    record { up = x.up; engine = x.engine; committed = x.committed; asked = put x.asked t (record { coord = coord; count = count }); log = x.log }
+    record x { asked = put x.asked t (record { coord = coord; count = count }) }
 
 -- a prepare comes
 abbrev pub prepare_by : ℕ → MemberState → ℕ → ℕ → ℕ → Standing → MemberStep
@@ -107,7 +107,7 @@ member_vote m x t = vote_again_by m x t (standing_of x t)
 -- a voted transaction is installed
 abbrev pub installed_state : MemberState → ℕ → MemberState
 installed_state x t =
-    record { up = x.up; engine = after_install x.engine t; committed = with_number x.committed t; asked = x.asked; log = x.log }
+    record x { engine = after_install x.engine t; committed = with_number x.committed t }
 
 -- the decision to commit comes: it is forced, and then acknowledged
 abbrev pub commit_by : ℕ → MemberState → ℕ → ℕ → Standing → MemberStep

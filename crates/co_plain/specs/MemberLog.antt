@@ -75,7 +75,7 @@ member_crash x = says (member_down x x.log) answer.Crashed
 abbrev pub restart_by : MemberState → Bool → MemberStep
 restart_by x true = says x answer.Running
 restart_by x false =
-    says (record { up = true; engine = x.engine; committed = x.committed; asked = x.asked; log = x.log }) answer.Up
+    says (record x { up = true }) answer.Up
 
 abbrev pub member_restart : MemberState → MemberStep
 member_restart x = restart_by x x.up

@@ -53,16 +53,15 @@ member_down x l = member_down_with x.engine.kind l
 
 -- the same member with another log
 abbrev pub with_log : MemberState → LogState → MemberState
-with_log x l = record { up = x.up; engine = x.engine; committed = x.committed; asked = x.asked; log = l }
+with_log x l = record x { log = l }
 
 -- the same member with another engine state
 abbrev pub with_engine : MemberState → EngineState → MemberState
-with_engine x b = record { up = x.up; engine = b; committed = x.committed; asked = x.asked; log = x.log }
+with_engine x b = record x { engine = b }
 
 -- an undecided transaction is forgotten, with its asked mark
 abbrev pub dropped : MemberState → ℕ → MemberState
-dropped x t =
-    record { up = x.up; engine = after_drop x.engine t; committed = x.committed; asked = without x.asked t; log = x.log }
+dropped x t = record x { engine = after_drop x.engine t; asked = without x.asked t }
 
 -- A stopped write of a batch: the completed write and a crash where the batch counts, else the crash alone.
 abbrev pub stopped_member : ℕ → MemberState → ℕ → Bool → List Record → MemberStep

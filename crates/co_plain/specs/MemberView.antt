@@ -35,11 +35,11 @@ nothing_known = record { records = empty; voted = no_entries; committed = no_ent
 
 -- a transaction voted
 abbrev pub cast_in : MemberView → ℕ → Vote → MemberView
-cast_in v t vote = record { records = v.records; voted = put v.voted t vote; committed = v.committed }
+cast_in v t vote = record v { voted = put v.voted t vote }
 
 -- a voted transaction was aborted
 abbrev pub forget_in : MemberView → ℕ → MemberView
-forget_in v t = record { records = v.records; voted = without v.voted t; committed = v.committed }
+forget_in v t = record v { voted = without v.voted t }
 
 -- a voted transaction was committed: its writes are laid over the records
 abbrev pub install_in : MemberView → ℕ → Option Vote → MemberView
@@ -52,20 +52,20 @@ abbrev pub view_of : EngineState → Numbers → MemberView
 view_of b committed = record { records = installed_records b; voted = b.voted; committed = committed }
 
 -- what one more record tells. The rows of a checkpoint may be dirty: its undos lead back.
-abbrev pub told_by : MemberView → Record → MemberView
-told_by v (log.Header node generation) = v
-told_by v (log.Prepare t coord count reads writes) =
+abbrev pub view_with : MemberView → Record → MemberView
+view_with v (log.Header node generation) = v
+view_with v (log.Prepare t coord count reads writes) =
     cast_in v t (record { coord = coord; count = count; sets = record { reads = reads; writes = writes } })
-told_by v (log.Commit t members) = install_in v t (look v.voted t)
-told_by v (log.Abort t) = forget_in v t
-told_by v (log.End t) = v
-told_by v (log.Checkpoint rows undos committed) =
+view_with v (log.Commit t members) = install_in v t (look v.voted t)
+view_with v (log.Abort t) = forget_in v t
+view_with v (log.End t) = v
+view_with v (log.Checkpoint rows undos committed) =
     record { records = with_changes (records_from rows) undos; voted = no_entries; committed = numbers_from committed }
 
 -- what a log tells, its newest record first
 abbrev pub recovered_view : List Record → MemberView
 recovered_view [] = nothing_known
-recovered_view (r ∷ rs) = told_by (recovered_view rs) r
+recovered_view (r ∷ rs) = view_with (recovered_view rs) r
 
 -- the engine that stands for a view
 abbrev pub engine_from : Kind → MemberView → EngineState
@@ -94,7 +94,7 @@ member_allows coords place v (log.End t) = false
 abbrev pub first_refused_from : ℕ → ℕ → MemberView → List Record → Option ℕ
 first_refused_from coords place v [] = None
 first_refused_from coords place v (r ∷ rs) =
-    if member_allows coords place v r then first_refused_from coords (suc place) (told_by v r) rs else Some place
+    if member_allows coords place v r then first_refused_from coords (suc place) (view_with v r) rs else Some place
 
 -- of a whole log, its oldest record first
 abbrev pub first_refused_at_member : ℕ → List Record → Option ℕ

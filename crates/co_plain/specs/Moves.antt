@@ -33,9 +33,9 @@ use Rattle.co_plain.specs.Sessions.{count_at, parts_of, begun_by, with_told, ask
 use Rattle.co_plain.specs.Wire.{send_one, was_sent}
 use Rattle.co_plain.specs.Federation.{Federation, with_member, with_coord, with_session}
 use Rattle.co_plain.specs.Step.{is_used}
-use Rattle.co_plain.specs.Decisions.{told_of, is_asked, BelongsTo, IsPresumedAborted, IsDecided}
+use Rattle.co_plain.specs.Decisions.{told_of, is_asked, BelongsTo, IsPresumedAborted, IsSettled}
 use Rattle.co_plain.specs.SoundLogs.{log_has_committed}
-use Rattle.co_plain.specs.Invariants.{TakesPart, is_over}
+use Rattle.co_plain.specs.Invariants.{TakesPart, is_asked_or_used}
 
 pub data Move : Type 0 where
   -- of a member: an answered operation, with the session's entry; a prepare is marked; a vote; what is forgotten;
@@ -95,38 +95,14 @@ local_state x t n =
     (with_batch x.log (log.Commit t [] ∷ prepare_record t local_coord (counted n) (sets_of (operations_of x.engine t)) ∷ []))
 
 abbrev pub restarted : MemberState → MemberState
-restarted x = record { up = true; engine = x.engine; committed = x.committed; asked = x.asked; log = x.log }
+restarted x = record x { up = true }
 
 -- the decision order grows
 abbrev pub with_decision : Federation → ℕ → Federation
-with_decision s t =
-    record {
-      kinds = s.kinds;
-      coordinators = s.coordinators;
-      member = s.member;
-      coord = s.coord;
-      sessions = s.sessions;
-      sent = s.sent;
-      decided = record { txn = t; told = told_of s t } ∷ s.decided;
-      opened_member = s.opened_member;
-      opened_coord = s.opened_coord;
-      used = s.used;
-    }
+with_decision s t = record s { decided = record { txn = t; told = told_of s t } ∷ s.decided }
 
 abbrev pub with_message : Federation → Message → Federation
-with_message s note =
-    record {
-      kinds = s.kinds;
-      coordinators = s.coordinators;
-      member = s.member;
-      coord = s.coord;
-      sessions = s.sessions;
-      sent = send_one s.sent note;
-      decided = s.decided;
-      opened_member = s.opened_member;
-      opened_coord = s.opened_coord;
-      used = s.used;
-    }
+with_message s note = record s { sent = send_one s.sent note }
 
 abbrev pub entry_at : Federation → ℕ → ℕ → Option Entry
 entry_at s t c = look (s.coord c).table t
@@ -188,7 +164,7 @@ effect s (End t c) =
     with_coord s c
     (with_coord_log (with_table (s.coord c) (without (s.coord c).table t)) (with_waiting (s.coord c).log (log.End t)))
 effect s (CrashCoord c) = with_coord s c (coord_down (s.coord c).log)
-effect s (RestartCoord c) = with_coord s c (record { up = true; table = (s.coord c).table; log = (s.coord c).log })
+effect s (RestartCoord c) = with_coord s c (record (s.coord c) { up = true })
 effect s (ArmCoord c stop) = with_coord s c (with_coord_log (s.coord c) (with_stop (s.coord c).log stop))
 effect s (CloseCoordSpare c closed) = with_coord s c (with_coord_log (s.coord c) (with_spare (s.coord c).log closed))
 effect s (FillCoordSpare c) =
@@ -217,9 +193,9 @@ may_send s (message.Prepare t c m n) =
     (parts : List Part) × (yeses : List ℕ) × (entry_at s t c ≡ Some (entry.Collecting parts yeses)) × (has_part parts m ≡ true) × (n ≡ count_at (told_of s t) m)
 may_send s (message.Vote t m c true) = (holds (s.member m).engine.voted t ≡ true) × (coord_of (s.member m) t ≡ c)
 may_send s (message.Vote t m c false) = (n : ℕ) × (was_sent s.sent (message.Prepare t c m n) ≡ true)
-may_send s (message.Decide t c m true) = IsDecided s t × TakesPart s t m × (is_over s t ≡ true)
+may_send s (message.Decide t c m true) = IsSettled s t × TakesPart s t m × (is_asked_or_used s t ≡ true)
 may_send s (message.Decide t c m false) =
-    ((BelongsTo s t c × IsPresumedAborted s t) ⊎ (log_has_committed (s.member m).log.stable t ≡ true)) × (is_over s t ≡ true)
+    ((BelongsTo s t c × IsPresumedAborted s t) ⊎ (log_has_committed (s.member m).log.stable t ≡ true)) × (is_asked_or_used s t ≡ true)
 may_send s (message.Ask t m c) = (holds (s.member m).engine.voted t ≡ true) × (coord_of (s.member m) t ≡ c)
 may_send s (message.Ack t m c) = holds (s.member m).committed t ≡ true
 
@@ -232,7 +208,7 @@ Guard s (MarkAsked t m c n) = (holds (s.member m).engine.active t ≡ true) × (
 Guard s (Cast t m c n) = (was_sent s.sent (message.Prepare t c m n) ≡ true) × (vote_of (s.member m).engine t n ≡ VoteYes)
 Guard s (DropActive t m) = holds (s.member m).engine.active t ≡ true
 Guard s (DropVoted t m) = (holds (s.member m).engine.voted t ≡ true) × IsPresumedAborted s t
-Guard s (Install t m) = (holds (s.member m).engine.voted t ≡ true) × IsDecided s t
+Guard s (Install t m) = (holds (s.member m).engine.voted t ≡ true) × IsSettled s t
 Guard s (CommitLocally t m) =
     session_by_member (look s.sessions t) m × (is_asked s t ≡ false) × (1 ≤ count_at (told_of s t) m)
     × (vote_of (s.member m).engine t (count_at (told_of s t) m) ≡ VoteYes)

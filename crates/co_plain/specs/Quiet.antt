@@ -1,5 +1,5 @@
 -- Open transactions, enabled exchanges, and quiet states: those in which nothing but a timer can help.
-use Rattle.std.specs.Prelude.{ℕ, zero, suc, Bool, true, false, not, ◌&&◌, ◌≡◌, ◌≤◌, ◌+◌, ◌*◌, List, map, filter, length, Option, None, Some}
+use Rattle.std.specs.Prelude.{ℕ, zero, suc, Bool, true, false, not, ◌&&◌, ◌||◌, ◌≡◌, ◌≤◌, ◌+◌, ◌*◌, List, map, filter, length, Option, None, Some}
 use Rattle.std.specs.FinMap.{entries, keys}
 use Rattle.co_base.specs.declared.node.Node.{Node}
 use Rattle.co_base.specs.declared.node.Node.TheVariants as node
@@ -100,6 +100,21 @@ IsEnabled s (Prepares t m c) = IsMember s m × IsCoordinator s c × (prepare_hel
 IsEnabled s (Votes t m) = IsMember s m × (vote_helps s t m ≡ true)
 IsEnabled s (Commits t m c) = IsMember s m × IsCoordinator s c × (commit_helps s t m c ≡ true)
 IsEnabled s (Asks t m c) = IsMember s m × IsCoordinator s c × (ask_helps s t m c ≡ true)
+
+-- Busy: an exchange can be about it. Voted at a member, or asked for its vote there,
+abbrev pub busy_at : MemberState → ℕ → Bool
+busy_at x t = holds x.engine.voted t || holds x.asked t
+
+-- or in the table of a coordinator, and not idle.
+abbrev pub busy_in : Option Entry → Bool
+busy_in None = false
+busy_in (Some entry.Idle) = false
+busy_in (Some (entry.Collecting parts yeses)) = true
+busy_in (Some (entry.Committed members acks)) = true
+
+pub data IsBusy (s : Federation) (t : ℕ) : Type 0 where
+  BusyAt : (m : ℕ) → IsMember s m → busy_at (s.member m) t ≡ true → IsBusy s t
+  BusyIn : (c : ℕ) → IsCoordinator s c → busy_in (look (s.coord c).table t) ≡ true → IsBusy s t
 
 -- every node is up, and no exchange is enabled
 pub record IsQuiet (s : Federation) : Type 0 where

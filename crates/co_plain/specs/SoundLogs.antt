@@ -24,18 +24,24 @@ unended_in records t = look (recovered_commits records).unended t
 abbrev pub has_unended : List Record → ℕ → Bool
 has_unended records t = holds (recovered_commits records).unended t
 
+-- the logs name the coordinator of a transaction: by a vote, or by its commit without end
+pub data LogsName (member_log coord_log : ℕ → List Record) (t c : ℕ) : Type 0 where
+  ByVote : (m : ℕ) → log_votes_for (member_log m) t c ≡ true → LogsName member_log coord_log t c
+  ByCommit : has_unended (coord_log c) t ≡ true → LogsName member_log coord_log t c
+
+-- no member committed it, and no coordinator decided it
+pub record IsNowhereDecided (member_log coord_log : ℕ → List Record) (t : ℕ) : Type 0 where
+  pub uncommitted : (m : ℕ) → log_has_committed (member_log m) t ≡ false
+  pub undecided : (c : ℕ) → has_commit_of (coord_log c) t ≡ false
+
 pub record AreSound (member_log coord_log : ℕ → List Record) : Type 0 where
-  -- the votes on a transaction and its commit without end name one coordinator
-  pub one_vote : (t m n c d : ℕ) → log_votes_for (member_log m) t c ≡ true → log_votes_for (member_log n) t d ≡ true → c ≡ d
-  pub vote_and_commit : (t m c d : ℕ) → log_votes_for (member_log m) t c ≡ true → has_unended (coord_log d) t ≡ true → c ≡ d
-  pub one_commit : (t c d : ℕ) → has_unended (coord_log c) t ≡ true → has_unended (coord_log d) t ≡ true → c ≡ d
+  -- a transaction has one coordinator
+  pub one_coordinator : (t c d : ℕ) → LogsName member_log coord_log t c → LogsName member_log coord_log t d → c ≡ d
   -- each participant of a commit without end voted or committed, and each member that voted for it takes part
   pub participants : (t c m : ℕ) (members : List ℕ) → unended_in (coord_log c) t ≡ Some members → has_number members m ≡ true →
       (log_has_voted (member_log m) t || log_has_committed (member_log m) t) ≡ true
   pub voters : (t c m : ℕ) (members : List ℕ) → unended_in (coord_log c) t ≡ Some members → log_votes_for (member_log m) t c ≡ true →
       has_number members m ≡ true
-  -- where a transaction is voted and its coordinator has no commit of it without end, nobody committed it
-  pub nowhere_committed : (t m c n : ℕ) → log_votes_for (member_log m) t c ≡ true → has_unended (coord_log c) t ≡ false →
-      log_has_committed (member_log n) t ≡ false
-  pub nowhere_decided : (t m c d : ℕ) → log_votes_for (member_log m) t c ≡ true → has_unended (coord_log c) t ≡ false →
-      has_commit_of (coord_log d) t ≡ false
+  -- where a transaction is voted and its coordinator has no commit of it without end, nobody decided commit
+  pub undecided : (t m c : ℕ) → log_votes_for (member_log m) t c ≡ true → has_unended (coord_log c) t ≡ false →
+      IsNowhereDecided member_log coord_log t

@@ -184,19 +184,7 @@ step_line s (event.Checkpoint at) = checkpoint_at s at
 
 -- every armed stop is taken away; this is no event and tells nothing
 abbrev pub disarmed : Federation → Federation
-disarmed s =
-    record {
-      kinds = s.kinds;
-      coordinators = s.coordinators;
-      member = λ m. with_log (s.member m) (with_stop (s.member m).log None);
-      coord = λ c. with_coord_log (s.coord c) (with_stop (s.coord c).log None);
-      sessions = s.sessions;
-      sent = s.sent;
-      decided = s.decided;
-      opened_member = s.opened_member;
-      opened_coord = s.opened_coord;
-      used = s.used;
-    }
+disarmed s = record s { member = λ m. with_log (s.member m) (with_stop (s.member m).log None); coord = λ c. with_coord_log (s.coord c) (with_stop (s.coord c).log None) }
 
 abbrev pub step : Federation → Happening → Stepped
 step s (happening.Line e) = step_line s e

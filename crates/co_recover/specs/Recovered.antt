@@ -7,9 +7,9 @@ use Rattle.co_state.specs.declared.engine_state.Vote.{Vote}
 use Rattle.co_state.specs.Table.{Table, look, holds}
 pub use Rattle.co_pairs.specs.Votes.{prepared_of, voted_of}
 use Rattle.co_plain.specs.declared.member_view.MemberView.{MemberView}
-use Rattle.co_plain.specs.MemberView.{cast_in, conflicts_with_voted, forget_in, install_in, member_allows, told_by, recovered_view, first_refused_at_member}
+use Rattle.co_plain.specs.MemberView.{cast_in, conflicts_with_voted, forget_in, install_in, member_allows, view_with, recovered_view, first_refused_at_member}
 use Rattle.co_plain.specs.declared.coord_view.CoordView.{CoordView}
-use Rattle.co_plain.specs.CoordView.{coord_allows, coord_told_by, recovered_commits, first_refused_at_coord}
+use Rattle.co_plain.specs.CoordView.{coord_allows, commits_with, recovered_commits, first_refused_at_coord}
 use Rattle.co_recover.specs.declared.fault.RecoverFault.{RecoverFault}
 use Rattle.co_recover.specs.declared.fault.RecoverFault.TheVariants.{Inconsistent, Memory}
 use Rattle.co_recover.specs.declared.past.CoordPast.{CoordPast}
@@ -30,7 +30,7 @@ pub record IsRefusedAt (items : List (ℕ × Record)) (refused : Option ℕ) (at
 
 -- the view after one more record, or none where it is not allowed
 abbrev pub member_next : ℕ → ℕ → MemberView → Record → Option MemberView
-member_next coords place view entry = if member_allows coords place view entry then Some (told_by view entry) else None
+member_next coords place view entry = if member_allows coords place view entry then Some (view_with view entry) else None
 
 -- the view after a transaction voted, or none where a vote is in conflict with it
 abbrev pub cast : MemberView → ℕ → Vote → Option MemberView
@@ -56,7 +56,7 @@ IsMemberRecovery coords items (Err Memory) = Unit {0}
 
 -- the view after one more record, or none where it is not allowed
 abbrev pub coord_next : ℕ → ℕ → CoordView → Record → Option CoordView
-coord_next members place view entry = if coord_allows members place view entry then Some (coord_told_by view entry) else None
+coord_next members place view entry = if coord_allows members place view entry then Some (commits_with view entry) else None
 
 abbrev pub decided_of : ℕ × List ℕ → Decided
 decided_of entry = record { txn = entry.0; members = entry.1 }

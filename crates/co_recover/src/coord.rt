@@ -4,7 +4,7 @@ ghost use Rattle.std.specs.FinMap.{keys};
 ghost use Rattle.co_record.specs.declared.record.Record.{Record};
 ghost use Rattle.co_record.specs.Lent.{record_of};
 ghost use Rattle.co_record.specs.Stored.{HasLeft};
-ghost use Rattle.co_plain.specs.CoordView.{all_up_to, coord_told_by};
+ghost use Rattle.co_plain.specs.CoordView.{all_up_to, commits_with};
 ghost use Rattle.co_recover.specs.Recovered.{coord_next, commits_of, past_of_coord, IsCoordRecovery};
 
 use crate::fault::RecoverFault;
@@ -40,7 +40,7 @@ fn all_up_to(most: u8, members: &[u8]) -> bool
 
 /// Takes one more commit into the view; one without participants counts as ended at once.
 fn commit_in(view: &mut CoordView, t: Txn, members: Bytes) -> Result<(), AllocError>
-    ensures { OnOk result (view.new ≡ coord_told_by view.old (Record.Commit t members)) }
+    ensures { OnOk result (view.new ≡ commits_with view.old (Record.Commit t members)) }
 {
     if !members.is_empty() {
         view.unended.insert(t, members)?;

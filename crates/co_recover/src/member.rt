@@ -8,7 +8,7 @@ ghost use Rattle.co_record.specs.Reading.{row_of};
 ghost use Rattle.co_record.specs.Spelling.{IsSpelled, IsRow, IsChange};
 ghost use Rattle.co_record.specs.Stored.{HasLeft};
 ghost use Rattle.co_state.specs.Table.{holds};
-ghost use Rattle.co_plain.specs.MemberView.{nothing_known, numbers_from, told_by};
+ghost use Rattle.co_plain.specs.MemberView.{nothing_known, numbers_from, view_with};
 ghost use Rattle.co_plain.specs.declared.member_view.MemberView.{MemberView};
 ghost use Rattle.co_serial.specs.Records.{with_changes};
 ghost use Rattle.co_state.specs.Effects.{records_from};
@@ -72,7 +72,7 @@ fn checkpoint_view<'a>(
 ) -> Result<LentView<'a>, AllocError>
     requires rows { AllByRecursion IsRow (map row_of rows) }
     requires undos { AllByRecursion IsChange undos }
-    ensures { IfOk result (λ view. view ≡ told_by nothing_known (Checkpoint (map row_of rows.entry) undos.entry committed.entry)) }
+    ensures { IfOk result (λ view. view ≡ view_with nothing_known (Checkpoint (map row_of rows.entry) undos.entry committed.entry)) }
 {
     let committed = numbers_of(alloc, committed)?;
     let records = clean_records(alloc, rows, undos)?;

@@ -13,12 +13,11 @@ use Rattle.co_outside.specs.Home.{File, HomeView}
 use Rattle.co_outside.specs.declared.spot.Spot.{Spot}
 use Rattle.co_plain.specs.Federation.{Federation, Stepped}
 use Rattle.co_plain.specs.MemberView.{Numbers}
-use Rattle.co_plain.specs.Quiet.{Exchange, Prepares, Votes, Commits, Asks, open_count, settling_bound}
+use Rattle.co_plain.specs.Quiet.{Exchange, Prepares, Votes, Commits, Asks, open_count, settling_bound, IsBusy}
 use Rattle.co_plain.specs.Runs.{run, lines}
 use Rattle.co_plain.specs.Step.{step_line, disarmed}
 use Rattle.co_state.specs.declared.engine_state.EngineState.{EngineState}
 use Rattle.co_law_settle.proofs.Settled.{goes_on, bounded, settling_wakes}
-use Rattle.co_law_settle.specs.Busy.{IsBusy}
 use Rattle.co_law_settle.specs.SettlingTurns.{Turn, Restarts, Exchanges, Fires, turn_events, first_event, wanted, deliveries, delivers, note_in, after_turn, IsNext, IsSettling, SomethingOpen, NothingOpen}
 use Rattle.co_world.proofs.Lefts.{held_left}
 use Rattle.co_world.specs.Served.{AreServed}

@@ -27,10 +27,9 @@ use Rattle.co_law.proofs.WritableRuns.{are_writable}
 use Rattle.co_law.specs.MessageHomes.{IsHome, Belongs, CommittedBefore, MessagesNameHomes}
 use Rattle.co_law_base.proofs.Lookups.{is_nothing, look_none}
 use Rattle.co_law_moves.proofs.Growing.{run_grows}
-use Rattle.co_law_moves.specs.HandedVerdicts.{AreTrueVerdicts, IsTrueVerdict}
+use Rattle.co_plain.specs.Premises.{AreTrueVerdicts, IsTrueVerdict, AreOwn, AreOwnLogs, IsOwn, IsBetween, NamesOwnNode, IsOwnNode}
 use Rattle.co_law_node.specs.WholeNodes.{AreWhole, AreWritable}
-use Rattle.co_law_runs.proofs.Fitting.{Fit, HomeFits, run_fits}
-use Rattle.co_law_runs.specs.OnlyTimers.{AreOwn, AreOwnLogs, IsOwn, IsBetween, NamesOwnNode}
+use Rattle.co_law_runs.proofs.Fitting.{Fit, run_fits}
 use Rattle.co_law_settle.proofs.Settled.{Reached, reached}
 use Rattle.co_world.specs.Conditions.{IsReady}
 use Rattle.co_settle.specs.Reached.{IsReached}
@@ -135,7 +134,7 @@ module _ (s : Federation) (r : IsReached s) where
   at_home : (t c : ℕ) → IsHome s t c → IsBetween c s.coordinators
   at_home t c (CommittedBefore members e) = unended_own t c members e
   at_home t c (Belongs (VotedBefore m h)) = all_reached.opened.votes m t c h
-  at_home t c (Belongs (BegunThere session e by)) = subst (HomeFits (length s.kinds) s.coordinators) by (all_reached.sessions t session e).home
+  at_home t c (Belongs (BegunThere session e by)) = subst (IsOwnNode (length s.kinds) s.coordinators) by (all_reached.sessions t session e).home
 
   -- each message but an acknowledgement names a coordinator of the federation
   abbrev pub NamesCoord : Message → Type 0

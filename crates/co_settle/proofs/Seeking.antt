@@ -11,32 +11,20 @@ use Rattle.co_plain.specs.declared.coord_state.Entry.{Entry}
 use Rattle.co_plain.specs.declared.coord_state.Entry.TheVariants as entry
 use Rattle.co_plain.specs.Federation.{Federation}
 use Rattle.co_plain.specs.MemberView.{Numbers}
-use Rattle.co_plain.specs.Quiet.{Exchange, IsEnabled, IsOpen, InTable, ActiveAt, VotedAt}
+use Rattle.co_plain.specs.Quiet.{Exchange, IsEnabled, IsOpen, InTable, ActiveAt, VotedAt, busy_in, IsBusy, BusyAt, BusyIn}
 use Rattle.co_plain.specs.Settling.{exchange_txn, IsFirstExchange}
 use Rattle.co_law_base.proofs.Facts.{Facts}
 use Rattle.co_law_base.proofs.Lookups.{put_here, put_there, without_there, holds_found}
-use Rattle.co_law_settle.specs.Busy.{busy_in, IsBusy, BusyAt, BusyIn}
 use Rattle.co_law_settle.proofs.Busy.{enabled_busy}
-use Rattle.co_world.specs.Readings as told
 use Rattle.co_world.specs.Readings.{IsFirstOf}
 use Rattle.co_world.proofs.NotedSets.{IsNext, tabled_next}
 use Rattle.co_world.proofs.Walks.{first_helps}
 use Rattle.co_settle.specs.Busy.{IsKnown, IsLaidIn, HaveBusy}
 
--- ---- the busy ones of a federation are those that it tells
+-- ---- the first that can help
 
-entry_busy : (o : Option Entry) → busy_in o ≡ told.busy_in o
-entry_busy None = refl
-entry_busy (Some entry.Idle) = refl
-entry_busy (Some (entry.Collecting parts yeses)) = refl
-entry_busy (Some (entry.Committed members acks)) = refl
-
-pub busy_told : (s : Federation) (t : ℕ) → IsBusy s t → told.IsBusy s t
-busy_told s t (BusyAt m i h) = told.BusyAt m i h
-busy_told s t (BusyIn c i h) = told.BusyIn c i (sym (entry_busy (look (s.coord c).table t)) ∙ h)
-
-pub not_busy : (s : Federation) (t : ℕ) (b : Bool) → (told.IsBusy s t → b ≡ true) → b ≡ false → IsBusy s t → ⊥
-not_busy s t b tells none h = let z : true ≡ false = sym (tells (busy_told s t h)) ∙ none in cc
+pub not_busy : (s : Federation) (t : ℕ) (b : Bool) → (IsBusy s t → b ≡ true) → b ≡ false → IsBusy s t → ⊥
+not_busy s t b tells none h = let z : true ≡ false = sym (tells h) ∙ none in cc
 
 pub not_found : {X : Type 0} (N : Type 0) (S : X → Type 0) (o : Option X) (none : Bool) → is_some o ≡ not none → none ≡ true → MatchOption o N S → N
 not_found N S None none is so h = h

@@ -3,7 +3,7 @@ use Rattle.std.specs.Prelude.{ℕ, true, ◌≡◌, Option, None, Some}
 use Rattle.co_state.specs.Table.{holds}
 use Rattle.co_plain.specs.Federation.{Federation}
 use Rattle.co_plain.specs.MemberView.{Numbers}
-use Rattle.co_law_settle.specs.Busy.{IsBusy}
+use Rattle.co_plain.specs.Quiet.{IsBusy}
 
 -- where this one is busy, it is among them
 abbrev pub IsKnown : Federation → Numbers → ℕ → Type 0

@@ -6,9 +6,7 @@ use Rattle.co_plain.specs.Federation.{Federation}
 use Rattle.co_plain.specs.Opening.{Found, opened}
 use Rattle.co_plain.specs.Runs.{run}
 use Rattle.co_plain.specs.declared.happening.Happening.{Happening}
-use Rattle.co_law_moves.specs.HandedVerdicts.{AreTrueVerdicts}
-use Rattle.co_law_moves.specs.OpenedLogs.{AreOpenable}
-use Rattle.co_law_runs.specs.OnlyTimers.{AreOwn}
+use Rattle.co_plain.specs.Premises.{AreTrueVerdicts, AreOpenable, AreOwn}
 
 -- It is the state after a run over logs that may be run and are sound, of a federation within its limits. Each begin and each operation named one of
 -- its nodes, and each verdict that was handed over was true.

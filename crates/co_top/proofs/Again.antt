@@ -21,7 +21,7 @@ use Rattle.co_plain.specs.MemberView.{first_refused_at_member}
 use Rattle.co_plain.specs.Opening.{Found}
 use Rattle.co_law_node.specs.WholeNodes.{AreWhole, AreWritable}
 use Rattle.co_law_node.specs.Writable.{IsWithinBounds}
-use Rattle.co_law_runs.specs.OnlyTimers.{IsBetween}
+use Rattle.co_plain.specs.Premises.{IsBetween}
 
 -- whether there is a node of this number
 abbrev pub is_one : ℕ → ℕ → Bool

@@ -13,9 +13,8 @@ use Rattle.co_plain.specs.declared.happening.Happening.{Happening}
 use Rattle.co_replay.specs.Schedule.{HasLine}
 use Rattle.co_schedule.specs.View.{IsEventFor}
 use Rattle.co_law_base.proofs.Lookups.{is_nothing, look_none}
-use Rattle.co_law_moves.specs.OpenedLogs.{AreOpenable}
+use Rattle.co_plain.specs.Premises.{AreOpenable, AreOwn, NamesOwnNode}
 use Rattle.co_law_node.specs.WholeNodes.{AreWhole, AreWritable}
-use Rattle.co_law_runs.specs.OnlyTimers.{AreOwn, NamesOwnNode}
 use Rattle.co_law_runs.proofs.Fitting.{Fit, run_fits}
 use Rattle.co_law.proofs.EveryOrder.{every_transcript}
 use Rattle.co_law.proofs.EveryRun.{every_acknowledged, every_agreement, every_read}

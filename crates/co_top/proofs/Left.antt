@@ -31,8 +31,7 @@ use Rattle.co_durable.specs.Recovering.{member_refuses, coord_refuses}
 use Rattle.co_durable.specs.Told as files
 use Rattle.co_law_base.proofs.ImageRules.{EachEntry, each_entry}
 use Rattle.co_law_node.specs.WholeNodes.{AreWhole}
-use Rattle.co_law_moves.specs.HandedVerdicts.{AreTrueVerdicts}
-use Rattle.co_law_runs.specs.OnlyTimers.{IsBetween, AreOwn}
+use Rattle.co_plain.specs.Premises.{AreTrueVerdicts, IsBetween, AreOwn}
 use Rattle.co_law_runs.proofs.Agreement.{run_more}
 use Rattle.co_law.proofs.EveryRun.{every_log, every_sound}
 use Rattle.co_law.proofs.GoingOn.{lines_true}

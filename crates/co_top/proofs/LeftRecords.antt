@@ -11,7 +11,7 @@ use Rattle.co_serial.specs.SerialRun.{AllRecords}
 use Rattle.co_state.specs.declared.engine_state.Vote.{Vote}
 use Rattle.co_plain.specs.CoordView.{has_commit_of}
 use Rattle.co_plain.specs.DurableRecords.{with_decided}
-use Rattle.co_law_runs.specs.OnlyTimers.{IsBetween}
+use Rattle.co_plain.specs.Premises.{IsBetween}
 use Rattle.co_durable.specs.Durable.{log_of, numbered_rows}
 use Rattle.co_durable.specs.Laying.{member_rows}
 use Rattle.co_durable.specs.Nodes.{numbered}

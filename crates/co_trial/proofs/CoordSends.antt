@@ -24,7 +24,7 @@ use Rattle.co_plain.specs.CoordStep.{coord_says, with_table, has_part, members_o
 use Rattle.co_plain.specs.CoordView.{all_up_to}
 use Rattle.co_plain.specs.Coordinator.{prepares_to, decisions_to, parts_lacking, ask_commit, commit_entry, coord_commit, aborts, abort_entry, coord_abort, waits, decided_by, yes_entry, no_entry, coord_vote, ask_entry, coord_ask, ended_by, ack_entry, coord_ack, timer_entry, coord_timer, resend_entry, coord_resend}
 use Rattle.co_plain.specs.CoordLog.{coord_stopped_fill, coord_fill_by, coord_close_by, coord_checkpoint_by, coord_checkpoint, coord_restart_by, coord_restart}
-use Rattle.co_law_runs.specs.OnlyTimers.{IsBetween}
+use Rattle.co_plain.specs.Premises.{IsBetween}
 use Rattle.co_trial.proofs.InHead.{InHead}
 
 -- what one step of a coordinator sends

@@ -17,8 +17,7 @@ use Rattle.co_schedule.specs.View.{IsEventFor}
 use Rattle.co_law.proofs.EveryRun.{every_log}
 use Rattle.co_law.proofs.FreshLogs.{empty_openable}
 use Rattle.co_law.proofs.GoingOn.{lines_true}
-use Rattle.co_law_moves.specs.HandedVerdicts.{AreTrueVerdicts}
-use Rattle.co_law_runs.specs.OnlyTimers.{AreOwn, NamesOwnNode}
+use Rattle.co_plain.specs.Premises.{AreTrueVerdicts, AreOwn, NamesOwnNode}
 use Rattle.co_law_runs.proofs.Agreement.{run_more}
 use Rattle.co_law_settle.specs.SettlingTurns.{Settles}
 use Rattle.co_settle.specs.Reached.{IsReached}

@@ -26,7 +26,7 @@ use Rattle.co_state.specs.declared.engine_state.EngineState.{EngineState}
 use Rattle.co_law.proofs.FreshLogs.{empty_openable}
 use Rattle.co_law.proofs.GoingOn.{transcript_more, lines_true}
 use Rattle.co_law_base.proofs.Lookups.{is_nothing, look_none}
-use Rattle.co_law_runs.specs.OnlyTimers.{AreOwn, NamesOwnNode, IsBetween}
+use Rattle.co_plain.specs.Premises.{AreOwn, NamesOwnNode, IsBetween}
 use Rattle.co_law_runs.proofs.Agreement.{run_more}
 use Rattle.co_law_runs.proofs.Fitting.{Fit, run_fits}
 use Rattle.co_settle.specs.Reached.{IsReached}

@@ -36,7 +36,7 @@ use Rattle.co_schedule.specs.View.{IsEventFor}
 use Rattle.co_law_base.proofs.Sending.{send_cases, parts_told}
 use Rattle.co_law_node.proofs.AllowedCommits.{commits_from, unended_up}
 use Rattle.co_law_node.specs.WholeCoords.{IsWholeCoord, FitsRecords, commits_of}
-use Rattle.co_law_runs.specs.OnlyTimers.{IsBetween}
+use Rattle.co_plain.specs.Premises.{IsBetween}
 use Rattle.co_law_runs.proofs.Fitting.{FitSessions}
 use Rattle.co_law.proofs.NodeRuns.{MayAct, end_acts}
 use Rattle.co_trial.proofs.InHead.{InHead}

@@ -2,7 +2,7 @@
 use Rattle.std.specs.Prelude.{ℕ}
 use Rattle.co_message.specs.declared.message.Message.{Message}
 use Rattle.co_message.specs.declared.message.Message.TheVariants as message
-use Rattle.co_law_runs.specs.OnlyTimers.{IsBetween}
+use Rattle.co_plain.specs.Premises.{IsBetween}
 
 -- to or from a member of so many; and where it acknowledges, to one of so many coordinators
 abbrev pub InHead : ℕ → ℕ → Message → Type 0

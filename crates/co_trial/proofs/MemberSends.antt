@@ -26,7 +26,7 @@ use Rattle.co_plain.specs.MemberStep.{says, standing_by, stopped_member, forced_
 use Rattle.co_plain.specs.Member.{most_operations, prepare_record, voted_state, installed_state, unless_blocked, member_op, vote_by, vote_on, with_mark, prepare_by, member_prepare, vote_where_asked, vote_again_by, member_vote, commit_by, abort_by, member_decide, timer_by, member_timer, ask_by, member_ask, coord_of}
 use Rattle.co_plain.specs.MemberLog.{stopped_fill, fill_by, close_by, checkpoint_by, member_checkpoint, restart_by, member_restart}
 use Rattle.co_plain.specs.LocalCommit.{local_coord, local_commit_by, member_local_commit, local_abort_by, member_local_abort}
-use Rattle.co_law_runs.specs.OnlyTimers.{IsBetween}
+use Rattle.co_plain.specs.Premises.{IsBetween}
 use Rattle.co_trial.proofs.InHead.{InHead}
 
 -- what one step of a member sends, if anything

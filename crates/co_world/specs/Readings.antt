@@ -52,22 +52,6 @@ pub record IsFirstOf (s : Federation) (t : ℕ) (e : plain.Exchange) : Type 0 wh
   pub enabled : IsEnabled s e
   pub others : (other : plain.Exchange) → exchange_txn other ≡ t → (exchange_rank other < exchange_rank e) ⊎ ((exchange_rank other ≡ exchange_rank e) × (exchange_member other < exchange_member e)) → IsEnabled s other → ⊥
 
--- voted at a member, or asked for its vote there
-abbrev pub busy_at : MemberState → ℕ → Bool
-busy_at x t = holds x.engine.voted t || holds x.asked t
-
--- in the table of a coordinator, and not idle
-abbrev pub busy_in : Option Entry → Bool
-busy_in None = false
-busy_in (Some entry.Idle) = false
-busy_in (Some (entry.Collecting parts yeses)) = true
-busy_in (Some (entry.Committed members acks)) = true
-
--- busy: an exchange can be about it
-pub data IsBusy (s : Federation) (t : ℕ) : Type 0 where
-  BusyAt : (m : ℕ) → IsMember s m → busy_at (s.member m) t ≡ true → IsBusy s t
-  BusyIn : (c : ℕ) → IsCoordinator s c → busy_in (look (s.coord c).table t) ≡ true → IsBusy s t
-
 -- the node at which a timer ends the transaction: a coordinator where it is idle, else the least member where it is active
 pub record IsFirstAt (s : Federation) (t : ℕ) (at : Node) : Type 0 where
   pub is_node : IsNode s at

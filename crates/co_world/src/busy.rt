@@ -2,7 +2,8 @@
 ghost use Rattle.std.specs.Prelude.{◌≡◌, ◌≤◌, length, IsTrue, ◌↔◌};
 ghost use Rattle.co_plain.specs.Federation.{Federation};
 ghost use Rattle.co_state.specs.Table.{look};
-ghost use Rattle.co_world.specs.Readings.{StandsUp, busy_at, busy_in, IsBusy};
+ghost use Rattle.co_world.specs.Readings.{StandsUp};
+ghost use Rattle.co_plain.specs.Quiet.{busy_at, busy_in, IsBusy};
 ghost use Rattle.co_world.specs.Standing.{RepresentsWorld};
 
 use crate::world::World;

@@ -1,7 +1,7 @@
 use Rattle.std.proofs.Common.{◌+◌, refl, sym, ap, subst, ◌∙◌, arith}
 use Rattle.co_record.specs.Lent.{record_of}
 use Rattle.co_plain.specs.declared.member_view.MemberView.{MemberView}
-use Rattle.co_plain.specs.MemberView.{member_allows, told_by, first_refused_from, recovered_view}
+use Rattle.co_plain.specs.MemberView.{member_allows, view_with, first_refused_from, recovered_view}
 use Rattle.co_recover.specs.Recovered.{past_of_member}
 use Rattle.co_recover.proofs.Folds.{Reached, one_more, refused_here, at_end, none_means, some_means}
 use Rattle.co_recover.proofs.member.recover_member.Goals as goal
@@ -9,7 +9,7 @@ use Rattle.co_recover.proofs.member.recover_member.Goals as goal
 pub returns-in-None : goal.returns-in-None
 returns-in-None c = λ items left.
     let reached = c.records.invariant.reached items left in
-    let last = at_end (member_allows c.args.coords) told_by (first_refused_from c.args.coords) recovered_view (λ place v. refl) (λ place v r rs. refl) (λ r rs. refl)
+    let last = at_end (member_allows c.args.coords) view_with (first_refused_from c.args.coords) recovered_view (λ place v. refl) (λ place v r rs. refl) (λ r rs. refl)
     items c.records.views c.records.place c.records.view reached (c.in-None.ensures.lends reached.rest reached.left) in
     (last.0, c.in_ok-past-in-None.ensures ∙ ap past_of_member last.1)
 
@@ -17,7 +17,7 @@ pub returns-in-None-next : goal.returns-in-None-next
 returns-in-None-next c = λ items left.
     let reached = c.records.invariant.reached items left in
     let lent = c.in-Some.ensures.lends reached.rest reached.left in
-    refused_here (member_allows c.args.coords) told_by (first_refused_from c.args.coords) recovered_view (λ place v. refl) (λ place v r rs. refl) (λ r rs. refl)
+    refused_here (member_allows c.args.coords) view_with (first_refused_from c.args.coords) recovered_view (λ place v. refl) (λ place v r rs. refl) (λ r rs. refl)
     items lent.0 c.records.views c.records.place c.in-Some.at c.records.view (record_of c.in-Some.item) reached lent.1
     (none_means _ _ (sym c.in-Ok.ensures ∙ c.in-None-next.is))
 
@@ -29,6 +29,6 @@ records-preserved c = record {
       let lent = c.in-Some.ensures.lends reached.rest reached.left in
       let next = some_means _ _ _ (sym c.in-Ok.ensures ∙ c.in-Some-next.is) in
       subst (λ (v : MemberView). Reached (first_refused_from c.args.coords) recovered_view items c.next.new.self (c.records.place + 1) v) next.1
-      (one_more (member_allows c.args.coords) told_by (first_refused_from c.args.coords) recovered_view (λ place v. refl) (λ place v r rs. refl) (λ r rs. refl)
+      (one_more (member_allows c.args.coords) view_with (first_refused_from c.args.coords) recovered_view (λ place v. refl) (λ place v r rs. refl) (λ r rs. refl)
       items lent.0 c.records.views c.next.new.self c.records.place c.in-Some.at c.records.view (record_of c.in-Some.item) reached lent.1 lent.2 next.0);
 }

@@ -1,7 +1,7 @@
 use Rattle.std.proofs.Common.{◌≡◌, ◌≤◌, ℕ, true, false, length, refl, sym, ◌∙◌, arith}
 use Rattle.co_plain.specs.Federation.{Federation}
 use Rattle.co_state.specs.Table.{look}
-use Rattle.co_world.specs.Readings.{busy_at, busy_in, IsBusy, BusyAt, BusyIn}
+use Rattle.co_plain.specs.Quiet.{busy_at, busy_in, IsBusy, BusyAt, BusyIn}
 use Rattle.co_world.proofs.Readers.{is_member, is_coord}
 use Rattle.co_world.proofs.world.World.is_busy.Goals as goal
 

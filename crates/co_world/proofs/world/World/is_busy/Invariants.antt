@@ -1,7 +1,7 @@
 use Rattle.std.proofs.Common.{◌≡◌, ◌<◌, ◌≤◌, ℕ, false}
 use Rattle.co_plain.specs.Federation.{Federation}
 use Rattle.co_state.specs.Table.{look}
-use Rattle.co_world.specs.Readings.{busy_at, busy_in}
+use Rattle.co_plain.specs.Quiet.{busy_at, busy_in}
 use Rattle.co_world.specs.Standing.{RepresentsWorld}
 use Rattle.co_world.proofs.world.World.is_busy.Given as goal
 
