@@ -2,7 +2,7 @@ use Rattle.std.proofs.Common.{◌∷◌, [], List, refl, sym, subst, arith}
 use Rattle.std.specs.Prelude.{Ok, Err}
 use Rattle.co_base.specs.declared.node.Node.TheVariants as node
 use Rattle.co_log.specs.Batches.{IsBatchOf}
-use Rattle.co_log.specs.LogView.{LogView, IsHeld}
+use Rattle.co_log.specs.LogView.{IsForcible, LogView, IsHeld}
 use Rattle.co_node.specs.NodeLog.{RepresentsLog}
 use Rattle.co_node.proofs.Spelled.{unspelled_answered}
 use Rattle.co_record.specs.Spelling.{IsWritable}
@@ -30,7 +30,7 @@ spell_both-requires-clause-prepare g c =
     (subst MayWrite (sym both) c.requires.stands.3).0.0
 
 pub spell_both-requires-clause-item : goal.spell_both-requires-clause-item
-spell_both-requires-clause-item g c = subst IsWritable (sym c.commit_record.ensures) (nobody c.args.t)
+spell_both-requires-clause-item g c = (subst IsWritable (sym c.commit_record.ensures) (nobody c.args.t), subst IsForcible (sym c.commit_record.ensures) tt)
 
 pub returns-in_err-batch-clause-answered : goal.returns-in_err-batch-clause-answered
 returns-in_err-batch-clause-answered g c = λ y r active.
