@@ -3,7 +3,7 @@ use Rattle.std.specs.Prelude.{ℕ, suc, List, Option}
 use Rattle.co_base.specs.declared.head.Kind.{Kind}
 use Rattle.co_base.specs.declared.node.Node.TheVariants as node
 use Rattle.co_outside.specs.declared.spot.Spot.{Spot}
-use Rattle.co_outside.specs.Home.{File}
+use Rattle.co_outside.specs.Home.{HomeView, File}
 use Rattle.co_plain.specs.Opening.{Found, opened_member, opened_coord}
 use Rattle.co_state.specs.declared.engine_state.EngineState.{EngineState}
 use Rattle.co_coord.specs.declared.coord.Coord.{Coord}
@@ -19,8 +19,8 @@ abbrev pub AreCoordsAt : ℕ → (ℕ → Found) → List Coord → Type 0
 AreCoordsAt members found coords = AllFrom (λ p c. IsCoordAt members p c (opened_coord (suc p) (found (suc p)))) 0 coords
 
 -- the directory keeps the logs of these nodes
-abbrev pub AreOwnMembers : {E : Type 0} → (Spot → Option File) → (Spot → ℕ) → List (Member E) → Type 0
-AreOwnMembers file reach members = AllFrom (λ p m. IsOwnLog file reach (node.Member (suc p)) m.log) 0 members
+abbrev pub AreOwnMembers : {E : Type 0} → HomeView → List (Member E) → Type 0
+AreOwnMembers home members = AllFrom (λ p m. IsOwnLog home (node.Member (suc p)) m.log) 0 members
 
-abbrev pub AreOwnCoords : (Spot → Option File) → (Spot → ℕ) → List Coord → Type 0
-AreOwnCoords file reach coords = AllFrom (λ p c. IsOwnLog file reach (node.Coord (suc p)) c.log) 0 coords
+abbrev pub AreOwnCoords : HomeView → List Coord → Type 0
+AreOwnCoords home coords = AllFrom (λ p c. IsOwnLog home (node.Coord (suc p)) c.log) 0 coords

@@ -38,7 +38,7 @@ fn attach<H: Home>(alloc: Global, home: &mut H, node: Node, resume: bool) -> Res
     ensures kept { IfOk result (IsOwnLog (H.seen home.new) node) }
     ensures refused { IfErr result (IsOfAttach node resume ((H.seen home.old).file (spot_of node 0)) ((H.seen home.old).file (spot_of node 1))) }
     ensures reads { OnlyReads (H.seen home.old) (H.seen home.new) }
-    ensures others { OtherFilesStay node (H.seen home.old).file (H.seen home.new).file (H.seen home.old).reach (H.seen home.new).reach }
+    ensures others { OtherFilesStay node (H.seen home.old) (H.seen home.new) }
     ensures device { (spot : Spot) → IsErrOf result (LogFault.Device spot) → HasFailed spot (H.seen home.old) (H.seen home.new) }
     ensures quiet { ((spot : Spot) → IsErrOf result (LogFault.Device spot) → ⊥) → (H.seen home.new).faults ≡ (H.seen home.old).faults }
 {
@@ -57,7 +57,7 @@ fn attach_log<H: Home>(
     ensures kept { IfOk result (IsOwnLog (H.seen home.new) node) }
     ensures unattached { IfErr result (λ fault. IsUnattached (H.seen home.old).file resume fault node) }
     ensures reads { OnlyReads (H.seen home.old) (H.seen home.new) }
-    ensures others { OtherFilesStay node (H.seen home.old).file (H.seen home.new).file (H.seen home.old).reach (H.seen home.new).reach }
+    ensures others { OtherFilesStay node (H.seen home.old) (H.seen home.new) }
     ensures device { (spot : Spot) → IsErrOf result (WorldFault.Device spot) → HasFailed spot (H.seen home.old) (H.seen home.new) }
     ensures quiet { ((spot : Spot) → IsErrOf result (WorldFault.Device spot) → ⊥) → (H.seen home.new).faults ≡ (H.seen home.old).faults }
 {
@@ -86,7 +86,7 @@ fn attach_sort<H: Home>(
     ensures kept { IfOk result (λ logs. AreOwnLogs (H.seen home.new) (node_in sort) 0 logs.items) }
     ensures unattached { IfErr result (IsFirstUnattached (H.seen home.old).file resume (nodes_in sort count)) }
     ensures reads { OnlyReads (H.seen home.old) (H.seen home.new) }
-    ensures others { (n : Node) → IsValidNode n → ((p : ℕ) → n ≢ node_in sort p) → NodeStays n (H.seen home.old).file (H.seen home.new).file (H.seen home.old).reach (H.seen home.new).reach }
+    ensures others { (n : Node) → IsValidNode n → ((p : ℕ) → n ≢ node_in sort p) → NodeStays n (H.seen home.old) (H.seen home.new) }
     ensures device { (spot : Spot) → IsErrOf result (WorldFault.Device spot) → HasFailed spot (H.seen home.old) (H.seen home.new) }
     ensures quiet { ((spot : Spot) → IsErrOf result (WorldFault.Device spot) → ⊥) → (H.seen home.new).faults ≡ (H.seen home.old).faults }
 {

@@ -67,7 +67,7 @@ pub(crate) fn open_coords<H: Home>(
         OnOk result (marks.new ≡ marks.old ++ coord_headers (length logs.items) found) }
     ensures kept { IfOk result (λ coords. AreOwnCoords (H.seen home.new) coords.items) }
     ensures clean { OnOk result ((s : Spot) → IsClean (H.seen home.old) s → IsClean (H.seen home.new) s) }
-    ensures others { (m : ℕ) → IsValidNode (node.Member m) → NodeStays (node.Member m) (H.seen home.old).file (H.seen home.new).file (H.seen home.old).reach (H.seen home.new).reach }
+    ensures others { (m : ℕ) → IsValidNode (node.Member m) → NodeStays (node.Member m) (H.seen home.old) (H.seen home.new) }
     ensures entered { (H.seen home.new).entered ≡ (H.seen home.old).entered }
     ensures fault { IfErr result IsOfMaking }
     ensures device { (spot : Spot) → IsErrOf result (WorldFault.Device spot) → HasFailed spot (H.seen home.old) (H.seen home.new) }

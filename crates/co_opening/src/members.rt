@@ -75,7 +75,7 @@ pub(crate) fn open_members<E: Engine + Drop, H: Home>(
         OnOk result (marks.new ≡ marks.old ++ member_headers (length kinds.now) found) }
     ensures kept { IfOk result (λ members. AreOwnMembers (H.seen home.new) members.items) }
     ensures clean { OnOk result ((s : Spot) → IsClean (H.seen home.old) s → IsClean (H.seen home.new) s) }
-    ensures others { (c : ℕ) → IsValidNode (node.Coord c) → NodeStays (node.Coord c) (H.seen home.old).file (H.seen home.new).file (H.seen home.old).reach (H.seen home.new).reach }
+    ensures others { (c : ℕ) → IsValidNode (node.Coord c) → NodeStays (node.Coord c) (H.seen home.old) (H.seen home.new) }
     ensures entered { (H.seen home.new).entered ≡ (H.seen home.old).entered }
     ensures fault { IfErr result IsOfMaking }
     ensures device { (spot : Spot) → IsErrOf result (WorldFault.Device spot) → HasFailed spot (H.seen home.old) (H.seen home.new) }
