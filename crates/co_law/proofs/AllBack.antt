@@ -16,7 +16,7 @@ use Rattle.co_plain.specs.MemberView.{recovered_view}
 use Rattle.co_plain.specs.Sessions.{same_node, count_at}
 use Rattle.co_plain.specs.SoundLogs.{unended_in, has_unended, log_has_committed, ByVote, ByCommit}
 use Rattle.co_plain.specs.Invariants.{Side, Memory, Stable, view, stands, takes_part_in, ends_only, is_settled_vote, OnlyAbortsWait}
-use Rattle.co_plain.specs.CoordInvariants.{BegunAt, IsOpenEntry, OwnEnds, IsHeldFor, ViewMatchesCoordinators}
+use Rattle.co_plain.specs.CoordInvariants.{BegunAt, IsOpenEntry, OwnEnds, IsHeldFor}
 use Rattle.co_plain.specs.AllInvariants.{AllInvariants}
 use Rattle.co_law_base.proofs.Carrying.{votes_stand, settled_home, settled_from}
 use Rattle.co_law_base.proofs.Commits.{unended_seen}

@@ -18,7 +18,6 @@ use Rattle.co_law_moves.proofs.NodesTold.{no_rest}
 use Rattle.co_law_moves.proofs.StepsMade.{event_made}
 use Rattle.co_law_moves.proofs.StepsTold.{step_told}
 use Rattle.co_law.proofs.AllBack.{all_back}
-use Rattle.co_law.proofs.AllFacts.{AllFacts}
 
 event_is_made : (s : Federation) → Facts s → (h : Happening) → IsTrueVerdict s h → h ≢ happening.Disarm → IsItsMoves s h
 event_is_made s f h v n =

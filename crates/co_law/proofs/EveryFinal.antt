@@ -12,7 +12,6 @@ use Rattle.co_law_runs.proofs.DeadStays.{run_presumed}
 use Rattle.co_law_runs.proofs.Final.{timer_final}
 use Rattle.co_law_runs.proofs.LostStays.{run_lost}
 use Rattle.co_law.proofs.AllBack.{all_back}
-use Rattle.co_law.proofs.AllFacts.{AllFacts}
 
 pub every_presumed : (s : Federation) (hs : List Happening) (t : ℕ) → AllInvariants s → AreTrueVerdicts hs s → IsPresumedAborted s t → IsPresumedAborted (run hs s) t
 every_presumed s hs t i v h = run_presumed hs s (all_back s i).facts v t h

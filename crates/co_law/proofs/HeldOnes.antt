@@ -2,32 +2,24 @@
 use Rattle.std.proofs.Common.{◌≡◌, ◌⊎◌, inl, inr, ℕ, true, false, ◌||◌, ◌&&◌, ◌≤◌, List, Option, None, Some, refl, sym, ap, ◌∙◌, subst}
 use Rattle.std.specs.Option.{is_some}
 use Rattle.std.proofs.lemmas.Bool.{or_cases, or_left, or_right, and_parts}
-use Rattle.co_base.specs.declared.head.Kind.{Kind}
 use Rattle.co_state.specs.Table.{look, holds}
 use Rattle.co_plain.specs.declared.coord_state.Entry.{Entry}
 use Rattle.co_plain.specs.declared.coord_state.Entry.TheVariants as entry
-use Rattle.co_plain.specs.declared.happening.Happening.{Happening}
 use Rattle.co_plain.specs.CoordStep.{members_of}
 use Rattle.co_plain.specs.Decisions.{is_decided, told_of}
 use Rattle.co_plain.specs.Federation.{Federation}
 use Rattle.co_plain.specs.Invariants.{Memory, takes_part_in}
 use Rattle.co_plain.specs.Numbers.{has_number}
-use Rattle.co_plain.specs.Opening.{Found, opened}
-use Rattle.co_plain.specs.Runs.{run}
 use Rattle.co_plain.specs.Sessions.{parts_of}
 use Rattle.co_plain.specs.SoundLogs.{unended_in, log_has_committed}
 use Rattle.co_law_engine.proofs.YesTells.{in_some}
-use Rattle.co_law_base.proofs.Lookups.{look_none}
 use Rattle.co_law_base.proofs.Carrying.{by_coord_begun}
 use Rattle.co_law_base.proofs.Commits.{unended_seen}
 use Rattle.co_law_base.proofs.Facts.{rest_of, by_coord, takes, ByTold, Named, OpenEntry, Facts}
 use Rattle.co_law_base.proofs.TwoViews.{committed_both}
 use Rattle.co_law_base.proofs.Sending.{told_parts, part_member}
-use Rattle.co_plain.specs.Premises.{AreTrueVerdicts, AreOpenable}
-use Rattle.co_law_moves.proofs.Steps.{run_keeps}
 use Rattle.co_law_moves.proofs.KeptFrom.{living, takes_is}
 use Rattle.co_law_runs.proofs.Agreement.{told_begun}
-use Rattle.co_law_moves.proofs.Start.{start_facts}
 use Rattle.co_plain.specs.CoordInvariants.{IsHeldFor, AskedAreHeld}
 use Rattle.co_law.proofs.CommitParts.{CommitParts}
 

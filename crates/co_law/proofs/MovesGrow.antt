@@ -1,5 +1,5 @@
 -- What no move changes.
-use Rattle.std.proofs.Common.{ℕ, ◌==◌, Option, None, Some, refl}
+use Rattle.std.proofs.Common.{◌==◌, Option, None, Some, refl}
 use Rattle.std.proofs.lemmas.Bool.{or_right}
 use Rattle.co_state.specs.Table.{look}
 use Rattle.co_plain.specs.declared.coord_state.Entry.{Entry}

@@ -1,11 +1,7 @@
 -- The logs that a state leaves, as the next start finds them: those of the federation's own nodes.
-use Rattle.std.specs.Prelude.{ℕ, Bool, ◌&&◌, ◌≡◌, nat_le, List, [], length, reverse, if◌then◌else◌, None}
-use Rattle.co_base.specs.declared.head.Kind.{Kind}
+use Rattle.std.specs.Prelude.{ℕ, Bool, ◌&&◌, nat_le, List, [], if◌then◌else◌}
 use Rattle.co_record.specs.declared.record.Record.{Record}
-use Rattle.co_plain.specs.CoordView.{first_refused_at_coord}
-use Rattle.co_plain.specs.MemberView.{first_refused_at_member}
 use Rattle.co_plain.specs.Opening.{Found}
-use Rattle.co_plain.specs.Premises.{AreOwnLogs, AreOpenable}
 
 -- of the first so many nodes; no other node has a file
 abbrev pub records_left : ℕ → (ℕ → List Record) → ℕ → List Record

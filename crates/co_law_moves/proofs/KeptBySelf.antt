@@ -1,6 +1,6 @@
 -- What is promised over any opened logs, from the facts; and what is said of one coordinator, over any opened logs.
-use Rattle.std.proofs.Common.{◌≡◌, ◌≢◌, ◌⊎◌, inl, inr, ℕ, true, false, ◌&&◌, List, Option, None, Some, refl, sym, ap, ◌∙◌}
-use Rattle.std.proofs.lemmas.Bool.{or_cases, or_left, and_parts, and_from, eqb-true, eq-eqb}
+use Rattle.std.proofs.Common.{◌≡◌, ◌≢◌, ◌⊎◌, inl, inr, ℕ, true, false, ◌&&◌, List, Option, None, Some, refl, ap, ◌∙◌}
+use Rattle.std.proofs.lemmas.Bool.{or_cases, or_left, and_parts, eqb-true}
 use Rattle.co_base.specs.declared.node.Node.{Node}
 use Rattle.co_base.specs.declared.node.Node.TheVariants as node
 use Rattle.co_state.specs.Table.{look, holds}

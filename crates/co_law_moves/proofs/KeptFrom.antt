@@ -1,23 +1,20 @@
 -- The invariants, from the facts.
-use Rattle.std.proofs.Common.{◌≡◌, ◌≢◌, ◌⊎◌, inl, inr, ℕ, Bool, true, false, ◌||◌, ◌&&◌, ◌≤◌, List, [], ◌∷◌, ◌++◌, map, reverse, Option, None, Some, refl, sym, ap, ◌∙◌, subst}
+use Rattle.std.proofs.Common.{◌≡◌, ◌⊎◌, inl, inr, ℕ, Bool, true, false, ◌&&◌, ◌≤◌, List, [], ◌∷◌, ◌++◌, map, reverse, Option, None, Some, refl, sym, ap, ◌∙◌, subst}
 use Rattle.std.specs.Option.{is_some}
-use Rattle.std.proofs.lemmas.Bool.{or_cases, or_left, or_right, or_parts, or_from, and_parts, eqb-true, eq-eqb}
-use Rattle.std.specs.FinMap.{get}
+use Rattle.std.proofs.lemmas.Bool.{or_cases, or_parts, or_from, and_parts, eqb-true, eq-eqb}
 use Rattle.co_base.specs.declared.node.Node.{Node}
 use Rattle.co_base.specs.declared.node.Node.TheVariants as node
 use Rattle.co_record.specs.declared.record.Record.{Record}
 use Rattle.co_record.specs.declared.record.Record.TheVariants as log
 use Rattle.co_serial.specs.SerialRun.{after}
 use Rattle.co_state.specs.Table.{look, holds}
-use Rattle.co_plain.specs.declared.coord_state.Entry.{Entry}
-use Rattle.co_plain.specs.declared.coord_state.Entry.TheVariants as entry
 use Rattle.co_plain.specs.declared.session.Decided.{Decided}
 use Rattle.co_plain.specs.declared.session.Session.{Session}
 use Rattle.co_plain.specs.Numbers.{has_number}
 use Rattle.co_plain.specs.CoordView.{has_commit_of}
 use Rattle.co_plain.specs.Sessions.{same_node, count_at}
 use Rattle.co_plain.specs.Federation.{Federation}
-use Rattle.co_plain.specs.Decisions.{is_decided, is_asked, votes_for, told_of, sites_of, BelongsTo, BegunThere, VotedBefore, IsPresumedAborted, AtCoordinator, AtMember, IsSettled, InThisRun, InOpenedFile}
+use Rattle.co_plain.specs.Decisions.{is_decided, votes_for, sites_of, BelongsTo, BegunThere, VotedBefore, IsPresumedAborted, AtCoordinator, AtMember, IsSettled, InThisRun, InOpenedFile}
 use Rattle.co_plain.specs.DurableRecords.{durable_records, starting_records}
 use Rattle.co_plain.specs.SoundLogs.{unended_in, log_has_committed}
 use Rattle.co_plain.specs.Promises.{serial_records}
@@ -25,15 +22,11 @@ use Rattle.co_plain.specs.Invariants.{Side, Stable, view, stands, takes_part_in,
 use Rattle.co_law_base.proofs.Lookups.{holds_found, found_holds}
 use Rattle.co_law_base.proofs.ImageRules.{laid_serial}
 use Rattle.co_law_base.proofs.ViewMoves.{each_decided}
-use Rattle.co_law_base.proofs.ViewRules.{as_invariant}
 use Rattle.co_law_base.proofs.Facts.{rest_of, settled, Here, Before, settled_at, alive, by_coord, belongs, Begun, Voted, takes, ByTold, Named, serial, OnlyAborts, Each, Facts}
 use Rattle.co_law_base.proofs.Carrying.{one_belongs, settled_alive, settled_home, settled_from, by_coord_begun}
-use Rattle.co_law_base.proofs.TwoViews.{committed_both}
 use Rattle.co_law_base.proofs.Commits.{unended_seen}
-use Rattle.co_law_base.proofs.VoteMoves.{as_settled}
 use Rattle.co_law_base.proofs.LogMoves.{as_belongs}
 use Rattle.co_law_moves.proofs.Growing.{Grows}
-use Rattle.co_law_moves.proofs.Derived.{files_sound}
 
 pub each_at : {A : Type 0} (P : A → Type 0) (ds later earlier : List A) (d : A) → Each P ds → ds ≡ later ++ d ∷ earlier → P d
 each_at {A} P ds later earlier d e q = by later (subst (Each P) q e)

@@ -1,20 +1,14 @@
 -- What is said of quiet states: a timer ends an open transaction for good.
-use Rattle.std.specs.Prelude.{ℕ, Bool, true, false, ◌||◌, ◌==◌, ◌≡◌, ◌≤◌, List, [], ◌∷◌}
-use Rattle.co_base.specs.declared.head.Kind.{Kind}
+use Rattle.std.specs.Prelude.{ℕ, Bool, true, false, ◌||◌, ◌==◌, ◌≡◌, List, [], ◌∷◌}
 use Rattle.co_base.specs.declared.node.Node.{Node}
 use Rattle.co_base.specs.declared.node.Node.TheVariants as node
 use Rattle.co_message.specs.declared.answer.Answer.{Answer}
 use Rattle.co_message.specs.declared.answer.Answer.TheVariants as answer
 use Rattle.co_message.specs.declared.answer.Cause.TheVariants as cause
-use Rattle.co_message.specs.declared.event.Event.{Event}
 use Rattle.co_message.specs.declared.event.Event.TheVariants as event
 use Rattle.co_message.specs.declared.item.ItemKind.TheVariants as item
-use Rattle.co_state.specs.Table.{look}
 use Rattle.co_plain.specs.declared.happening.Happening.{Happening}
 use Rattle.co_plain.specs.declared.happening.Happening.TheVariants as happening
-use Rattle.co_plain.specs.MemberView.{recovered_view}
-use Rattle.co_plain.specs.Decisions.{votes_for}
-use Rattle.co_plain.specs.Opening.{Found, OnlyOwnLogs}
 use Rattle.co_plain.specs.Federation.{Federation}
 use Rattle.co_plain.specs.Step.{step}
 use Rattle.co_plain.specs.CommitmentOrder.{Trace, Began, Operated, Committed, trace_of}
