@@ -1,16 +1,18 @@
 -- A log that was attached, from all that its attaching says.
-use Rattle.std.proofs.Common.{◌≡◌, Bool, false, Option, Result, Ok, Err, IfOk}
+use Rattle.std.proofs.Common.{◌≡◌, Bool, false, Option, Result, Ok, Err, IfOk, subst, sym}
 use Rattle.std.specs.Prelude.{OnOk}
 use Rattle.co_base.specs.Nodes.{IsValidNode}
 use Rattle.co_base.specs.declared.node.Node.{Node}
 use Rattle.co_disk.specs.DiskView.{DiskView}
 use Rattle.co_outside.specs.declared.spot.Spot.{Spot}
-use Rattle.co_outside.specs.Home.{File}
+use Rattle.co_outside.specs.Home.{File, HomeView}
 use Rattle.co_frame.specs.LogText.{most_log_bytes}
 use Rattle.co_log.specs.declared.fault.LogFault.{LogFault}
 use Rattle.co_log.specs.Attaching.{IsAttached, IsToldAs, IsWithin}
 use Rattle.co_log.specs.Fresh.{IsFresh}
-use Rattle.co_log.specs.LogView.{LogView, spot_of}
+use Rattle.co_log.specs.LogView.{LogView, IsHeld, spot_of}
+use Rattle.co_log.proofs.Ordered.{attached_unarmed}
+use Rattle.co_opening.specs.Kept.{IsOwnLog}
 use Rattle.co_opening.specs.Attached.{IsAttachedTo}
 use Rattle.co_opening.specs.InUse.{IsUnusedNode}
 
@@ -30,3 +32,17 @@ pub attached_result : (file : Spot → Option File) (resume : Bool) (node : Node
     → OnOk result (IsWithin most_log_bytes (file (spot_of node 0)) × IsWithin most_log_bytes (file (spot_of node 1))) → IfOk result (IsAttachedTo file resume node)
 attached_result file resume node (Ok log) valid told none fresh within = attached_to file resume node log valid told none fresh within
 attached_result file resume node (Err e) valid told none fresh within = tt
+
+-- and the directory keeps it
+pub kept_result : (old new : HomeView) (node : Node) (result : Result LogView LogFault)
+    → IfOk result (λ log. (a : DiskView) × (b : DiskView) × IsToldAs (spot_of node 0) (old.file (spot_of node 0)) a × IsToldAs (spot_of node 1) (old.file (spot_of node 1)) b × IsAttached node a b log)
+    → IfOk result (IsHeld new) → OnOk result (IsWithin most_log_bytes (old.file (spot_of node 0)) × IsWithin most_log_bytes (old.file (spot_of node 1)))
+    → new.file (spot_of node 0) ≡ old.file (spot_of node 0) → new.file (spot_of node 1) ≡ old.file (spot_of node 1) → IfOk result (IsOwnLog new node)
+kept_result old new node (Ok log) told held within same_a same_b = record {
+  owned = (attached_unarmed node told.0 told.1 log told.4).0;
+  kept = record {
+    held = held;
+    within = record { a = subst (IsWithin most_log_bytes) (sym same_a) within.0; b = subst (IsWithin most_log_bytes) (sym same_b) within.1 };
+  };
+}
+kept_result old new node (Err e) told held within same_a same_b = tt

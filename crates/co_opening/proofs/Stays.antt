@@ -33,8 +33,8 @@ stays_on node old mid new one two = record {
   reach_b = two.reach_b ∙ one.reach_b;
 }
 
-agrees_on : (file after : Option File) (reach further : ℕ) (bytes : List ℕ) → after ≡ file → further ≡ reach → Agrees file reach bytes → Agrees new bytes
-agrees_on old new bytes same still agrees = record { told = λ f is. agrees.told f (sym same ∙ is); room = omega (arith, agrees.room, still) }
+agrees_on : (old new : HomeView) (spot : Spot) (bytes : List ℕ) → new.file spot ≡ old.file spot → new.reach spot ≡ old.reach spot → Agrees old spot bytes → Agrees new spot bytes
+agrees_on old new spot bytes same still agrees = record { told = λ f is. agrees.told f (sym same ∙ is); room = omega (arith, agrees.room, still) }
 
 -- what is so at both files of a node is so at each file of its log
 at_each : (Stays : Spot → Type 0) (log : LogView) → HasSpots log → Stays (spot_of log.node 0) → Stays (spot_of log.node 1) → Stays log.current.spot × Stays log.spare.spot

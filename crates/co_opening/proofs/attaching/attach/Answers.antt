@@ -1,11 +1,15 @@
 use Rattle.co_log.specs.LogView.{spot_of}
 use Rattle.co_durable.proofs.Spots.{all_stay}
-use Rattle.co_opening.proofs.Attachings.{attached_result}
+use Rattle.co_opening.proofs.Attachings.{attached_result, kept_result}
 use Rattle.co_opening.proofs.attaching.attach.Goals as goal
 
 pub returns-clause-attached : goal.returns-clause-attached
 returns-clause-attached g c =
     attached_result (g.H.Home.seen c.args.home.now).file c.args.resume c.args.node c.attach.result c.requires c.attach.ensures.attached c.attach.ensures.unused c.attach.ensures.fresh c.attach.ensures.short
+
+pub returns-clause-kept : goal.returns-clause-kept
+returns-clause-kept g c =
+    kept_result (g.H.Home.seen c.args.home.now) (g.H.Home.seen c.attach.new.home) c.args.node c.attach.result c.attach.ensures.attached c.attach.ensures.held c.attach.ensures.short c.attach.ensures.file_a c.attach.ensures.file_b
 
 pub returns-clause-reads : goal.returns-clause-reads
 returns-clause-reads g c = record {
