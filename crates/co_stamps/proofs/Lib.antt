@@ -1,0 +1,3 @@
+mod Ranging
+mod Agreeing
+mod Leading
