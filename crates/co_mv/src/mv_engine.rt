@@ -144,7 +144,7 @@ impl MvEngine {
         let own = take(alloc, &mut self.sets, t);
         let pairs = pairs_made(alloc, &self.sets, t, &own, op)?;
         let sets = grown(own, op)?;
-        self.archive.enter(t)?;
+        self.archive.enter(alloc, t)?;
         self.sets.insert(t, sets)?;
         Ok(pairs)
     }

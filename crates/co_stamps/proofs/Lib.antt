@@ -1,3 +1,3 @@
 mod Ranging
-mod Agreeing
+pub mod Agreeing
 mod Leading
