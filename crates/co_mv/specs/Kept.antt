@@ -9,7 +9,8 @@ use Rattle.co_mv.specs.declared.archive.Archive.{Archive}
 use Rattle.co_mv.specs.declared.mv_engine.MvEngine.{MvEngine}
 use Rattle.co_mv.specs.declared.version.Version.{Version}
 use Rattle.co_mv.specs.Chains.{Chains, chain_of}
-use Rattle.co_mv.specs.NewPairs.{or_nothing}
+use Rattle.co_index.specs.NewPairs.{or_nothing}
+use Rattle.co_index.specs.Touching.{IsIndexed, gone_from}
 use Rattle.co_mv.specs.Reading.{all_noted, laid_within}
 use Rattle.co_mv.specs.Recents.{Recents, keys_at, has_key}
 use Rattle.co_base.specs.Span.{Span, span_has}
@@ -121,6 +122,11 @@ pub record StandsFor (e : MvEngine) (b : EngineState) : Type 0 where
   pub kind_is : Mv ≡ b.kind
   pub keeps : Keeps e.archive b.base b.installed
   pub each : (t : ℕ) → IsKept (look e.archive.snapshots.stamps t) (look e.sets t) (look b.active t) (look b.voted t)
+  pub indexed : IsIndexed e.index e.sets
+
+-- what a transaction read and wrote is taken out
+abbrev pub without_own : MvEngine → ℕ → MvEngine
+without_own e t = record e { sets = without e.sets t; index = gone_from e.index t (look e.sets t) }
 
 -- the records of a range that the next operation of a transaction sees
 abbrev pub visible_within : MvEngine → ℕ → Span → Records

@@ -1,7 +1,10 @@
-use Rattle.std.proofs.Common.{take, ◌∙◌}
+use Rattle.std.proofs.Common.{Result, Ok, Err, OnErr, take, ◌∙◌}
 use Rattle.co_engine.specs.Calls.{Appends}
-use Rattle.co_mv.proofs.Outcomes.{on_err}
-use Rattle.co_mv.proofs.new_pairs.append.Goals as goal
+use Rattle.co_index.proofs.appended.append.Goals as goal
+
+on_err : {X E : Type 0} (r : Result X E) {A : Type 0} → A → OnErr r A
+on_err (Ok x) h = tt
+on_err (Err e) h = h
 
 pub returns-in_err-push-clause-err : goal.returns-in_err-push-clause-err
 returns-in_err-push-clause-err c =

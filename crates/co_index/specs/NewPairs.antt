@@ -1,5 +1,5 @@
 -- The pairs that an operation makes with other undecided transactions, by what these read and wrote.
-use Rattle.std.specs.Prelude.{ℕ, Bool, ◌&&◌, not, nat_lt, List, [], ◌∷◌, ◌++◌, map, if◌then◌else◌, Option, None, Some}
+use Rattle.std.specs.Prelude.{ℕ, Bool, false, ◌&&◌, not, nat_lt, List, [], ◌∷◌, ◌++◌, map, if◌then◌else◌, Option, None, Some}
 use Rattle.co_base.specs.Span.{Span}
 use Rattle.co_base.specs.declared.op.Op.{Op}
 use Rattle.co_base.specs.declared.written.Written.{Written}
@@ -7,12 +7,23 @@ use Rattle.co_state.specs.declared.engine_state.Sets.{Sets}
 use Rattle.co_state.specs.declared.pair.Pair.{Pair}
 use Rattle.co_state.specs.declared.pair.PairKind.TheVariants.{Reads, Writes}
 use Rattle.co_state.specs.Changes.{span_read, change_made, with_span, with_written, no_sets}
+use Rattle.co_state.specs.Table.{Table, look}
 use Rattle.co_state.specs.Keys.{reads_key, writes_key, writes_within, reads_meet, writes_meet}
 
 -- the numbers of the entries that pass a test
-abbrev pub found_in : (ℕ → Sets → Bool) → List (ℕ × Sets) → List ℕ
+abbrev pub found_in : {X : Type 0} → (ℕ → X → Bool) → List (ℕ × X) → List ℕ
 found_in test [] = []
 found_in test (e ∷ es) = if test e.0 e.1 then e.0 ∷ found_in test es else found_in test es
+
+-- a test of an entry, if there is one
+abbrev pub passes : {X : Type 0} → (X → Bool) → Option X → Bool
+passes test None = false
+passes test (Some x) = test x
+
+-- the numbers among some whose entries pass a test
+abbrev pub found_at : {X : Type 0} → (ℕ → X → Bool) → Table X → List (ℕ × Unit {0}) → List ℕ
+found_at test all [] = []
+found_at test all (e ∷ es) = if passes (test e.0) (look all e.0) then e.0 ∷ found_at test all es else found_at test all es
 
 -- the pairs of a transaction with others
 abbrev pub reads_pair : ℕ → ℕ → Pair
