@@ -7,5 +7,6 @@ mod Blocking
 mod Fitting
 mod Rolling
 mod Pairing
+mod Reading
 mod Standing
 mod Restoring

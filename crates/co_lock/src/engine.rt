@@ -18,15 +18,18 @@ ghost use Rattle.co_state.specs.Table.{look, without};
 ghost use Rattle.co_engine.specs.Calls.{may_operate, seen_of, writing, votes_of, Appends, AppendsNewPairs};
 ghost use Rattle.co_lock.specs.Locked.{IsLocked};
 ghost use Rattle.co_lock.specs.LockedState.{LockedState, IsClear, with_writes};
-ghost use Rattle.co_lock.specs.Standing.{StandsFor};
+ghost use Rattle.co_index.specs.Touching.{gone_from};
+ghost use Rattle.co_lock.specs.Standing.{StandsFor, TellsReads};
+ghost use Rattle.std.specs.Option.{option_map};
 ghost use Rattle.co_lock.specs.Undecided.{or_new, with_range, with_change_of, newly_reads, found_in, read_by_pair, own};
 
 use crate::dumping::dump_in_place;
 use crate::locked_store::LockedStore;
-use crate::pairs::{append, pairs_made};
+use crate::pairs::pairs_made;
 use crate::undecided::{Roll, Undecided};
 use co_base::{Key, Kind, Op, Range, Ranges, Reply, Rows, Txn, Value, Writes, Written};
 use co_engine::{Dump, Engine, Seen};
+use co_index::{Index, append};
 use co_pairs::{Pairs, Prepared, Sets};
 use co_state::{RecordMap, put_change, put_range, records_from};
 use std::alloc::{AllocError, Global};
@@ -37,6 +40,7 @@ use std::alloc::{AllocError, Global};
 pub struct LockEngine {
     place: LockedStore,
     roll: Roll,
+    readers: Index,
     nothing: Sets,
 }
 
@@ -77,12 +81,18 @@ fn note_read(alloc: Global, roll: &mut Roll, t: Txn, range: Range) -> Result<(),
 }
 
 /// A transaction made a change. Gives the pairs that the change makes.
-fn note_write(alloc: Global, roll: &mut Roll, t: Txn, change: Written) -> Result<Pairs, AllocError>
+fn note_write(
+    alloc: Global,
+    roll: &mut Roll,
+    readers: &Index,
+    t: Txn,
+    change: Written,
+) -> Result<Pairs, AllocError>
     ensures roll { OnOk result (roll.new ≡ with_change_of roll.old t change) }
-    ensures pairs { IfOk result (λ pairs. pairs ≡ map (read_by_pair t) (found_in (newly_reads change.key (own roll.old t).sets.writes) (entries (without roll.old t)))) }
+    ensures pairs { TellsReads readers.now roll.old → IfOk result (λ pairs. pairs ≡ map (read_by_pair t) (found_in (newly_reads change.key (own roll.old t).sets.writes) (entries (without roll.old t)))) }
 {
     let own = take(alloc, roll, t);
-    let pairs = pairs_made(alloc, roll, t, &change.key, &own.sets)?;
+    let pairs = pairs_made(alloc, readers, roll, t, &change.key, &own.sets)?;
     let sets = own.sets;
     let mut writes = sets.writes.into_vec();
     put_change(&mut writes, change)?;
@@ -92,6 +102,17 @@ fn note_write(alloc: Global, roll: &mut Roll, t: Txn, change: Written) -> Result
     };
     roll.put(t, Undecided { voted: false, sets })?;
     Ok(pairs)
+}
+
+/// Takes an undecided transaction out. Takes no memory.
+fn take_out(roll: &mut Roll, readers: &mut Index, t: Txn)
+    ensures roll { roll.new ≡ without roll.old t }
+    ensures readers { readers.new ≡ gone_from readers.old t (option_map (λ e. e.sets) (look roll.old t)) }
+{
+    match roll.take(t) {
+        Some(undecided) => readers.forget(&undecided.sets, t),
+        None => {}
+    }
 }
 
 /// An equal value, if there is one.
@@ -137,6 +158,7 @@ impl LockEngine {
         ensures { (rows : List Row) (ps : List Prepared) → StandsFor self.old (restored Lock (records_from rows) (votes_of ps)) → clashes_with prepared.now ps ≡ false → OnOk result (StandsFor self.new (restored Lock (records_from rows) (votes_of (prepared.now ∷ ps)))) }
     {
         lay_changes(&mut self.place, prepared.txn, prepared.sets.writes())?;
+        self.readers.add_sets(alloc, &prepared.sets, prepared.txn)?;
         self.roll.put(
             prepared.txn,
             Undecided {
@@ -175,6 +197,7 @@ impl LockEngine {
         ensures { (b : EngineState) (op : Op) → StandsFor self.old b → IsTrue (may_operate b t) → span_read op ≡ Some range → change_made op ≡ None → lock_blocker b t op ≡ None → OnOk result (StandsFor self.new (with_operation b t op)) }
     {
         self.place.read(t, &range)?;
+        self.readers.add_read(alloc, &range, t)?;
         note_read(alloc, &mut self.roll, t, range)
     }
 
@@ -184,7 +207,7 @@ impl LockEngine {
         ensures pairs { (b : EngineState) (op : Op) → StandsFor self.old b → IsTrue (may_operate b t) → span_read op ≡ None → change_made op ≡ Some change → lock_blocker b t op ≡ None → IfOk result (AreNewPairs b (with_operation b t op)) }
     {
         self.place.write(t, &change.key, lent(&change.value))?;
-        note_write(alloc, &mut self.roll, t, change)
+        note_write(alloc, &mut self.roll, &self.readers, t, change)
     }
 
     /// Adds an operation to its transaction, which is not blocked, and gives the pairs that it makes.
@@ -270,6 +293,7 @@ impl Engine for LockEngine {
         let mut engine = LockEngine {
             place: LockedStore::of_rows(alloc, rows)?,
             roll: Roll::new(alloc),
+            readers: Index::new(alloc),
             nothing: Sets::new(alloc),
         };
         let mut place = voted.len();
@@ -331,13 +355,13 @@ impl Engine for LockEngine {
     }
 
     fn install(&mut self, alloc: Global, t: Txn) -> Result<(), AllocError> {
-        let _ = self.roll.take(t);
+        take_out(&mut self.roll, &mut self.readers, t);
         self.place.keep(t);
         Ok(())
     }
 
     fn drop_txn(&mut self, t: Txn) {
-        let _ = self.roll.take(t);
+        take_out(&mut self.roll, &mut self.readers, t);
         self.place.undo(t);
     }
 

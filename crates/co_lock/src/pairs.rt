@@ -1,13 +1,16 @@
 //! The pairs that a write makes.
-ghost use Rattle.std.specs.Prelude.{◌≡◌, ◌++◌, map, IfOk, OnOk, OnErr};
+ghost use Rattle.std.specs.Prelude.{◌≡◌, map, IfOk};
 ghost use Rattle.std.specs.FinMap.{entries};
-ghost use Rattle.co_engine.specs.Calls.{Appends};
+ghost use Rattle.co_index.specs.NewPairs.{passes, found_at};
+ghost use Rattle.co_lock.specs.Standing.{TellsReads};
+ghost use Rattle.co_state.specs.Table.{look};
 ghost use Rattle.co_lock.specs.Undecided.{newly_reads, found_in, read_by_pair};
 
 use crate::undecided::{Roll, Undecided};
 use co_base::{Key, Txn};
+use co_index::Index;
 use co_pairs::{Pair, PairKind, Pairs, Sets};
-use co_state::{reads_key, reads_meet};
+use co_state::{Table, reads_key, reads_meet};
 use std::alloc::{AllocError, Global};
 
 /// Whether a transaction voted and read the key, and read nothing that the writer wrote before.
@@ -19,20 +22,30 @@ fn newly_reads(key: &Key, before: &Sets, other: &Undecided) -> bool
         && !reads_meet(other.sets.reads(), before.writes())
 }
 
-/// The pairs that a transaction makes by a write of a key which no other one wrote and no active one read:
-/// those with the voted readers of the key.
-pub fn pairs_made(
+/// The same of a transaction that may be absent.
+fn is_reader(others: &Roll, u: Txn, key: &Key, before: &Sets) -> bool
+    ensures { result ≡ passes (newly_reads key.now before.now.writes) (look others.now u) }
+{
+    match others.get(u) {
+        Some(other) => newly_reads(key, before, other),
+        None => false,
+    }
+}
+
+/// The pairs of a transaction with those of some others that voted and read the key which it writes now.
+fn pairs_among(
     alloc: Global,
+    found: &Table<()>,
     others: &Roll,
     t: Txn,
     key: &Key,
     before: &Sets,
 ) -> Result<Pairs, AllocError>
-    ensures { IfOk result (λ pairs. pairs ≡ map (read_by_pair t) (found_in (newly_reads key.now before.now.writes) (entries others.now))) }
+    ensures { IfOk result (λ pairs. pairs ≡ map (read_by_pair t) (found_at (λ u. newly_reads key.now before.now.writes) others.now (entries found.now))) }
 {
     let mut pairs = Pairs::new(alloc);
-    for (u, other) in others.iter() {
-        if newly_reads(key, before, other) {
+    for (u, _) in found.iter() {
+        if is_reader(others, *u, key, before) {
             pairs.push(Pair {
                 by: PairKind::Reads,
                 first: *u,
@@ -43,13 +56,18 @@ pub fn pairs_made(
     Ok(pairs)
 }
 
-/// Adds pairs at the end of a list. After want of memory the list begins with what it held.
-pub fn append(pairs: &mut Pairs, more: &Pairs) -> Result<(), AllocError>
-    ensures ok { OnOk result (pairs.new ≡ pairs.old ++ more.now) }
-    ensures err { OnErr result (Appends pairs.old pairs.new) }
+/// The pairs that a transaction makes by a write of a key which no other one wrote and no active one read:
+/// those with the voted readers of the key. The index tells what the others read.
+pub fn pairs_made(
+    alloc: Global,
+    readers: &Index,
+    others: &Roll,
+    t: Txn,
+    key: &Key,
+    before: &Sets,
+) -> Result<Pairs, AllocError>
+    ensures { TellsReads readers.now others.now → IfOk result (λ pairs. pairs ≡ map (read_by_pair t) (found_in (newly_reads key.now before.now.writes) (entries others.now))) }
 {
-    for pair in more.as_slice() {
-        pairs.push(*pair)?;
-    }
-    Ok(())
+    let found = readers.may_read(alloc, key)?;
+    pairs_among(alloc, &found, others, t, key, before)
 }

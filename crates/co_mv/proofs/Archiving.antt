@@ -23,7 +23,7 @@ use Rattle.co_mv.specs.Recents.{Recents, keys_at, has_key, keys_in}
 use Rattle.co_mv.specs.Versions.{later, last_change, base_versions, closed_by, closed, versions_of, written_over, is_before, sees, is_kept}
 use Rattle.co_mv.proofs.Chaining.{chain-insert, chain-rewritten_all, after_change, fresh, filter-twice, each_one}
 use Rattle.co_mv.proofs.Needing.{tied, some_same, any-needed, kept_to, kept_fewer, Each, each_link, filter-within, filter-alike, closed-closed, each_closed, grown_alike, never_kept, closed_kept, sees_open}
-use Rattle.co_mv.proofs.Versioning.{le_true, true_le, true_lt, and_first, and_second, IsLink, Linked, linked, IsWritten, wrote_bound, get-with_change}
+use Rattle.co_mv.proofs.Versioning.{le_true, true_le, lt_true, true_lt, and_first, and_second, IsLink, Linked, linked, IsWritten, wrote_bound, get-with_change}
 
 -- ---- at the start
 base-cond : (b : Bool) (v o : Option (List ℕ)) → cond b (base_versions v) (base_versions o) ≡ base_versions (cond b v o)
@@ -178,15 +178,55 @@ left_kept is key s t m next at after none v end l = kept_to s (left s t) v (λ n
             let a : m < v.written = grind (arith, nat_tests) in
             absurd (none v.written a (all next after.is_needed) (not_zero is key m v.written a l.begun))
 
+-- the same where no install after an earlier needed number and up to that of the transaction wrote the key
+left_kept_below : (is : List Install) (key : List ℕ) (s : Snapshots) (t m before : ℕ) → look s.stamps t ≡ Some m → IsNeeded (left s t) before → before < m → Unwritten is key before m
+    → (v : Version) (end : Option ℕ) → IsLink is key end v → is_kept (needed s) v ≡ true → is_kept (needed (left s t)) v ≡ true
+left_kept_below is key s t m before at there l none v end link = kept_to s (left s t) v (λ n h e. seen n e (left_case s t m n at h)) (λ all n h. gone all n (left_case s t m n at h))
+  where
+    written_before : v.written ≤ m → v.written ≤ before
+    written_before a = by (nat_le v.written before) refl
+      where
+        by : (b : Bool) → nat_le v.written before ≡ b → v.written ≤ before
+        by true f = true_le v.written before f
+        by false f = let g : before < v.written = grind (arith, nat_tests) in absurd (none v.written g a (not_zero is key before v.written g link.begun))
+
+    still_open : (end : Option ℕ) → end ≡ v.overwritten → is_before m end ≡ true → is_before before end ≡ true
+    still_open None e h = refl
+    still_open (Some o) e h = let a : m < o = true_lt m o h in lt_true before o (omega (arith, a, l))
+
+    seen : (n : ℕ) → sees n v ≡ true → IsNeeded (left s t) n ⊎ (n ≡ m) → (k : ℕ) × IsNeeded (left s t) k × (sees k v ≡ true)
+    seen n e (inl h) = (n, h, e)
+    seen n e (inr x) =
+        let f : sees m v ≡ true = ap (λ j. sees j v) (sym x) ∙ e in
+        let a : v.written ≤ m = true_le v.written m (and_first (nat_le v.written m) (is_before m v.overwritten) f) in
+        (before, there, (λ i. le_true v.written before (written_before a) i && still_open v.overwritten refl (and_second (nat_le v.written m) (is_before m v.overwritten) f) i))
+
+    gone : ((k : ℕ) → IsNeeded (left s t) k → v.written ≤ k) → (n : ℕ) → IsNeeded (left s t) n ⊎ (n ≡ m) → v.written ≤ n
+    gone all n (inl h) = all n h
+    gone all n (inr x) = let a : v.written ≤ before = all before there in omega (arith, a, x, l)
+
 -- nothing is kept of installs that all active transactions saw
 pub record Ends (s : Snapshots) (recents : Recents) : Type 0 where
   pub seen : (n : ℕ) → ((t m : ℕ) → look s.stamps t ≡ Some m → n ≤ m) → keys_at recents n ≡ []
   pub bound : (n : ℕ) → s.installs < n → keys_at recents n ≡ []
 
-keeps_left_at : (a b : Archive) (base : Records) (is : List Install) (t m next : ℕ) → look a.snapshots.stamps t ≡ Some m → b.snapshots ≡ left a.snapshots t → IsNext (left a.snapshots t) m next
-    → IsPruned (is_kept (needed (left a.snapshots t))) a.recents m next a.chains b.chains
+-- versions of a key that no install of a window wrote are kept as before
+abbrev pub StayKept : Archive → List Install → ℕ → ℕ → ℕ → Type 0
+StayKept a is t from to =
+    (key : List ℕ) → ((n : ℕ) → from < n → n ≤ to → has_key (keys_at a.recents n) key ≡ false)
+    → (v : Version) (end : Option ℕ) → IsLink is key end v → is_kept (needed a.snapshots) v ≡ true → is_kept (needed (left a.snapshots t)) v ≡ true
+
+pub stay_kept_above : (a : Archive) (base : Records) (is : List Install) (t m next : ℕ) → look a.snapshots.stamps t ≡ Some m → IsNext (left a.snapshots t) m next → Keeps a base is → StayKept a is t m next
+stay_kept_above a base is t m next at after k key none = left_kept is key a.snapshots t m next at after (λ n x y w. true≢false (sym (k.recents_are t m n key at x w) ∙ none n x y))
+
+pub stay_kept_below : (a : Archive) (base : Records) (is : List Install) (t m u before : ℕ) → look a.snapshots.stamps t ≡ Some m → look (left a.snapshots t).stamps u ≡ Some before → before < m → Keeps a base is → StayKept a is t before m
+stay_kept_below a base is t m u before at there l k key none =
+    left_kept_below is key a.snapshots t m before at (inr (u, there)) l (λ n x y w. true≢false (sym (k.recents_are u before n key (left_at a.snapshots t u before there) x w) ∙ none n x y))
+
+keeps_left_at : (a b : Archive) (base : Records) (is : List Install) (t from to : ℕ) → b.snapshots ≡ left a.snapshots t → StayKept a is t from to
+    → IsPruned (is_kept (needed (left a.snapshots t))) a.recents from to a.chains b.chains
     → ((u k n : ℕ) → look (left a.snapshots t).stamps u ≡ Some k → k < n → keys_at b.recents n ≡ keys_at a.recents n) → Ends (left a.snapshots t) b.recents → Keeps a base is → Keeps b base is
-keeps_left_at a b base is t m next at es after pruned recents ends k = record {
+keeps_left_at a b base is t from to es stay pruned recents ends k = record {
   installs_are = ap (λ x. x.installs) es ∙ k.installs_are;
   stamps_are = λ u n e. below u n (left_at a.snapshots t u n (ap (λ x. look x.stamps u) (sym es) ∙ e));
   chains_are = λ key. by key (pruned key) ∙ ap (λ x. filter (is_kept (needed x)) (versions_of base is key)) (sym es);
@@ -204,7 +244,7 @@ keeps_left_at a b base is t m next at es after pruned recents ends k = record {
     fewer v = kept_fewer a.snapshots (left a.snapshots t) v (left_to a.snapshots t)
 
     by : (key : List ℕ) → (chain_of b.chains key ≡ filter (is_kept (needed (left a.snapshots t))) (chain_of a.chains key))
-        ⊎ ((chain_of b.chains key ≡ chain_of a.chains key) × ((n : ℕ) → m < n → n ≤ next → has_key (keys_at a.recents n) key ≡ false))
+        ⊎ ((chain_of b.chains key ≡ chain_of a.chains key) × ((n : ℕ) → from < n → n ≤ to → has_key (keys_at a.recents n) key ≡ false))
         → chain_of b.chains key ≡ filter (is_kept (needed (left a.snapshots t))) (versions_of base is key)
     by key (inl e) =
         e ∙ ap (filter (is_kept (needed (left a.snapshots t)))) (k.chains_are key)
@@ -213,13 +253,13 @@ keeps_left_at a b base is t m next at es after pruned recents ends k = record {
         e.0 ∙ k.chains_are key
         ∙ filter-alike (is_kept (needed a.snapshots)) (is_kept (needed (left a.snapshots t))) (versions_of base is key)
         (each_link is key (λ v. is_kept (needed a.snapshots) v ≡ is_kept (needed (left a.snapshots t)) v) None (versions_of base is key) (linked base is key)
-        (λ v end l. both_ways _ _ (left_kept is key a.snapshots t m next at after (λ n x y w. true≢false (sym (k.recents_are t m n key at x w) ∙ e.1 n x y)) v end l) (fewer v)))
+        (λ v end l. both_ways _ _ (stay key e.1 v end l) (fewer v)))
 
-pub keeps_left : (a b : Archive) (base : Records) (is : List Install) (t m next : ℕ) → look a.snapshots.stamps t ≡ Some m → b.snapshots ≡ left a.snapshots t → IsNext b.snapshots m next
-    → IsPruned (is_kept (needed b.snapshots)) a.recents m next a.chains b.chains
+pub keeps_left : (a b : Archive) (base : Records) (is : List Install) (t from to : ℕ) → b.snapshots ≡ left a.snapshots t → StayKept a is t from to
+    → IsPruned (is_kept (needed b.snapshots)) a.recents from to a.chains b.chains
     → ((u k n : ℕ) → look b.snapshots.stamps u ≡ Some k → k < n → keys_at b.recents n ≡ keys_at a.recents n) → Ends b.snapshots b.recents → Keeps a base is → Keeps b base is
-keeps_left a b base is t m next at es after pruned recents ends k =
-    keeps_left_at a b base is t m next at es (subst (λ s. IsNext s m next) es after) (subst (λ s. IsPruned (is_kept (needed s)) a.recents m next a.chains b.chains) es pruned)
+keeps_left a b base is t from to es stay pruned recents ends k =
+    keeps_left_at a b base is t from to es stay (subst (λ s. IsPruned (is_kept (needed s)) a.recents from to a.chains b.chains) es pruned)
     (λ u x n e l. recents u x n (ap (λ s. look s.stamps u) es ∙ e) l) (subst (λ s. Ends s b.recents) es ends) k
 
 absent_stays : (s : Snapshots) (t u n : ℕ) → look s.stamps t ≡ None → look s.stamps u ≡ Some n → look (left s t).stamps u ≡ Some n

@@ -13,9 +13,11 @@ use Rattle.co_state.specs.Table.{look, put, without}
 use Rattle.co_state.proofs.Tables.{look-put, look-without}
 use Rattle.co_mv.specs.declared.archive.Archive.{Archive}
 use Rattle.co_mv.specs.declared.snapshots.Snapshots.{Snapshots}
-use Rattle.co_mv.specs.Kept.{left, IsNeeded, IsNext, Keeps}
+use Rattle.co_stamps.specs.Stamped.{IsGreatest}
+use Rattle.co_mv.specs.Kept.{needed, left, IsNeeded, IsNext, IsPruned, IsNarrowed, Keeps}
+use Rattle.co_mv.specs.Versions.{is_kept}
 use Rattle.co_mv.specs.Recents.{Recents, keys_at, keys_in}
-use Rattle.co_mv.proofs.Archiving.{Ends, Noted, left_look, left_at}
+use Rattle.co_mv.proofs.Archiving.{Ends, Noted, StayKept, stay_kept_above, stay_kept_below, keeps_left, left_look, left_at}
 use Rattle.co_mv.proofs.Chaining.{last_or}
 use Rattle.co_mv.proofs.Needing.{tied, ties-itself, some_same, find-first, found-any, any-found}
 use Rattle.co_mv.proofs.Versioning.{true_le, true_lt, same_itself}
@@ -40,18 +42,11 @@ keys-gone m k n h f = ap keys_in (look-without m (k + 1) n) ∙ by (eq_by_cmp na
         below (inl x) = absurd (true≢false (sym (ties-itself n) ∙ ap (eq_by_cmp nat_cmp n) x ∙ e))
         below (inr x) = x
 
-none_before : (s : Snapshots) (m u k : ℕ) → list_any (λ x. nat_lt x m) (map (λ e. e.1) (entries s.stamps)) ≡ false → look s.stamps u ≡ Some k → m ≤ k
-none_before s m u k none e = by (nat_lt k m) refl
-  where
-    by : (b : Bool) → nat_lt k m ≡ b → m ≤ k
-    by true f = absurd (true≢false (sym (any-found (λ x. nat_lt x m) (entries s.stamps) u k (sym (get-entries s.stamps u) ∙ e) f) ∙ none))
-    by false f = grind (arith, nat_tests)
-
 -- what is forgotten was seen by all
-pub forgotten : (s : Snapshots) (m next : ℕ) (old new : Recents) → IsNext s m next → list_any (λ x. nat_lt x m) (map (λ e. e.1) (entries s.stamps)) ≡ false → ((n : ℕ) → next < n → keys_at new n ≡ keys_at old n)
+pub forgotten : (s : Snapshots) (m next : ℕ) (old new : Recents) → IsNext s m next → ((u k : ℕ) → look s.stamps u ≡ Some k → m ≤ k) → ((n : ℕ) → next < n → keys_at new n ≡ keys_at old n)
     → (u k n : ℕ) → look s.stamps u ≡ Some k → k < n → keys_at new n ≡ keys_at old n
 forgotten s m next old new after none same u k n e l =
-    let a : m ≤ k = none_before s m u k none e in
+    let a : m ≤ k = none u k e in
     let b : next ≤ k = after.is_least u k e a in
     same n (omega (arith, b, l))
 
@@ -83,18 +78,16 @@ left_ends a base is t m next s new k at es after later gone earlier = record {
         inside true g = gone n (grind (arith, nat_tests)) (true_le n next g)
         inside false g = behind n h (grind (arith, nat_tests)) after.is_needed
 
-pub left_ends_before : (a : Archive) (base : Records) (is : List Install) (t m : ℕ) (s : Snapshots) → Keeps a base is → look a.snapshots.stamps t ≡ Some m → s ≡ left a.snapshots t
-    → list_any (λ x. nat_lt x m) (map (λ e. e.1) (entries s.stamps)) ≡ true → Ends s a.recents
-left_ends_before a base is t m s k at es some =
-    let r = found-any (λ x. nat_lt x m) (entries s.stamps) (entries_sorted s.stamps) some in
-    record {
-      seen = λ n h. k.recents_end n (λ u x e. all n (h r.0 r.1 (get-entries s.stamps r.0 ∙ r.2)) (true_lt r.1 m r.3) h u x (eq_by_cmp nat_cmp u t) refl e);
-      bound = λ n h. k.recents_bound n (let i : s.installs ≡ a.snapshots.installs = ap (λ x. x.installs) es in omega (arith, h, i));
-    }
+pub left_ends_before : (a : Archive) (base : Records) (is : List Install) (t m v y : ℕ) (s : Snapshots) → Keeps a base is → look a.snapshots.stamps t ≡ Some m → s ≡ left a.snapshots t
+    → look s.stamps v ≡ Some y → y < m → Ends s a.recents
+left_ends_before a base is t m v y s k at es there before = record {
+  seen = λ n h. k.recents_end n (λ u x e. all n (h v y there) h u x (eq_by_cmp nat_cmp u t) refl e);
+  bound = λ n h. k.recents_bound n (let i : s.installs ≡ a.snapshots.installs = ap (λ x. x.installs) es in omega (arith, h, i));
+}
   where
-    all : (n : ℕ) {y : ℕ} → n ≤ y → y < m → ((u x : ℕ) → look s.stamps u ≡ Some x → n ≤ x) → (u x : ℕ) (b : Bool) → eq_by_cmp nat_cmp u t ≡ b → look a.snapshots.stamps u ≡ Some x → n ≤ x
-    all n p q h u x true y e = let z : x ≡ m = some_same x m (sym e ∙ ap (look a.snapshots.stamps) (tied u t y) ∙ at) in omega (arith, p, q, z)
-    all n p q h u x false y e = h u x (ap (λ z. look z.stamps u) es ∙ left_look a.snapshots t u ∙ ap (λ b. cond b None (look a.snapshots.stamps u)) y ∙ e)
+    all : (n : ℕ) → n ≤ y → ((u x : ℕ) → look s.stamps u ≡ Some x → n ≤ x) → (u x : ℕ) (b : Bool) → eq_by_cmp nat_cmp u t ≡ b → look a.snapshots.stamps u ≡ Some x → n ≤ x
+    all n p h u x true z e = let w : x ≡ m = some_same x m (sym e ∙ ap (look a.snapshots.stamps) (tied u t z) ∙ at) in omega (arith, p, before, w)
+    all n p h u x false z e = h u x (ap (λ z. look z.stamps u) es ∙ left_look a.snapshots t u ∙ ap (λ b. cond b None (look a.snapshots.stamps u)) z ∙ e)
 
 -- ---- the keys of the newest install
 same_number : (m n : ℕ) (b : Bool) → (m == n) ≡ false → eq_by_cmp nat_cmp m n ≡ b → b ≡ false
@@ -122,3 +115,32 @@ noted_none a n ws e = record {
   others = λ m h. refl;
   read = inl refl;
 }
+
+-- ---- a transaction leaves
+-- another one reads at an earlier number, so that nothing is forgotten
+pub keeps_narrowed : (a b : Archive) (base : Records) (is : List Install) (t m next before : ℕ) (window : ℕ × ℕ) → look a.snapshots.stamps t ≡ Some m → IsNext (left a.snapshots t) m next → IsGreatest (left a.snapshots t).stamps m before
+    → (window ≡ (before, m)) ⊎ (window ≡ (m, next)) → IsNarrowed window.0 window.1 (record { snapshots = left a.snapshots t; chains = a.chains; recents = a.recents }) b → Keeps a base is → Keeps b base is
+keeps_narrowed a b base is t m next before window at after earlier w n k =
+    keeps_left a b base is t window.0 window.1 n.snapshots_stay (by w)
+    (subst (λ s. IsPruned (is_kept (needed s)) a.recents window.0 window.1 a.chains b.chains) (sym n.snapshots_stay) n.pruned)
+    (λ u x j e l. ap (λ r. keys_at r j) n.recents_stay)
+    (subst (λ r. Ends b.snapshots r) (sym n.recents_stay)
+    (left_ends_before a base is t m earlier.is_stamp.0 before b.snapshots k at n.snapshots_stay (ap (λ s. look s.stamps earlier.is_stamp.0) n.snapshots_stay ∙ earlier.is_stamp.1) earlier.is_below)) k
+  where
+    by : (window ≡ (before, m)) ⊎ (window ≡ (m, next)) → StayKept a is t window.0 window.1
+    by (inl e) = subst (λ (p : ℕ × ℕ). StayKept a is t p.0 p.1) (sym e) (stay_kept_below a base is t m earlier.is_stamp.0 before at earlier.is_stamp.1 earlier.is_below k)
+    by (inr e) = subst (λ (p : ℕ × ℕ). StayKept a is t p.0 p.1) (sym e) (stay_kept_above a base is t m next at after k)
+
+-- it read at the least number
+pub keeps_forgotten : (a b : Archive) (base : Records) (is : List Install) (t m next : ℕ) → look a.snapshots.stamps t ≡ Some m → IsNext (left a.snapshots t) m next
+    → ((u n : ℕ) → look (left a.snapshots t).stamps u ≡ Some n → m ≤ n) → b.snapshots ≡ left a.snapshots t → IsPruned (is_kept (needed (left a.snapshots t))) a.recents m next a.chains b.chains
+    → ((n : ℕ) → next < n → keys_at b.recents n ≡ keys_at a.recents n) → ((n : ℕ) → m < n → n ≤ next → keys_at b.recents n ≡ []) → ((n : ℕ) → n ≤ m → keys_at b.recents n ≡ keys_at a.recents n)
+    → Keeps a base is → Keeps b base is
+keeps_forgotten a b base is t m next at after least es pruned later gone earlier k =
+    keeps_left a b base is t m next es (stay_kept_above a base is t m next at after k)
+    (subst (λ s. IsPruned (is_kept (needed s)) a.recents m next a.chains b.chains) (sym es) pruned)
+    (forgotten b.snapshots m next a.recents b.recents next_of (λ u n e. least u n (ap (λ s. look s.stamps u) (sym es) ∙ e)) later)
+    (left_ends a base is t m next b.snapshots b.recents k at es next_of later gone earlier) k
+  where
+    next_of : IsNext b.snapshots m next
+    next_of = subst (λ s. IsNext s m next) (sym es) after

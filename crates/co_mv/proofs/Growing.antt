@@ -15,8 +15,8 @@ use Rattle.co_state.specs.declared.engine_state.Sets.{Sets}
 use Rattle.co_state.specs.declared.pair.Pair.{Pair}
 use Rattle.co_state.specs.Changes.{put_span, put_change}
 use Rattle.co_state.specs.Keys.{reads_key, writes_key, writes_within, reads_meet, writes_meet, same_key}
-use Rattle.co_mv.specs.NewPairs as made
-use Rattle.co_mv.specs.NewPairs.{found_in, reads_pair, read_by_pair, writes_pair, written_by_pair, grown_by}
+use Rattle.co_index.specs.NewPairs as made
+use Rattle.co_index.specs.NewPairs.{found_in, reads_pair, read_by_pair, writes_pair, written_by_pair, grown_by}
 use Rattle.co_mv.proofs.Pairing.{newly_read, newly_reads, newly_wrote_above, newly_wrote_below, all_made, not_both}
 use Rattle.co_mv.proofs.Versioning.{key_symm}
 

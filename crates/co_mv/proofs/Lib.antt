@@ -3,7 +3,7 @@ mod Rows
 mod Outcomes
 mod Versioning
 mod Needing
-mod Nearest
+mod Stamping
 mod Chaining
 mod Archiving
 mod Forgetting

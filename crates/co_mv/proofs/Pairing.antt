@@ -12,7 +12,7 @@ use Rattle.co_state.specs.declared.pair.PairKind.{PairKind}
 use Rattle.co_state.specs.declared.pair.PairKind.TheVariants.{Reads, Writes}
 use Rattle.co_state.specs.Conflicts.{same_kind, same_pair, lists_pair, AreDistinctPairs}
 use Rattle.co_state.specs.Keys.{reads_meet, writes_meet}
-use Rattle.co_mv.specs.NewPairs.{found_in, reads_pair, read_by_pair, writes_pair, written_by_pair, or_nothing}
+use Rattle.co_index.specs.NewPairs.{found_in, reads_pair, read_by_pair, writes_pair, written_by_pair, or_nothing}
 use Rattle.co_mv.proofs.Needing.{first, second, tied, find-below}
 
 -- ---- other transactions that meet the new sets, and did not meet the old ones

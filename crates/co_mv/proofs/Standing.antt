@@ -35,7 +35,8 @@ use Rattle.co_mv.specs.declared.mv_engine.MvEngine.{MvEngine}
 use Rattle.co_mv.specs.declared.version.Version.{Version}
 use Rattle.co_mv.specs.Chains.{chain_of, chain_in}
 use Rattle.co_mv.specs.Kept.{needed, or_now, stamp_of, entered, left, grown, IsNeeded, Keeps, AreStamped, active_sets, voted_sets, IsKept, StandsFor, visible_within, prepared_sets}
-use Rattle.co_mv.specs.NewPairs.{or_nothing, grown_by, pairs_made}
+use Rattle.co_index.specs.Touching.{IsIndexed}
+use Rattle.co_index.specs.NewPairs.{or_nothing, grown_by, pairs_made}
 use Rattle.co_mv.specs.Overwritten.{written_within}
 use Rattle.co_mv.specs.Reading.{all_noted}
 use Rattle.co_mv.specs.Recents.{has_key}
@@ -239,8 +240,8 @@ versions_alike e b key s = ap reverse (s.keeps.chains_are key ∙ ap (λ ns. fil
 
 -- ---- one operation more
 pub stands_with : (e e' : MvEngine) (b : EngineState) (t : ℕ) (op : Op) → StandsFor e b → IsTrue (may_operate b t) → e'.archive.snapshots ≡ entered e.archive.snapshots t → Keeps e'.archive b.base b.installed
-    → e'.sets ≡ put (without e.sets t) t (grown_by op (or_nothing (look e.sets t))) → StandsFor e' (with_operation b t op)
-stands_with e e' b t op s h es k sets =
+    → e'.sets ≡ put (without e.sets t) t (grown_by op (or_nothing (look e.sets t))) → IsIndexed e'.index e'.sets → StandsFor e' (with_operation b t op)
+stands_with e e' b t op s h es k sets ix =
     let none = not_voted b t h in
     let st = stamp_of e.archive.snapshots t in
     record {
@@ -258,6 +259,7 @@ stands_with e e' b t op s h es k sets =
             votes_are = ap (option_map (λ v. v.sets)) (ap (look b.voted) (tied u t y) ∙ none);
           })
           (λ n. s.each u));
+      indexed = ix;
     }
 
 apart_tie : (t u : ℕ) → (t == u) ≡ false → eq_by_cmp nat_cmp u t ≡ false
@@ -303,8 +305,8 @@ cast_one None x (Some os) vote coord count k h = absurd k.stamps_are
 cast_one (Some n) x (Some os) vote coord count k h = record { stamps_are = tt; sets_are = refl; votes_are = k.sets_are }
 
 pub stands_cast : (e e' : MvEngine) (b : EngineState) (t coord count : ℕ) → StandsFor e b → IsTrue (holds b.active t) → e'.archive.snapshots ≡ left e.archive.snapshots t → Keeps e'.archive b.base b.installed
-    → e'.sets ≡ e.sets → StandsFor e' (after_cast b t coord count)
-stands_cast e e' b t coord count s h es k sets = record {
+    → e'.sets ≡ e.sets → IsIndexed e'.index e'.sets → StandsFor e' (after_cast b t coord count)
+stands_cast e e' b t coord count s h es k sets ix = record {
   kind_is = s.kind_is;
   keeps = k;
   each = λ u.
@@ -312,16 +314,18 @@ stands_cast e e' b t coord count s h es k sets = record {
       (kept_cond (eq_by_cmp nat_cmp u t)
       (λ y. kept_along refl (ap (look e.sets) (sym (tied u t y))) refl refl (cast_one (look e.archive.snapshots.stamps t) (look e.sets t) (look b.active t) (look b.voted t) coord count (s.each t) h))
       (λ n. s.each u));
+  indexed = ix;
 }
 
 pub stands_drop : (e e' : MvEngine) (b : EngineState) (t : ℕ) → StandsFor e b → e'.archive.snapshots ≡ left e.archive.snapshots t → Keeps e'.archive b.base b.installed
-    → e'.sets ≡ without e.sets t → StandsFor e' (after_drop b t)
-stands_drop e e' b t s es k sets = record {
+    → e'.sets ≡ without e.sets t → IsIndexed e'.index e'.sets → StandsFor e' (after_drop b t)
+stands_drop e e' b t s es k sets ix = record {
   kind_is = s.kind_is;
   keeps = k;
   each = λ u.
       kept_along (sym (left_each e e' t es u)) (sym (ap (λ m. look m u) sets ∙ look-without e.sets t u)) (sym (look-without b.active t u)) (sym (look-without b.voted t u))
       (kept_cond (eq_by_cmp nat_cmp u t) (λ y. nothing_kept) (λ n. s.each u));
+  indexed = ix;
 }
 
 voted_stamp : (st : Option ℕ) (x : Option Sets) (os : Option (List Operation)) (vote : Vote) → IsKept st x os (Some vote) → st ≡ None
@@ -333,9 +337,9 @@ voted_active x None vote k = refl
 voted_active x (Some os) vote k = absurd k.stamps_are
 
 install_at : (e e' : MvEngine) (b : EngineState) (t : ℕ) (own : Sets) (o : Option Vote) → StandsFor e b → is_some o ≡ true → look b.voted t ≡ o → look e.sets t ≡ Some own
-    → e'.archive.snapshots ≡ grown e.archive.snapshots → Keeps e'.archive b.base (record { txn = t; writes = own.writes } ∷ b.installed) → e'.sets ≡ without e.sets t → StandsFor e' (install_vote b t o)
-install_at e e' b t own None s h f is es k sets = absurd (true≢false (sym h))
-install_at e e' b t own (Some vote) s h f is es k sets =
+    → e'.archive.snapshots ≡ grown e.archive.snapshots → Keeps e'.archive b.base (record { txn = t; writes = own.writes } ∷ b.installed) → e'.sets ≡ without e.sets t → IsIndexed e'.index e'.sets → StandsFor e' (install_vote b t o)
+install_at e e' b t own None s h f is es k sets ix = absurd (true≢false (sym h))
+install_at e e' b t own (Some vote) s h f is es k sets ix =
     let kt : IsKept (look e.archive.snapshots.stamps t) (look e.sets t) (look b.active t) (Some vote) = kept_along refl refl refl f (s.each t) in
     let no_stamp : look e.archive.snapshots.stamps t ≡ None = voted_stamp (look e.archive.snapshots.stamps t) (look e.sets t) (look b.active t) vote kt in
     let kn : IsKept None (Some own) (look b.active t) (Some vote) = kept_along no_stamp is refl refl kt in
@@ -349,11 +353,12 @@ install_at e e' b t own (Some vote) s h f is es k sets =
           (kept_cond (eq_by_cmp nat_cmp u t)
           (λ y. kept_along (sym (ap (look e.archive.snapshots.stamps) (tied u t y) ∙ no_stamp)) refl (sym (ap (look b.active) (tied u t y) ∙ voted_active (Some own) (look b.active t) (Some vote) kn)) refl nothing_kept)
           (λ n. s.each u));
+      indexed = ix;
     }
 
 pub stands_install : (e e' : MvEngine) (b : EngineState) (t : ℕ) (own : Sets) → StandsFor e b → IsTrue (holds b.voted t) → look e.sets t ≡ Some own
-    → e'.archive.snapshots ≡ grown e.archive.snapshots → Keeps e'.archive b.base (record { txn = t; writes = own.writes } ∷ b.installed) → e'.sets ≡ without e.sets t → StandsFor e' (after_install b t)
-stands_install e e' b t own s h is es k sets = install_at e e' b t own (look b.voted t) s h refl is es k sets
+    → e'.archive.snapshots ≡ grown e.archive.snapshots → Keeps e'.archive b.base (record { txn = t; writes = own.writes } ∷ b.installed) → e'.sets ≡ without e.sets t → IsIndexed e'.index e'.sets → StandsFor e' (after_install b t)
+stands_install e e' b t own s h is es k sets ix = install_at e e' b t own (look b.voted t) s h refl is es k sets ix
 
 absent_vote : (st : Option ℕ) (os : Option (List Operation)) (vote : Option Vote) → IsKept st None os vote → is_some vote ≡ false
 absent_vote st os None k = refl
@@ -383,10 +388,11 @@ prepared_at (p ∷ ps) u =
     by true k = kept_along refl refl (sym (get-empty nat_cmp u)) refl (record { stamps_are = tt; sets_are = refl; votes_are = refl })
     by false k = k
 
-pub stands_restored : (e : MvEngine) (kind : Kind) (records : Records) (ps : List Prepared) → Mv ≡ kind → Keeps e.archive records [] → e.archive.snapshots.stamps ≡ no_entries → e.sets ≡ prepared_sets ps
+pub stands_restored : (e : MvEngine) (kind : Kind) (records : Records) (ps : List Prepared) → Mv ≡ kind → Keeps e.archive records [] → e.archive.snapshots.stamps ≡ no_entries → e.sets ≡ prepared_sets ps → IsIndexed e.index e.sets
     → StandsFor e (restored kind records (votes_of ps))
-stands_restored e kind records ps is k none sets = record {
+stands_restored e kind records ps is k none sets ix = record {
   kind_is = is;
   keeps = k;
   each = λ u. kept_along (sym (ap (λ m. look m u) none ∙ get-empty nat_cmp u)) (ap (λ m. look m u) (sym sets)) refl refl (prepared_at ps u);
+  indexed = ix;
 }

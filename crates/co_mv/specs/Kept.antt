@@ -9,7 +9,8 @@ use Rattle.co_mv.specs.declared.archive.Archive.{Archive}
 use Rattle.co_mv.specs.declared.mv_engine.MvEngine.{MvEngine}
 use Rattle.co_mv.specs.declared.version.Version.{Version}
 use Rattle.co_mv.specs.Chains.{Chains, chain_of}
-use Rattle.co_mv.specs.NewPairs.{or_nothing}
+use Rattle.co_index.specs.NewPairs.{or_nothing}
+use Rattle.co_index.specs.Touching.{IsIndexed, gone_from}
 use Rattle.co_mv.specs.Reading.{all_noted, laid_within}
 use Rattle.co_mv.specs.Recents.{Recents, keys_at, has_key}
 use Rattle.co_base.specs.Span.{Span, span_has}
@@ -25,9 +26,13 @@ use Rattle.co_state.specs.Changes.{sets_of}
 use Rattle.co_state.specs.Keys.{writes_key}
 use Rattle.co_state.specs.Table.{Table, no_entries, look, put, without}
 
--- the numbers of installs that transactions read at
+-- the numbers of installs that active transactions read at
+abbrev pub stamps : Snapshots → List ℕ
+stamps s = map (λ e. e.1) (entries s.stamps)
+
+-- and that a new one reads at
 abbrev pub needed : Snapshots → List ℕ
-needed s = s.installs ∷ map (λ e. e.1) (entries s.stamps)
+needed s = s.installs ∷ stamps s
 
 abbrev pub or_now : ℕ → Option ℕ → ℕ
 or_now now None = now
@@ -45,13 +50,6 @@ pub record IsNext (s : Snapshots) (from next : ℕ) : Type 0 where
   pub is_above : from ≤ next
   pub is_least : (t n : ℕ) → look s.stamps t ≡ Some n → from ≤ n → next ≤ n
 
-abbrev pub nearer : ℕ → ℕ → ℕ → ℕ
-nearer from best n = if nat_le from n && nat_lt n best then n else best
-
-abbrev pub nearest : ℕ → ℕ → List (ℕ × ℕ) → ℕ
-nearest from best [] = best
-nearest from best (e ∷ es) = nearest from (nearer from best e.1) es
-
 -- whether the install of this number wrote the key; the newest install stands first in the list
 abbrev pub wrote_at : List Install → ℕ → List ℕ → Bool
 wrote_at [] n key = false
@@ -67,6 +65,12 @@ IsPruned keep recents from to old new =
 abbrev pub AreLeft : Recents → ℕ → ℕ → Chains → Chains → Type 0
 AreLeft recents from to old new =
     (key : List ℕ) → ((n : ℕ) → from < n → n ≤ to → has_key (keys_at recents n) key ≡ false) → chain_of new key ≡ chain_of old key
+
+-- the archive was pruned by the installs of a window, and nothing else of it changed
+pub record IsNarrowed (from to : ℕ) (old new : Archive) : Type 0 where
+  pub snapshots_stay : new.snapshots ≡ old.snapshots
+  pub recents_stay : new.recents ≡ old.recents
+  pub pruned : IsPruned (is_kept (needed old.snapshots)) old.recents from to old.chains new.chains
 
 -- ---- the snapshots after calls
 abbrev pub entered : Snapshots → ℕ → Snapshots
@@ -118,6 +122,11 @@ pub record StandsFor (e : MvEngine) (b : EngineState) : Type 0 where
   pub kind_is : Mv ≡ b.kind
   pub keeps : Keeps e.archive b.base b.installed
   pub each : (t : ℕ) → IsKept (look e.archive.snapshots.stamps t) (look e.sets t) (look b.active t) (look b.voted t)
+  pub indexed : IsIndexed e.index e.sets
+
+-- what a transaction read and wrote is taken out
+abbrev pub without_own : MvEngine → ℕ → MvEngine
+without_own e t = record e { sets = without e.sets t; index = gone_from e.index t (look e.sets t) }
 
 -- the records of a range that the next operation of a transaction sees
 abbrev pub visible_within : MvEngine → ℕ → Span → Records

@@ -2,6 +2,5 @@ pub mod Versions
 pub mod Kept
 pub mod Chains
 pub mod Recents
-pub mod NewPairs
 pub mod Overwritten
 pub mod Reading

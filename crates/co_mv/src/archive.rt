@@ -1,6 +1,6 @@
 //! The versions that are still read.
-ghost use Rattle.std.specs.Prelude.{◌≡◌, [], ◌∷◌, ℕ, List, IfOk, OnOk};
-ghost use Rattle.co_mv.specs.Kept.{Keeps, stamp_of, entered, left, grown};
+ghost use Rattle.std.specs.Prelude.{◌≡◌, ◌⊎◌, [], ◌∷◌, ℕ, List, IfOk, OnOk};
+ghost use Rattle.co_mv.specs.Kept.{Keeps, IsNarrowed, entered, left, grown};
 ghost use Rattle.co_serial.specs.Records.{Records};
 ghost use Rattle.co_state.specs.declared.engine_state.Install.{Install};
 ghost use Rattle.co_state.specs.Effects.{records_from};
@@ -11,7 +11,7 @@ use crate::pruning::{forget_window, prune_window};
 use crate::recents::{Recents, keys_of};
 use crate::snapshots::Snapshots;
 use co_base::{Rows, Txn, Written};
-use co_state::Table;
+use co_stamps::Stamps;
 use std::alloc::{AllocError, Global};
 
 /// Versions by key, who reads them, and which keys the installs wrote that some active transaction does not
@@ -29,6 +29,17 @@ pub struct Archive {
     pub recents: Recents,
 }
 
+/// The window of fewer installs, of the one from `before` up to `stamp` and the one from there up to `next`.
+fn narrower(before: u64, stamp: u64, next: u64) -> (u64, u64)
+    ensures { (result ≡ (before, stamp)) ⊎ (result ≡ (stamp, next)) }
+{
+    if stamp.saturating_sub(before) < next.saturating_sub(stamp) {
+        (before, stamp)
+    } else {
+        (stamp, next)
+    }
+}
+
 impl Archive {
     /// Records before all installs, without an active transaction.
     pub fn of_rows(alloc: Global, rows: Rows) -> Result<Archive, AllocError>
@@ -38,7 +49,7 @@ impl Archive {
         Ok(Archive {
             snapshots: Snapshots {
                 installs: 0,
-                stamps: Table::new(alloc),
+                stamps: Stamps::new(alloc),
             },
             chains: Chains::of_rows(alloc, rows.into_vec())?,
             recents: Recents::new(alloc),
@@ -46,12 +57,11 @@ impl Archive {
     }
 
     /// A transaction becomes active, or stays so.
-    pub fn enter(&mut self, t: Txn) -> Result<(), AllocError>
+    pub fn enter(&mut self, alloc: Global, t: Txn) -> Result<(), AllocError>
         ensures snapshots { OnOk result (self.new.snapshots ≡ entered self.old.snapshots t) }
         ensures keeps { (base : Records) (installed : List Install) → Keeps self.old base installed → OnOk result (Keeps self.new base installed) }
     {
-        let stamp = self.snapshots.stamp_of(t);
-        self.snapshots.stamps.insert(t, stamp)
+        self.snapshots.enter(alloc, t)
     }
 
     /// A transaction is active no more. The versions that it alone read are forgotten. Takes no memory.
@@ -63,16 +73,24 @@ impl Archive {
             return;
         };
         let next = self.snapshots.next_from(stamp);
-        prune_window(
-            &mut self.chains,
-            &self.recents,
-            stamp,
-            next,
-            &self.snapshots,
-        );
-        if !self.snapshots.has_before(stamp) {
-            forget_window(&mut self.recents, stamp, next);
+        match self.snapshots.stamps.greatest_below(stamp) {
+            Some(before) => {
+                let (from, to) = narrower(before, stamp, next);
+                self.prune(from, to);
+            }
+            None => {
+                self.prune(stamp, next);
+                forget_window(&mut self.recents, stamp, next);
+            }
         }
+    }
+
+    /// Forgets the versions that are read no more, of the keys that were written by the installs after `from`
+    /// and up to `to`. Takes no memory.
+    fn prune(&mut self, from: u64, to: u64)
+        ensures { IsNarrowed from to self.old self.new }
+    {
+        prune_window(&mut self.chains, &self.recents, from, to, &self.snapshots);
     }
 
     /// An install makes changes. The versions that it leaves unread are forgotten. There are 2^64 - 1 installs at

@@ -9,7 +9,6 @@ mod archive;
 mod chain;
 mod chains;
 mod mv_engine;
-mod new_pairs;
 mod pruning;
 mod reading;
 mod recents;

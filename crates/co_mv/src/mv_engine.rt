@@ -3,8 +3,8 @@ ghost use Rattle.std.specs.Prelude.{◌≡◌, ◌<◌, length, map, reverse, sl
 ghost use Rattle.co_base.specs.declared.head.Kind.TheVariants.{Mv};
 ghost use Rattle.co_engine.specs.Calls.{may_operate, seen_of, writing, Appends, AppendsNewPairs};
 ghost use Rattle.co_mv.specs.Chains.{chain_of};
-ghost use Rattle.co_mv.specs.Kept.{StandsFor, visible_within, prepared_sets};
-ghost use Rattle.co_mv.specs.NewPairs.{or_nothing, grown_by};
+ghost use Rattle.co_mv.specs.Kept.{StandsFor, visible_within, prepared_sets, without_own};
+ghost use Rattle.co_index.specs.NewPairs.{or_nothing, grown_by};
 ghost use Rattle.co_mv.specs.Versions.{kept_versions};
 ghost use Rattle.co_state.specs.declared.engine_state.EngineState.{EngineState};
 ghost use Rattle.co_state.specs.Effects.{after_operation, with_operation};
@@ -13,11 +13,11 @@ ghost use Rattle.co_state.specs.ReadRule.{operation_reply};
 ghost use Rattle.co_state.specs.Table.{look, without};
 
 use crate::archive::Archive;
-use crate::new_pairs::{append, pairs_made};
 use crate::reading::{all_records, lay_within, records_within};
 use crate::stale::least_written;
 use co_base::{Key, Kind, Op, Range, Ranges, Reply, Rows, Txn, Value, Writes};
 use co_engine::{Dump, Engine, Seen};
+use co_index::{Index, append, pairs_made};
 use co_pairs::{Pairs, Prepared, Sets};
 use co_state::{RecordMap, Table, change_made, put_change, put_range, range_read};
 use std::alloc::{AllocError, Global};
@@ -30,6 +30,7 @@ use std::alloc::{AllocError, Global};
 pub struct MvEngine {
     archive: Archive,
     sets: Table<Sets>,
+    index: Index,
     nothing: Sets,
 }
 
@@ -142,11 +143,26 @@ impl MvEngine {
         ensures pairs { (b : EngineState) → StandsFor self.old b → IsTrue (may_operate b t) → IfOk result (AreNewPairs b (with_operation b t op.now)) }
     {
         let own = take(alloc, &mut self.sets, t);
-        let pairs = pairs_made(alloc, &self.sets, t, &own, op)?;
+        let pairs = pairs_made(alloc, &self.index, &self.sets, t, &own, op)?;
+        self.index.note(alloc, op, t)?;
         let sets = grown(own, op)?;
-        self.archive.enter(t)?;
+        self.archive.enter(alloc, t)?;
         self.sets.insert(t, sets)?;
         Ok(pairs)
+    }
+
+    /// Takes out what a transaction read and wrote. Takes no memory.
+    fn take_out(&mut self, t: Txn) -> Option<Sets>
+        ensures value { result ≡ look self.old.sets t }
+        ensures rest { self.new ≡ without_own self.old t }
+    {
+        match self.sets.remove(t) {
+            Some(sets) => {
+                self.index.forget(&sets, t);
+                Some(sets)
+            }
+            None => None,
+        }
     }
 
     /// Does an operation.
@@ -194,9 +210,11 @@ impl Engine for MvEngine {
         voted: &[Prepared],
     ) -> Result<Self, AllocError> {
         let _ = kind;
+        let sets = prepared_sets(alloc, voted)?;
         Ok(MvEngine {
             archive: Archive::of_rows(alloc, rows)?,
-            sets: prepared_sets(alloc, voted)?,
+            index: Index::of_sets(alloc, &sets)?,
+            sets,
             nothing: Sets::new(alloc),
         })
     }
@@ -258,7 +276,7 @@ impl Engine for MvEngine {
     }
 
     fn install(&mut self, alloc: Global, t: Txn) -> Result<(), AllocError> {
-        match self.sets.remove(t) {
+        match self.take_out(t) {
             Some(sets) => self.archive.install(alloc, sets.writes()),
             None => Ok(()),
         }
@@ -266,7 +284,7 @@ impl Engine for MvEngine {
 
     fn drop_txn(&mut self, t: Txn) {
         self.archive.leave(t);
-        let _ = self.sets.remove(t);
+        let _ = self.take_out(t);
     }
 
     fn dump(&self, alloc: Global) -> Result<Dump, AllocError> {

@@ -1,14 +1,13 @@
 //! The numbers of installs at which records are read.
-ghost use Rattle.std.specs.Prelude.{◌≡◌, ◌≤◌, nat_lt, map};
-ghost use Rattle.std.specs.FinMap.{entries};
+ghost use Rattle.std.specs.Prelude.{◌≡◌, ◌≤◌, nat_lt, OnOk};
 ghost use Rattle.std.specs.List.{list_any};
-ghost use Rattle.co_state.specs.Table.{look};
 ghost use Rattle.co_mv.specs.Versions.{sees, is_gone, is_kept};
-ghost use Rattle.co_mv.specs.Kept.{needed, stamp_of, IsNext, nearest};
+ghost use Rattle.co_mv.specs.Kept.{needed, stamps, stamp_of, entered, IsNext};
 
 use crate::version::Version;
 use co_base::Txn;
-use co_state::Table;
+use co_stamps::Stamps;
+use std::alloc::{AllocError, Global};
 
 /// The number of installs, and for each active transaction the number of installs at its first operation.
 #[derive(Drop)]
@@ -16,7 +15,7 @@ pub struct Snapshots {
     /// How many installs there were.
     pub installs: u64,
     /// How many there were at the first operation of each active transaction.
-    pub stamps: Table<u64>,
+    pub stamps: Stamps,
 }
 
 impl Snapshots {
@@ -25,8 +24,28 @@ impl Snapshots {
         ensures { result ≡ stamp_of self.now t }
     {
         match self.stamps.get(t) {
-            Some(stamp) => *stamp,
+            Some(stamp) => stamp,
             None => self.installs,
+        }
+    }
+
+    /// A transaction becomes active, or stays so.
+    pub fn enter(&mut self, alloc: Global, t: Txn) -> Result<(), AllocError>
+        ensures { OnOk result (self.new ≡ entered self.old t) }
+    {
+        match self.stamps.get(t) {
+            Some(_) => Ok(()),
+            None => self.stamps.insert(alloc, t, self.installs),
+        }
+    }
+
+    /// Whether some active transaction reads the version.
+    fn is_read(&self, version: &Version) -> bool
+        ensures { result ≡ list_any (λ n. sees n version.now) (stamps self.now) }
+    {
+        match self.stamps.least_from(version.written) {
+            Some(stamp) => version.is_seen_at(stamp),
+            None => false,
         }
     }
 
@@ -34,30 +53,24 @@ impl Snapshots {
     fn is_seen(&self, version: &Version) -> bool
         ensures { result ≡ list_any (λ n. sees n version.now) (needed self.now) }
     {
-        if version.is_seen_at(self.installs) {
-            return true;
-        }
-        for (_, stamp) in self.stamps.iter() {
-            if version.is_seen_at(*stamp) {
-                return true;
-            }
-        }
-        false
+        version.is_seen_at(self.installs) || self.is_read(version)
+    }
+
+    /// Whether some active transaction has a stamp below a number.
+    fn has_before(&self, n: u64) -> bool
+        ensures { result ≡ list_any (λ m. nat_lt m n) (stamps self.now) }
+    {
+        self.stamps.greatest_below(n).is_some()
     }
 
     /// Whether the record is absent for every transaction, active or new, since the version took it away.
     fn is_gone(&self, version: &Version) -> bool
         ensures { result ≡ is_gone (needed self.now) version.now }
     {
-        if version.value.is_some() || self.installs < version.written {
-            return false;
+        match version.value {
+            Some(_) => false,
+            None => version.written <= self.installs && !self.has_before(version.written),
         }
-        for (_, stamp) in self.stamps.iter() {
-            if *stamp < version.written {
-                return false;
-            }
-        }
-        true
     }
 
     /// Whether the version is kept.
@@ -72,31 +85,6 @@ impl Snapshots {
     pub fn next_from(&self, from: u64) -> u64
         ensures { from ≤ self.now.installs → IsNext self.now from result }
     {
-        self.nearest(from)
-    }
-
-    /// The least stamp at or above a number; the number of installs where there is none.
-    fn nearest(&self, from: u64) -> u64
-        ensures { result ≡ nearest from self.now.installs (entries self.now.stamps) }
-    {
-        let mut next = self.installs;
-        for (_, stamp) in self.stamps.iter() {
-            if from <= *stamp && *stamp < next {
-                next = *stamp;
-            }
-        }
-        next
-    }
-
-    /// Whether some active transaction has a stamp below a number.
-    pub fn has_before(&self, n: u64) -> bool
-        ensures { result ≡ list_any (λ m. nat_lt m n) (map (λ e. e.1) (entries self.now.stamps)) }
-    {
-        for (_, stamp) in self.stamps.iter() {
-            if *stamp < n {
-                return true;
-            }
-        }
-        false
+        self.stamps.least_from(from).unwrap_or(self.installs)
     }
 }

@@ -2,6 +2,7 @@ mod Laying
 mod Ranging
 mod Picking
 mod Oldest
+mod Registering
 mod Unseeing
 mod Keeping
 mod Pairing

@@ -5,3 +5,4 @@ pub mod Made
 pub mod Unseen
 pub mod Seen
 pub mod Stands
+pub mod Reading

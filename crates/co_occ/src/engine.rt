@@ -16,9 +16,10 @@ use crate::index::Index;
 use crate::installed::Installed;
 use crate::new_pairs::{pairs_of_read, pairs_of_write};
 use crate::old::OldWrites;
-use crate::own::{oldest_read, take, voted_roll};
+use crate::own::{take, voted_roll};
 use crate::reading::{all_records, copy_value, records_within, seen_value};
-use crate::undecided::{Read, Roll, Stage, Undecided};
+use crate::register::Register;
+use crate::undecided::{Read, Stage, Undecided};
 use crate::validation::stale_key;
 use co_base::{Key, Kind, Range, Reply, Rows, Txn, Value, Writes, Written};
 use co_engine::{Dump, Engine, Seen};
@@ -35,7 +36,7 @@ pub struct OccEngine {
     records: Installed,
     installs: u64,
     recent: OldWrites,
-    undecided: Roll,
+    undecided: Register,
     index: Index,
     nothing: Sets,
 }
@@ -117,7 +118,7 @@ impl OccEngine {
         let pairs = pairs_of_read(alloc, &self.index, &self.undecided, t, reads, &range)?;
         self.index.add_read(alloc, &range, t)?;
         let own = own.reading(range, self.installs)?;
-        self.undecided.put(t, own)?;
+        self.undecided.put(alloc, t, own)?;
         Ok(pairs)
     }
 
@@ -132,7 +133,7 @@ impl OccEngine {
         let pairs = pairs_of_write(alloc, &self.index, &self.undecided, t, writes, key)?;
         self.index.add_write(alloc, key, t)?;
         let own = own.changing(change)?;
-        self.undecided.put(t, own)?;
+        self.undecided.put(alloc, t, own)?;
         Ok(pairs)
     }
 
@@ -154,7 +155,7 @@ impl OccEngine {
     fn needed(&self) -> u64
         ensures { result ≡ needed self.now }
     {
-        match oldest_read(&self.undecided) {
+        match self.undecided.oldest_read() {
             Some(stamp) => self.installs.saturating_sub(stamp),
             None => 0,
         }

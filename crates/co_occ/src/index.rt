@@ -6,8 +6,8 @@ ghost use Rattle.std.specs.FinMap.{entries};
 ghost use Rattle.co_occ.specs.Touching.{no_index, with_read, with_write, with_reads, with_writes, with_sets, with_all, without_read, without_write, without_reads, without_writes, without_sets, joined, joined_all, readers_in, may_write, may_read};
 ghost use Rattle.co_state.specs.Table.{no_entries};
 
+use crate::register::Register;
 use crate::touched::Touched;
-use crate::undecided::Roll;
 use co_base::{Key, Range, Txn, Written};
 use co_pairs::Sets;
 use co_state::Table;
@@ -56,7 +56,7 @@ impl Index {
     }
 
     /// The index of some transactions.
-    pub fn of_roll(alloc: Global, roll: &Roll) -> Result<Index, AllocError>
+    pub fn of_roll(alloc: Global, roll: &Register) -> Result<Index, AllocError>
         ensures { IfOk result (λ index. index ≡ with_all no_index (entries roll.now)) }
     {
         let mut index = Index::new(alloc);

@@ -15,6 +15,7 @@ mod new_pairs;
 mod old;
 mod own;
 mod reading;
+mod register;
 mod touched;
 mod undecided;
 mod validation;

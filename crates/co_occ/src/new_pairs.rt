@@ -7,14 +7,14 @@ ghost use Rattle.co_occ.specs.Made.{passes, found_at, reads_pair, read_by_pair, 
 ghost use Rattle.co_occ.specs.Touching.{may_write, may_read};
 
 use crate::index::Index;
-use crate::undecided::Roll;
+use crate::register::Register;
 use co_base::{Key, Range, Txn, Written};
 use co_pairs::{Pair, PairKind, Pairs};
 use co_state::{Table, reads_key, reads_meet, writes_key, writes_meet, writes_within};
 use std::alloc::{AllocError, Global};
 
 /// Whether another transaction wrote what is read now, and nothing that was read before.
-fn is_read(others: &Roll, u: Txn, reads: &[Range], range: &Range) -> bool
+fn is_read(others: &Register, u: Txn, reads: &[Range], range: &Range) -> bool
     ensures { result ≡ passes (first_read reads.now range.now u) (look others.now u) }
 {
     match others.get(u) {
@@ -27,7 +27,7 @@ fn is_read(others: &Roll, u: Txn, reads: &[Range], range: &Range) -> bool
 }
 
 /// Whether another transaction read the key that is written now, and nothing that was written before.
-fn is_reader(others: &Roll, u: Txn, writes: &[Written], key: &Key) -> bool
+fn is_reader(others: &Register, u: Txn, writes: &[Written], key: &Key) -> bool
     ensures { result ≡ passes (first_reader writes.now key.now u) (look others.now u) }
 {
     match others.get(u) {
@@ -41,7 +41,7 @@ fn is_reader(others: &Roll, u: Txn, writes: &[Written], key: &Key) -> bool
 
 /// Whether a transaction of a greater number wrote the key that is written now, and nothing that was written
 /// before.
-fn is_above(others: &Roll, t: Txn, u: Txn, writes: &[Written], key: &Key) -> bool
+fn is_above(others: &Register, t: Txn, u: Txn, writes: &[Written], key: &Key) -> bool
     ensures { result ≡ passes (first_above t writes.now key.now u) (look others.now u) }
 {
     match others.get(u) {
@@ -55,7 +55,7 @@ fn is_above(others: &Roll, t: Txn, u: Txn, writes: &[Written], key: &Key) -> boo
 
 /// Whether a transaction of a lesser number wrote the key that is written now, and nothing that was written
 /// before.
-fn is_below(others: &Roll, t: Txn, u: Txn, writes: &[Written], key: &Key) -> bool
+fn is_below(others: &Register, t: Txn, u: Txn, writes: &[Written], key: &Key) -> bool
     ensures { result ≡ passes (first_below t writes.now key.now u) (look others.now u) }
 {
     match others.get(u) {
@@ -71,7 +71,7 @@ fn is_below(others: &Roll, t: Txn, u: Txn, writes: &[Written], key: &Key) -> boo
 pub fn pairs_of_read(
     alloc: Global,
     index: &Index,
-    others: &Roll,
+    others: &Register,
     t: Txn,
     reads: &[Range],
     range: &Range,
@@ -96,7 +96,7 @@ pub fn pairs_of_read(
 fn add_readers(
     pairs: &mut Pairs,
     readers: &Table<()>,
-    others: &Roll,
+    others: &Register,
     t: Txn,
     writes: &[Written],
     key: &Key,
@@ -119,7 +119,7 @@ fn add_readers(
 fn add_above(
     pairs: &mut Pairs,
     writers: &Table<()>,
-    others: &Roll,
+    others: &Register,
     t: Txn,
     writes: &[Written],
     key: &Key,
@@ -142,7 +142,7 @@ fn add_above(
 fn add_below(
     pairs: &mut Pairs,
     writers: &Table<()>,
-    others: &Roll,
+    others: &Register,
     t: Txn,
     writes: &[Written],
     key: &Key,
@@ -166,7 +166,7 @@ fn add_below(
 pub fn pairs_of_write(
     alloc: Global,
     index: &Index,
-    others: &Roll,
+    others: &Register,
     t: Txn,
     writes: &[Written],
     key: &Key,

@@ -1,10 +1,10 @@
 //! What an undecided transaction read and wrote, as it grows.
 ghost use Rattle.std.specs.Prelude.{◌≡◌, None, Some, IfOk};
-ghost use Rattle.std.specs.FinMap.{entries};
 ghost use Rattle.co_state.specs.Table.{look, without, lesser};
-ghost use Rattle.co_occ.specs.Kept.{no_reads, new_one, or_new, with_read, staged, grown_by, grown_with, voted_roll, oldest_in, oldest_kept};
+ghost use Rattle.co_occ.specs.Kept.{no_reads, new_one, or_new, with_read, staged, grown_by, grown_with, voted_roll};
 
-use crate::undecided::{Read, Reads, Roll, Stage, Undecided};
+use crate::register::Register;
+use crate::undecided::{Read, Reads, Stage, Undecided};
 use co_base::{Range, Ranges, Txn, Writes, Written};
 use co_pairs::Prepared;
 use co_state::{History, Sets, put_change, put_range};
@@ -34,7 +34,7 @@ fn no_reads(alloc: Global) -> Reads
 }
 
 /// Takes an undecided transaction out; a new one where it is absent.
-pub fn take(alloc: Global, roll: &mut Roll, t: Txn) -> Undecided
+pub fn take(alloc: Global, roll: &mut Register, t: Txn) -> Undecided
     ensures value { result ≡ or_new (look roll.old t) }
     ensures rest { roll.new ≡ without roll.old t }
 {
@@ -48,10 +48,10 @@ pub fn take(alloc: Global, roll: &mut Roll, t: Txn) -> Undecided
 }
 
 /// The prepared transactions as voted ones.
-pub fn voted_roll(alloc: Global, prepared: &[Prepared]) -> Result<Roll, AllocError>
+pub fn voted_roll(alloc: Global, prepared: &[Prepared]) -> Result<Register, AllocError>
     ensures { IfOk result (λ roll. roll ≡ voted_roll prepared.now) }
 {
-    let mut roll = Roll::new(alloc);
+    let mut roll = Register::new(alloc);
     let mut place = prepared.len();
     while 0 < place {
         place -= 1;
@@ -60,30 +60,9 @@ pub fn voted_roll(alloc: Global, prepared: &[Prepared]) -> Result<Roll, AllocErr
             stage: Stage::Voted,
             sets,
         };
-        roll.put(prepared[place].txn, undecided)?;
+        roll.put(alloc, prepared[place].txn, undecided)?;
     }
     Ok(roll)
-}
-
-/// The oldest read of an active transaction.
-fn oldest_in(stage: &Stage) -> Option<u64>
-    ensures { result ≡ oldest_in stage.now }
-{
-    match stage {
-        Stage::Active(reads) => reads.oldest,
-        Stage::Voted => None,
-    }
-}
-
-/// The oldest read of all active transactions.
-pub fn oldest_read(roll: &Roll) -> Option<u64>
-    ensures { result ≡ oldest_kept (entries roll.now) }
-{
-    let mut oldest = None;
-    for (_, undecided) in roll.iter() {
-        oldest = lesser(oldest, oldest_in(&undecided.stage));
-    }
-    oldest
 }
 
 /// A read more, where the transaction has not voted.

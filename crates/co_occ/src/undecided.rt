@@ -1,5 +1,5 @@
 //! The undecided transactions.
-ghost use Rattle.std.specs.Prelude.{◌≡◌, OnOk, option_copied};
+ghost use Rattle.std.specs.Prelude.{◌≡◌, OnOk, OnErr, option_copied};
 ghost use Rattle.std.specs.FinMap.{entries};
 ghost use Rattle.co_state.specs.Table.{no_entries, look, put, without};
 ghost use Rattle.co_occ.specs.Kept.{with_vote};
@@ -91,9 +91,10 @@ impl Roll {
         self.entries.iter()
     }
 
-    /// Lays in a transaction in place of the one of its number.
+    /// Lays in a transaction in place of the one of its number. Want of memory leaves all as it was.
     pub fn put(&mut self, t: Txn, undecided: Undecided) -> Result<(), AllocError>
-        ensures { OnOk result (self.new ≡ put self.old t undecided) }
+        ensures ok { OnOk result (self.new ≡ put self.old t undecided) }
+        ensures err { OnErr result (self.new ≡ self.old) }
     {
         self.entries.insert(t, undecided)?;
         Ok(())

@@ -1,4 +1,4 @@
-use Rattle.std.proofs.Common.{◌≡◌, ℕ, List, Option, ◌∷◌, map, sym, ap, subst}
+use Rattle.std.proofs.Common.{◌≡◌, ℕ, List, Option, ◌∷◌, map, refl, sym, ap, subst}
 use Rattle.std.specs.FinMap.{entries}
 use Rattle.co_state.proofs.Tables.{on_ok}
 use Rattle.co_state.specs.declared.pair.Pair.{Pair}
@@ -10,7 +10,9 @@ use Rattle.co_state.specs.Table.{Table, look, put}
 use Rattle.co_lock.specs.declared.undecided.Undecided.{Undecided}
 use Rattle.co_lock.specs.Locked.{IsLocked}
 use Rattle.co_lock.specs.LockedState.{with_write}
-use Rattle.co_lock.specs.Standing.{IsKept}
+use Rattle.co_index.proofs.Indexing.{tells_along}
+use Rattle.co_lock.proofs.Reading.{tells_write}
+use Rattle.co_lock.specs.Standing.{IsKept, reads_alone}
 use Rattle.co_lock.proofs.Fitting.{fits_write}
 use Rattle.co_lock.proofs.Joining.{if_ok}
 use Rattle.co_lock.proofs.Rolling.{not_voted, each_write}
@@ -31,6 +33,7 @@ returns-clause-state c = λ b op s may reads writes none.
       place = with_write s.place t change.key change.value;
       locked = subst (λ (v : Option (List ℕ)). IsLocked c.write.new.self (with_write s.place t change.key v)) c.lent.ensures (c.in_ok-write.ensures s.place s.locked (alone_in old b t op change s writes none));
       fits = fits_write s.place b t op s.fits s.kind_is voted change reads writes (clear_write old b t op change s writes none);
+      indexed = tells_along reads_alone refl (sym e) (tells_write old.readers old.roll t change s.indexed);
     })
     c.note_write.ensures.roll
 
@@ -43,4 +46,4 @@ returns-clause-pairs c = λ b op s may reads writes none.
     (λ pairs e. subst (λ (ps : List Pair). AreNewPairs b (with_operation b t op) ps) (sym e)
     (pairs_of_write old b t op change s may reads writes none c.write.new.self
     (subst (λ (v : Option (List ℕ)). IsLocked c.write.new.self (with_write s.place t change.key v)) c.lent.ensures (c.in_ok-write.ensures s.place s.locked (alone_in old b t op change s writes none)))))
-    c.note_write.ensures.pairs
+    (c.note_write.ensures.pairs s.indexed)

@@ -1,0 +1,7 @@
+mod Ranging
+pub mod Keys
+pub mod Putting
+pub mod Finding
+pub mod Touching
+pub mod Indexing
+mod Passing

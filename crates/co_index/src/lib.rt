@@ -1,0 +1,14 @@
+//! Who of the undecided transactions touched which key, and the pairs that an operation makes with them.
+//!
+//! An index finds those that may be in conflict with an operation by the keys that they touched, so that no
+//! operation looks at the others. After want of memory an index is only dropped.
+#![tactic(auto)]
+
+mod appended;
+mod index;
+mod new_pairs;
+mod touched;
+
+pub use appended::append;
+pub use index::Index;
+pub use new_pairs::pairs_made;

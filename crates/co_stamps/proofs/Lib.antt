@@ -1,0 +1,3 @@
+mod Ranging
+pub mod Agreeing
+mod Leading

@@ -1,0 +1,10 @@
+//! Numbers of transactions, with the least one at or above any number.
+//!
+//! A contract sees the finite map from transactions to numbers. Each call takes the logarithm of how many
+//! transactions there are.
+#![tactic(auto)]
+
+mod bearers;
+mod stamps;
+
+pub use stamps::Stamps;
