@@ -63,9 +63,9 @@ files_stay owner log old new owned spots current spare stay =
     at_a (inl own) = subst (λ (s : Spot). new.file s ≡ old.file s) (own.0 ∙ ap (λ (n : Node). spot_of n 0) owned) current
     at_a (inr own) = subst (λ (s : Spot). new.file s ≡ old.file s) (own.1 ∙ ap (λ (n : Node). spot_of n 0) owned) spare
 
-    at_b : HasSpots log → after (spot_of owner 1) ≡ file (spot_of owner 1)
-    at_b (inl own) = subst (λ (s : Spot). after s ≡ file s) (own.1 ∙ ap (λ (n : Node). spot_of n 1) owned) spare
-    at_b (inr own) = subst (λ (s : Spot). after s ≡ file s) (own.0 ∙ ap (λ (n : Node). spot_of n 1) owned) current
+    at_b : HasSpots log → new.file (spot_of owner 1) ≡ old.file (spot_of owner 1)
+    at_b (inl own) = subst (λ (s : Spot). new.file s ≡ old.file s) (own.1 ∙ ap (λ (n : Node). spot_of n 1) owned) spare
+    at_b (inr own) = subst (λ (s : Spot). new.file s ≡ old.file s) (own.0 ∙ ap (λ (n : Node). spot_of n 1) owned) current
 
 -- ---- a call that may write
 

@@ -73,5 +73,5 @@ returns-clause-left g c = λ s r.
     let file = (g.H.Home.seen c.coord_does.new.home).file in
     let up : (s.coord k).up ≡ true = sym (c.coord_up.ensures s r) ∙ c.if-not-coord_up.false in
     let step = coord_does k c.args.call (s.coord k) in
-    let now = held_left g.E.Engine.takes g.E.Engine.stands_for c.coord_does.new.self (with_coord s k step.state) file (g.H.Home.seen c.coord_does.new.home).reach (c.in_ok-did.ensures.stands s r) c.in_ok-did.ensures.served.kept in
+    let now = held_left g.E.Engine.takes g.E.Engine.stands_for c.coord_does.new.self (with_coord s k step.state) (g.H.Home.seen c.coord_does.new.home) (c.in_ok-did.ensures.stands s r) c.in_ok-did.ensures.served.kept in
     wanting_left c.tells_of_coord.result _ _ _ _ c.tells_of_coord.ensures.memory (inr (inl (coord_step_left file s k (s.coord k).up step up now)))

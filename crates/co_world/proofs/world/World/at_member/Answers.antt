@@ -73,5 +73,5 @@ returns-clause-left g c = λ s r.
     let file = (g.H.Home.seen c.member_does.new.home).file in
     let up : (s.member k).up ≡ true = sym (c.member_up.ensures s r) ∙ c.if-not-member_up.false in
     let step = member_does k c.args.call (s.member k) in
-    let now = held_left g.E.Engine.takes g.E.Engine.stands_for c.member_does.new.self (with_member s k step.state) file (g.H.Home.seen c.member_does.new.home).reach (c.in_ok-did.ensures.stands s r) c.in_ok-did.ensures.served.kept in
+    let now = held_left g.E.Engine.takes g.E.Engine.stands_for c.member_does.new.self (with_member s k step.state) (g.H.Home.seen c.member_does.new.home) (c.in_ok-did.ensures.stands s r) c.in_ok-did.ensures.served.kept in
     wanting_left c.tells_of_member.result _ _ _ _ c.tells_of_member.ensures.memory (inr (inl (member_step_left file s k (s.member k).up step up now)))

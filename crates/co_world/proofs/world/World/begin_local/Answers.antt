@@ -38,7 +38,7 @@ returns-then-branch-clause-stands g c = λ s r.
     answered_stands g.E.Engine.takes g.E.Engine.stands_for c.answers.result c.args.self.now s answer.Used (local_where s c.args.t c.args.member (is_used s c.args.t) (s.member c.args.member).up) (ap (λ (b : Bool). local_where s c.args.t c.args.member b (s.member c.args.member).up) (sym used)) r
 
 pub returns-then-branch-clause-held : goal.returns-then-branch-clause-held
-returns-then-branch-clause-held g c = λ file reach held.
+returns-then-branch-clause-held g c = λ home held.
     all_ok c.answers.result held
 
 pub returns-then-branch-clause-ended : goal.returns-then-branch-clause-ended
@@ -63,7 +63,7 @@ returns-then-not-member_up-clause-stands g c = λ s r.
     answered_stands g.E.Engine.takes g.E.Engine.stands_for c.answers-then-not-member_up.result c.args.self.now s (answer.Down (node.Member c.args.member)) (local_where s c.args.t c.args.member (is_used s c.args.t) (s.member c.args.member).up) (λ i. local_where s c.args.t c.args.member (sym unused i) (sym down i)) r
 
 pub returns-then-not-member_up-clause-held : goal.returns-then-not-member_up-clause-held
-returns-then-not-member_up-clause-held g c = λ file reach held.
+returns-then-not-member_up-clause-held g c = λ home held.
     all_ok c.answers-then-not-member_up.result held
 
 pub returns-then-not-member_up-clause-ended : goal.returns-then-not-member_up-clause-ended
@@ -111,7 +111,7 @@ returns-clause-stands g c = λ s r.
     answered_stands g.E.Engine.takes g.E.Engine.stands_for c.answers-2.result (record c.args.self.now { sessions = c.begin.new.self }) there answer.Begun (local_where s c.args.t c.args.member (is_used s c.args.t) (s.member c.args.member).up) (λ i. local_where s c.args.t c.args.member (sym unused i) (sym up i)) begun
 
 pub returns-clause-held : goal.returns-clause-held
-returns-clause-held g c = λ file reach held.
+returns-clause-held g c = λ home held.
     all_ok c.answers-2.result (record { member = held.member; coord = held.coord })
 
 pub returns-clause-ended : goal.returns-clause-ended

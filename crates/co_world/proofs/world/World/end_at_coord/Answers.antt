@@ -160,5 +160,5 @@ returns-clause-left g c = λ s r session here.
     let up : (s.coord k).up ≡ true = sym (c.coord_up.ensures s r) ∙ c.if-not-coord_up.false in
     let file = (g.H.Home.seen c.coord_does.new.home).file in
     let stood : RepresentsWorld g.E.Engine.takes g.E.Engine.stands_for c.coord_does.new.self (with_coord s k step.state) = subst (λ (j : CoordCall). RepresentsWorld g.E.Engine.takes g.E.Engine.stands_for c.coord_does.new.self (with_coord s k (coord_does k j (s.coord k)).state)) asks (c.in_ok-did.ensures.stands s r) in
-    let now = held_left g.E.Engine.takes g.E.Engine.stands_for c.coord_does.new.self (with_coord s k step.state) file (g.H.Home.seen c.coord_does.new.home).reach stood c.in_ok-did.ensures.served.kept in
+    let now = held_left g.E.Engine.takes g.E.Engine.stands_for c.coord_does.new.self (with_coord s k step.state) (g.H.Home.seen c.coord_does.new.home) stood c.in_ok-did.ensures.served.kept in
     wanting_left c.tells_of_coord.result _ _ _ _ c.tells_of_coord.ensures.memory (inr (inl (coord_answers_left file s c.args.t session k (s.coord k).up step up now)))

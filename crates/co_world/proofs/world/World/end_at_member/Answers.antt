@@ -143,5 +143,5 @@ returns-clause-left g c = λ s r session here.
     let up : (s.member k).up ≡ true = sym (c.member_up.ensures s r) ∙ c.if-not-member_up.false in
     let file = (g.H.Home.seen c.member_does.new.home).file in
     let stood : RepresentsWorld g.E.Engine.takes g.E.Engine.stands_for c.member_does.new.self (with_member s k step.state) = subst (λ (j : MemberCall). RepresentsWorld g.E.Engine.takes g.E.Engine.stands_for c.member_does.new.self (with_member s k (member_does k j (s.member k)).state)) asks (c.in_ok-did.ensures.stands s r) in
-    let now = held_left g.E.Engine.takes g.E.Engine.stands_for c.member_does.new.self (with_member s k step.state) file (g.H.Home.seen c.member_does.new.home).reach stood c.in_ok-did.ensures.served.kept in
+    let now = held_left g.E.Engine.takes g.E.Engine.stands_for c.member_does.new.self (with_member s k step.state) (g.H.Home.seen c.member_does.new.home) stood c.in_ok-did.ensures.served.kept in
     wanting_left c.tells_of_member.result _ _ _ _ c.tells_of_member.ensures.memory (inr (inl (local_answers_left file s c.args.t session k (s.member k).up step up now)))

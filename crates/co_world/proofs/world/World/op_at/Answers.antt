@@ -54,23 +54,23 @@ returns-in-Ok-clause-stands g c = λ s r ready session may.
     (operated_at w (record w { members = with_item w.members (c.from.result - 1) c.op.new.self }) (c.from.result - 1) c.index_mut.result.now c.op.new.self changed g.E.Engine.takes g.E.Engine.stands_for s c.args.member c.args.t c.carried-carried.result (count_at session.told c.args.member) c.args.op.now c.in-Ok.answer next r ready carried (ready.whole.visited c.args.t c.args.member session may) c.in-Ok.ensures.did).state
 
 pub returns-in-Ok-clause-held : goal.returns-in-Ok-clause-held
-returns-in-Ok-clause-held g c = λ file reach held.
+returns-in-Ok-clause-held g c = λ home held.
     let w = c.args.self.now in
     let place : c.from.result - 1 < length w.members.items = omega arith in
     let next : suc (c.from.result - 1) ≡ c.args.member = omega arith in
     let here = at_place w.members.items (c.from.result - 1) c.index_mut.result.now place c.index_mut.ensures.value in
     let changed : IsChangedAt w (record w { members = with_item w.members (c.from.result - 1) c.op.new.self }) (c.from.result - 1) c.index_mut.result.now c.op.new.self = record { here = here; members = refl; coords = refl; sessions = refl; wire = refl; same = c.in-Ok.ensures.same } in
-    changed_held w (record w { members = with_item w.members (c.from.result - 1) c.op.new.self }) (c.from.result - 1) c.index_mut.result.now c.op.new.self changed file reach c.in-Ok.ensures.log held
+    changed_held w (record w { members = with_item w.members (c.from.result - 1) c.op.new.self }) (c.from.result - 1) c.index_mut.result.now c.op.new.self changed home c.in-Ok.ensures.log held
 
 pub returns-in-Err-clause-memory : goal.returns-in-Err-clause-memory
 returns-in-Err-clause-memory g c =
     c.of_node.ensures ∙ ap of_node c.in-Err.ensures.memory
 
 pub returns-in-Err-clause-held : goal.returns-in-Err-clause-held
-returns-in-Err-clause-held g c = λ file reach held.
+returns-in-Err-clause-held g c = λ home held.
     let w = c.args.self.now in
     let place : c.from.result - 1 < length w.members.items = omega arith in
     let next : suc (c.from.result - 1) ≡ c.args.member = omega arith in
     let here = at_place w.members.items (c.from.result - 1) c.index_mut.result.now place c.index_mut.ensures.value in
     let changed : IsChangedAt w (record w { members = with_item w.members (c.from.result - 1) c.op.new.self }) (c.from.result - 1) c.index_mut.result.now c.op.new.self = record { here = here; members = refl; coords = refl; sessions = refl; wire = refl; same = c.in-Err.ensures.same } in
-    changed_held w (record w { members = with_item w.members (c.from.result - 1) c.op.new.self }) (c.from.result - 1) c.index_mut.result.now c.op.new.self changed file reach c.in-Err.ensures.log held
+    changed_held w (record w { members = with_item w.members (c.from.result - 1) c.op.new.self }) (c.from.result - 1) c.index_mut.result.now c.op.new.self changed home c.in-Err.ensures.log held

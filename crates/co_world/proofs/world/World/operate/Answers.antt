@@ -45,7 +45,7 @@ returns-in-Err-clause-stands g c = λ s r ready.
     answered_stands g.E.Engine.takes g.E.Engine.stands_for c.answers.result c.args.self.now s c.refusal.result (operate s c.args.t c.args.member c.args.op) (ap (answers s) (sym same) ∙ sym is) r
 
 pub returns-in-Err-clause-held : goal.returns-in-Err-clause-held
-returns-in-Err-clause-held g c = λ file reach held.
+returns-in-Err-clause-held g c = λ home held.
     all_ok c.answers.result held
 
 pub returns-in-Err-clause-memory : goal.returns-in-Err-clause-memory

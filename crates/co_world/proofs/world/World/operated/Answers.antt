@@ -33,7 +33,7 @@ returns-then-not-member_up-clause-stands g c = λ s r ready session may.
     answered_stands g.E.Engine.takes g.E.Engine.stands_for c.answers.result c.args.self.now s (answer.Down (node.Member c.args.member)) (operate s c.args.t c.args.member c.args.op) (sym is) r
 
 pub returns-then-not-member_up-clause-held : goal.returns-then-not-member_up-clause-held
-returns-then-not-member_up-clause-held g c = λ file reach held.
+returns-then-not-member_up-clause-held g c = λ home held.
     all_ok c.answers.result held
 
 pub returns-then-not-member_up-clause-memory : goal.returns-then-not-member_up-clause-memory
@@ -106,8 +106,8 @@ returns-clause-stands g c = λ s r ready session may.
     subst (λ (z : Federation). OnOk c.answers-2.result (RepresentsWorld g.E.Engine.takes g.E.Engine.stands_for c.enter.new.self z)) (sym (ap (λ (z : Stepped). z.state) is)) (all_ok c.answers-2.result (subst (λ (a : Answer). RepresentsWorld g.E.Engine.takes g.E.Engine.stands_for c.enter.new.self (entered (with_member s c.args.member step.state) c.args.t session c.args.member c.args.op (reply_in a))) told (c.in_ok-enter.ensures.stands (with_member s c.args.member step.state) (c.in_ok-answer.ensures.stands s r ready session may) session here)))
 
 pub returns-clause-held : goal.returns-clause-held
-returns-clause-held g c = λ file reach held.
-    all_ok c.answers-2.result (c.in_ok-enter.ensures.held file reach (c.in_ok-answer.ensures.held file reach held))
+returns-clause-held g c = λ home held.
+    all_ok c.answers-2.result (c.in_ok-enter.ensures.held home (c.in_ok-answer.ensures.held home held))
 
 pub returns-clause-memory : goal.returns-clause-memory
 returns-clause-memory g c =

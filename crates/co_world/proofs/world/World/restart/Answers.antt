@@ -113,7 +113,7 @@ returns-in_ok-did-in-Member-clause-left g c = λ s r.
     let k = c.in-Member.member in
     let file = (g.H.Home.seen c.member_does.new.home).file in
     let step = member_restart (s.member k) in
-    let now = held_left g.E.Engine.takes g.E.Engine.stands_for c.member_does.new.self (with_member s k step.state) file (g.H.Home.seen c.member_does.new.home).reach (c.in_ok-did-in-Member.ensures.stands s r) c.in_ok-did-in-Member.ensures.served.kept in
+    let now = held_left g.E.Engine.takes g.E.Engine.stands_for c.member_does.new.self (with_member s k step.state) (g.H.Home.seen c.member_does.new.home) (c.in_ok-did-in-Member.ensures.stands s r) c.in_ok-did-in-Member.ensures.served.kept in
     subst (λ (n : Node). IfErr c.tells_of_member.result (AreLeftBy file s (restart_at s n).state (restart_at (disarmed s) n).state)) (sym c.in-Member.is) (wanting_left c.tells_of_member.result _ _ _ _ c.tells_of_member.ensures.memory (inr (inl (at_member_left file s k step now))))
 
 pub returns-in_err-did-in-Coord-clause-left : goal.returns-in_err-did-in-Coord-clause-left
@@ -134,5 +134,5 @@ returns-in_ok-did-in-Coord-clause-left g c = λ s r.
     let k = c.in-Coord.coord in
     let file = (g.H.Home.seen c.coord_does.new.home).file in
     let step = coord_restart (s.coord k) in
-    let now = held_left g.E.Engine.takes g.E.Engine.stands_for c.coord_does.new.self (with_coord s k step.state) file (g.H.Home.seen c.coord_does.new.home).reach (c.in_ok-did-in-Coord.ensures.stands s r) c.in_ok-did-in-Coord.ensures.served.kept in
+    let now = held_left g.E.Engine.takes g.E.Engine.stands_for c.coord_does.new.self (with_coord s k step.state) (g.H.Home.seen c.coord_does.new.home) (c.in_ok-did-in-Coord.ensures.stands s r) c.in_ok-did-in-Coord.ensures.served.kept in
     subst (λ (n : Node). IfErr c.tells_of_coord.result (AreLeftBy file s (restart_at s n).state (restart_at (disarmed s) n).state)) (sym c.in-Coord.is) (wanting_left c.tells_of_coord.result _ _ _ _ c.tells_of_coord.ensures.memory (inr (inl (at_coord_left file s k step now))))
