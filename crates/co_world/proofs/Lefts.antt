@@ -191,22 +191,22 @@ module _ (s : Federation) (few : AreFew s) (old new : HomeView) (before : AreLef
   member_fault_left k x from to stay left = by (left_split new.file (node.Member k) (s.member k).log.stable x.log.stable left)
     where
       by : HasStable new.file (node.Member k) (s.member k).log.stable ⊎ HasStable new.file (node.Member k) x.log.stable → AreLeftAs new.file s ⊎ AreLeftAs new.file (with_member (disarmed s) k x)
-      by (inl old) = inl (member_left_as k s from to stay refl refl (λ i other. refl) (λ c. refl) old)
-      by (inr new) =
+      by (inl kept) = inl (member_left_as k s from to stay refl refl (λ i other. refl) (λ c. refl) kept)
+      by (inr written) =
           inr
           (member_left_as k (with_member (disarmed s) k x) from to stay refl refl (λ i other. ap (λ (y : MemberState). y.log.stable) (at_other (disarmed s).member k i x other)) (λ c. refl)
-          (subst (λ (y : MemberState). HasStable new.file (node.Member k) y.log.stable) (sym (at_same (disarmed s).member k x)) new))
+          (subst (λ (y : MemberState). HasStable new.file (node.Member k) y.log.stable) (sym (at_same (disarmed s).member k x)) written))
 
   pub coord_fault_left : (k : ℕ) (y : CoordState) → 1 ≤ k → k ≤ s.coordinators → OtherFilesStay (node.Coord k) old new → LeftAs new.file (node.Coord k) (s.coord k).log.stable y.log.stable
       → AreLeftAs new.file s ⊎ AreLeftAs new.file (with_coord (disarmed s) k y)
   coord_fault_left k y from to stay left = by (left_split new.file (node.Coord k) (s.coord k).log.stable y.log.stable left)
     where
       by : HasStable new.file (node.Coord k) (s.coord k).log.stable ⊎ HasStable new.file (node.Coord k) y.log.stable → AreLeftAs new.file s ⊎ AreLeftAs new.file (with_coord (disarmed s) k y)
-      by (inl old) = inl (coord_left_as k s from to stay refl refl (λ i other. refl) (λ m. refl) old)
-      by (inr new) =
+      by (inl kept) = inl (coord_left_as k s from to stay refl refl (λ i other. refl) (λ m. refl) kept)
+      by (inr written) =
           inr
           (coord_left_as k (with_coord (disarmed s) k y) from to stay refl refl (λ i other. ap (λ (z : CoordState). z.log.stable) (at_other (disarmed s).coord k i y other)) (λ m. refl)
-          (subst (λ (z : CoordState). HasStable new.file (node.Coord k) z.log.stable) (sym (at_same (disarmed s).coord k y)) new))
+          (subst (λ (z : CoordState). HasStable new.file (node.Coord k) z.log.stable) (sym (at_same (disarmed s).coord k y)) written))
 
 -- a fault of a node that is told as one of the federation
 full_with : (s : Federation) (records : List Record) → (IsOverlong records → HasOverlong s) → (fault : NodeFault) → IsFullWith records fault → IsFullIn s (of_node fault)
