@@ -4,7 +4,7 @@ use Rattle.co_base.specs.Order.{IsAscending}
 use Rattle.co_base.specs.declared.node.Node.TheVariants as node
 use Rattle.co_base.specs.declared.part.Part.{Part}
 use Rattle.co_outside.specs.declared.home_memory.HomeMemory.{HomeMemory}
-use Rattle.co_outside.specs.HomeMemory.{memory_file, memory_bytes}
+use Rattle.co_outside.specs.HomeMemory.{memory_seen}
 use Rattle.co_log.specs.LogView.{LogView, IsHeld}
 use Rattle.co_record.specs.Format.{most_coordinators}
 use Rattle.co_node.specs.NodeLog.{RepresentsLog}
@@ -20,7 +20,7 @@ use Rattle.co_coord.specs.declared.coord.Coord.{Coord}
 
 -- the directory has what the log keeps of its files
 abbrev pub IsHeldIn : HomeMemory → LogView → Type 0
-IsHeldIn home log = IsHeld (memory_file home) (λ s. length (memory_bytes home s)) log
+IsHeldIn home log = IsHeld (memory_seen home) log
 
 -- a coordinator of three members, whose log the directory has, stands for some plain one that is whole and writable
 pub record IsPlayed (home : HomeMemory) (coord : Coord) : Type 0 where

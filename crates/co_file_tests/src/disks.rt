@@ -1,6 +1,6 @@
 //! A disk over part `a` of member 1 in a home in memory.
 ghost use Rattle.std.specs.Prelude.{◌≡◌, OnOk, IfOk, length};
-ghost use Rattle.co_outside.specs.HomeMemory.{memory_file, memory_bytes};
+ghost use Rattle.co_outside.specs.HomeMemory.{memory_seen};
 ghost use Rattle.co_disk.specs.DiskModel.{read_of};
 ghost use Rattle.co_outside.specs.Home.{Agrees};
 
@@ -40,7 +40,7 @@ pub(crate) fn attached(
     home: &mut HomeMemory,
     bytes: &[u8],
 ) -> Result<Disk, DiskFault>
-    ensures { IfOk result (λ d. Agrees (memory_file home.new d.spot) (length (memory_bytes home.new d.spot)) (read_of d.state)) }
+    ensures { IfOk result (λ d. Agrees (memory_seen home.new) d.spot (read_of d.state)) }
 {
     put(alloc, home, M1_A, bytes)?;
     Disk::attach(alloc, home, M1_A)
@@ -48,8 +48,8 @@ pub(crate) fn attached(
 
 /// Writes a piece where it has its place; where it has none, the file is called too long.
 pub(crate) fn write(disk: &mut Disk, home: &mut HomeMemory, piece: &Piece) -> Result<(), DiskFault>
-    requires { Agrees (memory_file home.old disk.old.spot) (length (memory_bytes home.old disk.old.spot)) (read_of disk.old.state) }
-    ensures { OnOk result (Agrees (memory_file home.new disk.new.spot) (length (memory_bytes home.new disk.new.spot)) (read_of disk.new.state)) }
+    requires { Agrees (memory_seen home.old) disk.old.spot (read_of disk.old.state) }
+    ensures { OnOk result (Agrees (memory_seen home.new) disk.new.spot (read_of disk.new.state)) }
 {
     if piece.at as usize > disk.bytes().len() || piece.at > 99 || piece.bytes.len() > 99 {
         return Err(DiskFault::Long);

@@ -1,6 +1,6 @@
 //! The images that a cut leaves of two pending writes.
 ghost use Rattle.std.specs.Prelude.{length};
-ghost use Rattle.co_outside.specs.HomeMemory.{memory_file, memory_bytes};
+ghost use Rattle.co_outside.specs.HomeMemory.{memory_seen};
 ghost use Rattle.co_disk.specs.DiskModel.{read_of};
 ghost use Rattle.co_outside.specs.Home.{Agrees};
 
@@ -81,7 +81,7 @@ fn write_and_cut(
     writes: &Writes,
     choice: &Choice,
 ) -> Result<(), DiskFault>
-    requires { Agrees (memory_file home.old disk.old.spot) (length (memory_bytes home.old disk.old.spot)) (read_of disk.old.state) }
+    requires { Agrees (memory_seen home.old) disk.old.spot (read_of disk.old.state) }
 {
     write(disk, home, &writes.one)?;
     write(disk, home, &writes.two)?;

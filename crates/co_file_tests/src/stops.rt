@@ -1,6 +1,6 @@
 //! Disks that are written through, stopped at a call, and read again.
 ghost use Rattle.std.specs.Prelude.{OnOk, length};
-ghost use Rattle.co_outside.specs.HomeMemory.{memory_file, memory_bytes};
+ghost use Rattle.co_outside.specs.HomeMemory.{memory_seen};
 ghost use Rattle.co_disk.specs.DiskModel.{read_of};
 ghost use Rattle.co_outside.specs.Home.{Agrees};
 
@@ -13,8 +13,8 @@ use std::alloc::Global;
 
 /// Writes twice, the second time over the end.
 fn write_twice(disk: &mut Disk, home: &mut HomeMemory) -> Result<(), DiskFault>
-    requires { Agrees (memory_file home.old disk.old.spot) (length (memory_bytes home.old disk.old.spot)) (read_of disk.old.state) }
-    ensures { OnOk result (Agrees (memory_file home.new disk.new.spot) (length (memory_bytes home.new disk.new.spot)) (read_of disk.new.state)) }
+    requires { Agrees (memory_seen home.old) disk.old.spot (read_of disk.old.state) }
+    ensures { OnOk result (Agrees (memory_seen home.new) disk.new.spot (read_of disk.new.state)) }
 {
     write(disk, home, &Piece { at: 1, bytes: b"X" })?;
     write(
@@ -29,7 +29,7 @@ fn write_twice(disk: &mut Disk, home: &mut HomeMemory) -> Result<(), DiskFault>
 
 /// Makes the writes stable and reads the file again.
 fn sync_and_reread(disk: &mut Disk, home: &mut HomeMemory) -> Result<(), DiskFault>
-    requires { Agrees (memory_file home.old disk.old.spot) (length (memory_bytes home.old disk.old.spot)) (read_of disk.old.state) }
+    requires { Agrees (memory_seen home.old) disk.old.spot (read_of disk.old.state) }
 {
     disk.sync(home)?;
     disk.reread(home)
@@ -37,7 +37,7 @@ fn sync_and_reread(disk: &mut Disk, home: &mut HomeMemory) -> Result<(), DiskFau
 
 /// Whether the disk and its file hold both writes, before a sync and behind it.
 fn is_written_through(disk: &mut Disk, home: &mut HomeMemory) -> bool
-    requires { Agrees (memory_file home.old disk.old.spot) (length (memory_bytes home.old disk.old.spot)) (read_of disk.old.state) }
+    requires { Agrees (memory_seen home.old) disk.old.spot (read_of disk.old.state) }
 {
     if write_twice(disk, home).is_err() || !holds(disk, home, b"aXYZ") {
         return false;
@@ -47,7 +47,7 @@ fn is_written_through(disk: &mut Disk, home: &mut HomeMemory) -> bool
 
 /// The device call at which a sync behind a write is stopped; 0 where the write is, or nothing.
 fn stopped_sync(disk: &mut Disk, home: &mut HomeMemory, leaves: Leaves) -> u8
-    requires { Agrees (memory_file home.old disk.old.spot) (length (memory_bytes home.old disk.old.spot)) (read_of disk.old.state) }
+    requires { Agrees (memory_seen home.old) disk.old.spot (read_of disk.old.state) }
 {
     disk.arm(2, leaves);
     let piece = Piece {
@@ -65,7 +65,7 @@ fn stopped_sync(disk: &mut Disk, home: &mut HomeMemory, leaves: Leaves) -> u8
 
 /// Arms a stop, takes it away, writes and syncs.
 fn write_disarmed(disk: &mut Disk, home: &mut HomeMemory) -> Result<(), DiskFault>
-    requires { Agrees (memory_file home.old disk.old.spot) (length (memory_bytes home.old disk.old.spot)) (read_of disk.old.state) }
+    requires { Agrees (memory_seen home.old) disk.old.spot (read_of disk.old.state) }
 {
     disk.arm(1, Leaves::Old);
     disk.disarm();

@@ -1,5 +1,5 @@
 use Rattle.std.proofs.Common.{length}
-use Rattle.co_outside.specs.HomeMemory.{memory_file, memory_bytes}
+use Rattle.co_outside.specs.HomeMemory.{memory_seen}
 use Rattle.co_plain.specs.CoordLog.{coord_arm}
 use Rattle.co_coord_rows.proofs.Events.{whole_laws, writable_laws, plain_up, played}
 use Rattle.co_coord_rows.proofs.calls.arm.Goals as goal
@@ -10,6 +10,6 @@ returns c =
     let p = c.requires.played in
     let home = c.args.home.now in
     let up = plain_up home x p c.requires.up in
-    let held = c.arm.ensures.held (memory_file home) (λ s. length (memory_bytes home s)) p.held in
+    let held = c.arm.ensures.held (memory_seen home) p.held in
     played home x p home c.arm.new.self (coord_arm p.plain c.args.call c.in_ok-leaves.leaves) c.in_ok-arm.field-0 c.arm.ensures.same held (c.in_ok-arm.ensures.did p.plain p.stands)
     ((whole_laws home x p).armed c.args.call c.in_ok-leaves.leaves up) ((writable_laws home x p).armed c.args.call c.in_ok-leaves.leaves up)

@@ -1,12 +1,12 @@
 use Rattle.std.proofs.Common.{length, [], subst, sym}
 use Rattle.std.specs.Prelude.{None}
 use Rattle.co_outside.specs.declared.home_memory.HomeMemory.{HomeMemory}
-use Rattle.co_outside.specs.HomeMemory.{memory_file, memory_bytes}
+use Rattle.co_outside.specs.HomeMemory.{memory_seen}
 use Rattle.co_log.specs.Current.{IsReady}
 use Rattle.co_log_rows.proofs.Tested.{ready_waiting}
 use Rattle.co_log_rows.proofs.logs.cut.Goals as goal
 
 pub returns : goal.returns
 returns c =
-    subst (λ (h : HomeMemory). IsReady (memory_file h) (λ s. length (memory_bytes h s)) c.cut.new.self) (sym c.cut.ensures.home)
-    (ready_waiting (memory_file c.args.home.now) (λ s. length (memory_bytes c.args.home.now s)) c.args.log.now c.cut.new.self [] None c.cut.ensures.log c.requires)
+    subst (λ (h : HomeMemory). IsReady (memory_seen h) c.cut.new.self) (sym c.cut.ensures.home)
+    (ready_waiting (memory_seen c.args.home.now) c.args.log.now c.cut.new.self [] None c.cut.ensures.log c.requires)

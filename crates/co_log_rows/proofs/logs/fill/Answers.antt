@@ -4,5 +4,5 @@ use Rattle.co_log_rows.proofs.logs.fill.Goals as goal
 
 pub returns : goal.returns
 returns c = λ done.
-    let next = filling_ordered c.args.log.now c.fill_spare.new.self c.requires.ready.items (c.args.item ∷ []) c.fill_spare.result c.requires.ready.ordered c.fill_spare.ensures.filling done in
-    record { held = c.fill_spare.ensures.held done; latest = newest_filled c.args.log.now c.fill_spare.new.self (c.args.item ∷ []) c.fill_spare.result c.requires.ready.latest c.fill_spare.ensures.filling done; items = _; ordered = next }
+    let next = filling_ordered c.args.log.now c.fill_spare.new.self c.requires.ready.items (c.args.item ∷ []) c.fill_spare.result c.requires.ready.ordered c.fill_spare.ensures.called.filled done in
+    record { held = c.fill_spare.ensures.called.held done; latest = newest_filled c.args.log.now c.fill_spare.new.self (c.args.item ∷ []) c.fill_spare.result c.requires.ready.latest c.fill_spare.ensures.called.filled done; items = _; ordered = next }

@@ -1,5 +1,5 @@
 use Rattle.std.proofs.Common.{length, sym, ◌∙◌}
-use Rattle.co_outside.specs.HomeMemory.{memory_file, memory_bytes}
+use Rattle.co_outside.specs.HomeMemory.{memory_seen}
 use Rattle.co_log.proofs.Ordered.{found, found_fresh, found_ordered, ready_made}
 use Rattle.co_log_rows.proofs.logs.opened.Goals as goal
 
@@ -9,7 +9,7 @@ make-requires-clause-fresh c =
 
 pub returns-then-fresh : goal.returns-then-fresh
 returns-then-fresh c =
-    ready_made (memory_file c.make.new.home) (λ s. length (memory_bytes c.make.new.home s)) c.in_ok-log.log c.make.new.self
+    ready_made (memory_seen c.make.new.home) c.in_ok-log.log c.make.new.self
     (found_fresh c.in_ok-log.log (found c.args.node _ _ c.in_ok-log.log c.requires c.in_ok-log.ensures.attached) (sym c.fresh.ensures ∙ c.if-fresh.true))
     c.in_ok-make.ensures.made c.in_ok-make.ensures.held
 
