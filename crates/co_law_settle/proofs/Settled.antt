@@ -69,11 +69,11 @@ counted s = record { between = pair_counted s; idle = idle_counted s }
 holds_serially : (s0 s : Federation) → Facts s → Grows s0 s → NothingOpen s → (m : ℕ) → IsMember s m → HoldsSerially s0 s m
 holds_serially s0 s f grows none m i =
     record {
-      durable = logs_give s f m ∙ ap (λ all. all m) (same_serial s0 s f grows s.decided);
+      durable = logs_give s f m ∙ ap (λ all. all m) (same_serial s0 s grows s.decided);
       installed =
           same_map nat_list_cmp_total (slice_cmp-IsAntisymmetric nat_cmp-IsAntisymmetric) _ _
           (λ q. sym (((f.members m).views Memory).image.untouched q (λ t vote e d. absurd (none t (VotedAt m i (found_holds (s.member m).engine.voted t vote e))))))
-          ∙ ap (λ all. all m) (same_serial s0 s f grows s.decided);
+          ∙ ap (λ all. all m) (same_serial s0 s grows s.decided);
     }
 
 -- a state of a run over own logs
