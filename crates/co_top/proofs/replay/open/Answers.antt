@@ -1,4 +1,4 @@
-use Rattle.std.proofs.Common.{Option, subst, sym}
+use Rattle.std.proofs.Common.{Option, ◌∙◌, subst, sym}
 use Rattle.std.specs.Prelude.{IfOk, IfErr}
 use Rattle.co_outside.specs.declared.spot.Spot.{Spot}
 use Rattle.co_outside.specs.Home.{File, IsClean}
