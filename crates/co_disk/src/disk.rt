@@ -163,11 +163,11 @@ impl Disk {
         ensures called { HasCalled (after_sync self.old.state) self.old.state IsOfSync self.old self.new (H.seen home.old) (H.seen home.new) result }
         ensures clean { OnOk result (IsClean (H.seen home.new) self.old.spot) }
     {
-        self.settle(home)
+        self.make_stable(home)
     }
 
     /// Syncs the file, or leaves the image of a stop.
-    fn settle<H: Home>(&mut self, home: &mut H) -> Result<(), DiskFault>
+    fn make_stable<H: Home>(&mut self, home: &mut H) -> Result<(), DiskFault>
         requires agrees { Agrees (H.seen home.old) self.old.spot (read_of self.old.state) }
         ensures spot { self.new.spot ≡ self.old.spot }
         ensures synced { OnOk result (self.new.state ≡ after_sync self.old.state) }

@@ -9,7 +9,7 @@ use Rattle.co_disk.specs.Kept.{entries, state_of}
 use Rattle.co_disk.proofs.Leaving.{stable_reached, begins_reached, ends_reached}
 use Rattle.co_disk.proofs.HomeFaults.{device_only, device_of_sync}
 use Rattle.co_disk.proofs.Writes.{untouched_image, cleaned_image}
-use Rattle.co_disk.proofs.disk.Disk.settle.Goals as goal
+use Rattle.co_disk.proofs.disk.Disk.make_stable.Goals as goal
 
 pub returns-in_err-sync-clause-image : goal.returns-in_err-sync-clause-image
 returns-in_err-sync-clause-image g c f told =
