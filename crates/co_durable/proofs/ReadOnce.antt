@@ -26,7 +26,7 @@ use Rattle.co_durable.specs.Recovering.{member_refuses, coord_refuses}
 use Rattle.co_log.specs.NodeFiles.{Items}
 use Rattle.co_durable.specs.Told.{IsTold, AreTold, IsOfFiles}
 use Rattle.co_durable.proofs.Firsts.{all_front, all_back, both_first, all_good, pairs_once}
-use Rattle.co_durable.proofs.Pairs.{left_all, all_append, all_over}
+use Rattle.co_durable.proofs.Pairs.{all_map, all_append, all_over}
 
 -- ---- the current file of a node
 
@@ -53,13 +53,13 @@ current_of : (file : Spot → Option File) (node : Node) (part : ℕ) (items : I
 current_of file node part items a b c is_a is_b =
     subst (λ (bytes : List ℕ). HasCurrent node a bytes part items) is_b (subst (λ (bytes : List ℕ). HasCurrent node bytes c.b part items) is_a c.current)
 
-current_in_once : (file : Spot → Option File) (node : Node) (part other : ℕ) (items more : Items) → IsTold file node → IsCurrentIn file node part items → IsCurrentIn file node other more → (part ≡ other) × (items ≡ more)
+pub current_in_once : (file : Spot → Option File) (node : Node) (part other : ℕ) (items more : Items) → IsTold file node → IsCurrentIn file node part items → IsCurrentIn file node other more → (part ≡ other) × (items ≡ more)
 current_in_once file node part other items more told c d =
     let same_a : c.a ≡ d.a = sym (c.told_a told.0 told.2) ∙ d.told_a told.0 told.2 in
     let same_b : c.b ≡ d.b = sym (c.told_b told.1 told.3) ∙ d.told_b told.1 told.3 in
     has_current_once node d.a d.b part other items more (current_of file node part items d.a d.b c same_a same_b) d.current
 
-records_once : (file : Spot → Option File) (node : Node) (items more : Items) → IsTold file node → HasRecordsIn file node items → HasRecordsIn file node more → items ≡ more
+pub records_once : (file : Spot → Option File) (node : Node) (items more : Items) → IsTold file node → HasRecordsIn file node items → HasRecordsIn file node more → items ≡ more
 records_once file node items more told these those = (current_in_once file node these.0 those.0 items more told these.1 those.1).1
 
 -- ---- files that are no log
@@ -260,36 +260,38 @@ undurable_once file members coords Count that told own its one two = absurd own
 undurable_once file members coords (Old spot) that told own its one two = absurd own
 undurable_once file members coords Memory that told own its one two = absurd own
 
-durable_logs : (file : Spot → Option File) (members coords : ℕ) (rows : List DurableRow) → IsDurable file members coords rows → AllLogs file members coords
-durable_logs file members coords rows d =
-    all_append (IsLogIn file) (member_nodes members) (coord_nodes coords) (left_all (HasRecordsIn file) (IsLogIn file) (λ node items has. (items, has)) (member_nodes members) d.member_logs d.read_members)
-    (left_all (HasRecordsIn file) (IsLogIn file) (λ node items has. (items, has)) (coord_nodes coords) d.coord_logs d.read_coords)
-
 nodes_stand : (file : Spot → Option File) (refuses : Items → Option ℕ) (nodes : List Node) (logs : List Items) → EachPair (HasRecordsIn file) nodes logs → AllByRecursion (IsAllowedBy refuses) logs → AllByRecursion (Stands file refuses) nodes
 nodes_stand file refuses nodes logs read allowed = all_over (HasRecordsIn file) (IsAllowedBy refuses) (Stands file refuses) (λ node items has none. (items, has, none)) nodes logs read allowed
 
-durable_not_fallen : (file : Spot → Option File) (members coords : ℕ) (rows : List DurableRow) (spot : Spot) (at : ℕ) → AreTold file members coords → IsDurable file members coords rows → IsFirstFallen file members coords spot at → ⊥
-durable_not_fallen file members coords rows spot at told d fallen = elim fallen [
-  | inl f ↦
-      all_stand file (member_refuses coords) spot at (member_nodes members) (all_front (IsTold file) (member_nodes members) (coord_nodes coords) told)
-      (nodes_stand file (member_refuses coords) (member_nodes members) d.member_logs d.read_members d.allowed_members) f
-  | inr f ↦
-      all_stand file (coord_refuses members) spot at (coord_nodes coords) (all_back (IsTold file) (member_nodes members) (coord_nodes coords) told)
-      (nodes_stand file (coord_refuses members) (coord_nodes coords) d.coord_logs d.read_coords d.allowed_coords) f.1
-]
+-- where the records of all logs are allowed at their places, there is no fault of the files
+module _ (file : Spot → Option File) (members coords : ℕ) (told : AreTold file members coords)
+    (these : AllByRecursion (Stands file (member_refuses coords)) (member_nodes members)) (those : AllByRecursion (Stands file (coord_refuses members)) (coord_nodes coords)) where
+  logs_stand : AllLogs file members coords
+  logs_stand =
+      all_append (IsLogIn file) (member_nodes members) (coord_nodes coords)
+      (all_map (Stands file (member_refuses coords)) (IsLogIn file) (λ node stands. (stands.0, stands.1)) (member_nodes members) these)
+      (all_map (Stands file (coord_refuses members)) (IsLogIn file) (λ node stands. (stands.0, stands.1)) (coord_nodes coords) those)
+
+  none_fallen : (spot : Spot) (at : ℕ) → IsFirstFallen file members coords spot at → ⊥
+  none_fallen spot at fallen = elim fallen [
+    | inl f ↦ all_stand file (member_refuses coords) spot at (member_nodes members) (all_front (IsTold file) (member_nodes members) (coord_nodes coords) told) these f
+    | inr f ↦ all_stand file (coord_refuses members) spot at (coord_nodes coords) (all_back (IsTold file) (member_nodes members) (coord_nodes coords) told) those f.1
+  ]
+
+  pub standing_or_not : (fault : WorldFault) → IsOfFiles fault → IsUndurable file members coords fault → ⊥
+  standing_or_not (Device spot) own u = own
+  standing_or_not (Differs spot at kept read) own u = own
+  standing_or_not (InUse spot) own u = own
+  standing_or_not (Bad spot at) own u = elim u [ inl unread ↦ not_all_logs file members coords (Bad spot at) own told logs_stand unread | inr f ↦ none_fallen spot at f.1 ]
+  standing_or_not (Full spot) own u = not_all_logs file members coords (Full spot) own told logs_stand u
+  standing_or_not Count own u = own
+  standing_or_not (Old spot) own u = own
+  standing_or_not Memory own u = own
 
 pub durable_or_not : (file : Spot → Option File) (members coords : ℕ) (rows : List DurableRow) (fault : WorldFault) → AreTold file members coords → IsOfFiles fault → IsDurable file members coords rows → IsUndurable file members coords fault → ⊥
-durable_or_not file members coords rows (Device spot) told own d u = own
-durable_or_not file members coords rows (Differs spot at kept read) told own d u = own
-durable_or_not file members coords rows (InUse spot) told own d u = own
-durable_or_not file members coords rows (Bad spot at) told own d u = elim u [
-  | inl unread ↦ not_all_logs file members coords (Bad spot at) own told (durable_logs file members coords rows d) unread
-  | inr f ↦ durable_not_fallen file members coords rows spot at told d f.1
-]
-durable_or_not file members coords rows (Full spot) told own d u = not_all_logs file members coords (Full spot) own told (durable_logs file members coords rows d) u
-durable_or_not file members coords rows Count told own d u = own
-durable_or_not file members coords rows (Old spot) told own d u = own
-durable_or_not file members coords rows Memory told own d u = own
+durable_or_not file members coords rows fault told own d u =
+    standing_or_not file members coords told (nodes_stand file (member_refuses coords) (member_nodes members) d.member_logs d.read_members d.allowed_members)
+    (nodes_stand file (coord_refuses members) (coord_nodes coords) d.coord_logs d.read_coords d.allowed_coords) fault own u
 
 pub durable_once : (file : Spot → Option File) (members coords : ℕ) (these those : List DurableRow) → AreTold file members coords → IsDurable file members coords these → IsDurable file members coords those → these ≡ those
 durable_once file members coords these those told d e =

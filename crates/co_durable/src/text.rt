@@ -1,5 +1,6 @@
 //! The text of durable records.
 ghost use Rattle.std.specs.Prelude.{◌≡◌, ◌++◌, ◌≤◌, ℕ, List, Some, take, OnOk, OnErr, IsErrOf};
+ghost use Rattle.co_base.specs.Lent.{Begins};
 ghost use Rattle.co_outside.specs.Faults.{HasRisen};
 ghost use Rattle.co_durable.specs.Text.{record_line, records_text};
 
@@ -11,9 +12,10 @@ use std::alloc::{AllocError, Global};
 /// How many bytes of text are put at once, but for the last line of them.
 const PIECE: usize = 65_536;
 
-/// Appends the line of a record: the member, the key and the value.
+/// Appends the line of a record: the member, the key and the value. After want of memory the list begins with what it held.
 fn append_line(into: &mut Vec<u8>, row: &DurableRow) -> Result<(), AllocError>
-    ensures { OnOk result (into.new.items ≡ into.old.items ++ record_line row.now) }
+    ensures ok { OnOk result (into.new.items ≡ into.old.items ++ record_line row.now) }
+    ensures err { OnErr result (Begins into.old.items into.new.items) }
 {
     into.push(b'm')?;
     into.extend_from_slice(Buffer::new().format(row.member).as_bytes())?;

@@ -4,9 +4,10 @@ ghost use Rattle.co_outside.specs.declared.spot.Spot.{Spot};
 ghost use Rattle.co_outside.specs.Home.{HasFailed};
 ghost use Rattle.co_outside.specs.Faults.{HasRisen};
 ghost use Rattle.co_durable.specs.declared.durable.DurableRow.{DurableRow};
-ghost use Rattle.co_durable.specs.Durable.{IsDurable, IsUndurable};
+ghost use Rattle.co_durable.specs.declared.fault.WorldFault.TheVariants as world;
+ghost use Rattle.co_durable.specs.Durable.{IsDurable};
 ghost use Rattle.co_durable.specs.Text.{records_text};
-ghost use Rattle.co_durable.specs.Written.{refusal_of, IsOfReading, HasDurable, IsRefusal, IsFront};
+ghost use Rattle.co_durable.specs.Written.{HasDurable, IsUnreadable, IsRefusal, IsFront};
 
 use crate::durable::Durable;
 use crate::fault::WorldFault;
@@ -28,62 +29,24 @@ pub enum RecordsFault {
     /// The sink failed.
     #[error("the sink failed")]
     Write,
-    /// The directory failed at this file; where it was not entered this is `m1.a`.
-    #[error("the directory of logs failed at {spot}")]
-    Device {
-        spot: Spot,
-    },
-    /// The file is no log.
-    #[error("{spot} is no log: place {at}")]
-    Bad {
-        spot: Spot,
-        /// The place of the first fault, in bytes from the front.
-        at: u32,
-    },
-    /// The file has more than 268,435,456 bytes.
-    #[error("{spot} is too long")]
-    Full {
-        spot: Spot,
-    },
-    /// There was no memory.
-    #[error("out of memory")]
-    Memory,
-}
-
-/// Why there are no records to be written.
-fn refusal(fault: WorldFault) -> RecordsFault
-    requires { IsOfReading fault }
-    ensures { result ≡ refusal_of fault }
-{
-    match fault {
-        WorldFault::Device { spot } => RecordsFault::Device { spot },
-        WorldFault::Bad { spot, at } => RecordsFault::Bad { spot, at },
-        WorldFault::Full { spot } => RecordsFault::Full { spot },
-        WorldFault::Memory => RecordsFault::Memory,
-        WorldFault::Differs { .. }
-        | WorldFault::InUse { .. }
-        | WorldFault::Count
-        | WorldFault::Old { .. } => unreachable!(),
-    }
+    /// The logs were not read, or there was no memory. Where the directory was not entered it failed at `m1.a`.
+    #[error(transparent)]
+    World(WorldFault),
 }
 
 /// The durable records of all logs in a directory.
-fn read_directory<H: Home>(alloc: Global, home: &mut H, dir: &str) -> Result<Durable, RecordsFault>
+fn read_directory<H: Home>(alloc: Global, home: &mut H, dir: &str) -> Result<Durable, WorldFault>
     ensures durable { IfOk result (IsDurable (H.seen home.old).file 16 8) }
-    ensures refused { IfErr result (IsRefusal (H.seen home.old).file) }
-    ensures write { IsErrOf result RecordsFault.Write → ⊥ }
+    ensures refused { IfErr result (IsUnreadable (H.seen home.old).file) }
     ensures files { (s : Spot) → (H.seen home.new).file s ≡ (H.seen home.old).file s }
     ensures entered { OnOk result ((H.seen home.new).entered ≡ Some dir.now) }
-    ensures device { (spot : Spot) → IsErrOf result (RecordsFault.Device spot) → HasFailed spot (H.seen home.old) (H.seen home.new) }
-    ensures quiet { ((spot : Spot) → IsErrOf result (RecordsFault.Device spot) → ⊥) → (H.seen home.new).faults ≡ (H.seen home.old).faults }
+    ensures device { (spot : Spot) → IsErrOf result (WorldFault.Device spot) → HasFailed spot (H.seen home.old) (H.seen home.new) }
+    ensures quiet { ((spot : Spot) → IsErrOf result (WorldFault.Device spot) → ⊥) → (H.seen home.new).faults ≡ (H.seen home.old).faults }
 {
     match home.enter(alloc, dir) {
-        Ok(()) => match read_rows(alloc, home, MEMBERS, COORDS) {
-            Ok(rows) => Ok(rows),
-            Err(fault) => Err(refusal(fault)),
-        },
-        Err(HomeFault::Failed) => Err(RecordsFault::Device { spot: Spot::FIRST }),
-        Err(HomeFault::Memory) => Err(RecordsFault::Memory),
+        Ok(()) => read_rows(alloc, home, MEMBERS, COORDS),
+        Err(HomeFault::Failed) => Err(WorldFault::Device { spot: Spot::FIRST }),
+        Err(HomeFault::Memory) => Err(WorldFault::Memory),
     }
 }
 
@@ -91,8 +54,8 @@ fn read_directory<H: Home>(alloc: Global, home: &mut H, dir: &str) -> Result<Dur
 /// `NODE KEY VALUE` for each, members ascending and the keys of each member ascending. The directory is
 /// entered, and made where it is missing; no file is written.
 ///
-/// `Write` comes where the sink failed and its count of faults rose, and only there. `Device`, `Bad`, `Full` and
-/// `Memory` come as `read_durable` says, and `Device` with `m1.a` where the directory could not be entered;
+/// `Write` comes where the sink failed and its count of faults rose, and only there. The faults of the world are `Device`, `Bad`, `Full` and
+/// `Memory`, which come as `read_durable` says, and `Device` with `m1.a` where the directory could not be entered;
 /// with these nothing is written, but for `Memory`, which may come with a front of the text.
 pub fn write_records<H: Home, K: Sink>(
     alloc: Global,
@@ -107,8 +70,8 @@ pub fn write_records<H: Home, K: Sink>(
     ensures refused { IfErr result (IsRefusal (H.seen home.old).file) }
     ensures files { (s : Spot) → (H.seen home.new).file s ≡ (H.seen home.old).file s }
     ensures entered { OnOk result ((H.seen home.new).entered ≡ Some dir.now) }
-    ensures device { (spot : Spot) → IsErrOf result (RecordsFault.Device spot) → HasFailed spot (H.seen home.old) (H.seen home.new) }
-    ensures quiet { ((spot : Spot) → IsErrOf result (RecordsFault.Device spot) → ⊥) → (H.seen home.new).faults ≡ (H.seen home.old).faults }
+    ensures device { (spot : Spot) → IsErrOf result (RecordsFault.World (world.Device spot)) → HasFailed spot (H.seen home.old) (H.seen home.new) }
+    ensures quiet { ((spot : Spot) → IsErrOf result (RecordsFault.World (world.Device spot)) → ⊥) → (H.seen home.new).faults ≡ (H.seen home.old).faults }
     ensures counts { K.faults out.old ≤ K.faults out.new }
     ensures write { IsErrOf result RecordsFault.Write → HasRisen (K.faults out.old) (K.faults out.new) }
     ensures silent { (IsErrOf result RecordsFault.Write → ⊥) → K.faults out.new ≡ K.faults out.old }
@@ -117,8 +80,8 @@ pub fn write_records<H: Home, K: Sink>(
         Ok(rows) => match put_records(alloc, out, rows.as_slice()) {
             Ok(()) => Ok(()),
             Err(SinkFault::Failed) => Err(RecordsFault::Write),
-            Err(SinkFault::Memory) => Err(RecordsFault::Memory),
+            Err(SinkFault::Memory) => Err(RecordsFault::World(WorldFault::Memory)),
         },
-        Err(fault) => Err(fault),
+        Err(fault) => Err(RecordsFault::World(fault)),
     }
 }

@@ -1,7 +1,7 @@
 //! Calls of a directory and of a sink that fail.
 use crate::logs::M1_BOTH;
 use crate::telling::{C8_B, M1_A, M1_B};
-use co_durable::{RecordsFault, write_records};
+use co_durable::{RecordsFault, WorldFault, write_records};
 use co_outside::{FailAt, HomeCall, HomeMemory, SinkMemory, Spot};
 use std::alloc::Global;
 use std::test::Fail;
@@ -17,7 +17,7 @@ static CALLS: [(Spot, HomeCall); 3] = [
 fn failed_at(alloc: Global, home: &mut HomeMemory) -> Spot {
     let mut out = SinkMemory::new(alloc, Vec::new(alloc));
     match write_records(alloc, home, "logs", &mut out) {
-        Err(RecordsFault::Device { spot }) => spot,
+        Err(RecordsFault::World(WorldFault::Device { spot })) => spot,
         _ => Spot { node: 0, part: 0 },
     }
 }

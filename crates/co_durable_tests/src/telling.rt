@@ -1,5 +1,5 @@
 //! Directories of log files, and what their durable records are to be.
-use co_durable::{RecordsFault, write_records};
+use co_durable::{RecordsFault, WorldFault, write_records};
 use co_outside::{HomeMemory, SinkMemory, Spot};
 use std::alloc::{AllocError, Global};
 
@@ -66,7 +66,7 @@ fn is_told(alloc: Global, home: &mut HomeMemory, told: &Told) -> bool {
     let mut out = SinkMemory::new(alloc, Vec::new(alloc));
     match (write_records(alloc, home, "logs", &mut out), told) {
         (Ok(()), Told::Text(text)) => out.bytes() == *text,
-        (Err(RecordsFault::Bad { spot, at }), Told::Bad(file, place)) => {
+        (Err(RecordsFault::World(WorldFault::Bad { spot, at })), Told::Bad(file, place)) => {
             spot == *file && at == *place
         }
         _ => false,

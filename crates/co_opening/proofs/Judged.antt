@@ -35,6 +35,7 @@ use Rattle.co_opening.specs.Judged.{AreJudged, IsUncounted}
 use Rattle.co_opening.specs.Opened.{IsUnopened}
 use Rattle.co_opening.specs.Standing.{IsMemberFound, IsCoordFound, IsCoordPastOf}
 use Rattle.co_opening.specs.Versions.{IsLatest}
+use Rattle.co_opening.proofs.Judgings.{fit}
 use Rattle.co_opening.proofs.Laid.{all_laid, none_used}
 use Rattle.co_opening.proofs.Lists.{found_at, Founds, found_all, founds_length, founds_from, founds_all, founds_both, same_at, all_at, outside, in_files_at}
 use Rattle.co_opening.proofs.Numbering.{by_number}
@@ -127,6 +128,7 @@ module _ (file : Spot → Option File) (resume : Bool) (head : Head) (member_log
             (λ q l t f is t_is. record { standing = is.standing; allowed = t_is.0; past_is = t_is.1 }) (found_at cs.list) 0 coord_logs coord_pasts cs.list (same_at cs.list) cs.are;
         many_members = many_members;
         many_coords = many_coords;
+        fit = fit file resume head member_logs coord_logs att member_pasts coord_pasts told seen latest newest;
       }
 
 -- ---- too many numbers
@@ -139,7 +141,7 @@ module _ (file : Spot → Option File) (resume : Bool) (head : Head) (member_log
   too_many : 65536 < length (keys (with_coords (with_members no_entries member_pasts) coord_pasts)) → IsUnopened file head resume Count
   too_many h =
       let many : 65536 < length (keys (used_numbers (length head.kinds) head.coords j.found_member j.found_coord)) = subst (λ numbers. 65536 < length (keys numbers)) laid_used h in
-      (by resume refl many, record { found_member = j.found_member; found_coord = j.found_coord; found = j.found; many = many })
+      (by resume refl many, j.fit, record { found_member = j.found_member; found_coord = j.found_coord; found = j.found; many = many })
     where
       by : (b : Bool) → resume ≡ b → 65536 < length (keys (used_numbers (length head.kinds) head.coords j.found_member j.found_coord)) → resume ≡ true
       by true e many = e

@@ -25,8 +25,9 @@ use Rattle.co_durable.specs.Recovering.{HasItems, IsReadable, IsPastOf, LogStand
 use Rattle.co_durable.proofs.Durables.{unread_member, unread_coord, fallen_member, fallen_coord}
 use Rattle.co_durable.proofs.Firsts.{all_back}
 use Rattle.co_durable.proofs.Opened.{stands}
-use Rattle.co_durable.proofs.Pairs.{left_all, right_all, all_over, first_left, first_right, first_over}
+use Rattle.co_durable.proofs.Pairs.{all_append, left_all, right_all, all_over, first_left, first_right, first_over}
 use Rattle.co_opening.specs.Attached.{AreAttached, IsAttachedTo, IsUnattached, IsFirstUnattached}
+use Rattle.co_opening.specs.Fit.{AreFit}
 use Rattle.co_opening.specs.InUse.{IsUnusedNode, IsInUse}
 use Rattle.co_opening.specs.Judged.{IsOfJudging}
 use Rattle.co_opening.specs.Opened.{IsUnopened}
@@ -185,6 +186,18 @@ module _ (file : Spot → Option File) (resume : Bool) (head : Head) (member_log
 
   not_fresh : (spot : Spot) (l : LogView) → IsFresh l → IsOldAt spot l → ⊥
   not_fresh spot l fresh old = absurd (let e : 1 ≡ 2 = sym old.1 ∙ fresh.version in omega (arith, e))
+
+  pub fit : (pasts : List MemberPast) (coord_pasts : List CoordPast) → EachPair (IsPastOf head.coords) member_logs pasts → EachPair (IsCoordPastOf members) coord_logs coord_pasts
+      → AllByRecursion IsLatest member_logs → AllByRecursion IsLatest coord_logs → AreFit file head resume
+  fit pasts coord_pasts told seen latest newest = record {
+    members_stand = members_stand pasts told;
+    coords_stand = coords_stand coord_pasts seen;
+    newest = all_append (IsNewIn file) (member_nodes members) (coord_nodes head.coords)
+        (all_over (IsAttachedTo file resume) IsLatest (IsNewIn file) new_in (member_nodes members) member_logs att.member latest)
+        (all_over (IsAttachedTo file resume) IsLatest (IsNewIn file) new_in (coord_nodes head.coords) coord_logs att.coord newest);
+    unused = λ none. all_append (IsUnusedNode file) (member_nodes members) (coord_nodes head.coords)
+        (are_unused file resume none (member_nodes members) member_logs att.member) (are_unused file resume none (coord_nodes head.coords) coord_logs att.coord);
+  }
 
   pub member_old : (pasts : List MemberPast) (coord_pasts : List CoordPast) (fault : WorldFault) → EachPair (IsPastOf head.coords) member_logs pasts → EachPair (IsCoordPastOf members) coord_logs coord_pasts
       → IsFirstOldLog member_logs fault → IsUnopened file head resume fault

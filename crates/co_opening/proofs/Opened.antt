@@ -44,6 +44,7 @@ opened_nodes takes stands_for file resume head member_logs coord_logs member_pas
       found = j.found;
       may = j.may;
       unused = j.unused;
+      fit = j.fit;
       members = many;
       coords = few ∙ j.many_coords;
       member = λ p m is. all_from_first (λ q x. IsMemberAt takes stands_for head.coords q x (opened_member head.kinds (suc q) (j.found_member (suc q)))) n.members.items p m ms is;

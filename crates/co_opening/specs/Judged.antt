@@ -9,6 +9,7 @@ use Rattle.co_recover.specs.declared.past.CoordPast.{CoordPast}
 use Rattle.co_recover.specs.declared.past.MemberPast.{MemberPast}
 use Rattle.co_durable.specs.declared.fault.WorldFault.{WorldFault}
 use Rattle.co_durable.specs.declared.fault.WorldFault.TheVariants.{Device, Differs, InUse, Bad, Full, Count, Old, Memory}
+use Rattle.co_opening.specs.Fit.{AreFit}
 use Rattle.co_opening.specs.Found.{AreFound, MayRun, AreUnused}
 use Rattle.co_opening.specs.Standing.{AreMembersFound, AreCoordsFound}
 
@@ -19,6 +20,7 @@ pub record AreJudged (file : Spot → Option File) (resume : Bool) (head : Head)
   pub found : AreFound file (length head.kinds) head.coords found_member found_coord
   pub may : MayRun head.kinds head.coords found_member found_coord
   pub unused : resume ≡ false → AreUnused found_member found_coord
+  pub fit : AreFit file head resume
   pub members : AreMembersFound head.coords found_member 0 member_logs member_pasts
   pub coords : AreCoordsFound (length head.kinds) found_coord 0 coord_logs coord_pasts
   pub many_members : length member_logs ≡ length head.kinds

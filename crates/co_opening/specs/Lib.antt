@@ -4,6 +4,7 @@ pub mod Nodes
 pub mod Found
 pub mod InUse
 pub mod Versions
+pub mod Fit
 pub mod Opened
 pub mod Kept
 pub mod Attached

@@ -6,6 +6,7 @@
 mod attaching;
 mod coords;
 mod judging;
+mod laws;
 mod making;
 mod members;
 mod nodes;
@@ -13,6 +14,7 @@ mod numbers;
 mod opening;
 mod sort;
 
+pub use laws::directories_are_opened_once;
 pub use nodes::Nodes;
 pub use numbers::{lay_votes, numbers_in};
 pub use opening::open_nodes;

@@ -1,9 +1,8 @@
 //! The sessions of this run.
-ghost use Rattle.std.specs.Prelude.{◌≡◌, ◌↔◌, ◌<◌, ◌≤◌, true, false, length, reverse, OnOk, OnErr, IfOk, IsOk, IsErrOf};
-ghost use Rattle.std.specs.FinMap.{keys};
+ghost use Rattle.std.specs.Prelude.{◌≡◌, ◌<◌, ◌≤◌, true, false, length, reverse, OnOk, OnErr, IfOk};
 ghost use Rattle.co_state.specs.Table.{holds};
 ghost use Rattle.co_session.specs.Clients.{is_used, is_full, none_begun, with_begun, with_answered, with_asked, carried_in, decider_in, parts_in, told_in};
-ghost use Rattle.co_session.specs.Leaves.{IsLeave, leave_in};
+ghost use Rattle.co_session.specs.Leaves.{IsLeave, IsLeaveToBegin, leave_in};
 
 use crate::client::Client;
 use crate::fault::SessionFault;
@@ -63,9 +62,7 @@ impl Sessions {
     /// Whether a client may begin the transaction: `Used` exactly where it was begun in this run or stands in
     /// an opened log, else `Count` exactly where `MOST` numbers or more are begun or used.
     pub fn may_begin(&self, t: Txn) -> Result<(), SessionFault>
-        ensures ok { IsOk result ↔ ((is_used self.now t ≡ false) × (is_full self.now ≡ false)) }
-        ensures used { IsErrOf result SessionFault.Used ↔ (is_used self.now t ≡ true) }
-        ensures count { IsErrOf result SessionFault.Count ↔ ((is_used self.now t ≡ false) × (is_full self.now ≡ true)) }
+        ensures { IsLeaveToBegin self.now t result }
     {
         if self.is_used(t) {
             return Err(SessionFault::Used);
@@ -131,8 +128,7 @@ impl Sessions {
 
     /// How many transactions were begun in this run. Takes no memory.
     pub fn count(&self) -> usize
-        ensures begun { result ≡ length self.now.begun }
-        ensures sessions { result ≡ length (keys self.now.sessions) }
+        ensures { result ≡ length self.now.begun }
     {
         self.begun.len()
     }

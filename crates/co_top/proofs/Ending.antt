@@ -57,6 +57,8 @@ module _ {E : Type 0} (takes : Kind → Type 0) (stands_for : E → EngineState 
         found = at.found;
         may = at.may;
         unused = at.unused;
+        fit = at.fit;
+        few = at.few;
       }
 
   -- its text is that of the first line, and then that of the events

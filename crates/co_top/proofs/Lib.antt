@@ -8,5 +8,7 @@ pub mod Ending
 pub mod Plays
 pub mod Reading
 pub mod Judging
+pub mod Headlines
 pub mod Completing
+pub mod Refusing
 pub mod Trying

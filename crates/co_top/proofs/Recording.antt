@@ -19,10 +19,14 @@ use Rattle.co_top.specs.Records.{status_of_records, HasCause, IsExcused, IsExact
 pub cause_of : (file : Spot → Option File) (written : Result (Unit {0}) RecordsFault) → OnOk written (HasDurable file) → IfErr written (IsRefusal file) → HasCause file (status_of_records written)
 cause_of file (Ok u) read h = read
 cause_of file (Err records.Write) read h = h
-cause_of file (Err (records.Device spot)) read h = h
-cause_of file (Err (records.Bad spot at)) read h = h
-cause_of file (Err (records.Full spot)) read h = h
-cause_of file (Err records.Memory) read h = tt
+cause_of file (Err (records.World (world.Device spot))) read h = h
+cause_of file (Err (records.World (world.Differs spot at kept got))) read h = absurd h
+cause_of file (Err (records.World (world.InUse spot))) read h = absurd h
+cause_of file (Err (records.World (world.Bad spot at))) read h = h
+cause_of file (Err (records.World (world.Full spot))) read h = h
+cause_of file (Err (records.World world.Count)) read h = absurd h
+cause_of file (Err (records.World (world.Old spot))) read h = absurd h
+cause_of file (Err (records.World world.Memory)) read h = tt
 
 module _ (file : Spot → Option File) (told : AreTold file 16 8) where
   done_of : (ended : Status) → HasCause file ended → (rows : List DurableRow) → IsDurable file 16 8 rows → (ended ≡ status.Done) ⊎ ((ended ≡ status.Write) ⊎ IsExcused ended)

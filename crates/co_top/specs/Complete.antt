@@ -1,12 +1,14 @@
 -- What a run needs to come to its end.
-use Rattle.std.specs.Prelude.{ℕ, Bool, ◌≡◌, List, [], Option}
+use Rattle.std.specs.Prelude.{ℕ, Bool, ◌≡◌, ◌⊎◌, List, [], length, Option}
 use Rattle.co_base.specs.declared.head.Head.{Head}
 use Rattle.co_message.specs.declared.event.Event.{Event}
 use Rattle.co_outside.specs.declared.spot.Spot.{Spot}
 use Rattle.co_outside.specs.Faults.{HasRisen}
 use Rattle.co_outside.specs.Home.{File}
+use Rattle.co_durable.specs.Told.{AreTold}
 use Rattle.co_durable.specs.declared.fault.WorldFault.{WorldFault}
 use Rattle.co_opening.specs.Opened.{IsUnopened, IsOfFound}
+use Rattle.co_top.specs.Ends.{of_world}
 use Rattle.co_top.specs.Front.{IsHeaded, StandsBehind}
 use Rattle.co_top.specs.Ran.{Ran, IsAtLimit, IsOutgrown}
 use Rattle.co_top.specs.declared.status.Status.{Status}
@@ -31,3 +33,16 @@ pub record IsUnhindered (resume : Bool) (input : List ℕ) (old : Spot → Optio
   pub same : (spot : Spot) (at : ℕ) (kept read : Option ℕ) → ended ≡ status.Differs spot at kept read → ⊥
   pub room : (r : Ran resume input old) → IsOutgrown r → ⊥
   pub few : (r : Ran resume input old) → IsAtLimit r → ⊥
+
+-- the source or the directory failed, or there was no memory
+abbrev pub HasGivenWay : Status → Type 0
+HasGivenWay status.Read = Unit {0}
+HasGivenWay (status.Device spot) = Unit {0}
+HasGivenWay status.Memory = Unit {0}
+HasGivenWay _ = ⊥
+
+-- Where the files of the nodes of the input's head are told, and are refused, the status is that of the refusal, unless the source or the directory failed or there was no
+-- memory.
+abbrev pub IsRefusedExactly : Bool → List ℕ → (Spot → Option File) → Status → Type 0
+IsRefusedExactly resume input old ended =
+    (head : Head) (text : List ℕ) → IsHeaded input head text → AreTold old (length head.kinds) head.coords → (why : WorldFault) → IsOfFound why → IsUnopened old head resume why → (ended ≡ of_world why) ⊎ HasGivenWay ended

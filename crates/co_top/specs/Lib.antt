@@ -5,6 +5,7 @@ pub mod Heads
 pub mod Played
 pub mod Telling
 pub mod Ran
+pub mod Headline
 pub mod Replayed
 pub mod Records
 pub mod Checking

@@ -1,5 +1,6 @@
 -- What a run did, and what is promised of it.
-use Rattle.std.specs.Prelude.{ℕ, Bool, false, ◌≡◌, ◌⊎◌, List, [], ◌∷◌, ◌++◌, length, take, map, Option, Some}
+use Rattle.std.specs.Prelude.{ℕ, Bool, false, ◌≡◌, ◌≤◌, ◌⊎◌, List, [], ◌∷◌, ◌++◌, length, take, map, Option, Some}
+use Rattle.std.specs.FinMap.{keys}
 use Rattle.std.specs.List.{AllByRecursion}
 use Rattle.co_base.specs.declared.head.Head.{Head}
 use Rattle.co_message.specs.declared.event.Event.{Event}
@@ -11,7 +12,7 @@ use Rattle.co_durable.specs.declared.fault.WorldFault.{WorldFault}
 use Rattle.co_durable.specs.declared.fault.WorldFault.TheVariants as world
 use Rattle.co_plain.specs.CommitmentOrder.{IsCommitmentOrdered}
 use Rattle.co_plain.specs.Federation.{Federation}
-use Rattle.co_plain.specs.Opening.{Found, opened}
+use Rattle.co_plain.specs.Opening.{Found, opened, used_numbers}
 use Rattle.co_plain.specs.Promises.{SerialReads, Acknowledged, MembersAgree, LogsStaySound, serial_records}
 use Rattle.co_plain.specs.Runs.{run, transcript, lines}
 use Rattle.co_plain.specs.SoundLogs.{AreSound}
@@ -19,6 +20,7 @@ use Rattle.co_plain.specs.declared.happening.Happening.{Happening}
 use Rattle.co_plain.specs.declared.happening.Happening.TheVariants as happening
 use Rattle.co_replay.specs.Schedule.{HasLine}
 use Rattle.co_replay.specs.Transcript.{items_text, run_items}
+use Rattle.co_opening.specs.Fit.{AreFit}
 use Rattle.co_opening.specs.Found.{AreFound, MayRun, AreUnused}
 use Rattle.co_opening.specs.Opened.{IsUnopened}
 use Rattle.co_world.specs.Left.{AreLeftAs}
@@ -29,7 +31,7 @@ use Rattle.co_top.specs.declared.status.LimitKind.TheVariants as limit
 use Rattle.co_top.specs.declared.status.Status.{Status}
 use Rattle.co_top.specs.declared.status.Status.TheVariants as status
 
--- The head of the input and the events of the lines that were done, and the logs that were found in the files.
+-- The head of the input and the events of the lines that were done, and the logs that were found in the files, which are fit for a run of this head.
 pub record Ran (resume : Bool) (input : List ℕ) (file : Spot → Option File) : Type 0 where
   pub head : Head
   pub text : List ℕ
@@ -43,6 +45,8 @@ pub record Ran (resume : Bool) (input : List ℕ) (file : Spot → Option File) 
   pub found : AreFound file (length head.kinds) head.coords found_member found_coord
   pub may : MayRun head.kinds head.coords found_member found_coord
   pub unused : resume ≡ false → AreUnused found_member found_coord
+  pub fit : AreFit file head resume
+  pub few : length (keys (used_numbers (length head.kinds) head.coords found_member found_coord)) ≤ 65536
 
 -- the federation that was opened, and what the events left of it
 abbrev pub start_of : {resume : Bool} {input : List ℕ} {file : Spot → Option File} → Ran resume input file → Federation

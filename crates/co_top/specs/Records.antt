@@ -9,6 +9,7 @@ use Rattle.co_durable.specs.declared.writing.RecordsFault.TheVariants as records
 use Rattle.co_durable.specs.Durable.{IsDurable, IsUndurable}
 use Rattle.co_durable.specs.Text.{records_text}
 use Rattle.co_durable.specs.Written.{HasDurable, TookFront}
+use Rattle.co_top.specs.Ends.{of_world}
 use Rattle.co_top.specs.declared.status.LimitKind.TheVariants as limit
 use Rattle.co_top.specs.declared.status.Status.{Status}
 use Rattle.co_top.specs.declared.status.Status.TheVariants as status
@@ -17,10 +18,7 @@ use Rattle.co_top.specs.declared.status.Status.TheVariants as status
 abbrev pub status_of_records : Result (Unit {0}) RecordsFault → Status
 status_of_records (Ok written) = status.Done
 status_of_records (Err records.Write) = status.Write
-status_of_records (Err (records.Device spot)) = status.Device spot
-status_of_records (Err (records.Bad spot at)) = status.BadLog spot at
-status_of_records (Err (records.Full spot)) = status.Limit (limit.Log spot)
-status_of_records (Err records.Memory) = status.Memory
+status_of_records (Err (records.World fault)) = of_world fault
 
 -- The cause of a status, by the files of 16 members and 8 coordinators where the home tells them. All is read before anything is put, and no
 -- line is read, so no status of lines comes.

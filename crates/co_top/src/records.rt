@@ -5,7 +5,7 @@ ghost use Rattle.co_outside.specs.Faults.{HasRisen};
 ghost use Rattle.co_outside.specs.Home.{HasFailed};
 ghost use Rattle.co_top.specs.Records.{status_of_records, HasCause, HoldsRecords};
 
-use crate::status::{LimitKind, Status};
+use crate::status::{Status, of_world};
 use co_durable::{RecordsFault, write_records};
 use co_outside::{Home, Sink};
 use std::alloc::Global;
@@ -17,10 +17,7 @@ fn status_of_records(written: Result<(), RecordsFault>) -> Status
     match written {
         Ok(()) => Status::Done,
         Err(RecordsFault::Write) => Status::Write,
-        Err(RecordsFault::Device { spot }) => Status::Device { spot },
-        Err(RecordsFault::Bad { spot, at }) => Status::BadLog { spot, at },
-        Err(RecordsFault::Full { spot }) => Status::Limit(LimitKind::Log { spot }),
-        Err(RecordsFault::Memory) => Status::Memory,
+        Err(RecordsFault::World(fault)) => of_world(fault),
     }
 }
 

@@ -1,5 +1,6 @@
 //! A schedule is replayed over a directory of logs: its head is read, the federation is opened, and one line at a time is read, done and told.
-ghost use Rattle.std.specs.Prelude.{◌≡◌, ◌≤◌, ◌⊎◌, ◌++◌, ◌∷◌, [], ℕ, List, Some, IfOk, IfErr, IsErrOf, OnOk};
+ghost use Rattle.std.specs.Prelude.{◌≡◌, ◌≤◌, ◌⊎◌, ◌++◌, ◌∷◌, [], ℕ, List, Some, IfOk, IfErr, IsErrOf, OnOk, OnErr};
+ghost use Rattle.co_base.specs.Lent.{Begins};
 ghost use Rattle.co_outside.specs.Faults.{HasRisen};
 ghost use Rattle.co_outside.specs.declared.spot.Spot.{Spot};
 ghost use Rattle.co_outside.specs.Home.{HasFailed, IsClean};
@@ -104,10 +105,11 @@ fn head_in(told: Item) -> Head
     }
 }
 
-/// Appends the text of the first line: the head, and what opening told.
+/// Appends the text of the first line: the head, and what opening told. After want of memory the list begins with what it held.
 fn put_opening(head: Head, items: &[Item], into: &mut Vec<u8>) -> Result<Head, AllocError>
     ensures text { OnOk result (into.new.items ≡ into.old.items ++ opening_text head items.now) }
     ensures head { IfOk result (λ same. same ≡ head) }
+    ensures err { OnErr result (Begins into.old.items into.new.items) }
 {
     let first = Item {
         number: 1,

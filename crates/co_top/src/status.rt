@@ -1,5 +1,6 @@
 //! How a command ends.
-ghost use Rattle.std.specs.Prelude.{◌≡◌, ◌++◌, OnOk, codes, decimal};
+ghost use Rattle.std.specs.Prelude.{◌≡◌, ◌++◌, OnOk, OnErr, codes, decimal};
+ghost use Rattle.co_base.specs.Lent.{Begins};
 ghost use Rattle.co_outside.specs.Spots.{spot_name};
 ghost use Rattle.co_top.specs.Ends.{code_of, note_of, words_of, kind_word, byte_word, of_world, of_lines, of_line};
 
@@ -225,7 +226,8 @@ fn kind_text(kind: LineKind) -> &'static [u8]
 
 /// Appends a text and the name of a log file.
 fn append_spot(alloc: Global, into: &mut Vec<u8>, text: &[u8], spot: Spot) -> Result<(), AllocError>
-    ensures { OnOk result (into.new.items ≡ into.old.items ++ (text.now ++ spot_name spot)) }
+    ensures ok { OnOk result (into.new.items ≡ into.old.items ++ (text.now ++ spot_name spot)) }
+    ensures err { OnErr result (Begins into.old.items into.new.items) }
 {
     into.extend_from_slice(text)?;
     into.extend_from_slice(spot.to_string(alloc)?.as_bytes())
@@ -233,7 +235,8 @@ fn append_spot(alloc: Global, into: &mut Vec<u8>, text: &[u8], spot: Spot) -> Re
 
 /// Appends a byte in hex, or `none` where it is missing.
 fn append_byte(into: &mut Vec<u8>, byte: Option<u8>) -> Result<(), AllocError>
-    ensures { OnOk result (into.new.items ≡ into.old.items ++ byte_word byte) }
+    ensures ok { OnOk result (into.new.items ≡ into.old.items ++ byte_word byte) }
+    ensures err { OnErr result (Begins into.old.items into.new.items) }
 {
     match byte {
         None => into.extend_from_slice(b"none"),
@@ -254,7 +257,8 @@ fn put_place(
     at: u32,
     into: &mut Vec<u8>,
 ) -> Result<(), AllocError>
-    ensures { OnOk result (into.new.items ≡ into.old.items ++ (text.now ++ spot_name spot ++ codes " at " ++ decimal at)) }
+    ensures ok { OnOk result (into.new.items ≡ into.old.items ++ (text.now ++ spot_name spot ++ codes " at " ++ decimal at)) }
+    ensures err { OnErr result (Begins into.old.items into.new.items) }
 {
     append_spot(alloc, into, text, spot)?;
     into.extend_from_slice(b" at")?;
@@ -270,7 +274,8 @@ fn put_difference(
     read: Option<u8>,
     into: &mut Vec<u8>,
 ) -> Result<(), AllocError>
-    ensures { OnOk result (into.new.items ≡ into.old.items ++ words_of (Status.Differs spot at kept read)) }
+    ensures ok { OnOk result (into.new.items ≡ into.old.items ++ words_of (Status.Differs spot at kept read)) }
+    ensures err { OnErr result (Begins into.old.items into.new.items) }
 {
     put_place(alloc, b"differs: ", spot, at, into)?;
     into.extend_from_slice(b": kept ")?;
@@ -281,7 +286,8 @@ fn put_difference(
 
 /// Appends a text and a number.
 fn put_number(text: &[u8], number: u32, into: &mut Vec<u8>) -> Result<(), AllocError>
-    ensures { OnOk result (into.new.items ≡ into.old.items ++ (text.now ++ codes " " ++ decimal number)) }
+    ensures ok { OnOk result (into.new.items ≡ into.old.items ++ (text.now ++ codes " " ++ decimal number)) }
+    ensures err { OnErr result (Begins into.old.items into.new.items) }
 {
     into.extend_from_slice(text)?;
     append_number(into, u64::from(number))
@@ -289,14 +295,16 @@ fn put_number(text: &[u8], number: u32, into: &mut Vec<u8>) -> Result<(), AllocE
 
 /// Appends what is wrong with a line.
 fn put_kind(kind: LineKind, into: &mut Vec<u8>) -> Result<(), AllocError>
-    ensures { OnOk result (into.new.items ≡ into.old.items ++ kind_word kind) }
+    ensures ok { OnOk result (into.new.items ≡ into.old.items ++ kind_word kind) }
+    ensures err { OnErr result (Begins into.old.items into.new.items) }
 {
     into.extend_from_slice(kind_text(kind))
 }
 
 /// Appends what is noted of a line outside the grammar.
 fn put_mistake(line: u32, kind: LineKind, into: &mut Vec<u8>) -> Result<(), AllocError>
-    ensures { OnOk result (into.new.items ≡ into.old.items ++ words_of (Status.Schedule line kind)) }
+    ensures ok { OnOk result (into.new.items ≡ into.old.items ++ words_of (Status.Schedule line kind)) }
+    ensures err { OnErr result (Begins into.old.items into.new.items) }
 {
     put_number(b"schedule line", line, into)?;
     put_kind(kind, into)
@@ -304,7 +312,8 @@ fn put_mistake(line: u32, kind: LineKind, into: &mut Vec<u8>) -> Result<(), Allo
 
 /// Appends what is noted of a long line.
 fn put_long(line: u32, into: &mut Vec<u8>) -> Result<(), AllocError>
-    ensures { OnOk result (into.new.items ≡ into.old.items ++ words_of (Status.Limit (LimitKind.Line line))) }
+    ensures ok { OnOk result (into.new.items ≡ into.old.items ++ words_of (Status.Limit (LimitKind.Line line))) }
+    ensures err { OnErr result (Begins into.old.items into.new.items) }
 {
     put_number(b"limit: line", line, into)?;
     into.extend_from_slice(b" is long")
@@ -312,7 +321,8 @@ fn put_long(line: u32, into: &mut Vec<u8>) -> Result<(), AllocError>
 
 /// Appends the note of a status, but its newline.
 fn put_words(alloc: Global, status: &Status, into: &mut Vec<u8>) -> Result<(), AllocError>
-    ensures { OnOk result (into.new.items ≡ into.old.items ++ words_of status.now) }
+    ensures ok { OnOk result (into.new.items ≡ into.old.items ++ words_of status.now) }
+    ensures err { OnErr result (Begins into.old.items into.new.items) }
 {
     match status {
         Status::Done => Ok(()),
@@ -340,9 +350,10 @@ fn put_words(alloc: Global, status: &Status, into: &mut Vec<u8>) -> Result<(), A
     }
 }
 
-/// Appends the note of a status.
+/// Appends the note of a status. After want of memory the list begins with what it held.
 pub fn put_note(alloc: Global, status: &Status, into: &mut Vec<u8>) -> Result<(), AllocError>
-    ensures { OnOk result (into.new.items ≡ into.old.items ++ note_of status.now) }
+    ensures ok { OnOk result (into.new.items ≡ into.old.items ++ note_of status.now) }
+    ensures err { OnErr result (Begins into.old.items into.new.items) }
 {
     put_words(alloc, status, into)?;
     match status {

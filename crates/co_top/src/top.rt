@@ -5,9 +5,10 @@ ghost use Rattle.co_outside.specs.Faults.{HasRisen};
 ghost use Rattle.co_outside.specs.Home.{HasFailed, IsClean};
 ghost use Rattle.co_durable.specs.Told.{AreTold};
 ghost use Rattle.co_top.specs.Checking.{IsCheckEnd, IsExactCheck};
-ghost use Rattle.co_top.specs.Complete.{IsUnhindered};
+ghost use Rattle.co_top.specs.Complete.{IsUnhindered, IsRefusedExactly};
 ghost use Rattle.co_top.specs.Command.{is_run, is_records, is_check, is_trial, is_command, resumes, directory_of, trial_number, trial_events};
 ghost use Rattle.co_top.specs.Ends.{IsNoted, note_of};
+ghost use Rattle.co_top.specs.Headline.{IsWholeRun};
 ghost use Rattle.co_top.specs.Ran.{IsRunEnd};
 ghost use Rattle.co_top.specs.Records.{HasCause, IsExact, HoldsRecords};
 ghost use Rattle.co_top.specs.Trials.{IsTrialEnd};
@@ -31,7 +32,7 @@ use std::alloc::Global;
 /// transactions read what they read when run whole, one by one, in the order of their decisions (commitment ordering: Raz, VLDB 1992), that each
 /// acknowledged one is decided, and once, that no two members decide one differently, and that the logs alone give the records of that serial run.
 /// `Schedule` comes at the first line outside the grammar, `Limit` at a long line, at line 262,145, at 65,536 transactions and where a log would be
-/// too long; `InUse`, `BadLog` and `OldLog` where the logs cannot be opened; `Read`, `Write` and `Device` only where the source, the sink or the
+/// too long; `InUse`, `BadLog` and `OldLog` where the logs cannot be opened, and exactly there, over files that are told and unless the source or the directory failed or there was no memory; `Read`, `Write` and `Device` only where the source, the sink or the
 /// directory failed. Where the head or the logs are refused, no file is changed. After a fault within an event the files have what the lines before it left, or
 /// with them what it leaves.
 ///
@@ -62,6 +63,8 @@ pub fn run<S: Source, K: Sink, N: Sink, H: Home>(
     notes: &mut N,
     home: &mut H,
 ) -> Status
+    ensures headline { (input held : List ℕ) → is_run words.now ≡ true → S.left source.old ≡ Some input → K.told out.old ≡ Some held → result ≡ Status.Done →
+        IsWholeRun (resumes words.now) input held (H.seen home.old).file (H.seen home.new).file (K.told out.new) }
     ensures usage { (result ≡ Status.Usage) ↔ (is_command words.now ≡ false) }
     ensures untouched { result ≡ Status.Usage → (source.new ≡ source.old) × (out.new ≡ out.old) × (home.new ≡ home.old) }
     ensures alone { is_records words.now ≡ true → source.new ≡ source.old }
@@ -73,6 +76,8 @@ pub fn run<S: Source, K: Sink, N: Sink, H: Home>(
     ensures quiet_home { ((spot : Spot) → result ≡ Status.Device spot → ⊥) → (H.seen home.new).faults ≡ (H.seen home.old).faults }
     ensures run { (input held : List ℕ) → is_run words.now ≡ true → S.left source.old ≡ Some input → K.told out.old ≡ Some held →
         IsRunEnd (resumes words.now) input (S.left source.new) held (H.seen home.old).file (H.seen home.new).file (K.told out.new) result }
+    ensures refused { (input held : List ℕ) → is_run words.now ≡ true → S.left source.old ≡ Some input → K.told out.old ≡ Some held →
+        IsRefusedExactly (resumes words.now) input (H.seen home.old).file result }
     ensures complete { (input held : List ℕ) → is_run words.now ≡ true → S.left source.old ≡ Some input → K.told out.old ≡ Some held →
         IsUnhindered (resumes words.now) input (H.seen home.old).file (S.faults source.old) (S.faults source.new) (K.faults out.old) (K.faults out.new) (H.seen home.old).faults (H.seen home.new).faults result →
         (result ≡ Status.Done) ⊎ (result ≡ Status.Memory) }

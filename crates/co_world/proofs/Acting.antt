@@ -77,13 +77,6 @@ end_granted (Some home) session e = let two = unasked home session e in (ap Some
 pub may_end : (o : Option Session) (session : Session) → o ≡ Some session → session.asked ≡ false → leave_to_end o ≡ Grants session
 may_end o session is not_asked = ap leave_to_end is ∙ ap (λ b. if b then Refuses answer.Asked else Grants session) not_asked
 
--- a number that may not be begun, and is not used, is one more than there may be
-pub none_left : (fault : SessionFault) (used full : Bool) → (fault ≡ Used → ⊥) → ((false ≡ true) ↔ ((used ≡ false) × (full ≡ false))) →
-    ((◌≡◌ {A = Result (Unit {0}) SessionFault} (Err fault) (Err Used)) ↔ (used ≡ true)) → (used ≡ false) × (full ≡ true)
-none_left fault true full other ok is = absurd (other (let e = is.1 refl in cc))
-none_left fault false false other ok is = absurd (let w : false ≡ true = ok.1 (refl, refl) in cc)
-none_left fault false true other ok is = (refl, refl)
-
 pub some_is : {A : Type 0} {a b : A} → Some a ≡ Some b → a ≡ b
 some_is e = cc
 

@@ -10,6 +10,7 @@ pub mod Kept
 pub mod Worlds
 pub mod Ending
 pub mod Steps
+pub mod Stepped
 pub mod Openings
 pub mod Arriving
 pub mod Leaving

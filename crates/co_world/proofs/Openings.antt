@@ -43,6 +43,8 @@ attached_over takes stands_for file head resume n w items few_members few_coords
       found = opened.found;
       may = opened.may;
       unused = opened.unused;
+      fit = opened.fit;
+      few = subst (λ (ts : List ℕ). length ts ≤ 65536) opened.used opened.few;
       stands = record {
         kinds = ap length members ∙ opened.members;
         coordinators = ap length coords ∙ opened.coords;

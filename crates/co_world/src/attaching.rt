@@ -3,7 +3,8 @@ ghost use Rattle.std.specs.Prelude.{◌≡◌, length, IfOk, IfErr, IsErrOf};
 ghost use Rattle.std.specs.List.{AllByRecursion};
 ghost use Rattle.co_outside.specs.declared.spot.Spot.{Spot};
 ghost use Rattle.co_outside.specs.Home.{HasFailed, IsClean};
-ghost use Rattle.co_opening.specs.Opened.{IsUnopened, IsOfFound};
+ghost use Rattle.co_durable.specs.Told.{AreTold};
+ghost use Rattle.co_opening.specs.Opened.{IsUnopened, IsOfFound, IsExact};
 ghost use Rattle.co_world.specs.Attached.{IsAttachedOver};
 ghost use Rattle.co_world.specs.Standing.{AreHeld};
 
@@ -24,7 +25,7 @@ impl<E: Engine + Drop> World<E> {
     ///
     /// `InUse` comes exactly where a file has more than one byte and the run is not resumed. Where it is resumed, `Bad` and `Full` come as `read_durable`
     /// says, `Old` where a current file is of version 1, and `Count` where more than 65,536 numbers stand in the logs; with these nothing is
-    /// written. `Device` comes where the directory failed, and only there. `Differs` never comes.
+    /// written. Over a directory that tells its files each comes where its cause is, unless `Device` or `Memory` does. `Device` comes where the directory failed, and only there. `Differs` never comes.
     pub fn attach<H: Home>(
         alloc: Global,
         home: &mut H,
@@ -37,6 +38,7 @@ impl<E: Engine + Drop> World<E> {
         ensures clean { IfOk result (λ r. (s : Spot) → IsClean (H.seen home.old) s → IsClean (H.seen home.new) s) }
         ensures head { IfOk result (λ r. (length r.0.members.items ≡ length head.now.kinds) × (length r.0.coords.items ≡ head.now.coords)) }
         ensures refused { IfErr result (IsUnopened (H.seen home.old).file head.now resume) }
+        ensures exact { AreTold (H.seen home.old).file (length head.now.kinds) head.now.coords → IsExact (H.seen home.old).file head.now resume result }
         ensures untouched { IfErr result (λ fault. IsOfFound fault → (s : Spot) → (H.seen home.new).file s ≡ (H.seen home.old).file s) }
         ensures entered { (H.seen home.new).entered ≡ (H.seen home.old).entered }
         ensures device { (spot : Spot) → IsErrOf result (WorldFault.Device spot) → HasFailed spot (H.seen home.old) (H.seen home.new) }

@@ -104,7 +104,7 @@ fn reply_in(alloc: Global, answer: &Answer) -> Result<Option<Reply>, AllocError>
 }
 
 impl<E: Engine + Drop> World<E> {
-    /// Why a number may not be begun, where it may not.
+    /// Whether the number is used. `Count` comes where it is not, and as many are begun or used as there may be.
     fn used(&self, t: Txn) -> Result<bool, WorldFault>
         ensures used { IfOk result (λ used. used ≡ is_used self.now.sessions t) }
         ensures room { IfOk result (λ used. used ≡ false → is_full self.now.sessions ≡ false) }
@@ -112,12 +112,9 @@ impl<E: Engine + Drop> World<E> {
     {
         match self.sessions.may_begin(t) {
             Ok(()) => Ok(false),
-            Err(fault) => match fault {
-                SessionFault::Used => Ok(true),
-                SessionFault::NotBegun => Err(WorldFault::Count),
-                SessionFault::Asked => Err(WorldFault::Count),
-                SessionFault::Count => Err(WorldFault::Count),
-            },
+            Err(SessionFault::Used) => Ok(true),
+            Err(SessionFault::Count) => Err(WorldFault::Count),
+            Err(SessionFault::NotBegun | SessionFault::Asked) => unreachable!(),
         }
     }
 

@@ -111,8 +111,7 @@ impl<E: Engine + Drop> World<E> {
 
     /// How many transactions were begun in this run. Takes no memory.
     pub fn begun(&self) -> usize
-        ensures begun { result ≡ length self.now.sessions.begun }
-        ensures sessions { (s : Federation) → RepresentsWorld E.takes E.stands_for self.now s → result ≡ length (keys s.sessions) }
+        ensures { (s : Federation) → RepresentsWorld E.takes E.stands_for self.now s → result ≡ length (keys s.sessions) }
     {
         self.sessions.count()
     }

@@ -13,7 +13,7 @@ returns-in_err-put_piece-clause-front g c = λ held is.
     let put = c.in_err-put_piece.ensures.front (held ++ told.0) told.1 in
     on_err _
     (part_front c.args.rows.now (c.loop-row.row-index + 1) put.0 held told.0 c.append_line.new.into.items _ put.1
-    (ap (λ t. told.0 ++ t) c.in_ok-append_line.ensures ∙ line_more c.args.rows.now c.loop-row.row-index c.row-item.result told.0 c.loop-row.text.items c.loop-row-test.true c.row-item.is told.2))
+    (ap (λ t. told.0 ++ t) c.in_ok-append_line.ensures.ok ∙ line_more c.args.rows.now c.loop-row.row-index c.row-item.result told.0 c.loop-row.text.items c.loop-row-test.true c.row-item.is told.2))
 
 pub loop-row-preserved : goal.loop-row-preserved
 loop-row-preserved g c = record {
@@ -22,7 +22,7 @@ loop-row-preserved g c = record {
       let put = c.in_ok-put_piece.ensures.put (held ++ told.0) told.1 in (
         told.0 ++ put.0,
         put.1 ∙ ap Some (append_assoc held told.0 put.0),
-        append_assoc told.0 put.0 c.put_piece.new.text.items ∙ ap (λ t. told.0 ++ t) (put.2 ∙ c.in_ok-append_line.ensures)
+        append_assoc told.0 put.0 c.put_piece.new.text.items ∙ ap (λ t. told.0 ++ t) (put.2 ∙ c.in_ok-append_line.ensures.ok)
             ∙ line_more c.args.rows.now c.loop-row.row-index c.row-item.result told.0 c.loop-row.text.items c.loop-row-test.true c.row-item.is told.2,
       );
   counts = search rules;
