@@ -1,4 +1,5 @@
 pub mod Letters
+pub mod Padded
 pub mod Order
 pub mod Span
 pub mod Nodes

@@ -23,6 +23,7 @@ mod sequence;
 mod txn;
 mod txns;
 mod value;
+mod words;
 mod written;
 
 pub use copies::{copy_bytes, copy_rows};
