@@ -19,6 +19,7 @@ pub mod MemberNames
 pub mod CoordNames
 pub mod EveryHome
 pub mod CommitParts
+pub mod CommitRecords
 pub mod HeldOnes
 pub mod AllFacts
 pub mod AllFrom

@@ -25,11 +25,7 @@ abbrev pub is_decided : List Decided → ℕ → Bool
 is_decided [] t = false
 is_decided (d ∷ ds) t = (d.txn == t) || is_decided ds t
 
--- the transactions in the order of their decisions, each by its operations
-abbrev pub decision_order : Federation → List (List Site)
-decision_order s = reverse (map (λ d. sites_of d.told) s.decided)
-
--- their numbers, in the same order
+-- the numbers of transactions in the order of their decisions
 abbrev pub decided_numbers : List Decided → List ℕ
 decided_numbers decided = reverse (map (λ d. d.txn) decided)
 

@@ -1,6 +1,6 @@
 -- The invariants of every run, but for the ninth. Facts of a member are facts of its view, and hold of what its memory has and of
 -- what its stable records tell: the two sides.
-use Rattle.std.specs.Prelude.{ℕ, Bool, true, false, ◌||◌, ◌≡◌, ◌≢◌, ◌≤◌, ◌⊎◌, List, [], ◌∷◌, ◌++◌, length, Option, None, Some}
+use Rattle.std.specs.Prelude.{ℕ, Bool, true, false, ◌&&◌, ◌||◌, ◌==◌, nat_le, ◌≡◌, ◌≢◌, ◌≤◌, ◌⊎◌, List, [], ◌∷◌, ◌++◌, length, Option, None, Some}
 use Rattle.std.specs.FinMap.{entries}
 use Rattle.co_base.specs.declared.node.Node.TheVariants as node
 use Rattle.co_base.specs.declared.part.Part.{Part}
@@ -105,16 +105,27 @@ ReadsAreSerial s =
     (later earlier : List Decided) (d : Decided) → s.decided ≡ later ++ d ∷ earlier →
     replies_of d.told ≡ run_whole (serial_records s earlier) (sites_of d.told)
 
--- a participant of a decided transaction: it held operations of it, or an opened commit names it
+-- a participant of a transaction: it holds operations of it, or an opened commit names it
 pub data TakesPart (s : Federation) (t m : ℕ) : Type 0 where
   HeldOperations : 1 ≤ count_at (told_of s t) m → TakesPart s t m
   NamedBefore : (c : ℕ) (members : List ℕ) → unended_in (s.opened_coord c) t ≡ Some members → has_number members m ≡ true → TakesPart s t m
 
--- 5. Decision messages are true.
+-- whether the member held operations of the transaction at its decision
+abbrev pub took_part : List Decided → ℕ → ℕ → Bool
+took_part [] t m = false
+took_part (d ∷ ds) t m = (d.txn == t) && nat_le 1 (count_at d.told m) || took_part ds t m
+
+-- a participant of a settled transaction: it held operations of it at its decision, or an opened commit names it
+pub data TookPart (s : Federation) (t m : ℕ) : Type 0 where
+  HeldAtDecision : took_part s.decided t m ≡ true → TookPart s t m
+  NamedInOpened : (c : ℕ) (members : List ℕ) → unended_in (s.opened_coord c) t ≡ Some members → has_number members m ≡ true → TookPart s t m
+
+-- 5. Decision messages are true: an abort is of a presumed aborted transaction, a commit of a settled one, and goes to one of its
+-- participants.
 pub record DecisionsAreTrue (s : Federation) : Type 0 where
   pub aborts : (t c m : ℕ) → was_sent s.sent (message.Decide t c m false) ≡ true →
       (BelongsTo s t c × IsPresumedAborted s t) ⊎ (log_has_committed (s.member m).log.stable t ≡ true)
-  pub commits : (t c m : ℕ) → was_sent s.sent (message.Decide t c m true) ≡ true → IsSettled s t × TakesPart s t m
+  pub commits : (t c m : ℕ) → was_sent s.sent (message.Decide t c m true) ≡ true → IsSettled s t × TookPart s t m
 
 -- the operations that a member keeps are those that the client was told of, each with the reply that the
 -- records at its stamp give with the earlier writes laid over
@@ -126,12 +137,6 @@ KeptAsTold b (o ∷ os) (t ∷ ts) =
     (o.op ≡ t.site.op)
     × (t.reply ≡ reply_to (with_changes (records_at b.base b.installed o.stamp) (changes_of os)) o.op)
     × KeptAsTold b os ts
-
-abbrev pub entry_parts : Option Entry → List Part
-entry_parts None = []
-entry_parts (Some entry.Idle) = []
-entry_parts (Some (entry.Collecting parts yeses)) = parts
-entry_parts (Some (entry.Committed members acks)) = []
 
 -- each operation saw installs that were made
 abbrev pub StampsIn : ℕ → List Operation → Type 0

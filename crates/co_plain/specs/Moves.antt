@@ -35,7 +35,7 @@ use Rattle.co_plain.specs.Federation.{Federation, with_member, with_coord, with_
 use Rattle.co_plain.specs.Step.{is_used}
 use Rattle.co_plain.specs.Decisions.{told_of, is_asked, BelongsTo, IsPresumedAborted, IsSettled}
 use Rattle.co_plain.specs.SoundLogs.{log_has_committed}
-use Rattle.co_plain.specs.Invariants.{TakesPart, is_asked_or_used}
+use Rattle.co_plain.specs.Invariants.{TookPart, is_asked_or_used}
 
 pub data Move : Type 0 where
   -- of a member: an answered operation, with the session's entry; a prepare is marked; a vote; what is forgotten;
@@ -193,7 +193,7 @@ may_send s (message.Prepare t c m n) =
     (parts : List Part) × (yeses : List ℕ) × (entry_at s t c ≡ Some (entry.Collecting parts yeses)) × (has_part parts m ≡ true) × (n ≡ count_at (told_of s t) m)
 may_send s (message.Vote t m c true) = (holds (s.member m).engine.voted t ≡ true) × (coord_of (s.member m) t ≡ c)
 may_send s (message.Vote t m c false) = (n : ℕ) × (was_sent s.sent (message.Prepare t c m n) ≡ true)
-may_send s (message.Decide t c m true) = IsSettled s t × TakesPart s t m × (is_asked_or_used s t ≡ true)
+may_send s (message.Decide t c m true) = IsSettled s t × TookPart s t m × (is_asked_or_used s t ≡ true)
 may_send s (message.Decide t c m false) =
     ((BelongsTo s t c × IsPresumedAborted s t) ⊎ (log_has_committed (s.member m).log.stable t ≡ true)) × (is_asked_or_used s t ≡ true)
 may_send s (message.Ask t m c) = (holds (s.member m).engine.voted t ≡ true) × (coord_of (s.member m) t ≡ c)

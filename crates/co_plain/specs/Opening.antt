@@ -112,7 +112,3 @@ coord_headers (suc n) found = coord_headers n found ++ header_mark (node.Coord (
 abbrev pub opening_items : List Kind → ℕ → (ℕ → Found) → (ℕ → Found) → List ItemKind
 opening_items kinds coords found_member found_coord =
     items_of (member_headers (length kinds) found_member ++ coord_headers coords found_coord) [] answer.Opened
-
--- a federation over fresh logs
-abbrev pub fresh_federation : List Kind → ℕ → Federation
-fresh_federation kinds coords = opened kinds coords (λ m. fresh) (λ c. fresh)

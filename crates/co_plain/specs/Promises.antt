@@ -1,4 +1,4 @@
--- What is promised of every run from opened logs. The six promises speak of a list of happenings from an opened
+-- What is promised of every run from opened logs. The five promises speak of a list of happenings from an opened
 -- federation; since every front of a list is a list, each holds at any moment, after any crash too.
 use Rattle.std.specs.Prelude.{ℕ, Bool, true, false, ◌&&◌, ◌||◌, ◌==◌, ◌≡◌, List, [], ◌∷◌, ◌++◌, map, reverse}
 use Rattle.co_message.specs.declared.answer.Answer.TheVariants as answer

@@ -57,7 +57,7 @@ abbrev pub begun_by : Node → Session
 begun_by by = record { by = by; told = []; asked = false }
 
 abbrev pub with_told : Session → Told → Session
-with_told session o = record { by = session.by; told = o ∷ session.told; asked = session.asked }
+with_told session o = record session { told = o ∷ session.told }
 
 abbrev pub asked_to_end : Session → Session
-asked_to_end session = record { by = session.by; told = session.told; asked = true }
+asked_to_end session = record session { asked = true }
