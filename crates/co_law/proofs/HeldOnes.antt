@@ -27,7 +27,7 @@ use Rattle.co_law_runs.proofs.Working.{Working}
 use Rattle.co_law.proofs.CommitParts.{CommitParts}
 use Rattle.co_law.proofs.CommitRecords.{CommitRecords, one_seen}
 
-took_decided : (ds : List Decided) (t : ℕ) (members : List ℕ) → TookPartIn ds t members → is_decided ds t ≡ true
+pub took_decided : (ds : List Decided) (t : ℕ) (members : List ℕ) → TookPartIn ds t members → is_decided ds t ≡ true
 took_decided [] t members x = absurd x
 took_decided (d ∷ ds) t members (inl x) = or_left _ _ (ap (λ n. n == t) x.0 ∙ eq-eqb t t refl)
 took_decided (d ∷ ds) t members (inr x) = or_right _ _ (took_decided ds t members x)

@@ -15,6 +15,7 @@ pub mod WritableRuns
 pub mod Unchanged
 pub mod Refusing
 pub mod RefusedLines
+pub mod FirstRefusals
 pub mod MemberNames
 pub mod CoordNames
 pub mod EveryHome
@@ -26,4 +27,5 @@ pub mod AllFrom
 pub mod AllBack
 pub mod EveryInvariant
 pub mod LeftLogs
+pub mod NamedOnes
 pub mod WholeInvariants

@@ -21,20 +21,20 @@ use Rattle.co_message.specs.declared.item.ItemKind.TheVariants as item
 use Rattle.co_state.specs.Changes.{span_read, change_made}
 use Rattle.co_state.specs.Keys.{same_key}
 use Rattle.co_state.specs.Table.{Table, no_entries, look, put}
-use Rattle.co_plain.specs.Numbers.{has_number}
+use Rattle.co_plain.specs.Numbers.{TxnNumber, MemberNumber, has_number}
 use Rattle.co_plain.specs.Opening.{kind_of}
 use Rattle.co_plain.specs.Sessions.{same_node}
 
 -- what the items tell of conflicts
 pub data Trace : Type 0 where
   -- a transaction was begun, and this node decides it
-  Began : ℕ → Node → Trace
+  Began : TxnNumber → Node → Trace
   -- an operation was answered at a member, with this reply
-  Operated : ℕ → ℕ → Op → Reply → Trace
+  Operated : TxnNumber → MemberNumber → Op → Reply → Trace
   -- a commit record became stable at a node
-  Committed : Node → ℕ → Trace
+  Committed : Node → TxnNumber → Trace
 
-abbrev pub traced_commit : MarkKind → Node → ℕ → List Trace
+abbrev pub traced_commit : MarkKind → Node → TxnNumber → List Trace
 traced_commit kind.Commit at t = Committed at t ∷ []
 traced_commit _ at t = []
 
@@ -89,27 +89,27 @@ abbrev pub decisions_in : List Trace → List ℕ
 decisions_in trace = decisions_from no_entries trace
 
 -- whether the member installed the transaction in this part of the trace
-abbrev pub installs : List Trace → ℕ → ℕ → Bool
+abbrev pub installs : List Trace → MemberNumber → TxnNumber → Bool
 installs [] m t = false
 installs (Began u by ∷ rest) m t = installs rest m t
 installs (Operated u n o reply ∷ rest) m t = installs rest m t
 installs (Committed at u ∷ rest) m t = same_node at (node.Member m) && (u == t) || installs rest m t
 
 -- the part before the transaction's first operation at the member
-abbrev pub before_first : List Trace → ℕ → ℕ → List Trace
+abbrev pub before_first : List Trace → MemberNumber → TxnNumber → List Trace
 before_first [] m t = []
 before_first (Began u by ∷ rest) m t = Began u by ∷ before_first rest m t
 before_first (Committed at u ∷ rest) m t = Committed at u ∷ before_first rest m t
 before_first (Operated u n o reply ∷ rest) m t = if (u == t) && (n == m) then [] else Operated u n o reply ∷ before_first rest m t
 
 -- the part that an operation behind it sees
-abbrev pub part_seen : Kind → List Trace → ℕ → ℕ → List Trace
+abbrev pub part_seen : Kind → List Trace → MemberNumber → TxnNumber → List Trace
 part_seen Lock before m t = before
 part_seen Occ before m t = before
 part_seen Mv before m t = before_first before m t
 
 -- whether an operation of the transaction behind this part of the trace sees the install of another one
-abbrev pub sees : List Kind → List Trace → ℕ → ℕ → ℕ → Bool
+abbrev pub sees : List Kind → List Trace → TxnNumber → MemberNumber → TxnNumber → Bool
 sees kinds before t m other = installs (part_seen (kind_of kinds m) before m t) m other
 
 -- an operation of a transaction at a member, answered before its decision, and the trace before it

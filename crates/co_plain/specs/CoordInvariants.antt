@@ -12,7 +12,7 @@ use Rattle.co_plain.specs.declared.coord_state.Entry.TheVariants as entry
 use Rattle.co_plain.specs.declared.member_view.MemberView.{MemberView}
 use Rattle.co_plain.specs.declared.session.Decided.{Decided}
 use Rattle.co_plain.specs.declared.session.Session.{Session}
-use Rattle.co_plain.specs.Numbers.{first_lacking, has_number}
+use Rattle.co_plain.specs.Numbers.{TxnNumber, CoordNumber, first_lacking, has_number}
 use Rattle.co_plain.specs.CoordView.{has_commit_of}
 use Rattle.co_plain.specs.CoordStep.{members_of}
 use Rattle.co_plain.specs.Sessions.{count_at, parts_of}
@@ -25,7 +25,7 @@ use Rattle.co_plain.specs.Invariants.{Side, view, stands, takes_part_in, is_aske
 -- ---- A coordinator by itself
 
 -- begun at this coordinator in this run
-abbrev pub BegunAt : Option Session → ℕ → Type 0
+abbrev pub BegunAt : Option Session → CoordNumber → Type 0
 BegunAt None c = ⊥
 BegunAt (Some session) c = session.by ≡ node.Coord c
 
@@ -93,7 +93,7 @@ IsOneOf r [] = ⊥
 IsOneOf r (q ∷ rs) = (q ≡ r) ⊎ IsOneOf r rs
 
 -- these were the participants of the transaction at its decision
-abbrev pub TookPartIn : List Decided → ℕ → List ℕ → Type 0
+abbrev pub TookPartIn : List Decided → TxnNumber → List ℕ → Type 0
 TookPartIn [] t members = ⊥
 TookPartIn (d ∷ ds) t members = ((d.txn ≡ t) × (members ≡ members_of (parts_of d.told))) ⊎ TookPartIn ds t members
 
