@@ -32,5 +32,5 @@ pub use opening::{allowed_logs_are_own, empty_logs, left_logs, whole_invariants}
 pub use order::{commitment_ordered, decisions_told, transcripts_ordered};
 pub use own::kept_by_each;
 pub use quiet::only_timers;
-pub use refused::refused_lines;
+pub use refused::{refusals_come_first, refused_lines};
 pub use runs::{lines_hand_no_verdict, opened_logs_stay, runs_go_on, transcripts_go_on};

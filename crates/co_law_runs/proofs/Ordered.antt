@@ -16,7 +16,7 @@ use Rattle.co_plain.specs.Opening.{kind_of}
 use Rattle.co_plain.specs.Sessions.{count_at}
 use Rattle.co_plain.specs.Federation.{Federation}
 use Rattle.co_plain.specs.Decisions.{told_of, is_decided}
-use Rattle.co_plain.specs.CommitmentOrder.{Trace, Operated, Committed, decider_in, decides_at, decided_in, installs, before_first, part_seen, OperatedIn, ReadsKey, WritesKey, InstalledFirst, Before, Precedes, ReadAfter, ReadBefore, WroteBefore, StandsBefore, Stands}
+use Rattle.co_plain.specs.CommitmentOrder.{Trace, Operated, Committed, decides_at, decisions_in, installs, before_first, part_seen, sees, OperatedIn, ReadsKey, WritesKey, InstalledFirst, Before, Precedes, ReadAfter, ReadBefore, WroteBefore, StandsBefore, Stands}
 use Rattle.co_plain.specs.Invariants.{Memory, view, stands}
 use Rattle.co_plain.specs.Member.{coord_of}
 use Rattle.co_plain.specs.Moves.{Operate, Install, CommitLocally, Decide, Guard, effect}
@@ -29,7 +29,7 @@ use Rattle.co_law_moves.proofs.NodesTold.{more}
 use Rattle.co_law_moves.proofs.MoveOnward.{move_onward}
 use Rattle.co_law_moves.proofs.Onward.{Onward}
 use Rattle.co_law_runs.proofs.Acts.{Act, Moves, after_act, act_guard, acts_trace, run_acts, ActsHold, act_keeps, acts_keep, acts_more, hold_parts, trace_more, Placed, placed, Cut, cut, Fronts, Shorter, Longer, fronts}
-use Rattle.co_law_runs.proofs.Deciders.{committed_at, decided_more, homed_session, same_home}
+use Rattle.co_law_runs.proofs.Deciders.{committed_at, decider_in, decided_in, decided_more, decided_number, homed_session, same_home}
 use Rattle.co_law_runs.proofs.Traced.{Traced, acts_traced}
 use Rattle.co_law_runs.proofs.ToldOn.{ToldOn, act_told, writes_told}
 use Rattle.co_law_runs.proofs.Installs.{act_installs}
@@ -174,15 +174,17 @@ module _ (kinds : List Kind) (s : Federation) (fresh : Fresh kinds s) (acts : Li
       ∙ ap (λ k. acts_trace front s ++ (k ++ acts_trace mid (effect (run_acts front s) (decision at t)))) (decision_tells (run_acts front s) at t)
 
   -- an operation that was answered before the decision
-  before_decision : (t m : ℕ) (o : Op) (before : List Trace) (d : DecidedAt t) (x : DoneAt t m o before) → has_number (decided_in whole before) t ≡ false → StepTo x.front (Moves (Operate t m o)) (run_acts d.front s)
+  before_decision : (t m : ℕ) (o : Op) (before : List Trace) (d : DecidedAt t) (x : DoneAt t m o before) → has_number (decisions_in before) t ≡ false → StepTo x.front (Moves (Operate t m o)) (run_acts d.front s)
   before_decision t m o before d x n = by (places x.front (Moves (Operate t m o)) x.back d.front (Moves (decision d.at t)) d.back (sym x.place ∙ d.place))
     where
       by : Places x.front (Moves (Operate t m o)) d.front (Moves (decision d.at t)) → StepTo x.front (Moves (Operate t m o)) (run_acts d.front s)
       by (Same e) = absurd (no_operation d.at t t m o e)
       by (First mid e) = step_to x.front x.back d.front (Moves (decision d.at t) ∷ d.back) (Moves (Operate t m o)) x.place d.place mid e
       by (Second mid e) =
+          let to = step_to d.front d.back x.front (Moves (Operate t m o) ∷ x.back) (Moves (decision d.at t)) d.place x.place mid e in
           let z : true ≡ false =
-          sym (is_in_order whole (acts_trace x.front s) t d.at d.home (acts_trace d.front s) (acts_trace mid (effect (run_acts d.front s) (decision d.at t))) (tells_decision x.front d.front mid t d.at e)) ∙ ap (λ k. has_number (decided_in whole k) t) x.first ∙ n in
+          sym (decided_number (run_acts x.front s).decided t ((reach_onward (effect (run_acts d.front s) (decision d.at t)) (run_acts x.front s) to.reach).decided t (decision_decides (run_acts d.front s) d.at t)))
+          ∙ sym (ap (λ k. has_number k t) (traced_at x.front (Moves (Operate t m o) ∷ x.back) x.place).decisions) ∙ ap (λ k. has_number (decisions_in k) t) x.first ∙ n in
           absurd (let y : true ≡ false = z in cc)
 
   guard_at : (t : ℕ) (d : DecidedAt t) → Guard (run_acts d.front s) (decision d.at t)
@@ -389,8 +391,8 @@ module _ (kinds : List Kind) (s : Federation) (fresh : Fresh kinds s) (acts : Li
         by (inr c) = compare c (fronts q.front q.back dt.front (Moves (decision dt.at t) ∷ dt.back) (sym q.whole ∙ dt.place))
 
     -- u read what t had written
-    not_after : (key : List ℕ) → ReadsKey kinds whole u m key t true → ⊥
-    not_after key r = by (done_at u m r.o r.before r.operated)
+    not_after : (key : List ℕ) → (r : ReadsKey whole u m key) → sees kinds r.before u m t ≡ true → ⊥
+    not_after key r i = by (done_at u m r.o r.before r.operated)
       where
         seen : (k : Kind) (tr : List Trace) → installs (part_seen k tr m u) m t ≡ true → installs tr m t ≡ true
         seen Lock tr h = h
@@ -402,7 +404,7 @@ module _ (kinds : List Kind) (s : Federation) (fresh : Fresh kinds s) (acts : Li
             let to = before_decision u m r.o r.before du x r.operated.undecided in
             let fx = facts_at x.front (Moves (Operate u m r.o) ∷ x.back) x.place in
             let tx = traced_at x.front (Moves (Operate u m r.o) ∷ x.back) x.place in
-            let c = tx.installed t m (ap (λ k. installs k m t) x.first ∙ seen (kind_of kinds m) r.before r.seen) in
+            let c = tx.installed t m (ap (λ k. installs k m t) x.first ∙ seen (kind_of kinds m) r.before i) in
             let c1 = (move_onward (run_acts x.front s) fx (Operate u m r.o) to.guard).committed m t c in
             let c2 = (reach_onward (effect (run_acts x.front s) (Operate u m r.o)) (run_acts du.front s) to.reach).committed m t c1 in
             let c3 = (move_onward (run_acts du.front s) (decided_facts u du) (decision du.at u) to_last.guard).committed m t c2 in
@@ -410,8 +412,8 @@ module _ (kinds : List Kind) (s : Federation) (fresh : Fresh kinds s) (acts : Li
             let z : true ≡ false = sym c4 ∙ uncommitted_t in cc
 
     -- t read what u overwrote later
-    not_before : (key : List ℕ) → ReadsKey kinds whole t m key u false → WritesKey whole u m key → ⊥
-    not_before key r wu = by (done_at t m r.o r.before r.operated)
+    not_before : (key : List ℕ) → (r : ReadsKey whole t m key) → sees kinds r.before t m u ≡ false → WritesKey whole u m key → ⊥
+    not_before key r i wu = by (done_at t m r.o r.before r.operated)
       where
         pu : (writes_told (run_acts dt.front s) u m key ≡ true) × (stands (view Memory ((run_acts dt.front s).member m)) u ≡ true)
         pu = wrote_u key wu
@@ -429,16 +431,16 @@ module _ (kinds : List Kind) (s : Federation) (fresh : Fresh kinds s) (acts : Li
             let z = effect (run_acts x.front s) (Operate t m r.o) in
             let used = (reach_told z last to.reach).used in
             let q = unread_now t u m key r.o r.span x.front x.back x.place r.reads r.has to.guard (sym (used t) ∙ unused_t) (sym (used u) ∙ unused_u) (kind_of kinds m) refl
-            (ap (λ k. installs (part_seen (kind_of kinds m) k m t) m u) x.first ∙ r.seen) in
+            (ap (λ k. installs (part_seen (kind_of kinds m) k m t) m u) x.first ∙ i) in
             ends (subst (Unread t u m key) to.reach.leaves (unread_stays t u m key to.reach.mid z to.reach.facts to.reach.guarded q))
 
     never : Precedes kinds whole t u m → ⊥
-    never (ReadAfter key w r) = not_after key r
-    never (ReadBefore key r w) = not_before key r w
+    never (ReadAfter key w r i) = not_after key r i
+    never (ReadBefore key r i w) = not_before key r i w
     never (WroteBefore key w v i) = not_both key w v i
 
-  pub ordered : (t u m : ℕ) → t ≢ u → has_number (decided_in whole whole) t ≡ true → has_number (decided_in whole whole) u ≡ true → Precedes kinds whole t u m → StandsBefore (decided_in whole whole) t u
-  ordered t u m n ht hu p = by (decided_at t ht) (decided_at u hu)
+  in_order : (t u m : ℕ) → t ≢ u → has_number (decided_in whole whole) t ≡ true → has_number (decided_in whole whole) u ≡ true → Precedes kinds whole t u m → StandsBefore (decided_in whole whole) t u
+  in_order t u m n ht hu p = by (decided_at t ht) (decided_at u hu)
     where
       back : DecidedAt u → List Trace
       back du = acts_trace du.back (effect (run_acts du.front s) (decision du.at u))
@@ -457,3 +459,10 @@ module _ (kinds : List Kind) (s : Federation) (fresh : Fresh kinds s) (acts : Li
           now (Same e) = absurd (n (sym (sym (decided_txn_is du.at u) ∙ ap decided_txn e ∙ decided_txn_is dt.at t)))
           now (First mid e) = absurd (never t u m n dt du mid e p)
           now (Second mid e) = earlier dt du mid e
+
+  pub ordered : (t u m : ℕ) → t ≢ u → has_number (decisions_in whole) t ≡ true → has_number (decisions_in whole) u ≡ true → Precedes kinds whole t u m → StandsBefore (decisions_in whole) t u
+  ordered t u m n ht hu p =
+      subst (λ k. StandsBefore k t u) (sym same) (in_order t u m n (sym (ap (λ k. has_number k t) same) ∙ ht) (sym (ap (λ k. has_number k u) same) ∙ hu) p)
+    where
+      same : decisions_in whole ≡ decided_in whole whole
+      same = traced_all.decisions ∙ sym traced_all.order

@@ -7,7 +7,7 @@ use Rattle.co_base.specs.declared.node.Node.TheVariants as node
 use Rattle.co_base.specs.declared.op.Op.{Op}
 use Rattle.co_base.specs.declared.reply.Reply.{Reply}
 use Rattle.co_serial.specs.SerialRun.{with_at}
-use Rattle.co_state.specs.Table.{look, put, holds}
+use Rattle.co_state.specs.Table.{no_entries, look, put, holds}
 use Rattle.co_state.specs.ReadRule.{operation_reply}
 use Rattle.co_plain.specs.declared.member_state.MemberState.{MemberState}
 use Rattle.co_plain.specs.declared.session.Session.{Session}
@@ -21,7 +21,7 @@ use Rattle.co_plain.specs.Federation.{Federation, with_member, with_session}
 use Rattle.co_plain.specs.Step.{is_used, disarmed}
 use Rattle.co_plain.specs.Decisions.{told_of, decided_numbers}
 use Rattle.co_plain.specs.Invariants.{Memory}
-use Rattle.co_plain.specs.CommitmentOrder.{Trace, Began, Operated, Committed, decider_in, decides_at, decided_in, installs}
+use Rattle.co_plain.specs.CommitmentOrder.{Trace, Began, Operated, Committed, decides_at, decisions_from, decisions_in, installs}
 use Rattle.co_plain.specs.Moves.{Move, Operate, MarkAsked, Cast, DropActive, DropVoted, Install, CommitLocally, CrashMember, RestartMember, ArmMember, CloseMemberSpare, FillMemberSpare, Begin, Collect, RecordYes, Decide, Leave, RecordAck, End, CrashCoord, RestartCoord, ArmCoord, CloseCoordSpare, FillCoordSpare, BeginLocal, AskEnd, Send, Guard, effect, entered_reply, marked_over, record_yes, record_ack, session_by_member, may_operate_at, install_state, local_state, with_decision}
 use Rattle.co_law_base.proofs.Lookups.{put_here, put_there}
 use Rattle.co_law_base.proofs.Commits.{holds_more, holds_new, holds_cases}
@@ -35,13 +35,15 @@ use Rattle.co_law_moves.specs.MoveTraces.{move_trace}
 use Rattle.co_law_moves.proofs.NodesTold.{no_rest, more}
 use Rattle.co_law_moves.proofs.Onward.{holds_put_on}
 use Rattle.co_law_runs.proofs.Acts.{Act, Moves, Disarms, after_act, act_guard, act_trace, acts_trace, run_acts, ActsHold, act_keeps}
-use Rattle.co_law_runs.proofs.Deciders.{committed_at, homed, homed_coord, homed_session, same_self, one_home, decider_more, decider_none, decider_same, committed_more, installs_more, or_none, order_more, decision_last}
+use Rattle.co_law_runs.proofs.Deciders.{committed_at, decider_in, decided_in, homes_in, homes_more, decisions_more, home_of, same_homes, homed, homed_coord, homed_session, same_self, one_home, decider_more, decider_none, decider_same, committed_more, installs_more, or_none, order_more, decision_last}
 
 pub record Traced (tr : List Trace) (s : Federation) : Type 0 where
   pub by_some : (t : ℕ) (by : Node) → decider_in tr t ≡ Some by → homed (look s.sessions t) by ≡ true
   pub begun : (t : ℕ) (by : Node) → homed (look s.sessions t) by ≡ true → decider_in tr t ≡ Some by
   pub known : (t : ℕ) (at : Node) → committed_at tr at t ≡ true → is_used s t ≡ true
   pub order : decided_in tr tr ≡ decided_numbers s.decided
+  pub homes : (t : ℕ) → look (homes_in tr) t ≡ home_of (look s.sessions t)
+  pub decisions : decisions_in tr ≡ decided_numbers s.decided
   pub installed : (t m : ℕ) → installs tr m t ≡ true → holds (s.member m).committed t ≡ true
   pub was_installed : (t m : ℕ) → holds (s.member m).committed t ≡ true → (installs tr m t ≡ true) ⊎ (holds s.used t ≡ true)
 
@@ -60,6 +62,8 @@ alike_traced tr s z a r =
       begun = λ t by h. r.begun t by (a.homes t by ∙ h);
       known = λ t at h. a.known t (r.known t at h);
       order = r.order ∙ ap decided_numbers a.decided;
+      homes = λ t. r.homes t ∙ same_homes (look s.sessions t) (look z.sessions t) (a.homes t);
+      decisions = r.decisions ∙ ap decided_numbers a.decided;
       installed = λ t m h. sym (a.committed m t) ∙ r.installed t m h;
       was_installed = λ t m h. by t m (r.was_installed t m (a.committed m t ∙ h));
     }
@@ -87,6 +91,8 @@ operated_traced tr s t m o reply r =
       begun = λ u by h. decider_same tr u x refl ∙ r.begun u by h;
       known = λ u at h. r.known u at (sym (or_none _ _ refl) ∙ sym (committed_more tr at u x) ∙ h);
       order = order_more tr x (λ u at h. refl) ∙ no_rest (decided_in tr tr) ∙ r.order;
+      homes = λ u. ap (λ k. look k u) (homes_more no_entries tr x) ∙ r.homes u;
+      decisions = decisions_more no_entries tr x ∙ no_rest (decisions_in tr) ∙ r.decisions;
       installed = λ u k h. r.installed u k (sym (or_none _ _ refl) ∙ sym (installs_more tr k u x) ∙ h);
       was_installed = λ u k h. by u k (r.was_installed u k h);
     }
@@ -97,6 +103,18 @@ operated_traced tr s t m o reply r =
     by : (u k : ℕ) → (installs tr k u ≡ true) ⊎ (holds s.used u ≡ true) → (installs (tr ++ x) k u ≡ true) ⊎ (holds s.used u ≡ true)
     by u k (inl h) = inl (installs_more tr k u x ∙ or_left _ _ h)
     by u k (inr h) = inr h
+
+-- the deciding node, read from the front
+same_decider : (tr : List Trace) (s : Federation) → Traced tr s → (t : ℕ) → look (homes_in tr) t ≡ decider_in tr t
+same_decider tr s r t = r.homes t ∙ by (look s.sessions t) refl
+  where
+    none : look s.sessions t ≡ None → (o : Option Node) → decider_in tr t ≡ o → None ≡ o
+    none e None q = refl
+    none e (Some at) q = absurd (let z : true ≡ false = sym (r.by_some t at q) ∙ ap (λ o. homed o at) e in cc)
+
+    by : (o : Option Session) → look s.sessions t ≡ o → home_of o ≡ decider_in tr t
+    by None e = none e (decider_in tr t) refl
+    by (Some session) e = sym (r.begun t session.by (ap (λ o. homed o session.by) e ∙ same_self session.by))
 
 -- an install: committed here, and decided where the member is its home
 installed_traced : (tr : List Trace) (s z : Federation) (t m : ℕ) → ((u : ℕ) (by : Node) → homed (look s.sessions u) by ≡ homed (look z.sessions u) by) →
@@ -111,6 +129,11 @@ installed_traced tr s z t m same uses used_t told grows here back used r =
       begun = λ u by h. decider_same tr u x refl ∙ r.begun u by (same u by ∙ h);
       known = λ u at h. uses u (known u at (or_cases _ _ (sym (committed_more tr at u x) ∙ h)));
       order = order_more tr x (λ u at h. refl) ∙ ap (λ k. k ++ decided_in (tr ++ x) x) r.order ∙ sym told;
+      homes = λ u. ap (λ k. look k u) (homes_more no_entries tr x) ∙ r.homes u ∙ same_homes (look s.sessions u) (look z.sessions u) (same u);
+      decisions =
+          decisions_more no_entries tr x
+          ∙ (λ i. r.decisions i ++ (if decides_at ((same_decider tr s r t ∙ sym (decider_same tr t x refl)) i) (node.Member m) then t ∷ [] else []))
+          ∙ sym told;
       installed = λ u k h. now u k (or_cases _ _ (sym (installs_more tr k u x) ∙ h));
       was_installed = λ u k h. was u k (back k u h);
     }
@@ -209,6 +232,8 @@ module _ (s : Federation) (f : Facts s) (tr : List Trace) (r : Traced tr s) wher
         begun = λ u by h. begun u by (t == u) refl h;
         known = λ u by h. used_put s t (begun_by at) u (r.known u by (sym (or_none _ _ refl) ∙ sym (committed_more tr by u x) ∙ h));
         order = order_more tr x (λ u by h. ap (λ b. if b then Some at else None) (apart u (r.known u by h))) ∙ no_rest (decided_in tr tr) ∙ r.order;
+        homes = λ u. ap (λ k. look k u) (homes_more no_entries tr x) ∙ homes u (t == u) refl;
+        decisions = decisions_more no_entries tr x ∙ no_rest (decisions_in tr) ∙ r.decisions;
         installed = λ u k h. r.installed u k (sym (or_none _ _ refl) ∙ sym (installs_more tr k u x) ∙ h);
         was_installed = λ u k h. was u k (r.was_installed u k h);
       }
@@ -224,6 +249,12 @@ module _ (s : Federation) (f : Facts s) (tr : List Trace) (r : Traced tr s) wher
 
       here : look (put s.sessions t (begun_by at)) t ≡ Some (begun_by at)
       here = put_here s.sessions t (begun_by at)
+
+      homes : (u : ℕ) (b : Bool) → (t == u) ≡ b → look (put (homes_in tr) t at) u ≡ home_of (look (put s.sessions t (begun_by at)) u)
+      homes u true e =
+          ap (look (put (homes_in tr) t at)) (sym (eqb-true t u e)) ∙ put_here (homes_in tr) t at
+          ∙ sym (ap (λ k. home_of (look (put s.sessions t (begun_by at)) k)) (sym (eqb-true t u e)) ∙ ap home_of here)
+      homes u false e = put_there (homes_in tr) t at u (eqb-false t u e) ∙ r.homes u ∙ ap home_of (sym (there u e))
 
       nobody : decider_in tr t ≡ None
       nobody = by (decider_in tr t) refl
@@ -268,6 +299,12 @@ module _ (s : Federation) (f : Facts s) (tr : List Trace) (r : Traced tr s) wher
         begun = λ u by h. decider_same tr u x refl ∙ r.begun u by h;
         known = λ u at h. known u at (or_cases _ _ (sym (committed_more tr at u x) ∙ h));
         order = order_more tr x (λ u at h. refl) ∙ (λ i. r.order i ++ decided_there t (node.Coord c) home i) ∙ sym (decision_last (record { txn = t; told = told_of s t }) s.decided);
+        homes = λ u. ap (λ k. look k u) (homes_more no_entries tr x) ∙ r.homes u;
+        decisions =
+            decisions_more no_entries tr x
+            ∙ (λ i. r.decisions i ++ (if decides_at ((same_decider tr s r t ∙ r.begun t (node.Coord c) home) i) (node.Coord c) then t ∷ [] else []))
+            ∙ ap (λ b. decided_numbers s.decided ++ (if b then t ∷ [] else [])) (same_self (node.Coord c))
+            ∙ sym (decision_last (record { txn = t; told = told_of s t }) s.decided);
         installed = λ u k h. r.installed u k (sym (or_none _ _ refl) ∙ sym (installs_more tr k u x) ∙ h);
         was_installed = λ u k h. was u k (r.was_installed u k h);
       }
