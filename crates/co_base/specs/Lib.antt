@@ -1,4 +1,5 @@
 pub mod Letters
+pub mod Limits
 pub mod Order
 pub mod Span
 pub mod Nodes
