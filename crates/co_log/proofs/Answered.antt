@@ -291,3 +291,20 @@ module _ (log after : LogView) (old new : HomeView) where
         device = λ no. (of.failed no).0;
         quiet = unless_failed log.spare.spot served failed refused wanting (new.faults ≡ old.faults) r is (λ x was. was.1.quiet) (λ was. was.1) (λ was. was.1);
       }
+
+-- What an attach says of its answer, one by one.
+pub record HasAttachParts (node : Node) (resume : Bool) (old new : HomeView) (result : Result LogView LogFault) : Type 0 where
+  pub attached : IfOk result (λ log. (a : DiskView) × (b : DiskView) × IsToldAs (spot_of node 0) (old.file (spot_of node 0)) a × IsToldAs (spot_of node 1) (old.file (spot_of node 1)) b × IsAttached node a b log)
+  pub unused : resume ≡ false → OnOk result (IsWithin 1 (old.file (spot_of node 0)) × IsWithin 1 (old.file (spot_of node 1)))
+  pub fresh : resume ≡ false → IfOk result IsFresh
+  pub short : OnOk result (IsWithin most_log_bytes (old.file (spot_of node 0)) × IsWithin most_log_bytes (old.file (spot_of node 1)))
+  pub held : IfOk result (IsHeld new)
+  pub faults : IfErr result (IsOfAttach node resume (old.file (spot_of node 0)) (old.file (spot_of node 1)))
+  pub device : (spot : Spot) → IsErrOf result (Device spot) → HasFailed spot old new
+  pub quiet : ((spot : Spot) → IsErrOf result (Device spot) → ⊥) → new.faults ≡ old.faults
+
+pub attach_parts : (node : Node) (resume : Bool) (old new : HomeView) (r : Result LogView LogFault) → IsAttachAnswer node resume old new r → HasAttachParts node resume old new r
+attach_parts node resume old new (Ok log) is =
+    record { attached = is.0.attached; unused = is.0.unused; fresh = is.0.fresh; short = is.0.short; held = is.0.held; faults = tt; device = λ spot no. cc; quiet = λ _. is.1 }
+attach_parts node resume old new (Err e) is =
+    record { attached = tt; unused = λ _. tt; fresh = λ _. tt; short = tt; held = tt; faults = is.0; device = λ spot no. as_failed old new e spot is.1 cc; quiet = λ silent. as_quiet old new e is.1 (λ spot same. silent spot (ap Err same)) }
