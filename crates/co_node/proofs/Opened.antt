@@ -7,7 +7,7 @@ use Rattle.co_base.specs.declared.node.Node.{Node}
 use Rattle.co_disk.specs.DiskModel.{read_of}
 use Rattle.co_disk.specs.DiskView.{DiskView}
 use Rattle.co_outside.specs.Home.{HomeView, Agrees}
-use Rattle.co_frame.specs.LogText.{most_log_bytes}
+use Rattle.co_base.specs.Limits.{most_log_bytes}
 use Rattle.co_record.specs.Format.{newest}
 use Rattle.co_frame.specs.Gate.{begins_closed}
 use Rattle.co_record.specs.declared.record.Record.{Record}
