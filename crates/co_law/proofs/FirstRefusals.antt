@@ -1,5 +1,5 @@
 -- What is refused before a node is asked, and for what cause.
-use Rattle.std.proofs.Common.{◌≡◌, ℕ, Bool, true, false, not, ◌==◌, if◌then◌else◌, Option, None, Some, refl, sym, ap, ◌∙◌, subst}
+use Rattle.std.proofs.Common.{◌≡◌, ℕ, Bool, true, false, not, ◌==◌, if◌then◌else◌, Option, None, Some, sym, ap, ◌∙◌, subst}
 use Rattle.co_base.specs.declared.leaves.Leaves.{Leaves}
 use Rattle.co_base.specs.declared.node.Node.{Node}
 use Rattle.co_base.specs.declared.node.Node.TheVariants as node
@@ -19,7 +19,7 @@ use Rattle.co_plain.specs.declared.member_state.MemberState.{MemberState}
 use Rattle.co_plain.specs.declared.member_step.MemberStep.{MemberStep}
 use Rattle.co_plain.specs.declared.session.Session.{Session}
 use Rattle.co_plain.specs.Numbers.{counted}
-use Rattle.co_plain.specs.Sessions.{Leave, Refuses, Grants, unless_asked, leave_to_visit, leave_to_end, may_visit, count_at, parts_of, begun_by}
+use Rattle.co_plain.specs.Sessions.{Refuses, Grants, leave_to_visit, leave_to_end, may_visit, count_at, parts_of, begun_by}
 use Rattle.co_plain.specs.Wire.{was_sent}
 use Rattle.co_plain.specs.MemberStep.{says}
 use Rattle.co_plain.specs.Member.{most_operations, unless_blocked, member_op, member_deliver, member_vote, member_timer, member_ask}
@@ -30,7 +30,7 @@ use Rattle.co_plain.specs.CoordLog.{coord_checkpoint, coord_crash, coord_restart
 use Rattle.co_plain.specs.Federation.{Federation, Stepped, message_list, answers, at_member, at_coord, with_session}
 use Rattle.co_plain.specs.Step.{up_member, up_coord, is_used, begin_where, local_where, reply_in, entered, operated, operate_with, is_stopped, marked_asked, is_held, coord_answers, local_answers, commit_at, commit_with, abort_at, abort_with, arrives, timer_at, crash_at, restart_at, arm_at, checkpoint_at, step_line}
 use Rattle.co_law_engine.proofs.YesTells.{in_some}
-use Rattle.co_law.specs.Refusals.{IsRefusal, IsFirstRefusal, reply_told, refused_leave, refused_line, receiver, decider, wanted_node, unless_up, refused_node, or_else, refusal}
+use Rattle.co_law.specs.Refusals.{IsRefusal, IsFirstRefusal, reply_told, refused_leave, receiver, decider, unless_up, refused_node, or_else, refusal}
 use Rattle.co_law.proofs.Unchanged.{reply_of}
 use Rattle.co_law.proofs.Refusing.{admits_prepare, admits_decision, admits_vote, admits_timer, admits_question, admits_checkpoint, admits_restart, admits_local_commit, admits_local_abort, admits_commit, admits_abort, admits_coord_vote, admits_coord_question, admits_acknowledgement, admits_coord_timer, admits_resending, admits_coord_checkpoint, admits_coord_restart}
 

@@ -1,19 +1,17 @@
 -- Over logs that the grammars allow, every commit record names who was asked about its transaction.
-use Rattle.std.proofs.Common.{◌≡◌, ◌⊎◌, inl, inr, ℕ, Bool, true, false, not, ◌≤◌, List, [], ◌∷◌, reverse, None, Some, refl, sym, ap, ◌∙◌, subst}
+use Rattle.std.proofs.Common.{◌≡◌, ◌⊎◌, inl, inr, ℕ, Bool, true, false, not, List, [], ◌∷◌, reverse, None, refl, sym, ap, ◌∙◌, subst}
 use Rattle.std.proofs.lemmas.Bool.{and_parts}
 use Rattle.co_record.specs.declared.record.Record.{Record}
 use Rattle.co_record.specs.declared.record.Record.TheVariants as log
 use Rattle.co_state.specs.Table.{look, holds}
 use Rattle.co_plain.specs.Numbers.{has_number}
 use Rattle.co_plain.specs.CoordView.{recovered_commits, first_refused_at_coord, has_commit_of}
-use Rattle.co_plain.specs.Decisions.{told_of, BelongsTo, BegunThere, VotedBefore}
+use Rattle.co_plain.specs.Decisions.{BelongsTo, BegunThere, VotedBefore}
 use Rattle.co_plain.specs.Federation.{Federation}
-use Rattle.co_plain.specs.Sessions.{count_at}
 use Rattle.co_plain.specs.SoundLogs.{unended_in, ByVote, ByCommit}
 use Rattle.co_plain.specs.Invariants.{TakesPart, HeldOperations, NamedBefore}
 use Rattle.co_plain.specs.CoordInvariants.{IsOneOf, TookPartIn, IsHeldFor}
 use Rattle.co_plain.specs.AllInvariants.{AllInvariants}
-use Rattle.co_law_base.proofs.Commits.{unended_seen}
 use Rattle.co_law_base.proofs.Lookups.{found_holds}
 use Rattle.co_law_node.proofs.AllowedCommits.{AllowedCommits, commits_from}
 use Rattle.co_law_runs.proofs.Agreement.{told_begun}

@@ -1,8 +1,8 @@
 //! The laws of the federation: what every run from sound opened logs keeps, and so what is promised of it; what is
 //! kept over any opened logs; and what a refused line leaves.
 //!
-//! Each law is the contract of a function without a body. They speak of the definitions alone: no engine, no byte of a
-//! file and no device call is in them. The argument is told move by move in `docs/PROOF.md`.
+//! Each law is the contract of a function without a body. They speak of the definitions alone: no engine and no
+//! file is in them. The argument is told move by move in `docs/PROOF.md`.
 #![tactic(auto)]
 
 mod events;

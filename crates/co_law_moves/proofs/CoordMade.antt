@@ -30,7 +30,7 @@ use Rattle.co_plain.specs.Federation.{Federation, with_coord, at_coord, noted, d
 use Rattle.co_plain.specs.Decisions.{told_of}
 use Rattle.co_plain.specs.Invariants.{Stable, view, ends_only}
 use Rattle.co_plain.specs.Moves.{Decide, Leave, CrashCoord, RestartCoord, ArmCoord, CloseCoordSpare, FillCoordSpare, Guard, effect, with_decision, table_decided, decide_entry, record_yes, record_ack}
-use Rattle.co_law_base.proofs.Lookups.{found_holds, without_here}
+use Rattle.co_law_base.proofs.Lookups.{without_here}
 use Rattle.co_law_base.proofs.Facts.{rest_of, over, asked, told, Here, AtDecision, settled_at, by_coord, belongs, Begun, OpenEntry, Facts}
 use Rattle.co_law_base.proofs.Carrying.{at_here}
 use Rattle.co_law_base.proofs.MemberFrame.{unended_settled}

@@ -10,7 +10,7 @@ use Rattle.co_plain.specs.declared.session.Session.{Session}
 use Rattle.co_plain.specs.Decisions.{is_decided, decided_numbers}
 use Rattle.co_plain.specs.Numbers.{has_number}
 use Rattle.co_plain.specs.Sessions.{same_node}
-use Rattle.co_plain.specs.CommitmentOrder.{Trace, Began, Operated, Committed, decides_at, decisions_from, decisions_in, installs}
+use Rattle.co_plain.specs.CommitmentOrder.{Trace, Began, Operated, Committed, decides_at, decisions_from, installs}
 use Rattle.co_law_base.proofs.Facts.{by_coord}
 
 -- the node that decides a transaction, wherever in the trace it is begun

@@ -1,5 +1,5 @@
 -- Local transactions: a member decides them alone, by its own commit record, and sends nothing.
-use Rattle.std.specs.Prelude.{ℕ, ◌==◌, [], ◌∷◌, if◌then◌else◌, None}
+use Rattle.std.specs.Prelude.{◌==◌, [], ◌∷◌, if◌then◌else◌, None}
 use Rattle.co_message.specs.declared.answer.Answer.TheVariants as answer
 use Rattle.co_message.specs.declared.answer.Cause.TheVariants as cause
 use Rattle.co_record.specs.declared.record.Record.TheVariants as log

@@ -1,5 +1,5 @@
 -- The clients' side: what was answered, how often at which member, and who may still act.
-use Rattle.std.specs.Prelude.{ℕ, Bool, true, false, ◌+◌, ◌==◌, List, [], ◌∷◌, if◌then◌else◌, Option, None, Some}
+use Rattle.std.specs.Prelude.{Bool, true, false, ◌+◌, ◌==◌, List, [], ◌∷◌, if◌then◌else◌, Option, None, Some}
 use Rattle.co_base.specs.declared.node.Node.{Node}
 use Rattle.co_base.specs.declared.node.Node.TheVariants as node
 use Rattle.co_base.specs.declared.part.Part.{Part}

@@ -1,6 +1,6 @@
 -- One step of the federation for everything that may happen. A refusal of the session or of the wire comes
 -- first, then that of a node that is down, then the node's own answer.
-use Rattle.std.specs.Prelude.{ℕ, Bool, true, false, not, ◌||◌, [], if◌then◌else◌, Option, None, Some}
+use Rattle.std.specs.Prelude.{Bool, true, false, not, ◌||◌, [], if◌then◌else◌, Option, None, Some}
 use Rattle.co_base.specs.declared.leaves.Leaves.{Leaves}
 use Rattle.co_base.specs.declared.node.Node.{Node}
 use Rattle.co_base.specs.declared.node.Node.TheVariants as node
