@@ -31,7 +31,7 @@ pub use copies::{copy_bytes, copy_rows};
 pub use fault::BaseFault;
 pub use head::{Head, Kind, Kinds};
 pub use key::Key;
-pub use leaves::{Bytes, Leaves};
+pub use leaves::{Bytes, Leaves, Stop};
 pub use limits::MOST_LOG_BYTES;
 pub use mark::{Mark, MarkKind, Marks};
 pub use node::Node;

@@ -10,7 +10,7 @@ use Rattle.co_disk.specs.DiskView.{DiskView}
 use Rattle.co_frame.specs.LogText.{IsBatch, batch_text, closed_gate}
 use Rattle.co_record.specs.declared.record.Record.{Record}
 use Rattle.co_record.specs.Spelling.{IsSpelled}
-use Rattle.co_log.specs.declared.stop.Stop.{Stop}
+use Rattle.co_base.specs.declared.leaves.Stop.{Stop}
 use Rattle.co_log.specs.LogFile.{spelled, opened, next_gate, EndsAt, EndsAfter, OldOrBoth}
 use Rattle.co_log.specs.BatchWrite.{closed_batch, batch_pending, gate_pending, disk_at, disk_after}
 use Rattle.co_frame.specs.Gate.{batch_is_stable}

@@ -9,7 +9,7 @@ use Rattle.co_log.specs.declared.append.Ending.{Ending}
 use Rattle.co_log.specs.declared.append.Ending.TheVariants.{Whole, Stopped}
 use Rattle.co_log.specs.declared.fault.LogFault.{LogFault}
 use Rattle.co_log.specs.declared.fault.LogFault.TheVariants as faults
-use Rattle.co_log.specs.declared.stop.Stop.{Stop}
+use Rattle.co_base.specs.declared.leaves.Stop.{Stop}
 use Rattle.co_frame.specs.Gate.{batch_is_stable}
 use Rattle.co_log.specs.LogFile.{spelled, next_gate, EndsAfter}
 use Rattle.std.specs.Prelude.{true}

@@ -14,9 +14,8 @@ ghost use Rattle.co_log.specs.Fresh.{IsOfDevice};
 ghost use Rattle.co_log.specs.LogFile.{spelled, opened, EndsAt, OldOrBoth};
 
 use crate::fault::LogFault;
-use crate::stop::Stop;
 use crate::writing::write_batch;
-use co_base::MOST_LOG_BYTES;
+use co_base::{MOST_LOG_BYTES, Stop};
 use co_disk::{Disk, DiskFault};
 use co_frame::{OPEN_GATE, put_batch};
 use co_outside::{Home, Spot};

@@ -9,7 +9,8 @@ ghost use Rattle.co_log.specs.BatchWrite.{batch_pending, gate_pending, disk_at, 
 ghost use Rattle.co_log.specs.LogView.{IsShort};
 ghost use Rattle.co_log.specs.Stopping.{IsStoppedWithin, HasPassed, after_calls, IsWriteStopped};
 
-use crate::stop::{Stop, arm_for};
+use crate::stop::arm_for;
+use co_base::Stop;
 use co_disk::{Disk, DiskFault};
 use co_frame::OPEN_GATE;
 use co_outside::Home;
