@@ -1,4 +1,6 @@
 pub mod Letters
+pub mod Padded
+pub mod Limits
 pub mod Order
 pub mod Span
 pub mod Nodes

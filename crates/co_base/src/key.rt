@@ -9,27 +9,31 @@ ghost use Rattle.co_base.specs.Letters.{IsLetter, HasLength, IsText, most_key_by
 
 use crate::fault::BaseFault;
 use crate::letters::test_text;
+use crate::words::{Padded, order_by_words};
 use std::alloc::{AllocError, Global};
 use std::cmp::Ordering;
 use std::marker::Model;
 
 /// The name of a record: 1 to 32 visible characters of ASCII. A contract sees its bytes.
 ///
-/// Keys are ordered by their bytes.
+/// Keys are ordered by their bytes. A key stands in place, and takes no memory beside it.
 #[derive(Drop)]
 pub struct Key {
-    bytes: Vec<u8>,
+    // No letter is zero, so keys lie as their padded letters do.
+    bytes: Padded,
+    len: u8,
 }
 
 impl Model for Key {
-    ghost use Rattle.std.specs.Prelude.{List, ℕ};
+    ghost use Rattle.std.specs.Prelude.{List, ℕ, take};
     ghost use Rattle.co_base.specs.Letters.{IsText, most_key_bytes};
+    ghost use Rattle.co_base.specs.Padded.{IsPadded};
 
     ghost Value = { List ℕ };
 
-    ghost view = { λ k. k.bytes.items };
+    ghost view = { λ k. take k.len k.bytes };
 
-    ghost invariant = { λ k. IsText most_key_bytes k.bytes.items };
+    ghost invariant = { λ k. IsText most_key_bytes (take k.len k.bytes) × IsPadded most_key_bytes k.len k.bytes };
 }
 
 impl Key {
@@ -38,15 +42,18 @@ impl Key {
 
     /// Makes a key of these bytes. `Length` comes where their count is outside 1 to 32, else
     /// `Letter` where a byte is outside `21` to `7e` hex.
-    pub fn new(alloc: Global, bytes: &[u8]) -> Result<Key, BaseFault>
+    pub fn new(_alloc: Global, bytes: &[u8]) -> Result<Key, BaseFault>
         ensures ok { IfOk result (λ k. k ≡ bytes.now) }
         ensures length { IsErrOf result BaseFault.Length ↔ ¬ (HasLength most_key_bytes bytes.now) }
         ensures letter { IsErrOf result BaseFault.Letter ↔ (HasLength most_key_bytes bytes.now × ¬ (All IsLetter bytes.now)) }
         ensures order { IsErrOf result BaseFault.Order → ⊥ }
     {
         test_text(bytes, Key::MOST)?;
+        let mut padded = [0; 32];
+        padded[..bytes.len()].copy_from_slice(bytes);
         Ok(Key {
-            bytes: Vec::from_slice(alloc, bytes)?,
+            bytes: padded,
+            len: bytes.len() as u8,
         })
     }
 
@@ -55,7 +62,7 @@ impl Key {
         ensures value { result.now ≡ self.now }
         ensures valid { IsText most_key_bytes result.now }
     {
-        self.bytes.as_slice()
+        &self.bytes[..self.len as usize]
     }
 
     /// An equal key.
@@ -63,7 +70,8 @@ impl Key {
         ensures { IfOk result (λ k. k ≡ self.now) }
     {
         Ok(Key {
-            bytes: self.bytes.clone()?,
+            bytes: self.bytes,
+            len: self.len,
         })
     }
 }
@@ -74,7 +82,7 @@ impl PartialEq for Key {
     ghost laws = { Prim.search (comparing, rules) };
 
     fn eq(&self, other: &Key) -> bool {
-        self.bytes == other.bytes
+        self.cmp(other).is_eq()
     }
 }
 
@@ -102,6 +110,6 @@ impl Ord for Key {
     ghost matches_eq = { Prim.search (comparing, rules) };
 
     fn cmp(&self, other: &Key) -> Ordering {
-        self.bytes.cmp(&other.bytes)
+        order_by_words(&self.bytes, &other.bytes)
     }
 }

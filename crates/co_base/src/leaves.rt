@@ -14,3 +14,12 @@ pub enum Leaves {
     /// These bytes at the touched positions, in ascending order.
     Filled(Bytes),
 }
+
+/// An armed stop: the next log write ends in one of its device calls.
+#[derive(Drop)]
+pub struct Stop {
+    /// The number of that device call, counted from 1.
+    pub call: u8,
+    /// Which image of the file is left.
+    pub leaves: Leaves,
+}

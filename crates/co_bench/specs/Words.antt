@@ -10,3 +10,5 @@ pub record IsLoad (load : Load) : Type 0 where
   pub keys : load.keys ≤ 1000000
   pub some_key : 1 ≤ load.span
   pub span : load.span ≤ load.keys
+  pub some_together : 1 ≤ load.together
+  pub together : load.together ≤ load.transactions

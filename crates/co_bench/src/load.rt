@@ -6,9 +6,6 @@ use co_engine::Command;
 use co_state::RecordMap;
 use std::alloc::Global;
 
-/// How many transactions are active at a time.
-const TOGETHER: u32 = 10;
-
 /// How much is to be done.
 #[derive(Drop)]
 pub struct Load {
@@ -20,6 +17,8 @@ pub struct Load {
     pub keys: u32,
     /// How many keys a scan reads.
     pub span: u32,
+    /// How many transactions are active at a time.
+    pub together: u32,
 }
 
 /// Numbers that look random, by a linear congruential rule (Knuth, The Art of Computer Programming,
@@ -140,14 +139,14 @@ fn add_some(
     Ok(())
 }
 
-/// The commands of all transactions. Ten transactions are active at a time; each has the same number of
+/// The commands of all transactions. So many of them are active at a time; each has the same number of
 /// operations, and is then installed.
 pub fn commands(alloc: Global, load: &Load) -> Result<Sequence<Command>, BaseFault> {
     let mut picks = Picks { state: 1 };
     let mut commands = Sequence::new(alloc);
-    for group in 0..load.transactions.div_ceil(TOGETHER) {
-        let first = group.saturating_mul(TOGETHER);
-        let end = first.saturating_add(TOGETHER).min(load.transactions);
+    for group in 0..load.transactions.div_ceil(load.together.max(1)) {
+        let first = group.saturating_mul(load.together);
+        let end = first.saturating_add(load.together).min(load.transactions);
         add_some(alloc, &mut commands, &mut picks, load, first, end)?;
     }
     Ok(commands)

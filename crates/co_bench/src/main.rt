@@ -2,6 +2,7 @@
 //! Without words it writes which words it takes.
 #![tactic(auto)]
 
+mod digest;
 mod load;
 mod outcome;
 mod words;
@@ -20,12 +21,13 @@ use std::env;
 use std::rt::Clock;
 use std::time::{Duration, Instant};
 
-const USAGE: &str = "co_bench ENGINE OPERATIONS TRANSACTIONS KEYS SPAN
+const USAGE: &str = "co_bench ENGINE OPERATIONS TRANSACTIONS KEYS SPAN TOGETHER
   ENGINE        lock, occ, mv, plain_lock, plain_occ or plain_mv
   OPERATIONS    how many reads, scans and writes: 1 to 10000000
   TRANSACTIONS  by how many transactions: 1 to OPERATIONS
   KEYS          over how many keys, each with a record: 1 to 1000000
   SPAN          how many keys a scan reads: 1 to KEYS
+  TOGETHER      how many transactions are active at a time: 1 to TRANSACTIONS
 ";
 
 /// Plays commands on an engine.
@@ -80,9 +82,10 @@ fn report<R: Print>(rt: &R, outcome: &Outcome, took: Duration) -> Result<()> {
         pairs,
         done,
         refused,
+        digest,
     } = outcome;
     println!(rt;
-        "answered {answered} blocked {blocked} rows {rows} pairs {pairs} done {done} refused {refused} millis {millis}"
+        "answered {answered} blocked {blocked} rows {rows} pairs {pairs} done {done} refused {refused} digest {digest:016x} millis {millis}"
     )?;
     Ok(())
 }

@@ -1,4 +1,5 @@
 //! What a list of commands came to, in numbers.
+use crate::digest::Digest;
 use co_base::Reply;
 use co_engine::{Played, Seen};
 use co_pairs::Pairs;
@@ -18,6 +19,8 @@ pub struct Outcome {
     pub done: u64,
     /// Commands that were refused.
     pub refused: u64,
+    /// The digest of every reply, row, blocker and pair.
+    pub digest: u64,
 }
 
 impl Outcome {
@@ -58,9 +61,13 @@ pub fn outcome_of(answers: &[Played]) -> Outcome {
         pairs: 0,
         done: 0,
         refused: 0,
+        digest: 0,
     };
+    let mut digest = Digest::new();
     for played in answers {
         outcome.add(played);
+        digest.take_played(played);
     }
+    outcome.digest = digest.value();
     outcome
 }

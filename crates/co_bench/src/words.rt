@@ -41,22 +41,24 @@ fn number_of(word: &String, most: u32) -> Option<u32>
     }
 }
 
-/// The load of the four words behind the engine: none where there are not four, or one is no number in its bounds.
+/// The load of the five words behind the engine: none where there are not five, or one is no number in its bounds.
 pub fn load_of(words: &[String]) -> Option<Load>
     ensures bounds { IfSome result IsLoad }
-    ensures words { length words.now ≢ 4 → result ≡ None }
+    ensures words { length words.now ≢ 5 → result ≡ None }
 {
-    let [operations, transactions, keys, span] = words else {
+    let [operations, transactions, keys, span, together] = words else {
         return None;
     };
     let operations = number_of(operations, 10_000_000)?;
     let transactions = number_of(transactions, operations)?;
     let keys = number_of(keys, 1_000_000)?;
     let span = number_of(span, keys)?;
+    let together = number_of(together, transactions)?;
     Some(Load {
         operations,
         transactions,
         keys,
         span,
+        together,
     })
 }

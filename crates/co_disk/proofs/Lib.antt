@@ -8,4 +8,5 @@ pub mod Writes
 pub mod Filling
 pub mod Leaving
 pub mod HomeFaults
+pub mod Answered
 pub mod Rereads

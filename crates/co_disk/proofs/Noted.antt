@@ -6,6 +6,7 @@ use Rattle.std.proofs.lemmas.Bool.{cases_Bool}
 use Rattle.std.proofs.lemmas.Bool.Decides.{nat_tests}
 use Rattle.std.proofs.lemmas.List.{map-append, length-take}
 use Rattle.std.specs.Prelude.{Option, Some, None, is_some, slice_get, min, nat_lt}
+use Rattle.co_base.specs.Limits.{most_log_bytes}
 use Rattle.co_outside.specs.Overlay.{overlaid}
 use Rattle.co_disk.specs.DiskModel.{Write, read_of, after_write, IsSound}
 use Rattle.co_disk.specs.declared.touched.FirstByte.{FirstByte}
@@ -105,7 +106,7 @@ noted_state bytes es at piece within =
     let pending : map write_of (es ++ entry bytes at piece ∷ []) ≡ map write_of es ++ write_of (entry bytes at piece) ∷ [] = writes_more es (entry bytes at piece) in
     λ i. record { stable = stable i; pending = pending i }
 
-pub noted_kept : (bytes : List ℕ) (es : List Entry) (at : ℕ) (piece : List ℕ) → at ≤ length bytes → at + length piece ≤ 268435456 → IsKept bytes es → IsKept (overlaid bytes at piece) (es ++ entry bytes at piece ∷ [])
+pub noted_kept : (bytes : List ℕ) (es : List Entry) (at : ℕ) (piece : List ℕ) → at ≤ length bytes → at + length piece ≤ most_log_bytes → IsKept bytes es → IsKept (overlaid bytes at piece) (es ++ entry bytes at piece ∷ [])
 noted_kept bytes es at piece within end kept =
     let state = noted_state bytes es at piece within in
     let w : Write = record { at = at; piece = piece } in
@@ -145,7 +146,7 @@ no_items [] none = refl
 no_items (x ∷ xs) none = absurd (omega arith)
 
 -- one byte is noted where nothing is pending
-pub one_byte : (bytes : List ℕ) (first : Option FirstByte) (touched : List Touched) (at : ℕ) (piece : List ℕ) (old : ℕ) → is_some first ≡ false → length touched ≡ 0 → at < length bytes → length piece ≡ 1 → old ≡ get_or bytes at old → at + length piece ≤ 268435456 → IsKept bytes (entries first touched)
+pub one_byte : (bytes : List ℕ) (first : Option FirstByte) (touched : List Touched) (at : ℕ) (piece : List ℕ) (old : ℕ) → is_some first ≡ false → length touched ≡ 0 → at < length bytes → length piece ≡ 1 → old ≡ get_or bytes at old → at + length piece ≤ most_log_bytes → IsKept bytes (entries first touched)
     → IsKept (set bytes at (get_or piece 0 0)) (entries (Some (record { at = at; byte = get_or piece 0 0; before = old })) touched) × (state_of (set bytes at (get_or piece 0 0)) (entries (Some (record { at = at; byte = get_or piece 0 0; before = old })) touched) ≡ after_write (state_of bytes (entries first touched)) at piece)
 one_byte bytes (Some f) touched at piece old none empty lt one was end kept = absurd (cc)
 one_byte bytes None (t ∷ touched) at piece old none empty lt one was end kept = absurd (omega arith)
@@ -158,7 +159,7 @@ one_byte bytes None [] at piece old none empty lt one was end kept =
     )
 
 -- a write is noted as the newest one
-pub one_more : (bytes new_bytes : List ℕ) (first : Option FirstByte) (touched new_touched : List Touched) (t : Touched) (at : ℕ) (piece : List ℕ) → at ≤ length bytes → at + length piece ≤ 268435456 → t.at ≡ at → t.piece.items ≡ piece → t.before.items ≡ take (length piece) (drop at bytes) → new_bytes ≡ overlaid bytes at piece → new_touched ≡ touched ++ t ∷ [] → IsKept bytes (entries first touched)
+pub one_more : (bytes new_bytes : List ℕ) (first : Option FirstByte) (touched new_touched : List Touched) (t : Touched) (at : ℕ) (piece : List ℕ) → at ≤ length bytes → at + length piece ≤ most_log_bytes → t.at ≡ at → t.piece.items ≡ piece → t.before.items ≡ take (length piece) (drop at bytes) → new_bytes ≡ overlaid bytes at piece → new_touched ≡ touched ++ t ∷ [] → IsKept bytes (entries first touched)
     → IsKept new_bytes (entries first new_touched) × (state_of new_bytes (entries first new_touched) ≡ after_write (state_of bytes (entries first touched)) at piece)
 one_more bytes new_bytes first touched new_touched t at piece within end same_at same_piece same_before laid pushed kept =
     let es : entries first new_touched ≡ entries first touched ++ entry bytes at piece ∷ [] =

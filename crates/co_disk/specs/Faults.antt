@@ -1,5 +1,6 @@
 -- The faults of a disk.
 use Rattle.std.specs.Prelude.{ℕ, ◌≡◌, ◌≢◌, ◌<◌, List, length, Option, None, slice_get}
+use Rattle.co_base.specs.Limits.{most_log_bytes}
 use Rattle.co_outside.specs.Home.{File}
 use Rattle.co_outside.specs.declared.home.HomeFault.{HomeFault}
 use Rattle.co_outside.specs.declared.home.HomeFault.TheVariants as home
@@ -38,7 +39,7 @@ IsOfAttach gives Device = Unit {0}
 IsOfAttach gives (Stopped call) = ⊥
 IsOfAttach gives Memory = Unit {0}
 IsOfAttach gives (Differs at kept read) = ⊥
-IsOfAttach gives Long = (bytes : List ℕ) × gives bytes × (268435456 < length bytes)
+IsOfAttach gives Long = (bytes : List ℕ) × gives bytes × (most_log_bytes < length bytes)
 
 -- what differs is named by the first place with both bytes there, and the home does not tell the file
 pub record IsNamed (kept read : List ℕ) (file : Option File) (at : ℕ) (kept_byte read_byte : Option ℕ) : Type 0 where

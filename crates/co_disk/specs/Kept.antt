@@ -1,6 +1,7 @@
 -- What a disk keeps: what a read gives, and each pending write with the bytes that it laid and those
 -- that stood there before.
 use Rattle.std.specs.Prelude.{ℕ, ◌+◌, ◌<◌, ◌≤◌, ◌≡◌, List, [], ◌∷◌, ◌++◌, length, take, drop, map, Option, None, Some}
+use Rattle.co_base.specs.Limits.{most_log_bytes}
 use Rattle.co_disk.specs.declared.touched.FirstByte.{FirstByte}
 use Rattle.co_disk.specs.declared.touched.Touched.{Touched}
 use Rattle.co_disk.specs.DiskModel.{Write, DiskState, laid_over, AreWithin}
@@ -53,7 +54,7 @@ pub record IsKept (bytes : List ℕ) (es : List Entry) : Type 0 where
   pub read : laid_over (undone bytes es) (map write_of es) ≡ bytes
   pub sound : AreWithin (undone bytes es) (map write_of es)
   pub fit : AreFit bytes es
-  pub short : length bytes ≤ 268435456
+  pub short : length bytes ≤ most_log_bytes
 
 -- the disk whose stable bytes are the front of these
 abbrev pub disk_over : List ℕ → ℕ → List Entry → DiskState

@@ -1,5 +1,6 @@
 -- A chosen image on its way into the home.
 use Rattle.std.specs.Prelude.{ℕ, ◌≡◌, ◌+◌, ◌<◌, ◌≤◌, true, List, [], ◌∷◌, length, Option, Some, slice_get}
+use Rattle.co_base.specs.Limits.{most_log_bytes}
 use Rattle.co_outside.specs.Home.{File}
 use Rattle.co_disk.specs.DiskModel.{Write, DiskState, IsImage, IsSound, any_covers}
 
@@ -25,7 +26,7 @@ pub record IsToLay (disk : DiskState) (image : List ℕ) (writes : List Write) (
   pub pending : disk.pending ≡ writes
   pub sound : IsSound disk
   pub image_is : IsImage disk image
-  pub short : length image ≤ 268435456
+  pub short : length image ≤ most_log_bytes
   pub stable : length disk.stable ≤ reach
   pub begins : BeginWithin reach writes
   pub images : (f : File) → file ≡ Some f → IsImage disk f.bytes

@@ -1,5 +1,6 @@
 //! A disk over one file of the directory of logs.
 ghost use Rattle.std.specs.Prelude.{◌≡◌, ◌≤◌, ◌<◌, ◌+◌, ◌↔◌, [], List, ℕ, None, Some, length, slice_get, OnOk, OnErr, IfOk, IfErr, IsOk, IsErrOf};
+ghost use Rattle.co_base.specs.Limits.{most_log_bytes};
 
 use crate::difference::{byte_at, first_difference};
 use crate::fault::DiskFault;
@@ -7,13 +8,10 @@ use crate::image::choose;
 use crate::laying::lay_image;
 use crate::stop::{Armed, count};
 use crate::touched::{FirstByte, Touched, note};
-use co_base::Leaves;
+use co_base::{Leaves, MOST_LOG_BYTES};
 use co_outside::{Home, HomeFault, Spot};
 use std::alloc::Global;
 use std::marker::Model;
-
-/// The most bytes of a file: 268,435,456.
-const MOST_BYTES: u32 = 268_435_456;
 
 /// The stable bytes and the pending writes of one file, which are written through to the home.
 ///
@@ -43,7 +41,7 @@ impl Model for Disk {
 impl Disk {
     ghost use Rattle.co_outside.specs.Home.{File, Agrees, IsClean, RestStays, HasFailed};
     ghost use Rattle.co_disk.specs.DiskModel.{read_of, stable_disk, after_write, after_sync, IsImage, IsSound};
-    ghost use Rattle.co_disk.specs.Calls.{HasAttached, HasCalled, HasCut, HasReread};
+    ghost use Rattle.co_disk.specs.Calls.{HasAttached, HasCalled, MayWant, HasCut, HasReread};
     ghost use Rattle.co_disk.specs.Faults.{IsOfAttach, IsOfWrite, IsOfSync, IsOfReread};
     ghost use Rattle.co_disk.specs.Homes.{IsImageIn};
     ghost use Rattle.co_disk.specs.Laying.{BeginWithin, EndWithin};
@@ -52,7 +50,7 @@ impl Disk {
     /// Reads the file of a spot; all its bytes are stable. `Long` comes where it has more than
     /// 268,435,456 bytes, `Device` only where the home failed, `Memory` where there was none.
     pub fn attach<H: Home>(alloc: Global, home: &mut H, spot: Spot) -> Result<Disk, DiskFault>
-        ensures { HasAttached (H.gives home.old spot 268435457) spot (H.seen home.old) (H.seen home.new) result }
+        ensures { HasAttached (H.gives home.old spot (most_log_bytes + 1)) spot (H.seen home.old) (H.seen home.new) result }
     {
         Disk::read_file(alloc, home, spot)
     }
@@ -60,19 +58,19 @@ impl Disk {
     /// Reads the file, and takes its bytes for stable.
     fn read_file<H: Home>(alloc: Global, home: &mut H, spot: Spot) -> Result<Disk, DiskFault>
         ensures spot { IfOk result (λ d. d.spot ≡ spot) }
-        ensures state { IfOk result (λ d. H.gives home.old spot 268435457 d.state.stable × (d.state ≡ stable_disk d.state.stable)) }
-        ensures short { IfOk result (λ d. length d.state.stable ≤ 268435456) }
+        ensures state { IfOk result (λ d. H.gives home.old spot (most_log_bytes + 1) d.state.stable × (d.state ≡ stable_disk d.state.stable)) }
+        ensures short { IfOk result (λ d. length d.state.stable ≤ most_log_bytes) }
         ensures disarmed { IfOk result (λ d. d.armed ≡ None) }
         ensures agrees { IfOk result (λ d. Agrees (H.seen home.new) spot d.state.stable) }
-        ensures faults { IfErr result (IsOfAttach (H.gives home.old spot 268435457)) }
-        ensures long { IsErrOf result DiskFault.Long → (f : File) → (H.seen home.old).file spot ≡ Some f → 268435456 < length f.bytes }
+        ensures faults { IfErr result (IsOfAttach (H.gives home.old spot (most_log_bytes + 1))) }
+        ensures long { IsErrOf result DiskFault.Long → (f : File) → (H.seen home.old).file spot ≡ Some f → most_log_bytes < length f.bytes }
         ensures file { (H.seen home.new).file spot ≡ (H.seen home.old).file spot }
         ensures rest { RestStays spot (H.seen home.old) (H.seen home.new) }
         ensures device { IsErrOf result DiskFault.Device → HasFailed spot (H.seen home.old) (H.seen home.new) }
         ensures quiet { (IsErrOf result DiskFault.Device → ⊥) → (H.seen home.new).faults ≡ (H.seen home.old).faults }
     {
-        let bytes = home.read_all(alloc, spot, MOST_BYTES + 1)?;
-        if bytes.len() > MOST_BYTES as usize {
+        let bytes = home.read_all(alloc, spot, MOST_LOG_BYTES + 1)?;
+        if bytes.len() > MOST_LOG_BYTES as usize {
             return Err(DiskFault::Long);
         }
         Ok(Disk {
@@ -88,7 +86,7 @@ impl Disk {
     /// What a read gives: the stable bytes with the pending writes laid over them in order.
     pub fn bytes(&self) -> &[u8]
         ensures read { result.now ≡ read_of self.now.state }
-        ensures short { length result.now ≤ 268435456 }
+        ensures short { length result.now ≤ most_log_bytes }
         ensures sound { IsSound self.now.state }
     {
         self.bytes.as_slice()
@@ -112,9 +110,8 @@ impl Disk {
     ) -> Result<(), DiskFault>
         requires agrees { Agrees (H.seen home.old) self.old.spot (read_of self.old.state) }
         requires at { at ≤ length (read_of self.old.state) }
-        requires end { at + length piece.now ≤ 268435456 }
-        ensures called { HasCalled (after_write self.old.state at piece.now) (after_write self.old.state at piece.now) IsOfWrite self.old self.new (H.seen home.old) (H.seen home.new) result }
-        ensures memory { length piece.now ≡ 1 → at < length (read_of self.old.state) → self.old.state.pending ≡ [] → IsErrOf result DiskFault.Memory → ⊥ }
+        requires end { at + length piece.now ≤ most_log_bytes }
+        ensures { HasCalled (after_write self.old.state at piece.now) (after_write self.old.state at piece.now) (MayWant self.old.state at piece.now) self.old self.new (H.seen home.old) (H.seen home.new) result }
     {
         self.write(home, at, piece)
     }
@@ -123,7 +120,7 @@ impl Disk {
     fn write<H: Home>(&mut self, home: &mut H, at: u32, piece: &[u8]) -> Result<(), DiskFault>
         requires agrees { Agrees (H.seen home.old) self.old.spot (read_of self.old.state) }
         requires at { at ≤ length (read_of self.old.state) }
-        requires end { at + length piece.now ≤ 268435456 }
+        requires end { at + length piece.now ≤ most_log_bytes }
         ensures spot { self.new.spot ≡ self.old.spot }
         ensures written { OnOk result (self.new.state ≡ after_write self.old.state at piece.now) }
         ensures passed { OnOk result (stop_here self.old.armed ≡ None) }
@@ -134,7 +131,7 @@ impl Disk {
         ensures agrees { OnOk result (Agrees (H.seen home.new) self.old.spot (read_of self.new.state)) }
         ensures image { IsImageIn (after_write self.old.state at piece.now) ((H.seen home.new).file self.old.spot) }
         ensures memory { length piece.now ≡ 1 → at < length (read_of self.old.state) → self.old.state.pending ≡ [] → IsErrOf result DiskFault.Memory → ⊥ }
-        ensures short { length (read_of self.new.state) ≤ 268435456 }
+        ensures short { length (read_of self.new.state) ≤ most_log_bytes }
         ensures rest { RestStays self.old.spot (H.seen home.old) (H.seen home.new) }
         ensures device { IsErrOf result DiskFault.Device → HasFailed self.old.spot (H.seen home.old) (H.seen home.new) }
         ensures quiet { (IsErrOf result DiskFault.Device → ⊥) → (H.seen home.new).faults ≡ (H.seen home.old).faults }
@@ -160,7 +157,7 @@ impl Disk {
     /// chosen is left. Never answers `Memory`.
     pub fn sync<H: Home>(&mut self, home: &mut H) -> Result<(), DiskFault>
         requires agrees { Agrees (H.seen home.old) self.old.spot (read_of self.old.state) }
-        ensures called { HasCalled (after_sync self.old.state) self.old.state IsOfSync self.old self.new (H.seen home.old) (H.seen home.new) result }
+        ensures called { HasCalled (after_sync self.old.state) self.old.state ⊥ self.old self.new (H.seen home.old) (H.seen home.new) result }
         ensures clean { OnOk result (IsClean (H.seen home.new) self.old.spot) }
     {
         self.make_stable(home)
@@ -179,7 +176,7 @@ impl Disk {
         ensures agrees { OnOk result (Agrees (H.seen home.new) self.old.spot (read_of self.new.state)) }
         ensures clean { OnOk result (IsClean (H.seen home.new) self.old.spot) }
         ensures image { IsImageIn self.old.state ((H.seen home.new).file self.old.spot) }
-        ensures short { length (read_of self.new.state) ≤ 268435456 }
+        ensures short { length (read_of self.new.state) ≤ most_log_bytes }
         ensures rest { RestStays self.old.spot (H.seen home.old) (H.seen home.new) }
         ensures device { IsErrOf result DiskFault.Device → HasFailed self.old.spot (H.seen home.old) (H.seen home.new) }
         ensures quiet { (IsErrOf result DiskFault.Device → ⊥) → (H.seen home.new).faults ≡ (H.seen home.old).faults }
@@ -233,7 +230,7 @@ impl Disk {
         ensures clean { OnOk result (IsClean (H.seen home.new) self.old.spot) }
         ensures image { IsImageIn self.old.state ((H.seen home.new).file self.old.spot) }
         ensures faults { IfErr result (λ e. e ≡ DiskFault.Device) }
-        ensures short { length (read_of self.new.state) ≤ 268435456 }
+        ensures short { length (read_of self.new.state) ≤ most_log_bytes }
         ensures rest { RestStays self.old.spot (H.seen home.old) (H.seen home.new) }
         ensures device { IsErrOf result DiskFault.Device → HasFailed self.old.spot (H.seen home.old) (H.seen home.new) }
         ensures quiet { (IsErrOf result DiskFault.Device → ⊥) → (H.seen home.new).faults ≡ (H.seen home.old).faults }
@@ -249,7 +246,7 @@ impl Disk {
     pub fn reread<H: Home>(&mut self, home: &mut H) -> Result<(), DiskFault>
         requires agrees { Agrees (H.seen home.old) self.old.spot (read_of self.old.state) }
         ensures disk { self.new ≡ self.old }
-        ensures reread { HasReread (H.gives home.old self.old.spot 268435457) self.old (H.seen home.old) (H.seen home.new) result }
+        ensures reread { HasReread (H.gives home.old self.old.spot (most_log_bytes + 1)) self.old (H.seen home.old) (H.seen home.new) result }
     {
         self.compare(home)
     }
@@ -258,15 +255,15 @@ impl Disk {
     fn compare<H: Home>(&mut self, home: &mut H) -> Result<(), DiskFault>
         requires agrees { Agrees (H.seen home.old) self.old.spot (read_of self.old.state) }
         ensures disk { self.new ≡ self.old }
-        ensures same { OnOk result (H.gives home.old self.old.spot 268435457 (read_of self.old.state)) }
+        ensures same { OnOk result (H.gives home.old self.old.spot (most_log_bytes + 1) (read_of self.old.state)) }
         ensures file { (H.seen home.new).file self.old.spot ≡ (H.seen home.old).file self.old.spot }
         ensures agrees { Agrees (H.seen home.new) self.old.spot (read_of self.old.state) }
-        ensures faults { IfErr result (IsOfReread (H.gives home.old self.old.spot 268435457) (read_of self.old.state) ((H.seen home.old).file self.old.spot)) }
+        ensures faults { IfErr result (IsOfReread (H.gives home.old self.old.spot (most_log_bytes + 1)) (read_of self.old.state) ((H.seen home.old).file self.old.spot)) }
         ensures rest { RestStays self.old.spot (H.seen home.old) (H.seen home.new) }
         ensures device { IsErrOf result DiskFault.Device → HasFailed self.old.spot (H.seen home.old) (H.seen home.new) }
         ensures quiet { (IsErrOf result DiskFault.Device → ⊥) → (H.seen home.new).faults ≡ (H.seen home.old).faults }
     {
-        let read = home.read_all(self.alloc, self.spot, MOST_BYTES + 1)?;
+        let read = home.read_all(self.alloc, self.spot, MOST_LOG_BYTES + 1)?;
         match first_difference(&self.bytes, &read) {
             None => Ok(()),
             Some(place) => Err(DiskFault::Differs {
@@ -290,7 +287,7 @@ impl Disk {
         ensures clean { OnOk result (IsClean (H.seen home.new) self.old.spot) }
         ensures image { IsImageIn self.old.state ((H.seen home.new).file self.old.spot) }
         ensures memory { EndWithin ((H.seen home.old).reach self.old.spot) self.old.state.pending → IsErrOf result HomeFault.Memory → ⊥ }
-        ensures short { length (read_of self.new.state) ≤ 268435456 }
+        ensures short { length (read_of self.new.state) ≤ most_log_bytes }
         ensures rest { RestStays self.old.spot (H.seen home.old) (H.seen home.new) }
         ensures fault { IsErrOf result HomeFault.Failed → HasFailed self.old.spot (H.seen home.old) (H.seen home.new) }
         ensures quiet { (IsErrOf result HomeFault.Failed → ⊥) → (H.seen home.new).faults ≡ (H.seen home.old).faults }

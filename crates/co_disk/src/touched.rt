@@ -1,5 +1,6 @@
 //! Writes that are not stable yet, and the bytes that stood there before.
 ghost use Rattle.std.specs.Prelude.{◌≡◌, ◌≤◌, ◌<◌, ◌+◌, ◌++◌, [], length, take, drop, map, IfOk, IsOk, OnOk, OnErr, true, false};
+ghost use Rattle.co_base.specs.Limits.{most_log_bytes};
 ghost use Rattle.co_outside.specs.Overlay.{overlaid};
 ghost use Rattle.co_disk.specs.DiskModel.{any_covers, after_write};
 ghost use Rattle.co_disk.specs.Kept.{entries, write_of, entry_of, state_of, IsKept};
@@ -105,7 +106,7 @@ pub(crate) fn note(
 ) -> Result<(), AllocError>
     requires kept { IsKept bytes.old.items (entries first.old touched.old.items) }
     requires at { at ≤ length bytes.old.items }
-    requires end { at + length piece.now ≤ 268435456 }
+    requires end { at + length piece.now ≤ most_log_bytes }
     ensures kept { IsKept bytes.new.items (entries first.new touched.new.items) }
     ensures noted { OnOk result (state_of bytes.new.items (entries first.new touched.new.items) ≡ after_write (state_of bytes.old.items (entries first.old touched.old.items)) at piece.now) }
     ensures read { OnOk result (bytes.new.items ≡ overlaid bytes.old.items at piece.now) }

@@ -6,7 +6,7 @@ use Rattle.co_outside.specs.Home.{HomeView, File}
 use Rattle.co_disk.specs.DiskView.{DiskView}
 use Rattle.co_log.specs.declared.fault.LogFault.TheVariants as log
 use Rattle.co_log.specs.LogView.{spot_of, LogView}
-use Rattle.co_frame.specs.LogText.{most_log_bytes}
+use Rattle.co_base.specs.Limits.{most_log_bytes}
 use Rattle.co_log.specs.Attaching.{IsAttached, IsWithin, IsToldAs, IsOfAttach}
 use Rattle.co_durable.specs.Pairs.{FirstWhere}
 use Rattle.co_durable.specs.declared.fault.WorldFault.{WorldFault}

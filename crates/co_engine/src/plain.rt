@@ -17,6 +17,7 @@ use crate::answers::{Dump, Seen};
 use crate::dumping::{dump_apart, dump_in_place};
 use crate::engine::Engine;
 use crate::new_pairs::{append, pairs_made};
+use crate::operations::writing;
 use crate::undecided::{Roll, Undecided};
 use co_base::{Key, Kind, Op, Range, Ranges, Reply, Rows, Txn, Value, Writes};
 use co_pairs::{Pairs, Prepared, Sets};
@@ -119,16 +120,6 @@ fn voted_roll(alloc: Global, prepared: &[Prepared]) -> Result<Roll, AllocError>
         roll.put(prepared[place].txn, undecided)?;
     }
     Ok(roll)
-}
-
-/// The operation that writes a record, or takes it away where there is no value.
-fn writing(key: &Key, value: Option<&Value>) -> Result<Op, AllocError>
-    ensures { IfOk result (λ op. op ≡ writing key.now (option_copied value.entry)) }
-{
-    match value {
-        Some(value) => Ok(Op::Write(key.copy()?, value.copy()?)),
-        None => Ok(Op::Erase(key.copy()?)),
-    }
 }
 
 impl PlainEngine {

@@ -14,10 +14,6 @@ open_gate = 165
 abbrev pub closed_gate : ℕ
 closed_gate = 0
 
--- the most bytes that a log file has
-abbrev pub most_log_bytes : ℕ
-most_log_bytes = 268435456
-
 -- a batch has at least one byte of records, and its length stands in four bytes
 abbrev pub IsBatch : List ℕ → Type 0
 IsBatch records = (1 ≤ length records) × (length records < 2 ^ 32)

@@ -1,6 +1,7 @@
 //! The walk over the batches of a log text.
 ghost use Rattle.std.specs.Prelude.{◌≡◌, ◌≤◌, ◌<◌, ◌+◌, ◌++◌, ℕ, List, length, drop, IfSome, IfOk, IfNone};
-ghost use Rattle.co_frame.specs.LogText.{GateWalk, Tells, HasPassed, HasBatch, IsBatch, IsLentFrom, batch_text, most_log_bytes};
+ghost use Rattle.co_base.specs.Limits.{most_log_bytes};
+ghost use Rattle.co_frame.specs.LogText.{GateWalk, Tells, HasPassed, HasBatch, IsBatch, IsLentFrom, batch_text};
 
 use crate::batch::Batch;
 use crate::fault::FrameFault;
@@ -11,9 +12,6 @@ pub const OPEN_GATE: u8 = 0xa5;
 
 /// The byte that closes a gate.
 pub const CLOSED_GATE: u8 = 0x00;
-
-/// The most bytes that a log file has.
-pub const MOST_LOG_BYTES: usize = 268_435_456;
 
 /// A walk over the batches of a log text, from its front to the first gate that is not open.
 ///
@@ -26,7 +24,8 @@ pub struct Batches<'a> {
 
 impl<'a> Model for Batches<'a> {
     ghost use Rattle.std.specs.Prelude.{◌≤◌, ◌<◌, length};
-    ghost use Rattle.co_frame.specs.LogText.{GateWalk, most_log_bytes};
+    ghost use Rattle.co_base.specs.Limits.{most_log_bytes};
+    ghost use Rattle.co_frame.specs.LogText.{GateWalk};
 
     ghost Value = { GateWalk };
 

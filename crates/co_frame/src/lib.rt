@@ -12,7 +12,7 @@ mod laws;
 mod put;
 
 pub use batch::Batch;
-pub use batches::{Batches, CLOSED_GATE, MOST_LOG_BYTES, OPEN_GATE};
+pub use batches::{Batches, CLOSED_GATE, OPEN_GATE};
 pub use fault::FrameFault;
 pub use gate::{batch_is_stable, begins_closed, closes_spare};
 pub use laws::{closed_gate_hides, one_reading, open_gate_adds, passed_come_first};

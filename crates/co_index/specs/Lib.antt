@@ -1,2 +1,3 @@
 pub mod Touching
 pub mod NewPairs
+pub mod Undecided

@@ -1,12 +1,14 @@
 -- The pairs that an operation makes with other undecided transactions, by what these read and wrote.
-use Rattle.std.specs.Prelude.{ℕ, Bool, false, ◌&&◌, not, nat_lt, List, [], ◌∷◌, ◌++◌, map, if◌then◌else◌, Option, None, Some}
+use Rattle.std.specs.Prelude.{◌≡◌, ℕ, Bool, false, ◌&&◌, ◌==◌, not, nat_lt, List, [], ◌∷◌, ◌++◌, map, if◌then◌else◌, Option, None, Some}
 use Rattle.co_base.specs.Span.{Span}
 use Rattle.co_base.specs.declared.op.Op.{Op}
 use Rattle.co_base.specs.declared.written.Written.{Written}
 use Rattle.co_state.specs.declared.engine_state.Sets.{Sets}
 use Rattle.co_state.specs.declared.pair.Pair.{Pair}
+use Rattle.co_state.specs.declared.pair.PairKind.{PairKind}
 use Rattle.co_state.specs.declared.pair.PairKind.TheVariants.{Reads, Writes}
 use Rattle.co_state.specs.Changes.{span_read, change_made, with_span, with_written, no_sets}
+use Rattle.co_state.specs.Conflicts.{lists_pair, AreDistinctPairs}
 use Rattle.co_state.specs.Table.{Table, look}
 use Rattle.co_state.specs.Keys.{reads_key, writes_key, writes_within, reads_meet, writes_meet}
 
@@ -75,3 +77,16 @@ grown_by op sets = record { reads = with_span (span_read op) sets.reads; writes 
 abbrev pub or_nothing : Option Sets → Sets
 or_nothing None = no_sets
 or_nothing (Some sets) = sets
+
+abbrev pub sets_among : Table Sets → ℕ → Sets
+sets_among all t = or_nothing (look all t)
+
+-- a read of the one meets a write of the other, or both wrote one key and the one is the lesser
+abbrev pub pair_among : (ℕ → Sets) → PairKind → ℕ → ℕ → Bool
+pair_among sets Reads u v = not (u == v) && reads_meet (sets u).reads (sets v).writes
+pair_among sets Writes u v = nat_lt u v && writes_meet (sets u).writes (sets v).writes
+
+-- exactly the pairs that are there now and were not there before, each once
+pub record AreNew (before after : ℕ → Sets) (pairs : List Pair) : Type 0 where
+  pub exactly : (p : Pair) → lists_pair pairs p ≡ (pair_among after p.by p.first p.second && not (pair_among before p.by p.first p.second))
+  pub once : AreDistinctPairs pairs

@@ -4,11 +4,10 @@
 //! operation looks at the others. After want of memory an index is only dropped.
 #![tactic(auto)]
 
-mod appended;
 mod index;
 mod new_pairs;
 mod touched;
+mod undecided;
 
-pub use appended::append;
 pub use index::Index;
-pub use new_pairs::pairs_made;
+pub use undecided::Undecided;

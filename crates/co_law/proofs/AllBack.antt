@@ -28,7 +28,7 @@ use Rattle.co_law_base.proofs.TwoViews.{committed_both}
 use Rattle.co_law_base.proofs.VoteMoves.{as_settled}
 use Rattle.co_law_moves.proofs.KeptFrom.{belongs_is}
 use Rattle.co_law_moves.proofs.Laid.{laid_image}
-use Rattle.co_law_moves.proofs.MoveByMove.{as_takes}
+use Rattle.co_law_moves.proofs.MoveByMove.{as_takes, as_took}
 use Rattle.co_law_moves.proofs.Own.{AtCoord, OwnFacts}
 use Rattle.co_law_runs.proofs.Agreement.{told_begun}
 use Rattle.co_law_runs.proofs.Working.{Working}
@@ -194,13 +194,13 @@ module _ (s : Federation) (i : AllInvariants s) where
               asks_held = λ t m c h a. held_memory t c m (i.held.questioned t m c h (lives t c (i.named.questions t m c h) a));
               asks_take = λ t m c h a. as_takes s t m (i.held.questioned t m c h (lives t c (i.named.questions t m c h) a)).takes;
               acks_stand = i.said_durable.acks;
-              commits = λ t c m h. let p = i.true_decisions.commits t c m h in (as_settled s t p.0, as_takes s t m p.1);
+              commits = λ t c m h. let p = i.true_decisions.commits t c m h in (as_settled s t p.0, as_took s t m p.1);
               aborts = λ t c m h. aborts t c m (i.true_decisions.aborts t c m h);
             };
         records =
             record {
               unended = i.commits.unended;
-              taking = λ t c m members h k. as_takes s t m (i.commits.taking t c m members h k);
+              taking = λ t c m members h k. as_took s t m (i.commits.taking t c m members h k);
               opened_stand = i.commits.opened;
             };
         serially = reads_from (serial_start (rest_of s)) s.decided i.reads;
@@ -262,7 +262,7 @@ module _ (s : Federation) (i : AllInvariants s) where
       }
 
   pub all_back : AllFacts s
-  all_back = record { facts = facts; own = own; parts = i.commits.parts; working = working; opened = i.opened_sound }
+  all_back = record { facts = facts; own = own; parts = i.commits.parts; records = i.commits.recorded; working = working; opened = i.opened_sound }
     where
       working : Working s
       working =

@@ -10,7 +10,7 @@ use Rattle.co_law_base.proofs.LogMoves.{as_belongs}
 use Rattle.co_law_base.proofs.ViewRules.{as_invariant}
 use Rattle.co_law_moves.proofs.Derived.{reads_at, files_sound}
 use Rattle.co_law_moves.proofs.KeptBySelf.{table_matches, past_idle}
-use Rattle.co_law_moves.proofs.KeptFrom.{each_at, belongs_is, living, settled_is, takes_is, waiting_is, image, ended, ended_before, committed_alive, aborts_true}
+use Rattle.co_law_moves.proofs.KeptFrom.{each_at, belongs_is, living, settled_is, took_is, waiting_is, image, ended, ended_before, committed_alive, aborts_true}
 use Rattle.co_law.proofs.AllFacts.{AllFacts}
 use Rattle.co_law.proofs.HeldOnes.{asked_held}
 
@@ -30,7 +30,7 @@ all_from s a =
       true_decisions =
           record {
             aborts = λ t c m h. aborts_true s f t c m (f.sent.aborts t c m h);
-            commits = λ t c m h. let p = f.sent.commits t c m h in (settled_is s t p.0, takes_is s t m p.1);
+            commits = λ t c m h. let p = f.sent.commits t c m h in (settled_is s t p.0, took_is s t m p.1);
           };
       active =
           record {
@@ -68,7 +68,8 @@ all_from s a =
       commits =
           record {
             unended = λ t c m members side h k. f.records.unended t c m members side h k;
-            taking = λ t c m members h k. takes_is s t m (f.records.taking t c m members h k);
+            taking = λ t c m members h k. took_is s t m (f.records.taking t c m members h k);
+            recorded = a.records;
             parts = a.parts;
             opened = λ t c m members side h k. f.records.opened_stand t c m members side h k;
             ended = ended s f;
@@ -80,7 +81,7 @@ all_from s a =
             votes = λ t c m granted h. belongs_is s t c (f.sent.votes_named t m c granted h);
             questions = λ t m c h. belongs_is s t c (f.sent.asks_named t m c h);
           };
-      held = asked_held s f a.parts;
+      held = asked_held s f a.parts a.working a.records;
       sound = files_sound s f;
       decided_once = f.numbers.once;
       decided_begun = f.numbers.decided_begun;

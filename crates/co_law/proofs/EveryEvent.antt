@@ -14,7 +14,7 @@ use Rattle.co_law_base.proofs.Facts.{Facts}
 use Rattle.co_plain.specs.Premises.{IsTrueVerdict}
 use Rattle.co_law_moves.specs.EventMoves.{moves_of}
 use Rattle.co_law_moves.specs.MoveTraces.{IsItsMoves, IsDisarmedEverywhere, told_with, moves_trace}
-use Rattle.co_law_moves.proofs.NodesTold.{no_rest}
+use Rattle.co_law_moves.proofs.ItemsTold.{no_rest}
 use Rattle.co_law_moves.proofs.StepsMade.{event_made}
 use Rattle.co_law_moves.proofs.StepsTold.{step_told}
 use Rattle.co_law.proofs.AllBack.{all_back}

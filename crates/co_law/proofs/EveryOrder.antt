@@ -15,14 +15,14 @@ use Rattle.co_plain.specs.Opening.{Found, opened}
 use Rattle.co_plain.specs.Federation.{Federation}
 use Rattle.co_plain.specs.Runs.{run, numbered, transcript, lines}
 use Rattle.co_plain.specs.Decisions.{asked_in, decided_numbers}
-use Rattle.co_plain.specs.CommitmentOrder.{Trace, decided_in, trace_of, Precedes, StandsBefore, told_decisions, IsCommitmentOrdered}
+use Rattle.co_plain.specs.CommitmentOrder.{Trace, decisions_in, trace_of, Precedes, StandsBefore, told_decisions, IsCommitmentOrdered}
 use Rattle.co_plain.specs.Invariants.{Memory}
 use Rattle.co_law_base.proofs.Lookups.{look_none}
 use Rattle.co_law_base.proofs.Facts.{Facts}
 use Rattle.co_plain.specs.Premises.{AreTrueVerdicts, AreOpenable}
 use Rattle.co_law_moves.specs.MoveTraces.{run_items}
 use Rattle.co_law_runs.proofs.Acts.{ActedAs, acted}
-use Rattle.co_law_runs.proofs.Deciders.{homed}
+use Rattle.co_law_runs.proofs.Deciders.{homed, home_of}
 use Rattle.co_law_runs.proofs.Traced.{acts_traced}
 use Rattle.co_law_runs.proofs.AtDecision.{Fresh}
 use Rattle.co_law_runs.proofs.Ordered.{ordered}
@@ -49,6 +49,8 @@ module _ (kinds : List Kind) (coords : ℕ) (fm fc : ℕ → Found) (g : AreOpen
           begun = λ t by h. absurd (let z : false ≡ true = ap (λ o. homed o by) (sym (look_none t)) ∙ h in cc);
           known = λ t at h. absurd (let z : false ≡ true = h in cc);
           order = refl;
+          homes = λ t. look_none t ∙ sym (ap home_of (look_none t));
+          decisions = refl;
           installed = λ t m h. absurd (let z : false ≡ true = h in cc);
           was_installed = λ t m h. inr (used t m h);
         };
@@ -57,7 +59,7 @@ module _ (kinds : List Kind) (coords : ℕ) (fm fc : ℕ → Found) (g : AreOpen
       }
 
 abbrev InOrder : List Kind → List Trace → Type 0
-InOrder kinds tr = (t u m : ℕ) → t ≢ u → has_number (decided_in tr tr) t ≡ true → has_number (decided_in tr tr) u ≡ true → Precedes kinds tr t u m → StandsBefore (decided_in tr tr) t u
+InOrder kinds tr = (t u m : ℕ) → t ≢ u → has_number (decisions_in tr) t ≡ true → has_number (decisions_in tr) u ≡ true → Precedes kinds tr t u m → StandsBefore (decisions_in tr) t u
 
 pub every_order : (kinds : List Kind) (coords : ℕ) (fm fc : ℕ → Found) (hs : List Happening) → AreOpenable kinds coords fm fc → AreTrueVerdicts hs (opened kinds coords fm fc) →
     IsCommitmentOrdered kinds (run_items hs (opened kinds coords fm fc))
@@ -90,7 +92,7 @@ every_decision kinds coords fm fc hs g v = by (acted hs (opened kinds coords fm 
         told_decisions (run_items hs (opened kinds coords fm fc)) ≡ decided_numbers (run hs (opened kinds coords fm fc)).decided
     by a =
         let fresh = fresh_opened kinds coords fm fc g in
-        ap (λ tr. decided_in tr tr) a.tells ∙ (acts_traced a.acts (opened kinds coords fm fc) fresh.facts [] fresh.traced a.guarded).order
+        ap decisions_in a.tells ∙ (acts_traced a.acts (opened kinds coords fm fc) fresh.facts [] fresh.traced a.guarded).decisions
         ∙ ap (λ z. decided_numbers z.decided) a.leaves
 
 pub every_line_decision : (kinds : List Kind) (coords : ℕ) (fm fc : ℕ → Found) (number : ℕ) (events : List Event) → AreOpenable kinds coords fm fc →

@@ -15,14 +15,17 @@ pub mod WritableRuns
 pub mod Unchanged
 pub mod Refusing
 pub mod RefusedLines
+pub mod FirstRefusals
 pub mod MemberNames
 pub mod CoordNames
 pub mod EveryHome
 pub mod CommitParts
+pub mod CommitRecords
 pub mod HeldOnes
 pub mod AllFacts
 pub mod AllFrom
 pub mod AllBack
 pub mod EveryInvariant
 pub mod LeftLogs
+pub mod NamedOnes
 pub mod WholeInvariants

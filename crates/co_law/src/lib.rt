@@ -1,8 +1,8 @@
 //! The laws of the federation: what every run from sound opened logs keeps, and so what is promised of it; what is
 //! kept over any opened logs; and what a refused line leaves.
 //!
-//! Each law is the contract of a function without a body. They speak of the definitions alone: no engine, no byte of a
-//! file and no device call is in them. The argument is told move by move in `docs/PROOF.md`.
+//! Each law is the contract of a function without a body. They speak of the definitions alone: no engine and no
+//! file is in them. The argument is told move by move in `docs/PROOF.md`.
 #![tactic(auto)]
 
 mod events;
@@ -32,5 +32,5 @@ pub use opening::{allowed_logs_are_own, empty_logs, left_logs, whole_invariants}
 pub use order::{commitment_ordered, decisions_told, transcripts_ordered};
 pub use own::kept_by_each;
 pub use quiet::only_timers;
-pub use refused::refused_lines;
+pub use refused::{refusals_come_first, refused_lines};
 pub use runs::{lines_hand_no_verdict, opened_logs_stay, runs_go_on, transcripts_go_on};

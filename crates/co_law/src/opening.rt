@@ -38,7 +38,7 @@ pub fn left_logs()
 {}
 
 /// Over such logs every state has the invariants whole, in one place: all invariants of every run, that each message names the
-/// coordinator of its transaction, and that nodes are whole.
+/// coordinator of its transaction, that every commit record names who was asked about its transaction, and that nodes are whole.
 pub fn whole_invariants()
     ensures { (kinds : List Kind) (coords : ℕ) (found_member found_coord : ℕ → Found) (hs : List Happening) →
         1 ≤ coords → MayBeOpened kinds coords found_member found_coord →

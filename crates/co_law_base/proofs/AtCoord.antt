@@ -26,11 +26,12 @@ use Rattle.co_plain.specs.declared.session.Told.{Told}
 use Rattle.co_law_engine.proofs.YesTells.{in_some}
 use Rattle.co_law_base.proofs.Lookups.{put_here, put_there, without_here, without_there, without_cases, found_holds, is_nothing}
 use Rattle.co_law_base.proofs.Commits.{lacks_none, lacks_at_first, commit_cases, commit_here, commit_there, holds_cases}
-use Rattle.co_law_base.proofs.Facts.{rest_of, told, asked, over, entry_of, alive, by_coord, Begun, ByTold, takes, OpenEntry, CollectingEntry, CommittedEntry, CoordFacts, CoordHas, RecordFacts, Facts}
+use Rattle.co_law_base.proofs.Facts.{rest_of, told, asked, over, entry_of, alive, by_coord, Begun, took, AtDecision, OpenEntry, CollectingEntry, CommittedEntry, CoordFacts, CoordHas, RecordFacts, Facts}
 use Rattle.co_law_base.proofs.Carrying.{at_each, at_here, one_belongs, by_coord_begun, same_coord}
 use Rattle.co_law_base.proofs.CoordMoves.{one_yes}
 use Rattle.co_law_base.proofs.Sending.{told_parts, parts_told, part_member}
 use Rattle.co_law_base.proofs.Deciding.{Decides, decided_rest, member_decide, sent_decide, numbers_decide, reads_serially}
+use Rattle.co_law_base.proofs.Taking.{took_here, took_more}
 
 -- end records take commits out, and tell of none
 pub ends_back : (w stable : List Record) (t : ℕ) (members : List ℕ) → ends_only w ≡ true → unended_in (w ++ stable) t ≡ Some members → unended_in stable t ≡ Some members
@@ -261,19 +262,24 @@ module _ (s : Federation) (f : Facts s) (t c : ℕ) (members : List ℕ) (g : Ch
       record {
         unended = λ u d m ms side. at_each (λ d z. unended_in z.log.stable u ≡ Some ms → has_number ms m ≡ true → stands (view side (s.member m)) u ≡ true) s.coord c (decide_members (s.coord c) t members)
             (λ h k. unended u m ms side k (commit_cases ((s.coord c).log.waiting ++ (s.coord c).log.stable) t members u ms h)) (λ d h k. f.records.unended u d m ms side h k) d;
-        taking = λ u d m ms. at_each (λ d z. unended_in z.log.stable u ≡ Some ms → has_number ms m ≡ true → takes (rest_of s) u m) s.coord c (decide_members (s.coord c) t members)
-            (λ h k. taking u m ms k (commit_cases ((s.coord c).log.waiting ++ (s.coord c).log.stable) t members u ms h)) (λ d h k. f.records.taking u d m ms h k) d;
+        taking = λ u d m ms. at_each (λ d z. unended_in z.log.stable u ≡ Some ms → has_number ms m ≡ true → took (decided_rest (rest_of s) (after_it s t c members) t) u m) s.coord c (decide_members (s.coord c) t members)
+            (λ h k. taking u m ms k (commit_cases ((s.coord c).log.waiting ++ (s.coord c).log.stable) t members u ms h)) (λ d h k. more u m (f.records.taking u d m ms h k)) d;
         opened_stand = f.records.opened_stand;
       }
     where
+      more : (u m : ℕ) → took (rest_of s) u m → took (decided_rest (rest_of s) (after_it s t c members) t) u m
+      more u m = took_more (record { txn = t; told = told (rest_of s) t }) s.decided s.opened_coord u m
+
       unended : (u m : ℕ) (ms : List ℕ) (side : Side) → has_number ms m ≡ true → ((t ≡ u) × (members ≡ ms) × (members ≢ [])) ⊎ (unended_in ((s.coord c).log.waiting ++ (s.coord c).log.stable) u ≡ Some ms) →
           stands (view side (s.member m)) u ≡ true
       unended u m ms side k (inl p) = subst (λ n. stands (view side (s.member m)) n ≡ true) p.0 (g.standing m side (ap (λ l. has_number l m) p.1 ∙ k))
       unended u m ms side k (inr h) = f.records.unended u c m ms side (ends_back (s.coord c).log.waiting (s.coord c).log.stable u ms (f.coords c).ends h) k
 
-      taking : (u m : ℕ) (ms : List ℕ) → has_number ms m ≡ true → ((t ≡ u) × (members ≡ ms) × (members ≢ [])) ⊎ (unended_in ((s.coord c).log.waiting ++ (s.coord c).log.stable) u ≡ Some ms) → takes (rest_of s) u m
-      taking u m ms k (inl p) = subst (λ n. takes (rest_of s) n m) p.0 (ByTold (g.taking m (ap (λ l. has_number l m) p.1 ∙ k)))
-      taking u m ms k (inr h) = f.records.taking u c m ms (ends_back (s.coord c).log.waiting (s.coord c).log.stable u ms (f.coords c).ends h) k
+      taking : (u m : ℕ) (ms : List ℕ) → has_number ms m ≡ true → ((t ≡ u) × (members ≡ ms) × (members ≢ [])) ⊎ (unended_in ((s.coord c).log.waiting ++ (s.coord c).log.stable) u ≡ Some ms) → took (decided_rest (rest_of s) (after_it s t c members) t) u m
+      taking u m ms k (inl p) =
+          subst (λ n. took (decided_rest (rest_of s) (after_it s t c members) t) n m) p.0
+          (AtDecision (took_here s.decided t m (told (rest_of s) t) (g.taking m (ap (λ l. has_number l m) p.1 ∙ k))))
+      taking u m ms k (inr h) = more u m (f.records.taking u c m ms (ends_back (s.coord c).log.waiting (s.coord c).log.stable u ms (f.coords c).ends h) k)
 
   decide_facts : Facts (with_decision (with_coord s c (decide_members (s.coord c) t members)) t)
   decide_facts =

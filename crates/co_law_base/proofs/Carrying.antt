@@ -307,7 +307,7 @@ module _ (r : Rest) (n : NumberFacts r) (coord : ℕ → CoordState) (sessions :
   later_records f back =
       record {
         unended = λ t c m ms side h k. f.unended t c m ms side (back c t ms h) k;
-        taking = λ t c m ms h k. takes_on t m (f.taking t c m ms (back c t ms h) k);
+        taking = λ t c m ms h k. f.taking t c m ms (back c t ms h) k;
         opened_stand = f.opened_stand;
       }
 
@@ -325,7 +325,7 @@ later_sent r n coord sessions member l s =
       asks_held = λ t m c h a. held t c m a (s.asks_named t m c h) (or_cases _ _ (s.asks_held t m c h (l.alive_back t c (belongs_seen r n t c (s.asks_named t m c h)) a)));
       asks_take = λ t m c h a. takes_on r n coord sessions r.sent member l t m (s.asks_take t m c h (l.alive_back t c (belongs_seen r n t c (s.asks_named t m c h)) a));
       acks_stand = s.acks_stand;
-      commits = λ t c m h. let p = s.commits t c m h in (p.0, takes_on r n coord sessions r.sent member l t m p.1);
+      commits = s.commits;
       aborts = λ t c m h. aborts t c m (s.aborts t c m h);
     }
   where

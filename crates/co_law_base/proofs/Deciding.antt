@@ -26,6 +26,7 @@ use Rattle.co_law_base.proofs.ToldRuns.{leaves_changes, told_serially}
 use Rattle.co_law_base.proofs.ImageRules.{IsImage, image_decide, replays_serially}
 use Rattle.co_law_base.proofs.Facts.{Rest, told, told_here, begun, asked, entry_of, settled_at, settled, Here, Before, alive, belongs, serial_start, serial_of, serial, ViewFacts, OnlyAborts, MemberFacts, SentFacts, NumberFacts}
 use Rattle.co_law_base.proofs.KeptTold.{count_told}
+use Rattle.co_law_base.proofs.Taking.{took_more}
 
 -- all but the members, after the decision of t
 abbrev pub decided_rest : Rest → (ℕ → CoordState) → ℕ → Rest
@@ -194,7 +195,7 @@ module _ (r : Rest) (coord : ℕ → CoordState) (t : ℕ) (g : Decides r coord 
         asks_held = λ u m c h a. let b = f.asks_named u m c h in held_decide u c m (member m) b (f.asks_held u m c h (alive_back u c b a));
         asks_take = λ u m c h a. f.asks_take u m c h (alive_back u c (f.asks_named u m c h) a);
         acks_stand = f.acks_stand;
-        commits = λ u c m h. let p = f.commits u c m h in (settled_more u p.0, p.1);
+        commits = λ u c m h. let p = f.commits u c m h in (settled_more u p.0, took_more (record { txn = t; told = told r t }) r.decided r.opened_coord u m p.1);
         aborts = λ u c m h. aborts u c m (f.aborts u c m h);
       }
     where

@@ -30,7 +30,7 @@ use Rattle.co_plain.specs.Decisions.{sites_of, replies_of, is_decided, told_in, 
 use Rattle.co_plain.specs.DurableRecords.{durable_records}
 use Rattle.co_plain.specs.SoundLogs.{unended_in}
 use Rattle.co_plain.specs.Promises.{AreDecidedOnce}
-use Rattle.co_plain.specs.Invariants.{Side, Memory, Stable, view, stands, VotedAreConflictFree, KeptAsTold, StampsIn, takes_part_in, ends_only, txn_of}
+use Rattle.co_plain.specs.Invariants.{Side, Memory, Stable, view, stands, VotedAreConflictFree, KeptAsTold, StampsIn, takes_part_in, took_part, ends_only, txn_of}
 use Rattle.co_law_base.proofs.ViewRules.{AllReplay}
 use Rattle.co_law_base.proofs.ImageRules.{IsImage}
 
@@ -116,6 +116,14 @@ pub data Takes (sessions : Table Session) (opened : ℕ → List Record) (t m : 
 
 abbrev pub takes : Rest → ℕ → ℕ → Type 0
 takes r = Takes r.sessions r.opened_coord
+
+-- a participant of a decision by its operations then, or by an opened commit
+pub data Took (decided : List Decided) (opened : ℕ → List Record) (t m : ℕ) : Type 0 where
+  AtDecision : took_part decided t m ≡ true → Took decided opened t m
+  InOpened : (c : ℕ) (members : List ℕ) → unended_in (opened c) t ≡ Some members → has_number members m ≡ true → Took decided opened t m
+
+abbrev pub took : Rest → ℕ → ℕ → Type 0
+took r = Took r.decided r.opened_coord
 
 abbrev pub serial_start : Rest → AllRecords
 serial_start r = durable_records r.opened_member r.opened_coord
@@ -214,14 +222,14 @@ pub record SentFacts (r : Rest) (member : ℕ → MemberState) : Type 0 where
       (takes_part_in (entry_of r c t) m || holds (view Memory (member m)).committed t) ≡ true
   pub asks_take : (t m c : ℕ) → was_sent r.sent (message.Ask t m c) ≡ true → alive r c t ≡ true → takes r t m
   pub acks_stand : (t m c : ℕ) (side : Side) → was_sent r.sent (message.Ack t m c) ≡ true → holds (view side (member m)).committed t ≡ true
-  pub commits : (t c m : ℕ) → was_sent r.sent (message.Decide t c m true) ≡ true → settled r t × takes r t m
+  pub commits : (t c m : ℕ) → was_sent r.sent (message.Decide t c m true) ≡ true → settled r t × took r t m
   pub aborts : (t c m : ℕ) → was_sent r.sent (message.Decide t c m false) ≡ true →
       (belongs r t c × (alive r c t ≡ false)) ⊎ (holds (view Stable (member m)).committed t ≡ true)
 
 pub record RecordFacts (r : Rest) (member : ℕ → MemberState) : Type 0 where
   pub unended : (t c m : ℕ) (members : List ℕ) (side : Side) → unended_in (r.coord c).log.stable t ≡ Some members → has_number members m ≡ true →
       stands (view side (member m)) t ≡ true
-  pub taking : (t c m : ℕ) (members : List ℕ) → unended_in (r.coord c).log.stable t ≡ Some members → has_number members m ≡ true → takes r t m
+  pub taking : (t c m : ℕ) (members : List ℕ) → unended_in (r.coord c).log.stable t ≡ Some members → has_number members m ≡ true → took r t m
   -- the participants of a commit that was opened without end
   pub opened_stand : (t c m : ℕ) (members : List ℕ) (side : Side) → unended_in (r.opened_coord c) t ≡ Some members → has_number members m ≡ true →
       stands (view side (member m)) t ≡ true

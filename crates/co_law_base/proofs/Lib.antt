@@ -19,6 +19,7 @@ pub mod Beginning
 pub mod Asking
 pub mod Operating
 pub mod Sending
+pub mod Taking
 pub mod Deciding
 pub mod AtCoord
 pub mod Locally

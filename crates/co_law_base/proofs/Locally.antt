@@ -42,6 +42,7 @@ use Rattle.co_law_base.proofs.LogMoves.{local_apart}
 use Rattle.co_law_base.proofs.VoteMoves.{active_found}
 use Rattle.co_law_base.proofs.Asking.{keeps_ask}
 use Rattle.co_law_base.proofs.Deciding.{Decides, decided_rest, decided_now, settled_more, settled_others, home_more, still_open, same_alive, serial_grows, member_decide, sent_decide, numbers_decide}
+use Rattle.co_law_base.proofs.Taking.{took_more}
 
 -- what the move needs, where the client asked
 record Alone (s : Federation) (t m : ℕ) (old : Session) : Type 0 where
@@ -296,7 +297,12 @@ module _ (s : Federation) (f : Facts s) (t m : ℕ) (old : Session) (g : Alone s
         members = λ k. each k (m == k) refl;
         coords = coord_still s f.coords t (λ d h. foreign d (Begun h));
         sent = sent_decide (rest_of s) s.coord t decides after' (sent_on (rest_of s) f.numbers s.member after' all_on f.sent);
-        records = record { unended = records.unended; taking = records.taking; opened_stand = records.opened_stand };
+        records =
+            record {
+              unended = records.unended;
+              taking = λ u c k ms h q. took_more (record { txn = t; told = told (rest_of s) t }) s.decided s.opened_coord u k (records.taking u c k ms h q);
+              opened_stand = records.opened_stand;
+            };
         serially = (reads_whole, f.serially);
       }
     where

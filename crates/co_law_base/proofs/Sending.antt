@@ -28,7 +28,7 @@ use Rattle.co_plain.specs.Wire.{was_sent, send_one}
 use Rattle.co_plain.specs.Federation.{Federation}
 use Rattle.co_plain.specs.Invariants.{Side, Memory, Stable, view, stands, takes_part_in, txn_of}
 use Rattle.co_plain.specs.Moves.{Send, effect}
-use Rattle.co_law_base.proofs.Facts.{rest_of, changed, told, asked, over, Begun, entry_of, alive, belongs, settled, takes, SentFacts, Facts}
+use Rattle.co_law_base.proofs.Facts.{rest_of, changed, told, asked, over, Begun, entry_of, alive, belongs, settled, takes, took, SentFacts, Facts}
 use Rattle.co_law_base.proofs.TwoViews.{memory_to_stable, committed_both}
 use Rattle.co_law_base.proofs.Carrying.{votes_stand, Later, later_member, later_coord, later_records, numbers_same}
 
@@ -172,7 +172,7 @@ Allowed s (message.Prepare t c m n) =
     (parts : List Part) × (yeses : List ℕ) × (look (s.coord c).table t ≡ Some (entry.Collecting parts yeses)) × (has_part parts m ≡ true) × (n ≡ count_at (told_of s t) m)
 Allowed s (message.Vote t m c true) = votes_for (look (s.member m).engine.voted t) c ≡ true
 Allowed s (message.Vote t m c false) = (n : ℕ) × (was_sent s.sent (message.Prepare t c m n) ≡ true)
-Allowed s (message.Decide t c m true) = settled (rest_of s) t × takes (rest_of s) t m × (over (rest_of s) t ≡ true)
+Allowed s (message.Decide t c m true) = settled (rest_of s) t × took (rest_of s) t m × (over (rest_of s) t ≡ true)
 Allowed s (message.Decide t c m false) =
     ((belongs (rest_of s) t c × (alive (rest_of s) c t ≡ false)) ⊎ (holds (view Stable (s.member m)).committed t ≡ true)) × (over (rest_of s) t ≡ true)
 Allowed s (message.Ask t m c) = votes_for (look (s.member m).engine.voted t) c ≡ true
@@ -278,7 +278,7 @@ module _ (s : Federation) (f : Facts s) where
       acks_stand t m c side (inr h) = f.sent.acks_stand t m c side h
       acks_stand t m c side (inl e) = both_committed t m side (subst (Allowed s) e g)
 
-      commits : (t c m : ℕ) → (note ≡ message.Decide t c m true) ⊎ (was_sent s.sent (message.Decide t c m true) ≡ true) → settled (rest_of s) t × takes (rest_of s) t m
+      commits : (t c m : ℕ) → (note ≡ message.Decide t c m true) ⊎ (was_sent s.sent (message.Decide t c m true) ≡ true) → settled (rest_of s) t × took (rest_of s) t m
       commits t c m (inr h) = f.sent.commits t c m h
       commits t c m (inl e) = let p : Allowed s (message.Decide t c m true) = subst (Allowed s) e g in (p.0, p.1)
 

@@ -17,7 +17,7 @@ use Rattle.co_plain.specs.LogWrite.{outcome_of, with_batch, crashed_log, marks_o
 use Rattle.co_plain.specs.MemberView.{install_in, view_with, recovered_view, engine_from}
 use Rattle.co_plain.specs.Numbers.{next_generation}
 use Rattle.co_plain.specs.declared.log_state.LogState.{LogState}
-use Rattle.co_plain.specs.declared.log_state.Stop.{Stop}
+use Rattle.co_base.specs.declared.leaves.Stop.{Stop}
 use Rattle.co_plain.specs.declared.member_view.MemberView.{MemberView}
 use Rattle.co_plain.specs.declared.outcome.Outcome.{Outcome}
 use Rattle.co_plain.specs.declared.outcome.Outcome.TheVariants.{Completes, StopsAt}

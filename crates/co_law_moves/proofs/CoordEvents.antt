@@ -33,13 +33,14 @@ use Rattle.co_plain.specs.Decisions.{told_of, told_in}
 use Rattle.co_plain.specs.Invariants.{Stable, view, takes_part_in, ends_only}
 use Rattle.co_plain.specs.Moves.{with_decision, table_decided, decide_entry, record_yes, record_ack}
 use Rattle.co_law_base.proofs.Lookups.{found_holds, without_here}
-use Rattle.co_law_base.proofs.Facts.{rest_of, over, asked, told, Here, ByTold, settled_at, by_coord, belongs, Begun, OpenEntry, Facts}
+use Rattle.co_law_base.proofs.Facts.{rest_of, over, asked, told, Here, took, AtDecision, settled_at, by_coord, belongs, Begun, OpenEntry, Facts}
 use Rattle.co_law_base.proofs.Carrying.{at_here}
 use Rattle.co_law_base.proofs.TwoViews.{committed_both}
 use Rattle.co_law_base.proofs.MemberFrame.{unended_settled}
 use Rattle.co_law_base.proofs.CoordMoves.{open_unsettled, keeps_record_yes, keeps_record_ack, keeps_leave, keeps_end}
 use Rattle.co_law_base.proofs.Sending.{Allowed, parts_told, part_member}
 use Rattle.co_law_base.proofs.AtCoord.{keeps_decide}
+use Rattle.co_law_base.proofs.Taking.{some_member, took_here, takes_took}
 use Rattle.co_law_moves.proofs.Nodes.{coord_stays, coord_crash_at, coord_restart_at, coord_close_at, coord_fill_at}
 use Rattle.co_law_moves.proofs.Marks.{AllAllowed, ends_quiet, commit_marks, noted_quiet, noted_all}
 use Rattle.co_law_moves.proofs.CoordNotes.{all_commits, all_aborts, all_prepares, each_filter, lacking_among, prepares_allowed}
@@ -100,7 +101,7 @@ module _ (s : Federation) (c : ℕ) (f : Facts s) where
       (all_commits (with_decision (with_coord s c (with_coord_log (with_table (s.coord c) (put (s.coord c).table t (entry.Committed (members_of parts) []))) (with_batch (s.coord c).log (log.Commit t (members_of parts) ∷ [])))) t) t c (members_of parts)
       (λ k n. (
         Here (or_left (t == t) _ (eq-eqb t t refl)),
-        ByTold (parts_told (told (rest_of s) t) k (ap (λ ps. has_part ps k) (sym ((f.coords c).collecting t parts yeses e).parts_told) ∙ sym (part_member parts k) ∙ n)),
+        AtDecision (took_here s.decided t k (told (rest_of s) t) (parts_told (told (rest_of s) t) k (ap (λ ps. has_part ps k) (sym ((f.coords c).collecting t parts yeses e).parts_told) ∙ sym (part_member parts k) ∙ n))),
         or_left (asked (rest_of s) t) (holds s.used t) ((f.coords c).collecting t parts yeses e).asked,
       )))
       (outcome_of (s.coord c).log.armed 4)
@@ -170,6 +171,14 @@ module _ (s : Federation) (c : ℕ) (f : Facts s) where
       by false h = inl (f.sent.asks_named t m c a, or_from _ _ (ap is_some e) h)
       by true h = inr (held (or_cases _ _ (f.sent.asks_held t m c a (or_right (holds (s.coord c).table t) (settled_at (rest_of s) c t) h))))
 
+  -- who asks about a committed one took part in it
+  pub took_by_asker : (t m : ℕ) (members acks : List ℕ) → look (s.coord c).table t ≡ Some (entry.Committed members acks) → was_sent s.sent (message.Ask t m c) ≡ true → took (rest_of s) t m
+  took_by_asker t m members acks e a =
+      let x = (f.coords c).committed t members acks e in
+      let some = some_member members acks x.lacks in
+      takes_took (rest_of s) f.numbers t some.0 m (f.records.taking t c some.0 members x.recorded some.1)
+      (f.sent.asks_take t m c a (or_left (holds (s.coord c).table t) (settled_at (rest_of s) c t) (found_holds (s.coord c).table t (entry.Committed members acks) e)))
+
   pub ask_event : (t m : ℕ) → was_sent s.sent (message.Ask t m c) ≡ true → (o : Option Entry) → look (s.coord c).table t ≡ o → Facts (at_coord s c (ask_entry c (s.coord c) t m o)).state
   ask_event t m a (Some entry.Idle) e = stays
   ask_event t m a (Some (entry.Collecting parts yeses)) e = stays
@@ -181,7 +190,7 @@ module _ (s : Federation) (c : ℕ) (f : Facts s) where
       sends_here answer.Decided (message.Decide t c m true ∷ []) (
         (
           unended_settled s f c t members x.recorded,
-          f.sent.asks_take t m c a (or_left (holds (s.coord c).table t) (settled_at (rest_of s) c t) (found_holds (s.coord c).table t (entry.Committed members acks) e)),
+          took_by_asker t m members acks e a,
           f.sent.over (message.Ask t m c) a,
         ),
         tt,

@@ -16,7 +16,7 @@ use Rattle.co_state.specs.Table.{look, holds, put, without}
 use Rattle.co_plain.specs.declared.coord_state.CoordState.{CoordState}
 use Rattle.co_plain.specs.declared.coord_state.Entry.{Entry}
 use Rattle.co_plain.specs.declared.coord_state.Entry.TheVariants as entry
-use Rattle.co_plain.specs.declared.log_state.Stop.{Stop}
+use Rattle.co_base.specs.declared.leaves.Stop.{Stop}
 use Rattle.co_plain.specs.declared.outcome.Outcome.{Outcome}
 use Rattle.co_plain.specs.declared.outcome.Outcome.TheVariants.{Completes, StopsAt}
 use Rattle.co_plain.specs.Numbers.{first_lacking, has_number, numbers_lacking, next_generation}
@@ -30,15 +30,16 @@ use Rattle.co_plain.specs.Federation.{Federation, with_coord, at_coord, noted, d
 use Rattle.co_plain.specs.Decisions.{told_of}
 use Rattle.co_plain.specs.Invariants.{Stable, view, ends_only}
 use Rattle.co_plain.specs.Moves.{Decide, Leave, CrashCoord, RestartCoord, ArmCoord, CloseCoordSpare, FillCoordSpare, Guard, effect, with_decision, table_decided, decide_entry, record_yes, record_ack}
-use Rattle.co_law_base.proofs.Lookups.{found_holds, without_here}
-use Rattle.co_law_base.proofs.Facts.{rest_of, over, asked, told, Here, ByTold, settled_at, by_coord, belongs, Begun, OpenEntry, Facts}
+use Rattle.co_law_base.proofs.Lookups.{without_here}
+use Rattle.co_law_base.proofs.Facts.{rest_of, over, asked, told, Here, AtDecision, settled_at, by_coord, belongs, Begun, OpenEntry, Facts}
 use Rattle.co_law_base.proofs.Carrying.{at_here}
 use Rattle.co_law_base.proofs.MemberFrame.{unended_settled}
 use Rattle.co_law_base.proofs.CoordMoves.{open_unsettled}
 use Rattle.co_law_base.proofs.Sending.{parts_told, part_member}
+use Rattle.co_law_base.proofs.Taking.{took_here}
 use Rattle.co_law_moves.proofs.Marks.{ends_quiet, commit_marks}
 use Rattle.co_law_moves.proofs.CoordNotes.{each_filter, lacking_among, prepares_allowed}
-use Rattle.co_law_moves.proofs.CoordEvents.{decides_there, unknown_aborts}
+use Rattle.co_law_moves.proofs.CoordEvents.{decides_there, took_by_asker, unknown_aborts}
 use Rattle.co_law_moves.specs.EventMoves.{sends, written_moves, stopped_moves, leave_moves, yes_counted_moves, yes_moves, no_moves, ask_moves, ack_counted_moves, ack_moves, coord_timer_moves, resend_moves, closing_moves, coord_checkpoint_moves, restart_moves}
 use Rattle.co_law_moves.proofs.Made.{all_commits, all_aborts, all_prepares, always, AllowedOver, AllAllowedOver, MadeOver, one_more, made_to, made_from, coord_first, coord_still, coord_then, sends_made, coord_crash_made}
 use Rattle.co_law_moves.specs.OwnGuards.{Logs}
@@ -109,7 +110,7 @@ module _ (l : Logs) (s : Federation) (c : ℕ) (f : FactsOver l s) where
       ((coords_over l s f c).collecting t parts yeses e).still.begun_there (inr (parts, yeses, m, e, v, lacks)) done
       (all_commits l (with_decision (with_coord s c (with_coord_log (with_table (s.coord c) (put (s.coord c).table t (entry.Committed (members_of parts) []))) (with_batch (s.coord c).log (log.Commit t (members_of parts) ∷ [])))) t) t c (members_of parts)
       (λ k n. (
-        always l (Here (or_left (t == t) _ (eq-eqb t t refl)), ByTold (parts_told (told (rest_of s) t) k (ap (λ ps. has_part ps k) (sym ((coords_over l s f c).collecting t parts yeses e).parts_told) ∙ sym (part_member parts k) ∙ n))),
+        always l (Here (or_left (t == t) _ (eq-eqb t t refl)), AtDecision (took_here s.decided t k (told (rest_of s) t) (parts_told (told (rest_of s) t) k (ap (λ ps. has_part ps k) (sym ((coords_over l s f c).collecting t parts yeses e).parts_told) ∙ sym (part_member parts k) ∙ n)))),
         or_left (asked (rest_of s) t) (holds s.used t) ((coords_over l s f c).collecting t parts yeses e).asked,
       )))
       (outcome_of (s.coord c).log.armed 4)
@@ -177,7 +178,7 @@ module _ (l : Logs) (s : Federation) (c : ℕ) (f : FactsOver l s) where
       let x = (coords_over l s f c).committed t members acks e in
       sends_here answer.Decided (message.Decide t c m true ∷ []) (
         (
-          where_sound l s f (λ g. (unended_settled s g c t members x.recorded, g.sent.asks_take t m c a (or_left (holds (s.coord c).table t) (settled_at (rest_of s) c t) (found_holds (s.coord c).table t (entry.Committed members acks) e)))),
+          where_sound l s f (λ g. (unended_settled s g c t members x.recorded, took_by_asker s c g t m members acks e a)),
           sent_over l s f (message.Ask t m c) a,
         ),
         tt,

@@ -18,11 +18,11 @@ use Rattle.co_plain.specs.Decisions.{is_decided, votes_for, sites_of, BelongsTo,
 use Rattle.co_plain.specs.DurableRecords.{durable_records, starting_records}
 use Rattle.co_plain.specs.SoundLogs.{unended_in, log_has_committed}
 use Rattle.co_plain.specs.Promises.{serial_records}
-use Rattle.co_plain.specs.Invariants.{Side, Stable, view, stands, takes_part_in, TakesPart, HeldOperations, NamedBefore, is_settled_vote, InstalledIsSerial, OnlyAbortsWait}
+use Rattle.co_plain.specs.Invariants.{Side, Stable, view, stands, takes_part_in, TakesPart, HeldOperations, NamedBefore, TookPart, HeldAtDecision, NamedInOpened, is_settled_vote, InstalledIsSerial, OnlyAbortsWait}
 use Rattle.co_law_base.proofs.Lookups.{holds_found, found_holds}
 use Rattle.co_law_base.proofs.ImageRules.{laid_serial}
 use Rattle.co_law_base.proofs.ViewMoves.{each_decided}
-use Rattle.co_law_base.proofs.Facts.{rest_of, settled, Here, Before, settled_at, alive, by_coord, belongs, Begun, Voted, takes, ByTold, Named, serial, OnlyAborts, Each, Facts}
+use Rattle.co_law_base.proofs.Facts.{rest_of, settled, Here, Before, settled_at, alive, by_coord, belongs, Begun, Voted, takes, ByTold, Named, took, AtDecision, InOpened, serial, OnlyAborts, Each, Facts}
 use Rattle.co_law_base.proofs.Carrying.{one_belongs, settled_alive, settled_home, settled_from, by_coord_begun}
 use Rattle.co_law_base.proofs.Commits.{unended_seen}
 use Rattle.co_law_base.proofs.LogMoves.{as_belongs}
@@ -74,6 +74,10 @@ settled_is s t (Before c h) = InOpenedFile c h
 pub takes_is : (s : Federation) (t m : ℕ) → takes (rest_of s) t m → TakesPart s t m
 takes_is s t m (ByTold h) = HeldOperations h
 takes_is s t m (Named c members h k) = NamedBefore c members h k
+
+pub took_is : (s : Federation) (t m : ℕ) → took (rest_of s) t m → TookPart s t m
+took_is s t m (AtDecision h) = HeldAtDecision h
+took_is s t m (InOpened c members h k) = NamedInOpened c members h k
 
 pub waiting_is : (s : Federation) (rs : List Record) → OnlyAborts (rest_of s) rs → OnlyAbortsWait s rs
 waiting_is s [] w = tt

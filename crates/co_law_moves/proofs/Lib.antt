@@ -32,5 +32,6 @@ pub mod Onward
 pub mod MemberOnward
 pub mod MoveOnward
 pub mod ByMoves
+pub mod ItemsTold
 pub mod NodesTold
 pub mod StepsTold

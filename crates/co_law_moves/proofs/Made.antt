@@ -21,14 +21,14 @@ use Rattle.co_plain.specs.Decisions.{votes_for, BelongsTo, IsPresumedAborted}
 use Rattle.co_plain.specs.SoundLogs.{log_has_committed}
 use Rattle.co_plain.specs.Invariants.{Stable, view}
 use Rattle.co_plain.specs.Moves.{Move, Operate, MarkAsked, Cast, DropActive, DropVoted, Install, CommitLocally, CrashMember, RestartMember, ArmMember, CloseMemberSpare, FillMemberSpare, Begin, Collect, RecordYes, Decide, Leave, RecordAck, End, CrashCoord, RestartCoord, ArmCoord, CloseCoordSpare, FillCoordSpare, BeginLocal, AskEnd, Send, Guard, effect, all_effects, GuardsHold}
-use Rattle.co_law_base.proofs.Facts.{rest_of, over, settled, takes, alive, belongs}
+use Rattle.co_law_base.proofs.Facts.{rest_of, over, settled, took, alive, belongs}
 use Rattle.co_law_base.proofs.Carrying.{at_here}
 use Rattle.co_law_base.proofs.Sending.{Allowed}
 use Rattle.co_law_moves.specs.OwnGuards.{Logs, SoundLogs, AnyLogs, Where, may_say, GuardOver, GuardsOver}
 use Rattle.co_law_moves.proofs.CoordNotes.{EachPart}
 use Rattle.co_law_moves.proofs.Nodes.{same_family, twice_family}
 use Rattle.co_law_moves.specs.EventMoves.{sends}
-use Rattle.co_law_moves.proofs.KeptFrom.{settled_is, takes_is, dead_is, belongs_is}
+use Rattle.co_law_moves.proofs.KeptFrom.{settled_is, took_is, dead_is, belongs_is}
 
 -- each move with its strong guard
 pub record Made (s : Federation) (moves : List Move) (z : Federation) : Type 0 where
@@ -147,7 +147,7 @@ always SoundLogs a = a
 always AnyLogs a = tt
 
 abbrev pub AllowedOver : Logs → Federation → Message → Type 0
-AllowedOver l s (message.Decide t c m true) = Where l (settled (rest_of s) t × takes (rest_of s) t m) × (over (rest_of s) t ≡ true)
+AllowedOver l s (message.Decide t c m true) = Where l (settled (rest_of s) t × took (rest_of s) t m) × (over (rest_of s) t ≡ true)
 AllowedOver l s (message.Decide t c m false) =
     Where l ((belongs (rest_of s) t c × (alive (rest_of s) c t ≡ false)) ⊎ (holds (view Stable (s.member m)).committed t ≡ true)) × (over (rest_of s) t ≡ true)
 AllowedOver l s note = Allowed s note
@@ -160,7 +160,7 @@ pub allowed_may : (l : Logs) (s : Federation) (note : Message) → AllowedOver l
 allowed_may l s (message.Prepare t c m n) g = g
 allowed_may l s (message.Vote t m c true) g = names_it s t m c g
 allowed_may l s (message.Vote t m c false) g = g
-allowed_may l s (message.Decide t c m true) g = (where_map l (λ p. (settled_is s t p.0, takes_is s t m p.1)) g.0, g.1)
+allowed_may l s (message.Decide t c m true) g = (where_map l (λ p. (settled_is s t p.0, took_is s t m p.1)) g.0, g.1)
 allowed_may l s (message.Decide t c m false) g = (where_map l by g.0, g.1)
   where
     by : (belongs (rest_of s) t c × (alive (rest_of s) c t ≡ false)) ⊎ (holds (view Stable (s.member m)).committed t ≡ true) → (BelongsTo s t c × IsPresumedAborted s t) ⊎ (log_has_committed (s.member m).log.stable t ≡ true)

@@ -8,10 +8,10 @@ use Rattle.co_plain.specs.Member.{coord_in, coord_of}
 use Rattle.co_plain.specs.Federation.{Federation}
 use Rattle.co_plain.specs.Decisions.{votes_for, BelongsTo, IsPresumedAborted}
 use Rattle.co_plain.specs.SoundLogs.{log_has_committed}
-use Rattle.co_plain.specs.Invariants.{TakesPart, HeldOperations, NamedBefore, Stable, view}
+use Rattle.co_plain.specs.Invariants.{TakesPart, HeldOperations, NamedBefore, TookPart, HeldAtDecision, NamedInOpened, Stable, view}
 use Rattle.co_plain.specs.Moves.{Move, Operate, MarkAsked, Cast, DropActive, DropVoted, Install, CommitLocally, CrashMember, RestartMember, ArmMember, CloseMemberSpare, FillMemberSpare, Begin, Collect, RecordYes, Decide, Leave, RecordAck, End, CrashCoord, RestartCoord, ArmCoord, CloseCoordSpare, FillCoordSpare, BeginLocal, AskEnd, Send, Guard, effect, may_send}
 use Rattle.co_law_base.proofs.Lookups.{holds_found}
-use Rattle.co_law_base.proofs.Facts.{rest_of, takes, ByTold, Named, alive, belongs, Facts}
+use Rattle.co_law_base.proofs.Facts.{rest_of, takes, ByTold, Named, took, AtDecision, InOpened, alive, belongs, Facts}
 use Rattle.co_law_base.proofs.CoordMoves.{keeps_record_yes, keeps_record_ack, keeps_collect, keeps_leave, keeps_end, keeps_coord_crash, keeps_coord_restart, keeps_coord_arm, keeps_coord_close, keeps_coord_fill}
 use Rattle.co_law_base.proofs.LogMoves.{as_belongs, dead_there, keeps_mark, keeps_drop_active, keeps_drop_voted, keeps_member_crash, keeps_member_restart, keeps_member_arm, keeps_member_close}
 use Rattle.co_law_base.proofs.VoteMoves.{as_settled, keeps_cast, keeps_install}
@@ -27,6 +27,10 @@ pub as_takes : (s : Federation) (t m : ℕ) → TakesPart s t m → takes (rest_
 as_takes s t m (HeldOperations h) = ByTold h
 as_takes s t m (NamedBefore c members h k) = Named c members h k
 
+pub as_took : (s : Federation) (t m : ℕ) → TookPart s t m → took (rest_of s) t m
+as_took s t m (HeldAtDecision h) = AtDecision h
+as_took s t m (NamedInOpened c members h k) = InOpened c members h k
+
 votes_it : (s : Federation) (t m c : ℕ) → holds (s.member m).engine.voted t ≡ true → coord_of (s.member m) t ≡ c → votes_for (look (s.member m).engine.voted t) c ≡ true
 votes_it s t m c h e =
     let p = holds_found (s.member m).engine.voted t h in
@@ -37,7 +41,7 @@ allowed : (s : Federation) → Facts s → (note : Message) → may_send s note 
 allowed s f (message.Prepare t c m n) g = g
 allowed s f (message.Vote t m c true) g = votes_it s t m c g.0 g.1
 allowed s f (message.Vote t m c false) g = g
-allowed s f (message.Decide t c m true) g = (as_settled s t g.0, as_takes s t m g.1, g.2)
+allowed s f (message.Decide t c m true) g = (as_settled s t g.0, as_took s t m g.1, g.2)
 allowed s f (message.Decide t c m false) g = (by g.0, g.1)
   where
     by : (BelongsTo s t c × IsPresumedAborted s t) ⊎ (log_has_committed (s.member m).log.stable t ≡ true) → (belongs (rest_of s) t c × (alive (rest_of s) c t ≡ false)) ⊎ (holds (view Stable (s.member m)).committed t ≡ true)

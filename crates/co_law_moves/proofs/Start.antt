@@ -24,7 +24,7 @@ use Rattle.co_plain.specs.Invariants.{Side, Memory, Stable, view, stands, takes_
 use Rattle.co_law_base.proofs.Lookups.{is_nothing, look_none, holds_found, found_holds}
 use Rattle.co_law_base.proofs.Commits.{lacks_at_first, unended_seen, unended_some, from_cases, from_found}
 use Rattle.co_law_base.proofs.ImageRules.{IsImage}
-use Rattle.co_law_base.proofs.Facts.{rest_of, asked, settled, Here, Before, alive, by_coord, settled_at, belongs, Begun, Voted, Named, serial, ViewFacts, MemberFacts, CommittedEntry, CoordHas, Facts}
+use Rattle.co_law_base.proofs.Facts.{rest_of, asked, settled, Here, Before, alive, by_coord, settled_at, belongs, Begun, Voted, Named, InOpened, serial, ViewFacts, MemberFacts, CommittedEntry, CoordHas, Facts}
 use Rattle.co_plain.specs.Premises.{AreOpenable}
 use Rattle.co_law_moves.proofs.Laid.{laid_image}
 
@@ -190,7 +190,7 @@ module _ (kinds : List Kind) (coords : ℕ) (fm fc : ℕ → Found) (g : AreOpen
         records =
             record {
               unended = λ t c m ms side h k. both m (λ z. stands z t ≡ true) (g.sound.participants t c m ms (from_made c t ms h) k) side;
-              taking = λ t c m ms h k. Named c ms (from_made c t ms h) k;
+              taking = λ t c m ms h k. InOpened c ms (from_made c t ms h) k;
               opened_stand = λ t c m ms side h k. both m (λ z. stands z t ≡ true) (g.sound.participants t c m ms h k) side;
             };
         serially = tt;

@@ -45,6 +45,7 @@ use Rattle.co_plain.specs.Step.{up_member, member_step, up_coord, coord_step, co
 use Rattle.co_plain.specs.Moves.{Move, Begin, BeginLocal, CrashMember, CrashCoord, ArmMember, ArmCoord, RestartMember, RestartCoord}
 use Rattle.co_law_base.proofs.Facts.{Facts}
 use Rattle.co_law_moves.specs.EventMoves.{where_up, begin_moves, restart_moves, operate_moves, operate_with_moves, commit_entry_moves, local_commit_moves, commit_at_moves, commit_with_moves, abort_entry_moves, local_abort_moves, abort_at_moves, abort_with_moves, prepare_moves, commit_moves, abort_moves, decision_moves, yes_moves, no_moves, ask_moves, ack_moves, arrival_moves, timer_moves, coord_timer_moves, timer_at_moves, crash_at_moves, restart_at_moves, arm_at_moves, member_checkpoint_moves, coord_checkpoint_moves, checkpoint_at_moves, again_moves, question_moves, resend_moves, line_moves, moves_of}
+use Rattle.co_law_moves.proofs.ItemsTold.{tells_items}
 use Rattle.co_law_moves.proofs.NodesTold as nodes
 
 abbrev pub Says : Federation → Option Event → List Move → Stepped → Type 0
@@ -56,10 +57,10 @@ refused None s a q = λ rest. refl
 refused (Some e) s a q = λ rest. ap (λ k. k ++ trace_from None rest) (q e)
 
 at_m : (last : Option Event) (s : Federation) (m : ℕ) (did : MemberStep) (moves : List Move) → nodes.MemberTells did moves → Says s last moves (at_member s m did)
-at_m last s m did moves t = nodes.tells_items last did.marks (message_list did.sent) did.answer moves t s
+at_m last s m did moves t = tells_items last did.marks (message_list did.sent) did.answer moves t s
 
 at_c : (last : Option Event) (s : Federation) (c : ℕ) (did : CoordStep) (moves : List Move) → nodes.CoordTells did moves → Says s last moves (at_coord s c did)
-at_c last s c did moves t = nodes.tells_items last did.marks did.sent did.answer moves t s
+at_c last s c did moves t = tells_items last did.marks did.sent did.answer moves t s
 
 module _ (s : Federation) (f : Facts s) where
   w : (m : ℕ) → OnlyAborts (rest_of s) (s.member m).log.waiting

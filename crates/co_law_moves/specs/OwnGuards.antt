@@ -7,7 +7,7 @@ use Rattle.co_state.specs.Table.{holds}
 use Rattle.co_plain.specs.Federation.{Federation}
 use Rattle.co_plain.specs.Decisions.{BelongsTo, IsPresumedAborted, IsSettled}
 use Rattle.co_plain.specs.SoundLogs.{log_has_committed}
-use Rattle.co_plain.specs.Invariants.{TakesPart, is_asked_or_used}
+use Rattle.co_plain.specs.Invariants.{TookPart, is_asked_or_used}
 use Rattle.co_plain.specs.Moves.{Move, DropVoted, Install, Send, Guard, effect, may_send}
 
 pub data Logs : Type 0 where
@@ -21,7 +21,7 @@ Where AnyLogs A = Unit {0}
 
 -- a decision is said of what was asked to end or stands in an opened log
 abbrev pub may_say : Logs → Federation → Message → Type 0
-may_say l s (message.Decide t c m true) = Where l (IsSettled s t × TakesPart s t m) × (is_asked_or_used s t ≡ true)
+may_say l s (message.Decide t c m true) = Where l (IsSettled s t × TookPart s t m) × (is_asked_or_used s t ≡ true)
 may_say l s (message.Decide t c m false) =
     Where l ((BelongsTo s t c × IsPresumedAborted s t) ⊎ (log_has_committed (s.member m).log.stable t ≡ true)) × (is_asked_or_used s t ≡ true)
 may_say l s note = may_send s note

@@ -11,7 +11,7 @@ use Rattle.co_frame.specs.Gate.{batch_is_stable}
 use Rattle.co_state.specs.declared.engine_state.Operation.{Operation}
 use Rattle.co_state.specs.Table.{look, holds, without}
 use Rattle.co_plain.specs.declared.log_state.LogState.{LogState}
-use Rattle.co_plain.specs.declared.log_state.Stop.{Stop}
+use Rattle.co_base.specs.declared.leaves.Stop.{Stop}
 use Rattle.co_plain.specs.declared.member_state.AskedMark.{AskedMark}
 use Rattle.co_plain.specs.declared.member_state.MemberState.{MemberState}
 use Rattle.co_plain.specs.declared.outcome.Outcome.{Outcome}

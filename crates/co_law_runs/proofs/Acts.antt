@@ -12,7 +12,7 @@ use Rattle.co_plain.specs.Premises.{IsTrueVerdict, AreTrueVerdicts}
 use Rattle.co_law_moves.proofs.Steps.{step_keeps}
 use Rattle.co_law_moves.specs.EventMoves.{moves_of}
 use Rattle.co_law_moves.specs.MoveTraces.{move_trace, moves_trace, run_items}
-use Rattle.co_law_moves.proofs.NodesTold.{more}
+use Rattle.co_law_moves.proofs.ItemsTold.{more}
 use Rattle.co_law_moves.proofs.Made.{Made}
 use Rattle.co_law_moves.proofs.MoveByMove.{move_keeps}
 use Rattle.co_law_moves.proofs.StepsMade.{event_made}

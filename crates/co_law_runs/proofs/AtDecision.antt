@@ -47,7 +47,7 @@ use Rattle.co_law_base.proofs.Sending.{told_parts, part_member}
 use Rattle.co_law_moves.proofs.MoveOnward.{move_onward}
 use Rattle.co_law_moves.proofs.Onward.{Onward, onward_same, onward_on, disarm_onward}
 use Rattle.co_law_runs.proofs.Acts.{Act, Moves, Disarms, after_act, act_guard, run_acts, ActsHold, act_keeps, acts_leave, hold_parts}
-use Rattle.co_law_runs.proofs.Traced.{Traced}
+use Rattle.co_law_runs.proofs.TraceStates.{Traced}
 use Rattle.co_law_runs.proofs.ToldOn.{ToldOn, told_same, told_on, act_told, reads_told, writes_told}
 use Rattle.co_law_runs.proofs.Installs.{InstallsTold, act_installs, kept_changes}
 use Rattle.co_law_runs.proofs.Seen.{Seen, act_seen, SeenAt, since, fresh_lacks}

@@ -1,15 +1,60 @@
 -- What a trace says of deciding nodes, of commits and of decisions, as it grows at its end.
-use Rattle.std.proofs.Common.{◌≡◌, ℕ, Bool, true, false, ◌||◌, ◌&&◌, ◌==◌, if◌then◌else◌, List, [], ◌∷◌, ◌++◌, map, Option, None, Some, refl, sym, ap, ◌∙◌}
-use Rattle.std.proofs.lemmas.Bool.{or_left, or_right, eqb-true, eq-eqb}
+use Rattle.std.proofs.Common.{◌≡◌, ◌⊎◌, inl, inr, ℕ, Bool, true, false, ◌||◌, ◌&&◌, ◌==◌, if◌then◌else◌, List, [], ◌∷◌, ◌++◌, map, Option, None, Some, refl, sym, ap, ◌∙◌}
+use Rattle.std.proofs.lemmas.Bool.{or_cases, or_left, or_right, eqb-true, eq-eqb}
 use Rattle.std.proofs.lemmas.List.{reverse-append}
 use Rattle.co_base.specs.declared.node.Node.{Node}
 use Rattle.co_base.specs.declared.node.Node.TheVariants as node
+use Rattle.co_state.specs.Table.{Table, no_entries, look, put}
 use Rattle.co_plain.specs.declared.session.Decided.{Decided}
 use Rattle.co_plain.specs.declared.session.Session.{Session}
-use Rattle.co_plain.specs.Decisions.{decided_numbers}
+use Rattle.co_plain.specs.Decisions.{is_decided, decided_numbers}
+use Rattle.co_plain.specs.Numbers.{has_number}
 use Rattle.co_plain.specs.Sessions.{same_node}
-use Rattle.co_plain.specs.CommitmentOrder.{Trace, Began, Operated, Committed, decider_in, decides_at, decided_in, installs}
+use Rattle.co_plain.specs.CommitmentOrder.{Trace, Began, Operated, Committed, decides_at, decisions_from, installs}
 use Rattle.co_law_base.proofs.Facts.{by_coord}
+
+-- the node that decides a transaction, wherever in the trace it is begun
+abbrev pub decider_in : List Trace → ℕ → Option Node
+decider_in [] t = None
+decider_in (Began u by ∷ rest) t = if u == t then Some by else decider_in rest t
+decider_in (Operated u m o reply ∷ rest) t = decider_in rest t
+decider_in (Committed at u ∷ rest) t = decider_in rest t
+
+-- the decisions that a part of a trace tells, by the deciding nodes of the whole
+abbrev pub decided_in : List Trace → List Trace → List ℕ
+decided_in whole [] = []
+decided_in whole (Began u by ∷ rest) = decided_in whole rest
+decided_in whole (Operated u m o reply ∷ rest) = decided_in whole rest
+decided_in whole (Committed at t ∷ rest) =
+    if decides_at (decider_in whole t) at then t ∷ decided_in whole rest else decided_in whole rest
+
+-- who was begun where, behind a trace
+abbrev pub homes_from : Table Node → List Trace → Table Node
+homes_from homes [] = homes
+homes_from homes (Began t by ∷ rest) = homes_from (put homes t by) rest
+homes_from homes (Operated t m o reply ∷ rest) = homes_from homes rest
+homes_from homes (Committed at t ∷ rest) = homes_from homes rest
+
+abbrev pub homes_in : List Trace → Table Node
+homes_in tr = homes_from no_entries tr
+
+pub homes_more : (homes : Table Node) (tr xs : List Trace) → homes_from homes (tr ++ xs) ≡ homes_from (homes_from homes tr) xs
+homes_more homes [] xs = refl
+homes_more homes (Began t by ∷ tr) xs = homes_more (put homes t by) tr xs
+homes_more homes (Operated t m o reply ∷ tr) xs = homes_more homes tr xs
+homes_more homes (Committed at t ∷ tr) xs = homes_more homes tr xs
+
+pub decisions_more : (homes : Table Node) (tr xs : List Trace) → decisions_from homes (tr ++ xs) ≡ decisions_from homes tr ++ decisions_from (homes_from homes tr) xs
+decisions_more homes [] xs = refl
+decisions_more homes (Began t by ∷ tr) xs = decisions_more (put homes t by) tr xs
+decisions_more homes (Operated t m o reply ∷ tr) xs = decisions_more homes tr xs
+decisions_more homes (Committed at t ∷ tr) xs = by (decisions_more homes tr xs) (decides_at (look homes t) at)
+  where
+    by : decisions_from homes (tr ++ xs) ≡ decisions_from homes tr ++ decisions_from (homes_from homes tr) xs → (b : Bool) →
+        (if b then t ∷ decisions_from homes (tr ++ xs) else decisions_from homes (tr ++ xs)) ≡
+        (if b then t ∷ decisions_from homes tr else decisions_from homes tr) ++ decisions_from (homes_from homes tr) xs
+    by rest true = ap (λ k. t ∷ k) rest
+    by rest false = rest
 
 -- a commit record of the transaction became stable at the node
 abbrev pub committed_at : List Trace → Node → ℕ → Bool
@@ -32,6 +77,17 @@ same_home (node.Coord c) (node.Member n) h = absurd (let z : false ≡ true = h 
 pub same_self : (n : Node) → same_node n n ≡ true
 same_self (node.Member m) = eq-eqb m m refl
 same_self (node.Coord c) = eq-eqb c c refl
+
+-- where its session has a transaction begun
+abbrev pub home_of : Option Session → Option Node
+home_of None = None
+home_of (Some session) = Some session.by
+
+pub same_homes : (o p : Option Session) → ((at : Node) → homed o at ≡ homed p at) → home_of o ≡ home_of p
+same_homes None None h = refl
+same_homes None (Some b) h = absurd (let z : false ≡ true = h b.by ∙ same_self b.by in cc)
+same_homes (Some a) None h = absurd (let z : false ≡ true = sym (h a.by) ∙ same_self a.by in cc)
+same_homes (Some a) (Some b) h = ap Some (sym (same_home b.by a.by (sym (h a.by) ∙ same_self a.by)))
 
 pub homed_coord : (o : Option Session) (c : ℕ) → homed o (node.Coord c) ≡ by_coord o c
 homed_coord None c = refl
@@ -129,3 +185,24 @@ order_more tr xs n =
 -- a decision more stands behind the others
 pub decision_last : (d : Decided) (ds : List Decided) → decided_numbers (d ∷ ds) ≡ decided_numbers ds ++ d.txn ∷ []
 decision_last d ds = reverse-append (d.txn ∷ []) (map (λ x. x.txn) ds)
+
+-- who is decided is among the numbers
+in_front : (xs ys : List ℕ) (t : ℕ) → has_number xs t ≡ true → has_number (xs ++ ys) t ≡ true
+in_front [] ys t h = absurd (let z : false ≡ true = h in cc)
+in_front (x ∷ xs) ys t h = by (in_front xs ys t) (or_cases (x == t) (has_number xs t) h)
+  where
+    by : (has_number xs t ≡ true → has_number (xs ++ ys) t ≡ true) → ((x == t) ≡ true) ⊎ (has_number xs t ≡ true) → has_number (x ∷ (xs ++ ys)) t ≡ true
+    by rest (inl e) = or_left (x == t) _ e
+    by rest (inr k) = or_right (x == t) _ (rest k)
+
+at_end : (xs : List ℕ) (y t : ℕ) → (y == t) ≡ true → has_number (xs ++ y ∷ []) t ≡ true
+at_end [] y t e = or_left (y == t) _ e
+at_end (x ∷ xs) y t e = or_right (x == t) _ (at_end xs y t e)
+
+pub decided_number : (ds : List Decided) (t : ℕ) → is_decided ds t ≡ true → has_number (decided_numbers ds) t ≡ true
+decided_number [] t h = absurd (let z : false ≡ true = h in cc)
+decided_number (d ∷ ds) t h = ap (λ k. has_number k t) (decision_last d ds) ∙ by (decided_number ds t) (or_cases (d.txn == t) (is_decided ds t) h)
+  where
+    by : (is_decided ds t ≡ true → has_number (decided_numbers ds) t ≡ true) → ((d.txn == t) ≡ true) ⊎ (is_decided ds t ≡ true) → has_number (decided_numbers ds ++ d.txn ∷ []) t ≡ true
+    by rest (inl e) = at_end (decided_numbers ds) d.txn t e
+    by rest (inr k) = in_front (decided_numbers ds) (d.txn ∷ []) t (rest k)

@@ -36,6 +36,7 @@ use Rattle.co_law_base.proofs.Carrying.{at_here, by_coord_begun}
 use Rattle.co_law_base.proofs.ViewMoves.{neither_stands}
 use Rattle.co_law_base.proofs.CoordMoves.{open_unsettled}
 use Rattle.co_law_base.proofs.Sending.{parts_told, part_member}
+use Rattle.co_law_base.proofs.Taking.{took_takes}
 use Rattle.co_law_moves.proofs.Steps.{step_keeps}
 use Rattle.co_law_moves.proofs.MemberEvents.{active_is, installed_is, votes_own}
 use Rattle.co_law_moves.proofs.Onward.{present}
@@ -133,7 +134,7 @@ module _ (s : Federation) (f : Facts s) (q : FitSessions (length s.kinds) s.coor
       let x = (f.coords c).committed t members acks e in
       let lack = lacks_some members acks x.lacks in
       absurd (quiet.nothing_helps (Commits t lack.0 c)
-      (takes_fits s q o t lack.0 (f.records.taking t c lack.0 members x.recorded lack.1), i, ap (λ z. lacks_ack z lack.0) e ∙ and_from _ _ lack.1 (ap not lack.2)))
+      (takes_fits s q o t lack.0 (took_takes (rest_of s) f.numbers t lack.0 (f.records.taking t c lack.0 members x.recorded lack.1)), i, ap (λ z. lacks_ack z lack.0) e ∙ and_from _ _ lack.1 (ap not lack.2)))
 
   voted_at : (t m : ℕ) → IsMember s m → holds (s.member m).engine.voted t ≡ true → TimerThere s
   voted_at t m i v = by (look (s.coord c).table t) refl

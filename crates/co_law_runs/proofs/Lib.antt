@@ -11,6 +11,7 @@ pub mod YesStands
 pub mod LostStays
 pub mod Acts
 pub mod Deciders
+pub mod TraceStates
 pub mod Traced
 pub mod ToldOn
 pub mod Installs
@@ -19,4 +20,5 @@ pub mod Unread
 pub mod KindStays
 pub mod Orders
 pub mod AtDecision
+pub mod Placing
 pub mod Ordered

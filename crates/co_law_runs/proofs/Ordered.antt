@@ -1,10 +1,8 @@
 -- The run is commitment ordered.
-use Rattle.std.proofs.Common.{◌≡◌, ◌≢◌, ◌⊎◌, inl, inr, ℕ, Bool, true, false, ◌≤◌, if◌then◌else◌, List, [], ◌∷◌, ◌++◌, length, Option, None, Some, refl, sym, ap, ◌∙◌, subst, arith}
-use Rattle.std.proofs.lemmas.Bool.{or_cases, or_left, or_parts, and_from, eq-eqb, false_from_ne_true}
+use Rattle.std.proofs.Common.{◌≡◌, ◌≢◌, ◌⊎◌, inl, inr, ℕ, true, false, ◌≤◌, if◌then◌else◌, List, ◌∷◌, ◌++◌, length, Some, refl, sym, ap, ◌∙◌, subst, arith}
+use Rattle.std.proofs.lemmas.Bool.{or_cases, or_left, or_parts, and_from, eq-eqb}
 use Rattle.co_base.specs.declared.head.Kind.{Kind}
 use Rattle.co_base.specs.declared.head.Kind.TheVariants.{Lock, Occ, Mv}
-use Rattle.co_base.specs.declared.node.Node.{Node}
-use Rattle.co_base.specs.declared.node.Node.TheVariants as node
 use Rattle.co_base.specs.declared.op.Op.{Op}
 use Rattle.co_base.specs.Span.{Span, span_has}
 use Rattle.co_state.specs.Table.{look, holds}
@@ -16,202 +14,27 @@ use Rattle.co_plain.specs.Opening.{kind_of}
 use Rattle.co_plain.specs.Sessions.{count_at}
 use Rattle.co_plain.specs.Federation.{Federation}
 use Rattle.co_plain.specs.Decisions.{told_of, is_decided}
-use Rattle.co_plain.specs.CommitmentOrder.{Trace, Operated, Committed, decider_in, decides_at, decided_in, installs, before_first, part_seen, OperatedIn, ReadsKey, WritesKey, InstalledFirst, Before, Precedes, ReadAfter, ReadBefore, WroteBefore, StandsBefore, Stands}
+use Rattle.co_plain.specs.CommitmentOrder.{Trace, Committed, decisions_in, installs, before_first, part_seen, sees, ReadsKey, WritesKey, InstalledFirst, Before, Precedes, ReadAfter, ReadBefore, WroteBefore, StandsBefore, Stands}
 use Rattle.co_plain.specs.Invariants.{Memory, view, stands}
-use Rattle.co_plain.specs.Member.{coord_of}
-use Rattle.co_plain.specs.Moves.{Operate, Install, CommitLocally, Decide, Guard, effect}
-use Rattle.co_law_base.proofs.Facts.{rest_of, belongs, Here, Facts}
+use Rattle.co_plain.specs.Moves.{Operate, Guard, effect}
+use Rattle.co_law_base.proofs.Facts.{rest_of, Here, Facts}
 use Rattle.co_law_base.proofs.Carrying.{LivesOn, settled_alive}
-use Rattle.co_law_base.proofs.LogMoves.{local_apart}
-use Rattle.co_law_moves.proofs.MemberEvents.{votes_own}
 use Rattle.co_law_base.proofs.VoteMoves.{active_found}
-use Rattle.co_law_moves.proofs.NodesTold.{more}
+use Rattle.co_law_moves.proofs.ItemsTold.{more}
 use Rattle.co_law_moves.proofs.MoveOnward.{move_onward}
-use Rattle.co_law_moves.proofs.Onward.{Onward}
-use Rattle.co_law_runs.proofs.Acts.{Act, Moves, after_act, act_guard, acts_trace, run_acts, ActsHold, act_keeps, acts_keep, acts_more, hold_parts, trace_more, Placed, placed, Cut, cut, Fronts, Shorter, Longer, fronts}
-use Rattle.co_law_runs.proofs.Deciders.{committed_at, decided_more, homed_session, same_home}
-use Rattle.co_law_runs.proofs.Traced.{Traced, acts_traced}
+use Rattle.co_law_runs.proofs.Acts.{Act, Moves, acts_trace, run_acts, ActsHold, acts_more, hold_parts, Cut, cut, Fronts, Shorter, Longer, fronts}
+use Rattle.co_law_runs.proofs.Deciders.{decided_in, decided_more}
+use Rattle.co_law_runs.proofs.TraceStates.{Traced}
 use Rattle.co_law_runs.proofs.ToldOn.{ToldOn, act_told, writes_told}
 use Rattle.co_law_runs.proofs.Installs.{act_installs}
 use Rattle.co_law_runs.proofs.Seen.{Seen, since, read_at, reads_op}
 use Rattle.co_law_runs.proofs.Unread.{Unread}
 use Rattle.co_law_runs.proofs.KindStays.{act_kinds}
-use Rattle.co_law_runs.proofs.Orders.{has_decided, is_in_order, committed_stands, decide_act, member_act, operate_act, Places, Same, First, Second, places, FirstAt, first_at, first_installs}
-use Rattle.co_law_runs.proofs.AtDecision.{member_now, seen_now, HeadStamp, Fresh, decision, decision_tells, decision_decides, decision_stands, Deciding, deciding, between, counts_now, head_grows, heads_stay, installs_stay, kinds_stay, onward, reads_now, told, unread_stays, writes_now}
+use Rattle.co_law_runs.proofs.Orders.{is_in_order, Places, Same, First, Second, places, FirstAt, first_at, first_installs}
+use Rattle.co_law_runs.proofs.AtDecision.{member_now, seen_now, HeadStamp, Fresh, decision, decision_decides, decision_stands, Deciding, deciding, head_grows, heads_stay, installs_stay, kinds_stay, onward, reads_now, told, unread_stays}
+use Rattle.co_law_runs.proofs.Placing.{hold, facts_at, traced_at, DecidedAt, DoneAt, traced_all, decided_at, done_at, StepTo, step_to, reach_onward, reach_told, decided_txn, decided_txn_is, tells_decision, before_decision, guard_at, decided_facts, written, not_committed}
 
 module _ (kinds : List Kind) (s : Federation) (fresh : Fresh kinds s) (acts : List Act) (g : ActsHold acts s) where
-  abbrev whole : List Trace
-  whole = acts_trace acts s
-
-  hold : (front back : List Act) → acts ≡ front ++ back → ActsHold front s
-  hold front back e = (between acts s g front back e).before
-
-  facts_at : (front back : List Act) → acts ≡ front ++ back → Facts (run_acts front s)
-  facts_at front back e = acts_keep front s fresh.facts (hold front back e)
-
-  traced_at : (front back : List Act) → acts ≡ front ++ back → Traced (acts_trace front s) (run_acts front s)
-  traced_at front back e = acts_traced front s fresh.facts [] fresh.traced (hold front back e)
-
-  -- a decision, as an act
-  record DecidedAt (t : ℕ) : Type 0 where
-    front : List Act
-    back : List Act
-    at : Node
-    place : acts ≡ front ++ Moves (decision at t) ∷ back
-    home : decides_at (decider_in whole t) at ≡ true
-
-  -- an answered operation, as an act
-  record DoneAt (t m : ℕ) (o : Op) (before : List Trace) : Type 0 where
-    front : List Act
-    back : List Act
-    place : acts ≡ front ++ Moves (Operate t m o) ∷ back
-    first : acts_trace front s ≡ before
-
-  traced_all : Traced whole (run_acts acts s)
-  traced_all = acts_traced acts s fresh.facts [] fresh.traced g
-
-  -- who is decided at a member is not installed there as one of a coordinator
-  not_installed : (t m : ℕ) → decides_at (decider_in whole t) (node.Member m) ≡ true → (front back : List Act) → acts ≡ front ++ Moves (Install t m) ∷ back → ⊥
-  not_installed t m d front back e = now (decider_in whole t) refl d
-    where
-      z : Federation
-      z = run_acts front s
-
-      h : ActsHold (Moves (Install t m) ∷ back) z
-      h = (between acts s g front (Moves (Install t m) ∷ back) e).after
-
-      fz : Facts z
-      fz = facts_at front (Moves (Install t m) ∷ back) e
-
-      theirs : belongs (rest_of z) t (coord_of (z.member m) t)
-      theirs = ((fz.members m).views Memory).named t (coord_of (z.member m) t) (votes_own z m t h.0.0)
-
-      last : Onward z (run_acts acts s)
-      last = subst (Onward z) (sym (ap (λ x. run_acts x s) e ∙ acts_more front (Moves (Install t m) ∷ back) s)) (onward (Moves (Install t m) ∷ back) z fz h)
-
-      now : (o : Option Node) → decider_in whole t ≡ o → decides_at o (node.Member m) ≡ true → ⊥
-      now None q k = let y : false ≡ true = k in cc
-      now (Some by) q k =
-          let p = homed_session (look (run_acts acts s).sessions t) by (traced_all.by_some t by q) in
-          local_apart (run_acts acts s) (acts_keep acts s fresh.facts g).numbers t (coord_of (z.member m) t) m p.0 (last.belongs_on t (coord_of (z.member m) t) theirs) p.1
-          (p.2 ∙ same_home by (node.Member m) k)
-
-  decided_at : (t : ℕ) → has_number (decided_in whole whole) t ≡ true → DecidedAt t
-  decided_at t h = by (has_decided whole whole t h)
-    where
-      made : (at : Node) → decides_at (decider_in whole t) at ≡ true → (before : List Trace) (q : Placed acts s before (Committed at t)) → q.act ≡ Moves (decision at t)
-      made (node.Coord c) d before q = decide_act (run_acts q.front s) q.act t c q.here
-      made (node.Member m) d before q = now (member_act (run_acts q.front s) q.act t m q.here)
-        where
-          now : (q.act ≡ Moves (CommitLocally t m)) ⊎ (q.act ≡ Moves (Install t m)) → q.act ≡ Moves (CommitLocally t m)
-          now (inl e) = e
-          now (inr e) = absurd (not_installed t m d q.front q.back (q.whole ∙ ap (λ a. q.front ++ a ∷ q.back) e))
-
-      by : (at : Node) × (decides_at (decider_in whole t) at ≡ true) × (committed_at whole at t ≡ true) → DecidedAt t
-      by p =
-          let stood = committed_stands whole p.0 t p.2 in
-          let q = placed acts s stood.before (Committed p.0 t) stood.rest stood.place in
-          record { front = q.front; back = q.back; at = p.0; place = q.whole ∙ ap (λ a. q.front ++ a ∷ q.back) (made p.0 p.1 stood.before q); home = p.1 }
-
-  done_at : (t m : ℕ) (o : Op) (before : List Trace) → OperatedIn whole t m o before → DoneAt t m o before
-  done_at t m o before x =
-      let q = placed acts s before (Operated t m o x.reply) x.rest x.place in
-      record { front = q.front; back = q.back; place = q.whole ∙ ap (λ a. q.front ++ a ∷ q.back) (operate_act (run_acts q.front s) q.act t m o x.reply q.here); first = q.first }
-
-  -- from one state to a later one
-  record Reach (z w : Federation) : Type 0 where
-    mid : List Act
-    facts : Facts z
-    guarded : ActsHold mid z
-    leaves : run_acts mid z ≡ w
-
-  record StepTo (front : List Act) (a : Act) (w : Federation) : Type 0 where
-    guard : act_guard (run_acts front s) a
-    reach : Reach (after_act (run_acts front s) a) w
-
-  step_to : (front back later rest : List Act) (a : Act) → acts ≡ front ++ a ∷ back → acts ≡ later ++ rest → (mid : List Act) → later ≡ front ++ a ∷ mid → StepTo front a (run_acts later s)
-  step_to front back later rest a e k mid q =
-      let h = hold_parts front (a ∷ mid) s (subst (λ x. ActsHold x s) q (hold later rest k)) in
-      record {
-        guard = h.1.0;
-        reach = record {
-          mid = mid;
-          facts = act_keeps (run_acts front s) (facts_at front (a ∷ back) e) a h.1.0;
-          guarded = h.1.1;
-          leaves = sym (ap (λ x. run_acts x s) q ∙ acts_more front (a ∷ mid) s);
-        };
-      }
-
-  reach_onward : (z w : Federation) → Reach z w → Onward z w
-  reach_onward z w r = subst (Onward z) r.leaves (onward r.mid z r.facts r.guarded)
-
-  reach_told : (z w : Federation) → Reach z w → ToldOn z w
-  reach_told z w r = subst (ToldOn z) r.leaves (told r.mid z r.facts r.guarded)
-
-  -- a decision is no operation, and is of one transaction
-  abbrev is_operate : Act → Bool
-  is_operate (Moves (Operate t m o)) = true
-  is_operate _ = false
-
-  abbrev decided_txn : Act → ℕ
-  decided_txn (Moves (Decide t c)) = t
-  decided_txn (Moves (CommitLocally t m)) = t
-  decided_txn _ = 0
-
-  no_operation : (at : Node) (t u m : ℕ) (o : Op) → Moves (Operate u m o) ≡ Moves (decision at t) → ⊥
-  no_operation (node.Coord c) t u m o e = let z : true ≡ false = ap is_operate e in cc
-  no_operation (node.Member k) t u m o e = let z : true ≡ false = ap is_operate e in cc
-
-  decided_txn_is : (at : Node) (t : ℕ) → decided_txn (Moves (decision at t)) ≡ t
-  decided_txn_is (node.Coord c) t = refl
-  decided_txn_is (node.Member m) t = refl
-
-  -- the trace of a front in which a decision stands
-  tells_decision : (later front mid : List Act) (t : ℕ) (at : Node) → later ≡ front ++ Moves (decision at t) ∷ mid →
-      acts_trace later s ≡ acts_trace front s ++ Committed at t ∷ acts_trace mid (effect (run_acts front s) (decision at t))
-  tells_decision later front mid t at e =
-      ap (λ k. acts_trace k s) e ∙ trace_more front (Moves (decision at t) ∷ mid) s
-      ∙ ap (λ k. acts_trace front s ++ (k ++ acts_trace mid (effect (run_acts front s) (decision at t)))) (decision_tells (run_acts front s) at t)
-
-  -- an operation that was answered before the decision
-  before_decision : (t m : ℕ) (o : Op) (before : List Trace) (d : DecidedAt t) (x : DoneAt t m o before) → has_number (decided_in whole before) t ≡ false → StepTo x.front (Moves (Operate t m o)) (run_acts d.front s)
-  before_decision t m o before d x n = by (places x.front (Moves (Operate t m o)) x.back d.front (Moves (decision d.at t)) d.back (sym x.place ∙ d.place))
-    where
-      by : Places x.front (Moves (Operate t m o)) d.front (Moves (decision d.at t)) → StepTo x.front (Moves (Operate t m o)) (run_acts d.front s)
-      by (Same e) = absurd (no_operation d.at t t m o e)
-      by (First mid e) = step_to x.front x.back d.front (Moves (decision d.at t) ∷ d.back) (Moves (Operate t m o)) x.place d.place mid e
-      by (Second mid e) =
-          let z : true ≡ false =
-          sym (is_in_order whole (acts_trace x.front s) t d.at d.home (acts_trace d.front s) (acts_trace mid (effect (run_acts d.front s) (decision d.at t))) (tells_decision x.front d.front mid t d.at e)) ∙ ap (λ k. has_number (decided_in whole k) t) x.first ∙ n in
-          absurd (let y : true ≡ false = z in cc)
-
-  guard_at : (t : ℕ) (d : DecidedAt t) → Guard (run_acts d.front s) (decision d.at t)
-  guard_at t d = (between acts s g d.front (Moves (decision d.at t) ∷ d.back) d.place).after.0
-
-  decided_facts : (t : ℕ) (d : DecidedAt t) → Facts (run_acts d.front s)
-  decided_facts t d = facts_at d.front (Moves (decision d.at t) ∷ d.back) d.place
-
-  -- a write and a read before the decision, at the decision
-  written : (t m : ℕ) (key : List ℕ) (d : DecidedAt t) → WritesKey whole t m key → (writes_told (run_acts d.front s) t m key ≡ true) × (1 ≤ count_at (told_of (run_acts d.front s) t) m)
-  written t m key d w = by (done_at t m w.o w.before w.operated)
-    where
-      by : DoneAt t m w.o w.before → (writes_told (run_acts d.front s) t m key ≡ true) × (1 ≤ count_at (told_of (run_acts d.front s) t) m)
-      by x =
-          let to = before_decision t m w.o w.before d x w.operated.undecided in
-          let f = facts_at x.front (Moves (Operate t m w.o) ∷ x.back) x.place in
-          let z = effect (run_acts x.front s) (Operate t m w.o) in
-          let one = counts_now (run_acts x.front s) f t m w.o to.guard in
-          let more = (reach_onward z (run_acts d.front s) to.reach).counts t m in
-          ((reach_told z (run_acts d.front s) to.reach).writes t m key (writes_now (run_acts x.front s) f t m w.o w.change key to.guard w.writes w.same), omega (arith, one, more))
-
-  -- who is not installed in a trace is not committed
-  not_committed : (front back : List Act) → acts ≡ front ++ back → (m u : ℕ) → installs (acts_trace front s) m u ≡ false → holds (run_acts front s).used u ≡ false → holds ((run_acts front s).member m).committed u ≡ false
-  not_committed front back e m u none unused = false_from_ne_true _ (λ c. by ((traced_at front back e).was_installed u m c))
-    where
-      by : (installs (acts_trace front s) m u ≡ true) ⊎ (holds (run_acts front s).used u ≡ true) → ⊥
-      by (inl i) = let z : true ≡ false = sym i ∙ none in cc
-      by (inr i) = let z : true ≡ false = sym i ∙ unused in cc
-
   -- a read, and an install that it does not see
   unread_now : (t u m : ℕ) (key : List ℕ) (o : Op) (span : Span) (front back : List Act) → acts ≡ front ++ Moves (Operate t m o) ∷ back → span_read o ≡ Some span → span_has span key ≡ true →
       Guard (run_acts front s) (Operate t m o) → holds (effect (run_acts front s) (Operate t m o)).used t ≡ false → holds (effect (run_acts front s) (Operate t m o)).used u ≡ false →
@@ -219,7 +42,7 @@ module _ (kinds : List Kind) (s : Federation) (fresh : Fresh kinds s) (acts : Li
   unread_now t u m key o span front back place reads has gd ut uu = by
     where
       f : Facts (run_acts front s)
-      f = facts_at front (Moves (Operate t m o) ∷ back) place
+      f = (facts_at kinds s fresh acts g) front (Moves (Operate t m o) ∷ back) place
 
       told' : ToldOn (run_acts front s) (effect (run_acts front s) (Operate t m o))
       told' = act_told (run_acts front s) f (Moves (Operate t m o)) gd
@@ -233,7 +56,7 @@ module _ (kinds : List Kind) (s : Federation) (fresh : Fresh kinds s) (acts : Li
           record {
             seen = seen_now (λ os τ. read_at os key τ ≡ true) (run_acts front s) f t u m o gd good after;
             read = reads_now (run_acts front s) f t m o span key gd reads has;
-            installs = act_installs (run_acts front s) f (Moves (Operate t m o)) gd (installs_stay front s fresh.facts (hold front (Moves (Operate t m o) ∷ back) place) fresh.installs);
+            installs = act_installs (run_acts front s) f (Moves (Operate t m o)) gd (installs_stay front s fresh.facts ((hold kinds s fresh acts g) front (Moves (Operate t m o) ∷ back) place) fresh.installs);
             unused_t = ut;
             unused_u = uu;
             voted = λ l v c. absurd (unvoted (ap (λ x. holds x.engine.voted t) (sym (member_now (run_acts front s) t m o)) ∙ v) (ap (λ x. holds x.committed u) (sym (member_now (run_acts front s) t m o)) ∙ c));
@@ -246,7 +69,7 @@ module _ (kinds : List Kind) (s : Federation) (fresh : Fresh kinds s) (acts : Li
       unused = sym (told'.used u) ∙ uu
 
       unseen : installs (acts_trace front s) m u ≡ false → Unread t u m key (effect (run_acts front s) (Operate t m o))
-      unseen i = none (not_committed front (Moves (Operate t m o) ∷ back) place m u i unused)
+      unseen i = none ((not_committed kinds s fresh acts g) front (Moves (Operate t m o) ∷ back) place m u i unused)
 
       -- a multiversion member reads at its first operation
       first : kind_of kinds m ≡ Mv → (before_first (acts_trace front s) m t ≡ acts_trace front s) ⊎ FirstAt front s m t → installs (before_first (acts_trace front s) m t) m u ≡ false → Unread t u m key (effect (run_acts front s) (Operate t m o))
@@ -256,23 +79,23 @@ module _ (kinds : List Kind) (s : Federation) (fresh : Fresh kinds s) (acts : Li
           place' : acts ≡ p.front ++ Moves (Operate t m p.op) ∷ (p.back ++ Moves (Operate t m o) ∷ back)
           place' = place ∙ ap (λ k. k ++ Moves (Operate t m o) ∷ back) p.whole ∙ more p.front (Moves (Operate t m p.op) ∷ p.back) (Moves (Operate t m o) ∷ back)
 
-          to : StepTo p.front (Moves (Operate t m p.op)) (run_acts front s)
-          to = step_to p.front (p.back ++ Moves (Operate t m o) ∷ back) front (Moves (Operate t m o) ∷ back) (Moves (Operate t m p.op)) place' place p.back p.whole
+          to : (StepTo kinds s fresh acts g) p.front (Moves (Operate t m p.op)) (run_acts front s)
+          to = (step_to kinds s fresh acts g) p.front (p.back ++ Moves (Operate t m o) ∷ back) front (Moves (Operate t m o) ∷ back) (Moves (Operate t m p.op)) place' place p.back p.whole
 
           f' : Facts (run_acts p.front s)
-          f' = facts_at p.front (Moves (Operate t m p.op) ∷ (p.back ++ Moves (Operate t m o) ∷ back)) place'
+          f' = (facts_at kinds s fresh acts g) p.front (Moves (Operate t m p.op) ∷ (p.back ++ Moves (Operate t m o) ∷ back)) place'
 
           unused' : holds (run_acts p.front s).used u ≡ false
-          unused' = sym ((act_told (run_acts p.front s) f' (Moves (Operate t m p.op)) to.guard).used u) ∙ sym ((reach_told (effect (run_acts p.front s) (Operate t m p.op)) (run_acts front s) to.reach).used u) ∙ unused
+          unused' = sym ((act_told (run_acts p.front s) f' (Moves (Operate t m p.op)) to.guard).used u) ∙ sym (((reach_told kinds s fresh acts g) (effect (run_acts p.front s) (Operate t m p.op)) (run_acts front s) to.reach).used u) ∙ unused
 
           uncommitted : holds ((run_acts p.front s).member m).committed u ≡ false
-          uncommitted = not_committed p.front (Moves (Operate t m p.op) ∷ (p.back ++ Moves (Operate t m o) ∷ back)) place' m u (ap (λ k. installs k m u) (sym p.first) ∙ i) unused'
+          uncommitted = (not_committed kinds s fresh acts g) p.front (Moves (Operate t m p.op) ∷ (p.back ++ Moves (Operate t m o) ∷ back)) place' m u (ap (λ k. installs k m u) (sym p.first) ∙ i) unused'
 
           kind' : ((effect (run_acts p.front s) (Operate t m p.op)).member m).engine.kind ≡ Mv
-          kind' = act_kinds (run_acts p.front s) (Moves (Operate t m p.op)) to.guard m ∙ kinds_stay p.front s fresh.facts (hold p.front (Moves (Operate t m p.op) ∷ (p.back ++ Moves (Operate t m o) ∷ back)) place') m ∙ fresh.kind m ∙ e
+          kind' = act_kinds (run_acts p.front s) (Moves (Operate t m p.op)) to.guard m ∙ kinds_stay p.front s fresh.facts ((hold kinds s fresh acts g) p.front (Moves (Operate t m p.op) ∷ (p.back ++ Moves (Operate t m o) ∷ back)) place') m ∙ fresh.kind m ∙ e
 
           kind : ((run_acts front s).member m).engine.kind ≡ Mv
-          kind = kinds_stay front s fresh.facts (hold front (Moves (Operate t m o) ∷ back) place) m ∙ fresh.kind m ∙ e
+          kind = kinds_stay front s fresh.facts ((hold kinds s fresh acts g) front (Moves (Operate t m o) ∷ back) place) m ∙ fresh.kind m ∙ e
 
           heads : Seen HeadStamp t u m (run_acts front s)
           heads =
@@ -299,21 +122,21 @@ module _ (kinds : List Kind) (s : Federation) (fresh : Fresh kinds s) (acts : Li
       by Mv e i = first e (first_at front s m t) i
 
   -- The later one's decision is at a state in which the other one is decided.
-  module _ (t u m : ℕ) (apart : t ≢ u) (dt : DecidedAt t) (du : DecidedAt u) (mid : List Act) (first : dt.front ≡ du.front ++ Moves (decision du.at u) ∷ mid) where
+  module _ (t u m : ℕ) (apart : t ≢ u) (dt : (DecidedAt kinds s fresh acts g) t) (du : (DecidedAt kinds s fresh acts g) u) (mid : List Act) (first : dt.front ≡ du.front ++ Moves (decision du.at u) ∷ mid) where
     abbrev last : Federation
     last = run_acts dt.front s
 
-    to_last : StepTo du.front (Moves (decision du.at u)) (run_acts dt.front s)
-    to_last = step_to du.front du.back dt.front (Moves (decision dt.at t) ∷ dt.back) (Moves (decision du.at u)) du.place dt.place mid first
+    to_last : (StepTo kinds s fresh acts g) du.front (Moves (decision du.at u)) (run_acts dt.front s)
+    to_last = (step_to kinds s fresh acts g) du.front du.back dt.front (Moves (decision dt.at t) ∷ dt.back) (Moves (decision du.at u)) du.place dt.place mid first
 
     ft : Facts (run_acts dt.front s)
-    ft = decided_facts t dt
+    ft = (decided_facts kinds s fresh acts g) t dt
 
     dec : Deciding (run_acts dt.front s) t
-    dec = deciding (run_acts dt.front s) ft t dt.at (guard_at t dt)
+    dec = deciding (run_acts dt.front s) ft t dt.at ((guard_at kinds s fresh acts g) t dt)
 
     decided_u : is_decided (run_acts dt.front s).decided u ≡ true
-    decided_u = (reach_onward (effect (run_acts du.front s) (decision du.at u)) last to_last.reach).decided u (decision_decides (run_acts du.front s) du.at u)
+    decided_u = ((reach_onward kinds s fresh acts g) (effect (run_acts du.front s) (decision du.at u)) last to_last.reach).decided u (decision_decides (run_acts du.front s) du.at u)
 
     begun_u : holds (run_acts dt.front s).sessions u ≡ true
     begun_u = ft.numbers.decided_begun u decided_u
@@ -334,21 +157,21 @@ module _ (kinds : List Kind) (s : Federation) (fresh : Fresh kinds s) (acts : Li
     uncommitted_t = dec.uncommitted m
 
     -- what u wrote
-    wrote_u : (key : List ℕ) → WritesKey whole u m key → (writes_told (run_acts dt.front s) u m key ≡ true) × (stands (view Memory ((run_acts dt.front s).member m)) u ≡ true)
+    wrote_u : (key : List ℕ) → WritesKey (acts_trace acts s) u m key → (writes_told (run_acts dt.front s) u m key ≡ true) × (stands (view Memory ((run_acts dt.front s).member m)) u ≡ true)
     wrote_u key w =
-        let p = written u m key du w in
+        let p = (written kinds s fresh acts g) u m key du w in
         let z = effect (run_acts du.front s) (decision du.at u) in
-        let fu = decided_facts u du in (
-          (reach_told z last to_last.reach).writes u m key ((act_told (run_acts du.front s) fu (Moves (decision du.at u)) to_last.guard).writes u m key p.0),
-          (reach_onward z last to_last.reach).stand m u lives_u (decision_stands (run_acts du.front s) fu u m du.at to_last.guard p.1),
+        let fu = (decided_facts kinds s fresh acts g) u du in (
+          ((reach_told kinds s fresh acts g) z last to_last.reach).writes u m key ((act_told (run_acts du.front s) fu (Moves (decision du.at u)) to_last.guard).writes u m key p.0),
+          ((reach_onward kinds s fresh acts g) z last to_last.reach).stand m u lives_u (decision_stands (run_acts du.front s) fu u m du.at to_last.guard p.1),
         )
 
     -- both wrote one key
-    not_both : (key : List ℕ) → WritesKey whole t m key → WritesKey whole u m key → InstalledFirst whole m t u → ⊥
+    not_both : (key : List ℕ) → WritesKey (acts_trace acts s) t m key → WritesKey (acts_trace acts s) u m key → InstalledFirst (acts_trace acts s) m t u → ⊥
     not_both key wt wu (Before before rest e it iu) = by (or_cases _ _ pu.1)
       where
         pt : (writes_told (run_acts dt.front s) t m key ≡ true) × (1 ≤ count_at (told_of (run_acts dt.front s) t) m)
-        pt = written t m key dt wt
+        pt = (written kinds s fresh acts g) t m key dt wt
 
         pu : (writes_told (run_acts dt.front s) u m key ≡ true) × (stands (view Memory ((run_acts dt.front s).member m)) u ≡ true)
         pu = wrote_u key wu
@@ -357,10 +180,10 @@ module _ (kinds : List Kind) (s : Federation) (fresh : Fresh kinds s) (acts : Li
         q = cut acts s before rest e
 
         fq : Facts (run_acts q.front s)
-        fq = facts_at q.front q.back q.whole
+        fq = (facts_at kinds s fresh acts g) q.front q.back q.whole
 
         tq : Traced (acts_trace q.front s) (run_acts q.front s)
-        tq = traced_at q.front q.back q.whole
+        tq = (traced_at kinds s fresh acts g) q.front q.back q.whole
 
         installed_t : holds ((run_acts q.front s).member m).committed t ≡ true
         installed_t = tq.installed t m (ap (λ k. installs k m t) q.first ∙ it)
@@ -368,12 +191,12 @@ module _ (kinds : List Kind) (s : Federation) (fresh : Fresh kinds s) (acts : Li
         -- the fronts, compared
         compare : holds ((run_acts dt.front s).member m).committed u ≡ true → Fronts q.front dt.front → ⊥
         compare cu (Shorter back k) =
-            let h = hold_parts q.front back s (subst (λ x. ActsHold x s) k (hold dt.front (Moves (decision dt.at t) ∷ dt.back) dt.place)) in
+            let h = hold_parts q.front back s (subst (λ x. ActsHold x s) k ((hold kinds s fresh acts g) dt.front (Moves (decision dt.at t) ∷ dt.back) dt.place)) in
             let on = onward back (run_acts q.front s) fq h.1 in
             let c = subst (λ x. holds (x.member m).committed t ≡ true) (sym (ap (λ x. run_acts x s) k ∙ acts_more q.front back s)) (on.committed m t installed_t) in
             let z : true ≡ false = sym c ∙ uncommitted_t in cc
         compare cu (Longer back k) =
-            let h = hold_parts dt.front back s (subst (λ x. ActsHold x s) k (hold q.front q.back q.whole)) in
+            let h = hold_parts dt.front back s (subst (λ x. ActsHold x s) k ((hold kinds s fresh acts g) q.front q.back q.whole)) in
             let on = onward back (run_acts dt.front s) ft h.1 in
             let on' = told back (run_acts dt.front s) ft h.1 in
             let same = ap (λ x. run_acts x s) k ∙ acts_more dt.front back s in
@@ -388,30 +211,30 @@ module _ (kinds : List Kind) (s : Federation) (fresh : Fresh kinds s) (acts : Li
         by (inl v) = dec.writes_apart u m key apart begun_u v pt.1 pt.0 pu.0
         by (inr c) = compare c (fronts q.front q.back dt.front (Moves (decision dt.at t) ∷ dt.back) (sym q.whole ∙ dt.place))
 
-    -- u read what t had written
-    not_after : (key : List ℕ) → ReadsKey kinds whole u m key t true → ⊥
-    not_after key r = by (done_at u m r.o r.before r.operated)
+    -- u read what t had (written kinds s fresh acts g)
+    not_after : (key : List ℕ) → (r : ReadsKey (acts_trace acts s) u m key) → sees kinds r.before u m t ≡ true → ⊥
+    not_after key r i = by ((done_at kinds s fresh acts g) u m r.o r.before r.operated)
       where
         seen : (k : Kind) (tr : List Trace) → installs (part_seen k tr m u) m t ≡ true → installs tr m t ≡ true
         seen Lock tr h = h
         seen Occ tr h = h
         seen Mv tr h = first_installs tr m u m t h
 
-        by : DoneAt u m r.o r.before → ⊥
+        by : (DoneAt kinds s fresh acts g) u m r.o r.before → ⊥
         by x =
-            let to = before_decision u m r.o r.before du x r.operated.undecided in
-            let fx = facts_at x.front (Moves (Operate u m r.o) ∷ x.back) x.place in
-            let tx = traced_at x.front (Moves (Operate u m r.o) ∷ x.back) x.place in
-            let c = tx.installed t m (ap (λ k. installs k m t) x.first ∙ seen (kind_of kinds m) r.before r.seen) in
+            let to = (before_decision kinds s fresh acts g) u m r.o r.before du x r.operated.undecided in
+            let fx = (facts_at kinds s fresh acts g) x.front (Moves (Operate u m r.o) ∷ x.back) x.place in
+            let tx = (traced_at kinds s fresh acts g) x.front (Moves (Operate u m r.o) ∷ x.back) x.place in
+            let c = tx.installed t m (ap (λ k. installs k m t) x.first ∙ seen (kind_of kinds m) r.before i) in
             let c1 = (move_onward (run_acts x.front s) fx (Operate u m r.o) to.guard).committed m t c in
-            let c2 = (reach_onward (effect (run_acts x.front s) (Operate u m r.o)) (run_acts du.front s) to.reach).committed m t c1 in
-            let c3 = (move_onward (run_acts du.front s) (decided_facts u du) (decision du.at u) to_last.guard).committed m t c2 in
-            let c4 = (reach_onward (effect (run_acts du.front s) (decision du.at u)) last to_last.reach).committed m t c3 in
+            let c2 = ((reach_onward kinds s fresh acts g) (effect (run_acts x.front s) (Operate u m r.o)) (run_acts du.front s) to.reach).committed m t c1 in
+            let c3 = (move_onward (run_acts du.front s) ((decided_facts kinds s fresh acts g) u du) (decision du.at u) to_last.guard).committed m t c2 in
+            let c4 = ((reach_onward kinds s fresh acts g) (effect (run_acts du.front s) (decision du.at u)) last to_last.reach).committed m t c3 in
             let z : true ≡ false = sym c4 ∙ uncommitted_t in cc
 
     -- t read what u overwrote later
-    not_before : (key : List ℕ) → ReadsKey kinds whole t m key u false → WritesKey whole u m key → ⊥
-    not_before key r wu = by (done_at t m r.o r.before r.operated)
+    not_before : (key : List ℕ) → (r : ReadsKey (acts_trace acts s) t m key) → sees kinds r.before t m u ≡ false → WritesKey (acts_trace acts s) u m key → ⊥
+    not_before key r i wu = by ((done_at kinds s fresh acts g) t m r.o r.before r.operated)
       where
         pu : (writes_told (run_acts dt.front s) u m key ≡ true) × (stands (view Memory ((run_acts dt.front s).member m)) u ≡ true)
         pu = wrote_u key wu
@@ -423,37 +246,44 @@ module _ (kinds : List Kind) (s : Federation) (fresh : Fresh kinds s) (acts : Li
             now (inl v) = dec.reads_apart u m key apart begun_u v q.seen.worked q.read pu.0
             now (inr c) = let z : true ≡ false = sym pu.0 ∙ dec.unread_by u m key q c in cc
 
-        by : DoneAt t m r.o r.before → ⊥
+        by : (DoneAt kinds s fresh acts g) t m r.o r.before → ⊥
         by x =
-            let to = before_decision t m r.o r.before dt x r.operated.undecided in
+            let to = (before_decision kinds s fresh acts g) t m r.o r.before dt x r.operated.undecided in
             let z = effect (run_acts x.front s) (Operate t m r.o) in
-            let used = (reach_told z last to.reach).used in
+            let used = ((reach_told kinds s fresh acts g) z last to.reach).used in
             let q = unread_now t u m key r.o r.span x.front x.back x.place r.reads r.has to.guard (sym (used t) ∙ unused_t) (sym (used u) ∙ unused_u) (kind_of kinds m) refl
-            (ap (λ k. installs (part_seen (kind_of kinds m) k m t) m u) x.first ∙ r.seen) in
+            (ap (λ k. installs (part_seen (kind_of kinds m) k m t) m u) x.first ∙ i) in
             ends (subst (Unread t u m key) to.reach.leaves (unread_stays t u m key to.reach.mid z to.reach.facts to.reach.guarded q))
 
-    never : Precedes kinds whole t u m → ⊥
-    never (ReadAfter key w r) = not_after key r
-    never (ReadBefore key r w) = not_before key r w
+    never : Precedes kinds (acts_trace acts s) t u m → ⊥
+    never (ReadAfter key w r i) = not_after key r i
+    never (ReadBefore key r i w) = not_before key r i w
     never (WroteBefore key w v i) = not_both key w v i
 
-  pub ordered : (t u m : ℕ) → t ≢ u → has_number (decided_in whole whole) t ≡ true → has_number (decided_in whole whole) u ≡ true → Precedes kinds whole t u m → StandsBefore (decided_in whole whole) t u
-  ordered t u m n ht hu p = by (decided_at t ht) (decided_at u hu)
+  in_order : (t u m : ℕ) → t ≢ u → has_number (decided_in (acts_trace acts s) (acts_trace acts s)) t ≡ true → has_number (decided_in (acts_trace acts s) (acts_trace acts s)) u ≡ true → Precedes kinds (acts_trace acts s) t u m → StandsBefore (decided_in (acts_trace acts s) (acts_trace acts s)) t u
+  in_order t u m n ht hu p = by ((decided_at kinds s fresh acts g) t ht) ((decided_at kinds s fresh acts g) u hu)
     where
-      back : DecidedAt u → List Trace
+      back : (DecidedAt kinds s fresh acts g) u → List Trace
       back du = acts_trace du.back (effect (run_acts du.front s) (decision du.at u))
 
-      earlier : (dt : DecidedAt t) (du : DecidedAt u) (mid : List Act) → du.front ≡ dt.front ++ Moves (decision dt.at t) ∷ mid → StandsBefore (decided_in whole whole) t u
+      earlier : (dt : (DecidedAt kinds s fresh acts g) t) (du : (DecidedAt kinds s fresh acts g) u) (mid : List Act) → du.front ≡ dt.front ++ Moves (decision dt.at t) ∷ mid → StandsBefore (decided_in (acts_trace acts s) (acts_trace acts s)) t u
       earlier dt du mid e =
-          Stands (decided_in whole (acts_trace du.front s)) (decided_in whole (back du))
-          (ap (decided_in whole) (tells_decision acts du.front du.back u du.at du.place) ∙ decided_more whole (acts_trace du.front s) (Committed du.at u ∷ back du)
-          ∙ ap (λ b. decided_in whole (acts_trace du.front s) ++ (if b then u ∷ decided_in whole (back du) else decided_in whole (back du))) du.home)
-          (is_in_order whole (acts_trace du.front s) t dt.at dt.home (acts_trace dt.front s) (acts_trace mid (effect (run_acts dt.front s) (decision dt.at t))) (tells_decision du.front dt.front mid t dt.at e))
+          Stands (decided_in (acts_trace acts s) (acts_trace du.front s)) (decided_in (acts_trace acts s) (back du))
+          (ap (decided_in (acts_trace acts s)) ((tells_decision kinds s fresh acts g) acts du.front du.back u du.at du.place) ∙ decided_more (acts_trace acts s) (acts_trace du.front s) (Committed du.at u ∷ back du)
+          ∙ ap (λ b. decided_in (acts_trace acts s) (acts_trace du.front s) ++ (if b then u ∷ decided_in (acts_trace acts s) (back du) else decided_in (acts_trace acts s) (back du))) du.home)
+          (is_in_order (acts_trace acts s) (acts_trace du.front s) t dt.at dt.home (acts_trace dt.front s) (acts_trace mid (effect (run_acts dt.front s) (decision dt.at t))) ((tells_decision kinds s fresh acts g) du.front dt.front mid t dt.at e))
 
-      by : DecidedAt t → DecidedAt u → StandsBefore (decided_in whole whole) t u
+      by : (DecidedAt kinds s fresh acts g) t → (DecidedAt kinds s fresh acts g) u → StandsBefore (decided_in (acts_trace acts s) (acts_trace acts s)) t u
       by dt du = now (places du.front (Moves (decision du.at u)) du.back dt.front (Moves (decision dt.at t)) dt.back (sym du.place ∙ dt.place))
         where
-          now : Places du.front (Moves (decision du.at u)) dt.front (Moves (decision dt.at t)) → StandsBefore (decided_in whole whole) t u
-          now (Same e) = absurd (n (sym (sym (decided_txn_is du.at u) ∙ ap decided_txn e ∙ decided_txn_is dt.at t)))
+          now : Places du.front (Moves (decision du.at u)) dt.front (Moves (decision dt.at t)) → StandsBefore (decided_in (acts_trace acts s) (acts_trace acts s)) t u
+          now (Same e) = absurd (n (sym (sym ((decided_txn_is kinds s fresh acts g) du.at u) ∙ ap (decided_txn kinds s fresh acts g) e ∙ (decided_txn_is kinds s fresh acts g) dt.at t)))
           now (First mid e) = absurd (never t u m n dt du mid e p)
           now (Second mid e) = earlier dt du mid e
+
+  pub ordered : (t u m : ℕ) → t ≢ u → has_number (decisions_in (acts_trace acts s)) t ≡ true → has_number (decisions_in (acts_trace acts s)) u ≡ true → Precedes kinds (acts_trace acts s) t u m → StandsBefore (decisions_in (acts_trace acts s)) t u
+  ordered t u m n ht hu p =
+      subst (λ k. StandsBefore k t u) (sym same) (in_order t u m n (sym (ap (λ k. has_number k t) same) ∙ ht) (sym (ap (λ k. has_number k u) same) ∙ hu) p)
+    where
+      same : decisions_in (acts_trace acts s) ≡ decided_in (acts_trace acts s) (acts_trace acts s)
+      same = (traced_all kinds s fresh acts g).decisions ∙ sym (traced_all kinds s fresh acts g).order

@@ -9,10 +9,10 @@ use Rattle.co_state.specs.ReadRule.{operation_reply}
 use Rattle.co_plain.specs.Federation.{Federation}
 use Rattle.co_plain.specs.Numbers.{has_number}
 use Rattle.co_plain.specs.Sessions.{same_node}
-use Rattle.co_plain.specs.CommitmentOrder.{Trace, Began, Operated, Committed, decider_in, decides_at, decided_in, installs, before_first}
+use Rattle.co_plain.specs.CommitmentOrder.{Trace, Began, Operated, Committed, decides_at, installs, before_first}
 use Rattle.co_plain.specs.Moves.{Operate, MarkAsked, Cast, DropActive, DropVoted, Install, CommitLocally, CrashMember, RestartMember, ArmMember, CloseMemberSpare, FillMemberSpare, Begin, Collect, RecordYes, Decide, Leave, RecordAck, End, CrashCoord, RestartCoord, ArmCoord, CloseCoordSpare, FillCoordSpare, BeginLocal, AskEnd, Send}
 use Rattle.co_law_runs.proofs.Acts.{Act, Moves, Disarms, after_act, act_trace, acts_trace, same_head, same_tail, not_empty}
-use Rattle.co_law_runs.proofs.Deciders.{committed_at, decided_more, same_home, same_self}
+use Rattle.co_law_runs.proofs.Deciders.{committed_at, decider_in, decided_in, decided_more, same_home, same_self}
 
 -- who is in the order was decided at its node
 pub has_decided : (whole tr : List Trace) (t : ℕ) → has_number (decided_in whole tr) t ≡ true → (at : Node) × (decides_at (decider_in whole t) at ≡ true) × (committed_at tr at t ≡ true)

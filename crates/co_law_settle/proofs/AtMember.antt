@@ -11,7 +11,7 @@ use Rattle.co_state.specs.Changes.{sets_of}
 use Rattle.co_state.specs.Effects.{after_install, install_vote}
 use Rattle.co_state.specs.EngineState.{operations_of}
 use Rattle.co_plain.specs.declared.log_state.LogState.{LogState}
-use Rattle.co_plain.specs.declared.log_state.Stop.{Stop}
+use Rattle.co_base.specs.declared.leaves.Stop.{Stop}
 use Rattle.co_plain.specs.declared.member_state.MemberState.{MemberState}
 use Rattle.co_plain.specs.declared.member_step.MemberStep.{MemberStep}
 use Rattle.co_plain.specs.LogWrite.{outcome_of, with_batch}

@@ -15,7 +15,7 @@ ghost use Rattle.co_state.specs.EngineState.{installed_records};
 ghost use Rattle.co_state.specs.LockRule.{lock_blocker};
 ghost use Rattle.co_state.specs.ReadRule.{operation_reply};
 ghost use Rattle.co_state.specs.Table.{look, without};
-ghost use Rattle.co_engine.specs.Calls.{may_operate, seen_of, writing, votes_of, Appends, AppendsNewPairs};
+ghost use Rattle.co_engine.specs.Calls.{may_operate, seen_of, votes_of, Appends, AppendsNewPairs};
 ghost use Rattle.co_lock.specs.Locked.{IsLocked};
 ghost use Rattle.co_lock.specs.LockedState.{LockedState, IsClear, with_writes};
 ghost use Rattle.co_index.specs.Touching.{gone_from};
@@ -28,8 +28,8 @@ use crate::locked_store::LockedStore;
 use crate::pairs::pairs_made;
 use crate::undecided::{Roll, Undecided};
 use co_base::{Key, Kind, Op, Range, Ranges, Reply, Rows, Txn, Value, Writes, Written};
-use co_engine::{Dump, Engine, Seen};
-use co_index::{Index, append};
+use co_engine::{Dump, Engine, Seen, append, writing};
+use co_index::Index;
 use co_pairs::{Pairs, Prepared, Sets};
 use co_state::{RecordMap, put_change, put_range, records_from};
 use std::alloc::{AllocError, Global};
@@ -130,16 +130,6 @@ fn lent(value: &Option<Value>) -> Option<&Value>
     ensures { option_copied result ≡ value.now }
 {
     value.as_ref()
-}
-
-/// The operation that writes a record, or takes it away where there is no value.
-fn writing(key: &Key, value: Option<&Value>) -> Result<Op, AllocError>
-    ensures { IfOk result (λ op. op ≡ writing key.now (option_copied value.entry)) }
-{
-    match value {
-        Some(value) => Ok(Op::Write(key.copy()?, value.copy()?)),
-        None => Ok(Op::Erase(key.copy()?)),
-    }
 }
 
 /// A transaction writes changes in place of keys that no other one wrote, one after another.

@@ -3,13 +3,14 @@ use Rattle.std.proofs.Common.{◌≡◌, ◌⊎◌, ℕ, ◌+◌, ◌<◌, ◌�
 use Rattle.std.specs.Prelude.{Option, Some, slice_get, if◌then◌else◌}
 use Rattle.std.specs.List.{AllByRecursion}
 use Rattle.std.proofs.lemmas.List.{length-append}
+use Rattle.co_base.specs.Limits.{most_log_bytes}
 use Rattle.co_base.specs.declared.leaves.Leaves.{Leaves}
 use Rattle.co_disk.specs.DiskModel.{DiskState, IsImage, IsChosen, read_of}
 use Rattle.co_disk.specs.DiskView.{DiskView}
 use Rattle.co_frame.specs.LogText.{IsBatch, batch_text, closed_gate}
 use Rattle.co_record.specs.declared.record.Record.{Record}
 use Rattle.co_record.specs.Spelling.{IsSpelled}
-use Rattle.co_log.specs.declared.stop.Stop.{Stop}
+use Rattle.co_base.specs.declared.leaves.Stop.{Stop}
 use Rattle.co_log.specs.LogFile.{spelled, opened, next_gate, EndsAt, EndsAfter, OldOrBoth}
 use Rattle.co_log.specs.BatchWrite.{closed_batch, batch_pending, gate_pending, disk_at, disk_after}
 use Rattle.co_frame.specs.Gate.{batch_is_stable}
@@ -21,7 +22,7 @@ use Rattle.co_log.proofs.Stops.{all_stable}
 pub batch_is : (records batch : List ℕ) (more : List Record) → records ≡ spelled more → batch ≡ batch_text records ++ closed_gate ∷ [] → batch ≡ closed_batch more
 batch_is records batch more e is = is ∙ ap (λ (r : List ℕ). batch_text r ++ closed_gate ∷ []) e
 
-pub is_batch : (gate : ℕ) (more : List Record) → 0 < length more → gate + 6 + length (spelled more) ≤ 268435456 → IsBatch (spelled more)
+pub is_batch : (gate : ℕ) (more : List Record) → 0 < length more → gate + 6 + length (spelled more) ≤ most_log_bytes → IsBatch (spelled more)
 is_batch gate more some short = (some_bytes more some, omega (arith, short))
 
 -- the place of the gate behind a batch

@@ -2,6 +2,7 @@
 use Rattle.std.proofs.Common.{◌≡◌, ℕ, ◌<◌, ◌≤◌, true, false, List, [], length, ◌∷◌, ◌⊎◌, refl, sym, ap, subst, ◌∙◌, arith, inl, inr}
 use Rattle.std.specs.Prelude.{Option, Some, None, Result, Ok, Err, nat_lt, IfSome, IfNone, IfErr}
 use Rattle.std.proofs.lemmas.Bool.Decides.{nat_tests}
+use Rattle.co_base.specs.Limits.{most_log_bytes}
 use Rattle.co_outside.specs.declared.spot.Spot.{Spot}
 use Rattle.co_outside.specs.Home.{File}
 use Rattle.co_disk.specs.DiskView.{DiskView}
@@ -28,7 +29,7 @@ at_most_one d still used =
     let h : nat_lt 1 (length d.state.stable) ≡ false = ap (λ (b : List ℕ). nat_lt 1 (length b)) (sym (read_stable d.state still)) ∙ used in
     grind (arith, nat_tests)
 
-pub used_longer : (o : Option DiskView) (spot : Spot) (file : Option File) → used_of o ≡ true → IfSome o (λ d. IsToldAs spot file d) → IfNone o (IsLonger 268435456 file) → IsLonger 1 file
+pub used_longer : (o : Option DiskView) (spot : Spot) (file : Option File) → used_of o ≡ true → IfSome o (λ d. IsToldAs spot file d) → IfNone o (IsLonger most_log_bytes file) → IsLonger 1 file
 used_longer None spot file used told long = λ f is. omega (arith, long f is)
 used_longer (Some d) spot file used told long = λ f is. omega (arith, more_than_one d told.still used, ap (λ (b : List ℕ). length b) (told.told f is))
 

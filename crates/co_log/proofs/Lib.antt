@@ -18,3 +18,4 @@ pub mod Spots
 pub mod Bounds
 pub mod Sizes
 pub mod Counted
+pub mod Answered

@@ -5,7 +5,7 @@ use Rattle.co_base.specs.declared.leaves.Leaves.{Leaves}
 use Rattle.co_base.specs.declared.mark.Mark.{Mark}
 use Rattle.co_record.specs.declared.record.Record.{Record}
 use Rattle.co_log.specs.declared.append.Ending.TheVariants.{Whole, Stopped}
-use Rattle.co_log.specs.declared.stop.Stop.{Stop}
+use Rattle.co_base.specs.declared.leaves.Stop.{Stop}
 use Rattle.co_log.specs.Appending.{IsEnding}
 use Rattle.co_record.specs.Format.{IsVersion, newest}
 use Rattle.co_frame.specs.Gate.{batch_is_stable, begins_closed}

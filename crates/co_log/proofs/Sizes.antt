@@ -3,7 +3,8 @@ use Rattle.std.proofs.Common.{◌≡◌, ℕ, ◌+◌, ◌<◌, ◌≤◌, true,
 use Rattle.std.specs.Prelude.{reverse}
 use Rattle.std.specs.List.{AllByRecursion}
 use Rattle.std.proofs.lemmas.List.{length-append, map-append, reverse-append}
-use Rattle.co_frame.specs.LogText.{IsBatch, gated, batch_text, most_log_bytes}
+use Rattle.co_base.specs.Limits.{most_log_bytes}
+use Rattle.co_frame.specs.LogText.{IsBatch, gated, batch_text}
 use Rattle.co_record.specs.declared.record.Record.{Record}
 use Rattle.co_record.specs.Format.{newest}
 use Rattle.co_record.specs.Spelling.{spelling}

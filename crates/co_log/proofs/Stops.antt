@@ -8,7 +8,7 @@ use Rattle.co_disk.specs.DiskModel.{DiskState, stable_disk}
 use Rattle.co_disk.specs.DiskView.{DiskView}
 use Rattle.co_disk.specs.Stops.{IsStopped, IsLeft, stop_here, after_call, armed_for}
 use Rattle.co_disk.specs.declared.stop.Armed.{Armed}
-use Rattle.co_log.specs.declared.stop.Stop.{Stop}
+use Rattle.co_base.specs.declared.leaves.Stop.{Stop}
 use Rattle.co_log.specs.BatchWrite.{batch_pending, gate_pending, disk_at}
 use Rattle.co_log.specs.Stopping.{IsStoppedWithin, HasPassed, after_calls, IsWriteStopped}
 

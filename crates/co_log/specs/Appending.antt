@@ -1,5 +1,6 @@
 -- How a log write ends.
 use Rattle.std.specs.Prelude.{ℕ, ◌+◌, ◌≡◌, ◌<◌, List, length, Option, Some, None}
+use Rattle.co_base.specs.Limits.{most_log_bytes}
 use Rattle.co_base.specs.declared.leaves.Leaves.{Leaves}
 use Rattle.co_disk.specs.DiskView.{DiskView}
 use Rattle.co_outside.specs.declared.spot.Spot.{Spot}
@@ -8,7 +9,7 @@ use Rattle.co_log.specs.declared.append.Ending.{Ending}
 use Rattle.co_log.specs.declared.append.Ending.TheVariants.{Whole, Stopped}
 use Rattle.co_log.specs.declared.fault.LogFault.{LogFault}
 use Rattle.co_log.specs.declared.fault.LogFault.TheVariants as faults
-use Rattle.co_log.specs.declared.stop.Stop.{Stop}
+use Rattle.co_base.specs.declared.leaves.Stop.{Stop}
 use Rattle.co_frame.specs.Gate.{batch_is_stable}
 use Rattle.co_log.specs.LogFile.{spelled, next_gate, EndsAfter}
 use Rattle.std.specs.Prelude.{true}
@@ -23,7 +24,7 @@ IsEnding (Stopped call stable next) stop disk gate items more =
 
 -- the file would be too long with a batch of these records and a gate behind its gate
 abbrev pub IsTooLong : ℕ → List Record → Type 0
-IsTooLong gate more = 268435456 < gate + 6 + length (spelled more)
+IsTooLong gate more = most_log_bytes < gate + 6 + length (spelled more)
 
 -- the faults of a log write on the file of this spot
 abbrev pub IsOfAppend : Spot → LogFault → Type 0

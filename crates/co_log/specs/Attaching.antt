@@ -1,5 +1,6 @@
 -- Which of the two files of a node is current, and why a log is not attached.
 use Rattle.std.specs.Prelude.{ℕ, ◌≡◌, ◌≤◌, ◌<◌, ◌⊎◌, Bool, true, false, List, [], length, nat_lt, Option, Some, None}
+use Rattle.co_base.specs.Limits.{most_log_bytes}
 use Rattle.co_base.specs.declared.node.Node.{Node}
 use Rattle.co_outside.specs.declared.spot.Spot.{Spot}
 use Rattle.co_outside.specs.Home.{File}
@@ -81,10 +82,10 @@ abbrev pub IsOfAttach : Node → Bool → Option File → Option File → LogFau
 IsOfAttach node resume a b (Device spot) = (spot ≡ spot_of node 0) ⊎ (spot ≡ spot_of node 1)
 IsOfAttach node resume a b (Stopped call stable marks) = ⊥
 IsOfAttach node resume a b (Bad spot at) =
-    (resume ≡ true) × IsWithin 268435456 a × IsWithin 268435456 b × ((view_a : DiskView) × (view_b : DiskView) × IsToldAs (spot_of node 0) a view_a × IsToldAs (spot_of node 1) b view_b × IsBadPair node view_a view_b (Bad spot at))
+    (resume ≡ true) × IsWithin most_log_bytes a × IsWithin most_log_bytes b × ((view_a : DiskView) × (view_b : DiskView) × IsToldAs (spot_of node 0) a view_a × IsToldAs (spot_of node 1) b view_b × IsBadPair node view_a view_b (Bad spot at))
 IsOfAttach node resume a b (Differs spot at kept read) = ⊥
 IsOfAttach node resume a b (Full spot) =
-    (resume ≡ true) × (((spot ≡ spot_of node 0) × IsLonger 268435456 a) ⊎ ((spot ≡ spot_of node 1) × IsWithin 268435456 a × IsLonger 268435456 b))
+    (resume ≡ true) × (((spot ≡ spot_of node 0) × IsLonger most_log_bytes a) ⊎ ((spot ≡ spot_of node 1) × IsWithin most_log_bytes a × IsLonger most_log_bytes b))
 IsOfAttach node resume a b (InUse spot) =
     (resume ≡ false) × (((spot ≡ spot_of node 0) × IsLonger 1 a) ⊎ ((spot ≡ spot_of node 1) × IsWithin 1 a × IsLonger 1 b))
 IsOfAttach node resume a b Memory = Unit {0}

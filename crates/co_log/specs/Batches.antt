@@ -1,6 +1,7 @@
 -- Records that are spelled out for a log as one batch.
 use Rattle.std.specs.Prelude.{ℕ, ◌≡◌, ◌+◌, ◌≤◌, ◌<◌, List, ◌++◌, length, Result, Ok, Err}
 use Rattle.std.specs.List.{AllByRecursion}
+use Rattle.co_base.specs.Limits.{most_log_bytes}
 use Rattle.co_record.specs.declared.record.Record.{Record}
 use Rattle.co_record.specs.Spelling.{IsSpelled}
 use Rattle.co_log.specs.declared.batch.SpelledBatch.{SpelledBatch}
@@ -17,7 +18,7 @@ pub record IsBatchAt (gate : ℕ) (items : List Record) (bytes : List ℕ) : Typ
   pub some : 0 < length items
   pub text : bytes ≡ closed_batch items
   pub each : AllByRecursion IsSpelled items
-  pub short : gate + 6 + length (spelled items) ≤ 268435456
+  pub short : gate + 6 + length (spelled items) ≤ most_log_bytes
 
 -- a batch of the waiting records of a log and of these behind them, with the marks of all of them
 pub record IsBatchOf (log : LogView) (more : List Record) (made : SpelledBatch) : Type 0 where

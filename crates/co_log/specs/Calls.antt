@@ -1,25 +1,28 @@
--- The calls of a log over a home: what a log write asks, and what each call leaves of the log and of the home, by its answer.
-use Rattle.std.specs.Prelude.{ℕ, ◌≡◌, ◌⊎◌, false, Bool, List, [], ◌++◌, Some, Result, OnOk, IfOk, IfErr, IsErrOf}
+-- The calls of a log over a home: what a log write asks, and what each call leaves of the log and of the home, by its answer. The count of the home's
+-- faults stands but where the device failed.
+use Rattle.std.specs.Prelude.{ℕ, ◌≡◌, ◌⊎◌, true, false, Bool, List, [], ◌++◌, Some, Result, Ok, Err, IsErrOf}
+use Rattle.co_base.specs.Limits.{most_log_bytes}
+use Rattle.co_base.specs.Nodes.{IsValidNode}
 use Rattle.co_base.specs.declared.mark.Mark.{Mark}
 use Rattle.co_base.specs.declared.mark.MarkKind.TheVariants as kind
 use Rattle.co_base.specs.declared.node.Node.{Node}
 use Rattle.co_outside.specs.Home.{File, HomeView, IsClean, RestStays, HasFailed}
 use Rattle.co_outside.specs.declared.spot.Spot.{Spot}
 use Rattle.co_disk.specs.DiskView.{DiskView}
-use Rattle.co_frame.specs.LogText.{most_log_bytes}
+use Rattle.co_frame.specs.Gate.{begins_closed}
 use Rattle.co_record.specs.declared.record.Record.{Record}
 use Rattle.co_record.specs.Format.{newest}
 use Rattle.co_log.specs.declared.fault.LogFault.{LogFault}
-use Rattle.co_log.specs.declared.fault.LogFault.TheVariants.{Device, Full, Memory}
+use Rattle.co_log.specs.declared.fault.LogFault.TheVariants.{Device, Stopped, Bad, Differs, Full, InUse, Memory}
 use Rattle.co_log.specs.Attaching.{IsAttached, IsWithin, IsToldAs, IsOfAttach}
 use Rattle.co_log.specs.Current.{IsOrdered, IsCurrentOf, IsCurrentForced, IsCurrentAfter, IsCurrentMade}
-use Rattle.co_log.specs.Forcing.{IsForced, IsDone, IsOfForce}
-use Rattle.co_log.specs.Fresh.{IsFresh, IsMade, IsMaking, IsOfDevice, header_alone}
+use Rattle.co_log.specs.Forcing.{IsForced, IsDone}
+use Rattle.co_log.specs.Fresh.{IsFresh, IsMade, IsMaking, header_alone}
 use Rattle.co_log.specs.LogFile.{EndsAt, OldOrBoth}
 use Rattle.co_log.specs.LogView.{LogView, IsLive, IsHeld, spot_of}
 use Rattle.co_log.specs.Others.{BothWithin, OtherNodesStay}
 use Rattle.co_log.specs.Rereading.{IsOfReattach, AreReread}
-use Rattle.co_log.specs.Spare.{IsClosing, IsOfClosing, IsSpareImage, IsFilling, IsOverfull, filling}
+use Rattle.co_log.specs.Spare.{IsClosing, IsSpareImage, IsFilling, IsOverfull, filling}
 
 -- what a log write on the current file asks: the home holds the log, which is of the newest version and has its records
 pub record MayForce (home : HomeView) (log : LogView) : Type 0 where
@@ -27,87 +30,153 @@ pub record MayForce (home : HomeView) (log : LogView) : Type 0 where
   pub newest : log.version ≡ newest
   pub live : (items : List (ℕ × Record)) × IsLive log items
 
+-- what the filling of the spare file asks: the home holds the log, which has its records, and the spare is closed with nothing that pends
+pub record MayFill (home : HomeView) (log : LogView) : Type 0 where
+  pub held : IsHeld home log
+  pub live : (items : List (ℕ × Record)) × IsLive log items
+  pub node : IsValidNode log.node
+  pub still : log.spare.state.pending ≡ []
+  pub closed : begins_closed log.spare.state.stable ≡ true
+
+-- What a call answers that writes the file of this spot: it was done, or stopped at the armed device call, as `done` says of the answer; the device
+-- failed; the file would be too long; or there was no memory.
+abbrev pub IsWriteAnswer : {A : Type 0} → Spot → (done : Result A LogFault → Type 0) → (device full memory : Type 0) → Result A LogFault → Type 0
+IsWriteAnswer spot done device full memory (Ok it) = done (Ok it)
+IsWriteAnswer spot done device full memory (Err (Device at)) = (at ≡ spot) × device
+IsWriteAnswer spot done device full memory (Err (Stopped call stable marks)) = done (Err (Stopped call stable marks))
+IsWriteAnswer spot done device full memory (Err (Bad at place)) = ⊥
+IsWriteAnswer spot done device full memory (Err (Differs at place kept read)) = ⊥
+IsWriteAnswer spot done device full memory (Err (Full at)) = (at ≡ spot) × full
+IsWriteAnswer spot done device full memory (Err (InUse at)) = ⊥
+IsWriteAnswer spot done device full memory (Err Memory) = memory
+
+-- where a log write was done or stopped, the home holds the log with the written file clean, and did not fail
+pub record IsServed (after : LogView) (spot : Spot) (old new : HomeView) : Type 0 where
+  pub held : IsHeld new after
+  pub clean : IsClean new spot
+  pub quiet : new.faults ≡ old.faults
+
+-- a log write of the waiting records and of these behind them was done or stopped; `long` says that the file would be too long with them
+abbrev pub IsForceServed : Type 0 → LogView → LogView → List Record → HomeView → HomeView → Result (List Mark) LogFault → Type 0
+IsForceServed long log after more old new result =
+    ((items : List (ℕ × Record)) → IsLive log items → IsForced log items (log.waiting ++ more) after result) × IsServed after log.current.spot old new × (long → ⊥)
+
+-- the file has the old records alone
+abbrev pub HasOldAlone : LogView → HomeView → Type 0
+HasOldAlone log home = (items : List (ℕ × Record)) → IsLive log items → (f : File) → home.file log.current.spot ≡ Some f → EndsAt f.bytes log.gate items
+
+-- what such a log write answers
+abbrev pub IsForceAnswer : Type 0 → LogView → LogView → List Record → HomeView → HomeView → Result (List Mark) LogFault → Type 0
+IsForceAnswer long log after more old new result =
+    IsWriteAnswer log.current.spot (IsForceServed long log after more old new) (HasFailed log.current.spot old new × (long → ⊥)) (long × (new.faults ≡ old.faults))
+      (HasOldAlone log new × (new.faults ≡ old.faults)) result
+
 -- What the log write of the waiting records and of these behind them leaves. `long` says that the file would be too long with them; then it is
 -- refused, or there is no memory.
 pub record HasForced (long : Type 0) (log after : LogView) (more : List Record) (old new : HomeView) (result : Result (List Mark) LogFault) : Type 0 where
-  pub forced : (items : List (ℕ × Record)) → IsLive log items → IsForced log items (log.waiting ++ more) after result
-  pub held : IsDone result → IsHeld new after
-  pub clean : IsDone result → IsClean new log.current.spot
-  pub full : IsErrOf result (Full log.current.spot) → long
-  pub too_long : long → IsErrOf result (Full log.current.spot) ⊎ IsErrOf result Memory
+  pub answered : IsForceAnswer long log after more old new result
   pub told : (items : List (ℕ × Record)) → IsLive log items → (f : File) → new.file log.current.spot ≡ Some f → IsDone result ⊎ OldOrBoth f.bytes log.gate items (log.waiting ++ more)
-  pub memory : (items : List (ℕ × Record)) → IsLive log items → IsErrOf result Memory → (f : File) → new.file log.current.spot ≡ Some f → EndsAt f.bytes log.gate items
   pub current : (items : List (ℕ × Record)) → IsOrdered log items → (c s : File) → new.file log.current.spot ≡ Some c → new.file log.spare.spot ≡ Some s → IsCurrentForced log items (log.waiting ++ more) c.bytes s.bytes result
   pub short : BothWithin new.file log
-  pub faults : IfErr result (IsOfForce log.current.spot)
   pub rest : RestStays log.current.spot old new
-  pub device : IsErrOf result (Device log.current.spot) → HasFailed log.current.spot old new
-  pub quiet : (IsErrOf result (Device log.current.spot) → ⊥) → new.faults ≡ old.faults
+
+-- a closing of the spare file was done or stopped
+abbrev pub IsCloseServed : LogView → LogView → HomeView → HomeView → Result (Unit {0}) LogFault → Type 0
+IsCloseServed log after old new result = IsClosing log after result × IsServed after log.spare.spot old new
+
+-- what it answers: it is never too long
+abbrev pub IsCloseAnswer : LogView → LogView → HomeView → HomeView → Result (Unit {0}) LogFault → Type 0
+IsCloseAnswer log after old new result =
+    IsWriteAnswer log.spare.spot (IsCloseServed log after old new) (HasFailed log.spare.spot old new) ⊥ (new.faults ≡ old.faults) result
 
 -- what the closing of the spare file leaves
 pub record HasClosed (log after : LogView) (old new : HomeView) (result : Result (Unit {0}) LogFault) : Type 0 where
-  pub closing : IsClosing log after result
-  pub held : IsDone result → IsHeld new after
-  pub clean : IsDone result → IsClean new log.spare.spot
+  pub answered : IsCloseAnswer log after old new result
   pub told : (f : File) → new.file log.spare.spot ≡ Some f → IsSpareImage log.spare.state.stable f.bytes
   pub current : (items : List (ℕ × Record)) → IsOrdered log items → (c s : File) → new.file log.current.spot ≡ Some c → new.file log.spare.spot ≡ Some s → IsCurrentOf log.node log.version log.generation c.bytes s.bytes items
   pub short : BothWithin new.file log
-  pub faults : IfErr result (IsOfClosing log.spare.spot)
   pub rest : RestStays log.spare.spot old new
-  pub device : IsErrOf result (Device log.spare.spot) → HasFailed log.spare.spot old new
-  pub quiet : (IsErrOf result (Device log.spare.spot) → ⊥) → new.faults ≡ old.faults
+
+-- a filling of the spare file with these records was done or stopped
+abbrev pub IsFillServed : LogView → LogView → List Record → HomeView → HomeView → Result Mark LogFault → Type 0
+IsFillServed log after more old new result = IsFilling log more after result × IsServed after log.spare.spot old new × (IsOverfull log more → ⊥)
+
+-- the spare file has no batch
+abbrev pub HasNoBatch : LogView → HomeView → Type 0
+HasNoBatch log home = (f : File) → home.file log.spare.spot ≡ Some f → EndsAt f.bytes 0 []
+
+-- what such a filling answers
+abbrev pub IsFillAnswer : LogView → LogView → List Record → HomeView → HomeView → Result Mark LogFault → Type 0
+IsFillAnswer log after more old new result =
+    IsWriteAnswer log.spare.spot (IsFillServed log after more old new) (HasFailed log.spare.spot old new × (IsOverfull log more → ⊥)) (IsOverfull log more × (new.faults ≡ old.faults))
+      (HasNoBatch log new × (new.faults ≡ old.faults)) result
 
 -- What the filling of the spare file with these records leaves. One that is overfull is refused, or there is no memory.
 pub record HasFilled (log after : LogView) (more : List Record) (old new : HomeView) (result : Result Mark LogFault) : Type 0 where
-  pub filled : IsFilling log more after result
-  pub held : IsDone result → IsHeld new after
-  pub clean : IsDone result → IsClean new log.spare.spot
-  pub full : IsErrOf result (Full log.spare.spot) → IsOverfull log more
-  pub overfull : IsOverfull log more → IsErrOf result (Full log.spare.spot) ⊎ IsErrOf result Memory
+  pub answered : IsFillAnswer log after more old new result
   pub told : IsDone result ⊎ ((f : File) → new.file log.spare.spot ≡ Some f → OldOrBoth f.bytes 0 [] (filling log more))
-  pub memory : IsErrOf result Memory → (f : File) → new.file log.spare.spot ≡ Some f → EndsAt f.bytes 0 []
   pub current : (kept : List (ℕ × Record)) → IsOrdered log kept → (c s : File) → new.file log.current.spot ≡ Some c → new.file log.spare.spot ≡ Some s → IsCurrentAfter log kept more c.bytes s.bytes result
   pub short : BothWithin new.file log
-  pub faults : IfErr result (IsOfForce log.spare.spot)
   pub rest : RestStays log.spare.spot old new
-  pub device : IsErrOf result (Device log.spare.spot) → HasFailed log.spare.spot old new
-  pub quiet : (IsErrOf result (Device log.spare.spot) → ⊥) → new.faults ≡ old.faults
+
+-- what the making of a fresh log answers, which no armed stop reaches and which is never too long
+abbrev pub IsMakeAnswer : LogView → LogView → HomeView → HomeView → Result Mark LogFault → Type 0
+IsMakeAnswer log after old new (Ok mark) = IsMade log after × (mark ≡ record { node = log.node; kind = kind.Header; number = 1 }) × IsServed after log.current.spot old new
+IsMakeAnswer log after old new (Err (Device at)) = (at ≡ log.current.spot) × HasFailed log.current.spot old new
+IsMakeAnswer log after old new (Err (Stopped call stable marks)) = ⊥
+IsMakeAnswer log after old new (Err (Bad at place)) = ⊥
+IsMakeAnswer log after old new (Err (Differs at place kept read)) = ⊥
+IsMakeAnswer log after old new (Err (Full at)) = ⊥
+IsMakeAnswer log after old new (Err (InUse at)) = ⊥
+IsMakeAnswer log after old new (Err Memory) = new.faults ≡ old.faults
 
 -- what the making of a fresh log leaves
 pub record HasMade (log after : LogView) (old new : HomeView) (result : Result Mark LogFault) : Type 0 where
-  pub made : OnOk result (IsMade log after)
-  pub mark : IfOk result (λ m. m ≡ record { node = log.node; kind = kind.Header; number = 1 })
-  pub held : OnOk result (IsHeld new after)
-  pub clean : OnOk result (IsClean new log.current.spot)
+  pub answered : IsMakeAnswer log after old new result
   pub told : (f : File) → new.file log.current.spot ≡ Some f → IsMaking f.bytes (header_alone log.node)
   pub current : (c s : File) → new.file log.current.spot ≡ Some c → new.file log.spare.spot ≡ Some s → IsCurrentMade log c.bytes s.bytes result
   pub short : BothWithin new.file log
-  pub faults : IfErr result (IsOfDevice log.current.spot)
   pub rest : RestStays log.current.spot old new
-  pub device : IsErrOf result (Device log.current.spot) → HasFailed log.current.spot old new
-  pub quiet : (IsErrOf result (Device log.current.spot) → ⊥) → new.faults ≡ old.faults
+
+-- where the device failed, the home did at this spot; with any other fault it did not fail
+abbrev pub HasFailedAs : LogFault → HomeView → HomeView → Type 0
+HasFailedAs (Device spot) old new = HasFailed spot old new
+HasFailedAs (Stopped call stable marks) old new = new.faults ≡ old.faults
+HasFailedAs (Bad spot at) old new = new.faults ≡ old.faults
+HasFailedAs (Differs spot at kept read) old new = new.faults ≡ old.faults
+HasFailedAs (Full spot) old new = new.faults ≡ old.faults
+HasFailedAs (InUse spot) old new = new.faults ≡ old.faults
+HasFailedAs Memory old new = new.faults ≡ old.faults
+
+-- The log of a node over its two files as they were read, which the home holds. One that is not resumed is fresh, and no file of it was used.
+pub record IsAttachedOver (node : Node) (resume : Bool) (old new : HomeView) (log : LogView) : Type 0 where
+  pub attached : (a : DiskView) × (b : DiskView) × IsToldAs (spot_of node 0) (old.file (spot_of node 0)) a × IsToldAs (spot_of node 1) (old.file (spot_of node 1)) b × IsAttached node a b log
+  pub unused : resume ≡ false → IsWithin 1 (old.file (spot_of node 0)) × IsWithin 1 (old.file (spot_of node 1))
+  pub fresh : resume ≡ false → IsFresh log
+  pub short : IsWithin most_log_bytes (old.file (spot_of node 0)) × IsWithin most_log_bytes (old.file (spot_of node 1))
+  pub held : IsHeld new log
+
+-- what the attaching of the log of a node answers; the faults stand by their cases in `IsOfAttach`
+abbrev pub IsAttachAnswer : Node → Bool → HomeView → HomeView → Result LogView LogFault → Type 0
+IsAttachAnswer node resume old new (Ok log) = IsAttachedOver node resume old new log × (new.faults ≡ old.faults)
+IsAttachAnswer node resume old new (Err fault) = IsOfAttach node resume (old.file (spot_of node 0)) (old.file (spot_of node 1)) fault × HasFailedAs fault old new
 
 -- what the attaching of the log of a node leaves and gives
 pub record HasAttached (node : Node) (resume : Bool) (old new : HomeView) (result : Result LogView LogFault) : Type 0 where
-  pub attached : IfOk result (λ log. (a : DiskView) × (b : DiskView) × IsToldAs (spot_of node 0) (old.file (spot_of node 0)) a × IsToldAs (spot_of node 1) (old.file (spot_of node 1)) b × IsAttached node a b log)
-  pub unused : resume ≡ false → OnOk result (IsWithin 1 (old.file (spot_of node 0)) × IsWithin 1 (old.file (spot_of node 1)))
-  pub fresh : resume ≡ false → IfOk result IsFresh
-  pub short : OnOk result (IsWithin most_log_bytes (old.file (spot_of node 0)) × IsWithin most_log_bytes (old.file (spot_of node 1)))
-  pub held : IfOk result (IsHeld new)
-  pub faults : IfErr result (IsOfAttach node resume (old.file (spot_of node 0)) (old.file (spot_of node 1)))
+  pub answered : IsAttachAnswer node resume old new result
   pub file_a : new.file (spot_of node 0) ≡ old.file (spot_of node 0)
   pub file_b : new.file (spot_of node 1) ≡ old.file (spot_of node 1)
   pub rest : OtherNodesStay node old new
-  pub device : (spot : Spot) → IsErrOf result (Device spot) → HasFailed spot old new
-  pub quiet : ((spot : Spot) → IsErrOf result (Device spot) → ⊥) → new.faults ≡ old.faults
+
+-- what the reading again of both files of a log answers; the faults stand by their cases in `IsOfReattach`
+abbrev pub IsReattachAnswer : {H : Type 0} → (H → Spot → ℕ → List ℕ → Type 0) → (H → HomeView) → LogView → H → H → Result (Unit {0}) LogFault → Type 0
+IsReattachAnswer gives seen log old new (Ok it) = AreReread gives seen log old new × ((seen new).faults ≡ (seen old).faults)
+IsReattachAnswer gives seen log old new (Err fault) = IsOfReattach gives seen log old fault × HasFailedAs fault (seen old) (seen new)
 
 -- what the reading again of both files of a log leaves
 pub record HasReattached {H : Type 0} (gives : H → Spot → ℕ → List ℕ → Type 0) (seen : H → HomeView) (log : LogView) (old new : H) (result : Result (Unit {0}) LogFault) : Type 0 where
+  pub answered : IsReattachAnswer gives seen log old new result
   pub current : (seen new).file log.current.spot ≡ (seen old).file log.current.spot
   pub spare : (seen new).file log.spare.spot ≡ (seen old).file log.spare.spot
   pub held : IsHeld (seen new) log
-  pub faults : IfErr result (IsOfReattach gives seen log old)
-  pub same : OnOk result (AreReread gives seen log old new)
   pub rest : OtherNodesStay log.node (seen old) (seen new)
-  pub device : (spot : Spot) → IsErrOf result (Device spot) → HasFailed spot (seen old) (seen new)
-  pub quiet : ((spot : Spot) → IsErrOf result (Device spot) → ⊥) → (seen new).faults ≡ (seen old).faults

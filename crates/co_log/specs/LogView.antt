@@ -5,12 +5,12 @@ use Rattle.co_base.specs.declared.node.Node.{Node}
 use Rattle.co_outside.specs.declared.spot.Spot.{Spot}
 use Rattle.co_outside.specs.Home.{HomeView, Agrees}
 use Rattle.co_disk.specs.DiskModel.{read_of}
-use Rattle.co_frame.specs.LogText.{most_log_bytes}
+use Rattle.co_base.specs.Limits.{most_log_bytes}
 use Rattle.co_disk.specs.DiskView.{DiskView}
 use Rattle.co_record.specs.declared.record.Record.{Record}
 use Rattle.co_record.specs.declared.record.Record.TheVariants as log
 use Rattle.co_record.specs.Format.{IsVersion}
-use Rattle.co_log.specs.declared.stop.Stop.{Stop}
+use Rattle.co_base.specs.declared.leaves.Stop.{Stop}
 use Rattle.co_log.specs.LogFile.{EndsIn}
 
 -- Its node; the version of its current file, which is the newest for a fresh log; the disks of its current file and of the spare one; the place of the first gate of the current

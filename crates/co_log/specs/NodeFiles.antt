@@ -3,7 +3,8 @@ use Rattle.std.specs.Prelude.{ℕ, ◌≡◌, ◌⊎◌, List, [], reverse, Opti
 use Rattle.co_base.specs.declared.node.Node.{Node}
 use Rattle.co_outside.specs.declared.spot.Spot.{Spot}
 use Rattle.co_outside.specs.Home.{File}
-use Rattle.co_frame.specs.LogText.{IsLogText, most_log_bytes}
+use Rattle.co_base.specs.Limits.{most_log_bytes}
+use Rattle.co_frame.specs.LogText.{IsLogText}
 use Rattle.co_record.specs.declared.record.Record.{Record}
 use Rattle.co_log.specs.Attaching.{IsWithin}
 use Rattle.co_log.specs.Current.{IsCurrentOf}

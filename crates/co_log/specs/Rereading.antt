@@ -1,5 +1,6 @@
 -- Why a file was not read again.
-use Rattle.std.specs.Prelude.{ℕ, ◌≡◌, ◌⊎◌, List, Option}
+use Rattle.std.specs.Prelude.{◌+◌, ℕ, ◌≡◌, ◌⊎◌, List, Option}
+use Rattle.co_base.specs.Limits.{most_log_bytes}
 use Rattle.co_outside.specs.Home.{File, HomeView, RestStays}
 use Rattle.co_outside.specs.declared.spot.Spot.{Spot}
 use Rattle.co_disk.specs.DiskModel.{read_of}
@@ -23,19 +24,19 @@ IsOfReread gives file disk Memory = Unit {0}
 -- The file of the current disk was read, and then that of the spare was not.
 pub record IsSpareUnread {H : Type 0} (gives : H → Spot → ℕ → List ℕ → Type 0) (seen : H → HomeView) (log : LogView) (old : H) (e : LogFault) : Type 0 where
   pub between : H
-  pub current : gives old log.current.spot 268435457 (read_of log.current.state)
+  pub current : gives old log.current.spot (most_log_bytes + 1) (read_of log.current.state)
   pub first : RestStays log.current.spot (seen old) (seen between)
-  pub fault : IsOfReread (gives between log.spare.spot 268435457) ((seen old).file log.spare.spot) log.spare e
+  pub fault : IsOfReread (gives between log.spare.spot (most_log_bytes + 1)) ((seen old).file log.spare.spot) log.spare e
 
 -- why a log was not read again
 abbrev pub IsOfReattach : {H : Type 0} → (H → Spot → ℕ → List ℕ → Type 0) → (H → HomeView) → LogView → H → LogFault → Type 0
 IsOfReattach gives seen log old e =
-    IsOfReread (gives old log.current.spot 268435457) ((seen old).file log.current.spot) log.current e ⊎ IsSpareUnread gives seen log old e
+    IsOfReread (gives old log.current.spot (most_log_bytes + 1)) ((seen old).file log.current.spot) log.current e ⊎ IsSpareUnread gives seen log old e
 
 -- Both files were read, one after the other, and each gave what the log keeps of it.
 pub record AreReread {H : Type 0} (gives : H → Spot → ℕ → List ℕ → Type 0) (seen : H → HomeView) (log : LogView) (old new : H) : Type 0 where
   pub between : H
-  pub current : gives old log.current.spot 268435457 (read_of log.current.state)
+  pub current : gives old log.current.spot (most_log_bytes + 1) (read_of log.current.state)
   pub first : RestStays log.current.spot (seen old) (seen between)
-  pub spare : gives between log.spare.spot 268435457 (read_of log.spare.state)
+  pub spare : gives between log.spare.spot (most_log_bytes + 1) (read_of log.spare.state)
   pub second : RestStays log.spare.spot (seen between) (seen new)

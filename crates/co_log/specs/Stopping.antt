@@ -5,7 +5,7 @@ use Rattle.co_disk.specs.DiskModel.{DiskState}
 use Rattle.co_disk.specs.DiskView.{DiskView}
 use Rattle.co_disk.specs.Stops.{IsLeft}
 use Rattle.co_base.specs.declared.leaves.Leaves.{Leaves}
-use Rattle.co_log.specs.declared.stop.Stop.{Stop}
+use Rattle.co_base.specs.declared.leaves.Stop.{Stop}
 
 -- one of so many device calls was the armed one; its image is left, and nothing is armed
 pub record IsStoppedWithin (calls : ℕ) (armed : Option Armed) (call : ℕ) (before : DiskState) (after : DiskView) : Type 0 where

@@ -1,6 +1,7 @@
 //! Records as they are appended to a file: in one batch, in one log write.
 ghost use Rattle.std.specs.Prelude.{◌≡◌, ◌⊎◌, ◌≤◌, ◌<◌, ◌+◌, ◌++◌, ◌∷◌, [], ℕ, List, length, OnOk, OnErr, IfOk, IfErr, IfSome, IsErrOf, Some, None, slice_get, if◌then◌else◌};
 ghost use Rattle.std.specs.List.{AllByRecursion};
+ghost use Rattle.co_base.specs.Limits.{most_log_bytes};
 ghost use Rattle.co_outside.specs.Home.{File, Agrees, IsClean, RestStays, HasFailed};
 ghost use Rattle.co_disk.specs.DiskModel.{read_of};
 ghost use Rattle.co_record.specs.declared.record.Record.{Record};
@@ -13,10 +14,10 @@ ghost use Rattle.co_log.specs.Fresh.{IsOfDevice};
 ghost use Rattle.co_log.specs.LogFile.{spelled, opened, EndsAt, OldOrBoth};
 
 use crate::fault::LogFault;
-use crate::stop::Stop;
 use crate::writing::write_batch;
+use co_base::{MOST_LOG_BYTES, Stop};
 use co_disk::{Disk, DiskFault};
-use co_frame::{MOST_LOG_BYTES, OPEN_GATE, put_batch};
+use co_frame::{OPEN_GATE, put_batch};
 use co_outside::{Home, Spot};
 use co_record::{LentPrepare, Record, put_prepare, put_record};
 use std::alloc::{AllocError, Global};
@@ -111,7 +112,7 @@ pub(crate) fn batch_of(
     ensures faults { IfErr result (λ e. (e ≡ LogFault.Full spot) ⊎ (e ≡ LogFault.Memory)) }
 {
     let records = spell(alloc, front, lent, back)?;
-    if gate as usize + 6 + records.len() > MOST_LOG_BYTES {
+    if gate as usize + 6 + records.len() > MOST_LOG_BYTES as usize {
         return Err(LogFault::Full { spot });
     }
     let mut batch = Vec::new(alloc);
@@ -144,7 +145,7 @@ pub(crate) fn lay<H: Home>(
     ensures told { (items : List Record) (kept : List (ℕ × Record)) → IsBatchAt gate items batch.now → EndsAt disk.old.state.stable gate kept → OnErr result ((f : File) → (H.seen home.new).file disk.old.spot ≡ Some f → OldOrBoth f.bytes gate kept items) }
     ensures memory { (kept : List (ℕ × Record)) → EndsAt disk.old.state.stable gate kept → IsErrOf result LogFault.Memory → (f : File) → (H.seen home.new).file disk.old.spot ≡ Some f → EndsAt f.bytes gate kept }
     ensures read { IsShort disk.new }
-    ensures within { IsWithin 268435456 ((H.seen home.new).file disk.old.spot) }
+    ensures within { IsWithin most_log_bytes ((H.seen home.new).file disk.old.spot) }
     ensures faults { IfErr result (IsOfDevice disk.old.spot) }
     ensures rest { RestStays disk.old.spot (H.seen home.old) (H.seen home.new) }
     ensures device { IsErrOf result (LogFault.Device disk.old.spot) → HasFailed disk.old.spot (H.seen home.old) (H.seen home.new) }
@@ -200,11 +201,11 @@ pub(crate) fn append<H: Home>(
     ensures full { IsErrOf result (LogFault.Full disk.old.spot) → IsTooLong gate (front.now ++ (lent.now ++ back.now)) }
     ensures too_long { IsTooLong gate (front.now ++ (lent.now ++ back.now)) → IsErrOf result (LogFault.Full disk.old.spot) ⊎ IsErrOf result LogFault.Memory }
     ensures untouched { IsTooLong gate (front.now ++ (lent.now ++ back.now)) → (disk.new ≡ disk.old) × (stop.new ≡ stop.old) × (home.new ≡ home.old) }
-    ensures short { OnOk result (gate + 6 + length (spelled (front.now ++ (lent.now ++ back.now))) ≤ 268435456) }
+    ensures short { OnOk result (gate + 6 + length (spelled (front.now ++ (lent.now ++ back.now))) ≤ most_log_bytes) }
     ensures told { (kept : List (ℕ × Record)) → EndsAt disk.old.state.stable gate kept → OnErr result ((f : File) → (H.seen home.new).file disk.old.spot ≡ Some f → OldOrBoth f.bytes gate kept (front.now ++ (lent.now ++ back.now))) }
     ensures memory { (kept : List (ℕ × Record)) → EndsAt disk.old.state.stable gate kept → IsErrOf result LogFault.Memory → (f : File) → (H.seen home.new).file disk.old.spot ≡ Some f → EndsAt f.bytes gate kept }
     ensures read { IsShort disk.new }
-    ensures within { IsWithin 268435456 ((H.seen home.new).file disk.old.spot) }
+    ensures within { IsWithin most_log_bytes ((H.seen home.new).file disk.old.spot) }
     ensures faults { IfErr result (IsOfAppend disk.old.spot) }
     ensures rest { RestStays disk.old.spot (H.seen home.old) (H.seen home.new) }
     ensures device { IsErrOf result (LogFault.Device disk.old.spot) → HasFailed disk.old.spot (H.seen home.old) (H.seen home.new) }

@@ -1,5 +1,6 @@
 //! Logs that are attached: both files are read, and the current one is chosen.
-ghost use Rattle.std.specs.Prelude.{◌≡◌, ◌≢◌, ◌≤◌, ◌<◌, [], ℕ, List, length, OnOk, OnErr, IfOk, IfErr, IfSome, IfNone, IsErrOf, None, Some, true, false, nat_lt};
+ghost use Rattle.std.specs.Prelude.{◌+◌, ◌≡◌, ◌≢◌, ◌≤◌, ◌<◌, [], ℕ, List, length, OnOk, OnErr, IfOk, IfErr, IfSome, IfNone, IsErrOf, None, Some, true, false, nat_lt};
+ghost use Rattle.co_base.specs.Limits.{most_log_bytes};
 ghost use Rattle.co_base.specs.Nodes.{IsValidNode, node_byte};
 ghost use Rattle.co_outside.specs.declared.spot.Spot.{Spot};
 ghost use Rattle.co_disk.specs.DiskModel.{read_of};
@@ -23,11 +24,11 @@ fn open_file<H: Home>(alloc: Global, home: &mut H, spot: Spot) -> Result<Option<
     ensures spot { IfOk result (λ o. IfSome o (λ d. d.spot ≡ spot)) }
     ensures still { IfOk result (λ o. IfSome o (λ d. d.state.pending ≡ [])) }
     ensures agrees { IfOk result (λ o. IfSome o (λ d. Agrees (H.seen home.new) spot (read_of d.state))) }
-    ensures long { IfOk result (λ o. IfNone o ((bytes : List ℕ) × H.gives home.old spot 268435457 bytes × (268435456 < length bytes))) }
-    ensures told_long { IfOk result (λ o. IfNone o (IsLonger 268435456 ((H.seen home.old).file spot))) }
+    ensures long { IfOk result (λ o. IfNone o ((bytes : List ℕ) × H.gives home.old spot (most_log_bytes + 1) bytes × (most_log_bytes < length bytes))) }
+    ensures told_long { IfOk result (λ o. IfNone o (IsLonger most_log_bytes ((H.seen home.old).file spot))) }
     ensures told { IfOk result (λ o. IfSome o (λ d. IsToldAs spot ((H.seen home.old).file spot) d)) }
     ensures short { IfOk result (λ o. IfSome o IsShort) }
-    ensures told_short { IfOk result (λ o. IfSome o (λ d. IsWithin 268435456 ((H.seen home.old).file spot))) }
+    ensures told_short { IfOk result (λ o. IfSome o (λ d. IsWithin most_log_bytes ((H.seen home.old).file spot))) }
     ensures file { (H.seen home.new).file spot ≡ (H.seen home.old).file spot }
     ensures rest { RestStays spot (H.seen home.old) (H.seen home.new) }
     ensures faults { IfErr result (IsOfDevice spot) }
@@ -186,7 +187,7 @@ impl Log {
             × IsToldAs (spot_of node 1) ((H.seen home.old).file (spot_of node 1)) b × IsAttached node a b log) }
         ensures unused { resume ≡ false → OnOk result (IsWithin 1 ((H.seen home.old).file (spot_of node 0)) × IsWithin 1 ((H.seen home.old).file (spot_of node 1))) }
         ensures fresh { resume ≡ false → IfOk result IsFresh }
-        ensures short { OnOk result (IsWithin 268435456 ((H.seen home.old).file (spot_of node 0)) × IsWithin 268435456 ((H.seen home.old).file (spot_of node 1))) }
+        ensures short { OnOk result (IsWithin most_log_bytes ((H.seen home.old).file (spot_of node 0)) × IsWithin most_log_bytes ((H.seen home.old).file (spot_of node 1))) }
         ensures held { IfOk result (λ log. IsHeld (H.seen home.new) log) }
         ensures faults { IfErr result (IsOfAttach node resume ((H.seen home.old).file (spot_of node 0)) ((H.seen home.old).file (spot_of node 1))) }
         ensures file_a { (H.seen home.new).file (spot_of node 0) ≡ (H.seen home.old).file (spot_of node 0) }

@@ -1,6 +1,7 @@
 //! Lists that are too long for their records.
 ghost use Rattle.std.specs.Prelude.{◌≡◌, ◌<◌, true, false, length};
 ghost use Rattle.std.specs.List.{AllByRecursion};
+ghost use Rattle.co_base.specs.Limits.{most_log_bytes};
 ghost use Rattle.co_record.specs.Format.{newest};
 ghost use Rattle.co_record.specs.Spelling.{IsWritable, spelling};
 ghost use Rattle.co_log.specs.LogFile.{spelled};
@@ -13,7 +14,7 @@ use co_record::Record;
 fn is_counted(item: &Record) -> bool
     requires { IsFillable item.now }
     ensures yes { result ≡ true → IsWritable item.now }
-    ensures no { result ≡ false → 268435456 < length (spelling newest item.now) }
+    ensures no { result ≡ false → most_log_bytes < length (spelling newest item.now) }
 {
     match item {
         Record::Checkpoint {
@@ -37,7 +38,7 @@ fn is_counted(item: &Record) -> bool
 pub(crate) fn are_counted(items: &[Record]) -> bool
     requires { AllByRecursion IsFillable items.now }
     ensures yes { result ≡ true → AllByRecursion IsWritable items.now }
-    ensures no { result ≡ false → 268435456 < length (spelled items.now) }
+    ensures no { result ≡ false → most_log_bytes < length (spelled items.now) }
 {
     for item in items {
         if !is_counted(item) {

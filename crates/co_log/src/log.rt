@@ -9,8 +9,7 @@ ghost use Rattle.co_record.specs.Spelling.{IsWritable};
 ghost use Rattle.co_record.specs.Stored.{HasRecords, HasLeft};
 
 use crate::fault::LogFault;
-use crate::stop::Stop;
-use co_base::{Leaves, Marks, Node};
+use co_base::{Leaves, Marks, Node, Stop};
 use co_disk::Disk;
 use co_frame::begins_closed;
 use co_outside::{Home, Spot};

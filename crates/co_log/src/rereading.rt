@@ -1,5 +1,6 @@
 //! Crashes between events, and logs that are read again.
-ghost use Rattle.std.specs.Prelude.{◌≡◌, ◌≢◌, ◌≤◌, [], None, OnOk, IfErr, IsErrOf, IsOk};
+ghost use Rattle.std.specs.Prelude.{◌+◌, ◌≡◌, ◌≢◌, ◌≤◌, [], None, OnOk, IfErr, IsErrOf, IsOk};
+ghost use Rattle.co_base.specs.Limits.{most_log_bytes};
 ghost use Rattle.co_outside.specs.declared.spot.Spot.{Spot};
 ghost use Rattle.co_disk.specs.DiskModel.{read_of};
 ghost use Rattle.co_outside.specs.Home.{Agrees, RestStays, HasFailed};
@@ -16,11 +17,11 @@ fn reread<H: Home>(disk: &mut Disk, home: &mut H) -> Result<(), LogFault>
     ensures disk { disk.new ≡ disk.old }
     ensures file { (H.seen home.new).file disk.old.spot ≡ (H.seen home.old).file disk.old.spot }
     ensures agrees { Agrees (H.seen home.new) disk.old.spot (read_of disk.new.state) }
-    ensures same { OnOk result (H.gives home.old disk.old.spot 268435457 (read_of disk.old.state)) }
+    ensures same { OnOk result (H.gives home.old disk.old.spot (most_log_bytes + 1) (read_of disk.old.state)) }
     ensures rest { RestStays disk.old.spot (H.seen home.old) (H.seen home.new) }
     ensures device { IsErrOf result (LogFault.Device disk.old.spot) → HasFailed disk.old.spot (H.seen home.old) (H.seen home.new) }
     ensures quiet { (IsErrOf result (LogFault.Device disk.old.spot) → ⊥) → (H.seen home.new).faults ≡ (H.seen home.old).faults }
-    ensures faults { IfErr result (IsOfReread (H.gives home.old disk.old.spot 268435457) ((H.seen home.old).file disk.old.spot) disk.old) }
+    ensures faults { IfErr result (IsOfReread (H.gives home.old disk.old.spot (most_log_bytes + 1)) ((H.seen home.old).file disk.old.spot) disk.old) }
 {
     let spot = disk.spot();
     match disk.reread(home) {
@@ -51,7 +52,7 @@ impl Log {
     /// `Device` where the home failed, and only there; `Memory` where there was none.
     pub fn reattach<H: Home>(&mut self, home: &mut H) -> Result<(), LogFault>
         requires held { IsHeld (H.seen home.old) self.old }
-        ensures reattached { HasReattached H.gives H.seen self.old home.old home.new result }
+        ensures called { HasReattached H.gives H.seen self.old home.old home.new result }
         ensures log { self.new ≡ self.old }
     {
         self.reread_both(home)

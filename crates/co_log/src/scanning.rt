@@ -1,6 +1,7 @@
 //! Files of a log, read at the start.
 ghost use Rattle.std.specs.Prelude.{◌≡◌, ◌≤◌, ◌<◌, ◌+◌, ◌∷◌, ◌++◌, [], ℕ, List, length, OnOk, IfOk, IfErr, IfSome, IfNone, None, Some};
-ghost use Rattle.co_frame.specs.LogText.{most_log_bytes, IsLogText, IsBrokenAt};
+ghost use Rattle.co_base.specs.Limits.{most_log_bytes};
+ghost use Rattle.co_frame.specs.LogText.{IsLogText, IsBrokenAt};
 ghost use Rattle.co_record.specs.declared.record.Record.TheVariants.{Header};
 ghost use Rattle.co_record.specs.Format.{IsVersion};
 ghost use Rattle.co_record.specs.Lent.{record_of};

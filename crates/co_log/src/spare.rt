@@ -17,7 +17,7 @@ use co_outside::Home;
 use co_record::{NEWEST_VERSION, Record};
 
 impl Log {
-    ghost use Rattle.co_log.specs.Calls.{HasFilled};
+    ghost use Rattle.co_log.specs.Calls.{MayFill, HasFilled};
     ghost use Rattle.co_outside.specs.Home.{IsClean, RestStays, HasFailed};
     ghost use Rattle.co_frame.specs.Gate.{begins_closed};
     ghost use Rattle.co_log.specs.Forcing.{IsDone, IsOfForce};
@@ -39,11 +39,7 @@ impl Log {
     /// `Device` where the home failed, and only there; `Memory` before or in the first device call, and the spare has
     /// no batch then. Both files are within 268,435,456 bytes after every answer.
     pub fn fill_spare<H: Home>(&mut self, home: &mut H, items: &[Record]) -> Result<Mark, LogFault>
-        requires held { IsHeld (H.seen home.old) self.old }
-        requires live { (items : List (ℕ × Record)) × IsLive self.old items }
-        requires node { IsValidNode self.old.node }
-        requires still { self.old.spare.state.pending ≡ [] }
-        requires closed { begins_closed self.old.spare.state.stable ≡ true }
+        requires ready { MayFill (H.seen home.old) self.old }
         requires fillable { AllByRecursion IsFillable items.now }
         ensures called { HasFilled self.old self.new items.now (H.seen home.old) (H.seen home.new) result }
         ensures untouched { IsOverfull self.old items.now → (self.new ≡ self.old) × (home.new ≡ home.old) }

@@ -2,16 +2,8 @@
 ghost use Rattle.std.specs.Prelude.{◌≡◌, ◌≤◌, IfSome, option_map};
 ghost use Rattle.co_disk.specs.Stops.{armed_for};
 
-use co_base::Leaves;
+use co_base::Stop;
 use co_disk::Disk;
-
-/// The device call of the next log write at which it stops, counted from 1, and the image that is
-/// left then.
-#[derive(Drop)]
-pub(crate) struct Stop {
-    pub(crate) call: u8,
-    pub(crate) leaves: Leaves,
-}
 
 /// Arms the stop of a log write, where there is one.
 pub(crate) fn arm_for(disk: &mut Disk, stop: Option<Stop>)

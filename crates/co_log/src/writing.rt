@@ -1,5 +1,6 @@
 //! Log writes on one disk.
 ghost use Rattle.std.specs.Prelude.{◌≡◌, ◌≤◌, ◌<◌, ◌+◌, [], ◌∷◌, ℕ, List, length, OnOk, OnErr, IfErr, IfSome, IsErrOf, None, Some, ◌⊎◌};
+ghost use Rattle.co_base.specs.Limits.{most_log_bytes};
 ghost use Rattle.co_disk.specs.DiskModel.{read_of, after_write, after_sync, IsImage};
 ghost use Rattle.co_outside.specs.Home.{File, Agrees, IsClean, RestStays, HasFailed};
 ghost use Rattle.co_disk.specs.Faults.{IsOfWrite};
@@ -8,7 +9,8 @@ ghost use Rattle.co_log.specs.BatchWrite.{batch_pending, gate_pending, disk_at, 
 ghost use Rattle.co_log.specs.LogView.{IsShort};
 ghost use Rattle.co_log.specs.Stopping.{IsStoppedWithin, HasPassed, after_calls, IsWriteStopped};
 
-use crate::stop::{Stop, arm_for};
+use crate::stop::arm_for;
+use co_base::Stop;
 use co_disk::{Disk, DiskFault};
 use co_frame::OPEN_GATE;
 use co_outside::Home;
@@ -23,7 +25,7 @@ pub(crate) fn write_through<H: Home>(
     requires agrees { Agrees (H.seen home.old) disk.old.spot (read_of disk.old.state) }
     requires stable { disk.old.state.pending ≡ [] }
     requires at { at ≤ length disk.old.state.stable }
-    requires end { at + length piece.now ≤ 268435456 }
+    requires end { at + length piece.now ≤ most_log_bytes }
     ensures spot { disk.new.spot ≡ disk.old.spot }
     ensures done { OnOk result (disk.new.state ≡ after_sync (after_write disk.old.state at piece.now)) }
     ensures passed { OnOk result (HasPassed 2 disk.old.armed) }
@@ -58,7 +60,7 @@ pub(crate) fn write_batch<H: Home>(
     requires stable { disk.old.state.pending ≡ [] }
     requires stop { IfSome stop (λ s. (1 ≤ s.call) × (s.call ≤ 4)) }
     requires gate { gate < length disk.old.state.stable }
-    requires end { gate + 1 + length batch.now ≤ 268435456 }
+    requires end { gate + 1 + length batch.now ≤ most_log_bytes }
     ensures spot { disk.new.spot ≡ disk.old.spot }
     ensures done { OnOk result (disk.new.state ≡ disk_after disk.old.state.stable gate batch.now) }
     ensures passed { OnOk result (stop ≡ None) }

@@ -6,7 +6,7 @@ use Rattle.co_outside.specs.declared.spot.Spot.{Spot}
 use Rattle.co_disk.specs.DiskModel.{read_of}
 use Rattle.co_record.specs.declared.record.Record.{Record}
 use Rattle.co_record.specs.Stored.{HasRecords}
-use Rattle.co_log.specs.declared.stop.Stop.{Stop}
+use Rattle.co_base.specs.declared.leaves.Stop.{Stop}
 use Rattle.co_log.specs.Current.{IsReady}
 use Rattle.co_log.specs.LogView.{LogView}
 use Rattle.co_log.proofs.Versions.{begun_records}

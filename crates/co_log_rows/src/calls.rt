@@ -6,12 +6,13 @@ ghost use Rattle.co_log_rows.specs.Ready.{IsReadyIn};
 
 use crate::failing::put_fault;
 use crate::found::put_marks;
-use crate::logs::{arm, await_abort, await_end, close, cut, fill, force};
+use crate::logs::{close, fill};
 use crate::making::{filling, record};
 use crate::words::{bytes_of, number_of, word};
 use co_base::{BaseFault, Bytes, Leaves, Marks, Txn};
 use co_log::{Log, LogFault};
 use co_outside::HomeMemory;
+use co_record::Record;
 use std::alloc::{AllocError, Global};
 
 /// Whether a call did its work, or was stopped.
@@ -61,7 +62,7 @@ pub(crate) fn call_force(
     ensures { IfOk result (λ goes. goes ≡ true → IsReadyIn home.new log.new) }
 {
     let item = record(alloc, words)?;
-    let answer = force(log, home, item);
+    let answer = log.force(home, item);
     put_forced(alloc, &answer, out)?;
     Ok(is_done(&answer))
 }
@@ -111,7 +112,7 @@ pub(crate) fn call_cut(
     requires { IsReadyIn home.old log.old }
     ensures { IfOk result (λ goes. goes ≡ true → IsReadyIn home.new log.new) }
 {
-    let answer = cut(log, home);
+    let answer = log.cut(home);
     put_answer(alloc, &answer, out)?;
     Ok(true)
 }
@@ -138,7 +139,9 @@ pub(crate) fn call_reread(
 pub(crate) fn call_wait(log: &mut Log, words: &[u8]) -> Result<(), BaseFault>
     ensures { (home : HomeMemory) → IsReadyIn home log.old → IsReadyIn home log.new }
 {
-    await_abort(log, Txn(number_of(words)))?;
+    log.later(Record::Abort {
+        txn: Txn(number_of(words)),
+    })?;
     Ok(())
 }
 
@@ -146,7 +149,9 @@ pub(crate) fn call_wait(log: &mut Log, words: &[u8]) -> Result<(), BaseFault>
 pub(crate) fn call_end(log: &mut Log, words: &[u8]) -> Result<(), BaseFault>
     ensures { (home : HomeMemory) → IsReadyIn home log.old → IsReadyIn home log.new }
 {
-    await_end(log, Txn(number_of(words)))?;
+    log.later(Record::End {
+        txn: Txn(number_of(words)),
+    })?;
     Ok(())
 }
 
@@ -180,6 +185,6 @@ pub(crate) fn call_arm(alloc: Global, log: &mut Log, words: &[u8]) -> Result<(),
 {
     let (call, image) = word(words);
     let leaves = leaves_of(alloc, image)?;
-    arm(log, device_call(call), leaves);
+    log.arm(device_call(call), leaves);
     Ok(())
 }

@@ -1,14 +1,12 @@
 //! Logs over a home in memory, and their calls.
-ghost use Rattle.std.specs.Prelude.{◌≡◌, ◌≤◌, IfOk, true};
+ghost use Rattle.std.specs.Prelude.{IfOk};
 ghost use Rattle.co_base.specs.Nodes.{IsValidNode};
 ghost use Rattle.co_outside.specs.declared.home_memory.HomeMemory.{HomeMemory};
-ghost use Rattle.co_record.specs.Spelling.{IsWritable};
 ghost use Rattle.co_log.specs.Forcing.{IsDone};
-ghost use Rattle.co_log.specs.LogView.{IsForcible};
 ghost use Rattle.co_log.specs.Spare.{IsFillable};
 ghost use Rattle.co_log_rows.specs.Ready.{IsReadyIn};
 
-use co_base::{Leaves, Mark, Marks, Node, Txn};
+use co_base::{Mark, Node};
 use co_log::{Log, LogFault};
 use co_outside::{HomeMemory, Spot};
 use co_record::{NEWEST_VERSION, Record};
@@ -48,48 +46,6 @@ pub(crate) fn opened(
         return Ok(log);
     }
     Err(LogFault::InUse { spot: log.spot() })
-}
-
-/// Keeps an abort record waiting.
-pub(crate) fn await_abort(log: &mut Log, txn: Txn) -> Result<(), AllocError>
-    ensures { (home : HomeMemory) → IsReadyIn home log.old → IsReadyIn home log.new }
-{
-    log.later(Record::Abort { txn })?;
-    Ok(())
-}
-
-/// Keeps an end record waiting.
-pub(crate) fn await_end(log: &mut Log, txn: Txn) -> Result<(), AllocError>
-    ensures { (home : HomeMemory) → IsReadyIn home log.old → IsReadyIn home log.new }
-{
-    log.later(Record::End { txn })?;
-    Ok(())
-}
-
-/// Arms a stop.
-pub(crate) fn arm(log: &mut Log, call: u8, leaves: Leaves)
-    requires { (1 ≤ call) × (call ≤ 4) }
-    ensures { (home : HomeMemory) → IsReadyIn home log.old → IsReadyIn home log.new }
-{
-    log.arm(call, leaves);
-}
-
-/// Crashes between two events.
-pub(crate) fn cut(log: &mut Log, home: &mut HomeMemory) -> Result<(), LogFault>
-    requires { IsReadyIn home.old log.old }
-    ensures { IsReadyIn home.new log.new }
-{
-    log.cut(home)
-}
-
-/// Forces a record.
-pub(crate) fn force(log: &mut Log, home: &mut HomeMemory, item: Record) -> Result<Marks, LogFault>
-    requires ready { IsReadyIn home.old log.old }
-    requires writable { IsWritable item }
-    requires forcible { IsForcible item }
-    ensures { IsDone result → IsReadyIn home.new log.new }
-{
-    log.force(home, item)
 }
 
 /// Closes the spare where it is not closed.

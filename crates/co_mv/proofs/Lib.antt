@@ -1,4 +1,3 @@
-mod Ranging
 mod Rows
 mod Outcomes
 mod Versioning
@@ -7,8 +6,6 @@ mod Stamping
 mod Chaining
 mod Archiving
 mod Forgetting
-mod Pairing
-mod Growing
 mod Least
 mod Visible
 mod Overwriting

@@ -22,7 +22,7 @@ use Rattle.co_mv.specs.Recents.{has_key}
 use Rattle.co_mv.specs.Versions.{last_change, base_versions, closed, written_over, versions_of, written_since}
 use Rattle.co_mv.proofs.Archiving.{has-keys}
 use Rattle.co_mv.proofs.Chaining.{same_keys}
-use Rattle.co_mv.proofs.Growing.{reads_key-put}
+use Rattle.co_index.proofs.Putting.{reads_key-put}
 use Rattle.co_mv.proofs.Visible.{key-below, find-within, sorted-within, first, second}
 use Rattle.co_mv.proofs.Versioning.{true_le, lt_true, true_lt, lt_false, and_first, and_second, and-false, key_symm, writes-change, IsLink, Linked, linked, written_bound}
 

@@ -19,6 +19,7 @@ use Rattle.co_state.specs.declared.engine_state.Install.{Install}
 use Rattle.co_state.specs.declared.engine_state.Operation.{Operation}
 use Rattle.co_state.specs.declared.engine_state.Sets.{Sets}
 use Rattle.co_state.specs.declared.engine_state.Vote.{Vote}
+use Rattle.co_state.specs.declared.pair.Pair.{Pair}
 use Rattle.co_state.specs.Changes.{sets_of, span_read}
 use Rattle.co_state.specs.Conflicts.{AreNewPairs}
 use Rattle.co_state.specs.Effects.{with_operation, after_cast, after_install, after_drop, install_vote, restored, dumped_rows}
@@ -34,9 +35,12 @@ use Rattle.co_mv.specs.declared.archive.Archive.{Archive}
 use Rattle.co_mv.specs.declared.mv_engine.MvEngine.{MvEngine}
 use Rattle.co_mv.specs.declared.version.Version.{Version}
 use Rattle.co_mv.specs.Chains.{chain_of, chain_in}
-use Rattle.co_mv.specs.Kept.{needed, or_now, stamp_of, entered, left, grown, IsNeeded, Keeps, AreStamped, active_sets, voted_sets, IsKept, StandsFor, visible_within, prepared_sets}
-use Rattle.co_index.specs.Touching.{IsIndexed}
-use Rattle.co_index.specs.NewPairs.{or_nothing, grown_by, pairs_made}
+use Rattle.co_mv.specs.Kept.{needed, or_now, stamp_of, entered, left, grown, IsNeeded, Keeps, AreStamped, active_sets, voted_sets, IsKept, StandsFor, visible_within}
+use Rattle.co_index.specs.NewPairs.{or_nothing, grown_by, sets_among, AreNew}
+use Rattle.co_index.specs.Undecided.{IsWhole, grown_at, prepared_sets}
+use Rattle.co_index.proofs.Finding.{ties}
+use Rattle.co_index.proofs.Growing.{new_pairs}
+use Rattle.co_index.proofs.Mapped.{mapped, table-mapped}
 use Rattle.co_mv.specs.Overwritten.{written_within}
 use Rattle.co_mv.specs.Reading.{all_noted}
 use Rattle.co_mv.specs.Recents.{has_key}
@@ -45,8 +49,6 @@ use Rattle.co_mv.proofs.Archiving.{stamp_needed}
 use Rattle.co_mv.proofs.Least.{least_same}
 use Rattle.co_mv.proofs.Needing.{tied, kept_for_all, not_kept, sees_open}
 use Rattle.co_mv.proofs.Overwriting.{has-stale, has-within, since-versions, since-kept}
-use Rattle.co_mv.proofs.Growing.{made_alike}
-use Rattle.co_mv.proofs.Pairing.{Grows, made_exactly, made_once, ties}
 use Rattle.co_mv.proofs.Visible.{noted_records, within_at, laid_at, reply_same}
 use Rattle.co_mv.proofs.Versioning.{IsLink, linked, seen_kept, seen_at, written_bound, lt_true, and_first, and_second}
 
@@ -104,8 +106,8 @@ nothing_kept : IsKept None None None None
 nothing_kept = record { stamps_are = tt; sets_are = refl; votes_are = refl }
 
 -- ---- reading a state
-pub sets_alike : (e : MvEngine) (b : EngineState) (t : ℕ) → StandsFor e b → sets_at b t ≡ or_nothing (look e.sets t)
-sets_alike e b t s = sets_kept (look e.archive.snapshots.stamps t) (look e.sets t) (look b.active t) (look b.voted t) (s.each t)
+pub sets_alike : (e : MvEngine) (b : EngineState) (t : ℕ) → StandsFor e b → sets_at b t ≡ or_nothing (look e.undecided.sets t)
+sets_alike e b t s = sets_kept (look e.archive.snapshots.stamps t) (look e.undecided.sets t) (look b.active t) (look b.voted t) (s.each t)
 
 none_held : {X : Type 0} (o : Option X) (rest : Bool) → IsTrue (not (is_some o) && rest) → o ≡ None
 none_held None rest h = refl
@@ -114,7 +116,7 @@ none_held (Some x) rest h = absurd (true≢false (sym h))
 not_voted : (b : EngineState) (t : ℕ) → IsTrue (may_operate b t) → look b.voted t ≡ None
 not_voted b t h = none_held (look b.voted t) (not (is_installed b.installed t)) h
 
-own_sets : (e : MvEngine) (b : EngineState) (t : ℕ) → StandsFor e b → look b.voted t ≡ None → sets_of (operations_of b t) ≡ or_nothing (look e.sets t)
+own_sets : (e : MvEngine) (b : EngineState) (t : ℕ) → StandsFor e b → look b.voted t ≡ None → sets_of (operations_of b t) ≡ or_nothing (look e.undecided.sets t)
 own_sets e b t s none = ap (λ v. sets_in v (operations_of b t)) (sym none) ∙ sets_alike e b t s
 
 stamp_alike : (e : MvEngine) (b : EngineState) (t : ℕ) → StandsFor e b → stamp_of e.archive.snapshots t ≡ snapshot_of b t
@@ -132,7 +134,7 @@ seen_alike a base is n q k h = sym
 pub reply_alike : (e : MvEngine) (b : EngineState) (t : ℕ) (op : Op) (span : Span) → StandsFor e b → IsTrue (may_operate b t) → span_read op ≡ Some span → reply_to (visible_within e t span) op ≡ operation_reply b t op
 reply_alike e b t op span s h is =
     let n = stamp_of e.archive.snapshots t in
-    let own = (or_nothing (look e.sets t)).writes in
+    let own = (or_nothing (look e.undecided.sets t)).writes in
     let past = records_at b.base b.installed n in
     reply_same op span (visible_within e t span) (with_changes past own) is
     (laid_at span own (all_noted n empty (filter (λ x. span_has span x.0) (entries e.archive.chains))) past
@@ -176,9 +178,9 @@ voted_none n x os None k = refl
 voted_none n x os (Some v) k = absurd (let f : Some v.sets ≡ None = k.votes_are in cc)
 
 pub stale_alike : (e : MvEngine) (b : EngineState) (t : ℕ) → StandsFor e b → IsTrue (holds b.active t)
-    → least_key (written_within (stamp_of e.archive.snapshots t) (entries e.archive.chains) (or_nothing (look e.sets t)).reads) ≡ stale_key b t
+    → least_key (written_within (stamp_of e.archive.snapshots t) (entries e.archive.chains) (or_nothing (look e.undecided.sets t)).reads) ≡ stale_key b t
 stale_alike e b t s h = least_same _ _ (λ k.
-    has-within n (entries e.archive.chains) (or_nothing (look e.sets t)).reads k (entries_sorted e.archive.chains)
+    has-within n (entries e.archive.chains) (or_nothing (look e.undecided.sets t)).reads k (entries_sorted e.archive.chains)
     ∙ (λ i. reads_key (sym own i).reads k && (ap (λ o. written_since n (chain_in o)) (sym (get-entries e.archive.chains k)) ∙ since k) i)
     ∙ sym (has-stale b.installed n (operations_of b t) k (all_stamped (look e.archive.snapshots.stamps t) e.archive.snapshots.installs (look b.active t) (s.each t).stamps_are)))
   where
@@ -189,9 +191,9 @@ stale_alike e b t s h = least_same _ _ (λ k.
     at = active_stamp (look e.archive.snapshots.stamps t) (look b.active t) (s.each t).stamps_are h
 
     none : look b.voted t ≡ None
-    none = voted_none at.0 (look e.sets t) (look b.active t) (look b.voted t) (kept_along at.1 refl refl refl (s.each t))
+    none = voted_none at.0 (look e.undecided.sets t) (look b.active t) (look b.voted t) (kept_along at.1 refl refl refl (s.each t))
 
-    own : sets_of (operations_of b t) ≡ or_nothing (look e.sets t)
+    own : sets_of (operations_of b t) ≡ or_nothing (look e.undecided.sets t)
     own = own_sets e b t s none
 
     since : (k : List ℕ) → written_since (stamp_of e.archive.snapshots t) (chain_of e.archive.chains k) ≡ has_key (keys_since b.installed (stamp_of e.archive.snapshots t)) k
@@ -200,26 +202,6 @@ stale_alike e b t s h = least_same _ _ (λ k.
         ap (λ m. written_since m (chain_of e.archive.chains k)) x ∙ since_alike e.archive b.base b.installed t at.0 k s.keeps at.1 ∙ ap (λ m. has_key (keys_since b.installed m) k) (sym x)
 
 -- ---- the needed numbers
-abbrev pub mapped : {X Y : Type 0} → (X → Y) → List (ℕ × X) → List (ℕ × Y)
-mapped f [] = []
-mapped f (e ∷ es) = (e.0, f e.1) ∷ mapped f es
-
-below-mapped : {X Y : Type 0} (f : X → Y) (k : ℕ) (es : List (ℕ × X)) → below_all nat_cmp k (mapped f es) ≡ below_all nat_cmp k es
-below-mapped f k [] = refl
-below-mapped f k (e ∷ es) = ap (λ b. is_lt (nat_cmp k e.0) && b) (below-mapped f k es)
-
-sorted-mapped : {X Y : Type 0} (f : X → Y) (es : List (ℕ × X)) → is_sorted nat_cmp (mapped f es) ≡ is_sorted nat_cmp es
-sorted-mapped f [] = refl
-sorted-mapped f (e ∷ es) = (λ i. below-mapped f e.0 es i && sorted-mapped f es i)
-
-map-cond : {X Y : Type 0} (f : X → Y) (b : Bool) (x : X) (o : Option X) (p : Option Y) → p ≡ option_map f o → cond b (Some (f x)) p ≡ option_map f (cond b (Some x) o)
-map-cond f true x o p e = refl
-map-cond f false x o p e = e
-
-find-mapped : {X Y : Type 0} (f : X → Y) (q : ℕ) (es : List (ℕ × X)) → find nat_cmp q (mapped f es) ≡ option_map f (find nat_cmp q es)
-find-mapped f q [] = refl
-find-mapped f q (e ∷ es) = map-cond f (eq_by_cmp nat_cmp q e.0) e.1 (find nat_cmp q es) (find nat_cmp q (mapped f es)) (find-mapped f q es)
-
 seconds : {X : Type 0} (f : X → ℕ) (es : List (ℕ × X)) → map (λ e. e.1) (mapped f es) ≡ map (λ e. f e.1) es
 seconds f [] = refl
 seconds f (e ∷ es) = ap (λ ns. f e.1 ∷ ns) (seconds f es)
@@ -229,10 +211,7 @@ needed_alike e b s =
     let now = length b.installed in
     let f = first_stamp now in
     let same : entries e.archive.snapshots.stamps ≡ mapped f (entries b.active) =
-    same_entries nat_cmp nat_cmp_total nat_cmp-IsAntisymmetric (entries e.archive.snapshots.stamps) (mapped f (entries b.active)) (entries_sorted e.archive.snapshots.stamps)
-    (subst T (sym (sorted-mapped f (entries b.active))) (entries_sorted b.active))
-    (λ q. sym (get-entries e.archive.snapshots.stamps q) ∙ first_kept (look e.archive.snapshots.stamps q) now (look b.active q) (s.each q).stamps_are
-    ∙ ap (option_map f) (get-entries b.active q) ∙ sym (find-mapped f q (entries b.active))) in
+    table-mapped f e.archive.snapshots.stamps b.active (λ q. first_kept (look e.archive.snapshots.stamps q) now (look b.active q) (s.each q).stamps_are) in
     (λ i. s.keeps.installs_are i ∷ (ap (map (λ e. e.1)) same ∙ seconds f (entries b.active)) i)
 
 pub versions_alike : (e : MvEngine) (b : EngineState) (key : List ℕ) → StandsFor e b → reverse (chain_of e.archive.chains key) ≡ kept_versions b key
@@ -240,7 +219,7 @@ versions_alike e b key s = ap reverse (s.keeps.chains_are key ∙ ap (λ ns. fil
 
 -- ---- one operation more
 pub stands_with : (e e' : MvEngine) (b : EngineState) (t : ℕ) (op : Op) → StandsFor e b → IsTrue (may_operate b t) → e'.archive.snapshots ≡ entered e.archive.snapshots t → Keeps e'.archive b.base b.installed
-    → e'.sets ≡ put (without e.sets t) t (grown_by op (or_nothing (look e.sets t))) → IsIndexed e'.index e'.sets → StandsFor e' (with_operation b t op)
+    → e'.undecided.sets ≡ grown_at e.undecided.sets t op → IsWhole e'.undecided → StandsFor e' (with_operation b t op)
 stands_with e e' b t op s h es k sets ix =
     let none = not_voted b t h in
     let st = stamp_of e.archive.snapshots t in
@@ -249,7 +228,7 @@ stands_with e e' b t op s h es k sets ix =
       keeps = k;
       each = λ u.
           kept_along (sym (ap (λ x. look x.stamps u) es ∙ look-put e.archive.snapshots.stamps t st u))
-          (sym (ap (λ m. look m u) (sets ∙ put-without e.sets t (grown_by op (or_nothing (look e.sets t)))) ∙ look-put e.sets t (grown_by op (or_nothing (look e.sets t))) u))
+          (sym (ap (λ m. look m u) (sets ∙ put-without e.undecided.sets t (grown_by op (or_nothing (look e.undecided.sets t)))) ∙ look-put e.undecided.sets t (grown_by op (or_nothing (look e.undecided.sets t))) u))
           (sym (look-put b.active t (record { op = op; stamp = snapshot_of b t } ∷ operations_of b t) u)) (cond-same (eq_by_cmp nat_cmp u t) (look b.voted u))
           (kept_cond (eq_by_cmp nat_cmp u t)
           (λ y. record {
@@ -259,36 +238,14 @@ stands_with e e' b t op s h es k sets ix =
             votes_are = ap (option_map (λ v. v.sets)) (ap (look b.voted) (tied u t y) ∙ none);
           })
           (λ n. s.each u));
-      indexed = ix;
+      whole = ix;
     }
 
-apart_tie : (t u : ℕ) → (t == u) ≡ false → eq_by_cmp nat_cmp u t ≡ false
-apart_tie t u e = ties u t ∙ e
-
-itself : (t : ℕ) → eq_by_cmp nat_cmp t t ≡ true
-itself t = ties t t ∙ eq-eqb t t refl
-
 -- and exactly the new pairs
-pub pairs_alike : (e e' : MvEngine) (b : EngineState) (t : ℕ) (op : Op) → StandsFor e b → IsTrue (may_operate b t) → StandsFor e' (with_operation b t op)
-    → e'.sets ≡ put (without e.sets t) t (grown_by op (or_nothing (look e.sets t)))
-    → AreNewPairs b (with_operation b t op) (pairs_made (entries (without e.sets t)) t (or_nothing (look e.sets t)) op)
-pairs_alike e e' b t op s h next sets =
-    let rest = without e.sets t in
-    let own = or_nothing (look e.sets t) in
-    let new = grown_by op own in
-    let found : (u : ℕ) → (t == u) ≡ false → look e.sets u ≡ find nat_cmp u (entries rest) =
-    λ u f. sym (look-without e.sets t u ∙ ap (λ c. cond c None (look e.sets u)) (apart_tie t u f)) ∙ get-entries rest u in
-    let now : (u : ℕ) → look e'.sets u ≡ cond (eq_by_cmp nat_cmp u t) (Some new) (look e.sets u) =
-    λ u. ap (λ m. look m u) (sets ∙ put-without e.sets t new) ∙ look-put e.sets t new u in
-    let g : Grows (entries rest) t own new (sets_at b) (sets_at (with_operation b t op)) = record {
-      sorted = entries_sorted rest;
-      absent = sym (get-entries rest t) ∙ look-without e.sets t t ∙ ap (λ c. cond c None (look e.sets t)) (itself t);
-      was = sets_alike e b t s;
-      becomes = sets_alike e' (with_operation b t op) t next ∙ ap or_nothing (now t ∙ ap (λ c. cond c (Some new) (look e.sets t)) (itself t));
-      others_were = λ u f. sets_alike e b u s ∙ ap or_nothing (found u f);
-      others_are = λ u f. sets_alike e' (with_operation b t op) u next ∙ ap or_nothing (now u ∙ ap (λ c. cond c (Some new) (look e.sets u)) (apart_tie t u f) ∙ found u f);
-    } in
-    subst (AreNewPairs b (with_operation b t op)) (sym (made_alike (entries rest) t own op)) (record { exactly = made_exactly g; once = made_once g })
+pub pairs_alike : (e e' : MvEngine) (b : EngineState) (t : ℕ) (op : Op) (pairs : List Pair) → StandsFor e b → StandsFor e' (with_operation b t op) → e'.undecided.sets ≡ grown_at e.undecided.sets t op
+    → AreNew (sets_among e.undecided.sets) (sets_among (grown_at e.undecided.sets t op)) pairs → AreNewPairs b (with_operation b t op) pairs
+pairs_alike e e' b t op pairs s next sets new =
+    new_pairs b (with_operation b t op) e.undecided.sets (grown_at e.undecided.sets t op) pairs (λ u. sets_alike e b u s) (λ u. sets_alike e' (with_operation b t op) u next ∙ ap (λ m. sets_among m u) sets) new
 
 -- nobody is blocked
 pub not_blocked : (e : MvEngine) (b : EngineState) (t : ℕ) (op : Op) → StandsFor e b → None ≡ lock_blocker b t op
@@ -305,27 +262,27 @@ cast_one None x (Some os) vote coord count k h = absurd k.stamps_are
 cast_one (Some n) x (Some os) vote coord count k h = record { stamps_are = tt; sets_are = refl; votes_are = k.sets_are }
 
 pub stands_cast : (e e' : MvEngine) (b : EngineState) (t coord count : ℕ) → StandsFor e b → IsTrue (holds b.active t) → e'.archive.snapshots ≡ left e.archive.snapshots t → Keeps e'.archive b.base b.installed
-    → e'.sets ≡ e.sets → IsIndexed e'.index e'.sets → StandsFor e' (after_cast b t coord count)
+    → e'.undecided.sets ≡ e.undecided.sets → IsWhole e'.undecided → StandsFor e' (after_cast b t coord count)
 stands_cast e e' b t coord count s h es k sets ix = record {
   kind_is = s.kind_is;
   keeps = k;
   each = λ u.
-      kept_along (sym (left_each e e' t es u)) (cond-same (eq_by_cmp nat_cmp u t) (look e.sets u) ∙ ap (λ m. look m u) (sym sets)) (sym (look-without b.active t u)) (sym (look-put b.voted t _ u))
+      kept_along (sym (left_each e e' t es u)) (cond-same (eq_by_cmp nat_cmp u t) (look e.undecided.sets u) ∙ ap (λ m. look m u) (sym sets)) (sym (look-without b.active t u)) (sym (look-put b.voted t _ u))
       (kept_cond (eq_by_cmp nat_cmp u t)
-      (λ y. kept_along refl (ap (look e.sets) (sym (tied u t y))) refl refl (cast_one (look e.archive.snapshots.stamps t) (look e.sets t) (look b.active t) (look b.voted t) coord count (s.each t) h))
+      (λ y. kept_along refl (ap (look e.undecided.sets) (sym (tied u t y))) refl refl (cast_one (look e.archive.snapshots.stamps t) (look e.undecided.sets t) (look b.active t) (look b.voted t) coord count (s.each t) h))
       (λ n. s.each u));
-  indexed = ix;
+  whole = ix;
 }
 
 pub stands_drop : (e e' : MvEngine) (b : EngineState) (t : ℕ) → StandsFor e b → e'.archive.snapshots ≡ left e.archive.snapshots t → Keeps e'.archive b.base b.installed
-    → e'.sets ≡ without e.sets t → IsIndexed e'.index e'.sets → StandsFor e' (after_drop b t)
+    → e'.undecided.sets ≡ without e.undecided.sets t → IsWhole e'.undecided → StandsFor e' (after_drop b t)
 stands_drop e e' b t s es k sets ix = record {
   kind_is = s.kind_is;
   keeps = k;
   each = λ u.
-      kept_along (sym (left_each e e' t es u)) (sym (ap (λ m. look m u) sets ∙ look-without e.sets t u)) (sym (look-without b.active t u)) (sym (look-without b.voted t u))
+      kept_along (sym (left_each e e' t es u)) (sym (ap (λ m. look m u) sets ∙ look-without e.undecided.sets t u)) (sym (look-without b.active t u)) (sym (look-without b.voted t u))
       (kept_cond (eq_by_cmp nat_cmp u t) (λ y. nothing_kept) (λ n. s.each u));
-  indexed = ix;
+  whole = ix;
 }
 
 voted_stamp : (st : Option ℕ) (x : Option Sets) (os : Option (List Operation)) (vote : Vote) → IsKept st x os (Some vote) → st ≡ None
@@ -336,28 +293,28 @@ voted_active : (x : Option Sets) (os : Option (List Operation)) (vote : Option V
 voted_active x None vote k = refl
 voted_active x (Some os) vote k = absurd k.stamps_are
 
-install_at : (e e' : MvEngine) (b : EngineState) (t : ℕ) (own : Sets) (o : Option Vote) → StandsFor e b → is_some o ≡ true → look b.voted t ≡ o → look e.sets t ≡ Some own
-    → e'.archive.snapshots ≡ grown e.archive.snapshots → Keeps e'.archive b.base (record { txn = t; writes = own.writes } ∷ b.installed) → e'.sets ≡ without e.sets t → IsIndexed e'.index e'.sets → StandsFor e' (install_vote b t o)
+install_at : (e e' : MvEngine) (b : EngineState) (t : ℕ) (own : Sets) (o : Option Vote) → StandsFor e b → is_some o ≡ true → look b.voted t ≡ o → look e.undecided.sets t ≡ Some own
+    → e'.archive.snapshots ≡ grown e.archive.snapshots → Keeps e'.archive b.base (record { txn = t; writes = own.writes } ∷ b.installed) → e'.undecided.sets ≡ without e.undecided.sets t → IsWhole e'.undecided → StandsFor e' (install_vote b t o)
 install_at e e' b t own None s h f is es k sets ix = absurd (true≢false (sym h))
 install_at e e' b t own (Some vote) s h f is es k sets ix =
-    let kt : IsKept (look e.archive.snapshots.stamps t) (look e.sets t) (look b.active t) (Some vote) = kept_along refl refl refl f (s.each t) in
-    let no_stamp : look e.archive.snapshots.stamps t ≡ None = voted_stamp (look e.archive.snapshots.stamps t) (look e.sets t) (look b.active t) vote kt in
+    let kt : IsKept (look e.archive.snapshots.stamps t) (look e.undecided.sets t) (look b.active t) (Some vote) = kept_along refl refl refl f (s.each t) in
+    let no_stamp : look e.archive.snapshots.stamps t ≡ None = voted_stamp (look e.archive.snapshots.stamps t) (look e.undecided.sets t) (look b.active t) vote kt in
     let kn : IsKept None (Some own) (look b.active t) (Some vote) = kept_along no_stamp is refl refl kt in
     let same : vote.sets ≡ own = (let g : Some vote.sets ≡ Some own = kn.votes_are in cc) in
     record {
       kind_is = s.kind_is;
       keeps = subst (λ x. Keeps e'.archive b.base (record { txn = t; writes = x.writes } ∷ b.installed)) (sym same) k;
       each = λ u.
-          kept_along (cond-same (eq_by_cmp nat_cmp u t) (look e.archive.snapshots.stamps u) ∙ ap (λ x. look x.stamps u) (sym es)) (sym (ap (λ m. look m u) sets ∙ look-without e.sets t u))
+          kept_along (cond-same (eq_by_cmp nat_cmp u t) (look e.archive.snapshots.stamps u) ∙ ap (λ x. look x.stamps u) (sym es)) (sym (ap (λ m. look m u) sets ∙ look-without e.undecided.sets t u))
           (cond-same (eq_by_cmp nat_cmp u t) (look b.active u)) (sym (look-without b.voted t u))
           (kept_cond (eq_by_cmp nat_cmp u t)
           (λ y. kept_along (sym (ap (look e.archive.snapshots.stamps) (tied u t y) ∙ no_stamp)) refl (sym (ap (look b.active) (tied u t y) ∙ voted_active (Some own) (look b.active t) (Some vote) kn)) refl nothing_kept)
           (λ n. s.each u));
-      indexed = ix;
+      whole = ix;
     }
 
-pub stands_install : (e e' : MvEngine) (b : EngineState) (t : ℕ) (own : Sets) → StandsFor e b → IsTrue (holds b.voted t) → look e.sets t ≡ Some own
-    → e'.archive.snapshots ≡ grown e.archive.snapshots → Keeps e'.archive b.base (record { txn = t; writes = own.writes } ∷ b.installed) → e'.sets ≡ without e.sets t → IsIndexed e'.index e'.sets → StandsFor e' (after_install b t)
+pub stands_install : (e e' : MvEngine) (b : EngineState) (t : ℕ) (own : Sets) → StandsFor e b → IsTrue (holds b.voted t) → look e.undecided.sets t ≡ Some own
+    → e'.archive.snapshots ≡ grown e.archive.snapshots → Keeps e'.archive b.base (record { txn = t; writes = own.writes } ∷ b.installed) → e'.undecided.sets ≡ without e.undecided.sets t → IsWhole e'.undecided → StandsFor e' (after_install b t)
 stands_install e e' b t own s h is es k sets ix = install_at e e' b t own (look b.voted t) s h refl is es k sets ix
 
 absent_vote : (st : Option ℕ) (os : Option (List Operation)) (vote : Option Vote) → IsKept st None os vote → is_some vote ≡ false
@@ -365,7 +322,7 @@ absent_vote st os None k = refl
 absent_vote None os (Some vote) k = absurd (let f : Some vote.sets ≡ None = k.votes_are in cc)
 absent_vote (Some n) os (Some vote) k = absurd (let f : Some vote.sets ≡ None = k.votes_are in cc)
 
-pub install_absent : (e : MvEngine) (b : EngineState) (t : ℕ) {A : Type 0} → StandsFor e b → IsTrue (holds b.voted t) → look e.sets t ≡ None → A
+pub install_absent : (e : MvEngine) (b : EngineState) (t : ℕ) {A : Type 0} → StandsFor e b → IsTrue (holds b.voted t) → look e.undecided.sets t ≡ None → A
 install_absent e b t s h is = absurd (true≢false (sym h ∙ absent_vote (look e.archive.snapshots.stamps t) (look b.active t) (look b.voted t) (kept_along refl is refl refl (s.each t))))
 
 absent_active : (st : Option ℕ) (os : Option (List Operation)) (vote : Option Vote) → IsKept st None os vote → is_some os ≡ false
@@ -373,7 +330,7 @@ absent_active st None vote k = refl
 absent_active None (Some os) vote k = absurd k.stamps_are
 absent_active (Some n) (Some os) vote k = absurd (let f : Some (sets_of os) ≡ None = k.sets_are in cc)
 
-pub stale_absent : (e : MvEngine) (b : EngineState) (t : ℕ) {A : Type 0} → StandsFor e b → IsTrue (holds b.active t) → look e.sets t ≡ None → A
+pub stale_absent : (e : MvEngine) (b : EngineState) (t : ℕ) {A : Type 0} → StandsFor e b → IsTrue (holds b.active t) → look e.undecided.sets t ≡ None → A
 stale_absent e b t s h is = absurd (true≢false (sym h ∙ absent_active (look e.archive.snapshots.stamps t) (look b.active t) (look b.voted t) (kept_along refl is refl refl (s.each t))))
 
 -- ---- the start
@@ -388,11 +345,11 @@ prepared_at (p ∷ ps) u =
     by true k = kept_along refl refl (sym (get-empty nat_cmp u)) refl (record { stamps_are = tt; sets_are = refl; votes_are = refl })
     by false k = k
 
-pub stands_restored : (e : MvEngine) (kind : Kind) (records : Records) (ps : List Prepared) → Mv ≡ kind → Keeps e.archive records [] → e.archive.snapshots.stamps ≡ no_entries → e.sets ≡ prepared_sets ps → IsIndexed e.index e.sets
+pub stands_restored : (e : MvEngine) (kind : Kind) (records : Records) (ps : List Prepared) → Mv ≡ kind → Keeps e.archive records [] → e.archive.snapshots.stamps ≡ no_entries → e.undecided.sets ≡ prepared_sets ps → IsWhole e.undecided
     → StandsFor e (restored kind records (votes_of ps))
 stands_restored e kind records ps is k none sets ix = record {
   kind_is = is;
   keeps = k;
   each = λ u. kept_along (sym (ap (λ m. look m u) none ∙ get-empty nat_cmp u)) (ap (λ m. look m u) (sym sets)) refl refl (prepared_at ps u);
-  indexed = ix;
+  whole = ix;
 }

@@ -10,11 +10,10 @@ use Rattle.co_mv.specs.declared.mv_engine.MvEngine.{MvEngine}
 use Rattle.co_mv.specs.declared.version.Version.{Version}
 use Rattle.co_mv.specs.Chains.{Chains, chain_of}
 use Rattle.co_index.specs.NewPairs.{or_nothing}
-use Rattle.co_index.specs.Touching.{IsIndexed, gone_from}
+use Rattle.co_index.specs.Undecided.{IsWhole}
 use Rattle.co_mv.specs.Reading.{all_noted, laid_within}
 use Rattle.co_mv.specs.Recents.{Recents, keys_at, has_key}
 use Rattle.co_base.specs.Span.{Span, span_has}
-use Rattle.co_pairs.specs.declared.prepared.Prepared.{Prepared}
 use Rattle.co_mv.specs.Versions.{is_kept, versions_of}
 use Rattle.co_serial.specs.Records.{Records}
 use Rattle.co_state.specs.declared.engine_state.EngineState.{EngineState}
@@ -24,7 +23,7 @@ use Rattle.co_state.specs.declared.engine_state.Sets.{Sets}
 use Rattle.co_state.specs.declared.engine_state.Vote.{Vote}
 use Rattle.co_state.specs.Changes.{sets_of}
 use Rattle.co_state.specs.Keys.{writes_key}
-use Rattle.co_state.specs.Table.{Table, no_entries, look, put, without}
+use Rattle.co_state.specs.Table.{look, put, without}
 
 -- the numbers of installs that active transactions read at
 abbrev pub stamps : Snapshots → List ℕ
@@ -121,19 +120,10 @@ pub record IsKept (stamp : Option ℕ) (sets : Option Sets) (os : Option (List O
 pub record StandsFor (e : MvEngine) (b : EngineState) : Type 0 where
   pub kind_is : Mv ≡ b.kind
   pub keeps : Keeps e.archive b.base b.installed
-  pub each : (t : ℕ) → IsKept (look e.archive.snapshots.stamps t) (look e.sets t) (look b.active t) (look b.voted t)
-  pub indexed : IsIndexed e.index e.sets
-
--- what a transaction read and wrote is taken out
-abbrev pub without_own : MvEngine → ℕ → MvEngine
-without_own e t = record e { sets = without e.sets t; index = gone_from e.index t (look e.sets t) }
+  pub each : (t : ℕ) → IsKept (look e.archive.snapshots.stamps t) (look e.undecided.sets t) (look b.active t) (look b.voted t)
+  pub whole : IsWhole e.undecided
 
 -- the records of a range that the next operation of a transaction sees
 abbrev pub visible_within : MvEngine → ℕ → Span → Records
 visible_within e t span =
-    laid_within span (all_noted (stamp_of e.archive.snapshots t) empty (filter (λ x. span_has span x.0) (entries e.archive.chains))) (or_nothing (look e.sets t)).writes
-
--- what prepared transactions read and wrote
-abbrev pub prepared_sets : List Prepared → Table Sets
-prepared_sets [] = no_entries
-prepared_sets (p ∷ ps) = put (prepared_sets ps) p.txn p.sets
+    laid_within span (all_noted (stamp_of e.archive.snapshots t) empty (filter (λ x. span_has span x.0) (entries e.archive.chains))) (or_nothing (look e.undecided.sets t)).writes

@@ -1,25 +1,23 @@
 //! The engine.
 ghost use Rattle.std.specs.Prelude.{◌≡◌, ◌<◌, length, map, reverse, slice_get, Some, IsTrue, IfOk, OnOk, OnErr, option_copied};
 ghost use Rattle.co_base.specs.declared.head.Kind.TheVariants.{Mv};
-ghost use Rattle.co_engine.specs.Calls.{may_operate, seen_of, writing, Appends, AppendsNewPairs};
+ghost use Rattle.co_engine.specs.Calls.{may_operate, seen_of, Appends, AppendsNewPairs};
 ghost use Rattle.co_mv.specs.Chains.{chain_of};
-ghost use Rattle.co_mv.specs.Kept.{StandsFor, visible_within, prepared_sets, without_own};
-ghost use Rattle.co_index.specs.NewPairs.{or_nothing, grown_by};
+ghost use Rattle.co_mv.specs.Kept.{StandsFor, visible_within};
 ghost use Rattle.co_mv.specs.Versions.{kept_versions};
 ghost use Rattle.co_state.specs.declared.engine_state.EngineState.{EngineState};
 ghost use Rattle.co_state.specs.Effects.{after_operation, with_operation};
 ghost use Rattle.co_state.specs.Conflicts.{AreNewPairs};
 ghost use Rattle.co_state.specs.ReadRule.{operation_reply};
-ghost use Rattle.co_state.specs.Table.{look, without};
 
 use crate::archive::Archive;
 use crate::reading::{all_records, lay_within, records_within};
 use crate::stale::least_written;
-use co_base::{Key, Kind, Op, Range, Ranges, Reply, Rows, Txn, Value, Writes};
-use co_engine::{Dump, Engine, Seen};
-use co_index::{Index, append, pairs_made};
+use co_base::{Key, Kind, Op, Range, Reply, Rows, Txn, Value, Writes};
+use co_engine::{Dump, Engine, Seen, append, writing};
+use co_index::Undecided;
 use co_pairs::{Pairs, Prepared, Sets};
-use co_state::{RecordMap, Table, change_made, put_change, put_range, range_read};
+use co_state::{RecordMap, range_read};
 use std::alloc::{AllocError, Global};
 
 /// An engine that keeps versions. Each transaction reads the records as they were at its first operation, with
@@ -29,8 +27,7 @@ use std::alloc::{AllocError, Global};
 #[derive(Drop)]
 pub struct MvEngine {
     archive: Archive,
-    sets: Table<Sets>,
-    index: Index,
+    undecided: Undecided,
     nothing: Sets,
 }
 
@@ -39,59 +36,6 @@ pub struct MvEngine {
 struct Operated {
     seen: Seen,
     pairs: Pairs,
-}
-
-/// What a transaction read and wrote, with one operation more.
-fn grown(sets: Sets, op: &Op) -> Result<Sets, AllocError>
-    ensures { IfOk result (λ grown. grown ≡ grown_by op.now sets) }
-{
-    let mut reads = sets.reads.into_vec();
-    let mut writes = sets.writes.into_vec();
-    if let Some(range) = range_read(op)? {
-        put_range(&mut reads, range)?;
-    }
-    if let Some(change) = change_made(op)? {
-        put_change(&mut writes, change)?;
-    }
-    Ok(Sets {
-        reads: Ranges::of(reads),
-        writes: Writes::of(writes),
-    })
-}
-
-/// Takes what a transaction read and wrote out of a table; nothing where it is absent.
-fn take(alloc: Global, sets: &mut Table<Sets>, t: Txn) -> Sets
-    ensures value { result ≡ or_nothing (look sets.old t) }
-    ensures rest { sets.new ≡ without sets.old t }
-{
-    match sets.remove(t) {
-        Some(own) => own,
-        None => Sets::new(alloc),
-    }
-}
-
-/// What the prepared transactions read and wrote.
-fn prepared_sets(alloc: Global, prepared: &[Prepared]) -> Result<Table<Sets>, AllocError>
-    ensures { IfOk result (λ sets. sets ≡ prepared_sets prepared.now) }
-{
-    let mut all = Table::new(alloc);
-    let mut place = prepared.len();
-    while 0 < place {
-        place -= 1;
-        let sets = prepared[place].sets.copy(alloc)?;
-        all.insert(prepared[place].txn, sets)?;
-    }
-    Ok(all)
-}
-
-/// The operation that writes a record, or takes it away where there is no value.
-fn writing(key: &Key, value: Option<&Value>) -> Result<Op, AllocError>
-    ensures { IfOk result (λ op. op ≡ writing key.now (option_copied value.entry)) }
-{
-    match value {
-        Some(value) => Ok(Op::Write(key.copy()?, value.copy()?)),
-        None => Ok(Op::Erase(key.copy()?)),
-    }
 }
 
 impl MvEngine {
@@ -118,7 +62,7 @@ impl MvEngine {
     {
         let stamp = self.archive.snapshots.stamp_of(t);
         let mut records = records_within(alloc, &self.archive.chains, range, stamp)?;
-        if let Some(own) = self.sets.get(t) {
+        if let Some(own) = self.undecided.get(t) {
             lay_within(&mut records, own.writes(), range)?;
         }
         Ok(records)
@@ -142,27 +86,9 @@ impl MvEngine {
         ensures state { (b : EngineState) → StandsFor self.old b → IsTrue (may_operate b t) → OnOk result (StandsFor self.new (with_operation b t op.now)) }
         ensures pairs { (b : EngineState) → StandsFor self.old b → IsTrue (may_operate b t) → IfOk result (AreNewPairs b (with_operation b t op.now)) }
     {
-        let own = take(alloc, &mut self.sets, t);
-        let pairs = pairs_made(alloc, &self.index, &self.sets, t, &own, op)?;
-        self.index.note(alloc, op, t)?;
-        let sets = grown(own, op)?;
+        let pairs = self.undecided.add(alloc, t, op)?;
         self.archive.enter(alloc, t)?;
-        self.sets.insert(t, sets)?;
         Ok(pairs)
-    }
-
-    /// Takes out what a transaction read and wrote. Takes no memory.
-    fn take_out(&mut self, t: Txn) -> Option<Sets>
-        ensures value { result ≡ look self.old.sets t }
-        ensures rest { self.new ≡ without_own self.old t }
-    {
-        match self.sets.remove(t) {
-            Some(sets) => {
-                self.index.forget(&sets, t);
-                Some(sets)
-            }
-            None => None,
-        }
     }
 
     /// Does an operation.
@@ -210,11 +136,9 @@ impl Engine for MvEngine {
         voted: &[Prepared],
     ) -> Result<Self, AllocError> {
         let _ = kind;
-        let sets = prepared_sets(alloc, voted)?;
         Ok(MvEngine {
             archive: Archive::of_rows(alloc, rows)?,
-            index: Index::of_sets(alloc, &sets)?,
-            sets,
+            undecided: Undecided::of_prepared(alloc, voted)?,
             nothing: Sets::new(alloc),
         })
     }
@@ -254,14 +178,14 @@ impl Engine for MvEngine {
     }
 
     fn sets(&self, t: Txn) -> &Sets {
-        match self.sets.get(t) {
+        match self.undecided.get(t) {
             Some(sets) => sets,
             None => &self.nothing,
         }
     }
 
     fn stale(&self, t: Txn) -> Option<&Key> {
-        match self.sets.get(t) {
+        match self.undecided.get(t) {
             Some(own) => least_written(
                 &self.archive.chains,
                 own.reads(),
@@ -276,7 +200,7 @@ impl Engine for MvEngine {
     }
 
     fn install(&mut self, alloc: Global, t: Txn) -> Result<(), AllocError> {
-        match self.take_out(t) {
+        match self.undecided.take(t) {
             Some(sets) => self.archive.install(alloc, sets.writes()),
             None => Ok(()),
         }
@@ -284,7 +208,7 @@ impl Engine for MvEngine {
 
     fn drop_txn(&mut self, t: Txn) {
         self.archive.leave(t);
-        let _ = self.take_out(t);
+        let _ = self.undecided.take(t);
     }
 
     fn dump(&self, alloc: Global) -> Result<Dump, AllocError> {

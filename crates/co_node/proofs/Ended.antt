@@ -10,15 +10,14 @@ use Rattle.co_frame.specs.Gate.{batch_is_stable}
 use Rattle.co_log.specs.declared.fault.LogFault.{LogFault}
 use Rattle.co_log.specs.declared.fault.LogFault.TheVariants.{Device, Stopped, Bad, Differs, Full, InUse, Memory}
 use Rattle.co_log.specs.declared.fault.NodeFault.{NodeFault}
-use Rattle.co_log.specs.declared.stop.Stop.{Stop as LogStop}
+use Rattle.co_base.specs.declared.leaves.Stop.{Stop}
 use Rattle.co_log.specs.Forcing.{IsForced}
 use Rattle.co_log.specs.LogView.{LogView}
 use Rattle.co_log.specs.Marks.{marks_of as told_of}
 use Rattle.co_plain.specs.declared.log_state.LogState.{LogState}
-use Rattle.co_plain.specs.declared.log_state.Stop.{Stop}
 use Rattle.co_plain.specs.declared.outcome.Outcome.TheVariants.{Completes, StopsAt}
 use Rattle.co_plain.specs.LogWrite.{outcome_of, with_batch, crashed_log, marks_of}
-use Rattle.co_node.specs.NodeLog.{RepresentsLog, plain_stop}
+use Rattle.co_node.specs.NodeLog.{RepresentsLog}
 use Rattle.co_node.specs.Ended.{IsPassedOn}
 use Rattle.co_node.specs.Writes.{forcing, HasWritten}
 use Rattle.co_node.specs.declared.written.Written.{Written}
@@ -27,19 +26,19 @@ use Rattle.co_node.proofs.Standing.{written_stands}
 
 -- with no armed stop a write completes
 pub unarmed : (owner : Node) (log : LogView) (l : LogState) (calls : ℕ) → RepresentsLog owner log l → log.stop ≡ None → outcome_of l.armed calls ≡ Completes
-unarmed owner log l calls s none = ap (λ (o : Option Stop). outcome_of o calls) (s.armed ∙ ap (option_map plain_stop) none)
+unarmed owner log l calls s none = ap (λ (o : Option Stop). outcome_of o calls) (s.armed ∙ none)
 
 -- an armed stop within the device calls of a write is its outcome
 pub armed_at : (owner : Node) (log : LogView) (l : LogState) (calls call : ℕ) (leaves : Leaves) → RepresentsLog owner log l → log.stop ≡ Some (record { call = call; leaves = leaves }) → nat_le call calls ≡ true
     → outcome_of l.armed calls ≡ StopsAt call leaves
 armed_at owner log l calls call leaves s is within =
-    ap (λ (o : Option Stop). outcome_of o calls) (s.armed ∙ ap (option_map plain_stop) is)
+    ap (λ (o : Option Stop). outcome_of o calls) (s.armed ∙ is)
     ∙ ap (λ (b : Bool). if b then StopsAt call leaves else Completes) within
 
 -- an armed stop is in one of the four device calls
 pub within_four : (owner : Node) (log : LogView) (l : LogState) (call : ℕ) (leaves : Leaves) → RepresentsLog owner log l → log.stop ≡ Some (record { call = call; leaves = leaves }) → nat_le call 4 ≡ true
 within_four owner log l call leaves s is =
-    let bound : call ≤ 4 = subst (λ (o : Option LogStop). IfSome o (λ stop. stop.call ≤ 4)) is s.bound in
+    let bound : call ≤ 4 = subst (λ (o : Option Stop). IfSome o (λ stop. stop.call ≤ 4)) is s.bound in
     grind (arith, bound)
 
 -- what a transcript is told of the waiting records and of these behind them, the oldest first

@@ -5,6 +5,7 @@ use Rattle.co_base.specs.declared.mark.Mark.{Mark}
 use Rattle.co_base.specs.declared.node.Node.{Node}
 use Rattle.co_outside.specs.Home.{HomeView}
 use Rattle.co_record.specs.declared.record.Record.{Record}
+use Rattle.co_log.proofs.Answered.{force_parts}
 use Rattle.co_log.specs.Appending.{IsTooLong}
 use Rattle.co_log.specs.Calls.{HasForced}
 use Rattle.co_log.specs.LogFile.{next_items}
@@ -28,16 +29,17 @@ pub forced_answered : (owner : Node) (log after : LogView) (l : LogState) (more 
     → IsAnswered owner log.current.spot (IsTooLong log.gate (log.waiting ++ more)) l.stable (with_batch l (reverse more)).stable after old new out
 forced_answered owner log after l more long old new fault out s held so back did passed =
     let all = log.waiting ++ more in
+    let parts = force_parts log after old new long more (Err fault) did.answered in
     let both = next_newest owner log l more s in
     let wrote : Wrote {T = List Mark} log after log.current.spot (IsTooLong log.gate all) l.stable (with_batch l (reverse more)).stable old new (Err fault) =
     record {
       spots = held.spots;
       its = inl refl;
-      held = did.held;
-      clean = did.clean;
-      full = λ is. so (did.full is);
+      held = parts.held;
+      clean = parts.clean;
+      full = λ is. so (parts.full is);
       overlong = λ is. (back is).1;
-      too_long = λ is. did.too_long (back is).0;
+      too_long = λ is. parts.refused (back is).0;
       untouched = λ is. (back is).2;
       broken = λ failed told.
           let files = told_of new.file log held.spots told in
@@ -51,8 +53,8 @@ forced_answered owner log after l more long old new fault out s held so back did
           (s.items, old_records new.file log log.version log.generation s.items held.spots did.short files kept, inl (sym s.stable));
       short = did.short;
       rest = did.rest;
-      device = did.device;
-      quiet = did.quiet;
+      device = parts.device;
+      quiet = parts.quiet;
     } in
     subst (λ (n : Node). IsAnswered n log.current.spot (IsTooLong log.gate all) l.stable (with_batch l (reverse more)).stable after old new out) s.owned
-    (fault_answered log after log.current.spot (IsTooLong log.gate all) l.stable (with_batch l (reverse more)).stable old new (List Mark) fault out did.faults wrote passed)
+    (fault_answered log after log.current.spot (IsTooLong log.gate all) l.stable (with_batch l (reverse more)).stable old new (List Mark) fault out parts.faults wrote passed)

@@ -5,7 +5,7 @@ use Rattle.std.specs.Result.{IsErrAnd}
 use Rattle.co_base.specs.declared.node.Node.{Node}
 use Rattle.co_outside.specs.declared.spot.Spot.{Spot}
 use Rattle.co_outside.specs.Home.{File, IsClean, RestStays, HasFailed, HomeView}
-use Rattle.co_frame.specs.LogText.{most_log_bytes}
+use Rattle.co_base.specs.Limits.{most_log_bytes}
 use Rattle.co_record.specs.declared.record.Record.{Record}
 use Rattle.co_log.specs.Attaching.{IsWithin}
 use Rattle.co_log.specs.Current.{IsCurrentOf, IsOldCurrent, IsNewCurrent, IsCurrentForced, IsCurrentAfter}
@@ -14,7 +14,6 @@ use Rattle.co_base.specs.declared.mark.Mark.{Mark}
 use Rattle.co_log.specs.Forcing.{IsDone, IsOfForce}
 use Rattle.co_log.specs.LogView.{LogView, HasSpots, IsHeld, spot_of}
 use Rattle.co_log.specs.NodeFiles.{Items, HasRecordsIn}
-use Rattle.co_log.specs.Spare.{IsOfClosing}
 use Rattle.co_log.specs.Others.{BothWithin, OtherNodesStay}
 use Rattle.co_log.specs.declared.fault.LogFault.{LogFault}
 use Rattle.co_log.specs.declared.fault.LogFault.TheVariants.{Device, Stopped, Bad, Differs, Full, InUse, Memory}
@@ -204,23 +203,6 @@ not_stopped at fault call stable marks is (inr e) = absurd cc
 pub not_failed : {T : Type 0} (at spot : Spot) (fault : LogFault) → IsErrOf {T = T} (Err fault) (Device spot) → (IsErrOf {T = T} (Err fault) (Full at)) ⊎ (IsErrOf {T = T} (Err fault) Memory) → ⊥
 not_failed at spot fault is (inl e) = absurd cc
 not_failed at spot fault is (inr e) = absurd cc
-
-pub not_done : {T : Type 0} (at : Spot) (x : T) → (IsErrOf (Ok x) (Full at)) ⊎ (IsErrOf (Ok x) Memory) → ⊥
-not_done at x (inl e) = absurd cc
-not_done at x (inr e) = absurd cc
-
--- the faults of a closing are some of those of a log write
-pub of_closing : (at : Spot) (e : LogFault) → IsOfClosing at e → IsOfForce at e
-of_closing at (Device spot) of = of
-of_closing at (Stopped call stable marks) of = tt
-of_closing at (Bad spot place) of = absurd of
-of_closing at (Differs spot place kept read) of = absurd of
-of_closing at (Full spot) of = absurd of
-of_closing at (InUse spot) of = absurd of
-of_closing at Memory of = tt
-
-pub never_full : (at : Spot) (e : LogFault) → IsOfClosing at e → IsErrOf {T = Unit {0}} (Err e) (Full at) → ⊥
-never_full at e of is = subst (λ (r : Result (Unit {0}) LogFault). IfErr r (IsOfClosing at)) is of
 
 -- a call on one of its two files leaves all other nodes
 pub others_stay : (log : LogView) (at : Spot) (old new : HomeView) → HasSpots log → (at ≡ log.current.spot) ⊎ (at ≡ log.spare.spot)

@@ -7,7 +7,7 @@ use Rattle.co_base.specs.declared.node.Node.{Node}
 use Rattle.co_disk.specs.DiskModel.{read_of}
 use Rattle.co_disk.specs.DiskView.{DiskView}
 use Rattle.co_outside.specs.Home.{HomeView, Agrees}
-use Rattle.co_frame.specs.LogText.{most_log_bytes}
+use Rattle.co_base.specs.Limits.{most_log_bytes}
 use Rattle.co_record.specs.Format.{newest}
 use Rattle.co_frame.specs.Gate.{begins_closed}
 use Rattle.co_record.specs.declared.record.Record.{Record}
@@ -22,7 +22,7 @@ use Rattle.co_log.proofs.Ordered.{attached_ordered, attached_unarmed, held_curre
 use Rattle.co_plain.specs.Opening.{made, opened_log}
 use Rattle.co_plain.specs.declared.log_state.LogState.{LogState}
 use Rattle.co_node.specs.Answers.{AreTold, AreWithin, LeftAs}
-use Rattle.co_node.specs.NodeLog.{RepresentsLog, plain_stop}
+use Rattle.co_node.specs.NodeLog.{RepresentsLog}
 use Rattle.co_node.proofs.Homes.{both_within, node_within, old_records, told_of}
 use Rattle.co_node.proofs.Standing.{none_armed}
 
@@ -53,7 +53,7 @@ attached_stands owner a b log valid still_a still_b attached latest =
           ordered = some.1;
           stable = made_none owner (newest_first some.0) (has_some log.node log.generation some.0 some.1.header);
           waiting = ap reverse (sym unarmed.1);
-          armed = ap (option_map plain_stop) (sym unarmed.2);
+          armed = sym unarmed.2;
           bound = none_armed unarmed.2;
           spare = refl;
         },
@@ -71,7 +71,7 @@ made_stands owner a b log after valid attached none m =
       ordered = made_ordered log after none (subst IsValidNode (sym unarmed.0) valid) m;
       stable = ap (λ (n : Node). newest_first (header_alone n)) (sym unarmed.0);
       waiting = ap reverse (sym (m.waiting ∙ unarmed.1));
-      armed = ap (option_map plain_stop) (sym (m.stop ∙ unarmed.2));
+      armed = sym (m.stop ∙ unarmed.2);
       bound = none_armed (m.stop ∙ unarmed.2);
       spare = ap (λ (d : DiskView). begins_closed d.state.stable) (sym m.spare);
     }

@@ -9,16 +9,15 @@ use Rattle.co_frame.specs.Gate.{batch_is_stable, closes_spare}
 use Rattle.co_log.specs.declared.fault.LogFault.{LogFault}
 use Rattle.co_log.specs.declared.fault.LogFault.TheVariants.{Device, Stopped, Bad, Differs, Full, InUse, Memory}
 use Rattle.co_log.specs.declared.fault.NodeFault.{NodeFault}
-use Rattle.co_log.specs.declared.stop.Stop.{Stop as LogStop}
+use Rattle.co_base.specs.declared.leaves.Stop.{Stop}
 use Rattle.co_log.specs.LogView.{LogView}
 use Rattle.co_log.specs.Spare.{IsClosing, IsFilling, filling_mark}
 use Rattle.co_log.specs.Stopping.{IsPast}
 use Rattle.co_plain.specs.declared.log_state.LogState.{LogState}
-use Rattle.co_plain.specs.declared.log_state.Stop.{Stop}
 use Rattle.co_plain.specs.declared.outcome.Outcome.TheVariants.{Completes, StopsAt}
 use Rattle.co_plain.specs.LogWrite.{outcome_of, with_filled_spare, crashed_log, checkpoint_marks, generation_of}
 use Rattle.co_plain.specs.Numbers.{next_generation}
-use Rattle.co_node.specs.NodeLog.{RepresentsLog, plain_stop}
+use Rattle.co_node.specs.NodeLog.{RepresentsLog}
 use Rattle.co_node.specs.Ended.{IsPassedOn}
 use Rattle.co_node.specs.Writes.{closing, filling, filled_with, HasWritten}
 use Rattle.co_node.specs.declared.written.Written.{Written}
@@ -27,7 +26,7 @@ use Rattle.co_node.proofs.Standing.{closed_stands, filled_stands, next_is}
 use Rattle.co_node.proofs.Ended.{unarmed, armed_at, within_four}
 
 -- an armed stop behind the device calls of a write passes unused
-past_of : (o : Option LogStop) (calls : ℕ) → IsPast calls o → outcome_of (option_map plain_stop o) calls ≡ Completes
+past_of : (o : Option Stop) (calls : ℕ) → IsPast calls o → outcome_of o calls ≡ Completes
 past_of None calls past = refl
 past_of (Some stop) calls past = ap (λ (b : Bool). if b then StopsAt stop.call stop.leaves else Completes) (let h : nat_le stop.call calls ≡ false = grind (arith, past stop refl) in h)
 

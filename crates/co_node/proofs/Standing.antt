@@ -15,17 +15,17 @@ use Rattle.co_log.specs.LogFile.{records_of, next_items, placed_from}
 use Rattle.co_log.specs.LogView.{LogView}
 use Rattle.co_log.specs.NodeFiles.{Items, newest_first}
 use Rattle.co_log.specs.Spare.{IsClosed, IsFilledIf, filling}
-use Rattle.co_log.specs.declared.stop.Stop.{Stop as LogStop}
+use Rattle.co_base.specs.declared.leaves.Stop.{Stop}
 use Rattle.co_log.proofs.Ordered.{ordered_same, written_ordered, closed_ordered, filled_ordered, unfilled_ordered, next_records, filled_records}
 use Rattle.co_plain.specs.declared.log_state.LogState.{LogState}
 use Rattle.co_plain.specs.LogWrite.{with_batch, with_filled_spare, crashed_log, generation_of, generation_in}
 use Rattle.co_plain.specs.Numbers.{next_generation}
-use Rattle.co_node.specs.NodeLog.{RepresentsLog, plain_stop}
+use Rattle.co_node.specs.NodeLog.{RepresentsLog}
 use Rattle.co_node.specs.Writes.{filled_with}
 
 -- no stop is armed, so none out of bounds
-pub none_armed : {o : Option LogStop} → o ≡ None → IfSome o (λ stop. stop.call ≤ 4)
-none_armed is = subst (λ (o : Option LogStop). IfSome o (λ stop. stop.call ≤ 4)) (sym is) tt
+pub none_armed : {o : Option Stop} → o ≡ None → IfSome o (λ stop. stop.call ≤ 4)
+none_armed is = subst (λ (o : Option Stop). IfSome o (λ stop. stop.call ≤ 4)) (sym is) tt
 
 -- the forced records are the newest, then come the waiting ones, then those before
 onto : (old waiting forced : List Record) → reverse (old ++ (waiting ++ forced)) ≡ reverse forced ++ (reverse waiting ++ reverse old)
@@ -50,7 +50,7 @@ written_stands true owner log after l forced s w =
       ordered = written_ordered true log after s.items more s.ordered w;
       stable = sym (next_newest owner log l forced s);
       waiting = ap reverse (sym w.waiting);
-      armed = ap (option_map plain_stop) (sym w.disarmed);
+      armed = sym w.disarmed;
       bound = none_armed w.disarmed;
       spare = s.spare ∙ ap (λ (d : DiskView). begins_closed d.state.stable) (sym w.spare);
     }
@@ -62,7 +62,7 @@ written_stands false owner log after l forced s w =
       ordered = written_ordered false log after s.items (log.waiting ++ forced) s.ordered w;
       stable = s.stable;
       waiting = ap reverse (sym w.waiting);
-      armed = ap (option_map plain_stop) (sym w.disarmed);
+      armed = sym w.disarmed;
       bound = none_armed w.disarmed;
       spare = s.spare ∙ ap (λ (d : DiskView). begins_closed d.state.stable) (sym w.spare);
     }
@@ -78,7 +78,7 @@ closed_stands closed owner log after l kept s c waiting =
       ordered = closed_ordered closed log after s.items s.ordered c;
       stable = s.stable;
       waiting = sym (reverse-reverse kept) ∙ ap reverse (sym waiting);
-      armed = ap (option_map plain_stop) (sym c.disarmed);
+      armed = sym c.disarmed;
       bound = none_armed c.disarmed;
       spare = sym c.closed_is;
     }
@@ -138,7 +138,7 @@ filled_stands true owner log after l records s next f closed =
       ordered = filled_ordered log after s.items records s.ordered f;
       stable = sym (filled_newest owner log l records s next);
       waiting = ap reverse (sym f.waiting);
-      armed = ap (option_map plain_stop) (sym f.disarmed);
+      armed = sym f.disarmed;
       bound = none_armed f.disarmed;
       spare = sym f.opens;
     }
@@ -150,7 +150,7 @@ filled_stands false owner log after l records s next u closed =
       ordered = unfilled_ordered log after s.items s.ordered u;
       stable = s.stable;
       waiting = ap reverse (sym u.waiting);
-      armed = ap (option_map plain_stop) (sym u.disarmed);
+      armed = sym u.disarmed;
       bound = none_armed u.disarmed;
       spare = closed ∙ sym u.closed;
     }
@@ -159,7 +159,7 @@ filled_stands false owner log after l records s next u closed =
 
 -- a log that keeps its files, with what waits and the armed stop changed as the plain log has them changed
 pub same_stands : (owner : Node) (log after : LogView) (l m : LogState) → RepresentsLog owner log l → after.node ≡ log.node → after.version ≡ log.version → after.current ≡ log.current → after.spare ≡ log.spare → after.gate ≡ log.gate → after.generation ≡ log.generation
-    → m.stable ≡ l.stable → m.spare_closed ≡ l.spare_closed → m.waiting ≡ reverse after.waiting → m.armed ≡ option_map plain_stop after.stop
+    → m.stable ≡ l.stable → m.spare_closed ≡ l.spare_closed → m.waiting ≡ reverse after.waiting → m.armed ≡ after.stop
     → IfSome after.stop (λ stop. stop.call ≤ 4) → RepresentsLog owner after m
 same_stands owner log after l m s node version current spare gate generation stable closed waiting armed bound =
     record {

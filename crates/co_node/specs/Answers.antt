@@ -5,7 +5,7 @@ use Rattle.co_outside.specs.declared.spot.Spot.{Spot}
 use Rattle.co_outside.specs.Faults.{HasRisen}
 use Rattle.co_outside.specs.Home.{HomeView, File, IsClean}
 use Rattle.co_record.specs.declared.record.Record.{Record}
-use Rattle.co_frame.specs.LogText.{most_log_bytes}
+use Rattle.co_base.specs.Limits.{most_log_bytes}
 use Rattle.co_log.specs.Attaching.{IsWithin}
 use Rattle.co_log.specs.LogView.{LogView, IsHeld, spot_of}
 use Rattle.co_log.specs.NodeFiles.{Items, newest_first, HasRecordsIn}

@@ -1,6 +1,6 @@
 -- When a log file would be too long, by its records alone.
 use Rattle.std.specs.Prelude.{◌≡◌, ◌<◌, ◌⊎◌, List}
-use Rattle.co_frame.specs.LogText.{most_log_bytes}
+use Rattle.co_base.specs.Limits.{most_log_bytes}
 use Rattle.co_record.specs.declared.record.Record.{Record}
 use Rattle.co_log.specs.Sizes.{log_bytes}
 use Rattle.co_plain.specs.LogWrite.{generation_of}

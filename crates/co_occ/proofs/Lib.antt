@@ -1,13 +1,6 @@
 mod Laying
-mod Ranging
-mod Picking
 mod Oldest
 mod Registering
 mod Unseeing
 mod Keeping
-mod Pairing
-mod Meeting
-mod Touching
-mod Indexing
 mod Standing
-mod Finding

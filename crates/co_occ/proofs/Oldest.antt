@@ -17,14 +17,12 @@ use Rattle.co_state.specs.Changes.{span_read}
 use Rattle.co_state.specs.EngineState.{operations_in}
 use Rattle.co_state.specs.Table.{Table, look, put, without, lesser}
 use Rattle.co_state.proofs.Tables.{look-put, look-without, put-without, same_table}
-use Rattle.co_occ.specs.declared.undecided.Reads.{Reads}
-use Rattle.co_occ.specs.declared.undecided.Stage.{Stage}
-use Rattle.co_occ.specs.declared.undecided.Stage.TheVariants.{Active, Voted}
-use Rattle.co_occ.specs.declared.undecided.Undecided.{Undecided}
-use Rattle.co_occ.specs.Kept.{with_read, reads_of, oldest_in, oldest_kept}
+use Rattle.co_index.proofs.Finding.{tied}
+use Rattle.co_index.proofs.Mapped.{mapped, table-mapped}
+use Rattle.co_occ.specs.declared.reads.Reads.{Reads}
+use Rattle.co_occ.specs.Kept.{with_read, reads_of, oldest_kept}
 use Rattle.co_occ.specs.Old.{with_stamp, oldest_stamp, oldest_of, writes_after}
-use Rattle.co_occ.specs.Stands.{reads_at, active_reads, count_after}
-use Rattle.co_occ.proofs.Picking.{picked, with_picked, pick_in, same_picked, tied}
+use Rattle.co_occ.specs.Stands.{count_after}
 
 -- ---- the lesser of two
 pub lesser-none : (a : Option ℕ) → lesser a None ≡ a
@@ -99,38 +97,14 @@ pub stamps-reads : (os : List Operation) → oldest_stamp os ≡ (reads_of os).o
 stamps-reads [] = refl
 stamps-reads (o ∷ os) = stamps_step (span_read o.op) o.stamp os (reads_of os) (stamps-reads os)
 
-abbrev oldest_picked : List (ℕ × Reads) → Option ℕ
-oldest_picked [] = None
-oldest_picked (y ∷ ys) = lesser y.1.oldest (oldest_picked ys)
-
-actives-picked : (es : List (ℕ × List Operation)) → oldest_of es ≡ oldest_picked (picked (λ os. Some (reads_of os)) es)
-actives-picked [] = refl
-actives-picked (e ∷ es) = (λ i. lesser (stamps-reads e.1 i) (actives-picked es i))
-
-kept_step : (stage : Stage) (k : ℕ) (ys : List (ℕ × Reads)) → lesser (oldest_in stage) (oldest_picked ys) ≡ oldest_picked (with_picked k (reads_at stage) ys)
-kept_step (Active reads) k ys = refl
-kept_step Voted k ys = refl
-
-kept-picked : (es : List (ℕ × Undecided)) → oldest_kept es ≡ oldest_picked (picked (λ e. reads_at e.stage) es)
-kept-picked [] = refl
-kept-picked (e ∷ es) = ap (lesser (oldest_in e.1.stage)) (kept-picked es) ∙ kept_step e.1.stage e.0 (picked (λ e. reads_at e.stage) es)
-
-picks_active : (o : Option Undecided) → active_reads o ≡ pick_in (λ e. reads_at e.stage) o
-picks_active None = refl
-picks_active (Some e) = refl
-
-picks_mapped : (o : Option (List Operation)) → pick_in (λ os. Some (reads_of os)) o ≡ option_map reads_of o
-picks_mapped None = refl
-picks_mapped (Some os) = refl
+kept-mapped : (es : List (ℕ × List Operation)) → oldest_kept (mapped reads_of es) ≡ oldest_of es
+kept-mapped [] = refl
+kept-mapped (e ∷ es) = (λ i. lesser (sym (stamps-reads e.1) i) (kept-mapped es i))
 
 -- the oldest read, by what is kept
-pub oldest_alike : (roll : Table Undecided) (active : Table (List Operation)) → ((t : ℕ) → option_map reads_of (look active t) ≡ active_reads (look roll t))
-    → oldest_kept (entries roll) ≡ oldest_of (entries active)
-oldest_alike roll active is =
-    kept-picked (entries roll)
-    ∙ ap oldest_picked (sym (same_picked (λ os. Some (reads_of os)) (λ (e : Undecided). reads_at e.stage) (entries active) (entries roll) (entries_sorted active) (entries_sorted roll)
-    (λ q. picks_mapped (find nat_cmp q (entries active)) ∙ ap (option_map reads_of) (sym (get-entries active q)) ∙ is q ∙ ap active_reads (get-entries roll q) ∙ picks_active (find nat_cmp q (entries roll)))))
-    ∙ sym (actives-picked (entries active))
+pub oldest_alike : (reads : Table Reads) (active : Table (List Operation)) → ((t : ℕ) → option_map reads_of (look active t) ≡ look reads t)
+    → oldest_kept (entries reads) ≡ oldest_of (entries active)
+oldest_alike reads active is = ap oldest_kept (table-mapped reads_of reads active (λ q. sym (is q))) ∙ kept-mapped (entries active)
 
 -- ---- the write sets after it
 all_kept : (wss : List (List Written)) (n : ℕ) → n ≡ 0 → drop n wss ≡ wss

@@ -14,8 +14,8 @@ use Rattle.co_state.specs.Keys.{least_from, least_key}
 use Rattle.co_state.specs.Search.{least_with}
 use Rattle.co_state.specs.StaleRead.{keys_since, overwritten, stale_keys}
 use Rattle.co_state.specs.Table.{lesser}
-use Rattle.co_occ.specs.declared.undecided.Read.{Read}
-use Rattle.co_occ.specs.declared.undecided.Reads.{Reads}
+use Rattle.co_occ.specs.declared.reads.Read.{Read}
+use Rattle.co_occ.specs.declared.reads.Reads.{Reads}
 use Rattle.co_occ.specs.Kept.{with_read, reads_of}
 use Rattle.co_occ.specs.Old.{installed_writes, writes_after, oldest_stamp}
 use Rattle.co_occ.specs.Unseen.{keys_written, keys_unseen, keys_overwritten}

@@ -2,7 +2,7 @@
 use Rattle.std.specs.Prelude.{ℕ, ◌-◌, List, [], ◌∷◌, ◌++◌, map, filter, take, reverse}
 use Rattle.co_base.specs.Span.{span_has}
 use Rattle.co_base.specs.declared.written.Written.{Written}
-use Rattle.co_occ.specs.declared.undecided.Read.{Read}
+use Rattle.co_occ.specs.declared.reads.Read.{Read}
 
 -- the keys of some write sets
 abbrev pub keys_written : List (List Written) → List (List ℕ)

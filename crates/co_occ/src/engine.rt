@@ -1,29 +1,26 @@
 //! The engine with backward validation.
-ghost use Rattle.std.specs.Prelude.{◌≡◌, ◌<◌, ◌+◌, None, Some, IsTrue, IfOk, OnOk, length, slice_get, option_copied, reverse};
-ghost use Rattle.std.specs.FinMap.{entries, get};
+ghost use Rattle.std.specs.Prelude.{◌≡◌, ◌<◌, ◌+◌, Some, IsTrue, IfOk, OnOk, length, slice_get, option_copied, reverse};
+ghost use Rattle.std.specs.FinMap.{get};
 ghost use Rattle.co_base.specs.declared.head.Kind.TheVariants.{Occ};
-ghost use Rattle.co_serial.specs.Records.{all_rows, rows_within};
+ghost use Rattle.co_serial.specs.Records.{rows_within};
 ghost use Rattle.co_state.specs.declared.engine_state.EngineState.{EngineState};
-ghost use Rattle.co_occ.specs.Made.{pairs_of_read, pairs_of_write};
+ghost use Rattle.co_state.specs.Conflicts.{AreNewPairs};
+ghost use Rattle.co_state.specs.Effects.{with_operation};
+ghost use Rattle.co_engine.specs.Calls.{may_operate};
 ghost use Rattle.co_occ.specs.Old.{old_writes};
-ghost use Rattle.co_occ.specs.Stands.{StandsFor, own, own_records, own_reads, with_own, without_own, needed, with_needed};
-ghost use Rattle.co_state.specs.Table.{look, without};
-ghost use Rattle.co_base.specs.Span.{span_of_key};
-ghost use Rattle.co_occ.specs.Touching.{may_write, may_read};
+ghost use Rattle.co_occ.specs.Stands.{StandsFor, own_writes, own_records, own_reads, needed, with_needed};
 
-use crate::appended::append;
-use crate::index::Index;
 use crate::installed::Installed;
-use crate::new_pairs::{pairs_of_read, pairs_of_write};
 use crate::old::OldWrites;
-use crate::own::{take, voted_roll};
 use crate::reading::{all_records, copy_value, records_within, seen_value};
+use crate::reads::Read;
 use crate::register::Register;
-use crate::undecided::{Read, Stage, Undecided};
 use crate::validation::stale_key;
-use co_base::{Key, Kind, Range, Reply, Rows, Txn, Value, Writes, Written};
-use co_engine::{Dump, Engine, Seen};
+use co_base::{Key, Kind, Op, Range, Reply, Rows, Txn, Value, Writes, Written};
+use co_engine::{Dump, Engine, Seen, append, writing};
+use co_index::Undecided;
 use co_pairs::{Pairs, Prepared, Sets};
+use co_state::range_read;
 use std::alloc::{AllocError, Global};
 
 /// An engine of the kind `Occ`: writes are private, no operation is blocked, and whether a read was
@@ -36,8 +33,8 @@ pub struct OccEngine {
     records: Installed,
     installs: u64,
     recent: OldWrites,
-    undecided: Register,
-    index: Index,
+    reads: Register,
+    undecided: Undecided,
     nothing: Sets,
 }
 
@@ -72,10 +69,10 @@ impl OccEngine {
 
     /// What an undecided transaction wrote; nothing of an absent one.
     fn own_writes(&self, t: Txn) -> &[Written]
-        ensures { result.now ≡ (own self.now t).sets.writes }
+        ensures { result.now ≡ own_writes self.now t }
     {
         match self.undecided.get(t) {
-            Some(undecided) => undecided.sets.writes(),
+            Some(sets) => sets.writes(),
             None => &[],
         }
     }
@@ -99,63 +96,28 @@ impl OccEngine {
     fn reads(&self, t: Txn) -> &[Read]
         ensures { reverse result.now ≡ own_reads self.now t }
     {
-        match self.undecided.get(t) {
-            Some(undecided) => match &undecided.stage {
-                Stage::Active(reads) => reads.list.oldest_first(),
-                Stage::Voted => &[],
-            },
+        match self.reads.get(t) {
+            Some(reads) => reads.list.oldest_first(),
             None => &[],
         }
     }
 
-    /// Adds a read to its transaction and gives the pairs that it makes.
-    fn add_read(&mut self, alloc: Global, t: Txn, range: Range) -> Result<Pairs, AllocError>
-        ensures state { OnOk result (self.new ≡ with_own self.old t (Some range) None) }
-        ensures pairs { IfOk result (λ pairs. pairs ≡ pairs_of_read (entries (may_write self.old.index range)) (without self.old.undecided t) t (own self.old t).sets.reads range) }
+    /// Adds an operation to its transaction and gives the pairs that it makes.
+    fn add(&mut self, alloc: Global, t: Txn, op: &Op) -> Result<Pairs, AllocError>
+        ensures state { (b : EngineState) → StandsFor self.old b → IsTrue (may_operate b t) → OnOk result (StandsFor self.new (with_operation b t op.now)) }
+        ensures pairs { (b : EngineState) → StandsFor self.old b → IsTrue (may_operate b t) → IfOk result (AreNewPairs b (with_operation b t op.now)) }
     {
-        let own = take(alloc, &mut self.undecided, t);
-        let reads = own.sets.reads();
-        let pairs = pairs_of_read(alloc, &self.index, &self.undecided, t, reads, &range)?;
-        self.index.add_read(alloc, &range, t)?;
-        let own = own.reading(range, self.installs)?;
-        self.undecided.put(alloc, t, own)?;
+        let pairs = self.undecided.add(alloc, t, op)?;
+        let range = range_read(op)?;
+        self.reads.add(alloc, t, range, self.installs)?;
         Ok(pairs)
-    }
-
-    /// Adds a change to its transaction and gives the pairs that it makes.
-    fn add_change(&mut self, alloc: Global, t: Txn, change: Written) -> Result<Pairs, AllocError>
-        ensures state { OnOk result (self.new ≡ with_own self.old t None (Some change)) }
-        ensures pairs { IfOk result (λ pairs. pairs ≡ pairs_of_write (entries (may_read self.old.index change.key)) (entries (may_write self.old.index (span_of_key change.key))) (without self.old.undecided t) t (own self.old t).sets.writes change.key) }
-    {
-        let own = take(alloc, &mut self.undecided, t);
-        let writes = own.sets.writes();
-        let key = &change.key;
-        let pairs = pairs_of_write(alloc, &self.index, &self.undecided, t, writes, key)?;
-        self.index.add_write(alloc, key, t)?;
-        let own = own.changing(change)?;
-        self.undecided.put(alloc, t, own)?;
-        Ok(pairs)
-    }
-
-    /// Takes an undecided transaction out. Takes no memory.
-    fn take_out(&mut self, t: Txn) -> Option<Undecided>
-        ensures value { result ≡ look self.old.undecided t }
-        ensures rest { self.new ≡ without_own self.old t }
-    {
-        match self.undecided.take(t) {
-            Some(undecided) => {
-                self.index.forget(&undecided.sets, t);
-                Some(undecided)
-            }
-            None => None,
-        }
     }
 
     /// How many of the newest installs came after the oldest read of an active transaction.
     fn needed(&self) -> u64
         ensures { result ≡ needed self.now }
     {
-        match self.undecided.oldest_read() {
+        match self.reads.oldest_read() {
             Some(stamp) => self.installs.saturating_sub(stamp),
             None => 0,
         }
@@ -182,13 +144,12 @@ impl Engine for OccEngine {
         voted: &[Prepared],
     ) -> Result<Self, AllocError> {
         let _ = kind;
-        let undecided = voted_roll(alloc, voted)?;
         Ok(OccEngine {
             records: Installed::of_rows(alloc, rows.into_vec())?,
             installs: 0,
             recent: OldWrites::new(alloc),
-            index: Index::of_roll(alloc, &undecided)?,
-            undecided,
+            reads: Register::new(alloc),
+            undecided: Undecided::of_prepared(alloc, voted)?,
             nothing: Sets::new(alloc),
         })
     }
@@ -201,7 +162,8 @@ impl Engine for OccEngine {
         pairs: &mut Pairs,
     ) -> Result<Seen, AllocError> {
         let value = copy_value(self.value(t, key))?;
-        let made = self.add_read(alloc, t, Range::of_key(key)?)?;
+        let op = Op::Read(key.copy()?);
+        let made = self.add(alloc, t, &op)?;
         append(pairs, &made)?;
         Ok(Seen::Answer(Reply::Got(value)))
     }
@@ -214,7 +176,8 @@ impl Engine for OccEngine {
         pairs: &mut Pairs,
     ) -> Result<Seen, AllocError> {
         let rows = self.rows(alloc, t, range)?;
-        let made = self.add_read(alloc, t, range.copy()?)?;
+        let op = Op::Scan(range.copy()?);
+        let made = self.add(alloc, t, &op)?;
         append(pairs, &made)?;
         Ok(Seen::Answer(Reply::Rows(rows)))
     }
@@ -227,18 +190,15 @@ impl Engine for OccEngine {
         value: Option<&Value>,
         pairs: &mut Pairs,
     ) -> Result<Seen, AllocError> {
-        let change = Written {
-            key: key.copy()?,
-            value: copy_value(value)?,
-        };
-        let made = self.add_change(alloc, t, change)?;
+        let op = writing(key, value)?;
+        let made = self.add(alloc, t, &op)?;
         append(pairs, &made)?;
         Ok(Seen::Answer(Reply::Done))
     }
 
     fn sets(&self, t: Txn) -> &Sets {
         match self.undecided.get(t) {
-            Some(undecided) => &undecided.sets,
+            Some(sets) => sets,
             None => &self.nothing,
         }
     }
@@ -248,15 +208,14 @@ impl Engine for OccEngine {
     }
 
     fn cast(&mut self, t: Txn) {
-        self.undecided.cast(t);
+        let _ = self.reads.take(t);
         self.forget_old();
     }
 
     fn install(&mut self, alloc: Global, t: Txn) -> Result<(), AllocError> {
-        let Some(undecided) = self.take_out(t) else {
+        let Some(sets) = self.undecided.take(t) else {
             return Ok(());
         };
-        let sets = undecided.sets;
         let writes = sets.writes;
         self.installs = one_more(self.installs)?;
         self.records.lay(writes.as_slice())?;
@@ -266,7 +225,8 @@ impl Engine for OccEngine {
     }
 
     fn drop_txn(&mut self, t: Txn) {
-        let _ = self.take_out(t);
+        let _ = self.reads.take(t);
+        let _ = self.undecided.take(t);
         self.forget_old();
     }
 

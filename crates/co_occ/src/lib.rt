@@ -7,17 +7,12 @@
 //! that came after the oldest read of an active transaction.
 #![tactic(auto)]
 
-mod appended;
 mod engine;
-mod index;
 mod installed;
-mod new_pairs;
 mod old;
-mod own;
 mod reading;
+mod reads;
 mod register;
-mod touched;
-mod undecided;
 mod validation;
 
 pub use engine::OccEngine;

@@ -1,22 +1,22 @@
-//! The undecided transactions, and the oldest reads of the active ones.
+//! The active transactions by what they read, and the oldest read of all.
 ghost use Rattle.std.specs.Prelude.{◌≡◌, OnOk, OnErr, option_copied};
 ghost use Rattle.std.specs.FinMap.{entries};
 ghost use Rattle.co_state.specs.Table.{no_entries, look, put, without};
-ghost use Rattle.co_occ.specs.Kept.{with_vote, oldest_in, oldest_kept};
+ghost use Rattle.co_occ.specs.Kept.{oldest_kept, or_unread, with_read};
 ghost use Rattle.co_occ.specs.Reading.{with_oldest};
 
-use crate::undecided::{Roll, Stage, Undecided};
-use co_base::Txn;
+use crate::reads::{Reads, or_unread};
+use co_base::{Range, Txn};
 use co_stamps::Stamps;
+use co_state::Table;
 use std::alloc::{AllocError, Global};
-use std::collections::btree_map::Iter;
 use std::marker::Model;
 
-/// The undecided transactions by their numbers, which knows the oldest read of all active ones. A contract sees
-/// the finite map.
+/// What each active transaction read, by its number. It knows the oldest read of all. A contract sees the finite
+/// map.
 #[derive(Drop)]
 pub struct Register {
-    roll: Roll,
+    reads: Table<Reads>,
     oldest: Stamps,
 }
 
@@ -24,27 +24,17 @@ impl Model for Register {
     ghost use Rattle.std.specs.Ordering.{nat_cmp};
     ghost use Rattle.std.specs.FinMap as map;
     ghost use Rattle.std.specs.Coded.{codes, coded_ℕ};
-    ghost use Rattle.co_occ.specs.contracts.undecided.Undecided as undecided;
-    ghost use Rattle.co_occ.specs.declared.undecided.Undecided.{Undecided};
+    ghost use Rattle.co_occ.specs.contracts.reads.Reads as one;
+    ghost use Rattle.co_occ.specs.declared.reads.Reads.{Reads};
     ghost use Rattle.co_occ.specs.Reading.{KnowsOldest};
 
-    ghost Value = { map.FinMap nat_cmp Undecided };
+    ghost Value = { map.FinMap nat_cmp Reads };
 
-    ghost coded = { Prim.hlevel (codes, map.code {R = nat_cmp} coded_ℕ undecided.the_row.coded) };
+    ghost coded = { Prim.hlevel (codes, map.code {R = nat_cmp} coded_ℕ one.the_row.coded) };
 
-    ghost view = { λ r. r.roll };
+    ghost view = { λ r. r.reads };
 
-    ghost invariant = { λ r. KnowsOldest r.oldest r.roll };
-}
-
-/// The oldest read of an active transaction.
-fn oldest_in(stage: &Stage) -> Option<u64>
-    ensures { result ≡ oldest_in stage.now }
-{
-    match stage {
-        Stage::Active(reads) => reads.oldest,
-        Stage::Voted => None,
-    }
+    ghost invariant = { λ r. KnowsOldest r.oldest r.reads };
 }
 
 /// A transaction gets the number of its oldest read, if it has one, where it had none. After want of memory it
@@ -70,23 +60,16 @@ impl Register {
         ensures { result ≡ no_entries }
     {
         Register {
-            roll: Roll::new(alloc),
+            reads: Table::new(alloc),
             oldest: Stamps::new(alloc),
         }
     }
 
-    /// A transaction of the register, or none where it is absent.
-    pub fn get(&self, t: Txn) -> Option<&Undecided>
+    /// What an active transaction read, if it is there.
+    pub fn get(&self, t: Txn) -> Option<&Reads>
         ensures { option_copied result ≡ look self.now t }
     {
-        self.roll.get(t)
-    }
-
-    /// The transactions, ascending by number.
-    pub fn iter(&self) -> Iter<'_, Txn, Undecided>
-        ensures { result ≡ entries self.now }
-    {
-        self.roll.iter()
+        self.reads.get(t)
     }
 
     /// The oldest read of all active transactions. Takes no memory.
@@ -96,23 +79,23 @@ impl Register {
         self.oldest.least_from(0)
     }
 
-    /// Takes a transaction away and gives it, where it is there. Takes no memory.
-    pub fn take(&mut self, t: Txn) -> Option<Undecided>
+    /// Takes a transaction away and gives what it read, if it is there. Takes no memory.
+    pub fn take(&mut self, t: Txn) -> Option<Reads>
         ensures value { result ≡ look self.old t }
         ensures rest { self.new ≡ without self.old t }
     {
         let _ = self.oldest.remove(t);
-        self.roll.take(t)
+        self.reads.remove(t)
     }
 
-    /// Lays in a transaction in place of the one of its number. After want of memory it is absent.
-    pub fn put(&mut self, alloc: Global, t: Txn, undecided: Undecided) -> Result<(), AllocError>
-        ensures { OnOk result (self.new ≡ put self.old t undecided) }
+    /// Lays in what a transaction read, in place of what stood there. After want of memory it is absent.
+    fn put(&mut self, alloc: Global, t: Txn, reads: Reads) -> Result<(), AllocError>
+        ensures { OnOk result (self.new ≡ put self.old t reads) }
     {
-        let oldest = oldest_in(&undecided.stage);
+        let oldest = reads.oldest;
         let _ = self.take(t);
         note_oldest(alloc, &mut self.oldest, t, oldest)?;
-        match self.roll.put(t, undecided) {
+        match self.reads.insert(t, reads) {
             Ok(()) => Ok(()),
             Err(error) => {
                 let _ = self.oldest.remove(t);
@@ -121,11 +104,19 @@ impl Register {
         }
     }
 
-    /// A transaction votes. Takes no memory.
-    pub fn cast(&mut self, t: Txn)
-        ensures { self.new ≡ with_vote self.old t }
+    /// An active transaction does an operation that sees so many installs, and reads a range or none. After want
+    /// of memory the transaction may be absent.
+    pub fn add(
+        &mut self,
+        alloc: Global,
+        t: Txn,
+        range: Option<Range>,
+        stamp: u64,
+    ) -> Result<(), AllocError>
+        ensures { OnOk result (self.new ≡ put (without self.old t) t (with_read range stamp (or_unread (look self.old t)))) }
     {
-        let _ = self.oldest.remove(t);
-        self.roll.cast(t);
+        let reads = or_unread(alloc, self.take(t));
+        let reads = reads.reading(range, stamp)?;
+        self.put(alloc, t, reads)
     }
 }

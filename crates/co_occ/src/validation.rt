@@ -6,7 +6,7 @@ ghost use Rattle.co_state.specs.Search.{least_with};
 ghost use Rattle.co_occ.specs.Unseen.{keys_unseen, keys_overwritten};
 
 use crate::old::OldWrites;
-use crate::undecided::Read;
+use crate::reads::Read;
 use co_base::{Key, Range, Written};
 
 /// The lesser of a key and of one that was found before.

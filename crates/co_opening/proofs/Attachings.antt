@@ -6,7 +6,7 @@ use Rattle.co_base.specs.declared.node.Node.{Node}
 use Rattle.co_disk.specs.DiskView.{DiskView}
 use Rattle.co_outside.specs.declared.spot.Spot.{Spot}
 use Rattle.co_outside.specs.Home.{File, HomeView}
-use Rattle.co_frame.specs.LogText.{most_log_bytes}
+use Rattle.co_base.specs.Limits.{most_log_bytes}
 use Rattle.co_log.specs.declared.fault.LogFault.{LogFault}
 use Rattle.co_log.specs.Attaching.{IsAttached, IsToldAs, IsWithin}
 use Rattle.co_log.specs.Fresh.{IsFresh}

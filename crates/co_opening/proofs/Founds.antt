@@ -26,7 +26,7 @@ use Rattle.co_log.proofs.Attached.{behind_front}
 use Rattle.co_log.proofs.Ordered.{attached_unarmed}
 use Rattle.co_log.proofs.Unmade.{read_stable}
 use Rattle.co_log.proofs.Versions.{has_records, newest_known}
-use Rattle.co_node.specs.NodeLog.{RepresentsLog, plain_stop}
+use Rattle.co_node.specs.NodeLog.{RepresentsLog}
 use Rattle.co_node.proofs.Standing.{none_armed}
 use Rattle.co_plain.specs.Opening.{Found, made, header_mark, opened_log}
 use Rattle.co_durable.specs.Reading.{IsLogOf}
@@ -209,7 +209,7 @@ module _ (file : Spot → Option File) (node : Node) (log : LogView) (valid : Is
               ordered = o;
               stable = m.0;
               waiting = ap reverse (sym unarmed.1);
-              armed = ap (option_map plain_stop) (sym unarmed.2);
+              armed = sym unarmed.2;
               bound = none_armed unarmed.2;
               spare = refl;
             },

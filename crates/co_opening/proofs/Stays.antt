@@ -5,7 +5,7 @@ use Rattle.co_base.specs.Nodes.{IsValidNode}
 use Rattle.co_base.specs.declared.node.Node.{Node}
 use Rattle.co_outside.specs.Home.{HomeView, File, Agrees}
 use Rattle.co_outside.specs.declared.spot.Spot.{Spot}
-use Rattle.co_frame.specs.LogText.{most_log_bytes}
+use Rattle.co_base.specs.Limits.{most_log_bytes}
 use Rattle.co_log.specs.Attaching.{IsWithin}
 use Rattle.co_log.specs.LogView.{LogView, HasSpots, spot_of}
 use Rattle.co_log.specs.Others.{OtherFilesStay}

@@ -20,20 +20,21 @@ use Rattle.co_message.specs.declared.item.ItemKind.{ItemKind}
 use Rattle.co_message.specs.declared.item.ItemKind.TheVariants as item
 use Rattle.co_state.specs.Changes.{span_read, change_made}
 use Rattle.co_state.specs.Keys.{same_key}
-use Rattle.co_plain.specs.Numbers.{has_number}
+use Rattle.co_state.specs.Table.{Table, no_entries, look, put}
+use Rattle.co_plain.specs.Numbers.{TxnNumber, MemberNumber, has_number}
 use Rattle.co_plain.specs.Opening.{kind_of}
 use Rattle.co_plain.specs.Sessions.{same_node}
 
 -- what the items tell of conflicts
 pub data Trace : Type 0 where
   -- a transaction was begun, and this node decides it
-  Began : ℕ → Node → Trace
+  Began : TxnNumber → Node → Trace
   -- an operation was answered at a member, with this reply
-  Operated : ℕ → ℕ → Op → Reply → Trace
+  Operated : TxnNumber → MemberNumber → Op → Reply → Trace
   -- a commit record became stable at a node
-  Committed : Node → ℕ → Trace
+  Committed : Node → TxnNumber → Trace
 
-abbrev pub traced_commit : MarkKind → Node → ℕ → List Trace
+abbrev pub traced_commit : MarkKind → Node → TxnNumber → List Trace
 traced_commit kind.Commit at t = Committed at t ∷ []
 traced_commit _ at t = []
 
@@ -71,61 +72,61 @@ trace_from (Some e) (item.Answered a ∷ items) = traced_answer e a ++ trace_fro
 abbrev pub trace_of : List ItemKind → List Trace
 trace_of items = trace_from None items
 
--- the node that decides a transaction
-abbrev pub decider_in : List Trace → ℕ → Option Node
-decider_in [] t = None
-decider_in (Began u by ∷ rest) t = if u == t then Some by else decider_in rest t
-decider_in (Operated u m o reply ∷ rest) t = decider_in rest t
-decider_in (Committed at u ∷ rest) t = decider_in rest t
-
+-- whether this node, if any, is that one
 abbrev pub decides_at : Option Node → Node → Bool
 decides_at None at = false
 decides_at (Some by) at = same_node by at
 
--- the transactions in the order in which they were decided
-abbrev pub decided_in : List Trace → List Trace → List ℕ
-decided_in whole [] = []
-decided_in whole (Began u by ∷ rest) = decided_in whole rest
-decided_in whole (Operated u m o reply ∷ rest) = decided_in whole rest
-decided_in whole (Committed at t ∷ rest) =
-    if decides_at (decider_in whole t) at then t ∷ decided_in whole rest else decided_in whole rest
+-- The transactions in the order in which they were decided: each commit record at the node where its transaction was begun
+-- before. The table has who was begun where so far.
+abbrev pub decisions_from : Table Node → List Trace → List ℕ
+decisions_from homes [] = []
+decisions_from homes (Began t by ∷ rest) = decisions_from (put homes t by) rest
+decisions_from homes (Operated t m o reply ∷ rest) = decisions_from homes rest
+decisions_from homes (Committed at t ∷ rest) = if decides_at (look homes t) at then t ∷ decisions_from homes rest else decisions_from homes rest
+
+abbrev pub decisions_in : List Trace → List ℕ
+decisions_in trace = decisions_from no_entries trace
 
 -- whether the member installed the transaction in this part of the trace
-abbrev pub installs : List Trace → ℕ → ℕ → Bool
+abbrev pub installs : List Trace → MemberNumber → TxnNumber → Bool
 installs [] m t = false
 installs (Began u by ∷ rest) m t = installs rest m t
 installs (Operated u n o reply ∷ rest) m t = installs rest m t
 installs (Committed at u ∷ rest) m t = same_node at (node.Member m) && (u == t) || installs rest m t
 
 -- the part before the transaction's first operation at the member
-abbrev pub before_first : List Trace → ℕ → ℕ → List Trace
+abbrev pub before_first : List Trace → MemberNumber → TxnNumber → List Trace
 before_first [] m t = []
 before_first (Began u by ∷ rest) m t = Began u by ∷ before_first rest m t
 before_first (Committed at u ∷ rest) m t = Committed at u ∷ before_first rest m t
 before_first (Operated u n o reply ∷ rest) m t = if (u == t) && (n == m) then [] else Operated u n o reply ∷ before_first rest m t
 
--- the part that an operation behind this one sees
-abbrev pub part_seen : Kind → List Trace → ℕ → ℕ → List Trace
+-- the part that an operation behind it sees
+abbrev pub part_seen : Kind → List Trace → MemberNumber → TxnNumber → List Trace
 part_seen Lock before m t = before
 part_seen Occ before m t = before
 part_seen Mv before m t = before_first before m t
+
+-- whether an operation of the transaction behind this part of the trace sees the install of another one
+abbrev pub sees : List Kind → List Trace → TxnNumber → MemberNumber → TxnNumber → Bool
+sees kinds before t m other = installs (part_seen (kind_of kinds m) before m t) m other
 
 -- an operation of a transaction at a member, answered before its decision, and the trace before it
 pub record OperatedIn (trace : List Trace) (t m : ℕ) (o : Op) (before : List Trace) : Type 0 where
   pub reply : Reply
   pub rest : List Trace
   pub place : trace ≡ before ++ Operated t m o reply ∷ rest
-  pub undecided : has_number (decided_in trace before) t ≡ false
+  pub undecided : has_number (decisions_in before) t ≡ false
 
--- a read of the key, and whether it sees the other one's install
-pub record ReadsKey (kinds : List Kind) (trace : List Trace) (t m : ℕ) (key : List ℕ) (other : ℕ) (sees : Bool) : Type 0 where
+-- a read of the key
+pub record ReadsKey (trace : List Trace) (t m : ℕ) (key : List ℕ) : Type 0 where
   pub o : Op
   pub before : List Trace
   pub operated : OperatedIn trace t m o before
   pub span : Span
   pub reads : span_read o ≡ Some span
   pub has : span_has span key ≡ true
-  pub seen : installs (part_seen (kind_of kinds m) before m t) m other ≡ sees
 
 -- a write of the key
 pub record WritesKey (trace : List Trace) (t m : ℕ) (key : List ℕ) : Type 0 where
@@ -140,19 +141,20 @@ pub record WritesKey (trace : List Trace) (t m : ℕ) (key : List ℕ) : Type 0 
 pub data InstalledFirst (trace : List Trace) (m t u : ℕ) : Type 0 where
   Before : (before rest : List Trace) → trace ≡ before ++ rest → installs before m t ≡ true → installs before m u ≡ false → InstalledFirst trace m t u
 
--- t precedes u at a member: u read what t wrote, t read what u overwrote later, or both wrote one key
+-- t precedes u at a member: u read a key that t wrote, and saw t's install; t read a key that u wrote, and did not see u's install;
+-- or both wrote one key, and t's install stands first
 pub data Precedes (kinds : List Kind) (trace : List Trace) (t u m : ℕ) : Type 0 where
-  ReadAfter : (key : List ℕ) → WritesKey trace t m key → ReadsKey kinds trace u m key t true → Precedes kinds trace t u m
-  ReadBefore : (key : List ℕ) → ReadsKey kinds trace t m key u false → WritesKey trace u m key → Precedes kinds trace t u m
+  ReadAfter : (key : List ℕ) → WritesKey trace t m key → (read : ReadsKey trace u m key) → sees kinds read.before u m t ≡ true → Precedes kinds trace t u m
+  ReadBefore : (key : List ℕ) → (read : ReadsKey trace t m key) → sees kinds read.before t m u ≡ false → WritesKey trace u m key → Precedes kinds trace t u m
   WroteBefore : (key : List ℕ) → WritesKey trace t m key → WritesKey trace u m key → InstalledFirst trace m t u → Precedes kinds trace t u m
 
 -- t stands before u in the list
 pub data StandsBefore (order : List ℕ) (t u : ℕ) : Type 0 where
   Stands : (before rest : List ℕ) → order ≡ before ++ u ∷ rest → has_number before t ≡ true → StandsBefore order t u
 
--- the decisions that items tell, in order: each commit record at the node that decides
+-- the decisions that items tell, in order
 abbrev pub told_decisions : List ItemKind → List ℕ
-told_decisions items = decided_in (trace_of items) (trace_of items)
+told_decisions items = decisions_in (trace_of items)
 
 abbrev pub IsCommitmentOrdered : List Kind → List ItemKind → Type 0
 IsCommitmentOrdered kinds items =

@@ -12,7 +12,7 @@ use Rattle.co_plain.specs.declared.coord_state.Entry.TheVariants as entry
 use Rattle.co_plain.specs.declared.member_view.MemberView.{MemberView}
 use Rattle.co_plain.specs.declared.session.Decided.{Decided}
 use Rattle.co_plain.specs.declared.session.Session.{Session}
-use Rattle.co_plain.specs.Numbers.{first_lacking, has_number}
+use Rattle.co_plain.specs.Numbers.{TxnNumber, CoordNumber, first_lacking, has_number}
 use Rattle.co_plain.specs.CoordView.{has_commit_of}
 use Rattle.co_plain.specs.CoordStep.{members_of}
 use Rattle.co_plain.specs.Sessions.{count_at, parts_of}
@@ -20,12 +20,12 @@ use Rattle.co_plain.specs.Wire.{was_sent}
 use Rattle.co_plain.specs.Federation.{Federation}
 use Rattle.co_plain.specs.Decisions.{is_decided, is_asked, told_of, votes_for, BelongsTo, IsPresumedAborted}
 use Rattle.co_plain.specs.SoundLogs.{log_has_committed, unended_in}
-use Rattle.co_plain.specs.Invariants.{Side, view, stands, takes_part_in, is_asked_or_used, TakesPart}
+use Rattle.co_plain.specs.Invariants.{Side, view, stands, takes_part_in, is_asked_or_used, TakesPart, TookPart}
 
 -- ---- A coordinator by itself
 
 -- begun at this coordinator in this run
-abbrev pub BegunAt : Option Session → ℕ → Type 0
+abbrev pub BegunAt : Option Session → CoordNumber → Type 0
 BegunAt None c = ⊥
 BegunAt (Some session) c = session.by ≡ node.Coord c
 
@@ -87,13 +87,26 @@ pub record ViewMatchesCoordinators (s : Federation) (m : ℕ) (v : MemberView) :
   pub settled : (t c : ℕ) → holds v.committed t ≡ true → BelongsTo s t c → (is_decided s.decided t || has_commit_of (s.opened_coord c) t) ≡ true
   pub alive : (t : ℕ) → holds v.committed t ≡ true → ¬ (IsPresumedAborted s t)
 
+-- the record is one of these
+abbrev pub IsOneOf : Record → List Record → Type 0
+IsOneOf r [] = ⊥
+IsOneOf r (q ∷ rs) = (q ≡ r) ⊎ IsOneOf r rs
+
+-- these were the participants of the transaction at its decision
+abbrev pub TookPartIn : List Decided → TxnNumber → List ℕ → Type 0
+TookPartIn [] t members = ⊥
+TookPartIn (d ∷ ds) t members = ((d.txn ≡ t) × (members ≡ members_of (parts_of d.told))) ⊎ TookPartIn ds t members
+
 -- The commit records of coordinators, and the members.
 pub record CommitsMatchMembers (s : Federation) : Type 0 where
-  -- a commit without end has only members that voted or committed, and that take part in its transaction
+  -- a commit without end has only members that voted or committed, and that took part in its transaction
   pub unended : (t c m : ℕ) (members : List ℕ) (side : Side) → unended_in (s.coord c).log.stable t ≡ Some members → has_number members m ≡ true →
       stands (view side (s.member m)) t ≡ true
-  pub taking : (t c m : ℕ) (members : List ℕ) → unended_in (s.coord c).log.stable t ≡ Some members → has_number members m ≡ true → TakesPart s t m
-  -- that of a transaction of this run names the participants of its session
+  pub taking : (t c m : ℕ) (members : List ℕ) → unended_in (s.coord c).log.stable t ≡ Some members → has_number members m ≡ true → TookPart s t m
+  -- each commit record, ended or not, names those that took part at the decision, or stood in the opened file
+  pub recorded : (c t : ℕ) (members : List ℕ) → IsOneOf (log.Commit t members) (s.coord c).log.stable →
+      TookPartIn s.decided t members ⊎ IsOneOf (log.Commit t members) (s.opened_coord c)
+  -- a commit without end of a transaction of this run names the participants of its session
   pub parts : (c t : ℕ) (members : List ℕ) → unended_in (s.coord c).log.stable t ≡ Some members → holds s.sessions t ≡ true →
       members ≡ members_of (parts_of (told_of s t))
   -- one that was opened without end has only members that still stand
@@ -117,13 +130,14 @@ pub record MessagesAreNamed (s : Federation) : Type 0 where
   pub questions : (t m c : ℕ) → was_sent s.sent (message.Ask t m c) ≡ true → BelongsTo s t c
 
 -- A transaction is held for a member, which takes part in it: it is in the table of its coordinator, or committed at the member;
--- where it is in the table, the member is a participant of its entry; and where a commit of it without end is stable at the
--- coordinator, it names the member.
+-- where it is in the table, the member is a participant of its entry; where a commit of it without end is stable at the
+-- coordinator, it names the member; and so does each commit record of it there, ended or not, where it was begun in this run.
 pub record IsHeldFor (s : Federation) (t c m : ℕ) : Type 0 where
   pub takes : TakesPart s t m
   pub held : (holds (s.coord c).table t || log_has_committed (s.member m).log.stable t) ≡ true
   pub participant : (e : Entry) → look (s.coord c).table t ≡ Some e → takes_part_in (Some e) m ≡ true
   pub recorded : (members : List ℕ) → unended_in (s.coord c).log.stable t ≡ Some members → has_number members m ≡ true
+  pub named : (members : List ℕ) → holds s.sessions t ≡ true → IsOneOf (log.Commit t members) (s.coord c).log.stable → has_number members m ≡ true
 
 -- Unless it is presumed aborted, who was asked to prepare, is voted, or was asked about, is held for the member.
 pub record AskedAreHeld (s : Federation) : Type 0 where

@@ -16,6 +16,7 @@ use Rattle.co_plain.specs.declared.coord_state.Entry.TheVariants as entry
 use Rattle.co_plain.specs.declared.log_state.LogState.{LogState}
 use Rattle.co_plain.specs.declared.outcome.Outcome.{Outcome}
 use Rattle.co_plain.specs.declared.outcome.Outcome.TheVariants.{Completes, StopsAt}
+use Rattle.co_plain.specs.Numbers.{MemberNumber, CoordNumber, CallNumber}
 use Rattle.co_plain.specs.LogWrite.{outcome_of, with_batch, crashed_log, marks_of}
 use Rattle.co_frame.specs.Gate.{batch_is_stable}
 use Rattle.co_plain.specs.declared.coord_view.CoordView.{CoordView}
@@ -34,7 +35,7 @@ abbrev pub with_coord_log : CoordState → LogState → CoordState
 with_coord_log x l = record x { log = l }
 
 -- whether the member takes part
-abbrev pub has_part : List Part → ℕ → Bool
+abbrev pub has_part : List Part → MemberNumber → Bool
 has_part parts m = list_any (λ p. p.member == m) parts
 
 abbrev pub members_of : List Part → List ℕ
@@ -56,7 +57,7 @@ abbrev pub coord_down : LogState → CoordState
 coord_down l = coord_from (crashed_log l) (recovered_commits l.stable)
 
 -- a stopped write of a batch: the completed write and a crash where the batch counts, else the crash alone
-abbrev pub stopped_coord : ℕ → CoordState → ℕ → Bool → List Record → CoordStep
+abbrev pub stopped_coord : CoordNumber → CoordState → CallNumber → Bool → List Record → CoordStep
 stopped_coord c next call true batch =
     record {
       state = coord_down (with_batch next.log batch);
@@ -69,7 +70,7 @@ stopped_coord c next call false batch =
 
 -- The batch of the waiting records and these, newest first, is forced. The state that is given is the one to
 -- follow, with the log as it was.
-abbrev pub coord_forced_by : ℕ → CoordState → List Record → Answer → List Message → Outcome → CoordStep
+abbrev pub coord_forced_by : CoordNumber → CoordState → List Record → Answer → List Message → Outcome → CoordStep
 coord_forced_by c next batch a messages Completes =
     record {
       state = with_coord_log next (with_batch next.log batch);
@@ -79,5 +80,5 @@ coord_forced_by c next batch a messages Completes =
     }
 coord_forced_by c next batch a messages (StopsAt call leaves) = stopped_coord c next call (batch_is_stable call leaves) batch
 
-abbrev pub force_coord : ℕ → CoordState → List Record → Answer → List Message → CoordStep
+abbrev pub force_coord : CoordNumber → CoordState → List Record → Answer → List Message → CoordStep
 force_coord c next batch a messages = coord_forced_by c next batch a messages (outcome_of next.log.armed 4)

@@ -4,6 +4,7 @@ use Rattle.co_record.specs.declared.record.Record.{Record}
 use Rattle.co_record.specs.declared.record.Record.TheVariants as log
 use Rattle.co_state.specs.Table.{Table, no_entries, put, without, holds}
 use Rattle.co_plain.specs.declared.coord_view.CoordView.{CoordView}
+use Rattle.co_plain.specs.Numbers.{TxnNumber, Place}
 use Rattle.co_plain.specs.MemberView.{with_number}
 
 -- A view has the commits without end, each with its participants, and the numbers of all commits.
@@ -11,7 +12,7 @@ abbrev pub no_commits : CoordView
 no_commits = record { unended = no_entries; seen = no_entries }
 
 -- a commit without participants counts as ended at once
-abbrev pub unended_with : Table (List ℕ) → ℕ → List ℕ → Table (List ℕ)
+abbrev pub unended_with : Table (List ℕ) → TxnNumber → List ℕ → Table (List ℕ)
 unended_with unended t [] = unended
 unended_with unended t (m ∷ ms) = put unended t (m ∷ ms)
 
@@ -33,7 +34,7 @@ all_up_to most [] = true
 all_up_to most (m ∷ ms) = nat_le 1 m && nat_le m most && all_up_to most ms
 
 -- Which record may stand where in a coordinator's log, in a federation of so many members.
-abbrev pub coord_allows : ℕ → ℕ → CoordView → Record → Bool
+abbrev pub coord_allows : ℕ → Place → CoordView → Record → Bool
 coord_allows members place v (log.Header node generation) = place == 0
 coord_allows members place v (log.Checkpoint rows undos committed) = false
 coord_allows members place v (log.Prepare t coord count reads writes) = false
@@ -41,7 +42,7 @@ coord_allows members place v (log.Commit t ms) = nat_le 1 place && not (holds v.
 coord_allows members place v (log.Abort t) = false
 coord_allows members place v (log.End t) = holds v.unended t
 
-abbrev pub first_refused_commit : ℕ → ℕ → CoordView → List Record → Option ℕ
+abbrev pub first_refused_commit : ℕ → Place → CoordView → List Record → Option ℕ
 first_refused_commit members place v [] = None
 first_refused_commit members place v (r ∷ rs) =
     if coord_allows members place v r then first_refused_commit members (suc place) (commits_with v r) rs else Some place
@@ -51,5 +52,5 @@ abbrev pub first_refused_at_coord : ℕ → List Record → Option ℕ
 first_refused_at_coord members records = first_refused_commit members 0 no_commits records
 
 -- whether the file has a commit of the transaction, ended or not
-abbrev pub has_commit_of : List Record → ℕ → Bool
+abbrev pub has_commit_of : List Record → TxnNumber → Bool
 has_commit_of records t = holds (recovered_commits records).seen t

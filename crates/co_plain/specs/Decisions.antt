@@ -9,6 +9,7 @@ use Rattle.co_state.specs.VotingRule.{kept_count}
 use Rattle.co_plain.specs.declared.session.Decided.{Decided}
 use Rattle.co_plain.specs.declared.session.Session.{Session}
 use Rattle.co_plain.specs.declared.session.Told.{Told}
+use Rattle.co_plain.specs.Numbers.{TxnNumber, MemberNumber, CoordNumber}
 use Rattle.co_plain.specs.MemberView.{recovered_view}
 use Rattle.co_plain.specs.CoordView.{has_commit_of}
 use Rattle.co_plain.specs.Sessions.{count_at}
@@ -21,15 +22,11 @@ sites_of told = reverse (map (λ o. o.site) told)
 abbrev pub replies_of : List Told → List Reply
 replies_of told = reverse (map (λ o. o.reply) told)
 
-abbrev pub is_decided : List Decided → ℕ → Bool
+abbrev pub is_decided : List Decided → TxnNumber → Bool
 is_decided [] t = false
 is_decided (d ∷ ds) t = (d.txn == t) || is_decided ds t
 
--- the transactions in the order of their decisions, each by its operations
-abbrev pub decision_order : Federation → List (List Site)
-decision_order s = reverse (map (λ d. sites_of d.told) s.decided)
-
--- their numbers, in the same order
+-- the numbers of transactions in the order of their decisions
 abbrev pub decided_numbers : List Decided → List ℕ
 decided_numbers decided = reverse (map (λ d. d.txn) decided)
 
@@ -38,18 +35,18 @@ abbrev pub told_in : Option Session → List Told
 told_in None = []
 told_in (Some session) = session.told
 
-abbrev pub told_of : Federation → ℕ → List Told
+abbrev pub told_of : Federation → TxnNumber → List Told
 told_of s t = told_in (look s.sessions t)
 
 abbrev pub asked_in : Option Session → Bool
 asked_in None = false
 asked_in (Some session) = session.asked
 
-abbrev pub is_asked : Federation → ℕ → Bool
+abbrev pub is_asked : Federation → TxnNumber → Bool
 is_asked s t = asked_in (look s.sessions t)
 
 -- whether a vote names the coordinator
-abbrev pub votes_for : Option Vote → ℕ → Bool
+abbrev pub votes_for : Option Vote → CoordNumber → Bool
 votes_for None c = false
 votes_for (Some vote) c = vote.coord == c
 
@@ -62,7 +59,7 @@ pub data BelongsTo (s : Federation) (t c : ℕ) : Type 0 where
 -- Presumed aborted: a transaction of a coordinator that is not in its table and has no commit, in this run or
 -- in the file that was opened; or a local one that is not decided and whose end was asked, or that lost
 -- operations. It stays so.
-abbrev pub lost_operations : Federation → ℕ → ℕ → Bool
+abbrev pub lost_operations : Federation → TxnNumber → MemberNumber → Bool
 lost_operations s t m = not (kept_count (s.member m).engine t == count_at (told_of s t) m)
 
 pub data IsPresumedAborted (s : Federation) (t : ℕ) : Type 0 where

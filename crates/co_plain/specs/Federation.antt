@@ -16,6 +16,7 @@ use Rattle.co_plain.specs.declared.coord_state.CoordState.{CoordState}
 use Rattle.co_plain.specs.declared.member_state.MemberState.{MemberState}
 use Rattle.co_plain.specs.declared.session.Decided.{Decided}
 use Rattle.co_plain.specs.declared.session.Session.{Session}
+use Rattle.co_plain.specs.Numbers.{TxnNumber, MemberNumber, CoordNumber}
 use Rattle.co_plain.specs.MemberView.{Numbers}
 use Rattle.co_plain.specs.declared.member_step.MemberStep.{MemberStep}
 use Rattle.co_plain.specs.declared.coord_step.CoordStep.{CoordStep}
@@ -28,8 +29,8 @@ pub record Federation : Type 0 where
   -- how many coordinators there are
   pub coordinators : ℕ
   -- every member and coordinator, by its number
-  pub member : ℕ → MemberState
-  pub coord : ℕ → CoordState
+  pub member : MemberNumber → MemberState
+  pub coord : CoordNumber → CoordState
   -- the transactions begun in this run
   pub sessions : Table Session
   -- the messages sent in this run, newest first
@@ -37,8 +38,8 @@ pub record Federation : Type 0 where
   -- the transactions decided in this run, newest first
   pub decided : List Decided
   -- the records of each log as it was opened, newest first, and the numbers that stand in them
-  pub opened_member : ℕ → List Record
-  pub opened_coord : ℕ → List Record
+  pub opened_member : MemberNumber → List Record
+  pub opened_coord : CoordNumber → List Record
   pub used : Numbers
 
 -- the state after a step, and the items that it tells, oldest first
@@ -56,12 +57,12 @@ answers s a = record { state = s; items = item.Answered a ∷ [] }
 
 -- A commit record of a transaction that became stable at its deciding node decides it, with what its client
 -- had been told by then.
-abbrev pub decided_where : Option Session → Node → ℕ → List Decided → List Decided
+abbrev pub decided_where : Option Session → Node → TxnNumber → List Decided → List Decided
 decided_where None at t decided = decided
 decided_where (Some session) at t decided =
     if same_node session.by at then record { txn = t; told = session.told } ∷ decided else decided
 
-abbrev pub decided_by_kind : MarkKind → Option Session → Node → ℕ → List Decided → List Decided
+abbrev pub decided_by_kind : MarkKind → Option Session → Node → TxnNumber → List Decided → List Decided
 decided_by_kind kind.Commit session at t decided = decided_where session at t decided
 decided_by_kind _ session at t decided = decided
 
@@ -70,13 +71,13 @@ decide_all sessions decided [] = decided
 decide_all sessions decided (mark ∷ marks) =
     decide_all sessions (decided_by_kind mark.kind (look sessions mark.number) mark.node mark.number decided) marks
 
-abbrev pub with_member : Federation → ℕ → MemberState → Federation
+abbrev pub with_member : Federation → MemberNumber → MemberState → Federation
 with_member s m x = record s { member = with_at s.member m x }
 
-abbrev pub with_coord : Federation → ℕ → CoordState → Federation
+abbrev pub with_coord : Federation → CoordNumber → CoordState → Federation
 with_coord s c x = record s { coord = with_at s.coord c x }
 
-abbrev pub with_session : Federation → ℕ → Session → Federation
+abbrev pub with_session : Federation → TxnNumber → Session → Federation
 with_session s t session = record s { sessions = put s.sessions t session }
 
 -- the messages of a step are sent, and its marks may decide
@@ -88,7 +89,7 @@ message_list None = []
 message_list (Some message) = message ∷ []
 
 -- a step of one member, as a step of the federation
-abbrev pub at_member : Federation → ℕ → MemberStep → Stepped
+abbrev pub at_member : Federation → MemberNumber → MemberStep → Stepped
 at_member s m did =
     record {
       state = noted (with_member s m did.state) did.marks (message_list did.sent);
@@ -96,7 +97,7 @@ at_member s m did =
     }
 
 -- a step of one coordinator, as a step of the federation
-abbrev pub at_coord : Federation → ℕ → CoordStep → Stepped
+abbrev pub at_coord : Federation → CoordNumber → CoordStep → Stepped
 at_coord s c did =
     record {
       state = noted (with_coord s c did.state) did.marks did.sent;

@@ -1,6 +1,6 @@
 -- The invariants of every run, but for the ninth. Facts of a member are facts of its view, and hold of what its memory has and of
 -- what its stable records tell: the two sides.
-use Rattle.std.specs.Prelude.{ℕ, Bool, true, false, ◌||◌, ◌≡◌, ◌≢◌, ◌≤◌, ◌⊎◌, List, [], ◌∷◌, ◌++◌, length, Option, None, Some}
+use Rattle.std.specs.Prelude.{ℕ, Bool, true, false, ◌&&◌, ◌||◌, ◌==◌, nat_le, ◌≡◌, ◌≢◌, ◌≤◌, ◌⊎◌, List, [], ◌∷◌, ◌++◌, length, Option, None, Some}
 use Rattle.std.specs.FinMap.{entries}
 use Rattle.co_base.specs.declared.node.Node.TheVariants as node
 use Rattle.co_base.specs.declared.part.Part.{Part}
@@ -25,7 +25,7 @@ use Rattle.co_plain.specs.declared.member_state.MemberState.{MemberState}
 use Rattle.co_plain.specs.declared.session.Decided.{Decided}
 use Rattle.co_plain.specs.declared.session.Session.{Session}
 use Rattle.co_plain.specs.declared.session.Told.{Told}
-use Rattle.co_plain.specs.Numbers.{has_number}
+use Rattle.co_plain.specs.Numbers.{TxnNumber, MemberNumber, has_number}
 use Rattle.co_plain.specs.declared.member_view.MemberView.{MemberView}
 use Rattle.co_plain.specs.MemberView.{view_of, recovered_view, sets_conflict}
 use Rattle.co_plain.specs.CoordView.{has_commit_of}
@@ -48,7 +48,7 @@ view Memory x = view_of x.engine x.committed
 view Stable x = recovered_view x.log.stable
 
 -- voted or committed on a side
-abbrev pub stands : MemberView → ℕ → Bool
+abbrev pub stands : MemberView → TxnNumber → Bool
 stands v t = holds v.voted t || holds v.committed t
 
 -- 1. The voted transactions of a member do not conflict.
@@ -76,10 +76,10 @@ pub record VotedReplay (v : MemberView) (told : ℕ → List Told) (begun : ℕ 
   pub reads : (t : ℕ) (vote : Vote) → begun t ≡ true → look v.voted t ≡ Some vote → vote.sets.reads ≡ told_spans (told t)
   pub writes : (t : ℕ) (vote : Vote) → begun t ≡ true → look v.voted t ≡ Some vote → vote.sets.writes ≡ told_changes (told t)
 
-abbrev pub is_begun : Federation → ℕ → Bool
+abbrev pub is_begun : Federation → TxnNumber → Bool
 is_begun s t = holds s.sessions t
 
-abbrev pub told_here : Federation → ℕ → ℕ → List Told
+abbrev pub told_here : Federation → MemberNumber → TxnNumber → List Told
 told_here s m t = told_at (told_of s t) m
 
 -- 3. What a member told is durable.
@@ -90,7 +90,7 @@ pub record SaidIsDurable (s : Federation) : Type 0 where
       holds (view side (s.member m)).committed t ≡ true
 
 -- whether a vote is settled: decided in this run, or committed in the opened file of its coordinator
-abbrev pub is_settled_vote : Federation → ℕ → Vote → Bool
+abbrev pub is_settled_vote : Federation → TxnNumber → Vote → Bool
 is_settled_vote s t vote = is_decided s.decided t || has_commit_of (s.opened_coord vote.coord) t
 
 -- 4. The serial records are the installed ones with the settled votes laid over, the least number first; and who is decided and
@@ -105,16 +105,27 @@ ReadsAreSerial s =
     (later earlier : List Decided) (d : Decided) → s.decided ≡ later ++ d ∷ earlier →
     replies_of d.told ≡ run_whole (serial_records s earlier) (sites_of d.told)
 
--- a participant of a decided transaction: it held operations of it, or an opened commit names it
+-- a participant of a transaction: it holds operations of it, or an opened commit names it
 pub data TakesPart (s : Federation) (t m : ℕ) : Type 0 where
   HeldOperations : 1 ≤ count_at (told_of s t) m → TakesPart s t m
   NamedBefore : (c : ℕ) (members : List ℕ) → unended_in (s.opened_coord c) t ≡ Some members → has_number members m ≡ true → TakesPart s t m
 
--- 5. Decision messages are true.
+-- whether the member held operations of the transaction at its decision
+abbrev pub took_part : List Decided → TxnNumber → MemberNumber → Bool
+took_part [] t m = false
+took_part (d ∷ ds) t m = (d.txn == t) && nat_le 1 (count_at d.told m) || took_part ds t m
+
+-- a participant of a settled transaction: it held operations of it at its decision, or an opened commit names it
+pub data TookPart (s : Federation) (t m : ℕ) : Type 0 where
+  HeldAtDecision : took_part s.decided t m ≡ true → TookPart s t m
+  NamedInOpened : (c : ℕ) (members : List ℕ) → unended_in (s.opened_coord c) t ≡ Some members → has_number members m ≡ true → TookPart s t m
+
+-- 5. Decision messages are true: an abort is of a presumed aborted transaction, a commit of a settled one, and goes to one of its
+-- participants.
 pub record DecisionsAreTrue (s : Federation) : Type 0 where
   pub aborts : (t c m : ℕ) → was_sent s.sent (message.Decide t c m false) ≡ true →
       (BelongsTo s t c × IsPresumedAborted s t) ⊎ (log_has_committed (s.member m).log.stable t ≡ true)
-  pub commits : (t c m : ℕ) → was_sent s.sent (message.Decide t c m true) ≡ true → IsSettled s t × TakesPart s t m
+  pub commits : (t c m : ℕ) → was_sent s.sent (message.Decide t c m true) ≡ true → IsSettled s t × TookPart s t m
 
 -- the operations that a member keeps are those that the client was told of, each with the reply that the
 -- records at its stamp give with the earlier writes laid over
@@ -126,12 +137,6 @@ KeptAsTold b (o ∷ os) (t ∷ ts) =
     (o.op ≡ t.site.op)
     × (t.reply ≡ reply_to (with_changes (records_at b.base b.installed o.stamp) (changes_of os)) o.op)
     × KeptAsTold b os ts
-
-abbrev pub entry_parts : Option Entry → List Part
-entry_parts None = []
-entry_parts (Some entry.Idle) = []
-entry_parts (Some (entry.Collecting parts yeses)) = parts
-entry_parts (Some (entry.Committed members acks)) = []
 
 -- each operation saw installs that were made
 abbrev pub StampsIn : ℕ → List Operation → Type 0
@@ -149,7 +154,7 @@ pub record ActiveMatchesSession (s : Federation) : Type 0 where
   pub collecting : (t c : ℕ) (parts : List Part) (yeses : List ℕ) → look (s.coord c).table t ≡ Some (entry.Collecting parts yeses) →
       parts ≡ parts_of (told_of s t)
 
-abbrev pub txn_of : Message → ℕ
+abbrev pub txn_of : Message → TxnNumber
 txn_of (message.Prepare t c m n) = t
 txn_of (message.Vote t m c granted) = t
 txn_of (message.Decide t c m commit) = t
@@ -157,7 +162,7 @@ txn_of (message.Ask t m c) = t
 txn_of (message.Ack t m c) = t
 
 -- asked in its session, or in an opened log
-abbrev pub is_asked_or_used : Federation → ℕ → Bool
+abbrev pub is_asked_or_used : Federation → TxnNumber → Bool
 is_asked_or_used s t = is_asked s t || holds s.used t
 
 -- 7. Only a transaction that was asked to end is past its last operation.
@@ -194,7 +199,7 @@ pub record LogMatchesMemory (s : Federation) (m : ℕ) : Type 0 where
 
 -- where a transaction is held: in its coordinator's table, as a participant where it collects or is committed,
 -- or committed at the member
-abbrev pub takes_part_in : Option Entry → ℕ → Bool
+abbrev pub takes_part_in : Option Entry → MemberNumber → Bool
 takes_part_in None m = false
 takes_part_in (Some entry.Idle) m = false
 takes_part_in (Some (entry.Collecting parts yeses)) m = has_number (members_of parts) m

@@ -7,9 +7,10 @@ use Rattle.co_record.specs.declared.record.Record.{Record}
 use Rattle.co_record.specs.declared.record.Record.TheVariants as log
 use Rattle.co_record.specs.Marks.{mark_of}
 use Rattle.co_plain.specs.declared.log_state.LogState.{LogState}
-use Rattle.co_plain.specs.declared.log_state.Stop.{Stop}
+use Rattle.co_base.specs.declared.leaves.Stop.{Stop}
 use Rattle.co_plain.specs.declared.outcome.Outcome.{Outcome}
 use Rattle.co_plain.specs.declared.outcome.Outcome.TheVariants.{Completes, StopsAt}
+use Rattle.co_plain.specs.Numbers.{Generation}
 
 -- How a log write of so many device calls ends. An armed stop above that count passes unused.
 abbrev pub outcome_of : Option Stop → ℕ → Outcome
@@ -45,11 +46,11 @@ abbrev pub marks_of : Node → List Record → List Mark
 marks_of node records = map (mark_of node) (reverse records)
 
 -- the mark of a filled spare
-abbrev pub checkpoint_marks : Node → ℕ → List Mark
+abbrev pub checkpoint_marks : Node → Generation → List Mark
 checkpoint_marks node generation = record { node = node; kind = kind.Checkpoint; number = generation } ∷ []
 
 -- the generation of a file: that of its header, which is its oldest record
-abbrev pub generation_in : Option Record → ℕ
+abbrev pub generation_in : Option Record → Generation
 generation_in None = 0
 generation_in (Some (log.Header owner generation)) = generation
 generation_in (Some (log.Prepare t coord count reads writes)) = 0
@@ -58,5 +59,5 @@ generation_in (Some (log.Abort t)) = 0
 generation_in (Some (log.End t)) = 0
 generation_in (Some (log.Checkpoint rows undos committed)) = 0
 
-abbrev pub generation_of : List Record → ℕ
+abbrev pub generation_of : List Record → Generation
 generation_of records = generation_in (slice_get (reverse records) 0)

@@ -1,5 +1,5 @@
 -- A step of one member: its state after, its answer, at most one message, and what became stable.
-use Rattle.std.specs.Prelude.{ℕ, Bool, true, false, List, [], ◌++◌, Option, None, Some}
+use Rattle.std.specs.Prelude.{Bool, true, false, List, [], ◌++◌, Option, None, Some}
 use Rattle.co_base.specs.declared.head.Kind.{Kind}
 use Rattle.co_base.specs.declared.node.Node.TheVariants as node
 use Rattle.co_message.specs.declared.answer.Answer.{Answer}
@@ -16,6 +16,7 @@ use Rattle.co_plain.specs.declared.standing.Standing.{Standing}
 use Rattle.co_plain.specs.declared.standing.Standing.TheVariants.{IsActive, IsVoted, IsInstalled, IsAbsent}
 use Rattle.co_plain.specs.declared.outcome.Outcome.{Outcome}
 use Rattle.co_plain.specs.declared.outcome.Outcome.TheVariants.{Completes, StopsAt}
+use Rattle.co_plain.specs.Numbers.{TxnNumber, MemberNumber, CallNumber}
 use Rattle.co_plain.specs.LogWrite.{outcome_of, with_batch, crashed_log, marks_of}
 use Rattle.co_frame.specs.Gate.{batch_is_stable}
 use Rattle.co_plain.specs.declared.member_view.MemberView.{MemberView}
@@ -36,7 +37,7 @@ standing_by false true committed = IsVoted
 standing_by false false true = IsInstalled
 standing_by false false false = IsAbsent
 
-abbrev pub standing_of : MemberState → ℕ → Standing
+abbrev pub standing_of : MemberState → TxnNumber → Standing
 standing_of x t = standing_by (holds x.engine.active t) (holds x.engine.voted t) (holds x.committed t)
 
 -- The member goes down. What is left is what its stable records tell: no active transaction, no asked
@@ -60,11 +61,11 @@ abbrev pub with_engine : MemberState → EngineState → MemberState
 with_engine x b = record x { engine = b }
 
 -- an undecided transaction is forgotten, with its asked mark
-abbrev pub dropped : MemberState → ℕ → MemberState
+abbrev pub dropped : MemberState → TxnNumber → MemberState
 dropped x t = record x { engine = after_drop x.engine t; asked = without x.asked t }
 
 -- A stopped write of a batch: the completed write and a crash where the batch counts, else the crash alone.
-abbrev pub stopped_member : ℕ → MemberState → ℕ → Bool → List Record → MemberStep
+abbrev pub stopped_member : MemberNumber → MemberState → CallNumber → Bool → List Record → MemberStep
 stopped_member m next call true batch =
     record {
       state = member_down next (with_batch next.log batch);
@@ -77,7 +78,7 @@ stopped_member m next call false batch =
 
 -- The batch of the waiting records and these, newest first, is forced. The state that is given is the one to
 -- follow, with the log as it was. It follows, with the answer and the message, where the write completes.
-abbrev pub forced_by : ℕ → MemberState → List Record → Answer → Option Message → Outcome → MemberStep
+abbrev pub forced_by : MemberNumber → MemberState → List Record → Answer → Option Message → Outcome → MemberStep
 forced_by m next batch a message Completes =
     record {
       state = with_log next (with_batch next.log batch);
@@ -87,5 +88,5 @@ forced_by m next batch a message Completes =
     }
 forced_by m next batch a message (StopsAt call leaves) = stopped_member m next call (batch_is_stable call leaves) batch
 
-abbrev pub force_member : ℕ → MemberState → List Record → Answer → Option Message → MemberStep
+abbrev pub force_member : MemberNumber → MemberState → List Record → Answer → Option Message → MemberStep
 force_member m next batch a message = forced_by m next batch a message (outcome_of next.log.armed 4)

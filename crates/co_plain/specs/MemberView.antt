@@ -14,12 +14,13 @@ pub use Rattle.co_state.specs.Conflicts.{sets_conflict}
 use Rattle.co_state.specs.EngineState.{installed_records}
 use Rattle.co_state.specs.Effects.{records_from, restored}
 use Rattle.co_plain.specs.declared.member_view.MemberView.{MemberView}
+use Rattle.co_plain.specs.Numbers.{TxnNumber, Place}
 
 -- a set of transactions
 abbrev pub Numbers : Type 0
 Numbers = Table (Unit {0})
 
-abbrev pub with_number : Numbers → ℕ → Numbers
+abbrev pub with_number : Numbers → TxnNumber → Numbers
 with_number numbers t = put numbers t tt
 
 abbrev pub with_numbers : Numbers → List ℕ → Numbers
@@ -34,15 +35,15 @@ abbrev pub nothing_known : MemberView
 nothing_known = record { records = empty; voted = no_entries; committed = no_entries }
 
 -- a transaction voted
-abbrev pub cast_in : MemberView → ℕ → Vote → MemberView
+abbrev pub cast_in : MemberView → TxnNumber → Vote → MemberView
 cast_in v t vote = record v { voted = put v.voted t vote }
 
 -- a voted transaction was aborted
-abbrev pub forget_in : MemberView → ℕ → MemberView
+abbrev pub forget_in : MemberView → TxnNumber → MemberView
 forget_in v t = record v { voted = without v.voted t }
 
 -- a voted transaction was committed: its writes are laid over the records
-abbrev pub install_in : MemberView → ℕ → Option Vote → MemberView
+abbrev pub install_in : MemberView → TxnNumber → Option Vote → MemberView
 install_in v t None = v
 install_in v t (Some vote) =
     record { records = with_changes v.records vote.sets.writes; voted = without v.voted t; committed = with_number v.committed t }
@@ -80,7 +81,7 @@ is_empty (x ∷ xs) = false
 
 -- Which record may stand where in a member's log: behind so many records, which tell this view, in a
 -- federation of so many coordinators.
-abbrev pub member_allows : ℕ → ℕ → MemberView → Record → Bool
+abbrev pub member_allows : ℕ → Place → MemberView → Record → Bool
 member_allows coords place v (log.Header node generation) = place == 0
 member_allows coords place v (log.Checkpoint rows undos committed) = place == 1
 member_allows coords place v (log.Prepare t coord count reads writes) =
@@ -91,7 +92,7 @@ member_allows coords place v (log.Abort t) = holds v.voted t
 member_allows coords place v (log.End t) = false
 
 -- the place, counted from 0, of the first record that is not allowed, behind so many records
-abbrev pub first_refused_from : ℕ → ℕ → MemberView → List Record → Option ℕ
+abbrev pub first_refused_from : ℕ → Place → MemberView → List Record → Option ℕ
 first_refused_from coords place v [] = None
 first_refused_from coords place v (r ∷ rs) =
     if member_allows coords place v r then first_refused_from coords (suc place) (view_with v r) rs else Some place

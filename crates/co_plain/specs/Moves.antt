@@ -18,10 +18,10 @@ use Rattle.co_state.specs.Effects.{with_operation}
 use Rattle.co_plain.specs.declared.coord_state.CoordState.{CoordState}
 use Rattle.co_plain.specs.declared.coord_state.Entry.{Entry}
 use Rattle.co_plain.specs.declared.coord_state.Entry.TheVariants as entry
-use Rattle.co_plain.specs.declared.log_state.Stop.{Stop}
+use Rattle.co_base.specs.declared.leaves.Stop.{Stop}
 use Rattle.co_plain.specs.declared.member_state.MemberState.{MemberState}
 use Rattle.co_plain.specs.declared.session.Session.{Session}
-use Rattle.co_plain.specs.Numbers.{counted, first_lacking, has_number, next_generation}
+use Rattle.co_plain.specs.Numbers.{TxnNumber, MemberNumber, CoordNumber, Count, counted, first_lacking, has_number, next_generation}
 use Rattle.co_plain.specs.LogWrite.{with_batch, with_filled_spare, with_spare, with_stop, with_waiting, generation_of}
 use Rattle.co_plain.specs.MemberStep.{with_log, with_engine, dropped, member_down}
 use Rattle.co_plain.specs.Member.{most_operations, prepare_record, voted_state, installed_state, with_mark, coord_of}
@@ -35,61 +35,61 @@ use Rattle.co_plain.specs.Federation.{Federation, with_member, with_coord, with_
 use Rattle.co_plain.specs.Step.{is_used}
 use Rattle.co_plain.specs.Decisions.{told_of, is_asked, BelongsTo, IsPresumedAborted, IsSettled}
 use Rattle.co_plain.specs.SoundLogs.{log_has_committed}
-use Rattle.co_plain.specs.Invariants.{TakesPart, is_asked_or_used}
+use Rattle.co_plain.specs.Invariants.{TookPart, is_asked_or_used}
 
 pub data Move : Type 0 where
   -- of a member: an answered operation, with the session's entry; a prepare is marked; a vote; what is forgotten;
   -- an install; a local transaction is cast, decided and installed at once
-  Operate : ℕ → ℕ → Op → Move
-  MarkAsked : ℕ → ℕ → ℕ → ℕ → Move
-  Cast : ℕ → ℕ → ℕ → ℕ → Move
-  DropActive : ℕ → ℕ → Move
-  DropVoted : ℕ → ℕ → Move
-  Install : ℕ → ℕ → Move
-  CommitLocally : ℕ → ℕ → Move
+  Operate : TxnNumber → MemberNumber → Op → Move
+  MarkAsked : TxnNumber → MemberNumber → CoordNumber → Count → Move
+  Cast : TxnNumber → MemberNumber → CoordNumber → Count → Move
+  DropActive : TxnNumber → MemberNumber → Move
+  DropVoted : TxnNumber → MemberNumber → Move
+  Install : TxnNumber → MemberNumber → Move
+  CommitLocally : TxnNumber → MemberNumber → Move
   -- of a member's log
-  CrashMember : ℕ → Move
-  RestartMember : ℕ → Move
-  ArmMember : ℕ → Option Stop → Move
-  CloseMemberSpare : ℕ → Bool → Move
-  FillMemberSpare : ℕ → Move
+  CrashMember : MemberNumber → Move
+  RestartMember : MemberNumber → Move
+  ArmMember : MemberNumber → Option Stop → Move
+  CloseMemberSpare : MemberNumber → Bool → Move
+  FillMemberSpare : MemberNumber → Move
   -- of a coordinator
-  Begin : ℕ → ℕ → Move
-  Collect : ℕ → ℕ → Move
-  RecordYes : ℕ → ℕ → ℕ → Move
-  Decide : ℕ → ℕ → Move
-  Leave : ℕ → ℕ → Move
-  RecordAck : ℕ → ℕ → ℕ → Move
-  End : ℕ → ℕ → Move
+  Begin : TxnNumber → CoordNumber → Move
+  Collect : TxnNumber → CoordNumber → Move
+  RecordYes : TxnNumber → CoordNumber → MemberNumber → Move
+  Decide : TxnNumber → CoordNumber → Move
+  Leave : TxnNumber → CoordNumber → Move
+  RecordAck : TxnNumber → CoordNumber → MemberNumber → Move
+  End : TxnNumber → CoordNumber → Move
   -- of a coordinator's log
-  CrashCoord : ℕ → Move
-  RestartCoord : ℕ → Move
-  ArmCoord : ℕ → Option Stop → Move
-  CloseCoordSpare : ℕ → Bool → Move
-  FillCoordSpare : ℕ → Move
+  CrashCoord : CoordNumber → Move
+  RestartCoord : CoordNumber → Move
+  ArmCoord : CoordNumber → Option Stop → Move
+  CloseCoordSpare : CoordNumber → Bool → Move
+  FillCoordSpare : CoordNumber → Move
   -- of the client and the network
-  BeginLocal : ℕ → ℕ → Move
-  AskEnd : ℕ → Move
+  BeginLocal : TxnNumber → MemberNumber → Move
+  AskEnd : TxnNumber → Move
   Send : Message → Move
 
 -- the session of a transaction after an answer, where it was begun
-abbrev pub entered_reply : Federation → ℕ → ℕ → Op → Option Session → Federation
+abbrev pub entered_reply : Federation → TxnNumber → MemberNumber → Op → Option Session → Federation
 entered_reply s t m o None = s
 entered_reply s t m o (Some session) =
     with_session s t (with_told session (record { site = record { member = m; op = o }; reply = operation_reply (s.member m).engine t o }))
 
-abbrev pub marked_over : Federation → ℕ → Option Session → Federation
+abbrev pub marked_over : Federation → TxnNumber → Option Session → Federation
 marked_over s t None = s
 marked_over s t (Some session) = with_session s t (asked_to_end session)
 
-abbrev pub cast_state : MemberState → ℕ → ℕ → ℕ → MemberState
+abbrev pub cast_state : MemberState → TxnNumber → CoordNumber → Count → MemberState
 cast_state x t c n =
     with_log (voted_state x t c n) (with_batch x.log (prepare_record t c n (sets_of (operations_of x.engine t)) ∷ []))
 
-abbrev pub install_state : MemberState → ℕ → MemberState
+abbrev pub install_state : MemberState → TxnNumber → MemberState
 install_state x t = with_log (installed_state x t) (with_batch x.log (log.Commit t [] ∷ []))
 
-abbrev pub local_state : MemberState → ℕ → ℕ → MemberState
+abbrev pub local_state : MemberState → TxnNumber → Count → MemberState
 local_state x t n =
     with_log (installed_state (voted_state x t local_coord (counted n)) t)
     (with_batch x.log (log.Commit t [] ∷ prepare_record t local_coord (counted n) (sets_of (operations_of x.engine t)) ∷ []))
@@ -98,40 +98,40 @@ abbrev pub restarted : MemberState → MemberState
 restarted x = record x { up = true }
 
 -- the decision order grows
-abbrev pub with_decision : Federation → ℕ → Federation
+abbrev pub with_decision : Federation → TxnNumber → Federation
 with_decision s t = record s { decided = record { txn = t; told = told_of s t } ∷ s.decided }
 
 abbrev pub with_message : Federation → Message → Federation
 with_message s note = record s { sent = send_one s.sent note }
 
-abbrev pub entry_at : Federation → ℕ → ℕ → Option Entry
+abbrev pub entry_at : Federation → TxnNumber → CoordNumber → Option Entry
 entry_at s t c = look (s.coord c).table t
 
-abbrev pub with_entry : Federation → ℕ → ℕ → Entry → Federation
+abbrev pub with_entry : Federation → TxnNumber → CoordNumber → Entry → Federation
 with_entry s t c e = with_coord s c (with_table (s.coord c) (put (s.coord c).table t e))
 
-abbrev pub without_entry : Federation → ℕ → ℕ → Federation
+abbrev pub without_entry : Federation → TxnNumber → CoordNumber → Federation
 without_entry s t c = with_coord s c (with_table (s.coord c) (without (s.coord c).table t))
 
 -- a coordinator's commit is forced. Without participants the transaction leaves the table at once.
-abbrev pub table_decided : CoordState → ℕ → List ℕ → CoordState
+abbrev pub table_decided : CoordState → TxnNumber → List ℕ → CoordState
 table_decided x t [] = with_table x (without x.table t)
 table_decided x t (m ∷ ms) = with_table x (put x.table t (entry.Committed (m ∷ ms) []))
 
-abbrev pub decide_members : CoordState → ℕ → List ℕ → CoordState
+abbrev pub decide_members : CoordState → TxnNumber → List ℕ → CoordState
 decide_members x t members = with_coord_log (table_decided x t members) (with_batch x.log (log.Commit t members ∷ []))
 
-abbrev pub decide_entry : CoordState → ℕ → Option Entry → CoordState
+abbrev pub decide_entry : CoordState → TxnNumber → Option Entry → CoordState
 decide_entry x t None = x
 decide_entry x t (Some entry.Idle) = decide_members x t []
 decide_entry x t (Some (entry.Collecting parts yeses)) = decide_members x t (members_of parts)
 decide_entry x t (Some (entry.Committed members acks)) = x
 
-abbrev pub record_yes : Federation → ℕ → ℕ → ℕ → Option Entry → Federation
+abbrev pub record_yes : Federation → TxnNumber → CoordNumber → MemberNumber → Option Entry → Federation
 record_yes s t c m (Some (entry.Collecting parts yeses)) = with_entry s t c (entry.Collecting parts (m ∷ yeses))
 record_yes s t c m _ = s
 
-abbrev pub record_ack : Federation → ℕ → ℕ → ℕ → Option Entry → Federation
+abbrev pub record_ack : Federation → TxnNumber → CoordNumber → MemberNumber → Option Entry → Federation
 record_ack s t c m (Some (entry.Committed members acks)) = with_entry s t c (entry.Committed members (m ∷ acks))
 record_ack s t c m _ = s
 
@@ -175,15 +175,15 @@ effect s (AskEnd t) = marked_over s t (look s.sessions t)
 effect s (Send note) = with_message s note
 
 -- a session of a transaction of a coordinator, of a local one, and one that was not asked to end
-abbrev pub session_by_coord : Option Session → ℕ → Type 0
+abbrev pub session_by_coord : Option Session → CoordNumber → Type 0
 session_by_coord None c = ⊥
 session_by_coord (Some session) c = session.by ≡ node.Coord c
 
-abbrev pub session_by_member : Option Session → ℕ → Type 0
+abbrev pub session_by_member : Option Session → MemberNumber → Type 0
 session_by_member None m = ⊥
 session_by_member (Some session) m = session.by ≡ node.Member m
 
-abbrev pub may_operate_at : Option Session → ℕ → Type 0
+abbrev pub may_operate_at : Option Session → MemberNumber → Type 0
 may_operate_at None m = ⊥
 may_operate_at (Some session) m = (session.asked ≡ false) × ((n : ℕ) → session.by ≡ node.Member n → n ≡ m)
 
@@ -193,7 +193,7 @@ may_send s (message.Prepare t c m n) =
     (parts : List Part) × (yeses : List ℕ) × (entry_at s t c ≡ Some (entry.Collecting parts yeses)) × (has_part parts m ≡ true) × (n ≡ count_at (told_of s t) m)
 may_send s (message.Vote t m c true) = (holds (s.member m).engine.voted t ≡ true) × (coord_of (s.member m) t ≡ c)
 may_send s (message.Vote t m c false) = (n : ℕ) × (was_sent s.sent (message.Prepare t c m n) ≡ true)
-may_send s (message.Decide t c m true) = IsSettled s t × TakesPart s t m × (is_asked_or_used s t ≡ true)
+may_send s (message.Decide t c m true) = IsSettled s t × TookPart s t m × (is_asked_or_used s t ≡ true)
 may_send s (message.Decide t c m false) =
     ((BelongsTo s t c × IsPresumedAborted s t) ⊎ (log_has_committed (s.member m).log.stable t ≡ true)) × (is_asked_or_used s t ≡ true)
 may_send s (message.Ask t m c) = (holds (s.member m).engine.voted t ≡ true) × (coord_of (s.member m) t ≡ c)

@@ -14,6 +14,7 @@ use Rattle.co_state.specs.Table.{no_entries}
 use Rattle.co_plain.specs.declared.coord_state.CoordState.{CoordState}
 use Rattle.co_plain.specs.declared.log_state.LogState.{LogState}
 use Rattle.co_plain.specs.declared.member_state.MemberState.{MemberState}
+use Rattle.co_plain.specs.Numbers.{MemberNumber, CoordNumber}
 use Rattle.co_plain.specs.LogWrite.{marks_of}
 use Rattle.co_plain.specs.declared.member_view.MemberView.{MemberView}
 use Rattle.co_plain.specs.MemberView.{Numbers, numbers_from, with_numbers, recovered_view, engine_from}
@@ -45,17 +46,17 @@ opened_log owner found =
     record { stable = made owner found.records; waiting = []; armed = None; spare_closed = found.spare_closed }
 
 -- the kind of a member, by its number
-abbrev pub kind_of : List Kind → ℕ → Kind
+abbrev pub kind_of : List Kind → MemberNumber → Kind
 kind_of [] m = Lock
 kind_of (k ∷ ks) m = if nat_le m 1 then k else kind_of ks (m - 1)
 
 abbrev pub member_with : Kind → LogState → MemberView → MemberState
 member_with kind l v = record { up = true; engine = engine_from kind v; committed = v.committed; asked = no_entries; log = l }
 
-abbrev pub opened_member : List Kind → ℕ → Found → MemberState
+abbrev pub opened_member : List Kind → MemberNumber → Found → MemberState
 opened_member kinds m found = member_with (kind_of kinds m) (opened_log (node.Member m) found) (recovered_view found.records)
 
-abbrev pub opened_coord : ℕ → Found → CoordState
+abbrev pub opened_coord : CoordNumber → Found → CoordState
 opened_coord c found =
     record { up = true; table = table_from (entries (recovered_commits found.records).unended); log = opened_log (node.Coord c) found }
 
@@ -112,7 +113,3 @@ coord_headers (suc n) found = coord_headers n found ++ header_mark (node.Coord (
 abbrev pub opening_items : List Kind → ℕ → (ℕ → Found) → (ℕ → Found) → List ItemKind
 opening_items kinds coords found_member found_coord =
     items_of (member_headers (length kinds) found_member ++ coord_headers coords found_coord) [] answer.Opened
-
--- a federation over fresh logs
-abbrev pub fresh_federation : List Kind → ℕ → Federation
-fresh_federation kinds coords = opened kinds coords (λ m. fresh) (λ c. fresh)

@@ -1,4 +1,4 @@
--- What is promised of every run from opened logs. The six promises speak of a list of happenings from an opened
+-- What is promised of every run from opened logs. The five promises speak of a list of happenings from an opened
 -- federation; since every front of a list is a list, each holds at any moment, after any crash too.
 use Rattle.std.specs.Prelude.{ℕ, Bool, true, false, ◌&&◌, ◌||◌, ◌==◌, ◌≡◌, List, [], ◌∷◌, ◌++◌, map, reverse}
 use Rattle.co_message.specs.declared.answer.Answer.TheVariants as answer
@@ -13,6 +13,7 @@ use Rattle.co_plain.specs.declared.happening.Happening.{Happening}
 use Rattle.co_plain.specs.declared.happening.Happening.TheVariants as happening
 use Rattle.co_plain.specs.declared.session.Decided.{Decided}
 use Rattle.co_state.specs.Table.{holds}
+use Rattle.co_plain.specs.Numbers.{TxnNumber, MemberNumber}
 use Rattle.co_plain.specs.Federation.{Federation}
 use Rattle.co_plain.specs.Step.{step}
 use Rattle.co_plain.specs.Runs.{run}
@@ -35,12 +36,12 @@ abbrev pub LogsAlone : Federation → List Happening → Type 0
 LogsAlone s hs = (m : ℕ) → durable_in (run hs s) m ≡ serial_records s (run hs s).decided m
 
 -- an event that answers `committed` acknowledges its transaction
-abbrev pub asks_for : Event → ℕ → Bool
+abbrev pub asks_for : Event → TxnNumber → Bool
 asks_for (event.Commit u) t = u == t
 asks_for (event.Deliver (message.Vote u m c granted)) t = u == t
 asks_for _ t = false
 
-abbrev pub is_about : Happening → ℕ → Bool
+abbrev pub is_about : Happening → TxnNumber → Bool
 is_about (happening.Line e) t = asks_for e t
 is_about _ t = false
 
@@ -49,7 +50,7 @@ says_committed [] = false
 says_committed (item.Answered answer.Committed ∷ items) = true
 says_committed (_ ∷ items) = says_committed items
 
-abbrev pub is_acknowledged : Federation → List Happening → ℕ → Bool
+abbrev pub is_acknowledged : Federation → List Happening → TxnNumber → Bool
 is_acknowledged s [] t = false
 is_acknowledged s (h ∷ hs) t = is_about h t && says_committed (step s h).items || is_acknowledged (step s h).state hs t
 
@@ -64,7 +65,7 @@ pub record Acknowledged (s : Federation) (hs : List Happening) : Type 0 where
 
 -- A member decided commit where its log has the transaction among the committed; it decided abort where the
 -- transaction was active or voted there and later is neither, nor installed. A crash that loses it counts.
-abbrev pub HasDecidedCommit : Federation → ℕ → ℕ → Type 0
+abbrev pub HasDecidedCommit : Federation → TxnNumber → MemberNumber → Type 0
 HasDecidedCommit s t m = log_has_committed (s.member m).log.stable t ≡ true
 
 pub record HasDecidedAbort (s : Federation) (hs : List Happening) (t m : ℕ) : Type 0 where

@@ -8,7 +8,7 @@ use Rattle.co_state.specs.Table.{look, holds}
 use Rattle.co_state.specs.declared.verdict.Verdict.{Verdict}
 use Rattle.co_state.specs.declared.verdict.Verdict.TheVariants.{LostOperations, StaleRead, HeldBy, VoteYes}
 use Rattle.co_state.specs.VotingRule.{vote_of}
-use Rattle.co_plain.specs.Numbers.{has_number}
+use Rattle.co_plain.specs.Numbers.{TxnNumber, MemberNumber, CoordNumber, has_number}
 use Rattle.co_plain.specs.declared.coord_state.Entry.{Entry}
 use Rattle.co_plain.specs.declared.coord_state.Entry.TheVariants as entry
 use Rattle.co_plain.specs.declared.member_state.AskedMark.{AskedMark}
@@ -22,10 +22,10 @@ use Rattle.co_plain.specs.Decisions.{votes_for}
 use Rattle.co_plain.specs.Opening.{with_all, union_to}
 use Rattle.co_plain.specs.Federation.{Federation}
 
-abbrev pub IsMember : Federation → ℕ → Type 0
+abbrev pub IsMember : Federation → MemberNumber → Type 0
 IsMember s m = (1 ≤ m) × (m ≤ length s.kinds)
 
-abbrev pub IsCoordinator : Federation → ℕ → Type 0
+abbrev pub IsCoordinator : Federation → CoordNumber → Type 0
 IsCoordinator s c = (1 ≤ c) × (c ≤ s.coordinators)
 
 abbrev pub node_up : Federation → Node → Bool
@@ -49,13 +49,13 @@ may_be_asked IsVoted asked = true
 may_be_asked IsInstalled asked = false
 may_be_asked IsAbsent asked = true
 
-abbrev pub lacks_yes : Option Entry → ℕ → Bool
+abbrev pub lacks_yes : Option Entry → MemberNumber → Bool
 lacks_yes None m = false
 lacks_yes (Some entry.Idle) m = false
 lacks_yes (Some (entry.Collecting parts yeses)) m = has_part parts m && not (has_number yeses m)
 lacks_yes (Some (entry.Committed members acks)) m = false
 
-abbrev pub prepare_helps : Federation → ℕ → ℕ → ℕ → Bool
+abbrev pub prepare_helps : Federation → TxnNumber → MemberNumber → CoordNumber → Bool
 prepare_helps s t m c =
     lacks_yes (look (s.coord c).table t) m && may_be_asked (standing_of (s.member m) t) (holds (s.member m).asked t)
 
@@ -66,34 +66,34 @@ is_free (StaleRead key) = true
 is_free (HeldBy u) = false
 is_free VoteYes = true
 
-abbrev pub free_where_asked : EngineState → ℕ → Option AskedMark → Bool
+abbrev pub free_where_asked : EngineState → TxnNumber → Option AskedMark → Bool
 free_where_asked b t None = false
 free_where_asked b t (Some mark) = is_free (vote_of b t mark.count)
 
-abbrev pub vote_helps : Federation → ℕ → ℕ → Bool
+abbrev pub vote_helps : Federation → TxnNumber → MemberNumber → Bool
 vote_helps s t m =
     holds (s.member m).engine.active t && free_where_asked (s.member m).engine t (look (s.member m).asked t)
 
 -- the commit can help: a participant has not acknowledged
-abbrev pub lacks_ack : Option Entry → ℕ → Bool
+abbrev pub lacks_ack : Option Entry → MemberNumber → Bool
 lacks_ack None m = false
 lacks_ack (Some entry.Idle) m = false
 lacks_ack (Some (entry.Collecting parts yeses)) m = false
 lacks_ack (Some (entry.Committed members acks)) m = has_number members m && not (has_number acks m)
 
-abbrev pub commit_helps : Federation → ℕ → ℕ → ℕ → Bool
+abbrev pub commit_helps : Federation → TxnNumber → MemberNumber → CoordNumber → Bool
 commit_helps s t m c = lacks_ack (look (s.coord c).table t) m
 
 -- a question can help: the coordinator's table lacks what is voted here
-abbrev pub ask_helps : Federation → ℕ → ℕ → ℕ → Bool
+abbrev pub ask_helps : Federation → TxnNumber → MemberNumber → CoordNumber → Bool
 ask_helps s t m c = votes_for (look (s.member m).engine.voted t) c && not (holds (s.coord c).table t)
 
 -- an exchange that can help
 pub data Exchange : Type 0 where
-  Prepares : ℕ → ℕ → ℕ → Exchange
-  Votes : ℕ → ℕ → Exchange
-  Commits : ℕ → ℕ → ℕ → Exchange
-  Asks : ℕ → ℕ → ℕ → Exchange
+  Prepares : TxnNumber → MemberNumber → CoordNumber → Exchange
+  Votes : TxnNumber → MemberNumber → Exchange
+  Commits : TxnNumber → MemberNumber → CoordNumber → Exchange
+  Asks : TxnNumber → MemberNumber → CoordNumber → Exchange
 
 abbrev pub IsEnabled : Federation → Exchange → Type 0
 IsEnabled s (Prepares t m c) = IsMember s m × IsCoordinator s c × (prepare_helps s t m c ≡ true)
@@ -102,7 +102,7 @@ IsEnabled s (Commits t m c) = IsMember s m × IsCoordinator s c × (commit_helps
 IsEnabled s (Asks t m c) = IsMember s m × IsCoordinator s c × (ask_helps s t m c ≡ true)
 
 -- Busy: an exchange can be about it. Voted at a member, or asked for its vote there,
-abbrev pub busy_at : MemberState → ℕ → Bool
+abbrev pub busy_at : MemberState → TxnNumber → Bool
 busy_at x t = holds x.engine.voted t || holds x.asked t
 
 -- or in the table of a coordinator, and not idle.
@@ -125,7 +125,7 @@ pub record IsQuiet (s : Federation) : Type 0 where
 abbrev pub table_numbers : {X : Type 0} → List (ℕ × X) → Numbers
 table_numbers es = numbers_from (map (λ e. e.0) es)
 
-abbrev pub takes_part : ℕ → Entry → Bool
+abbrev pub takes_part : MemberNumber → Entry → Bool
 takes_part m entry.Idle = false
 takes_part m (entry.Collecting parts yeses) = has_part parts m
 takes_part m (entry.Committed members acks) = has_number members m
@@ -139,7 +139,7 @@ open_numbers s =
     (union_to (length s.kinds) (λ m. open_here (s.member m)))
     (union_to s.coordinators (λ c. table_numbers (entries (s.coord c).table)))
 
-abbrev pub open_between : Federation → ℕ → Numbers
+abbrev pub open_between : Federation → MemberNumber → Numbers
 open_between s m =
     with_all
     (open_here (s.member m))

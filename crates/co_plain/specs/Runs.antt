@@ -1,11 +1,12 @@
 -- Runs: a list of happenings, and the items that they tell.
-use Rattle.std.specs.Prelude.{ℕ, suc, List, [], ◌∷◌, ◌++◌, map}
+use Rattle.std.specs.Prelude.{suc, List, [], ◌∷◌, ◌++◌, map}
 use Rattle.co_message.specs.declared.event.Event.{Event}
 use Rattle.co_message.specs.declared.item.Item.{Item}
 use Rattle.co_message.specs.declared.item.ItemKind.{ItemKind}
 use Rattle.co_message.specs.declared.item.ItemKind.TheVariants as item
 use Rattle.co_plain.specs.declared.happening.Happening.{Happening}
 use Rattle.co_plain.specs.declared.happening.Happening.TheVariants as happening
+use Rattle.co_plain.specs.Numbers.{LineNumber}
 use Rattle.co_plain.specs.Federation.{Federation}
 use Rattle.co_plain.specs.Step.{step}
 
@@ -15,12 +16,12 @@ run [] s = s
 run (h ∷ hs) s = run hs (step s h).state
 
 -- items of one line bear its number
-abbrev pub numbered : ℕ → List ItemKind → List Item
+abbrev pub numbered : LineNumber → List ItemKind → List Item
 numbered number items = map (λ what. record { number = number; what = what }) items
 
 -- the items of the events of schedule lines, the first of which has this number: each event tells itself,
 -- and then what came of it
-abbrev pub transcript : ℕ → List Event → Federation → List Item
+abbrev pub transcript : LineNumber → List Event → Federation → List Item
 transcript number [] s = []
 transcript number (e ∷ es) s =
     numbered number (item.Event e ∷ (step s (happening.Line e)).items) ++ transcript (suc number) es (step s (happening.Line e)).state

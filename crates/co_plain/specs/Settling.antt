@@ -6,6 +6,7 @@ use Rattle.co_base.specs.declared.node.Node.TheVariants as node
 use Rattle.co_state.specs.Table.{look, holds}
 use Rattle.co_plain.specs.declared.coord_state.Entry.{Entry}
 use Rattle.co_plain.specs.declared.coord_state.Entry.TheVariants as entry
+use Rattle.co_plain.specs.Numbers.{TxnNumber, MemberNumber}
 use Rattle.co_plain.specs.Federation.{Federation}
 use Rattle.co_plain.specs.Quiet.{Exchange, Prepares, Votes, Commits, Asks, IsEnabled, IsQuiet, IsMember, IsCoordinator, IsNode, node_up}
 
@@ -23,7 +24,7 @@ pub record IsFirstDown (s : Federation) (at : Node) : Type 0 where
   pub others : (other : Node) → IsNode s other → NodeBefore other at → node_up s other ≡ true
 
 -- what an exchange is about, its rank among the kinds, and its member
-abbrev pub exchange_txn : Exchange → ℕ
+abbrev pub exchange_txn : Exchange → TxnNumber
 exchange_txn (Prepares t m c) = t
 exchange_txn (Votes t m) = t
 exchange_txn (Commits t m c) = t
@@ -35,7 +36,7 @@ exchange_rank (Votes t m) = 1
 exchange_rank (Commits t m c) = 2
 exchange_rank (Asks t m c) = 3
 
-abbrev pub exchange_member : Exchange → ℕ
+abbrev pub exchange_member : Exchange → MemberNumber
 exchange_member (Prepares t m c) = m
 exchange_member (Votes t m) = m
 exchange_member (Commits t m c) = m
@@ -60,7 +61,7 @@ is_idle (Some entry.Idle) = true
 is_idle (Some (entry.Collecting parts yeses)) = false
 is_idle (Some (entry.Committed members acks)) = false
 
-abbrev pub timer_ends : Federation → ℕ → Node → Bool
+abbrev pub timer_ends : Federation → TxnNumber → Node → Bool
 timer_ends s t (node.Coord c) = is_idle (look (s.coord c).table t)
 timer_ends s t (node.Member m) = holds (s.member m).engine.active t
 

@@ -2,26 +2,26 @@
 use Rattle.std.specs.Prelude.{ℕ, Bool, true, false, ◌||◌, ◌≡◌, List, Option, Some}
 use Rattle.co_record.specs.declared.record.Record.{Record}
 use Rattle.co_state.specs.Table.{look, holds}
-use Rattle.co_plain.specs.Numbers.{has_number}
+use Rattle.co_plain.specs.Numbers.{TxnNumber, CoordNumber, has_number}
 use Rattle.co_plain.specs.MemberView.{recovered_view}
 use Rattle.co_plain.specs.CoordView.{recovered_commits, has_commit_of}
 use Rattle.co_plain.specs.Decisions.{votes_for}
 
 -- the log has the transaction voted for the coordinator; has it voted; has it committed
-abbrev pub log_votes_for : List Record → ℕ → ℕ → Bool
+abbrev pub log_votes_for : List Record → TxnNumber → CoordNumber → Bool
 log_votes_for records t c = votes_for (look (recovered_view records).voted t) c
 
-abbrev pub log_has_voted : List Record → ℕ → Bool
+abbrev pub log_has_voted : List Record → TxnNumber → Bool
 log_has_voted records t = holds (recovered_view records).voted t
 
-abbrev pub log_has_committed : List Record → ℕ → Bool
+abbrev pub log_has_committed : List Record → TxnNumber → Bool
 log_has_committed records t = holds (recovered_view records).committed t
 
 -- a commit without end, with its participants
-abbrev pub unended_in : List Record → ℕ → Option (List ℕ)
+abbrev pub unended_in : List Record → TxnNumber → Option (List ℕ)
 unended_in records t = look (recovered_commits records).unended t
 
-abbrev pub has_unended : List Record → ℕ → Bool
+abbrev pub has_unended : List Record → TxnNumber → Bool
 has_unended records t = holds (recovered_commits records).unended t
 
 -- the logs name the coordinator of a transaction: by a vote, or by its commit without end

@@ -22,7 +22,7 @@ pub use coord_state::{CoordState, Entry};
 pub use coord_step::CoordStep;
 pub use coord_view::CoordView;
 pub use happening::Happening;
-pub use log_state::{LogState, Stop};
+pub use log_state::LogState;
 pub use member_state::{AskedMark, MemberState};
 pub use member_step::MemberStep;
 pub use member_view::MemberView;

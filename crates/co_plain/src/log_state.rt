@@ -1,16 +1,7 @@
 //! The log of one node, as records.
-use co_base::Leaves;
+use co_base::Stop;
 use co_record::Record;
 use co_state::History;
-
-/// An armed stop: the next log write ends in one of its device calls.
-#[derive(Drop)]
-pub struct Stop {
-    /// The number of the device call in that write, 1 to 4.
-    pub call: u8,
-    /// Which image of the file is left.
-    pub leaves: Leaves,
-}
 
 /// The log of one node.
 #[derive(Drop)]

@@ -1,6 +1,6 @@
 //! Reading the record at the front of some bytes.
 ghost use Rattle.std.specs.Prelude.{◌≡◌, ◌≤◌, ◌++◌, List, ℕ, length, IfOk, Ok};
-ghost use Rattle.co_frame.specs.LogText.{most_log_bytes};
+ghost use Rattle.co_base.specs.Limits.{most_log_bytes};
 ghost use Rattle.co_record.specs.declared.record.Record.{Record};
 ghost use Rattle.co_record.specs.Lent.{record_of, reading, Shows, StandsAt};
 ghost use Rattle.co_record.specs.Slices.{AreSlicesOf, keys_and_values};

@@ -1,6 +1,7 @@
 //! The walk over the records of a log text.
 ghost use Rattle.std.specs.Prelude.{◌≡◌, ℕ, ◌+◌, ◌-◌, ◌<◌, ◌≤◌, List, [], length, IfSome, MatchOption};
-ghost use Rattle.co_frame.specs.LogText.{IsLogText, most_log_bytes};
+ghost use Rattle.co_base.specs.Limits.{most_log_bytes};
+ghost use Rattle.co_frame.specs.LogText.{IsLogText};
 ghost use Rattle.co_record.specs.declared.record.Record.{Record};
 ghost use Rattle.co_record.specs.Lent.{record_of};
 ghost use Rattle.co_record.specs.Spelling.{IsSpelled};
@@ -49,7 +50,7 @@ pub struct Views<'a> {
 
 impl<'a> Model for Views<'a> {
     ghost use Rattle.std.specs.Prelude.{◌≤◌, ◌+◌, length};
-    ghost use Rattle.co_frame.specs.LogText.{most_log_bytes};
+    ghost use Rattle.co_base.specs.Limits.{most_log_bytes};
     ghost use Rattle.co_record.specs.Format.{IsVersion};
     ghost use Rattle.co_record.specs.Stored.{RecordWalk};
 

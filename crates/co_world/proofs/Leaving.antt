@@ -25,7 +25,7 @@ use Rattle.co_plain.specs.declared.member_step.MemberStep.{MemberStep as PlainSt
 use Rattle.co_log.specs.Spare.{IsOverfull}
 use Rattle.co_plain.specs.Numbers.{next_generation}
 use Rattle.co_plain.specs.declared.log_state.LogState.{LogState}
-use Rattle.co_plain.specs.declared.log_state.Stop.{Stop}
+use Rattle.co_base.specs.declared.leaves.Stop.{Stop}
 use Rattle.co_plain.specs.declared.member_state.AskedMark.{AskedMark}
 use Rattle.co_plain.specs.declared.member_state.MemberState.{MemberState}
 use Rattle.co_plain.specs.declared.standing.Standing.{Standing}

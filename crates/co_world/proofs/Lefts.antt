@@ -32,7 +32,7 @@ use Rattle.co_world.specs.declared.calls.CoordCall.{CoordCall}
 use Rattle.co_world.specs.declared.calls.MemberCall.{MemberCall}
 use Rattle.co_plain.specs.declared.coord_state.CoordState.{CoordState}
 use Rattle.co_plain.specs.declared.member_state.MemberState.{MemberState}
-use Rattle.co_frame.specs.LogText.{most_log_bytes}
+use Rattle.co_base.specs.Limits.{most_log_bytes}
 use Rattle.co_log.specs.Attaching.{IsWithin}
 use Rattle.co_world.proofs.Kept.{apart}
 use Rattle.co_world.proofs.Places.{at_other, at_same, within_list}

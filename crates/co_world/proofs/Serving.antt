@@ -4,7 +4,7 @@ use Rattle.std.specs.Prelude.{List, reverse, Option, None, Some, is_some, Result
 use Rattle.co_base.specs.declared.node.Node.{Node}
 use Rattle.co_base.specs.declared.node.Node.TheVariants as node
 use Rattle.co_durable.proofs.Spots.{same_or_other, all_stay}
-use Rattle.co_frame.specs.LogText.{most_log_bytes}
+use Rattle.co_base.specs.Limits.{most_log_bytes}
 use Rattle.co_log.specs.Attaching.{IsWithin}
 use Rattle.co_log.specs.LogView.{LogView, IsHeld, HasSpots, spot_of}
 use Rattle.co_log.specs.Others.{OtherFilesStay, OtherNodesStay}

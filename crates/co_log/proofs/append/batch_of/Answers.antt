@@ -15,5 +15,5 @@ returns-clause-batch c =
       some = c.requires.some;
       text = batch_is c.deref.result.now c.put_batch.new.into.items items records (c.in_ok-put_batch.ensures.ok ∙ ap (λ (b : List ℕ). b ++ (batch_text c.deref.result.now ++ 0 ∷ [])) c.new-batch.ensures.items);
       each = c.in_ok-records.ensures.each;
-      short = omega (arith, c.if-gate-len-gt-MOST_LOG_BYTES.false, c.len.ensures, ap (λ (b : List ℕ). length b) c.in_ok-records.ensures.bytes);
+      short = omega (arith, c.if-gate-len.false, c.len.ensures, ap (λ (b : List ℕ). length b) c.in_ok-records.ensures.bytes);
     }

@@ -1,20 +1,22 @@
 use Rattle.std.proofs.Common.{sym, refl, subst, inl, inr}
 use Rattle.std.specs.Prelude.{Err}
 use Rattle.co_base.specs.declared.node.Node.{Node}
+use Rattle.co_log.proofs.Answered.{close_parts}
 use Rattle.co_node.specs.Answers.{IsAnswered, LeftAs}
-use Rattle.co_node.proofs.Homes.{Wrote, fault_answered, never_full, of_closing, old_records, told_of}
+use Rattle.co_node.proofs.Homes.{Wrote, fault_answered, old_records, told_of}
 use Rattle.co_node.proofs.Spares.{close_done, close_ended}
 use Rattle.co_node.proofs.spare.close.Goals as goal
 
 pub returns-in-Ok-clause-written : goal.returns-in-Ok-clause-written
-returns-in-Ok-clause-written g c = λ owner l s. close_done owner c.args.log.now c.close_spare.new.self l c.new.result s c.new.ensures c.in-Ok.ensures.closing
+returns-in-Ok-clause-written g c = λ owner l s. close_done owner c.args.log.now c.close_spare.new.self l c.new.result s c.new.ensures c.in-Ok.ensures.answered.0
 
 pub returns-in-Err-clause-written : goal.returns-in-Err-clause-written
-returns-in-Err-clause-written g c = λ owner l s. close_ended owner c.args.log.now c.close_spare.new.self l c.in-Err.fault c.stopped.result s c.in-Err.ensures.closing c.stopped.ensures
+returns-in-Err-clause-written g c = λ owner l s. close_ended owner c.args.log.now c.close_spare.new.self l c.in-Err.fault c.stopped.result s (close_parts c.args.log.now c.close_spare.new.self (g.H.Home.seen c.args.home.now) (g.H.Home.seen c.close_spare.new.home) (Err c.in-Err.fault) c.in-Err.ensures.answered).closing c.stopped.ensures
 
 pub returns-in-Err-clause-answered : goal.returns-in-Err-clause-answered
 returns-in-Err-clause-answered g c = λ owner l s.
     let log = c.args.log.now in
+    let parts = close_parts c.args.log.now c.close_spare.new.self (g.H.Home.seen c.args.home.now) (g.H.Home.seen c.close_spare.new.home) (Err c.in-Err.fault) c.in-Err.ensures.answered in
     let file = (g.H.Home.seen c.close_spare.new.home).file in
     let left : LeftAs file log.node l.stable l.stable = λ told.
     let files = told_of file log c.requires.held.spots told in
@@ -24,9 +26,9 @@ returns-in-Err-clause-answered g c = λ owner l s.
     record {
       spots = c.requires.held.spots;
       its = inr refl;
-      held = c.in-Err.ensures.held;
-      clean = c.in-Err.ensures.clean;
-      full = never_full log.spare.spot c.in-Err.fault c.in-Err.ensures.faults;
+      held = parts.held;
+      clean = parts.clean;
+      full = parts.full;
       overlong = λ long. absurd long;
       too_long = λ long. absurd long;
       untouched = λ long. absurd long;
@@ -34,8 +36,8 @@ returns-in-Err-clause-answered g c = λ owner l s.
       wanting = λ is told. left told;
       short = c.in-Err.ensures.short;
       rest = c.in-Err.ensures.rest;
-      device = c.in-Err.ensures.device;
-      quiet = c.in-Err.ensures.quiet;
+      device = parts.device;
+      quiet = parts.quiet;
     } in
     subst (λ (n : Node). IsAnswered n log.spare.spot ⊥ l.stable l.stable c.close_spare.new.self (g.H.Home.seen c.args.home.now) (g.H.Home.seen c.close_spare.new.home) c.stopped.result) s.owned
-    (fault_answered log c.close_spare.new.self log.spare.spot ⊥ l.stable l.stable (g.H.Home.seen c.args.home.now) (g.H.Home.seen c.close_spare.new.home) _ c.in-Err.fault c.stopped.result (of_closing log.spare.spot c.in-Err.fault c.in-Err.ensures.faults) wrote c.stopped.ensures)
+    (fault_answered log c.close_spare.new.self log.spare.spot ⊥ l.stable l.stable (g.H.Home.seen c.args.home.now) (g.H.Home.seen c.close_spare.new.home) _ c.in-Err.fault c.stopped.result parts.faults wrote c.stopped.ensures)

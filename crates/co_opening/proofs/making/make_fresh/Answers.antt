@@ -7,7 +7,7 @@ use Rattle.co_opening.proofs.making.make_fresh.Goals as goal
 pub returns-in-Ok-clause-stands : goal.returns-in-Ok-clause-stands
 returns-in-Ok-clause-stands g c = λ owner found s.
     let none : c.args.log.now.gate ≡ 0 = grind (arith, nat_tests) in
-    fresh_stands owner c.args.log.now c.make.new.self found s none c.in-Ok.ensures.made
+    fresh_stands owner c.args.log.now c.make.new.self found s none c.in-Ok.ensures.answered.0
 
 pub returns-in-Err-Device-clause-rest : goal.returns-in-Err-Device-clause-rest
 returns-in-Err-Device-clause-rest g c =

@@ -5,7 +5,7 @@ use Rattle.co_disk.specs.DiskView.{DiskView}
 use Rattle.co_disk.specs.Stops.{armed_for}
 use Rattle.co_outside.specs.declared.spot.Spot.{Spot}
 use Rattle.co_log.specs.declared.fault.LogFault.TheVariants as faults
-use Rattle.co_log.specs.declared.stop.Stop.{Stop}
+use Rattle.co_base.specs.declared.leaves.Stop.{Stop}
 use Rattle.co_frame.specs.Gate.{begins_closed}
 use Rattle.co_log.specs.LogView.{LogView}
 use Rattle.co_log.specs.Spare.{IsClosing, IsSpareImage}

@@ -1,5 +1,6 @@
 use Rattle.std.proofs.Common.{◌≡◌, ◌≢◌, ◌∙◌, ℕ, sym, ap, subst, inl, inr, false}
 use Rattle.std.specs.Prelude.{Option, Some, IfSome, IfNone}
+use Rattle.co_base.specs.Limits.{most_log_bytes}
 use Rattle.co_outside.specs.Home.{File}
 use Rattle.co_outside.specs.declared.spot.Spot.{Spot}
 use Rattle.co_disk.specs.DiskView.{DiskView}
@@ -17,7 +18,7 @@ returns-then-is_used-2-clause-faults g c =
     let kept = c.in_ok-a.ensures.rest.others.files (at c.byte-2.result 1) apart in
     let told_a = subst (λ (s : Spot). IfSome c.in_ok-a.a (λ d. IsToldAs s ((g.H.Home.seen c.args.home.now).file s) d)) here c.in_ok-a.ensures.told in
     let told_b = subst (λ (f : Option File). IfSome c.in_ok-b.b (λ d. IsToldAs (at c.byte-2.result 1) f d)) kept c.in_ok-b.ensures.told in
-    let long_b = subst (λ (f : Option File). IfNone c.in_ok-b.b (IsLonger 268435456 f)) kept c.in_ok-b.ensures.told_long in
+    let long_b = subst (λ (f : Option File). IfNone c.in_ok-b.b (IsLonger most_log_bytes f)) kept c.in_ok-b.ensures.told_long in
     let unused_a = unused_within c.in_ok-a.a (spot_of c.args.node 0) ((g.H.Home.seen c.args.home.now).file (spot_of c.args.node 0)) (sym c.is_used.ensures ∙ c.if-is_used.false) told_a in
     let used_b = used_longer c.in_ok-b.b (at c.byte-2.result 1) ((g.H.Home.seen c.args.home.now).file (at c.byte-2.result 1)) (sym c.is_used-2.ensures ∙ c.if-is_used-2.true) told_b long_b in
     (c.if-resume.false, inr (there, unused_a, subst (λ (s : Spot). IsLonger 1 ((g.H.Home.seen c.args.home.now).file s)) there used_b))

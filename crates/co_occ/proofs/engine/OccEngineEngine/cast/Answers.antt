@@ -1,11 +1,11 @@
-use Rattle.std.proofs.Common.{sym, ◌∙◌, ap, subst}
+use Rattle.std.proofs.Common.{sym, subst}
 use Rattle.co_state.specs.Effects.{after_cast}
 use Rattle.co_occ.specs.declared.engine.OccEngine.{OccEngine}
-use Rattle.co_occ.specs.Stands.{StandsFor, with_needed}
+use Rattle.co_occ.specs.Stands.{StandsFor}
 use Rattle.co_occ.proofs.Standing.{stands_cast}
 use Rattle.co_occ.proofs.engine.OccEngineEngine.cast.Goals as goal
 
 pub returns : goal.returns
 returns c = λ b coord count s h.
-    subst (λ (o : OccEngine). StandsFor o (after_cast b c.args.t coord count)) (sym (c.forget_old.ensures ∙ (λ i. with_needed (record c.args.self.now { undecided = c.cast.ensures i }))))
-    (stands_cast c.args.self.now b c.args.t coord count s h)
+    subst (λ (o : OccEngine). StandsFor o (after_cast b c.args.t coord count)) (sym c.forget_old.ensures)
+    (stands_cast c.args.self.now b c.args.t coord count _ s h c.take.ensures.rest)

@@ -1,11 +1,11 @@
-use Rattle.std.proofs.Common.{sym, ◌∙◌, ap, subst}
+use Rattle.std.proofs.Common.{sym, subst}
 use Rattle.co_state.specs.Effects.{after_drop}
 use Rattle.co_occ.specs.declared.engine.OccEngine.{OccEngine}
-use Rattle.co_occ.specs.Stands.{StandsFor, with_needed}
+use Rattle.co_occ.specs.Stands.{StandsFor}
 use Rattle.co_occ.proofs.Standing.{stands_drop}
 use Rattle.co_occ.proofs.engine.OccEngineEngine.drop_txn.Goals as goal
 
 pub returns : goal.returns
 returns c = λ b s h.
-    subst (λ (o : OccEngine). StandsFor o (after_drop b c.args.t)) (sym (c.forget_old.ensures ∙ ap with_needed c.take_out.ensures.rest))
-    (stands_drop c.args.self.now b c.args.t s)
+    subst (λ (o : OccEngine). StandsFor o (after_drop b c.args.t)) (sym c.forget_old.ensures)
+    (stands_drop c.args.self.now b c.args.t _ _ s c.take.ensures.rest c.take-2.ensures.rest (c.take-2.ensures.whole s.keeps.whole))

@@ -1,4 +1,4 @@
-use Rattle.std.proofs.Common.{◌++◌, ◌∷◌, [], ◌+◌, List, sym, ◌∙◌, ap, subst}
+use Rattle.std.proofs.Common.{sym, ◌∙◌, ap, subst}
 use Rattle.co_serial.specs.Records.{with_changes}
 use Rattle.co_state.specs.Effects.{after_install}
 use Rattle.co_occ.specs.declared.engine.OccEngine.{OccEngine}
@@ -10,12 +10,13 @@ pub returns : goal.returns
 returns c = λ b s h.
     let o = c.args.self.now in
     subst (λ (next : OccEngine). StandsFor next (after_install b c.args.t))
-    (sym (c.forget_old.ensures ∙ (λ i. with_needed (record (c.take_out.ensures.rest i) {
-      records = (c.in_ok-lay.ensures ∙ ap (λ (p : OccEngine). with_changes p.records c.as_slice.result.now) c.take_out.ensures.rest ∙ ap (with_changes o.records) c.as_slice.ensures) i;
-      installs = (c.in_ok-self.ensures ∙ ap (λ (p : OccEngine). p.installs + 1) c.take_out.ensures.rest) i;
-      recent = (c.in_ok-push.ensures ∙ ap (λ (p : OccEngine). p.recent ++ c.in-Some.undecided.sets.writes ∷ []) c.take_out.ensures.rest) i;
+    (sym (c.forget_old.ensures ∙ (λ i. with_needed (record o {
+      records = (c.in_ok-lay.ensures ∙ ap (with_changes o.records) c.as_slice.ensures) i;
+      installs = c.in_ok-self.ensures i;
+      recent = c.in_ok-push.ensures i;
+      undecided = c.take.new.self;
     }))))
-    (stands_install o b c.args.t c.in-Some.undecided s h (sym c.take_out.ensures.value ∙ c.in-Some.is))
+    (stands_install o b c.args.t c.in-Some.sets _ s h (sym c.take.ensures.value ∙ c.in-Some.is) c.take.ensures.rest (c.take.ensures.whole s.keeps.whole))
 
 pub returns-in_default : goal.returns-in_default
-returns-in_default c = λ b s h. install_absent c.args.self.now b c.args.t s h (sym c.take_out.ensures.value ∙ c.in_default.is)
+returns-in_default c = λ b s h. install_absent c.args.self.now b c.args.t s h (sym c.take.ensures.value ∙ c.in_default.is)

@@ -1,0 +1,450 @@
+//! Three plain engines over std's collections, and the loads of `co_bench`: what the proved engines are measured against. No contracts, no faults, no bounds on memory.
+//!
+//!     rustc -O bench/engines.rs && ./engines lock|occ|mv OPERATIONS TRANSACTIONS KEYS SPAN [TOGETHER]
+//!
+//! It prints what `co_bench` prints; the digest covers every reply, row, blocker and pair.
+
+use std::cmp::{max, min};
+use std::collections::{BTreeMap, BTreeSet, HashMap, HashSet};
+use std::ops::Bound::{Excluded, Unbounded};
+use std::time::Instant;
+
+type Key = Vec<u8>;
+type Value = Vec<u8>;
+type Txn = u32;
+
+#[derive(Clone, Copy, PartialEq)]
+enum Kind {
+    Lock,
+    Occ,
+    Mv,
+}
+
+enum Command {
+    Read(Txn, Key),
+    Scan(Txn, Key, Key),
+    Write(Txn, Key, Value),
+    Cast(Txn),
+    Install(Txn),
+}
+
+enum Played {
+    Got(Option<Value>, Vec<Pair>),
+    Rows(Vec<(Key, Value)>, Vec<Pair>),
+    Written(Vec<Pair>),
+    Blocked(Txn),
+    Done,
+}
+
+#[derive(Clone, Copy, PartialEq, Eq, Hash)]
+struct Pair {
+    writes: bool,
+    first: Txn,
+    second: Txn,
+}
+
+#[derive(Default)]
+struct Undecided {
+    voted: bool,
+    snapshot: u64,
+    reads: Vec<(Key, Key)>,
+    writes: BTreeMap<Key, Option<Value>>,
+    /// What stood in the store before a write in place.
+    undos: BTreeMap<Key, Option<Value>>,
+    told: Vec<Pair>,
+}
+
+struct Engine {
+    kind: Kind,
+    installs: u64,
+    store: BTreeMap<Key, Value>,
+    chains: BTreeMap<Key, Vec<(u64, Option<Value>)>>,
+    undecided: HashMap<Txn, Undecided>,
+    writers: BTreeMap<Key, Vec<Txn>>,
+    readers: HashMap<Key, Vec<Txn>>,
+    wide: BTreeSet<(Key, Key, Txn)>,
+    told: HashSet<Pair>,
+    snapshots: BTreeMap<u64, usize>,
+}
+
+impl Engine {
+    fn new(kind: Kind, rows: Vec<(Key, Value)>) -> Engine {
+        let (mut store, mut chains) = (BTreeMap::new(), BTreeMap::new());
+        for (key, value) in rows {
+            if kind == Kind::Mv {
+                chains.insert(key, vec![(0, Some(value))]);
+            } else {
+                store.insert(key, value);
+            }
+        }
+        Engine {
+            kind,
+            installs: 0,
+            store,
+            chains,
+            undecided: HashMap::new(),
+            writers: BTreeMap::new(),
+            readers: HashMap::new(),
+            wide: BTreeSet::new(),
+            told: HashSet::new(),
+            snapshots: BTreeMap::new(),
+        }
+    }
+
+    fn begin(&mut self, t: Txn) {
+        let (installs, snapshots, kind) = (self.installs, &mut self.snapshots, self.kind);
+        self.undecided.entry(t).or_insert_with(|| {
+            if kind == Kind::Mv {
+                *snapshots.entry(installs).or_default() += 1;
+            }
+            Undecided {
+                snapshot: installs,
+                ..Undecided::default()
+            }
+        });
+    }
+
+    /// The least other transaction that wrote a key of the range.
+    fn read_blocker(&self, t: Txn, lo: &Key, hi: &Key) -> Option<Txn> {
+        if self.kind != Kind::Lock {
+            return None;
+        }
+        let written = self.writers.range(lo.clone()..=hi.clone());
+        written.flat_map(|(_, by)| by).copied().filter(|u| *u != t).min()
+    }
+
+    /// The least other transaction that wrote the key, or is active and read it.
+    fn write_blocker(&self, t: Txn, key: &Key) -> Option<Txn> {
+        if self.kind != Kind::Lock {
+            return None;
+        }
+        let written = self.writers.get(key).into_iter().flatten().copied();
+        let read = self.all_readers(key).filter(|u| !self.undecided[u].voted);
+        written.chain(read).filter(|u| *u != t).min()
+    }
+
+    fn all_readers<'a>(&'a self, key: &'a Key) -> impl Iterator<Item = Txn> + 'a {
+        let one = self.readers.get(key).into_iter().flatten().copied();
+        let above = (key.clone(), vec![0xff], Txn::MAX);
+        let wide = self.wide.range((Unbounded, Excluded(above)));
+        one.chain(wide.filter(move |(_, hi, _)| key <= hi).map(|(_, _, u)| *u))
+    }
+
+    fn tell(&mut self, pair: Pair, pairs: &mut Vec<Pair>) {
+        if self.told.insert(pair) {
+            pairs.push(pair);
+            for t in [pair.first, pair.second] {
+                self.undecided.get_mut(&t).unwrap().told.push(pair);
+            }
+        }
+    }
+
+    /// Notes a read of a range, and tells the new pairs with those that wrote in it.
+    fn note_read(&mut self, t: Txn, lo: &Key, hi: &Key) -> Vec<Pair> {
+        let own = self.undecided.get_mut(&t).unwrap();
+        own.reads.push((lo.clone(), hi.clone()));
+        if lo == hi {
+            let by = self.readers.entry(lo.clone()).or_default();
+            if !by.contains(&t) {
+                by.push(t);
+            }
+        } else {
+            self.wide.insert((lo.clone(), hi.clone(), t));
+        }
+        let others: Vec<Txn> = if lo == hi {
+            self.writers.get(lo).into_iter().flatten().copied().filter(|u| *u != t).collect()
+        } else {
+            let written = self.writers.range(lo.clone()..=hi.clone());
+            written.flat_map(|(_, by)| by).copied().filter(|u| *u != t).collect()
+        };
+        let mut pairs = Vec::new();
+        for u in others {
+            let pair = Pair { writes: false, first: t, second: u };
+            self.tell(pair, &mut pairs);
+        }
+        pairs
+    }
+
+    /// Notes a write, and tells the new pairs with those that read or wrote the key.
+    fn note_write(&mut self, t: Txn, key: &Key, value: &Value) -> Vec<Pair> {
+        let before = (self.kind == Kind::Lock).then(|| self.store.insert(key.clone(), value.clone()));
+        let own = self.undecided.get_mut(&t).unwrap();
+        if let Some(before) = before {
+            own.undos.entry(key.clone()).or_insert(before);
+        }
+        own.writes.insert(key.clone(), Some(value.clone()));
+        let readers: Vec<Txn> = self.all_readers(key).filter(|u| *u != t).collect();
+        let by = self.writers.entry(key.clone()).or_default();
+        let writers: Vec<Txn> = by.iter().copied().filter(|u| *u != t).collect();
+        if !by.contains(&t) {
+            by.push(t);
+        }
+        let mut pairs = Vec::new();
+        for u in readers {
+            self.tell(Pair { writes: false, first: u, second: t }, &mut pairs);
+        }
+        for u in writers {
+            self.tell(Pair { writes: true, first: min(t, u), second: max(t, u) }, &mut pairs);
+        }
+        pairs
+    }
+
+    /// The version of a chain that a snapshot sees.
+    fn version(chain: &[(u64, Option<Value>)], snapshot: u64) -> Option<&Value> {
+        let end = chain.partition_point(|(install, _)| *install <= snapshot);
+        chain[..end].last().and_then(|(_, value)| value.as_ref())
+    }
+
+    fn read(&mut self, t: Txn, key: Key) -> Played {
+        self.begin(t);
+        if let Some(u) = self.read_blocker(t, &key, &key) {
+            return Played::Blocked(u);
+        }
+        let own = &self.undecided[&t];
+        let got = match own.writes.get(&key) {
+            Some(value) => value.clone(),
+            None if self.kind == Kind::Mv => self.chains.get(&key).and_then(|it| Engine::version(it, own.snapshot)).cloned(),
+            None => self.store.get(&key).cloned(),
+        };
+        Played::Got(got, self.note_read(t, &key, &key))
+    }
+
+    fn scan(&mut self, t: Txn, lo: Key, hi: Key) -> Played {
+        self.begin(t);
+        if let Some(u) = self.read_blocker(t, &lo, &hi) {
+            return Played::Blocked(u);
+        }
+        let own = &self.undecided[&t];
+        let mut rows: Vec<(Key, Value)> = if self.kind == Kind::Mv {
+            let seen = self.chains.range(lo.clone()..=hi.clone());
+            seen.filter_map(|(key, chain)| Some((key.clone(), Engine::version(chain, own.snapshot)?.clone()))).collect()
+        } else {
+            self.store.range(lo.clone()..=hi.clone()).map(|(key, value)| (key.clone(), value.clone())).collect()
+        };
+        if self.kind != Kind::Lock {
+            for (key, value) in own.writes.range(lo.clone()..=hi.clone()) {
+                match (rows.binary_search_by(|(it, _)| it.cmp(key)), value) {
+                    (Ok(place), Some(value)) => rows[place].1 = value.clone(),
+                    (Ok(place), None) => drop(rows.remove(place)),
+                    (Err(place), Some(value)) => rows.insert(place, (key.clone(), value.clone())),
+                    (Err(_), None) => (),
+                }
+            }
+        }
+        Played::Rows(rows, self.note_read(t, &lo, &hi))
+    }
+
+    fn write(&mut self, t: Txn, key: Key, value: Value) -> Played {
+        self.begin(t);
+        match self.write_blocker(t, &key) {
+            Some(u) => Played::Blocked(u),
+            None => Played::Written(self.note_write(t, &key, &value)),
+        }
+    }
+
+    fn cast(&mut self, t: Txn) -> Played {
+        self.begin(t);
+        self.undecided.get_mut(&t).unwrap().voted = true;
+        Played::Done
+    }
+
+    fn leave(&mut self, t: Txn, own: &Undecided) {
+        for (lo, hi) in &own.reads {
+            if lo != hi {
+                self.wide.remove(&(lo.clone(), hi.clone(), t));
+            } else if let Some(by) = self.readers.get_mut(lo) {
+                by.retain(|u| *u != t);
+                if by.is_empty() {
+                    self.readers.remove(lo);
+                }
+            }
+        }
+        for key in own.writes.keys() {
+            if let Some(by) = self.writers.get_mut(key) {
+                by.retain(|u| *u != t);
+                if by.is_empty() {
+                    self.writers.remove(key);
+                }
+            }
+        }
+        for pair in &own.told {
+            self.told.remove(pair);
+        }
+        if self.kind == Kind::Mv {
+            let count = self.snapshots.get_mut(&own.snapshot).unwrap();
+            *count -= 1;
+            if *count == 0 {
+                self.snapshots.remove(&own.snapshot);
+            }
+        }
+    }
+
+    fn install(&mut self, t: Txn) -> Played {
+        let own = self.undecided.remove(&t).unwrap();
+        self.leave(t, &own);
+        self.installs += 1;
+        let oldest = self.snapshots.keys().next().copied().unwrap_or(self.installs);
+        for (key, value) in own.writes {
+            match self.kind {
+                Kind::Lock => (),
+                Kind::Occ => match value {
+                    Some(value) => drop(self.store.insert(key, value)),
+                    None => drop(self.store.remove(&key)),
+                },
+                Kind::Mv => {
+                    let chain = self.chains.entry(key).or_default();
+                    chain.push((self.installs, value));
+                    let seen = chain.partition_point(|(install, _)| *install <= oldest);
+                    chain.drain(..seen.saturating_sub(1));
+                }
+            }
+        }
+        Played::Done
+    }
+
+    fn play(&mut self, command: Command) -> Played {
+        match command {
+            Command::Read(t, key) => self.read(t, key),
+            Command::Scan(t, lo, hi) => self.scan(t, lo, hi),
+            Command::Write(t, key, value) => self.write(t, key, value),
+            Command::Cast(t) => self.cast(t),
+            Command::Install(t) => self.install(t),
+        }
+    }
+}
+
+/// The numbers that `co_bench` picks.
+struct Picks(u64);
+
+impl Picks {
+    fn below(&mut self, bound: u32) -> u32 {
+        self.0 = self.0.wrapping_mul(6364136223846793005).wrapping_add(1442695040888963407);
+        ((self.0 >> 33) % u64::from(bound.max(1))) as u32
+    }
+}
+
+fn key(number: u32) -> Key {
+    format!("k{:07}", number % 10_000_000).into_bytes()
+}
+
+fn value(number: u32) -> Value {
+    format!("v{:02}", number % 100).into_bytes()
+}
+
+fn operation(picks: &mut Picks, keys: u32, span: u32, t: Txn) -> Command {
+    let place = picks.below(keys);
+    match picks.below(10) {
+        0 => Command::Scan(t, key(place), key(min(place + span - 1, keys - 1))),
+        1..=5 => Command::Read(t, key(place)),
+        _ => Command::Write(t, key(place), value(picks.below(100))),
+    }
+}
+
+fn commands(operations: u32, transactions: u32, keys: u32, span: u32, together: u32) -> Vec<Command> {
+    let (mut picks, mut made) = (Picks(1), Vec::new());
+    for group in 0..transactions.div_ceil(together) {
+        let (first, end) = (group * together, min((group + 1) * together, transactions));
+        for _ in 0..operations / transactions {
+            for t in first..end {
+                made.push(operation(&mut picks, keys, span, t));
+            }
+        }
+        for t in first..end {
+            made.push(Command::Cast(t));
+            made.push(Command::Install(t));
+        }
+    }
+    made
+}
+
+/// The digest of bytes, byte by byte (Fowler, Noll and Vo, FNV-1a of 64 bits).
+struct Digest(u64);
+
+impl Digest {
+    fn new() -> Digest {
+        Digest(0xcbf2_9ce4_8422_2325)
+    }
+
+    fn take(&mut self, bytes: &[u8]) {
+        for byte in bytes {
+            self.0 = (self.0 ^ u64::from(*byte)).wrapping_mul(0x100_0000_01b3);
+        }
+    }
+
+    /// The pairs of one command, in whatever order they stand.
+    fn take_pairs(&mut self, pairs: &[Pair]) {
+        let mut all = 0u64;
+        for pair in pairs {
+            let mut one = Digest::new();
+            one.take(&[u8::from(pair.writes)]);
+            one.take(&pair.first.to_be_bytes());
+            one.take(&pair.second.to_be_bytes());
+            all = all.wrapping_add(one.0);
+        }
+        self.take(&all.to_be_bytes());
+    }
+
+    fn take_played(&mut self, played: &Played) {
+        match played {
+            Played::Got(Some(value), pairs) => {
+                self.take(&[1]);
+                self.take(value);
+                self.take_pairs(pairs);
+            }
+            Played::Got(None, pairs) => {
+                self.take(&[2]);
+                self.take_pairs(pairs);
+            }
+            Played::Rows(rows, pairs) => {
+                self.take(&[3]);
+                for (key, value) in rows {
+                    self.take(key);
+                    self.take(value);
+                }
+                self.take_pairs(pairs);
+            }
+            Played::Written(pairs) => {
+                self.take(&[4]);
+                self.take_pairs(pairs);
+            }
+            Played::Blocked(t) => {
+                self.take(&[5]);
+                self.take(&t.to_be_bytes());
+            }
+            Played::Done => self.take(&[6]),
+        }
+    }
+}
+
+#[inline(never)]
+fn played(kind: Kind, rows: Vec<(Key, Value)>, commands: Vec<Command>) -> Vec<Played> {
+    let mut engine = Engine::new(kind, rows);
+    commands.into_iter().map(|it| engine.play(it)).collect()
+}
+
+fn main() {
+    let words: Vec<String> = std::env::args().skip(1).collect();
+    let kind = match words[0].as_str() {
+        "lock" => Kind::Lock,
+        "occ" => Kind::Occ,
+        _ => Kind::Mv,
+    };
+    let numbers: Vec<u32> = words[1..].iter().map(|it| it.parse().unwrap()).collect();
+    let (operations, transactions, keys, span) = (numbers[0], numbers[1], numbers[2], numbers[3]);
+    let commands = commands(operations, transactions, keys, span, numbers.get(4).copied().unwrap_or(10));
+    let rows = (0..keys).map(|it| (key(it), value(0))).collect();
+    let start = Instant::now();
+    let all = played(kind, rows, commands);
+    let took = start.elapsed().as_millis();
+    let (mut answered, mut blocked, mut scanned, mut pairs, mut done, mut digest) = (0, 0, 0, 0, 0, Digest::new());
+    for it in &all {
+        digest.take_played(it);
+        match it {
+            Played::Got(_, made) | Played::Written(made) => (answered, pairs) = (answered + 1, pairs + made.len()),
+            Played::Rows(rows, made) => (answered, pairs, scanned) = (answered + 1, pairs + made.len(), scanned + rows.len()),
+            Played::Blocked(_) => blocked += 1,
+            Played::Done => done += 1,
+        }
+    }
+    println!("answered {answered} blocked {blocked} rows {scanned} pairs {pairs} done {done} refused 0 digest {:016x} millis {took}", digest.0);
+}

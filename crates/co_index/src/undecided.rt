@@ -1,0 +1,115 @@
+//! What undecided transactions read and wrote.
+ghost use Rattle.std.specs.Prelude.{◌≡◌, IfOk, OnOk, option_copied};
+ghost use Rattle.co_index.specs.NewPairs.{grown_by, or_nothing, sets_among, AreNew};
+ghost use Rattle.co_index.specs.Undecided.{IsWhole, grown_at, prepared_sets};
+ghost use Rattle.co_state.specs.Table.{look, without};
+
+use crate::index::Index;
+use crate::new_pairs::pairs_made;
+use co_base::{Op, Ranges, Txn, Writes};
+use co_pairs::{Pairs, Prepared, Sets};
+use co_state::{Table, change_made, put_change, put_range, range_read};
+use std::alloc::{AllocError, Global};
+
+/// What each undecided transaction read and wrote, and an index of who touched which key.
+///
+/// The index tells all that stands in the table. Each call keeps it so; after want of memory this is only
+/// dropped.
+#[derive(Drop)]
+pub struct Undecided {
+    sets: Table<Sets>,
+    index: Index,
+}
+
+/// What a transaction read and wrote, with one operation more.
+fn grown(sets: Sets, op: &Op) -> Result<Sets, AllocError>
+    ensures { IfOk result (λ grown. grown ≡ grown_by op.now sets) }
+{
+    let mut reads = sets.reads.into_vec();
+    let mut writes = sets.writes.into_vec();
+    if let Some(range) = range_read(op)? {
+        put_range(&mut reads, range)?;
+    }
+    if let Some(change) = change_made(op)? {
+        put_change(&mut writes, change)?;
+    }
+    Ok(Sets {
+        reads: Ranges::of(reads),
+        writes: Writes::of(writes),
+    })
+}
+
+/// Takes what a transaction read and wrote out of a table; nothing where it is absent.
+fn take(alloc: Global, sets: &mut Table<Sets>, t: Txn) -> Sets
+    ensures value { result ≡ or_nothing (look sets.old t) }
+    ensures rest { sets.new ≡ without sets.old t }
+{
+    match sets.remove(t) {
+        Some(own) => own,
+        None => Sets::new(alloc),
+    }
+}
+
+/// What the prepared transactions read and wrote.
+fn prepared_sets(alloc: Global, prepared: &[Prepared]) -> Result<Table<Sets>, AllocError>
+    ensures { IfOk result (λ sets. sets ≡ prepared_sets prepared.now) }
+{
+    let mut all = Table::new(alloc);
+    let mut place = prepared.len();
+    while 0 < place {
+        place -= 1;
+        let sets = prepared[place].sets.copy(alloc)?;
+        all.insert(prepared[place].txn, sets)?;
+    }
+    Ok(all)
+}
+
+impl Undecided {
+    /// The prepared transactions.
+    pub fn of_prepared(alloc: Global, prepared: &[Prepared]) -> Result<Undecided, AllocError>
+        ensures sets { IfOk result (λ all. all.sets ≡ prepared_sets prepared.now) }
+        ensures whole { IfOk result IsWhole }
+    {
+        let sets = prepared_sets(alloc, prepared)?;
+        Ok(Undecided {
+            index: Index::of_sets(alloc, &sets)?,
+            sets,
+        })
+    }
+
+    /// What a transaction read and wrote, if it is there. Takes no memory.
+    pub fn get(&self, t: Txn) -> Option<&Sets>
+        ensures { option_copied result ≡ look self.now.sets t }
+    {
+        self.sets.get(t)
+    }
+
+    /// A transaction does an operation. Gives exactly the pairs that are new.
+    pub fn add(&mut self, alloc: Global, t: Txn, op: &Op) -> Result<Pairs, AllocError>
+        ensures sets { OnOk result (self.new.sets ≡ grown_at self.old.sets t op.now) }
+        ensures whole { IsWhole self.old → OnOk result (IsWhole self.new) }
+        ensures pairs { IsWhole self.old → IfOk result (AreNew (sets_among self.old.sets) (sets_among (grown_at self.old.sets t op.now))) }
+    {
+        let own = take(alloc, &mut self.sets, t);
+        let pairs = pairs_made(alloc, &self.index, &self.sets, t, &own, op)?;
+        self.index.note(alloc, op, t)?;
+        let sets = grown(own, op)?;
+        self.sets.insert(t, sets)?;
+        Ok(pairs)
+    }
+
+    /// Takes a transaction out and gives what it read and wrote, if it is there. Takes no memory.
+    pub fn take(&mut self, t: Txn) -> Option<Sets>
+        ensures value { result ≡ look self.old.sets t }
+        ensures rest { self.new.sets ≡ without self.old.sets t }
+        ensures whole { IsWhole self.old → IsWhole self.new }
+    {
+        match self.sets.remove(t) {
+            Some(sets) => {
+                self.index.forget(&sets, t);
+                Some(sets)
+            }
+            None => None,
+        }
+    }
+}

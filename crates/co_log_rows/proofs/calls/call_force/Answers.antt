@@ -1,0 +1,17 @@
+use Rattle.std.proofs.Common.{[], ◌∷◌, ◌++◌, ◌∙◌}
+use Rattle.co_outside.specs.HomeMemory.{memory_seen}
+use Rattle.co_log.proofs.Answered.{force_parts}
+use Rattle.co_log.proofs.Ordered.{forced_ordered, forced_version}
+use Rattle.co_log.specs.Appending.{IsTooLong}
+use Rattle.co_log_rows.proofs.calls.call_force.Goals as goal
+
+pub returns : goal.returns
+returns c = λ goes.
+    let done = c.is_done.ensures goes in
+    let log = c.args.log.now in
+    let ready = c.requires in
+    let all = log.waiting ++ c.in_ok-item.item ∷ [] in
+    let parts = force_parts log c.force.new.self (memory_seen c.args.home.now) (memory_seen c.force.new.home) (IsTooLong log.gate all) (c.in_ok-item.item ∷ []) c.force.result c.force.ensures.called.answered in
+    let forced = parts.forced ready.items ready.ordered.live in
+    let next = forced_ordered log c.force.new.self ready.items all c.force.result ready.ordered forced done in
+    record { held = parts.held done; latest = forced_version log c.force.new.self ready.items all c.force.result forced done ∙ ready.latest; items = _; ordered = next }

@@ -1,6 +1,0 @@
-use Rattle.std.proofs.Common.{◌≡◌, drop}
-use Rattle.co_occ.specs.Touching.{with_writes}
-use Rattle.co_occ.proofs.index.Index.add_writes.Given as goal
-
-abbrev pub invariant-loop-change : goal.invariant-loop-change
-invariant-loop-change l = with_writes l.self (drop l.change-index l.writes) l.t ≡ with_writes l.initial.self l.writes l.t

@@ -1,6 +1,0 @@
-use Rattle.std.proofs.Common.{◌≡◌, drop}
-use Rattle.co_occ.specs.Touching.{without_writes}
-use Rattle.co_occ.proofs.index.Index.forget_writes.Given as goal
-
-abbrev pub invariant-loop-change : goal.invariant-loop-change
-invariant-loop-change l = without_writes l.self (drop l.change-index l.writes) l.t ≡ without_writes l.initial.self l.writes l.t
