@@ -21,6 +21,7 @@ use Rattle.co_law_base.proofs.Lookups.{look_none}
 use Rattle.co_law_base.proofs.Facts.{rest_of, told, asked, settled_at, Each, Facts}
 use Rattle.co_law_base.proofs.Carrying.{LivesOn}
 use Rattle.co_law_base.proofs.TwoViews.{committed_both}
+use Rattle.co_law_base.proofs.KeptTold.{told_begun}
 use Rattle.co_plain.specs.Premises.{AreTrueVerdicts}
 use Rattle.co_law_moves.proofs.Steps.{run_keeps}
 use Rattle.co_law_moves.proofs.MoveOnward.{move_onward}
@@ -46,10 +47,6 @@ run_more (x ∷ xs) ys s = run_more xs ys (step s x).state
 pub verdicts_parts : (xs ys : List Happening) (s : Federation) → AreTrueVerdicts (xs ++ ys) s → AreTrueVerdicts xs s × AreTrueVerdicts ys (run xs s)
 verdicts_parts [] ys s v = (tt, v)
 verdicts_parts (x ∷ xs) ys s v = let p = verdicts_parts xs ys (step s x).state v.1 in ((v.0, p.0), p.1)
-
-pub told_begun : (o : Option Session) (m : ℕ) → 1 ≤ count_at (told_in o) m → is_some o ≡ true
-told_begun None m h = absurd (omega (arith, h))
-told_begun (Some session) m h = refl
 
 -- who is decided and stands somewhere stands at every member where it has told operations
 pub stands_where_told : (s : Federation) → Facts s → Working s → (t m n : ℕ) → is_decided s.decided t ≡ true → stands (view Memory (s.member m)) t ≡ true → 1 ≤ count_at (told_of s t) n → stands (view Memory (s.member n)) t ≡ true
