@@ -1,7 +1,6 @@
 -- What the invariants are proved by: the facts of all nodes, those of each node by itself, commit records and the opened logs; and
 -- that each move and each event keeps them.
-use Rattle.std.proofs.Common.{◌≡◌, ℕ, true, false, List, [], ◌∷◌, sym, ap, ◌∙◌, subst}
-use Rattle.std.specs.Option.{is_some}
+use Rattle.std.proofs.Common.{ℕ, true, false, List, [], ◌∷◌, sym, subst}
 use Rattle.co_base.specs.declared.head.Kind.{Kind}
 use Rattle.co_message.specs.declared.message.Message.{Message}
 use Rattle.co_message.specs.declared.message.Message.TheVariants as message
@@ -14,7 +13,6 @@ use Rattle.co_plain.specs.Runs.{run}
 use Rattle.co_plain.specs.SoundLogs.{AreSound}
 use Rattle.co_plain.specs.Step.{step}
 use Rattle.co_law_base.proofs.Facts.{Facts}
-use Rattle.co_law_base.proofs.Lookups.{look_none}
 use Rattle.co_law_moves.specs.OwnGuards.{AnyLogs, GuardOver, may_say}
 use Rattle.co_law_moves.proofs.Growing.{Grows, step_grows}
 use Rattle.co_law_moves.proofs.MoveByMove.{move_keeps}

@@ -1,5 +1,5 @@
 -- A transaction is begun: its number is new, so nothing speaks of it.
-use Rattle.std.proofs.Common.{◌≡◌, ◌≢◌, ◌⊎◌, inl, inr, ℕ, true, false, ◌||◌, ◌&&◌, ◌≤◌, List, [], Option, None, Some, refl, sym, ap, ◌∙◌, subst, arith}
+use Rattle.std.proofs.Common.{◌≡◌, ◌≢◌, ◌⊎◌, inl, inr, ℕ, true, false, ◌||◌, ◌&&◌, ◌≤◌, List, [], Option, None, Some, refl, sym, ap, ◌∙◌, subst}
 use Rattle.std.specs.Option.{is_some}
 use Rattle.std.proofs.lemmas.Bool.{or_cases, or_left, or_parts, and_parts, eq-eqb, false_from_ne_true}
 use Rattle.co_base.specs.declared.node.Node.{Node}

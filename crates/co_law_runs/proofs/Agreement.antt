@@ -1,5 +1,5 @@
 -- No two members decide a transaction differently.
-use Rattle.std.proofs.Common.{◌≡◌, ◌⊎◌, inl, inr, ℕ, true, false, ◌≤◌, ◌==◌, List, [], ◌∷◌, ◌++◌, Option, None, Some, refl, sym, ap, ◌∙◌, subst, arith}
+use Rattle.std.proofs.Common.{◌≡◌, ◌⊎◌, inl, inr, ℕ, true, false, ◌≤◌, ◌==◌, List, [], ◌∷◌, ◌++◌, refl, sym, ap, ◌∙◌, subst, arith}
 use Rattle.std.specs.Option.{is_some}
 use Rattle.std.proofs.lemmas.Bool.{or_cases, or_left, or_right, or_from, or_parts, eqb-true}
 use Rattle.co_base.specs.declared.head.Kind.{Kind}
@@ -7,13 +7,12 @@ use Rattle.co_state.specs.Table.{look, holds}
 use Rattle.co_state.specs.EngineState.{is_undecided}
 use Rattle.co_plain.specs.declared.happening.Happening.{Happening}
 use Rattle.co_plain.specs.declared.session.Decided.{Decided}
-use Rattle.co_plain.specs.declared.session.Session.{Session}
 use Rattle.co_plain.specs.Sessions.{count_at}
 use Rattle.co_plain.specs.Federation.{Federation}
 use Rattle.co_plain.specs.Step.{step}
 use Rattle.co_plain.specs.Runs.{run}
 use Rattle.co_plain.specs.Opening.{Found, opened}
-use Rattle.co_plain.specs.Decisions.{told_of, told_in, is_decided}
+use Rattle.co_plain.specs.Decisions.{told_of, is_decided}
 use Rattle.co_plain.specs.SoundLogs.{log_has_committed}
 use Rattle.co_plain.specs.Promises.{HasDecidedCommit, MembersAgree}
 use Rattle.co_plain.specs.Invariants.{Memory, view, stands}
