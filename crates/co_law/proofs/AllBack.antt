@@ -26,11 +26,11 @@ use Rattle.co_law_base.proofs.LogMoves.{as_belongs, dead_there}
 use Rattle.co_law_base.proofs.Lookups.{holds_found, found_holds}
 use Rattle.co_law_base.proofs.TwoViews.{committed_both}
 use Rattle.co_law_base.proofs.VoteMoves.{as_settled}
+use Rattle.co_law_base.proofs.KeptTold.{told_begun}
 use Rattle.co_law_moves.proofs.KeptFrom.{belongs_is}
 use Rattle.co_law_moves.proofs.Laid.{laid_image}
 use Rattle.co_law_moves.proofs.MoveByMove.{as_takes, as_took}
 use Rattle.co_law_moves.proofs.Own.{AtCoord, OwnFacts}
-use Rattle.co_law_runs.proofs.Agreement.{told_begun}
 use Rattle.co_law_runs.proofs.Working.{Working}
 use Rattle.co_law.proofs.AllFacts.{AllFacts}
 
@@ -262,7 +262,7 @@ module _ (s : Federation) (i : AllInvariants s) where
       }
 
   pub all_back : AllFacts s
-  all_back = record { facts = facts; own = own; parts = i.commits.parts; records = i.commits.recorded; working = working; opened = i.opened_sound }
+  all_back = record { facts = facts; own = own; records = i.commits.recorded; working = working; opened = i.opened_sound }
     where
       working : Working s
       working =

@@ -1,7 +1,6 @@
 -- What the invariants are proved by: the facts of all nodes, those of each node by itself, commit records and the opened logs; and
 -- that each move and each event keeps them.
-use Rattle.std.proofs.Common.{◌≡◌, ℕ, true, false, List, [], ◌∷◌, sym, ap, ◌∙◌, subst}
-use Rattle.std.specs.Option.{is_some}
+use Rattle.std.proofs.Common.{ℕ, true, false, List, [], ◌∷◌, sym, subst}
 use Rattle.co_base.specs.declared.head.Kind.{Kind}
 use Rattle.co_message.specs.declared.message.Message.{Message}
 use Rattle.co_message.specs.declared.message.Message.TheVariants as message
@@ -14,7 +13,6 @@ use Rattle.co_plain.specs.Runs.{run}
 use Rattle.co_plain.specs.SoundLogs.{AreSound}
 use Rattle.co_plain.specs.Step.{step}
 use Rattle.co_law_base.proofs.Facts.{Facts}
-use Rattle.co_law_base.proofs.Lookups.{look_none}
 use Rattle.co_law_moves.specs.OwnGuards.{AnyLogs, GuardOver, may_say}
 use Rattle.co_law_moves.proofs.Growing.{Grows, step_grows}
 use Rattle.co_law_moves.proofs.MoveByMove.{move_keeps}
@@ -26,7 +24,6 @@ use Rattle.co_law_moves.proofs.Steps.{step_keeps}
 use Rattle.co_law_runs.proofs.Agreement.{opened_works}
 use Rattle.co_law_runs.proofs.Hopeless.{step_works}
 use Rattle.co_law_runs.proofs.Working.{Working, move_works}
-use Rattle.co_law.proofs.CommitParts.{CommitParts, move_parts, step_parts}
 use Rattle.co_law.proofs.CommitRecords.{CommitRecords, start_records, move_records, step_records}
 use Rattle.co_law.proofs.MovesGrow.{effect_grows}
 use Rattle.co_law.proofs.OwnStart.{own_start}
@@ -34,7 +31,6 @@ use Rattle.co_law.proofs.OwnStart.{own_start}
 pub record AllFacts (s : Federation) : Type 0 where
   pub facts : Facts s
   pub own : OwnFacts s
-  pub parts : CommitParts s
   pub records : CommitRecords s
   pub working : Working s
   pub opened : AreSound s.opened_member s.opened_coord
@@ -45,7 +41,6 @@ all_start kinds coords fm fc g =
       facts = start_facts kinds coords fm fc g;
       own = own_start kinds coords fm fc g.free g.apart g.members_used g.coords_used;
       working = opened_works kinds coords fm fc;
-      parts = λ c t members e b. absurd (let z : false ≡ true = sym (ap is_some (look_none t)) ∙ b in cc);
       records = start_records kinds coords fm fc;
       opened = g.sound;
     }
@@ -97,7 +92,6 @@ all_move s a move g =
     record {
       facts = move_keeps s a.facts move g;
       own = own_move s a.own move (guard_any s move g);
-      parts = move_parts s a.facts a.parts move g;
       records = move_records s a.facts a.records move g;
       working = move_works s a.facts move g a.working;
       opened = opened_stay s (effect s move) (effect_grows s move) a.opened;
@@ -112,7 +106,6 @@ all_step s a h v =
     record {
       facts = step_keeps s a.facts h v;
       own = own_step s a.own h;
-      parts = step_parts s a.facts h v a.parts;
       records = step_records s a.facts h v a.records;
       working = step_works s a.facts h v a.working;
       opened = opened_stay s (step s h).state (step_grows s h) a.opened;

@@ -13,6 +13,7 @@ use Rattle.co_law_moves.proofs.KeptBySelf.{table_matches, past_idle}
 use Rattle.co_law_moves.proofs.KeptFrom.{each_at, belongs_is, living, settled_is, took_is, waiting_is, image, ended, ended_before, committed_alive, aborts_true}
 use Rattle.co_law.proofs.AllFacts.{AllFacts}
 use Rattle.co_law.proofs.HeldOnes.{asked_held}
+use Rattle.co_law.proofs.CommitRecords.{session_parts}
 
 pub all_from : (s : Federation) → AllFacts s → AllInvariants s
 all_from s a =
@@ -70,7 +71,7 @@ all_from s a =
             unended = λ t c m members side h k. f.records.unended t c m members side h k;
             taking = λ t c m members h k. took_is s t m (f.records.taking t c m members h k);
             recorded = a.records;
-            parts = a.parts;
+            parts = session_parts s f a.records;
             opened = λ t c m members side h k. f.records.opened_stand t c m members side h k;
             ended = ended s f;
             ended_before = ended_before s f;
@@ -81,7 +82,7 @@ all_from s a =
             votes = λ t c m granted h. belongs_is s t c (f.sent.votes_named t m c granted h);
             questions = λ t m c h. belongs_is s t c (f.sent.asks_named t m c h);
           };
-      held = asked_held s f a.parts a.working a.records;
+      held = asked_held s f a.working a.records;
       sound = files_sound s f;
       decided_once = f.numbers.once;
       decided_begun = f.numbers.decided_begun;

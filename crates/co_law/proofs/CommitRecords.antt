@@ -7,7 +7,7 @@ use Rattle.co_base.specs.declared.node.Node.TheVariants as node
 use Rattle.co_record.specs.declared.record.Record.{Record}
 use Rattle.co_record.specs.declared.record.Record.TheVariants as log
 use Rattle.co_serial.specs.SerialRun.{with_at}
-use Rattle.co_state.specs.Table.{look}
+use Rattle.co_state.specs.Table.{look, holds}
 use Rattle.co_plain.specs.declared.coord_state.CoordState.{CoordState}
 use Rattle.co_plain.specs.declared.coord_state.Entry.{Entry}
 use Rattle.co_plain.specs.declared.coord_state.Entry.TheVariants as entry
@@ -19,7 +19,7 @@ use Rattle.co_plain.specs.LogWrite.{generation_of}
 use Rattle.co_plain.specs.CoordLog.{commit_onto, commits_onto}
 use Rattle.co_plain.specs.CoordStep.{members_of}
 use Rattle.co_plain.specs.CoordView.{recovered_commits, has_commit_of}
-use Rattle.co_plain.specs.Decisions.{told_of}
+use Rattle.co_plain.specs.Decisions.{is_asked, told_of}
 use Rattle.co_plain.specs.Federation.{Federation}
 use Rattle.co_plain.specs.Invariants.{ends_only}
 use Rattle.co_plain.specs.CoordInvariants.{IsOneOf, TookPartIn}
@@ -30,8 +30,8 @@ use Rattle.co_plain.specs.Step.{step}
 use Rattle.co_plain.specs.Sessions.{parts_of}
 use Rattle.co_plain.specs.SoundLogs.{unended_in}
 use Rattle.co_law_base.proofs.Carrying.{at_each}
-use Rattle.co_law_base.proofs.Commits.{commit_cases, holds_more, holds_new}
-use Rattle.co_law_base.proofs.Facts.{Facts}
+use Rattle.co_law_base.proofs.Commits.{commit_cases, holds_more, holds_new, unended_some}
+use Rattle.co_law_base.proofs.Facts.{Each, Facts}
 use Rattle.co_law_base.proofs.ImageRules.{EachEntry, each_entry}
 use Rattle.co_law_base.proofs.Lookups.{is_nothing, look_none, without_cases}
 use Rattle.co_law_moves.proofs.ByMoves.{step_leaves}
@@ -45,7 +45,7 @@ abbrev commit_txn : Record → ℕ
 commit_txn (log.Commit t members) = t
 commit_txn _ = 0
 
-abbrev commit_members : Record → List ℕ
+abbrev pub commit_members : Record → List ℕ
 commit_members (log.Commit t members) = members
 commit_members _ = []
 
@@ -111,6 +111,25 @@ made_one owner (r ∷ rs) t ms h = h
 
 pub start_records : (kinds : List Kind) (coords : ℕ) (fm fc : ℕ → Found) → CommitRecords (opened kinds coords fm fc)
 start_records kinds coords fm fc c t ms h = inr (made_one (node.Coord c) (fc c).records t ms h)
+
+-- So a commit without end of a transaction of this run names the participants of its session.
+took_told : (s : Federation) (t : ℕ) (members : List ℕ) → members ≢ [] → (ds : List Decided) → Each (λ d. (d.told ≡ []) ⊎ ((told_of s d.txn ≡ d.told) × (is_asked s d.txn ≡ true))) ds →
+    TookPartIn ds t members → members ≡ members_of (parts_of (told_of s t))
+took_told s t members some [] e x = absurd x
+took_told s t members some (d ∷ ds) e (inr x) = took_told s t members some ds e.1 x
+took_told s t members some (d ∷ ds) e (inl x) = by e.0
+  where
+    by : (d.told ≡ []) ⊎ ((told_of s d.txn ≡ d.told) × (is_asked s d.txn ≡ true)) → members ≡ members_of (parts_of (told_of s t))
+    by (inl n) = absurd (some (x.1 ∙ ap (λ os. members_of (parts_of os)) n))
+    by (inr k) = x.1 ∙ ap (λ os. members_of (parts_of os)) (sym k.0 ∙ ap (told_of s) x.0)
+
+pub session_parts : (s : Federation) → Facts s → CommitRecords s → (c t : ℕ) (members : List ℕ) → unended_in (s.coord c).log.stable t ≡ Some members → holds s.sessions t ≡ true →
+    members ≡ members_of (parts_of (told_of s t))
+session_parts s f p c t members e begun = by (p c t members (unended_one (s.coord c).log.stable t members e))
+  where
+    by : TookPartIn s.decided t members ⊎ IsOneOf (log.Commit t members) (s.opened_coord c) → members ≡ members_of (parts_of (told_of s t))
+    by (inl x) = took_told s t members (unended_some (s.coord c).log.stable t members e) s.decided f.numbers.kept x
+    by (inr o) = absurd (let z : true ≡ false = sym (f.numbers.commit_used c t (one_seen (s.opened_coord c) t members o)) ∙ f.numbers.new t begun in cc)
 
 module _ (s : Federation) (f : Facts s) (p : CommitRecords s) where
   -- a record that stands after a change, beside the decisions after it

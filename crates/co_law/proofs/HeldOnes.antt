@@ -20,23 +20,22 @@ use Rattle.co_law_base.proofs.Commits.{unended_seen}
 use Rattle.co_law_base.proofs.Facts.{rest_of, by_coord, takes, ByTold, Named, Each, OpenEntry, Facts}
 use Rattle.co_law_base.proofs.TwoViews.{committed_both}
 use Rattle.co_law_base.proofs.Sending.{told_parts, part_member}
+use Rattle.co_law_base.proofs.KeptTold.{told_begun}
 use Rattle.co_law_moves.proofs.KeptFrom.{living, takes_is}
-use Rattle.co_law_runs.proofs.Agreement.{told_begun}
 use Rattle.co_plain.specs.CoordInvariants.{IsOneOf, TookPartIn, IsHeldFor, AskedAreHeld}
 use Rattle.co_law_runs.proofs.Working.{Working}
-use Rattle.co_law.proofs.CommitParts.{CommitParts}
-use Rattle.co_law.proofs.CommitRecords.{CommitRecords, one_seen}
+use Rattle.co_law.proofs.CommitRecords.{CommitRecords, one_seen, session_parts}
 
 pub took_decided : (ds : List Decided) (t : ℕ) (members : List ℕ) → TookPartIn ds t members → is_decided ds t ≡ true
 took_decided [] t members x = absurd x
 took_decided (d ∷ ds) t members (inl x) = or_left _ _ (ap (λ n. n == t) x.0 ∙ eq-eqb t t refl)
 took_decided (d ∷ ds) t members (inr x) = or_right _ _ (took_decided ds t members x)
 
-module _ (s : Federation) (f : Facts s) (p : CommitParts s) (w : Working s) (r : CommitRecords s) where
+module _ (s : Federation) (f : Facts s) (w : Working s) (r : CommitRecords s) where
   -- who takes part is named by the commit
   named : (t c m : ℕ) → takes (rest_of s) t m → (members : List ℕ) → unended_in (s.coord c).log.stable t ≡ Some members → has_number members m ≡ true
   named t c m (ByTold l) members e =
-      let is : members ≡ members_of (parts_of (told_of s t)) = p c t members e (told_begun (look s.sessions t) m l) in
+      let is : members ≡ members_of (parts_of (told_of s t)) = session_parts s f r c t members e (told_begun (look s.sessions t) m l) in
       ap (λ ms. has_number ms m) is ∙ part_member (parts_of (told_of s t)) m ∙ told_parts (told_of s t) m l
   named t c m (Named d ms h k) members e = by ((f.coords c).unended_known t members e)
     where

@@ -19,7 +19,6 @@ pub mod FirstRefusals
 pub mod MemberNames
 pub mod CoordNames
 pub mod EveryHome
-pub mod CommitParts
 pub mod CommitRecords
 pub mod HeldOnes
 pub mod AllFacts

@@ -13,15 +13,11 @@ use Rattle.co_plain.specs.Invariants.{TakesPart, HeldOperations, NamedBefore}
 use Rattle.co_plain.specs.CoordInvariants.{IsOneOf, TookPartIn, IsHeldFor}
 use Rattle.co_plain.specs.AllInvariants.{AllInvariants}
 use Rattle.co_law_base.proofs.Lookups.{found_holds}
+use Rattle.co_law_base.proofs.KeptTold.{told_begun}
 use Rattle.co_law_node.proofs.AllowedCommits.{AllowedCommits, commits_from}
-use Rattle.co_law_runs.proofs.Agreement.{told_begun}
 use Rattle.co_law.specs.WholeInvariants.{AskedAreNamed}
-use Rattle.co_law.proofs.CommitRecords.{unended_one, one_seen}
+use Rattle.co_law.proofs.CommitRecords.{commit_members, unended_one, one_seen}
 use Rattle.co_law.proofs.HeldOnes.{took_decided}
-
-abbrev commit_members : Record → List ℕ
-commit_members (log.Commit t members) = members
-commit_members _ = []
 
 not_true : (b : Bool) → not b ≡ true → b ≡ false
 not_true true h = absurd (let z : false ≡ true = h in cc)

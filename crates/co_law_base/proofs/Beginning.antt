@@ -1,5 +1,5 @@
 -- A transaction is begun: its number is new, so nothing speaks of it.
-use Rattle.std.proofs.Common.{◌≡◌, ◌≢◌, ◌⊎◌, inl, inr, ℕ, true, false, ◌||◌, ◌&&◌, ◌≤◌, List, [], Option, None, Some, refl, sym, ap, ◌∙◌, subst, arith}
+use Rattle.std.proofs.Common.{◌≡◌, ◌≢◌, ◌⊎◌, inl, inr, ℕ, true, false, ◌||◌, ◌&&◌, ◌≤◌, List, [], Option, None, Some, refl, sym, ap, ◌∙◌, subst}
 use Rattle.std.specs.Option.{is_some}
 use Rattle.std.proofs.lemmas.Bool.{or_cases, or_left, or_parts, and_parts, eq-eqb, false_from_ne_true}
 use Rattle.co_base.specs.declared.node.Node.{Node}
@@ -23,6 +23,7 @@ use Rattle.co_law_base.proofs.Facts.{Rest, rest_of, changed, told, begun, asked,
 use Rattle.co_law_base.proofs.Carrying.{at_each, over_seen, belongs_seen, by_coord_begun, Later, later_member, later_coord, later_records, later_sent}
 use Rattle.co_law_base.proofs.ViewMoves.{each_map, each_both, each_decided, holds_put, put_holds}
 use Rattle.co_law_base.proofs.Tabled.{coord_put}
+use Rattle.co_law_base.proofs.KeptTold.{told_begun}
 
 -- a number that was not seen is none that was
 pub other_than : (r : Rest) (t u : ℕ) → seen r t ≡ false → seen r u ≡ true → t ≢ u
@@ -31,10 +32,6 @@ other_than r t u new old e = let z : true ≡ false = sym old ∙ ap (seen r) (s
 asked_begun : (o : Option Session) → asked_in o ≡ true → is_some o ≡ true
 asked_begun None h = h
 asked_begun (Some session) h = refl
-
-told_begun : (o : Option Session) (m : ℕ) → 1 ≤ count_at (told_in o) m → is_some o ≡ true
-told_begun None m h = absurd (omega (arith, h))
-told_begun (Some session) m h = refl
 
 module _ (s : Federation) (f : Facts s) (t : ℕ) (by' : Node) (new : seen (rest_of s) t ≡ false) (coord : ℕ → CoordState) where
   -- sessions with the new one

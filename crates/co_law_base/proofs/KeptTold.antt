@@ -1,6 +1,7 @@
 -- What an active transaction keeps, as its engine changes.
-use Rattle.std.proofs.Common.{◌≡◌, ℕ, false, ◌≤◌, nat_lt, if◌then◌else◌, List, [], ◌∷◌, length, refl, sym, ap, ◌∙◌, arith}
+use Rattle.std.proofs.Common.{◌≡◌, ℕ, true, false, ◌≤◌, nat_lt, if◌then◌else◌, List, [], ◌∷◌, length, Option, None, Some, refl, sym, ap, ◌∙◌, arith}
 use Rattle.std.proofs.lemmas.Bool.Decides.{nat_tests}
+use Rattle.std.specs.Option.{is_some}
 use Rattle.co_serial.specs.Records.{Records, with_changes}
 use Rattle.co_serial.specs.SerialRun.{reply_to}
 use Rattle.co_state.specs.declared.engine_state.EngineState.{EngineState}
@@ -8,8 +9,10 @@ use Rattle.co_state.specs.declared.engine_state.Install.{Install}
 use Rattle.co_state.specs.declared.engine_state.Operation.{Operation}
 use Rattle.co_state.specs.Changes.{changes_of}
 use Rattle.co_state.specs.EngineState.{records_now, records_at}
+use Rattle.co_plain.specs.declared.session.Session.{Session}
 use Rattle.co_plain.specs.declared.session.Told.{Told}
 use Rattle.co_plain.specs.Sessions.{told_at, count_at}
+use Rattle.co_plain.specs.Decisions.{told_in}
 use Rattle.co_plain.specs.Invariants.{KeptAsTold, StampsIn}
 
 -- the same records at each stamp
@@ -45,3 +48,8 @@ stamps_more n m (o ∷ os) l s = (omega (arith, l, s.0), stamps_more n m os l s.
 pub count_told : (told : List Told) (m : ℕ) → count_at told m ≡ length (told_at told m)
 count_told [] m = refl
 count_told (o ∷ os) m = grind (arith, nat_tests, count_told os m)
+
+-- who was told of operations was begun
+pub told_begun : (o : Option Session) (m : ℕ) → 1 ≤ count_at (told_in o) m → is_some o ≡ true
+told_begun None m h = absurd (omega (arith, h))
+told_begun (Some session) m h = refl

@@ -1,19 +1,17 @@
 -- Who took part in a decision: who was told of operations at it, or is named by an opened commit.
-use Rattle.std.proofs.Common.{◌≡◌, ◌≢◌, ◌⊎◌, inl, inr, ℕ, true, false, ◌&&◌, ◌==◌, ◌≤◌, nat_le, List, [], ◌∷◌, Option, None, Some, refl, sym, ap, ◌∙◌, subst, arith}
-use Rattle.std.specs.Option.{is_some}
+use Rattle.std.proofs.Common.{◌≡◌, ◌≢◌, ◌⊎◌, inl, inr, ℕ, true, false, ◌&&◌, ◌==◌, ◌≤◌, nat_le, List, [], ◌∷◌, None, refl, sym, ap, ◌∙◌, subst, arith}
 use Rattle.std.proofs.lemmas.Bool.{or_cases, or_left, or_right, and_parts, and_from, eqb-true, eq-eqb}
 use Rattle.std.proofs.lemmas.Bool.Decides.{nat_tests}
 use Rattle.co_record.specs.declared.record.Record.{Record}
 use Rattle.co_state.specs.Table.{look}
 use Rattle.co_plain.specs.declared.session.Decided.{Decided}
-use Rattle.co_plain.specs.declared.session.Session.{Session}
 use Rattle.co_plain.specs.declared.session.Told.{Told}
 use Rattle.co_plain.specs.Numbers.{first_lacking, has_number}
 use Rattle.co_plain.specs.Sessions.{count_at}
-use Rattle.co_plain.specs.Decisions.{told_in}
 use Rattle.co_plain.specs.Invariants.{took_part}
 use Rattle.co_law_base.proofs.Commits.{unended_seen}
 use Rattle.co_law_base.proofs.Facts.{Rest, told, asked, takes, ByTold, Named, took, Took, AtDecision, InOpened, Each, NumberFacts}
+use Rattle.co_law_base.proofs.KeptTold.{told_begun}
 
 at_least_one : (n : ℕ) → 1 ≤ n → nat_le 1 n ≡ true
 at_least_one n h = grind (arith, nat_tests, h)
@@ -55,16 +53,12 @@ pub took_takes : (r : Rest) → NumberFacts r → (t m : ℕ) → took r t m →
 took_takes r n t m (AtDecision h) = ByTold (told_since r r.decided n.kept t m h).1
 took_takes r n t m (InOpened c members h k) = Named c members h k
 
-told_session : (o : Option Session) (m : ℕ) → 1 ≤ count_at (told_in o) m → is_some o ≡ true
-told_session None m h = absurd (omega (arith, h))
-told_session (Some session) m h = refl
-
 -- where one took part, all took part that take part now
 pub takes_took : (r : Rest) → NumberFacts r → (t k m : ℕ) → took r t k → takes r t m → took r t m
 takes_took r n t k m p (Named c members h q) = InOpened c members h q
 takes_took r n t k m (AtDecision h) (ByTold l) = AtDecision ((told_since r r.decided n.kept t k h).0 m l)
 takes_took r n t k m (InOpened c members h q) (ByTold l) =
-    absurd (let z : true ≡ false = sym (n.commit_used c t (unended_seen (r.opened_coord c) t members h)) ∙ n.new t (told_session (look r.sessions t) m l) in cc)
+    absurd (let z : true ≡ false = sym (n.commit_used c t (unended_seen (r.opened_coord c) t members h)) ∙ n.new t (told_begun (look r.sessions t) m l) in cc)
 
 -- a commit that waits for acknowledgements has participants
 pub some_member : (members acks : List ℕ) → first_lacking members acks ≢ None → (k : ℕ) × (has_number members k ≡ true)

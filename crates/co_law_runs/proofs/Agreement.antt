@@ -1,5 +1,5 @@
 -- No two members decide a transaction differently.
-use Rattle.std.proofs.Common.{◌≡◌, ◌⊎◌, inl, inr, ℕ, true, false, ◌≤◌, ◌==◌, List, [], ◌∷◌, ◌++◌, Option, None, Some, refl, sym, ap, ◌∙◌, subst, arith}
+use Rattle.std.proofs.Common.{◌≡◌, ◌⊎◌, inl, inr, ℕ, true, false, ◌≤◌, ◌==◌, List, [], ◌∷◌, ◌++◌, refl, sym, ap, ◌∙◌, subst, arith}
 use Rattle.std.specs.Option.{is_some}
 use Rattle.std.proofs.lemmas.Bool.{or_cases, or_left, or_right, or_from, or_parts, eqb-true}
 use Rattle.co_base.specs.declared.head.Kind.{Kind}
@@ -7,13 +7,12 @@ use Rattle.co_state.specs.Table.{look, holds}
 use Rattle.co_state.specs.EngineState.{is_undecided}
 use Rattle.co_plain.specs.declared.happening.Happening.{Happening}
 use Rattle.co_plain.specs.declared.session.Decided.{Decided}
-use Rattle.co_plain.specs.declared.session.Session.{Session}
 use Rattle.co_plain.specs.Sessions.{count_at}
 use Rattle.co_plain.specs.Federation.{Federation}
 use Rattle.co_plain.specs.Step.{step}
 use Rattle.co_plain.specs.Runs.{run}
 use Rattle.co_plain.specs.Opening.{Found, opened}
-use Rattle.co_plain.specs.Decisions.{told_of, told_in, is_decided}
+use Rattle.co_plain.specs.Decisions.{told_of, is_decided}
 use Rattle.co_plain.specs.SoundLogs.{log_has_committed}
 use Rattle.co_plain.specs.Promises.{HasDecidedCommit, MembersAgree}
 use Rattle.co_plain.specs.Invariants.{Memory, view, stands}
@@ -21,6 +20,7 @@ use Rattle.co_law_base.proofs.Lookups.{look_none}
 use Rattle.co_law_base.proofs.Facts.{rest_of, told, asked, settled_at, Each, Facts}
 use Rattle.co_law_base.proofs.Carrying.{LivesOn}
 use Rattle.co_law_base.proofs.TwoViews.{committed_both}
+use Rattle.co_law_base.proofs.KeptTold.{told_begun}
 use Rattle.co_plain.specs.Premises.{AreTrueVerdicts}
 use Rattle.co_law_moves.proofs.Steps.{run_keeps}
 use Rattle.co_law_moves.proofs.MoveOnward.{move_onward}
@@ -46,10 +46,6 @@ run_more (x ∷ xs) ys s = run_more xs ys (step s x).state
 pub verdicts_parts : (xs ys : List Happening) (s : Federation) → AreTrueVerdicts (xs ++ ys) s → AreTrueVerdicts xs s × AreTrueVerdicts ys (run xs s)
 verdicts_parts [] ys s v = (tt, v)
 verdicts_parts (x ∷ xs) ys s v = let p = verdicts_parts xs ys (step s x).state v.1 in ((v.0, p.0), p.1)
-
-pub told_begun : (o : Option Session) (m : ℕ) → 1 ≤ count_at (told_in o) m → is_some o ≡ true
-told_begun None m h = absurd (omega (arith, h))
-told_begun (Some session) m h = refl
 
 -- who is decided and stands somewhere stands at every member where it has told operations
 pub stands_where_told : (s : Federation) → Facts s → Working s → (t m n : ℕ) → is_decided s.decided t ≡ true → stands (view Memory (s.member m)) t ≡ true → 1 ≤ count_at (told_of s t) n → stands (view Memory (s.member n)) t ≡ true

@@ -25,6 +25,7 @@ use Rattle.co_law_base.proofs.CoordMoves.{one_yes}
 use Rattle.co_law_base.proofs.LogMoves.{local_apart}
 use Rattle.co_law_base.proofs.VoteMoves.{as_settled}
 use Rattle.co_law_base.proofs.Sending.{told_parts, part_member}
+use Rattle.co_law_base.proofs.KeptTold.{told_begun}
 use Rattle.co_plain.specs.Premises.{IsTrueVerdict, AreTrueVerdicts}
 use Rattle.co_law_moves.proofs.Steps.{step_keeps}
 use Rattle.co_law_moves.specs.EventMoves.{moves_of}
@@ -36,7 +37,7 @@ use Rattle.co_law_moves.proofs.MoveOnward.{move_onward}
 use Rattle.co_law_moves.proofs.Onward.{Onward, onward_same, onward_on, disarm_onward, lives_back, present, absent_votes}
 use Rattle.co_law_moves.proofs.ByMoves.{step_leaves}
 use Rattle.co_law_runs.proofs.Working.{Working, move_works, disarm_works}
-use Rattle.co_law_runs.proofs.Agreement.{stands_where_told, told_begun}
+use Rattle.co_law_runs.proofs.Agreement.{stands_where_told}
 use Rattle.co_law_runs.specs.OnlyTimers.{tells_commit}
 
 pub data Hopeless (s : Federation) (t : ℕ) : Type 0 where
