@@ -1,13 +1,12 @@
 -- Why the logs of a directory were not read, from why it has no durable records.
-use Rattle.std.proofs.Common.{◌≡◌, ℕ, List, Option, Some, Result, Ok, Err, inl, inr, subst}
+use Rattle.std.proofs.Common.{◌≡◌, Option, Result, Ok, Err, inr, subst}
 use Rattle.std.specs.Prelude.{IfErr}
 use Rattle.co_outside.specs.declared.spot.Spot.{Spot}
 use Rattle.co_outside.specs.Home.{File}
 use Rattle.co_durable.specs.declared.fault.WorldFault.{WorldFault}
 use Rattle.co_durable.specs.declared.fault.WorldFault.TheVariants.{Device, Differs, InUse, Bad, Full, Count, Old, Memory}
-use Rattle.co_durable.specs.declared.writing.RecordsFault.TheVariants.{World}
 use Rattle.co_durable.specs.Durable.{IsUndurable}
-use Rattle.co_durable.specs.Written.{IsUnreadable, IsFront}
+use Rattle.co_durable.specs.Written.{IsUnreadable}
 
 pub undurable_refuses : (file : Spot → Option File) (fault : WorldFault) → IsUndurable file 16 8 fault → IsUnreadable file fault
 undurable_refuses file (Device spot) u = inr u
@@ -22,14 +21,3 @@ undurable_refuses file Memory u = u
 pub unread_result : {T : Type 0} (result : Result T WorldFault) (read file : Spot → Option File) → read ≡ file → IfErr result (IsUndurable read 16 8) → IfErr result (IsUnreadable file)
 unread_result (Ok x) read file same u = tt
 unread_result (Err fault) read file same u = undurable_refuses file fault (subst (λ (f : Spot → Option File). IsUndurable f 16 8 fault) same u)
-
--- where the logs were not read, nothing was put
-pub nothing_put : (file : Spot → Option File) (held : List ℕ) (told : Option (List ℕ)) (fault : WorldFault) → told ≡ Some held → IsFront file held told (World fault)
-nothing_put file held told (Device spot) e = e
-nothing_put file held told (Differs spot at kept read) e = e
-nothing_put file held told (InUse spot) e = e
-nothing_put file held told (Bad spot at) e = e
-nothing_put file held told (Full spot) e = e
-nothing_put file held told Count e = e
-nothing_put file held told (Old spot) e = e
-nothing_put file held told Memory e = inl e

@@ -1,5 +1,11 @@
-use Rattle.co_durable.proofs.Refusals.{nothing_put}
+use Rattle.std.proofs.Common.{◌≡◌, ap}
+use Rattle.co_durable.specs.declared.fault.WorldFault.TheVariants as world
+use Rattle.co_durable.specs.declared.writing.RecordsFault.TheVariants.{World}
 use Rattle.co_durable.proofs.writing.write_records.Goals as goal
 
-pub returns-in-Err-clause-front : goal.returns-in-Err-clause-front
-returns-in-Err-clause-front g c = λ held is. nothing_put (g.H.Home.seen c.args.home.now).file held (g.K.Sink.told c.args.out.now) c.in-Err.fault is
+pub returns-clause-quiet : goal.returns-clause-quiet
+returns-clause-quiet g c = λ quiet.
+    c.in-Err.ensures.quiet (λ spot h.
+    let is : c.in-Err.fault ≡ world.Device spot = cc in
+    let same : World c.in-Err.fault ≡ World (world.Device spot) = ap World is in
+    quiet spot (cc))
