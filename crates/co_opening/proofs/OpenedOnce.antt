@@ -88,14 +88,12 @@ found_once file node f g told c d = c.records ∙ ap newest_first (records_once 
 -- what is so of all nodes of a sort is so of each
 numbered_all : (P : Node → Type 0) (node : ℕ → Node) (count n : ℕ) → 1 ≤ n → n ≤ count → AllByRecursion P (numbered node count) → P (node n)
 numbered_all P node zero n low high all = absurd (omega (arith, low, high))
-numbered_all P node (suc count) n low high all = by (n == suc count) refl
+numbered_all P node (suc count) n low high all =
+    by (n == suc count) refl (λ other. numbered_all P node count n low (omega (arith, high, other)) (all_front P (numbered node count) _ all))
   where
-    front : AllByRecursion P (numbered node count)
-    front = all_front P (numbered node count) _ all
-
-    by : (b : Bool) → (n == suc count) ≡ b → P (node n)
-    by true e = subst (λ k. P (node k)) (sym (eqb-true n (suc count) e)) (all_back P (numbered node count) _ all).0
-    by false e = let other : n ≡ suc count → ⊥ = eqb-false n (suc count) e in numbered_all P node count n low (omega (arith, high, other)) front
+    by : (b : Bool) → (n == suc count) ≡ b → ((n ≡ suc count → ⊥) → P (node n)) → P (node n)
+    by true e rest = subst (λ k. P (node k)) (sym (eqb-true n (suc count) e)) (all_back P (numbered node count) _ all).0
+    by false e rest = rest (eqb-false n (suc count) e)
 
 used_once : (file : Spot → Option File) (members coords : ℕ) (fm gm fc gc : ℕ → Found) → AreTold file members coords → AreFound file members coords fm fc → AreFound file members coords gm gc
     → used_numbers members coords fm fc ≡ used_numbers members coords gm gc
