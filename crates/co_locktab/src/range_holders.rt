@@ -134,9 +134,10 @@ impl RangeHolders {
         ensures rest { self.new ≡ map.remove self.old range.now }
         ensures ended { result ≡ (if is_some (get self.old range.now) then Some range.now else None) }
     {
-        let Some((forgotten, _)) = self.map.remove_entry(range) else {
+        let Some((forgotten, holders)) = self.map.remove_entry(range) else {
             return None;
         };
+        let _ = holders;
         Some(forgotten)
     }
 }
