@@ -17,7 +17,7 @@ use Rattle.co_state.specs.Changes.{put_span, put_change}
 use Rattle.co_state.specs.Conflicts.{AreNewPairs, pair_holds}
 use Rattle.co_state.specs.EngineState.{sets_at}
 use Rattle.co_state.specs.Keys.{reads_key, writes_key, writes_within, reads_meet, writes_meet}
-use Rattle.co_state.specs.Table.{Table, look, put, without}
+use Rattle.co_state.specs.Table.{Table, look, without}
 use Rattle.co_state.proofs.Tables.{look-put, look-without, put-without}
 use Rattle.co_index.specs.NewPairs as made
 use Rattle.co_index.specs.NewPairs.{found_in, reads_pair, read_by_pair, writes_pair, written_by_pair, grown_by, or_nothing, sets_among, pair_among, AreNew}

@@ -8,3 +8,5 @@ mod Passing
 mod Pairing
 pub mod Growing
 pub mod Mapped
+pub mod Listed
+pub mod Least

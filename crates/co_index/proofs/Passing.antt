@@ -1,9 +1,9 @@
 -- Those that may be in conflict with an operation are among those that the index gives.
-use Rattle.std.proofs.Common.{◌≡◌, ℕ, Bool, true, false, ◌&&◌, ◌++◌, List, [], ◌∷◌, map, Option, None, Some, refl, sym, ap, ◌∙◌, true≢false}
+use Rattle.std.proofs.Common.{◌≡◌, ℕ, Bool, true, false, ◌&&◌, ◌++◌, List, [], ◌∷◌, refl, sym, ap, true≢false}
 use Rattle.std.specs.FinMap.{entries}
 use Rattle.co_base.specs.Span.{Span, span_of_key}
 use Rattle.co_state.specs.declared.engine_state.Sets.{Sets}
-use Rattle.co_state.specs.Table.{Table, look}
+use Rattle.co_state.specs.Table.{Table}
 use Rattle.co_index.specs.declared.index.Index.{Index}
 use Rattle.co_index.specs.NewPairs.{found_in, found_at, newly_read, newly_reads, newly_wrote_above, newly_wrote_below}
 use Rattle.co_index.specs.Touching.{IsIndexed, may_read, may_write}

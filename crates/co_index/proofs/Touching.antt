@@ -1,13 +1,13 @@
 -- What the index of touched keys tells.
-use Rattle.std.proofs.Common.{◌≡◌, T, ℕ, Bool, true, false, cond, not, ◌&&◌, ◌||◌, List, [], ◌∷◌, length, suc, map, filter, if◌then◌else◌, is_some, Option, None, Some, refl, sym, ap, ◌∙◌, subst, true≢false, eqb→eq, arith}
+use Rattle.std.proofs.Common.{◌≡◌, T, ℕ, Bool, true, false, cond, not, ◌&&◌, ◌||◌, List, [], ◌∷◌, length, suc, filter, if◌then◌else◌, is_some, Option, None, Some, refl, sym, ap, ◌∙◌, subst, true≢false, eqb→eq, arith}
 use Rattle.std.specs.Prelude.{◌==◌}
 use Rattle.std.specs.Ordering.{nat_cmp, eq_by_cmp, is_eq, is_gt, ordering_reverse}
 use Rattle.std.specs.declared.cmp.Ordering.{Ordering}
 use Rattle.std.specs.declared.cmp.Ordering.TheVariants.{Less, Equal, Greater}
 use Rattle.std.specs.Cmp.{nat_cmp_total, eq_by_cmp_equiv}
 use Rattle.std.proofs.lemmas.Cmp.{nat_list_cmp_total}
-use Rattle.std.specs.FinMap.{empty, entries, entries_sorted, get, insert, remove, get-entries, get-empty, get-insert, get-remove, slice_cmp-IsAntisymmetric, nat_cmp-IsAntisymmetric}
-use Rattle.std.specs.FinMap.Entries.{find, is_sorted, where_key, find-where_key}
+use Rattle.std.specs.FinMap.{entries, get, insert, remove, get-entries, get-empty, get-insert, get-remove, slice_cmp-IsAntisymmetric, nat_cmp-IsAntisymmetric}
+use Rattle.std.specs.FinMap.Entries.{find, find-where_key}
 use Rattle.co_base.specs.Order.{key_cmp}
 use Rattle.co_base.specs.Span.{Span, span_has, span_of_key}
 use Rattle.co_base.specs.declared.written.Written.{Written}
@@ -17,7 +17,7 @@ use Rattle.co_state.specs.Keys.{same_key, reads_key, writes_key, writes_within}
 use Rattle.co_state.specs.Table.{Table, no_entries, look, put, without, holds}
 use Rattle.co_state.proofs.Tables.{look-put, look-without}
 use Rattle.co_index.specs.declared.index.Index.{Index}
-use Rattle.co_index.specs.Touching.{Touches, or_nobody, touches, with_touch, without_in, without_touch, is_nobody, settled, no_index, read_at, with_read, with_write, with_reads, with_writes, with_sets, with_all, forgotten_at, without_read, without_write, without_reads, without_writes, without_sets, joined, joined_all, readers_in, may_write, may_read, Covers}
+use Rattle.co_index.specs.Touching.{Touches, or_nobody, touches, with_touch, without_in, without_touch, is_nobody, settled, read_at, with_read, with_write, with_reads, with_writes, with_sets, with_all, forgotten_at, without_read, without_write, without_reads, without_writes, without_sets, joined, joined_all, readers_in, may_write, may_read, Covers}
 use Rattle.co_index.proofs.Finding.{tied, ties}
 use Rattle.co_index.proofs.Keys as key
 use Rattle.co_index.proofs.Putting.{reads_key-put, writes_key-put}

@@ -1,3 +1,4 @@
 pub mod Touching
 pub mod NewPairs
 pub mod Undecided
+pub mod Listed

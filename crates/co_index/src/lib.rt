@@ -5,9 +5,11 @@
 #![tactic(auto)]
 
 mod index;
+mod key_map;
 mod new_pairs;
 mod touched;
 mod undecided;
 
 pub use index::Index;
+pub use key_map::KeyMap;
 pub use undecided::Undecided;

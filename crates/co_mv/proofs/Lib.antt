@@ -6,7 +6,6 @@ mod Stamping
 mod Chaining
 mod Archiving
 mod Forgetting
-mod Least
 mod Visible
 mod Overwriting
 mod Standing

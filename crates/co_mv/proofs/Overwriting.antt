@@ -23,38 +23,13 @@ use Rattle.co_mv.specs.Versions.{last_change, base_versions, closed, written_ove
 use Rattle.co_mv.proofs.Archiving.{has-keys}
 use Rattle.co_mv.proofs.Chaining.{same_keys}
 use Rattle.co_index.proofs.Putting.{reads_key-put}
-use Rattle.co_mv.proofs.Visible.{key-below, find-within, sorted-within, first, second}
+use Rattle.co_index.proofs.Finding.{first, second}
+use Rattle.co_index.proofs.Listed.{has-append, has-filter, either, key-below, find-within, sorted-within}
 use Rattle.co_mv.proofs.Versioning.{true_le, lt_true, true_lt, lt_false, and_first, and_second, and-false, key_symm, writes-change, IsLink, Linked, linked, written_bound}
-
-or_assoc : (a b c : Bool) → (a || (b || c)) ≡ ((a || b) || c)
-or_assoc true b c = refl
-or_assoc false b c = refl
-
-has-append : (xs ys : List (List ℕ)) (k : List ℕ) → has_key (xs ++ ys) k ≡ (has_key xs k || has_key ys k)
-has-append [] ys k = refl
-has-append (x ∷ xs) ys k = ap (λ b. same_key x k || b) (has-append xs ys k) ∙ or_assoc (same_key x k) (has_key xs k) (has_key ys k)
-
-filter_step : (span : Span) (x k : List ℕ) (rest whole : Bool) (xs : List (List ℕ)) (b c : Bool) → span_has span x ≡ b → same_key x k ≡ c → has_key xs k ≡ (span_has span k && whole)
-    → has_key (cond b (x ∷ xs) xs) k ≡ (span_has span k && (c || whole))
-filter_step span x k rest whole xs true true e f h = ap (λ c. c || has_key xs k) f ∙ sym (ap (λ b. b && true) (ap (span_has span) (sym (same_keys x k f)) ∙ e))
-filter_step span x k rest whole xs true false e f h = ap (λ c. c || has_key xs k) f ∙ h
-filter_step span x k rest whole xs false true e f h = h ∙ ap (λ b. b && whole) (ap (span_has span) (sym (same_keys x k f)) ∙ e) ∙ sym (ap (λ b. b && true) (ap (span_has span) (sym (same_keys x k f)) ∙ e))
-filter_step span x k rest whole xs false false e f h = h
-
-has-filter : (span : Span) (xs : List (List ℕ)) (k : List ℕ) → has_key (filter (span_has span) xs) k ≡ (span_has span k && has_key xs k)
-has-filter span [] k = sym (and-false (span_has span k))
-has-filter span (x ∷ xs) k = filter_step span x k true (has_key xs k) (filter (span_has span) xs) (span_has span x) (same_key x k) refl refl (has-filter span xs k)
 
 has-overwritten : (o : Option Span) (xs : List (List ℕ)) (k : List ℕ) → has_key (overwritten o xs) k ≡ (range_has o k && has_key xs k)
 has-overwritten None xs k = refl
 has-overwritten (Some span) xs k = has-filter span xs k
-
-either : (a b c : Bool) → ((a && c) || (b && c)) ≡ ((a || b) && c)
-either true true true = refl
-either true true false = refl
-either true false true = refl
-either true false false = refl
-either false b c = refl
 
 reads-with : (o : Option Span) (ss : List Span) (k : List ℕ) → reads_key (with_span o ss) k ≡ (range_has o k || reads_key ss k)
 reads-with None ss k = refl

@@ -46,7 +46,7 @@ use Rattle.co_mv.specs.Reading.{all_noted}
 use Rattle.co_mv.specs.Recents.{has_key}
 use Rattle.co_mv.specs.Versions.{first_stamp, needed_numbers, kept_versions, is_kept, versions_of, seen_value, written_since}
 use Rattle.co_mv.proofs.Archiving.{stamp_needed}
-use Rattle.co_mv.proofs.Least.{least_same}
+use Rattle.co_index.proofs.Least.{least_same}
 use Rattle.co_mv.proofs.Needing.{tied, kept_for_all, not_kept, sees_open}
 use Rattle.co_mv.proofs.Overwriting.{has-stale, has-within, since-versions, since-kept}
 use Rattle.co_mv.proofs.Visible.{noted_records, within_at, laid_at, reply_same}

@@ -20,25 +20,10 @@ use Rattle.co_mv.specs.declared.version.Version.{Version}
 use Rattle.co_mv.specs.Chains.{Chains, chain_in, chain_of}
 use Rattle.co_mv.specs.Reading.{noted, all_noted, changed_within, laid_within}
 use Rattle.co_mv.specs.Versions.{seen_value}
+use Rattle.co_index.proofs.Finding.{second, first}
+use Rattle.co_index.proofs.Listed.{key-below, find-within, sorted-within}
 use Rattle.co_mv.proofs.Chaining.{same_keys, key_itself}
 use Rattle.co_mv.proofs.Versioning.{get-with_change}
-
-pub first : (a b : Bool) → T (a && b) → T a
-first true b p = tt
-first false b p = p
-
-pub second : (a b : Bool) → T (a && b) → T b
-second true b p = p
-second false b p = absurd p
-
-less : (r : Ordering) → T (is_lt r) → r ≡ Less
-less Less p = refl
-less Equal p = absurd p
-less Greater p = absurd p
-
-pub key-below : {X : Type 0} (q : List ℕ) (es : List (List ℕ × X)) → T (below_all key_cmp q es) → find key_cmp q es ≡ None
-key-below q [] h = refl
-key-below q (e ∷ es) h = ap (λ r. cond (is_eq r) (Some e.1) (find key_cmp q es)) (less _ (first _ _ h)) ∙ key-below q es (second _ _ h)
 
 -- a value that is there, and else what was there before
 abbrev pub or_else : Option (List ℕ) → Option (List ℕ) → Option (List ℕ)
@@ -85,17 +70,8 @@ value_cond : (n : ℕ) (b : Bool) (o : Option (List Version)) → value_of n (co
 value_cond n true o = refl
 value_cond n false o = refl
 
-alike : (span : Span) (q x : List ℕ) → key_cmp q x ≡ Equal → span_has span x ≡ span_has span q
-alike span q x e = ap (span_has span) (sym (slice_cmp-IsAntisymmetric nat_cmp-IsAntisymmetric q x e))
-
 abbrev pub in_span : Span → List ℕ → Option (List ℕ) → Option (List ℕ)
 in_span span q o = cond (span_has span q) o None
-
-pub find-within : {X : Type 0} (span : Span) (q : List ℕ) (es : List (List ℕ × X)) → find key_cmp q (filter (λ e. span_has span e.0) es) ≡ cond (span_has span q) (find key_cmp q es) None
-find-within span q es = find-where_key key_cmp (span_has span) q (alike span q) es
-
-pub sorted-within : {X : Type 0} (span : Span) (es : List (List ℕ × X)) → T (is_sorted key_cmp es) → T (is_sorted key_cmp (filter (λ e. span_has span e.0) es))
-sorted-within span es h = is_sorted-where_key key_cmp (span_has span) es h
 
 -- the keys of a range
 pub within_at : (n : ℕ) (chains : Chains) (now : Records) (span : Span) → ((q : List ℕ) → get now q ≡ seen_value n (chain_of chains q))

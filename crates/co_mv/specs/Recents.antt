@@ -1,7 +1,6 @@
 -- Which keys the recent installs wrote, by the numbers of the installs.
-use Rattle.std.specs.Prelude.{ℕ, Bool, List, [], Option, None, Some}
-use Rattle.std.specs.List.{list_any}
-use Rattle.co_state.specs.Keys.{same_key}
+use Rattle.std.specs.Prelude.{ℕ, List, [], Option, None, Some}
+pub use Rattle.co_index.specs.Listed.{has_key}
 use Rattle.co_state.specs.Table.{Table, look}
 
 abbrev pub Recents : Type 0
@@ -14,6 +13,3 @@ keys_in (Some keys) = keys
 -- the keys that an install wrote, as far as they are kept
 abbrev pub keys_at : Recents → ℕ → List (List ℕ)
 keys_at m install = keys_in (look m install)
-
-abbrev pub has_key : List (List ℕ) → List ℕ → Bool
-has_key keys key = list_any (λ k. same_key k key) keys

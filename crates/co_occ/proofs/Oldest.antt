@@ -1,12 +1,12 @@
 -- The oldest read of the active transactions, as transactions come and go.
-use Rattle.std.proofs.Common.{◌≡◌, T, ℕ, ◌+◌, ◌-◌, ◌≤◌, Bool, true, false, cond, List, [], ◌∷◌, ◌++◌, length, map, drop, reverse, min, nat_le, Option, None, Some, refl, sym, ap, ◌∙◌, arith}
+use Rattle.std.proofs.Common.{◌≡◌, ℕ, ◌+◌, ◌-◌, ◌≤◌, Bool, true, false, cond, List, [], ◌∷◌, ◌++◌, length, drop, min, nat_le, Option, None, Some, refl, sym, ap, ◌∙◌, arith}
 use Rattle.std.proofs.lemmas.Bool.Decides.{nat_tests}
 use Rattle.std.proofs.lemmas.List.{drop-drop, drop_all, length-drop, drop-append-le, length_push}
 use Rattle.std.specs.Ordering.{nat_cmp, eq_by_cmp, is_eq}
 use Rattle.std.specs.declared.cmp.Ordering.{Ordering}
 use Rattle.std.specs.declared.cmp.Ordering.TheVariants.{Less, Equal, Greater}
 use Rattle.std.specs.Cmp.{nat_cmp_total, eq_by_cmp_equiv}
-use Rattle.std.specs.FinMap.{entries, entries-insert, entries_sorted, get-entries}
+use Rattle.std.specs.FinMap.{entries, entries-insert, get-entries}
 use Rattle.std.specs.FinMap.Entries.{find, by_order}
 use Rattle.std.specs.FinMap.Entries as placed
 use Rattle.std.specs.Option.{option_map}

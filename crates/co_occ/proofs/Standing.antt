@@ -3,7 +3,7 @@ use Rattle.std.proofs.Common.{◌≡◌, ℕ, ◌+◌, ◌-◌, ◌≤◌, Bool,
 use Rattle.std.specs.Prelude.{nat_lt}
 use Rattle.std.proofs.lemmas.Bool.Decides.{nat_tests}
 use Rattle.std.specs.Option.{option_map}
-use Rattle.std.specs.FinMap.{entries, get-empty}
+use Rattle.std.specs.FinMap.{empty, entries, get-empty}
 use Rattle.std.specs.Ordering.{nat_cmp, eq_by_cmp}
 use Rattle.co_base.specs.Span.{Span}
 use Rattle.co_base.specs.declared.head.Kind.{Kind}
@@ -39,9 +39,11 @@ use Rattle.co_index.proofs.Growing.{new_pairs}
 use Rattle.co_occ.specs.declared.engine.OccEngine.{OccEngine}
 use Rattle.co_occ.specs.declared.reads.Reads.{Reads}
 use Rattle.co_occ.specs.Kept.{reads_of, or_unread, with_read}
+use Rattle.co_occ.specs.Last.{Lasts, AreLast, noted, keys_after}
 use Rattle.co_occ.specs.Old.{with_stamp, oldest_stamp, oldest_of, oldest_read, installed_writes, writes_after, old_writes}
-use Rattle.co_occ.specs.Stands.{IsKept, KeepsState, StandsFor, count_after, needed, with_needed, own_records, own_reads}
+use Rattle.co_occ.specs.Stands.{IsKept, KeepsState, StandsFor, count_after, needed, recent_needed, with_needed, own_records, own_reads}
 use Rattle.co_occ.specs.Unseen.{keys_overwritten}
+use Rattle.co_occ.proofs.Lasting.{least_after, none_last}
 use Rattle.co_occ.proofs.Keeping.{sets_kept, reads_kept, kept_along, kept_cond, nothing_kept, cast_kept, voted_unread, not_active, absent_vote}
 use Rattle.co_occ.proofs.Oldest.{oldest-put, oldest-without, oldest_alike, lesser-assoc, after_read, after_gone, after_none, stamps-reads}
 use Rattle.co_occ.proofs.Oldest as later
@@ -152,16 +154,19 @@ stands_with o b t op reads undecided s h er es w = record {
       ∙ ap (λ old. writes_after old (installed_writes b.installed)) (oldest-without b.active t)
       ∙ stamp_more (span_read op) (snapshot_of b t) (oldest_stamp (operations_of b t)) (oldest_of (entries (without b.active t))) (installed_writes b.installed) (counted o b s.keeps ∙ stamp_alike o b t s.keeps)
       ∙ ap (λ old. writes_after old (installed_writes b.installed)) (sym (oldest-put b.active t (record { op = op; stamp = snapshot_of b t } ∷ operations_of b t)));
+  lasts_are = s.lasts_are;
 }
 
 needed_alike : (o : OccEngine) (b : EngineState) → KeepsState o b → needed o ≡ count_after (oldest_read b) o.installs
 needed_alike o b k = ap (λ old. count_after old o.installs) (oldest_alike o.reads b.active (λ t. (k.each t).reads_are))
 
 -- what no read needs is forgotten
-pub stands_needed : (o : OccEngine) (b : EngineState) → KeepsState o b → drop (length o.recent - count_after (oldest_read b) o.installs) o.recent ≡ old_writes b → StandsFor (with_needed o) b
-stands_needed o b k e = record {
+pub stands_needed : (o : OccEngine) (b : EngineState) (lasts : Lasts) → KeepsState o b → drop (length o.recent - count_after (oldest_read b) o.installs) o.recent ≡ old_writes b → AreLast lasts (recent_needed o) o.installs
+    → StandsFor (with_needed o lasts) b
+stands_needed o b lasts k e l = record {
   keeps = record { kind_is = k.kind_is; records_are = k.records_are; count_is = k.count_is; each = k.each; whole = k.whole };
   recent_are = ap (λ n. drop (length o.recent - n) o.recent) (needed_alike o b k) ∙ e;
+  lasts_are = l;
 }
 
 -- a transaction is no longer active
@@ -174,11 +179,11 @@ gone o b t s =
     ∙ after_gone (oldest_stamp (operations_of b t)) (oldest_of (entries (without b.active t))) (installed_writes b.installed) o.installs (counted o b s.keeps)
 
 -- ---- votes and drops
-pub stands_cast : (o : OccEngine) (b : EngineState) (t coord count : ℕ) (reads : Table Reads) → StandsFor o b → IsTrue (holds b.active t) → reads ≡ without o.reads t
-    → StandsFor (with_needed (moved o reads o.undecided)) (after_cast b t coord count)
-stands_cast o b t coord count reads s h er =
+pub stands_cast : (o : OccEngine) (b : EngineState) (t coord count : ℕ) (reads : Table Reads) (lasts : Lasts) → StandsFor o b → IsTrue (holds b.active t) → reads ≡ without o.reads t
+    → AreLast lasts (recent_needed (moved o reads o.undecided)) o.installs → StandsFor (with_needed (moved o reads o.undecided) lasts) (after_cast b t coord count)
+stands_cast o b t coord count reads lasts s h er l =
     let k = s.keeps in
-    stands_needed (moved o reads o.undecided) (after_cast b t coord count)
+    stands_needed (moved o reads o.undecided) (after_cast b t coord count) lasts
     (record {
       kind_is = k.kind_is;
       records_are = k.records_are;
@@ -190,13 +195,13 @@ stands_cast o b t coord count reads s h er =
           (λ n. k.each u));
       whole = k.whole;
     })
-    (gone o b t s)
+    (gone o b t s) l
 
-pub stands_drop : (o : OccEngine) (b : EngineState) (t : ℕ) (reads : Table Reads) (undecided : Undecided) → StandsFor o b → reads ≡ without o.reads t → undecided.sets ≡ without o.undecided.sets t → IsWhole undecided
-    → StandsFor (with_needed (moved o reads undecided)) (after_drop b t)
-stands_drop o b t reads undecided s er es w =
+pub stands_drop : (o : OccEngine) (b : EngineState) (t : ℕ) (reads : Table Reads) (undecided : Undecided) (lasts : Lasts) → StandsFor o b → reads ≡ without o.reads t → undecided.sets ≡ without o.undecided.sets t → IsWhole undecided
+    → AreLast lasts (recent_needed (moved o reads undecided)) o.installs → StandsFor (with_needed (moved o reads undecided) lasts) (after_drop b t)
+stands_drop o b t reads undecided lasts s er es w l =
     let k = s.keeps in
-    stands_needed (moved o reads undecided) (after_drop b t)
+    stands_needed (moved o reads undecided) (after_drop b t) lasts
     (record {
       kind_is = k.kind_is;
       records_are = k.records_are;
@@ -206,7 +211,7 @@ stands_drop o b t reads undecided s er es w =
           (kept_cond (eq_by_cmp nat_cmp u t) (λ y. nothing_kept) (λ n. k.each u));
       whole = w;
     })
-    (gone o b t s)
+    (gone o b t s) l
 
 -- ---- commits
 -- the engine after the commit, before it forgets anything
@@ -215,13 +220,15 @@ installed_with o undecided ws = record o {
   records = with_changes o.records ws;
   installs = o.installs + 1;
   recent = o.recent ++ ws ∷ [];
+  lasts = noted o.lasts ws (o.installs + 1);
   undecided = undecided;
 }
 
-install_at : (o : OccEngine) (b : EngineState) (t : ℕ) (own : Sets) (undecided : Undecided) (v : Option Vote) → StandsFor o b → is_some v ≡ true → look b.voted t ≡ v → look o.undecided.sets t ≡ Some own
-    → undecided.sets ≡ without o.undecided.sets t → IsWhole undecided → StandsFor (with_needed (installed_with o undecided own.writes)) (install_vote b t v)
-install_at o b t own undecided None s h f is es w = absurd (true≢false (sym h))
-install_at o b t own undecided (Some vote) s h f is es w =
+install_at : (o : OccEngine) (b : EngineState) (t : ℕ) (own : Sets) (undecided : Undecided) (lasts : Lasts) (v : Option Vote) → StandsFor o b → is_some v ≡ true → look b.voted t ≡ v → look o.undecided.sets t ≡ Some own
+    → undecided.sets ≡ without o.undecided.sets t → IsWhole undecided → AreLast lasts (recent_needed (installed_with o undecided own.writes)) (o.installs + 1)
+    → StandsFor (with_needed (installed_with o undecided own.writes) lasts) (install_vote b t v)
+install_at o b t own undecided lasts None s h f is es w l = absurd (true≢false (sym h))
+install_at o b t own undecided lasts (Some vote) s h f is es w l =
     let keeps = s.keeps in
     let ws = vote.sets.writes in
     let there : IsKept (look o.reads t) (look o.undecided.sets t) (look b.active t) (Some vote) = kept_along refl refl refl f (keeps.each t) in
@@ -229,8 +236,8 @@ install_at o b t own undecided (Some vote) s h f is es w =
     let kept : IsKept None (Some own) (look b.active t) (Some vote) = kept_along unread is refl refl there in
     let same : own.writes ≡ ws = (let g : Some vote.sets ≡ Some own = kept.votes_are in let e : vote.sets ≡ own = cc in ap (λ sets. sets.writes) (sym e)) in
     let more = installed-more b.installed (record { txn = t; writes = ws }) in
-    subst (λ (xs : List Written). StandsFor (with_needed (installed_with o undecided xs)) (install_vote b t (Some vote))) (sym same)
-    (stands_needed (installed_with o undecided ws) (install_vote b t (Some vote))
+    subst (λ (xs : List Written). StandsFor (with_needed (installed_with o undecided xs) lasts) (install_vote b t (Some vote))) (sym same)
+    (stands_needed (installed_with o undecided ws) (install_vote b t (Some vote)) lasts
     (record {
       kind_is = keeps.kind_is;
       records_are = ap (λ m. with_changes m ws) keeps.records_are;
@@ -244,11 +251,13 @@ install_at o b t own undecided (Some vote) s h f is es w =
     })
     (ap (λ wss. drop (length (wss ++ ws ∷ []) - count_after (oldest_read b) (o.installs + 1)) (wss ++ ws ∷ [])) s.recent_are
     ∙ later.after_install (oldest_read b) (installed_writes b.installed) ws o.installs (counted o b keeps)
-    ∙ ap (writes_after (oldest_read b)) (sym more)))
+    ∙ ap (writes_after (oldest_read b)) (sym more))
+    (subst (λ (xs : List Written). AreLast lasts (recent_needed (installed_with o undecided xs)) (o.installs + 1)) same l))
 
-pub stands_install : (o : OccEngine) (b : EngineState) (t : ℕ) (own : Sets) (undecided : Undecided) → StandsFor o b → IsTrue (holds b.voted t) → look o.undecided.sets t ≡ Some own
-    → undecided.sets ≡ without o.undecided.sets t → IsWhole undecided → StandsFor (with_needed (installed_with o undecided own.writes)) (after_install b t)
-stands_install o b t own undecided s h is es w = install_at o b t own undecided (look b.voted t) s h refl is es w
+pub stands_install : (o : OccEngine) (b : EngineState) (t : ℕ) (own : Sets) (undecided : Undecided) (lasts : Lasts) → StandsFor o b → IsTrue (holds b.voted t) → look o.undecided.sets t ≡ Some own
+    → undecided.sets ≡ without o.undecided.sets t → IsWhole undecided → AreLast lasts (recent_needed (installed_with o undecided own.writes)) (o.installs + 1)
+    → StandsFor (with_needed (installed_with o undecided own.writes) lasts) (after_install b t)
+stands_install o b t own undecided lasts s h is es w l = install_at o b t own undecided lasts (look b.voted t) s h refl is es w l
 
 -- a voted transaction is there
 pub install_absent : (o : OccEngine) (b : EngineState) (t : ℕ) {A : Type 0} → StandsFor o b → IsTrue (holds b.voted t) → look o.undecided.sets t ≡ None → A
@@ -266,9 +275,9 @@ prepared_at (p ∷ ps) u =
     by true k = kept_along refl refl (sym (get-empty nat_cmp u)) refl (record { reads_are = refl; sets_are = refl; votes_are = refl })
     by false k = k
 
-pub stands_restored : (o : OccEngine) (kind : Kind) (records : Records) (ps : List Prepared) → kind ≡ Occ → o.records ≡ records → o.installs ≡ 0 → o.recent ≡ [] → o.reads ≡ no_entries → o.undecided.sets ≡ prepared_sets ps
+pub stands_restored : (o : OccEngine) (kind : Kind) (records : Records) (ps : List Prepared) → kind ≡ Occ → o.records ≡ records → o.installs ≡ 0 → o.recent ≡ [] → o.lasts ≡ empty → o.reads ≡ no_entries → o.undecided.sets ≡ prepared_sets ps
     → IsWhole o.undecided → StandsFor o (restored kind records (votes_of ps))
-stands_restored o kind records ps is base count recent reads sets w = record {
+stands_restored o kind records ps is base count recent lasts reads sets w = record {
   keeps = record {
     kind_is = sym is;
     records_are = base;
@@ -277,6 +286,8 @@ stands_restored o kind records ps is base count recent reads sets w = record {
     whole = w;
   };
   recent_are = recent ∙ after_none (oldest_of (entries (no_entries {X = List Operation})));
+  lasts_are = subst (λ (m : Lasts). AreLast m o.recent o.installs) (sym lasts)
+      (subst (λ (wss : List (List Written)). AreLast empty wss o.installs) (sym recent) (subst (λ (n : ℕ). AreLast empty [] n) (sym count) none_last));
 }
 
 -- ---- overwritten reads
@@ -284,14 +295,15 @@ own_older : (os : Option (List Operation)) → AllNotOlder (oldest_stamp (operat
 own_older None = tt
 own_older (Some os) = subst (λ a. AllNotOlder a (reads_of os).list) (sym (stamps-reads os)) (reads_not_older os)
 
-pub validated : (o : OccEngine) (b : EngineState) (t : ℕ) → StandsFor o b → least_key (keys_overwritten o.recent o.installs (own_reads o t)) ≡ stale_key b t
+pub validated : (o : OccEngine) (b : EngineState) (t : ℕ) → StandsFor o b → least_key (keys_after (entries o.lasts) (own_reads o t)) ≡ stale_key b t
 validated o b t s =
     let k = s.keeps in
     let os = operations_of b t in
     let older : AllNotOlder (oldest_read b) (reads_of os).list =
     subst (λ a. AllNotOlder a (reads_of os).list) (sym (oldest-without b.active t))
     (lower_right (oldest_stamp os) (oldest_of (entries (without b.active t))) (reads_of os).list (own_older (look b.active t))) in
-    ap least_key
+    least_after o.lasts o.recent o.installs s.lasts_are (own_reads o t)
+    ∙ ap least_key
     ((λ i. keys_overwritten (s.recent_are i) (k.count_is i) (sym (reads_alike o b t k) i).list)
     ∙ sym (stale_alike b.installed os (oldest_read b) older))
 

@@ -1,79 +1,33 @@
 -- Overwritten reads, found by the write sets that are kept.
-use Rattle.std.proofs.Common.{◌≡◌, ℕ, ◌+◌, ◌-◌, ◌<◌, ◌≤◌, nat_le, Bool, true, false, cond, List, [], ◌∷◌, ◌++◌, length, take, drop, get_or, slice_get, reverse, map, filter, Option, None, Some, option_copied, refl, sym, ap, ◌∙◌, if◌then◌else◌, arith, zero, suc, min}
+use Rattle.std.proofs.Common.{◌≡◌, ℕ, ◌+◌, ◌-◌, ◌<◌, ◌≤◌, nat_le, nat_lt, Bool, true, false, List, [], ◌∷◌, ◌++◌, length, take, drop, get_or, reverse, map, filter, Option, None, Some, refl, sym, ap, ◌∙◌, if◌then◌else◌, arith, zero, suc, min}
 use Rattle.std.proofs.lemmas.Bool.Decides.{nat_tests}
-use Rattle.std.proofs.lemmas.List.{length-reverse, length-drop, length-map, take_more, reverse-append, drop_all, drop-append-le, drop-drop, take-append-le, take-append-drop, reverse-reverse, append_assoc}
-use Rattle.std.proofs.lemmas.Option.{get_or_from_slice_get}
-use Rattle.std.specs.Ordering.{is_lt}
-use Rattle.co_base.specs.Order.{key_cmp}
+use Rattle.std.proofs.lemmas.List.{length-reverse, length-drop, length-map, take_more, reverse-append, take-append-le, take-append-drop, reverse-reverse}
 use Rattle.co_base.specs.Span.{Span, span_has}
 use Rattle.co_base.specs.declared.written.Written.{Written}
 use Rattle.co_state.specs.declared.engine_state.Install.{Install}
 use Rattle.co_state.specs.declared.engine_state.Operation.{Operation}
 use Rattle.co_state.specs.Changes.{span_read}
-use Rattle.co_state.specs.Keys.{least_from, least_key}
 use Rattle.co_state.specs.Search.{least_with}
 use Rattle.co_state.specs.StaleRead.{keys_since, overwritten, stale_keys}
 use Rattle.co_state.specs.Table.{lesser}
 use Rattle.co_occ.specs.declared.reads.Read.{Read}
 use Rattle.co_occ.specs.declared.reads.Reads.{Reads}
 use Rattle.co_occ.specs.Kept.{with_read, reads_of}
-use Rattle.co_occ.specs.Old.{installed_writes, writes_after, oldest_stamp}
+use Rattle.co_occ.specs.Old.{installed_writes, writes_after}
+use Rattle.co_index.specs.Listed.{keys_that}
+use Rattle.co_index.proofs.Least.{least_with-append}
+use Rattle.co_occ.specs.Last.{keys_after}
 use Rattle.co_occ.specs.Unseen.{keys_written, keys_unseen, keys_overwritten}
-
--- ---- least keys
-least_from-append : (key : List ℕ) (xs ys : List (List ℕ)) → least_from key (xs ++ ys) ≡ least_from (least_from key xs) ys
-least_from-append key [] ys = refl
-least_from-append key (x ∷ xs) ys =
-    elim (is_lt (key_cmp x key))
-    as (λ b. (if b then least_from x (xs ++ ys) else least_from key (xs ++ ys)) ≡ least_from (if b then least_from x xs else least_from key xs) ys)
-    [ true ↦ least_from-append x xs ys | false ↦ least_from-append key xs ys ]
-
-pub least_with-append : (found : Option (List ℕ)) (xs ys : List (List ℕ)) → least_with found (xs ++ ys) ≡ least_with (least_with found xs) ys
-least_with-append None [] ys = refl
-least_with-append None (x ∷ xs) ys = ap Some (least_from-append x xs ys)
-least_with-append (Some key) xs ys = ap Some (least_from-append key xs ys)
-
-pub least_with-none : (found : Option (List ℕ)) → least_with found [] ≡ found
-least_with-none None = refl
-least_with-none (Some key) = refl
-
-filter-append : (p : List ℕ → Bool) (xs ys : List (List ℕ)) → filter p (xs ++ ys) ≡ filter p xs ++ filter p ys
-filter-append p [] ys = refl
-filter-append p (x ∷ xs) ys =
-    elim (p x) as (λ b. cond b (x ∷ filter p (xs ++ ys)) (filter p (xs ++ ys)) ≡ cond b (x ∷ filter p xs) (filter p xs) ++ filter p ys)
-    [ true ↦ ap (λ zs. x ∷ zs) (filter-append p xs ys) | false ↦ filter-append p xs ys ]
-
--- ---- one write set more is searched
-written-append : (xss yss : List (List Written)) → keys_written (xss ++ yss) ≡ keys_written xss ++ keys_written yss
-written-append [] yss = refl
-written-append (xs ∷ xss) yss = ap (λ ks. map (λ w. w.key) xs ++ ks) (written-append xss yss) ∙ sym (append_assoc (map (λ w. w.key) xs) (keys_written xss) (keys_written yss))
-
-append-none : (ks : List (List ℕ)) → ks ++ [] ≡ ks
-append-none [] = refl
-append-none (k ∷ ks) = ap (λ xs. k ∷ xs) (append-none ks)
-
-pub search_more : (found : Option (List ℕ)) (span : Span) (wss : List (List Written)) (place : ℕ) (ws : List Written) → place < length wss → ws ≡ get_or wss place ws
-    → least_with (least_with found (filter (span_has span) (keys_written (take place wss)))) (filter (span_has span) (map (λ w. w.key) ws))
-    ≡ least_with found (filter (span_has span) (keys_written (take (place + 1) wss)))
-search_more found span wss place ws h is =
-    let old = keys_written (take place wss) in
-    let ks = map (λ (w : Written). w.key) ws in
-    let more : keys_written (take (place + 1) wss) ≡ old ++ ks =
-    ap keys_written (take_more wss place ws h ∙ ap (λ v. take place wss ++ v ∷ []) (sym is)) ∙ written-append (take place wss) (ws ∷ []) ∙ ap (λ xs. old ++ xs) (append-none ks) in
-    sym (ap (λ xs. least_with found (filter (span_has span) xs)) more ∙ ap (least_with found) (filter-append (span_has span) old ks)
-    ∙ least_with-append found (filter (span_has span) old) (filter (span_has span) ks))
 
 -- one read more is searched
 newest_more : (xs : List Read) (i : ℕ) (x : Read) → i < length xs → x ≡ get_or xs i x → reverse (take (i + 1) xs) ≡ x ∷ reverse (take i xs)
 newest_more xs i x h is =
     ap reverse (take_more xs i x h) ∙ reverse-append (take i xs) (get_or xs i x ∷ []) ∙ ap (λ y. y ∷ reverse (take i xs)) (sym is)
 
-pub overwritten_more : (found : Option (List ℕ)) (old : List (List Written)) (installs : ℕ) (xs : List Read) (p place : ℕ) (x : Read)
-    → p < length xs → p + 1 ≡ place → x ≡ get_or xs p x
-    → least_with (least_with found (filter (span_has x.range) (keys_unseen old installs x.stamp))) (keys_overwritten old installs (reverse (take p xs)))
-    ≡ least_with found (keys_overwritten old installs (reverse (take place xs)))
-overwritten_more found old installs xs p place x h e at =
-    sym (least_with-append found _ _) ∙ ap (λ rs. least_with found (keys_overwritten old installs rs)) (sym (newest_more xs p x h at)) ∙ ap (λ n. least_with found (keys_overwritten old installs (reverse (take n xs)))) e
+pub after_more : (found : Option (List ℕ)) (es : List (List ℕ × ℕ)) (xs : List Read) (p place : ℕ) (x : Read) → p < length xs → p + 1 ≡ place → x ≡ get_or xs p x
+    → least_with (least_with found (keys_that (λ n. nat_lt x.stamp n) (filter (λ e. span_has x.range e.0) es))) (keys_after es (reverse (take p xs))) ≡ least_with found (keys_after es (reverse (take place xs)))
+after_more found es xs p place x h e at =
+    sym (least_with-append found _ _) ∙ ap (λ rs. least_with found (keys_after es rs)) (sym (newest_more xs p x h at)) ∙ ap (λ n. least_with found (keys_after es (reverse (take n xs)))) e
 
 -- ---- the keys since a read
 map-append : (xs ys : List Install) → map (λ i. i.writes) (xs ++ ys) ≡ map (λ i. i.writes) xs ++ map (λ i. i.writes) ys
@@ -101,7 +55,7 @@ since_at is i stamp rest false h r =
     let e : 0 ≡ suc (length is) - stamp = grind (arith, nat_tests, h) in
     ap (λ n. keys_written (take n (i.writes ∷ map (λ i. i.writes) is))) e
 
-take_none : {A : Type 0} (n : ℕ) → ◌≡◌ {A = List A} (take n []) []
+pub take_none : {A : Type 0} (n : ℕ) → ◌≡◌ {A = List A} (take n []) []
 take_none zero = refl
 take_none (suc n) = refl
 
@@ -178,13 +132,3 @@ pub stale_alike : (is : List Install) (os : List Operation) (o : Option ℕ) →
     → stale_keys is os ≡ keys_overwritten (writes_after o (installed_writes is)) (length is) (reads_of os).list
 stale_alike is [] o h = refl
 stale_alike is (x ∷ os) o h = stale_step is (span_read x.op) x.stamp (reads_of os) o (stale_keys is os) h (stale_alike is os o)
-
--- an element at a place
-pub found_at : (wss : List (List Written)) (place : ℕ) (ws : List Written) → slice_get wss place ≡ Some ws → ws ≡ get_or wss place ws
-found_at wss place ws e = sym (get_or_from_slice_get wss place ws ws e)
-
--- the first one is forgotten
-pub front_gone : {A : Type 0} (xs : List A) (count : ℕ) → count < length xs → drop (length (drop 1 xs) - count) (drop 1 xs) ≡ drop (length xs - count) xs
-front_gone xs count h =
-    drop-drop (length (drop 1 xs) - count) 1 xs
-    ∙ ap (λ n. drop n xs) (let l = length-drop 1 xs in let e : 1 + (length (drop 1 xs) - count) ≡ length xs - count = omega (arith, l, h) in e)

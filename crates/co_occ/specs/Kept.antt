@@ -4,7 +4,6 @@ use Rattle.co_base.specs.Span.{Span}
 use Rattle.co_state.specs.declared.engine_state.Operation.{Operation}
 use Rattle.co_state.specs.Changes.{span_read}
 use Rattle.co_state.specs.Table.{lesser}
-use Rattle.co_occ.specs.declared.reads.Read.{Read}
 use Rattle.co_occ.specs.declared.reads.Reads.{Reads}
 
 -- one read more

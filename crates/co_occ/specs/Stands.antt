@@ -18,6 +18,7 @@ use Rattle.co_occ.specs.declared.engine.OccEngine.{OccEngine}
 use Rattle.co_occ.specs.declared.reads.Read.{Read}
 use Rattle.co_occ.specs.declared.reads.Reads.{Reads}
 use Rattle.co_occ.specs.Kept.{reads_of, or_unread, oldest_kept}
+use Rattle.co_occ.specs.Last.{Lasts, AreLast}
 use Rattle.co_occ.specs.Old.{old_writes}
 
 -- an undecided transaction whose reads are kept is active, and another one voted
@@ -48,6 +49,8 @@ pub record StandsFor (o : OccEngine) (b : EngineState) : Type 0 where
   pub keeps : KeepsState o b
   -- no older write set is kept, and no newer one is missing
   pub recent_are : o.recent ≡ old_writes b
+  -- and their last installs are known by key
+  pub lasts_are : AreLast o.lasts o.recent o.installs
 
 -- how many of the newest installs came after the oldest read
 abbrev pub count_after : Option ℕ → ℕ → ℕ
@@ -58,8 +61,11 @@ count_after (Some stamp) installs = installs - stamp
 abbrev pub needed : OccEngine → ℕ
 needed o = count_after (oldest_kept (entries o.reads)) o.installs
 
-abbrev pub with_needed : OccEngine → OccEngine
-with_needed o = record o { recent = drop (length o.recent - needed o) o.recent }
+abbrev pub recent_needed : OccEngine → List (List Written)
+recent_needed o = drop (length o.recent - needed o) o.recent
+
+abbrev pub with_needed : OccEngine → Lasts → OccEngine
+with_needed o lasts = record o { recent = recent_needed o; lasts = lasts }
 
 -- what the next read of a transaction sees
 abbrev pub own_writes : OccEngine → ℕ → List Written

@@ -7,10 +7,12 @@ ghost use Rattle.co_state.specs.declared.engine_state.EngineState.{EngineState};
 ghost use Rattle.co_state.specs.Conflicts.{AreNewPairs};
 ghost use Rattle.co_state.specs.Effects.{with_operation};
 ghost use Rattle.co_engine.specs.Calls.{may_operate};
+ghost use Rattle.co_occ.specs.Last.{AreLast};
 ghost use Rattle.co_occ.specs.Old.{old_writes};
-ghost use Rattle.co_occ.specs.Stands.{StandsFor, own_writes, own_records, own_reads, needed, with_needed};
+ghost use Rattle.co_occ.specs.Stands.{StandsFor, own_writes, own_records, own_reads, needed, recent_needed, with_needed};
 
 use crate::installed::Installed;
+use crate::lasts::{keep_newest, note};
 use crate::old::OldWrites;
 use crate::reading::{all_records, copy_value, records_within, seen_value};
 use crate::reads::Read;
@@ -18,7 +20,7 @@ use crate::register::Register;
 use crate::validation::stale_key;
 use co_base::{Key, Kind, Op, Range, Reply, Rows, Txn, Value, Writes, Written};
 use co_engine::{Dump, Engine, Seen, append, writing};
-use co_index::Undecided;
+use co_index::{KeyMap, Undecided};
 use co_pairs::{Pairs, Prepared, Sets};
 use co_state::range_read;
 use std::alloc::{AllocError, Global};
@@ -33,6 +35,7 @@ pub struct OccEngine {
     records: Installed,
     installs: u64,
     recent: OldWrites,
+    lasts: KeyMap<u64>,
     reads: Register,
     undecided: Undecided,
     nothing: Sets,
@@ -125,10 +128,11 @@ impl OccEngine {
 
     /// Forgets the write sets that no read of an active transaction needs. Takes no memory.
     fn forget_old(&mut self)
-        ensures { self.new ≡ with_needed self.old }
+        ensures rest { self.new ≡ with_needed self.old self.new.lasts }
+        ensures lasts { AreLast self.old.lasts self.old.recent self.old.installs → AreLast self.new.lasts (recent_needed self.old) self.old.installs }
     {
         let needed = self.needed();
-        self.recent.keep_newest(needed);
+        keep_newest(&mut self.recent, &mut self.lasts, self.installs, needed);
     }
 }
 
@@ -148,6 +152,7 @@ impl Engine for OccEngine {
             records: Installed::of_rows(alloc, rows.into_vec())?,
             installs: 0,
             recent: OldWrites::new(alloc),
+            lasts: KeyMap::new(alloc),
             reads: Register::new(alloc),
             undecided: Undecided::of_prepared(alloc, voted)?,
             nothing: Sets::new(alloc),
@@ -204,7 +209,7 @@ impl Engine for OccEngine {
     }
 
     fn stale(&self, t: Txn) -> Option<&Key> {
-        stale_key(&self.recent, self.installs, self.reads(t))
+        stale_key(&self.lasts, self.reads(t))
     }
 
     fn cast(&mut self, t: Txn) {
@@ -219,6 +224,7 @@ impl Engine for OccEngine {
         let writes = sets.writes;
         self.installs = one_more(self.installs)?;
         self.records.lay(writes.as_slice())?;
+        note(&mut self.lasts, writes.as_slice(), self.installs)?;
         self.recent.push(writes)?;
         self.forget_old();
         Ok(())

@@ -9,6 +9,7 @@
 
 mod engine;
 mod installed;
+mod lasts;
 mod old;
 mod reading;
 mod reads;

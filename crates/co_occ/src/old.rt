@@ -1,5 +1,5 @@
 //! The write sets of recent installs.
-ghost use Rattle.std.specs.Prelude.{◌≡◌, ◌<◌, ◌-◌, [], ◌∷◌, ◌++◌, length, drop, reverse, slice_get, OnOk};
+ghost use Rattle.std.specs.Prelude.{◌≡◌, ◌<◌, [], ◌∷◌, ◌++◌, length, slice_get, OnOk};
 
 use co_base::Writes;
 use std::alloc::{AllocError, Global};
@@ -46,14 +46,6 @@ impl OldWrites {
         &self.queue[place]
     }
 
-    /// The write set at a place, counted from the newest one at place 0.
-    pub fn newest(&self, place: usize) -> &Writes
-        requires { place < length self.now }
-        ensures { slice_get (reverse self.now) place ≡ Some result.now }
-    {
-        &self.queue[self.queue.len() - 1 - place]
-    }
-
     /// Adds the write set of the newest install.
     pub fn push(&mut self, writes: Writes) -> Result<(), AllocError>
         ensures { OnOk result (self.new ≡ self.old ++ writes ∷ []) }
@@ -62,19 +54,14 @@ impl OldWrites {
         Ok(())
     }
 
-    /// Forgets the oldest write sets, so that no more than so many are left. Takes no memory.
-    pub fn keep_newest(&mut self, count: u64)
-        ensures { self.new ≡ drop (length self.old - count) self.old }
+    /// Forgets the oldest write set and gives it. Takes no memory.
+    pub fn pop(&mut self) -> Writes
+        requires { 0 < length self.old }
+        ensures { self.old ≡ result ∷ self.new }
     {
-        keep_newest(&mut self.queue, count);
-    }
-}
-
-/// Forgets the oldest elements of a queue, so that no more than so many are left.
-fn keep_newest(queue: &mut VecDeque<Writes>, count: u64)
-    ensures { queue.new.items ≡ drop (length queue.old.items - count) queue.old.items }
-{
-    while count < queue.len() as u64 {
-        let _ = queue.pop_front();
+        match self.queue.pop_front() {
+            Some(writes) => writes,
+            None => unreachable!(),
+        }
     }
 }

@@ -4,7 +4,7 @@ use Rattle.std.specs.FinMap.{entries}
 use Rattle.co_base.specs.Span.{span_has}
 use Rattle.co_mv.specs.Overwritten.{written_keys, written_within}
 use Rattle.co_state.specs.Search.{least_with}
-use Rattle.co_mv.proofs.Least.{least_with-append}
+use Rattle.co_index.proofs.Least.{least_with-append}
 use Rattle.co_mv.proofs.stale.least_written.Goals as goal
 
 pub loop-range-preserved : goal.loop-range-preserved

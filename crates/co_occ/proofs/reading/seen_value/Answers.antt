@@ -1,4 +1,4 @@
-use Rattle.std.proofs.Common.{◌≡◌, ◌+◌, ◌∷◌, drop, ap, sym, ◌∙◌, option_copied}
+use Rattle.std.proofs.Common.{◌+◌, ◌∷◌, drop, ap, sym, ◌∙◌, option_copied}
 use Rattle.std.proofs.lemmas.List.{drop_more, drop_all}
 use Rattle.co_occ.proofs.Laying.{value_after, get-with_changes}
 use Rattle.co_occ.proofs.reading.seen_value.Goals as goal

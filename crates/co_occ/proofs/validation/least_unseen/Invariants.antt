@@ -1,11 +1,8 @@
-use Rattle.std.proofs.Common.{◌≡◌, ◌≤◌, ◌-◌, take, reverse, filter, option_copied}
-use Rattle.co_base.specs.Span.{span_has}
+use Rattle.std.proofs.Common.{◌≡◌, nat_lt, option_copied}
+use Rattle.co_index.specs.Listed.{keys_that}
 use Rattle.co_state.specs.Search.{least_with}
-use Rattle.co_occ.specs.Unseen.{keys_written}
 use Rattle.co_occ.proofs.validation.least_unseen.Given as goal
 
-abbrev pub invariant-loop-place : goal.invariant-loop-place
-invariant-loop-place l = record {
-  seen_all : option_copied l.least ≡ least_with (option_copied l.found) (filter (span_has l.read.range) (keys_written (take l.place (reverse l.old))));
-  within : l.place ≤ l.installs - l.read.stamp;
-}
+abbrev pub invariant-loop-key : goal.invariant-loop-key
+invariant-loop-key l =
+    least_with (option_copied l.least) (keys_that (λ n. nat_lt l.read.stamp n) l.key-iterator) ≡ least_with (option_copied l.initial.least) (keys_that (λ n. nat_lt l.read.stamp n) l.initial.key-iterator)

@@ -3,7 +3,6 @@ use Rattle.std.specs.FinMap.{get, insert, from_entries, slice_cmp-IsAntisymmetri
 use Rattle.std.proofs.lemmas.Cmp.{nat_list_cmp_total}
 use Rattle.co_base.specs.Order.{key_cmp}
 use Rattle.co_serial.proofs.MapViews.{view-get, view-insert}
-use Rattle.co_state.specs.Table.{without}
 use Rattle.co_index.specs.Touching.{without_in}
 use Rattle.co_index.proofs.touched.Touched.take_away.Goals as goal
 

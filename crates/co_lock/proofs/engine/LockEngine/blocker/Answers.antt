@@ -12,9 +12,9 @@ use Rattle.co_lock.proofs.engine.LockEngine.blocker.Goals as goal
 
 pub returns-in_ok-of_key-in-Read : goal.returns-in_ok-of_key-in-Read
 returns-in_ok-of_key-in-Read c = λ b s.
-    blocker_alike c.args.self.now b c.args.t (Read c.in-Read.key) c.read_blocker-in-Read.result s
-    (subst (λ (r : Span). IsLeast (λ u. not (u == c.args.t) && writes_within (sets_at b u).writes r) c.read_blocker-in-Read.result) c.in_ok-of_key-in-Read.ensures
-    (c.read_blocker-in-Read.ensures s.place (λ u. (sets_at b u).writes) s.locked s.fits.wrote_are))
+    blocker_alike c.args.self.now b c.args.t (Read c.in-Read.key) c.read_blocker.result s
+    (subst (λ (r : Span). IsLeast (λ u. not (u == c.args.t) && writes_within (sets_at b u).writes r) c.read_blocker.result) c.in_ok-of_key-in-Read.ensures
+    (c.read_blocker.ensures s.place (λ u. (sets_at b u).writes) s.locked s.fits.wrote_are))
     ∙ ap (lock_blocker b c.args.t) (sym c.in-Read.is)
 
 pub returns-in-Scan : goal.returns-in-Scan

@@ -7,5 +7,5 @@ use Rattle.co_occ.proofs.engine.OccEngineEngine.cast.Goals as goal
 
 pub returns : goal.returns
 returns c = λ b coord count s h.
-    subst (λ (o : OccEngine). StandsFor o (after_cast b c.args.t coord count)) (sym c.forget_old.ensures)
-    (stands_cast c.args.self.now b c.args.t coord count _ s h c.take.ensures.rest)
+    subst (λ (o : OccEngine). StandsFor o (after_cast b c.args.t coord count)) (sym c.forget_old.ensures.rest)
+    (stands_cast c.args.self.now b c.args.t coord count _ _ s h c.take.ensures.rest (c.forget_old.ensures.lasts s.lasts_are))

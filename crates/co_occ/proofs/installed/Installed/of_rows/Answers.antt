@@ -1,4 +1,4 @@
-use Rattle.std.proofs.Common.{◌≡◌, ap, sym, ◌∙◌}
+use Rattle.std.proofs.Common.{ap, sym, ◌∙◌}
 use Rattle.co_occ.proofs.Laying.{laid_under, laid_under-push, laid_under-empty}
 use Rattle.co_occ.proofs.installed.Installed.of_rows.Goals as goal
 

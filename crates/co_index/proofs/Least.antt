@@ -5,8 +5,8 @@ use Rattle.std.specs.declared.cmp.Ordering.{Ordering}
 use Rattle.std.specs.declared.cmp.Ordering.TheVariants.{Less, Equal, Greater}
 use Rattle.std.specs.FinMap.{slice_cmp-IsAntisymmetric, nat_cmp-IsAntisymmetric}
 use Rattle.std.proofs.lemmas.Cmp.{nat_list_cmp_total}
-use Rattle.co_mv.specs.Recents.{has_key}
-use Rattle.co_mv.proofs.Chaining.{same_keys, key_itself}
+use Rattle.co_index.specs.Listed.{has_key}
+use Rattle.co_index.proofs.Keys.{tied, itself}
 use Rattle.co_state.specs.Keys.{same_key}
 use Rattle.co_base.specs.Order.{key_cmp}
 use Rattle.co_state.specs.Keys.{least_from, least_key}
@@ -58,9 +58,9 @@ least_start key (k ∷ ks) = start_step key k ks (is_lt (key_cmp k key)) refl (l
 
 all_step : (key k x : List ℕ) (ks : List (List ℕ)) (b c : Bool) → is_lt (key_cmp k key) ≡ b → same_key k x ≡ c → (c || has_key ks x) ≡ true
     → (has_key ks x ≡ true → AtMost (least_from k ks) x) → (has_key ks x ≡ true → AtMost (least_from key ks) x) → AtMost (if b then least_from k ks else least_from key ks) x
-all_step key k x ks true true e f h p q = subst (AtMost (least_from k ks)) (same_keys k x f) (least_start k ks)
+all_step key k x ks true true e f h p q = subst (AtMost (least_from k ks)) (tied k x f) (least_start k ks)
 all_step key k x ks true false e f h p q = p h
-all_step key k x ks false true e f h p q = subst (AtMost (least_from key ks)) (same_keys k x f) (at_most_trans (least_from key ks) key k (least_start key ks) (by_test k key (key_cmp k key) refl e))
+all_step key k x ks false true e f h p q = subst (AtMost (least_from key ks)) (tied k x f) (at_most_trans (least_from key ks) key k (least_start key ks) (by_test k key (key_cmp k key) refl e))
 all_step key k x ks false false e f h p q = q h
 
 least_all : (key x : List ℕ) (ks : List (List ℕ)) → has_key ks x ≡ true → AtMost (least_from key ks) x
@@ -71,7 +71,7 @@ least_is : (key x : List ℕ) (ks : List (List ℕ)) → has_key (key ∷ ks) x 
 least_is key x ks h = by (same_key key x) refl h
   where
     by : (b : Bool) → same_key key x ≡ b → (b || has_key ks x) ≡ true → AtMost (least_from key ks) x
-    by true e h = subst (AtMost (least_from key ks)) (same_keys key x e) (least_start key ks)
+    by true e h = subst (AtMost (least_from key ks)) (tied key x e) (least_start key ks)
     by false e h = least_all key x ks h
 
 or_under : (a b c : Bool) → (a || c) ≡ true → (a || (b || c)) ≡ true
@@ -89,11 +89,11 @@ in_step key k ks true f g = or_last (same_key key (least_from k ks)) (has_key (k
 in_step key k ks false f g = or_under (same_key key (least_from key ks)) (same_key k (least_from key ks)) (has_key ks (least_from key ks)) g
 
 least_in : (key : List ℕ) (ks : List (List ℕ)) → has_key (key ∷ ks) (least_from key ks) ≡ true
-least_in key [] = ap (λ b. b || false) (key_itself key)
+least_in key [] = ap (λ b. b || false) (itself key)
 least_in key (k ∷ ks) = in_step key k ks (is_lt (key_cmp k key)) (least_in k ks) (least_in key ks)
 
 first_there : (key : List ℕ) (ks : List (List ℕ)) → has_key (key ∷ ks) key ≡ true
-first_there key ks = ap (λ b. b || has_key ks key) (key_itself key)
+first_there key ks = ap (λ b. b || has_key ks key) (itself key)
 
 pub least_same : (ks js : List (List ℕ)) → ((k : List ℕ) → has_key ks k ≡ has_key js k) → least_key ks ≡ least_key js
 least_same [] [] same = refl
