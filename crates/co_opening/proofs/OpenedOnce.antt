@@ -88,14 +88,11 @@ found_once file node f g told c d = c.records ∙ ap newest_first (records_once 
 -- what is so of all nodes of a sort is so of each
 numbered_all : (P : Node → Type 0) (node : ℕ → Node) (count n : ℕ) → 1 ≤ n → n ≤ count → AllByRecursion P (numbered node count) → P (node n)
 numbered_all P node zero n low high all = absurd (omega (arith, low, high))
-numbered_all P node (suc count) n low high all = by (n == suc count) refl
+numbered_all P node (suc count) n low high all = by (λ below. numbered_all P node count n low below (all_front P (numbered node count) _ all)) (n == suc count) refl
   where
-    front : AllByRecursion P (numbered node count)
-    front = all_front P (numbered node count) _ all
-
-    by : (b : Bool) → (n == suc count) ≡ b → P (node n)
-    by true e = subst (λ k. P (node k)) (sym (eqb-true n (suc count) e)) (all_back P (numbered node count) _ all).0
-    by false e = let other : n ≡ suc count → ⊥ = eqb-false n (suc count) e in numbered_all P node count n low (omega (arith, high, other)) front
+    by : (n ≤ count → P (node n)) → (b : Bool) → (n == suc count) ≡ b → P (node n)
+    by before true e = subst (λ k. P (node k)) (sym (eqb-true n (suc count) e)) (all_back P (numbered node count) _ all).0
+    by before false e = let other : n ≡ suc count → ⊥ = eqb-false n (suc count) e in before (omega (arith, high, other))
 
 used_once : (file : Spot → Option File) (members coords : ℕ) (fm gm fc gc : ℕ → Found) → AreTold file members coords → AreFound file members coords fm fc → AreFound file members coords gm gc
     → used_numbers members coords fm fc ≡ used_numbers members coords gm gc
@@ -108,6 +105,9 @@ used_once file members coords fm gm fc gc told one two =
     ∙ ap (λ (n : Numbers). with_all (union_to members (λ m. numbers_in (recovered_view (gm m).records))) n)
     (union_same coords (λ c. (recovered_commits (fc c).records).seen) (λ c. (recovered_commits (gc c).records).seen)
     (λ c low high. ap (λ (rs : List Record). (recovered_commits rs).seen) (found_once file (Coord c) (fc c) (gc c) (numbered_all (IsTold file) Coord coords c low high those) (one.coord c low high) (two.coord c low high))))
+
+too_many_or_few : (n : ℕ) → n ≤ 65536 → 65536 < n → ⊥
+too_many_or_few n few many = omega (arith, few, many)
 
 -- ---- whole directories
 
@@ -200,8 +200,7 @@ module _ (file : Spot → Option File) (head : Head) (resume : Bool) (told : Are
   fit_or_refused fm fc Count own fit found few u =
       let many = u.2 in
       let same = used_once file members head.coords fm many.found_member fc many.found_coord told found many.found in
-      let most : length (keys (used_numbers members head.coords many.found_member many.found_coord)) ≤ 65536 = subst (λ (n : Numbers). length (keys n) ≤ 65536) same few in
-      omega (arith, most, many.many)
+      too_many_or_few (length (keys (used_numbers members head.coords many.found_member many.found_coord))) (subst (λ (n : Numbers). length (keys n) ≤ 65536) same few) many.many
   fit_or_refused fm fc (Old spot) own fit found few u = fit_not_old fit spot u
   fit_or_refused fm fc (Device spot) own fit found few u = own
   fit_or_refused fm fc (Differs spot at kept read) own fit found few u = u
