@@ -8,8 +8,8 @@ use Rattle.co_disk.specs.declared.fault.DiskFault.TheVariants.{Device, Stopped, 
 use Rattle.co_disk.specs.Calls.{IsOpened, IsAttachAnswer, IsPassed, IsLeftOf, IsCallAnswer, IsCutAnswer, IsRereadAnswer}
 use Rattle.co_disk.specs.DiskModel.{DiskState, read_of, stable_disk}
 use Rattle.co_disk.specs.DiskView.{DiskView}
-use Rattle.co_disk.specs.Faults.{IsOfAttach, IsOfWrite, IsOfSync, IsOfReread, IsNamed}
-use Rattle.co_disk.specs.Stops.{stop_here, after_call, IsStopped}
+use Rattle.co_disk.specs.Faults.{IsOfAttach, IsOfWrite, IsOfSync, IsOfReread}
+use Rattle.co_disk.specs.Stops.{stop_here, after_call}
 
 pub attach_answered : (gives : List ℕ → Type 0) (spot : Spot) (old new : HomeView) (r : Result DiskView DiskFault) → IfOk r (IsOpened gives spot new) → IfErr r (IsOfAttach gives)
     → (IsErrOf r Long → (f : File) → old.file spot ≡ Some f → most_log_bytes < length f.bytes) → (IsErrOf r Device → HasFailed spot old new) → ((IsErrOf r Device → ⊥) → new.faults ≡ old.faults)

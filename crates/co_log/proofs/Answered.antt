@@ -1,5 +1,5 @@
 -- The answers of log calls by their cases, from what is so of each, and back.
-use Rattle.std.proofs.Common.{◌≡◌, ◌⊎◌, [], ◌++◌, ℕ, Bool, false, List, refl, sym, ap, subst, inl, inr, Result, Ok, Err, Some, IfOk, IfErr, OnOk, IsErrOf}
+use Rattle.std.proofs.Common.{◌≡◌, ◌⊎◌, [], ◌++◌, ℕ, Bool, false, List, refl, ap, subst, inl, inr, Result, Ok, Err, Some, IfOk, IfErr, OnOk, IsErrOf}
 use Rattle.co_base.specs.Limits.{most_log_bytes}
 use Rattle.co_base.specs.declared.mark.Mark.{Mark}
 use Rattle.co_base.specs.declared.mark.MarkKind.TheVariants as kind
@@ -9,7 +9,7 @@ use Rattle.co_outside.specs.declared.spot.Spot.{Spot}
 use Rattle.co_disk.specs.DiskView.{DiskView}
 use Rattle.co_record.specs.declared.record.Record.{Record}
 use Rattle.co_log.specs.Attaching.{IsAttached, IsWithin, IsToldAs, IsOfAttach}
-use Rattle.co_log.specs.Calls.{IsWriteAnswer, IsServed, IsForceServed, HasOldAlone, IsCloseServed, IsFillServed, HasNoBatch, IsForceAnswer, IsCloseAnswer, IsFillAnswer, IsMakeAnswer, HasFailedAs, IsAttachedOver, IsAttachAnswer, IsReattachAnswer}
+use Rattle.co_log.specs.Calls.{IsWriteAnswer, IsForceServed, HasOldAlone, IsCloseServed, IsFillServed, HasNoBatch, IsForceAnswer, IsCloseAnswer, IsFillAnswer, IsMakeAnswer, HasFailedAs, IsAttachedOver, IsAttachAnswer, IsReattachAnswer}
 use Rattle.co_log.specs.Forcing.{IsForced, IsDone, IsOfForce}
 use Rattle.co_log.specs.Fresh.{IsFresh, IsMade, IsOfDevice}
 use Rattle.co_log.specs.LogFile.{EndsAt}

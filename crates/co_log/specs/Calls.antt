@@ -1,6 +1,6 @@
 -- The calls of a log over a home: what a log write asks, and what each call leaves of the log and of the home, by its answer. The count of the home's
 -- faults stands but where the device failed.
-use Rattle.std.specs.Prelude.{ℕ, ◌≡◌, ◌⊎◌, true, false, Bool, List, [], ◌++◌, Some, Result, Ok, Err, IsErrOf}
+use Rattle.std.specs.Prelude.{ℕ, ◌≡◌, ◌⊎◌, true, false, Bool, List, [], ◌++◌, Some, Result, Ok, Err}
 use Rattle.co_base.specs.Limits.{most_log_bytes}
 use Rattle.co_base.specs.Nodes.{IsValidNode}
 use Rattle.co_base.specs.declared.mark.Mark.{Mark}
@@ -38,6 +38,24 @@ pub record MayFill (home : HomeView) (log : LogView) : Type 0 where
   pub still : log.spare.state.pending ≡ []
   pub closed : begins_closed log.spare.state.stable ≡ true
 
+-- what the closing of the spare file asks: the home holds the log, and the spare is not closed, with nothing that pends
+pub record MayClose (home : HomeView) (log : LogView) : Type 0 where
+  pub held : IsHeld home log
+  pub still : log.spare.state.pending ≡ []
+  pub unclosed : begins_closed log.spare.state.stable ≡ false
+
+-- what the making of a log asks: the home holds it, and it is a fresh one of a node
+pub record MayMake (home : HomeView) (log : LogView) : Type 0 where
+  pub held : IsHeld home log
+  pub fresh : IsFresh log
+  pub node : IsValidNode log.node
+
+-- what a crash between two log writes asks: the home holds the log, and nothing pends
+pub record MayCut (home : HomeView) (log : LogView) : Type 0 where
+  pub held : IsHeld home log
+  pub still : log.current.state.pending ≡ []
+  pub spare_still : log.spare.state.pending ≡ []
+
 -- What a call answers that writes the file of this spot: it was done, or stopped at the armed device call, as `done` says of the answer; the device
 -- failed; the file would be too long; or there was no memory.
 abbrev pub IsWriteAnswer : {A : Type 0} → Spot → (done : Result A LogFault → Type 0) → (device full memory : Type 0) → Result A LogFault → Type 0
@@ -69,7 +87,7 @@ HasOldAlone log home = (items : List (ℕ × Record)) → IsLive log items → (
 abbrev pub IsForceAnswer : Type 0 → LogView → LogView → List Record → HomeView → HomeView → Result (List Mark) LogFault → Type 0
 IsForceAnswer long log after more old new result =
     IsWriteAnswer log.current.spot (IsForceServed long log after more old new) (HasFailed log.current.spot old new × (long → ⊥)) (long × (new.faults ≡ old.faults))
-      (HasOldAlone log new × (new.faults ≡ old.faults)) result
+    (HasOldAlone log new × (new.faults ≡ old.faults)) result
 
 -- What the log write of the waiting records and of these behind them leaves. `long` says that the file would be too long with them; then it is
 -- refused, or there is no memory.
@@ -109,7 +127,7 @@ HasNoBatch log home = (f : File) → home.file log.spare.spot ≡ Some f → End
 abbrev pub IsFillAnswer : LogView → LogView → List Record → HomeView → HomeView → Result Mark LogFault → Type 0
 IsFillAnswer log after more old new result =
     IsWriteAnswer log.spare.spot (IsFillServed log after more old new) (HasFailed log.spare.spot old new × (IsOverfull log more → ⊥)) (IsOverfull log more × (new.faults ≡ old.faults))
-      (HasNoBatch log new × (new.faults ≡ old.faults)) result
+    (HasNoBatch log new × (new.faults ≡ old.faults)) result
 
 -- What the filling of the spare file with these records leaves. One that is overfull is refused, or there is no memory.
 pub record HasFilled (log after : LogView) (more : List Record) (old new : HomeView) (result : Result Mark LogFault) : Type 0 where

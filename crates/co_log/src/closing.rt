@@ -49,7 +49,7 @@ pub(crate) fn close_unmade<H: Home>(disk: &mut Disk, home: &mut H) -> Result<(),
 }
 
 impl Log {
-    ghost use Rattle.co_log.specs.Calls.{HasClosed};
+    ghost use Rattle.co_log.specs.Calls.{MayClose, HasClosed};
     ghost use Rattle.co_frame.specs.Gate.{begins_closed};
     ghost use Rattle.co_log.specs.Current.{IsCurrentOf, IsOrdered};
     ghost use Rattle.co_log.specs.Forcing.{IsDone};
@@ -63,9 +63,7 @@ impl Log {
     /// `Stopped` comes at the armed device call; `Device` where the home failed, and only there. Both files are within
     /// 268,435,456 bytes then.
     pub fn close_spare<H: Home>(&mut self, home: &mut H) -> Result<(), LogFault>
-        requires held { IsHeld (H.seen home.old) self.old }
-        requires still { self.old.spare.state.pending ≡ [] }
-        requires unclosed { begins_closed self.old.spare.state.stable ≡ false }
+        requires { MayClose (H.seen home.old) self.old }
         ensures { HasClosed self.old self.new (H.seen home.old) (H.seen home.new) result }
     {
         self.close(home)

@@ -14,7 +14,7 @@ use co_outside::Home;
 use co_record::Record;
 
 impl Log {
-    ghost use Rattle.co_log.specs.Calls.{HasMade};
+    ghost use Rattle.co_log.specs.Calls.{MayMake, HasMade};
     ghost use Rattle.co_outside.specs.Home.{IsClean, RestStays, HasFailed};
     ghost use Rattle.co_log.specs.Fresh.{IsFresh, IsMade, IsMaking, IsOfDevice, header_alone};
     ghost use Rattle.co_log.specs.LogView.{IsHeld};
@@ -29,9 +29,7 @@ impl Log {
     /// `Device` comes where the home failed, and only there, and `Memory` where there was none. Whatever the answer is,
     /// the file is current with its header alone, or neither file has a batch, and both are within 268,435,456 bytes.
     pub fn make<H: Home>(&mut self, home: &mut H) -> Result<Mark, LogFault>
-        requires held { IsHeld (H.seen home.old) self.old }
-        requires fresh { IsFresh self.old }
-        requires node { IsValidNode self.old.node }
+        requires { MayMake (H.seen home.old) self.old }
         ensures { HasMade self.old self.new (H.seen home.old) (H.seen home.new) result }
     {
         self.make_current(home)

@@ -40,7 +40,7 @@ fn reread<H: Home>(disk: &mut Disk, home: &mut H) -> Result<(), LogFault>
 }
 
 impl Log {
-    ghost use Rattle.co_log.specs.Calls.{HasReattached};
+    ghost use Rattle.co_log.specs.Calls.{MayCut, HasReattached};
     ghost use Rattle.co_log.specs.LogView.{IsHeld};
     ghost use Rattle.co_log.specs.Others.{OtherNodesStay};
 
@@ -79,8 +79,7 @@ impl Log {
     /// A crash between events: the waiting records and the armed stop are lost. It makes no call of the
     /// home, since nothing pends between events.
     pub fn cut<H: Home>(&mut self, _home: &mut H) -> Result<(), LogFault>
-        requires held { IsHeld (H.seen _home.old) self.old }
-        requires still { (self.old.current.state.pending ≡ []) × (self.old.spare.state.pending ≡ []) }
+        requires { MayCut (H.seen _home.old) self.old }
         ensures log { self.new ≡ record self.old { waiting = []; stop = None } }
         ensures home { _home.new ≡ _home.old }
         ensures held { IsHeld (H.seen _home.new) self.new }

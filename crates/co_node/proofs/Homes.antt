@@ -1,6 +1,6 @@
 -- How a log write leaves the directory.
 use Rattle.std.proofs.Common.{◌≡◌, ◌⊎◌, ℕ, Bool, true, List, refl, sym, ap, subst, ◌∙◌, inl, inr}
-use Rattle.std.specs.Prelude.{Option, Some, Result, Ok, Err, IfErr, IsErr, IsErrOf}
+use Rattle.std.specs.Prelude.{Option, Some, Result, Ok, Err, IsErr, IsErrOf}
 use Rattle.std.specs.Result.{IsErrAnd}
 use Rattle.co_base.specs.declared.node.Node.{Node}
 use Rattle.co_outside.specs.declared.spot.Spot.{Spot}

@@ -1,6 +1,6 @@
 -- Logs that are opened, and the files of logs that stand.
 use Rattle.std.proofs.Common.{◌≡◌, ◌⊎◌, ℕ, List, [], ◌∷◌, refl, sym, ap, subst, ◌∙◌, inl, inr}
-use Rattle.std.specs.Prelude.{reverse, length, ◌≤◌, option_map}
+use Rattle.std.specs.Prelude.{reverse, length, ◌≤◌}
 use Rattle.std.proofs.lemmas.List.{reverse-reverse}
 use Rattle.co_base.specs.Nodes.{IsValidNode}
 use Rattle.co_base.specs.declared.node.Node.{Node}

@@ -1,6 +1,6 @@
 -- After each log write the log of a node stands for what the write leaves of the plain log.
 use Rattle.std.proofs.Common.{◌≡◌, ℕ, ◌+◌, ◌<◌, Bool, true, false, List, [], ◌∷◌, ◌++◌, sym, ap, subst, ◌∙◌, arith}
-use Rattle.std.specs.Prelude.{reverse, length, slice_get, ◌≤◌, Option, Some, None, option_map, IfSome, if◌then◌else◌}
+use Rattle.std.specs.Prelude.{reverse, length, slice_get, ◌≤◌, Option, Some, None, IfSome, if◌then◌else◌}
 use Rattle.std.proofs.lemmas.List.{append_assoc, reverse-append, reverse-reverse}
 use Rattle.co_base.specs.declared.node.Node.{Node}
 use Rattle.co_disk.specs.DiskView.{DiskView}

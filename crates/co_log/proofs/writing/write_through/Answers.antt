@@ -16,7 +16,7 @@ returns-in_err-write_at-clause-stopped g c =
     let disk = c.args.disk.now in
     let wrote = after_write disk.state c.args.at c.args.piece.now in
     let ended : HasEnded wrote (MayWant disk.state c.args.at c.args.piece.now) disk c.write_at.new.self (g.H.Home.seen c.args.home.now) (g.H.Home.seen c.write_at.new.home) c.from_residual.result =
-      call_ended wrote wrote (MayWant disk.state c.args.at c.args.piece.now) disk c.write_at.new.self (g.H.Home.seen c.args.home.now) (g.H.Home.seen c.write_at.new.home) c.in_err-write_at.field-0.0 c.in_err-write_at.ensures.answered c.from_residual.result c.from_residual.ensures.1 in
+    call_ended wrote wrote (MayWant disk.state c.args.at c.args.piece.now) disk c.write_at.new.self (g.H.Home.seen c.args.home.now) (g.H.Home.seen c.write_at.new.home) c.in_err-write_at.field-0.0 c.in_err-write_at.ensures.answered c.from_residual.result c.from_residual.ensures.1 in
     λ call is. at_first disk.armed call wrote c.write_at.new.self (ended.stopped call is).stopped
 
 pub returns-in_err-write_at-clause-left : goal.returns-in_err-write_at-clause-left
@@ -24,7 +24,7 @@ returns-in_err-write_at-clause-left g c =
     let disk = c.args.disk.now in
     let wrote = after_write disk.state c.args.at c.args.piece.now in
     let ended : HasEnded wrote (MayWant disk.state c.args.at c.args.piece.now) disk c.write_at.new.self (g.H.Home.seen c.args.home.now) (g.H.Home.seen c.write_at.new.home) c.from_residual.result =
-      call_ended wrote wrote (MayWant disk.state c.args.at c.args.piece.now) disk c.write_at.new.self (g.H.Home.seen c.args.home.now) (g.H.Home.seen c.write_at.new.home) c.in_err-write_at.field-0.0 c.in_err-write_at.ensures.answered c.from_residual.result c.from_residual.ensures.1 in
+    call_ended wrote wrote (MayWant disk.state c.args.at c.args.piece.now) disk c.write_at.new.self (g.H.Home.seen c.args.home.now) (g.H.Home.seen c.write_at.new.home) c.in_err-write_at.field-0.0 c.in_err-write_at.ensures.answered c.from_residual.result c.from_residual.ensures.1 in
     λ call is. ((ended.stopped call is).agrees, (ended.stopped call is).clean)
 
 pub returns-in_err-write_at-clause-faults : goal.returns-in_err-write_at-clause-faults
@@ -32,7 +32,7 @@ returns-in_err-write_at-clause-faults g c =
     let disk = c.args.disk.now in
     let wrote = after_write disk.state c.args.at c.args.piece.now in
     let ended : HasEnded wrote (MayWant disk.state c.args.at c.args.piece.now) disk c.write_at.new.self (g.H.Home.seen c.args.home.now) (g.H.Home.seen c.write_at.new.home) c.from_residual.result =
-      call_ended wrote wrote (MayWant disk.state c.args.at c.args.piece.now) disk c.write_at.new.self (g.H.Home.seen c.args.home.now) (g.H.Home.seen c.write_at.new.home) c.in_err-write_at.field-0.0 c.in_err-write_at.ensures.answered c.from_residual.result c.from_residual.ensures.1 in
+    call_ended wrote wrote (MayWant disk.state c.args.at c.args.piece.now) disk c.write_at.new.self (g.H.Home.seen c.args.home.now) (g.H.Home.seen c.write_at.new.home) c.in_err-write_at.field-0.0 c.in_err-write_at.ensures.answered c.from_residual.result c.from_residual.ensures.1 in
     ended.faults
 
 pub returns-in_err-write_at-clause-memory : goal.returns-in_err-write_at-clause-memory
@@ -40,7 +40,7 @@ returns-in_err-write_at-clause-memory g c =
     let disk = c.args.disk.now in
     let wrote = after_write disk.state c.args.at c.args.piece.now in
     let ended : HasEnded wrote (MayWant disk.state c.args.at c.args.piece.now) disk c.write_at.new.self (g.H.Home.seen c.args.home.now) (g.H.Home.seen c.write_at.new.home) c.from_residual.result =
-      call_ended wrote wrote (MayWant disk.state c.args.at c.args.piece.now) disk c.write_at.new.self (g.H.Home.seen c.args.home.now) (g.H.Home.seen c.write_at.new.home) c.in_err-write_at.field-0.0 c.in_err-write_at.ensures.answered c.from_residual.result c.from_residual.ensures.1 in
+    call_ended wrote wrote (MayWant disk.state c.args.at c.args.piece.now) disk c.write_at.new.self (g.H.Home.seen c.args.home.now) (g.H.Home.seen c.write_at.new.home) c.in_err-write_at.field-0.0 c.in_err-write_at.ensures.answered c.from_residual.result c.from_residual.ensures.1 in
     λ one within is. ended.wants is one (subst (λ (b : List ℕ). c.args.at < length b) (sym (read_stable disk.state c.requires.stable)) within) c.requires.stable
 
 pub returns-in_err-write_at-clause-device : goal.returns-in_err-write_at-clause-device
@@ -48,7 +48,7 @@ returns-in_err-write_at-clause-device g c =
     let disk = c.args.disk.now in
     let wrote = after_write disk.state c.args.at c.args.piece.now in
     let ended : HasEnded wrote (MayWant disk.state c.args.at c.args.piece.now) disk c.write_at.new.self (g.H.Home.seen c.args.home.now) (g.H.Home.seen c.write_at.new.home) c.from_residual.result =
-      call_ended wrote wrote (MayWant disk.state c.args.at c.args.piece.now) disk c.write_at.new.self (g.H.Home.seen c.args.home.now) (g.H.Home.seen c.write_at.new.home) c.in_err-write_at.field-0.0 c.in_err-write_at.ensures.answered c.from_residual.result c.from_residual.ensures.1 in
+    call_ended wrote wrote (MayWant disk.state c.args.at c.args.piece.now) disk c.write_at.new.self (g.H.Home.seen c.args.home.now) (g.H.Home.seen c.write_at.new.home) c.in_err-write_at.field-0.0 c.in_err-write_at.ensures.answered c.from_residual.result c.from_residual.ensures.1 in
     ended.device
 
 pub returns-in_err-write_at-clause-quiet : goal.returns-in_err-write_at-clause-quiet
@@ -56,7 +56,7 @@ returns-in_err-write_at-clause-quiet g c =
     let disk = c.args.disk.now in
     let wrote = after_write disk.state c.args.at c.args.piece.now in
     let ended : HasEnded wrote (MayWant disk.state c.args.at c.args.piece.now) disk c.write_at.new.self (g.H.Home.seen c.args.home.now) (g.H.Home.seen c.write_at.new.home) c.from_residual.result =
-      call_ended wrote wrote (MayWant disk.state c.args.at c.args.piece.now) disk c.write_at.new.self (g.H.Home.seen c.args.home.now) (g.H.Home.seen c.write_at.new.home) c.in_err-write_at.field-0.0 c.in_err-write_at.ensures.answered c.from_residual.result c.from_residual.ensures.1 in
+    call_ended wrote wrote (MayWant disk.state c.args.at c.args.piece.now) disk c.write_at.new.self (g.H.Home.seen c.args.home.now) (g.H.Home.seen c.write_at.new.home) c.in_err-write_at.field-0.0 c.in_err-write_at.ensures.answered c.from_residual.result c.from_residual.ensures.1 in
     ended.quiet
 
 pub returns-in_err-sync-clause-stopped : goal.returns-in_err-sync-clause-stopped
@@ -65,7 +65,7 @@ returns-in_err-sync-clause-stopped g c =
     let mid = c.write_at.new.self in
     let passed = c.in_ok-write_at.ensures in
     let ended : HasEnded mid.state ⊥ mid c.sync.new.self (g.H.Home.seen c.write_at.new.home) (g.H.Home.seen c.sync.new.home) c.from_residual-in_err-sync.result =
-      call_ended (after_sync mid.state) mid.state ⊥ mid c.sync.new.self (g.H.Home.seen c.write_at.new.home) (g.H.Home.seen c.sync.new.home) c.in_err-sync.field-0.0 c.in_err-sync.ensures.called.answered c.from_residual-in_err-sync.result c.from_residual-in_err-sync.ensures.1 in
+    call_ended (after_sync mid.state) mid.state ⊥ mid c.sync.new.self (g.H.Home.seen c.write_at.new.home) (g.H.Home.seen c.sync.new.home) c.in_err-sync.field-0.0 c.in_err-sync.ensures.called.answered c.from_residual-in_err-sync.result c.from_residual-in_err-sync.ensures.1 in
     λ call is. at_second disk.armed mid.armed call (after_write disk.state c.args.at c.args.piece.now) c.sync.new.self passed.answered.0.counted
     (subst (λ (d : DiskState). IsStopped mid.armed call d c.sync.new.self) passed.answered.0.state (ended.stopped call is).stopped)
 
@@ -75,7 +75,7 @@ returns-in_err-sync-clause-left g c =
     let mid = c.write_at.new.self in
     let passed = c.in_ok-write_at.ensures in
     let ended : HasEnded mid.state ⊥ mid c.sync.new.self (g.H.Home.seen c.write_at.new.home) (g.H.Home.seen c.sync.new.home) c.from_residual-in_err-sync.result =
-      call_ended (after_sync mid.state) mid.state ⊥ mid c.sync.new.self (g.H.Home.seen c.write_at.new.home) (g.H.Home.seen c.sync.new.home) c.in_err-sync.field-0.0 c.in_err-sync.ensures.called.answered c.from_residual-in_err-sync.result c.from_residual-in_err-sync.ensures.1 in
+    call_ended (after_sync mid.state) mid.state ⊥ mid c.sync.new.self (g.H.Home.seen c.write_at.new.home) (g.H.Home.seen c.sync.new.home) c.in_err-sync.field-0.0 c.in_err-sync.ensures.called.answered c.from_residual-in_err-sync.result c.from_residual-in_err-sync.ensures.1 in
     λ call is.
     let left = ended.stopped call is in
     let home = g.H.Home.seen c.sync.new.home in
@@ -87,7 +87,7 @@ returns-in_err-sync-clause-faults g c =
     let mid = c.write_at.new.self in
     let passed = c.in_ok-write_at.ensures in
     let ended : HasEnded mid.state ⊥ mid c.sync.new.self (g.H.Home.seen c.write_at.new.home) (g.H.Home.seen c.sync.new.home) c.from_residual-in_err-sync.result =
-      call_ended (after_sync mid.state) mid.state ⊥ mid c.sync.new.self (g.H.Home.seen c.write_at.new.home) (g.H.Home.seen c.sync.new.home) c.in_err-sync.field-0.0 c.in_err-sync.ensures.called.answered c.from_residual-in_err-sync.result c.from_residual-in_err-sync.ensures.1 in
+    call_ended (after_sync mid.state) mid.state ⊥ mid c.sync.new.self (g.H.Home.seen c.write_at.new.home) (g.H.Home.seen c.sync.new.home) c.in_err-sync.field-0.0 c.in_err-sync.ensures.called.answered c.from_residual-in_err-sync.result c.from_residual-in_err-sync.ensures.1 in
     ended.faults
 
 pub returns-in_err-sync-clause-memory : goal.returns-in_err-sync-clause-memory
@@ -96,7 +96,7 @@ returns-in_err-sync-clause-memory g c =
     let mid = c.write_at.new.self in
     let passed = c.in_ok-write_at.ensures in
     let ended : HasEnded mid.state ⊥ mid c.sync.new.self (g.H.Home.seen c.write_at.new.home) (g.H.Home.seen c.sync.new.home) c.from_residual-in_err-sync.result =
-      call_ended (after_sync mid.state) mid.state ⊥ mid c.sync.new.self (g.H.Home.seen c.write_at.new.home) (g.H.Home.seen c.sync.new.home) c.in_err-sync.field-0.0 c.in_err-sync.ensures.called.answered c.from_residual-in_err-sync.result c.from_residual-in_err-sync.ensures.1 in
+    call_ended (after_sync mid.state) mid.state ⊥ mid c.sync.new.self (g.H.Home.seen c.write_at.new.home) (g.H.Home.seen c.sync.new.home) c.in_err-sync.field-0.0 c.in_err-sync.ensures.called.answered c.from_residual-in_err-sync.result c.from_residual-in_err-sync.ensures.1 in
     λ one within is. ended.wants is
 
 pub returns-in_err-sync-clause-device : goal.returns-in_err-sync-clause-device
@@ -105,7 +105,7 @@ returns-in_err-sync-clause-device g c =
     let mid = c.write_at.new.self in
     let passed = c.in_ok-write_at.ensures in
     let ended : HasEnded mid.state ⊥ mid c.sync.new.self (g.H.Home.seen c.write_at.new.home) (g.H.Home.seen c.sync.new.home) c.from_residual-in_err-sync.result =
-      call_ended (after_sync mid.state) mid.state ⊥ mid c.sync.new.self (g.H.Home.seen c.write_at.new.home) (g.H.Home.seen c.sync.new.home) c.in_err-sync.field-0.0 c.in_err-sync.ensures.called.answered c.from_residual-in_err-sync.result c.from_residual-in_err-sync.ensures.1 in
+    call_ended (after_sync mid.state) mid.state ⊥ mid c.sync.new.self (g.H.Home.seen c.write_at.new.home) (g.H.Home.seen c.sync.new.home) c.in_err-sync.field-0.0 c.in_err-sync.ensures.called.answered c.from_residual-in_err-sync.result c.from_residual-in_err-sync.ensures.1 in
     λ is.
     let failed = ended.device is in
     record { count = subst (λ (n : ℕ). HasRisen n (g.H.Home.seen c.sync.new.home).faults) passed.answered.1 failed.count; named = failed.named ∙ passed.spot }
@@ -116,7 +116,7 @@ returns-in_err-sync-clause-quiet g c =
     let mid = c.write_at.new.self in
     let passed = c.in_ok-write_at.ensures in
     let ended : HasEnded mid.state ⊥ mid c.sync.new.self (g.H.Home.seen c.write_at.new.home) (g.H.Home.seen c.sync.new.home) c.from_residual-in_err-sync.result =
-      call_ended (after_sync mid.state) mid.state ⊥ mid c.sync.new.self (g.H.Home.seen c.write_at.new.home) (g.H.Home.seen c.sync.new.home) c.in_err-sync.field-0.0 c.in_err-sync.ensures.called.answered c.from_residual-in_err-sync.result c.from_residual-in_err-sync.ensures.1 in
+    call_ended (after_sync mid.state) mid.state ⊥ mid c.sync.new.self (g.H.Home.seen c.write_at.new.home) (g.H.Home.seen c.sync.new.home) c.in_err-sync.field-0.0 c.in_err-sync.ensures.called.answered c.from_residual-in_err-sync.result c.from_residual-in_err-sync.ensures.1 in
     λ silent. ended.quiet silent ∙ passed.answered.1
 
 pub returns-in_err-sync-clause-image : goal.returns-in_err-sync-clause-image

@@ -3,9 +3,11 @@ use Rattle.co_outside.specs.HomeMemory.{memory_seen}
 use Rattle.co_log.proofs.Ordered.{found, found_fresh, found_ordered, ready_made}
 use Rattle.co_log_rows.proofs.logs.opened.Goals as goal
 
-pub make-requires-clause-fresh : goal.make-requires-clause-fresh
-make-requires-clause-fresh c =
-    (found_fresh c.in_ok-log.log (found c.args.node _ _ c.in_ok-log.log c.requires c.in_ok-log.ensures.answered.0.attached) (sym c.fresh.ensures ∙ c.if-fresh.true)).0
+pub make-requires : goal.make-requires
+make-requires c =
+    let over = c.in_ok-log.ensures.answered.0 in
+    let fresh = found_fresh c.in_ok-log.log (found c.args.node _ _ c.in_ok-log.log c.requires over.attached) (sym c.fresh.ensures ∙ c.if-fresh.true) in
+    record { held = over.held; fresh = fresh.0; node = fresh.1 }
 
 pub returns-then-fresh : goal.returns-then-fresh
 returns-then-fresh c =

@@ -1,5 +1,5 @@
 use Rattle.std.proofs.Common.{refl, sym, ap, subst, ◌∙◌}
-use Rattle.std.specs.Prelude.{reverse, Some, ◌≤◌, option_map, IfSome}
+use Rattle.std.specs.Prelude.{reverse, Some, ◌≤◌, IfSome}
 use Rattle.co_log.specs.LogView.{LogView}
 use Rattle.co_plain.specs.LogWrite.{with_stop}
 use Rattle.co_node.proofs.Standing.{same_stands}

@@ -1,5 +1,5 @@
 use Rattle.std.proofs.Common.{refl, sym, ap, ◌∙◌}
-use Rattle.std.specs.Prelude.{reverse, None, option_map}
+use Rattle.std.specs.Prelude.{reverse, None}
 use Rattle.co_log.specs.LogView.{LogView}
 use Rattle.co_plain.specs.LogWrite.{with_stop}
 use Rattle.co_node.proofs.Standing.{none_armed, same_stands}

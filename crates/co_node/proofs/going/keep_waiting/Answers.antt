@@ -1,5 +1,5 @@
 use Rattle.std.proofs.Common.{◌∷◌, List, refl, sym, ap, subst, ◌∙◌}
-use Rattle.std.specs.Prelude.{reverse, ◌≤◌, option_map, IfSome}
+use Rattle.std.specs.Prelude.{reverse, ◌≤◌, IfSome}
 use Rattle.co_record.specs.declared.record.Record.{Record}
 use Rattle.co_state.proofs.Tables.{on_ok}
 use Rattle.co_log.specs.LogView.{LogView}
