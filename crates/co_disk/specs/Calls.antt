@@ -1,5 +1,5 @@
 -- The calls of a disk over a home: what each leaves of the disk and of the home, by its answer. The count of the home's faults stands but where the device failed.
-use Rattle.std.specs.Prelude.{ℕ, ◌≡◌, ◌≤◌, ◌<◌, List, length, Some, None, [], Result, Ok, Err}
+use Rattle.std.specs.Prelude.{ℕ, ◌+◌, ◌≡◌, ◌≤◌, ◌<◌, List, length, Some, None, [], Result, Ok, Err}
 use Rattle.co_base.specs.Limits.{most_log_bytes}
 use Rattle.co_base.specs.declared.leaves.Leaves.{Leaves}
 use Rattle.co_outside.specs.declared.spot.Spot.{Spot}
@@ -55,6 +55,12 @@ pub record IsLeftOf (pending : DiskState) (call : ℕ) (disk after : DiskView) (
   pub stopped : IsStopped disk.armed call pending after
   pub agrees : Agrees home disk.spot (read_of after.state)
   pub clean : IsClean home disk.spot
+
+-- what a write of a piece asks: the home has the file of the disk, and the piece begins within it and ends within the most bytes of a file
+pub record MayWrite (home : HomeView) (disk : DiskView) (at : ℕ) (piece : List ℕ) : Type 0 where
+  pub agrees : Agrees home disk.spot (read_of disk.state)
+  pub begins : at ≤ length (read_of disk.state)
+  pub ends : at + length piece ≤ most_log_bytes
 
 -- a write may want memory but where it replaces the one byte that is there, and nothing is pending
 abbrev pub MayWant : DiskState → ℕ → List ℕ → Type 0

@@ -41,7 +41,7 @@ impl Model for Disk {
 impl Disk {
     ghost use Rattle.co_outside.specs.Home.{File, Agrees, IsClean, RestStays, HasFailed};
     ghost use Rattle.co_disk.specs.DiskModel.{read_of, stable_disk, after_write, after_sync, IsImage, IsSound};
-    ghost use Rattle.co_disk.specs.Calls.{HasAttached, HasCalled, MayWant, HasCut, HasReread};
+    ghost use Rattle.co_disk.specs.Calls.{HasAttached, MayWrite, HasCalled, MayWant, HasCut, HasReread};
     ghost use Rattle.co_disk.specs.Faults.{IsOfAttach, IsOfWrite, IsOfSync, IsOfReread};
     ghost use Rattle.co_disk.specs.Homes.{IsImageIn};
     ghost use Rattle.co_disk.specs.Laying.{BeginWithin, EndWithin};
@@ -108,9 +108,7 @@ impl Disk {
         at: u32,
         piece: &[u8],
     ) -> Result<(), DiskFault>
-        requires agrees { Agrees (H.seen home.old) self.old.spot (read_of self.old.state) }
-        requires at { at ≤ length (read_of self.old.state) }
-        requires end { at + length piece.now ≤ most_log_bytes }
+        requires { MayWrite (H.seen home.old) self.old at piece.now }
         ensures { HasCalled (after_write self.old.state at piece.now) (after_write self.old.state at piece.now) (MayWant self.old.state at piece.now) self.old self.new (H.seen home.old) (H.seen home.new) result }
     {
         self.write(home, at, piece)
