@@ -8,5 +8,5 @@ use Rattle.co_log_rows.proofs.calls.call_cut.Goals as goal
 
 pub returns : goal.returns
 returns c = λ goes.
-    subst (λ (h : HomeMemory). IsReady (memory_seen h) c.cut.new.self) (sym c.cut.ensures.home)
-    (ready_waiting (memory_seen c.args.home.now) c.args.log.now c.cut.new.self [] None c.cut.ensures.log c.requires)
+    subst (λ (h : HomeMemory). IsReady (memory_seen h) c.cut-answer.new.self) (sym c.cut-answer.ensures.home)
+    (ready_waiting (memory_seen c.args.home.now) c.args.log.now c.cut-answer.new.self [] None c.cut-answer.ensures.log c.requires)

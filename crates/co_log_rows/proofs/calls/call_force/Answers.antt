@@ -11,7 +11,7 @@ returns c = λ goes.
     let log = c.args.log.now in
     let ready = c.requires in
     let all = log.waiting ++ c.in_ok-item.item ∷ [] in
-    let parts = force_parts log c.force.new.self (memory_seen c.args.home.now) (memory_seen c.force.new.home) (IsTooLong log.gate all) (c.in_ok-item.item ∷ []) c.force.result c.force.ensures.called.answered in
+    let parts = force_parts log c.force-answer.new.self (memory_seen c.args.home.now) (memory_seen c.force-answer.new.home) (IsTooLong log.gate all) (c.in_ok-item.item ∷ []) c.force-answer.result c.force-answer.ensures.called.answered in
     let forced = parts.forced ready.items ready.ordered.live in
-    let next = forced_ordered log c.force.new.self ready.items all c.force.result ready.ordered forced done in
-    record { held = parts.held done; latest = forced_version log c.force.new.self ready.items all c.force.result forced done ∙ ready.latest; items = _; ordered = next }
+    let next = forced_ordered log c.force-answer.new.self ready.items all c.force-answer.result ready.ordered forced done in
+    record { held = parts.held done; latest = forced_version log c.force-answer.new.self ready.items all c.force-answer.result forced done ∙ ready.latest; items = _; ordered = next }
