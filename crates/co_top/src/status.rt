@@ -281,7 +281,8 @@ fn put_difference(
     into.extend_from_slice(b": kept ")?;
     append_byte(into, kept)?;
     into.extend_from_slice(b", read ")?;
-    append_byte(into, read)
+    append_byte(into, read)?;
+    Ok(())
 }
 
 /// Appends a text and a number.
