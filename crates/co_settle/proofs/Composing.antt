@@ -19,9 +19,9 @@ use Rattle.co_plain.specs.Step.{disarmed, step_line}
 use Rattle.co_state.specs.declared.engine_state.EngineState.{EngineState}
 use Rattle.co_law_settle.specs.SettlingTurns.{note_in}
 use Rattle.co_law.proofs.GoingOn.{transcript_more}
-use Rattle.co_world.specs.Left.{IsFullIn}
-use Rattle.co_world.specs.Served.{AreServed, HasEndedAs}
-use Rattle.co_world.specs.Standing.{RepresentsWorld}
+use Rattle.co_cluster.specs.Left.{IsFullIn}
+use Rattle.co_world.specs.Standing.{AreServed, RepresentsWorld}
+use Rattle.co_cluster.specs.Served.{HasEndedAs}
 use Rattle.co_world.specs.declared.world.World.{World}
 use Rattle.co_settle.specs.Progress.{HasDone, IsCutIn, DoesAll, HasEnded, EndsAs, IsUntoldFor}
 use Rattle.co_settle.specs.declared.counting.Steps.{Steps}

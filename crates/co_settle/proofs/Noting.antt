@@ -30,10 +30,10 @@ use Rattle.co_law_settle.proofs.Reaching.{note_of, found_sent}
 use Rattle.co_law_settle.specs.SettlingTurns.{note_in, delivers, deliveries, first_event, turn_events, Exchanges, prepares_member, votes_from, decides_for, asks_from, acks_from}
 use Rattle.co_session.specs.Clients.{Clients}
 use Rattle.co_world.specs.Counting.{MeetsLimit}
-use Rattle.co_world.specs.Readings.{exchange_of, exchange_as}
-use Rattle.co_world.specs.declared.exchanges.Exchange.{Exchange}
-use Rattle.co_world.specs.declared.exchanges.ExchangeKind.{ExchangeKind}
-use Rattle.co_world.specs.declared.exchanges.ExchangeKind.TheVariants as kind
+use Rattle.co_cluster.specs.Readings.{exchange_of, exchange_as}
+use Rattle.co_cluster.specs.declared.exchanges.Exchange.{Exchange}
+use Rattle.co_cluster.specs.declared.exchanges.ExchangeKind.{ExchangeKind}
+use Rattle.co_cluster.specs.declared.exchanges.ExchangeKind.TheVariants as kind
 use Rattle.co_settle.specs.Notes.{wanted_by, first_want, next_want, next_note, passed, AreInHead, IsForHead, MayPass}
 use Rattle.co_base.specs.declared.head.Kind.{Kind}
 use Rattle.co_outside.specs.Home.{File}
@@ -424,6 +424,6 @@ passed_short (Some note) = omega arith
 
 -- what may be passed on, by the numbers of a federation that stands
 pub may_as : {E : Type 0} (takes : Kind → Type 0) (stands_for : E → EngineState → Type 0) (w : World E) (z : Federation) (o p : Option Message) → RepresentsWorld takes stands_for w z → p ≡ o → MayPass (length z.kinds) z.coordinators o →
-    MayPass (length w.members.items) (length w.coords.items) p
+    MayPass (length w.cluster.members.items) (length w.cluster.coords.items) p
 may_as takes stands_for w z o p r same may =
-    subst (λ n. MayPass n (length w.coords.items) p) (sym r.kinds) (subst (λ n. MayPass (length z.kinds) n p) (sym r.coordinators) (subst (MayPass (length z.kinds) z.coordinators) (sym same) may))
+    subst (λ n. MayPass n (length w.cluster.coords.items) p) (sym r.cluster.kinds) (subst (λ n. MayPass (length z.kinds) n p) (sym r.cluster.coordinators) (subst (MayPass (length z.kinds) z.coordinators) (sym same) may))

@@ -14,7 +14,7 @@ use Rattle.co_plain.specs.Settling.{timer_ends, SettlesBy, ByRestart, ByExchange
 use Rattle.co_base.specs.declared.node.Node.{Node}
 use Rattle.co_law_settle.proofs.First.{settles_by}
 use Rattle.co_law_settle.specs.SettlingTurns.{SomethingOpen}
-use Rattle.co_world.specs.Readings.{AllUp}
+use Rattle.co_cluster.specs.Readings.{AllUp}
 use Rattle.co_plain.specs.SoundLogs.{unended_in}
 use Rattle.co_plain.specs.Step.{step, step_line, disarmed}
 use Rattle.co_plain.specs.Wire.{was_sent}
@@ -31,7 +31,7 @@ use Rattle.co_plain.specs.Premises.{AreTrueVerdicts, IsTrueVerdict, AreOwn, AreO
 use Rattle.co_law_node.specs.WholeNodes.{AreWhole, AreWritable}
 use Rattle.co_law_runs.proofs.Fitting.{Fit, run_fits}
 use Rattle.co_law_settle.proofs.Settled.{Reached, reached}
-use Rattle.co_world.specs.Conditions.{IsReady}
+use Rattle.co_cluster.specs.Conditions.{IsReady}
 use Rattle.co_settle.specs.Reached.{IsReached}
 
 -- ---- one happening more

@@ -16,9 +16,9 @@ use Rattle.co_plain.specs.Settling.{exchange_txn, IsFirstExchange}
 use Rattle.co_law_base.proofs.Facts.{Facts}
 use Rattle.co_law_base.proofs.Lookups.{put_here, put_there, without_there, holds_found}
 use Rattle.co_law_settle.proofs.Busy.{enabled_busy}
-use Rattle.co_world.specs.Readings.{IsFirstOf}
-use Rattle.co_world.proofs.NotedSets.{IsNext, tabled_next}
-use Rattle.co_world.proofs.Walks.{first_helps}
+use Rattle.co_cluster.specs.Readings.{IsFirstOf}
+use Rattle.co_cluster.proofs.NotedSets.{IsNext, tabled_next}
+use Rattle.co_cluster.proofs.Walks.{first_helps}
 use Rattle.co_settle.specs.Busy.{IsKnown, IsLaidIn, HaveBusy}
 
 -- ---- the first that can help

@@ -11,8 +11,8 @@ use Rattle.co_base.specs.declared.node.Node.TheVariants as node
 use Rattle.co_law_settle.specs.SettlingTurns.{prepares_member, votes_from, decides_for, asks_from, acks_from, note_in}
 use Rattle.co_settle.specs.declared.notes.Want.{Want}
 use Rattle.co_settle.specs.declared.notes.Want.TheVariants as want
-use Rattle.co_world.specs.declared.exchanges.ExchangeKind.{ExchangeKind}
-use Rattle.co_world.specs.declared.exchanges.ExchangeKind.TheVariants as kind
+use Rattle.co_cluster.specs.declared.exchanges.ExchangeKind.{ExchangeKind}
+use Rattle.co_cluster.specs.declared.exchanges.ExchangeKind.TheVariants as kind
 
 abbrev pub wanted_by : Want → ℕ → Message → Bool
 wanted_by want.Prepare m note = prepares_member m note

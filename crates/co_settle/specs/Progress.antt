@@ -11,9 +11,8 @@ use Rattle.co_plain.specs.Federation.{Federation}
 use Rattle.co_plain.specs.Runs.{run, transcript, lines}
 use Rattle.co_plain.specs.Step.{step_line, disarmed}
 use Rattle.co_state.specs.declared.engine_state.EngineState.{EngineState}
-use Rattle.co_world.specs.Left.{AreLeftAs, AreLeftBy}
-use Rattle.co_world.specs.Served.{AreServed}
-use Rattle.co_world.specs.Standing.{RepresentsWorld}
+use Rattle.co_cluster.specs.Left.{AreLeftAs, AreLeftBy}
+use Rattle.co_world.specs.Standing.{AreServed, RepresentsWorld}
 use Rattle.co_world.specs.declared.world.World.{World}
 use Rattle.co_settle.specs.declared.counting.Steps.{Steps}
 use Rattle.co_settle.specs.declared.telling.Told.{Told}

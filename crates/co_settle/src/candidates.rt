@@ -5,16 +5,17 @@ ghost use Rattle.co_plain.specs.Quiet.{IsEnabled};
 ghost use Rattle.co_plain.specs.Quiet as plain;
 ghost use Rattle.co_plain.specs.Settling.{IsFirstExchange};
 ghost use Rattle.co_state.specs.Table.{is_above, least_where};
-ghost use Rattle.co_world.specs.Conditions.{IsReady};
-ghost use Rattle.co_world.specs.Readings.{StandsUp, exchange_of};
-ghost use Rattle.co_world.specs.Standing.{RepresentsWorld};
+ghost use Rattle.co_cluster.specs.Conditions.{IsReady};
+ghost use Rattle.co_world.specs.Standing.{StandsUp, RepresentsWorld};
+ghost use Rattle.co_cluster.specs.Readings.{exchange_of};
 ghost use Rattle.co_settle.specs.Busy.{IsKnown, IsLaidIn, HaveBusy, AreKnown};
 ghost use Rattle.co_settle.specs.Reached.{IsReached};
 
 use co_base::Txn;
+use co_cluster::Exchange;
 use co_durable::Numbers;
 use co_engine::Engine;
-use co_world::{Exchange, World};
+use co_world::World;
 use std::alloc::{AllocError, Global};
 
 /// The transactions that were busy when all nodes were up, once they were collected. An exchange can help no other one, since none becomes busy

@@ -2,7 +2,7 @@
 ghost use Rattle.std.specs.Prelude.{IfErr, ◌≡◌, ◌<◌, true, length};
 ghost use Rattle.co_plain.specs.Federation.{Federation};
 ghost use Rattle.co_plain.specs.Quiet.{IsEnabled};
-ghost use Rattle.co_world.specs.Readings.{exchange_as, exchange_of};
+ghost use Rattle.co_cluster.specs.Readings.{exchange_as, exchange_of};
 ghost use Rattle.co_world.specs.Standing.{RepresentsWorld, AreHeld};
 ghost use Rattle.co_law_settle.specs.SettlingTurns.{Exchanges, turn_events, first_event};
 ghost use Rattle.co_settle.specs.Notes.{first_want, next_want, next_note, passed, MayPass};
@@ -13,11 +13,12 @@ use crate::counting::Steps;
 use crate::notes::{Want, in_range, numbers_in_range};
 use crate::telling::{Told, take_step};
 use co_base::Txn;
+use co_cluster::{Exchange, ExchangeKind};
 use co_durable::WorldFault;
 use co_engine::Engine;
 use co_message::{Event, Message};
 use co_outside::Home;
-use co_world::{Exchange, ExchangeKind, World};
+use co_world::World;
 
 /// The event with which an exchange begins.
 fn first_event(kind: ExchangeKind, txn: Txn, member: u8, coord: u8) -> Event
@@ -65,7 +66,7 @@ fn pass_on<E: Engine + Drop, H: Home>(
     want: Want,
     member: u8,
 ) -> Result<Option<Message>, WorldFault>
-    requires in_head { MayPass (length world.old.members.items) (length world.old.coords.items) sent }
+    requires in_head { MayPass (length world.old.cluster.members.items) (length world.old.cluster.coords.items) sent }
     requires number { told.old.number < 4294967295 }
     requires count { steps.old.count < 18446744073709551615 }
     requires held { AreHeld (H.seen home.old) world.old }

@@ -6,7 +6,7 @@ ghost use Rattle.co_plain.specs.Runs.{numbered};
 ghost use Rattle.co_plain.specs.Step.{step_line};
 ghost use Rattle.co_schedule.specs.View.{IsEventFor};
 ghost use Rattle.co_session.specs.Clients.{Clients};
-ghost use Rattle.co_world.specs.Conditions.{IsReady};
+ghost use Rattle.co_cluster.specs.Conditions.{IsReady};
 ghost use Rattle.co_world.specs.Counting.{MeetsLimit};
 ghost use Rattle.co_world.specs.Standing.{RepresentsWorld, AreHeld};
 ghost use Rattle.co_law_settle.specs.SettlingTurns.{note_in};
@@ -65,7 +65,7 @@ pub(crate) fn take_step<E: Engine + Drop, H: Home>(
     want: Want,
     member: u8,
 ) -> Result<Option<Message>, WorldFault>
-    requires event { IsEventFor (length world.old.members.items) (length world.old.coords.items) event }
+    requires event { IsEventFor (length world.old.cluster.members.items) (length world.old.cluster.coords.items) event }
     requires limit { (x : Clients) → MeetsLimit x event → ⊥ }
     requires number { told.old.number < 4294967295 }
     requires count { steps.old.count < 18446744073709551615 }

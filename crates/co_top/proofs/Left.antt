@@ -35,7 +35,7 @@ use Rattle.co_plain.specs.Premises.{AreTrueVerdicts, IsBetween, AreOwn}
 use Rattle.co_law_runs.proofs.Agreement.{run_more}
 use Rattle.co_law.proofs.EveryRun.{every_log, every_sound}
 use Rattle.co_law.proofs.GoingOn.{lines_true}
-use Rattle.co_world.specs.Left.{AreLeftAs}
+use Rattle.co_cluster.specs.Left.{AreLeftAs}
 use Rattle.co_top.specs.Front.{IsNext}
 use Rattle.co_top.specs.Ran.{Ran, start_of, end_of, AreLeftAfter, AreLeftBy, AreLeftByFault}
 use Rattle.co_top.proofs.Again.{may_again}

@@ -15,7 +15,7 @@ use Rattle.co_durable.proofs.Pairs.{all_append}
 use Rattle.co_durable.specs.declared.fault.WorldFault.{WorldFault}
 use Rattle.co_durable.specs.declared.fault.WorldFault.TheVariants as world
 use Rattle.co_opening.specs.Opened.{IsUnopened, IsOfFound}
-use Rattle.co_world.specs.Served.{HasEndedAs}
+use Rattle.co_cluster.specs.Served.{HasEndedAs}
 use Rattle.co_law.proofs.GoingOn.{transcript_more}
 use Rattle.co_law_runs.proofs.Agreement.{run_more}
 use Rattle.co_plain.specs.Federation.{Federation}
@@ -28,9 +28,9 @@ use Rattle.co_replay.proofs.Appended.{items_text-append}
 use Rattle.co_schedule.specs.declared.lines.Lines.{Lines}
 use Rattle.co_state.specs.declared.engine_state.EngineState.{EngineState}
 use Rattle.co_world.specs.Counting.{MeetsPlainLimit}
-use Rattle.co_world.specs.Left.{AreLeftAs, AreLeftBy, AreLeftNear}
+use Rattle.co_cluster.specs.Left.{AreLeftAs, AreLeftBy, AreLeftNear}
 use Rattle.co_world.specs.Standing.{RepresentsWorld}
-use Rattle.co_world.proofs.Lefts.{held_left}
+use Rattle.co_cluster.proofs.Lefts.{held_left}
 use Rattle.co_world.specs.declared.world.World.{World}
 use Rattle.co_top.proofs.Lists.{map_more, count_more, take_behind}
 use Rattle.co_top.specs.Front.{HasRead, StandsBehind, OneMore, IsNext, IsStreamed}

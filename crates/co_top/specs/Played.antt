@@ -12,8 +12,8 @@ use Rattle.co_plain.specs.Step.{disarmed, step_line}
 use Rattle.co_replay.specs.Schedule.{HasLine}
 use Rattle.co_replay.specs.Transcript.{items_text}
 use Rattle.co_state.specs.declared.engine_state.EngineState.{EngineState}
-use Rattle.co_world.specs.Conditions.{IsReady}
-use Rattle.co_world.specs.Left.{AreLeftAs}
+use Rattle.co_cluster.specs.Conditions.{IsReady}
+use Rattle.co_cluster.specs.Left.{AreLeftAs}
 use Rattle.co_world.specs.Standing.{RepresentsWorld, AreHeld}
 use Rattle.co_world.specs.declared.world.World.{World}
 use Rattle.co_top.specs.Front.{StandsBehind, IsNext, IsLineFault, IsStreamed}

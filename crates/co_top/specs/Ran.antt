@@ -23,7 +23,7 @@ use Rattle.co_replay.specs.Transcript.{items_text, run_items}
 use Rattle.co_opening.specs.Fit.{AreFit}
 use Rattle.co_opening.specs.Found.{AreFound, MayRun, AreUnused}
 use Rattle.co_opening.specs.Opened.{IsUnopened}
-use Rattle.co_world.specs.Left.{AreLeftAs}
+use Rattle.co_cluster.specs.Left.{AreLeftAs}
 use Rattle.co_top.specs.Front.{IsHeaded, StandsBehind, IsNext, IsHeadFault, IsLineFault, IsStreamed}
 use Rattle.co_world.specs.Counting.{MeetsPlainLimit}
 use Rattle.co_top.specs.Telling.{Outgrows}

@@ -11,7 +11,7 @@ use Rattle.co_plain.specs.Step.{disarmed, step_line}
 use Rattle.co_replay.specs.Transcript.{items_text}
 use Rattle.co_state.specs.declared.engine_state.EngineState.{EngineState}
 use Rattle.co_world.specs.Counting.{MeetsPlainLimit}
-use Rattle.co_world.specs.Left.{AreLeftAs, AreLeftNear, HasOverlong}
+use Rattle.co_cluster.specs.Left.{AreLeftAs, AreLeftNear, HasOverlong}
 use Rattle.co_world.specs.Standing.{RepresentsWorld, AreHeld}
 use Rattle.co_world.specs.declared.world.World.{World}
 use Rattle.co_top.specs.declared.status.LimitKind.TheVariants as limit

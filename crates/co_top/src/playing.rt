@@ -6,7 +6,7 @@ ghost use Rattle.co_outside.specs.Home.{IsClean};
 ghost use Rattle.co_plain.specs.Federation.{Federation};
 ghost use Rattle.co_schedule.specs.Lines.{ahead};
 ghost use Rattle.co_schedule.specs.View.{IsEventFor};
-ghost use Rattle.co_world.specs.Conditions.{IsReady};
+ghost use Rattle.co_cluster.specs.Conditions.{IsReady};
 ghost use Rattle.co_world.specs.Standing.{RepresentsWorld, AreHeld};
 ghost use Rattle.co_top.specs.Ends.{of_world};
 ghost use Rattle.co_top.specs.Front.{HasRead};
@@ -84,7 +84,7 @@ fn tell_event<E: Engine + Drop, K: Sink, H: Home>(
     number: u32,
     event: Event,
 ) -> Result<(), Status>
-    requires event { IsEventFor (length world.old.members.items) (length world.old.coords.items) event }
+    requires event { IsEventFor (length world.old.cluster.members.items) (length world.old.cluster.coords.items) event }
     requires held { AreHeld (H.seen home.old) world.old }
     requires stands { (s : Federation) × RepresentsWorld E.takes E.stands_for world.old s × IsReady s }
     ensures told { (s : Federation) → RepresentsWorld E.takes E.stands_for world.old s → IsReady s →

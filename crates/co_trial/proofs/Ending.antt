@@ -12,8 +12,8 @@ use Rattle.co_plain.specs.Federation.{Federation}
 use Rattle.co_settle.specs.Progress.{IsUntoldFor, HasEnded}
 use Rattle.co_durable.specs.declared.fault.WorldFault.{WorldFault}
 use Rattle.co_durable.specs.declared.fault.WorldFault.TheVariants as world
-use Rattle.co_world.specs.Left.{HasOverlong, IsFullIn}
-use Rattle.co_world.specs.Served.{HasEndedAs}
+use Rattle.co_cluster.specs.Left.{HasOverlong, IsFullIn}
+use Rattle.co_cluster.specs.Served.{HasEndedAs}
 use Rattle.co_trial.specs.Ended.{IsFaultOf, Ended}
 
 ended_as : (fault : WorldFault) (completed : Federation) (old new : HomeView) → HasEndedAs fault old new → (fault ≡ world.Count → ⊥) → IsFullIn completed fault → ¬ (HasOverlong completed) → IsFaultOf fault old.faults new.faults

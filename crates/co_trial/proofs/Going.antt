@@ -31,7 +31,7 @@ use Rattle.co_law_runs.proofs.Agreement.{run_more}
 use Rattle.co_law_runs.proofs.Fitting.{Fit, run_fits}
 use Rattle.co_settle.specs.Reached.{IsReached}
 use Rattle.co_settle.proofs.Reaching.{ready, sent_names, NamesCoord}
-use Rattle.co_world.specs.Conditions.{IsReady}
+use Rattle.co_cluster.specs.Conditions.{IsReady}
 use Rattle.co_world.specs.Standing.{RepresentsWorld}
 use Rattle.co_world.specs.declared.world.World.{World}
 use Rattle.co_law_node.specs.WholeCoords.{IsWholeCoord}
@@ -236,10 +236,10 @@ module _ (o : Opened) where
         event_for : IsEventFor members coords e
         event_for = subst (λ n. IsEventFor n coords e) (sym (ap length o.kinds)) (subst (λ k. IsEventFor 3 k e) (sym o.coords) (event_fits e fields fits.0))
 
-        pub may_play : IsEventFor (length w.members.items) (length w.coords.items) e
+        pub may_play : IsEventFor (length w.cluster.members.items) (length w.cluster.coords.items) e
         may_play =
-            subst (λ n. IsEventFor n (length w.coords.items) e) (sym (g.stands.kinds ∙ ap length (kinds_same es g.valid)))
-            (subst (λ k. IsEventFor members k e) (sym (g.stands.coordinators ∙ coords_same es g.valid)) event_for)
+            subst (λ n. IsEventFor n (length w.cluster.coords.items) e) (sym (g.stands.cluster.kinds ∙ ap length (kinds_same es g.valid)))
+            (subst (λ k. IsEventFor members k e) (sym (g.stands.cluster.coordinators ∙ coords_same es g.valid)) event_for)
 
         pub short_next : place < 60000 → IsShort e
         short_next few = subst IsShort (sym (ap (λ p. p.0) is)) (next_short w.wire maker (omega (arith, few, g.made)))

@@ -26,7 +26,7 @@ use Rattle.co_settle.specs.Progress.{IsCutIn}
 use Rattle.co_settle.specs.Settled.{IsCutShort}
 use Rattle.co_settle.proofs.Bounded.{most_settling}
 use Rattle.co_settle.proofs.GoingOn.{most}
-use Rattle.co_world.specs.Left.{HasOverlong, OverlongMember, OverlongCoord}
+use Rattle.co_cluster.specs.Left.{HasOverlong, OverlongMember, OverlongCoord}
 use Rattle.co_world.specs.declared.world.World.{World}
 use Rattle.co_trial.specs.Making.{IsShort, first_events}
 use Rattle.co_trial.specs.Playing.{HasRoom, HasGone}

@@ -12,7 +12,7 @@ use Rattle.co_plain.specs.Step.{step_line, disarmed}
 use Rattle.co_replay.specs.Transcript.{items_text}
 use Rattle.co_schedule.specs.View.{IsEventFor}
 use Rattle.co_state.specs.declared.engine_state.EngineState.{EngineState}
-use Rattle.co_world.specs.Left.{HasOverlong}
+use Rattle.co_cluster.specs.Left.{HasOverlong}
 use Rattle.co_world.specs.Standing.{RepresentsWorld}
 use Rattle.co_world.specs.declared.world.World.{World}
 use Rattle.co_trial.specs.Decisions.{AreRun}

@@ -2,7 +2,7 @@
 ghost use Rattle.std.specs.Prelude.{IfErr, ◌≡◌, ◌≤◌, ◌∷◌, length, OnOk};
 ghost use Rattle.co_plain.specs.Federation.{Federation};
 ghost use Rattle.co_schedule.specs.View.{IsEventFor};
-ghost use Rattle.co_world.specs.Conditions.{IsReady};
+ghost use Rattle.co_cluster.specs.Conditions.{IsReady};
 ghost use Rattle.co_world.specs.Counting.{MeetsPlainLimit};
 ghost use Rattle.co_world.specs.Standing.{RepresentsWorld, AreHeld};
 ghost use Rattle.co_trial.specs.Decisions.{AreRun};
@@ -51,7 +51,7 @@ fn play<E: Engine + Drop, H: Home>(
     number: u32,
     event: Event,
 ) -> Result<(), WorldFault>
-    requires event { IsEventFor (length world.old.members.items) (length world.old.coords.items) event }
+    requires event { IsEventFor (length world.old.cluster.members.items) (length world.old.cluster.coords.items) event }
     requires held { AreHeld (H.seen home.old) world.old }
     requires stands { (s : Federation) × RepresentsWorld E.takes E.stands_for world.old s × IsReady s × (MeetsPlainLimit s event → ⊥) × HasRoom s event }
     ensures played { (s : Federation) → RepresentsWorld E.takes E.stands_for world.old s → IsReady s →

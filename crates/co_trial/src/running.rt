@@ -7,7 +7,7 @@ ghost use Rattle.co_outside.specs.declared.spot.Spot.{Spot};
 ghost use Rattle.co_outside.specs.Home.{empty_file};
 ghost use Rattle.co_plain.specs.Federation.{Federation};
 ghost use Rattle.co_replay.specs.Transcript.{items_text};
-ghost use Rattle.co_world.specs.Conditions.{IsReady};
+ghost use Rattle.co_cluster.specs.Conditions.{IsReady};
 ghost use Rattle.co_world.specs.Standing.{RepresentsWorld, AreHeld};
 ghost use Rattle.co_trial.specs.Decisions.{AreRun};
 ghost use Rattle.co_settle.specs.Progress.{IsUntoldFor};

@@ -26,6 +26,7 @@ use Rattle.co_session.specs.declared.fault.SessionFault.TheVariants.{Used}
 use Rattle.co_world.specs.Counting.{AreCounted}
 use Rattle.co_world.specs.Standing.{RepresentsWorld}
 use Rattle.co_world.specs.declared.world.World.{World}
+use Rattle.co_world.proofs.Nodes.{beside_session}
 
 -- ---- leaves
 
@@ -122,12 +123,7 @@ module _ {E : Type 0} (takes : Kind → Type 0) (stands_for : E → EngineState 
       IsNode (length s.kinds) s.coordinators session.by → RepresentsWorld takes stands_for (record w { sessions = now }) (with_session s t session)
   session_put now t session is used counted home =
       record {
-        kinds = r.kinds;
-        coordinators = r.coordinators;
-        few_members = r.few_members;
-        few_coordinators = r.few_coordinators;
-        member = r.member;
-        coord = r.coord;
+        cluster = beside_session takes stands_for w.cluster s t session r.cluster;
         sessions = is ∙ ap (λ table. put table t session) r.sessions;
         used = λ u. ap (λ numbers. has_number numbers u) used ∙ r.used u;
         counted = counted;
@@ -179,19 +175,19 @@ module _ {E : Type 0} (takes : Kind → Type 0) (stands_for : E → EngineState 
 
   -- ---- nodes of the head
 
-  pub own_member : (m : ℕ) → (1 ≤ m) × (m ≤ length w.members.items) → (1 ≤ m) × (m ≤ length s.kinds)
-  own_member m h = (h.0, subst (λ (n : ℕ). m ≤ n) r.kinds h.1)
+  pub own_member : (m : ℕ) → (1 ≤ m) × (m ≤ length w.cluster.members.items) → (1 ≤ m) × (m ≤ length s.kinds)
+  own_member m h = (h.0, subst (λ (n : ℕ). m ≤ n) r.cluster.kinds h.1)
 
-  pub own_coord : (c : ℕ) → (1 ≤ c) × (c ≤ length w.coords.items) → (1 ≤ c) × (c ≤ s.coordinators)
-  own_coord c h = (h.0, subst (λ (n : ℕ). c ≤ n) r.coordinators h.1)
+  pub own_coord : (c : ℕ) → (1 ≤ c) × (c ≤ length w.cluster.coords.items) → (1 ≤ c) × (c ≤ s.coordinators)
+  own_coord c h = (h.0, subst (λ (n : ℕ). c ≤ n) r.cluster.coordinators h.1)
 
   -- the node that decides a transaction is one of them
-  pub home_coord : (t : ℕ) (session : Session) (c : ℕ) → look s.sessions t ≡ Some session → node.Coord c ≡ session.by → (1 ≤ c) × (c ≤ length w.coords.items)
+  pub home_coord : (t : ℕ) (session : Session) (c : ℕ) → look s.sessions t ≡ Some session → node.Coord c ≡ session.by → (1 ≤ c) × (c ≤ length w.cluster.coords.items)
   home_coord t session c is home =
       let h : (1 ≤ c) × (c ≤ s.coordinators) = subst (IsNode (length s.kinds) s.coordinators) (sym home) (r.homes t session is) in
-      (h.0, subst (λ (n : ℕ). c ≤ n) (sym r.coordinators) h.1)
+      (h.0, subst (λ (n : ℕ). c ≤ n) (sym r.cluster.coordinators) h.1)
 
-  pub home_member : (t : ℕ) (session : Session) (m : ℕ) → look s.sessions t ≡ Some session → node.Member m ≡ session.by → (1 ≤ m) × (m ≤ length w.members.items)
+  pub home_member : (t : ℕ) (session : Session) (m : ℕ) → look s.sessions t ≡ Some session → node.Member m ≡ session.by → (1 ≤ m) × (m ≤ length w.cluster.members.items)
   home_member t session m is home =
       let h : (1 ≤ m) × (m ≤ length s.kinds) = subst (IsNode (length s.kinds) s.coordinators) (sym home) (r.homes t session is) in
-      (h.0, subst (λ (n : ℕ). m ≤ n) (sym r.kinds) h.1)
+      (h.0, subst (λ (n : ℕ). m ≤ n) (sym r.cluster.kinds) h.1)

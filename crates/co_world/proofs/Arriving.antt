@@ -10,9 +10,10 @@ use Rattle.co_plain.specs.Federation.{Federation, Stepped, answers}
 use Rattle.co_plain.specs.Step.{arrives, deliver, member_step, coord_step}
 use Rattle.co_plain.specs.Wire.{was_sent}
 use Rattle.co_schedule.specs.View.{IsMessageFor, IsNode}
-use Rattle.co_world.specs.Calls.{coord_does, member_does, receiver}
-use Rattle.co_world.specs.declared.calls.CoordCall.TheVariants as to_coord
-use Rattle.co_world.specs.declared.calls.MemberCall.TheVariants as to_member
+use Rattle.co_cluster.specs.Calls.{coord_does, member_does}
+use Rattle.co_world.specs.Calls.{receiver}
+use Rattle.co_cluster.specs.declared.calls.CoordCall.TheVariants as to_coord
+use Rattle.co_cluster.specs.declared.calls.MemberCall.TheVariants as to_member
 
 -- which is in the head
 pub receiver_in_head : (members coords : ℕ) (note : Message) → IsMessageFor members coords note → IsNode members coords (receiver note)

@@ -1,12 +1,14 @@
 -- What a client asks for, as one step of the plain federation.
-use Rattle.std.proofs.Common.{◌≡◌, ℕ, Bool, true, false, [], ◌∷◌, Option, None, Some, refl, sym, ap, ◌∙◌}
+use Rattle.std.proofs.Common.{◌≡◌, ℕ, Bool, true, false, List, [], ◌∷◌, length, Option, None, Some, refl, sym, ap, ◌∙◌}
 use Rattle.co_base.specs.declared.node.Node.TheVariants as node
 use Rattle.co_base.specs.declared.op.Op.{Op}
+use Rattle.co_base.specs.declared.part.Part.{Part}
 use Rattle.co_base.specs.declared.reply.Reply.{Reply}
 use Rattle.co_message.specs.declared.answer.Answer.{Answer}
 use Rattle.co_message.specs.declared.answer.Answer.TheVariants as answer
 use Rattle.co_message.specs.declared.item.ItemKind.TheVariants as item
-use Rattle.co_state.specs.Table.{look}
+use Rattle.co_state.specs.Table.{look, holds}
+use Rattle.co_law_node.specs.WholeMembers.{IsAmong}
 use Rattle.co_plain.specs.declared.coord_state.CoordState.{CoordState}
 use Rattle.co_plain.specs.declared.member_state.MemberState.{MemberState}
 use Rattle.co_plain.specs.declared.member_step.MemberStep.{MemberStep}
@@ -15,10 +17,12 @@ use Rattle.co_plain.specs.Federation.{Federation, Stepped, answers, with_member,
 use Rattle.co_plain.specs.Member.{member_op}
 use Rattle.co_plain.specs.Sessions.{Refuses, Grants, leave_to_visit, leave_to_end, count_at, parts_of}
 use Rattle.co_plain.specs.Step.{reply_in, entered, operated, operate_with, operate, marked_asked, coord_answers, local_answers, commit_at, commit_with, abort_at, abort_with}
-use Rattle.co_world.specs.Calls.{coord_asked, coord_does, member_asked, member_does, ended}
+use Rattle.co_world.specs.Calls.{coord_asked, member_asked, ended}
+use Rattle.co_cluster.specs.Calls.{coord_does, member_does, CoordMay, MemberMay}
 use Rattle.co_world.specs.declared.clients.Ending.{Ending}
 use Rattle.co_world.specs.declared.clients.Ending.TheVariants as ending
-use Rattle.co_world.proofs.Ready.{op_quiet}
+use Rattle.co_cluster.specs.Conditions.{IsReady}
+use Rattle.co_cluster.proofs.Ready.{neither, op_quiet}
 
 module _ (s : Federation) (t : ℕ) where
   -- ---- operations
@@ -76,3 +80,21 @@ module _ (s : Federation) (t : ℕ) where
   pub marked_by_member : (session : Session) (b : Bool) (m : ℕ) (x : MemberState) → marked_asked (with_member s m x) t session b ≡ with_member (marked_asked s t session b) m x
   marked_by_member session true m x = refl
   marked_by_member session false m x = refl
+
+-- ---- what ends ask for
+
+module _ (s : Federation) where
+  -- a member commits or aborts alone while it is up
+  pub ends_alone : IsReady s → (m : ℕ) → IsAmong (length s.kinds) m → (how : Ending) (t carried : ℕ) (session : Session) → leave_to_end (look s.sessions t) ≡ Grants session → (s.member m).up ≡ true →
+      MemberMay s.coordinators (member_asked how t carried) (s.member m)
+  ends_alone ready m own ending.Commit t carried session may up = (
+    up,
+    (neither (holds (s.member m).engine.voted t) (holds (s.member m).committed t) (ready.whole.ended t m session may)).0,
+    λ some granted. (ready.writable.member m own).alone t carried some granted,
+  )
+  ends_alone ready m own ending.Abort t carried session may up = up
+
+  -- so is a coordinator asked
+  pub ends_at_coord : (c : ℕ) (how : Ending) (t : ℕ) (parts : List Part) → (s.coord c).up ≡ true → CoordMay (length s.kinds) c (coord_asked how t parts) (s.coord c)
+  ends_at_coord c ending.Commit t parts up = up
+  ends_at_coord c ending.Abort t parts up = up

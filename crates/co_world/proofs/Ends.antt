@@ -5,8 +5,8 @@ use Rattle.std.specs.Result.{IsErr, IsErrAnd}
 use Rattle.co_durable.specs.declared.fault.WorldFault.{WorldFault}
 use Rattle.co_durable.specs.declared.fault.WorldFault.TheVariants as world
 use Rattle.co_outside.specs.Home.{HomeView}
-use Rattle.co_opening.specs.Nodes.{AreKept}
-use Rattle.co_world.specs.Served.{AreServed, HasEndedAs, IsOfNoFile}
+use Rattle.co_world.specs.Standing.{AreHeld, AreServed}
+use Rattle.co_cluster.specs.Served.{HasEndedAs, IsOfNoFile}
 use Rattle.co_world.specs.declared.world.World.{World}
 
 module _ {A : Type 0} where
@@ -41,11 +41,11 @@ module _ {A : Type 0} where
 
   -- the logs are held after it
   pub served_after : {E F : Type 0} (result : Result A WorldFault) (w : World E) (z : World F) (u v : HomeView) → AreServed w u v →
-      OnOk result (AreKept v z.members.items z.coords.items) → OnOk result (AreServed z u v)
+      OnOk result (AreHeld v z) → OnOk result (AreServed z u v)
   served_after (Ok a) w z u v served kept = record { kept = kept; clean = served.clean; quiet = served.quiet }
   served_after (Err fault) w z u v served kept = tt
 
-  pub served_alone : {E : Type 0} (result : Result A WorldFault) (w : World E) (v : HomeView) → OnOk result (AreKept v w.members.items w.coords.items) → OnOk result (AreServed w v v)
+  pub served_alone : {E : Type 0} (result : Result A WorldFault) (w : World E) (v : HomeView) → OnOk result (AreHeld v w) → OnOk result (AreServed w v v)
   served_alone (Ok a) w v kept = record { kept = kept; clean = λ s clean. clean; quiet = refl }
   served_alone (Err fault) w v kept = tt
 

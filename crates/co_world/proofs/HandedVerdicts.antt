@@ -8,8 +8,8 @@ use Rattle.co_plain.specs.Step.{step, member_step, up_member}
 use Rattle.co_plain.specs.declared.happening.Happening.TheVariants as happening
 use Rattle.co_state.specs.declared.engine_state.Vote.{Vote}
 use Rattle.co_undecided.specs.Kept.{coord_asked}
-use Rattle.co_world.specs.Calls.{member_does}
-use Rattle.co_world.specs.declared.calls.MemberCall.TheVariants as to_member
+use Rattle.co_cluster.specs.Calls.{member_does}
+use Rattle.co_cluster.specs.declared.calls.MemberCall.TheVariants as to_member
 
 pub asker_is : (o : Option Vote) (c : ℕ) → Some c ≡ coord_asked o → c ≡ coord_in o
 asker_is None c e = absurd (let z : Some c ≡ None = e in cc)

@@ -11,8 +11,8 @@ use Rattle.co_plain.specs.declared.coord_step.CoordStep.{CoordStep as PlainCoord
 use Rattle.co_plain.specs.declared.member_state.MemberState.{MemberState}
 use Rattle.co_plain.specs.declared.member_step.MemberStep.{MemberStep as PlainMemberStep}
 use Rattle.co_plain.specs.declared.session.Session.{Session}
-use Rattle.co_world.specs.Left.{HasOverlong, OverlongMember, OverlongCoord, AreLeftAs, AreLeftBy, AreLeftWith}
-use Rattle.co_world.proofs.Lefts.{either_left, noted_left, noted_overlong}
+use Rattle.co_cluster.specs.Left.{HasOverlong, OverlongMember, OverlongCoord, AreLeftAs, AreLeftBy, AreLeftWith}
+use Rattle.co_cluster.proofs.Lefts.{either_left, noted_left, noted_overlong}
 
 -- ---- a step told in another way
 

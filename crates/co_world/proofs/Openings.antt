@@ -33,7 +33,7 @@ alone : (used : List ℕ) → length used ≤ 65536 → length (none_begun used)
 alone used few = omega (arith, few)
 
 pub attached_over : {E : Type 0} (takes : Kind → Type 0) (stands_for : E → EngineState → Type 0) (file : Spot → Option File) (head : Head) (resume : Bool) (n : Nodes E) (w : World E) (items : List Item)
-    → length head.kinds ≤ 16 → head.coords ≤ 8 → AreOpened takes stands_for file head resume n → w.members.items ≡ n.members.items → w.coords.items ≡ n.coords.items → w.sessions ≡ none_begun n.used → w.wire ≡ []
+    → length head.kinds ≤ 16 → head.coords ≤ 8 → AreOpened takes stands_for file head resume n → w.cluster.members.items ≡ n.members.items → w.cluster.coords.items ≡ n.coords.items → w.sessions ≡ none_begun n.used → w.wire ≡ []
     → items ≡ numbered 1 (items_of n.marks [] answer.Opened) → IsAttachedOver takes stands_for file head resume w items
 attached_over takes stands_for file head resume n w items few_members few_coords opened members coords sessions wire told =
     let used : Numbers = used_numbers (length head.kinds) head.coords opened.found_member opened.found_coord in
@@ -46,12 +46,14 @@ attached_over takes stands_for file head resume n w items few_members few_coords
       fit = opened.fit;
       few = subst (λ (ts : List ℕ). length ts ≤ 65536) opened.used opened.few;
       stands = record {
-        kinds = ap length members ∙ opened.members;
-        coordinators = ap length coords ∙ opened.coords;
-        few_members = few_members;
-        few_coordinators = few_coords;
-        member = λ p m is. opened.member p m (subst (λ ms. slice_get ms p ≡ Some m) members is);
-        coord = λ p c is. opened.coord p c (subst (λ cs. slice_get cs p ≡ Some c) coords is);
+        cluster = record {
+          kinds = ap length members ∙ opened.members;
+          coordinators = ap length coords ∙ opened.coords;
+          few_members = few_members;
+          few_coordinators = few_coords;
+          member = λ p m is. opened.member p m (subst (λ ms. slice_get ms p ≡ Some m) members is);
+          coord = λ p c is. opened.coord p c (subst (λ cs. slice_get cs p ≡ Some c) coords is);
+        };
         sessions = ap (λ (x : Clients). x.sessions) sessions;
         used = λ t. ap (λ (x : Clients). has_number x.used t) sessions ∙ ap (λ ts. has_number ts t) opened.used ∙ has_keys used t;
         counted = record {

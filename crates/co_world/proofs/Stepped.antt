@@ -14,7 +14,7 @@ use Rattle.co_plain.specs.Step.{step_line, disarmed}
 use Rattle.co_session.specs.Clients.{Clients}
 use Rattle.co_state.specs.declared.engine_state.EngineState.{EngineState}
 use Rattle.co_world.specs.Counting.{MeetsLimit}
-use Rattle.co_world.specs.Left.{AreLeftBy}
+use Rattle.co_cluster.specs.Left.{AreLeftBy}
 use Rattle.co_world.specs.Standing.{RepresentsWorld}
 use Rattle.co_world.specs.declared.world.World.{World}
 

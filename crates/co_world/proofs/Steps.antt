@@ -8,7 +8,7 @@ use Rattle.co_plain.specs.declared.coord_step.CoordStep.{CoordStep as PlainCoord
 use Rattle.co_plain.specs.declared.member_step.MemberStep.{MemberStep as PlainMemberStep}
 use Rattle.co_coord.specs.declared.step.CoordStep.{CoordStep}
 use Rattle.co_member.specs.declared.step.MemberStep.{MemberStep}
-use Rattle.co_world.specs.Telling.{IsTold, IsToldBy}
+use Rattle.co_cluster.specs.Telling.{IsTold, IsToldBy}
 
 -- by whether the node is up
 pub member_is_down : (s : Federation) (m : ℕ) (up : Bool) (did : PlainMemberStep) → up ≡ false → answers s (answer.Down (node.Member m)) ≡ up_member s m up did

@@ -13,7 +13,7 @@ use Rattle.co_plain.specs.declared.coord_step.CoordStep.{CoordStep as PlainCoord
 use Rattle.co_plain.specs.declared.member_step.MemberStep.{MemberStep as PlainMemberStep}
 use Rattle.co_state.specs.declared.engine_state.EngineState.{EngineState}
 use Rattle.co_world.specs.Standing.{RepresentsWorld}
-use Rattle.co_world.specs.Telling.{IsTold, IsToldBy}
+use Rattle.co_cluster.specs.Telling.{IsTold, IsToldBy}
 use Rattle.co_world.specs.declared.world.World.{World}
 use Rattle.co_world.proofs.Ends.{all_ok}
 

@@ -1,10 +1,4 @@
 pub mod Calls
-pub mod Served
 pub mod Standing
-pub mod Conditions
-pub mod Telling
 pub mod Attached
 pub mod Counting
-pub mod Left
-pub mod Readings
-pub mod Listed

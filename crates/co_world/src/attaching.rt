@@ -11,6 +11,7 @@ ghost use Rattle.co_world.specs.Standing.{AreHeld};
 use crate::telling::items_of;
 use crate::world::World;
 use co_base::Head;
+use co_cluster::Cluster;
 use co_durable::WorldFault;
 use co_engine::Engine;
 use co_message::{Answer, Items, Wire};
@@ -36,7 +37,7 @@ impl<E: Engine + Drop> World<E> {
         ensures opened { IfOk result (λ r. IsAttachedOver E.takes E.stands_for (H.seen home.old).file head.now resume r.0 r.1) }
         ensures held { IfOk result (λ r. AreHeld (H.seen home.new) r.0) }
         ensures clean { IfOk result (λ r. (s : Spot) → IsClean (H.seen home.old) s → IsClean (H.seen home.new) s) }
-        ensures head { IfOk result (λ r. (length r.0.members.items ≡ length head.now.kinds) × (length r.0.coords.items ≡ head.now.coords)) }
+        ensures head { IfOk result (λ r. (length r.0.cluster.members.items ≡ length head.now.kinds) × (length r.0.cluster.coords.items ≡ head.now.coords)) }
         ensures refused { IfErr result (IsUnopened (H.seen home.old).file head.now resume) }
         ensures exact { AreTold (H.seen home.old).file (length head.now.kinds) head.now.coords → IsExact (H.seen home.old).file head.now resume result }
         ensures untouched { IfErr result (λ fault. IsOfFound fault → (s : Spot) → (H.seen home.new).file s ≡ (H.seen home.old).file s) }
@@ -54,8 +55,7 @@ impl<E: Engine + Drop> World<E> {
         let sessions = Sessions::attach(alloc, used)?;
         let world = World {
             alloc,
-            members,
-            coords,
+            cluster: Cluster::new(alloc, members, coords),
             sessions,
             wire: Wire::new(alloc),
         };

@@ -15,17 +15,17 @@ ghost use Rattle.co_plain.specs.declared.session.Session.{Session};
 ghost use Rattle.co_session.specs.Clients.{is_used, is_full, carried_in};
 ghost use Rattle.co_session.specs.Leaves.{refusal_of};
 ghost use Rattle.co_state.specs.Table.{look, holds};
-ghost use Rattle.co_world.specs.Calls.{coord_asked, coord_does, member_asked, member_does, ended};
-ghost use Rattle.co_world.specs.Conditions.{IsReady};
+ghost use Rattle.co_world.specs.Calls.{coord_asked, member_asked, ended};
+ghost use Rattle.co_cluster.specs.Calls.{coord_does, member_does};
+ghost use Rattle.co_cluster.specs.Conditions.{IsReady};
 ghost use Rattle.co_world.specs.Counting.{IsOneMore};
-ghost use Rattle.co_world.specs.Left.{AreLeftBy, member_disarmed, coord_disarmed};
-ghost use Rattle.co_world.specs.Served.{AreServed, HasEndedAs, IsOfNoFile};
-ghost use Rattle.co_world.specs.Standing.{RepresentsWorld, AreHeld};
+ghost use Rattle.co_cluster.specs.Left.{AreLeftBy, member_disarmed, coord_disarmed};
+ghost use Rattle.co_world.specs.Standing.{AreServed, RepresentsWorld, AreHeld};
+ghost use Rattle.co_cluster.specs.Served.{HasEndedAs, IsOfNoFile};
 
-use crate::calls::{CoordCall, MemberCall};
-use crate::faults::of_node;
 use crate::world::World;
 use co_base::{Node, Op, Parts, Reply, Rows, Txn, copy_rows};
+use co_cluster::{CoordCall, MemberCall};
 use co_durable::WorldFault;
 use co_engine::Engine;
 use co_message::{Answer, Items};
@@ -126,7 +126,7 @@ impl<E: Engine + Drop> World<E> {
         t: Txn,
         coord: u8,
     ) -> Result<Items, WorldFault>
-        requires in_head { (1 ≤ coord) × (coord ≤ length self.old.coords.items) }
+        requires in_head { (1 ≤ coord) × (coord ≤ length self.old.cluster.coords.items) }
         requires held { AreHeld (H.seen home.old) self.old }
         requires stands { (s : Federation) × RepresentsWorld E.takes E.stands_for self.old s }
         ensures count { IsErrOf result WorldFault.Count ↔ IsOneMore self.old.sessions t }
@@ -156,7 +156,7 @@ impl<E: Engine + Drop> World<E> {
         t: Txn,
         member: u8,
     ) -> Result<Items, WorldFault>
-        requires in_head { (1 ≤ member) × (member ≤ length self.old.members.items) }
+        requires in_head { (1 ≤ member) × (member ≤ length self.old.cluster.members.items) }
         ensures count { IsErrOf result WorldFault.Count ↔ IsOneMore self.old.sessions t }
         ensures items { (s : Federation) → RepresentsWorld E.takes E.stands_for self.old s → IfOk result (λ items. items ≡ numbered number (step_line s (event.Local t member)).items) }
         ensures stands { (s : Federation) → RepresentsWorld E.takes E.stands_for self.old s → OnOk result (RepresentsWorld E.takes E.stands_for self.new (step_line s (event.Local t member)).state) }
@@ -181,7 +181,7 @@ impl<E: Engine + Drop> World<E> {
         member: u8,
         op: Op,
     ) -> Result<Items, WorldFault>
-        requires in_head { (1 ≤ member) × (member ≤ length self.old.members.items) }
+        requires in_head { (1 ≤ member) × (member ≤ length self.old.cluster.members.items) }
         requires stands { (s : Federation) × RepresentsWorld E.takes E.stands_for self.old s × IsReady s }
         ensures items { (s : Federation) → RepresentsWorld E.takes E.stands_for self.old s → IsReady s → IfOk result (λ items. items ≡ numbered number (operate s t member op).items) }
         ensures stands { (s : Federation) → RepresentsWorld E.takes E.stands_for self.old s → IsReady s → OnOk result (RepresentsWorld E.takes E.stands_for self.new (operate s t member op).state) }
@@ -196,7 +196,7 @@ impl<E: Engine + Drop> World<E> {
 
     /// An operation of a transaction whose client may act: a reply is entered in its session.
     fn operated(&mut self, number: u32, t: Txn, member: u8, op: Op) -> Result<Items, WorldFault>
-        requires in_head { (1 ≤ member) × (member ≤ length self.old.members.items) }
+        requires in_head { (1 ≤ member) × (member ≤ length self.old.cluster.members.items) }
         requires stands { (s : Federation) × RepresentsWorld E.takes E.stands_for self.old s × IsReady s × ((session : Session) × (leave_to_visit (look s.sessions t) member ≡ Grants session)) }
         ensures items { (s : Federation) → RepresentsWorld E.takes E.stands_for self.old s → IsReady s → (session : Session) → leave_to_visit (look s.sessions t) member ≡ Grants session → IfOk result (λ items. items ≡ numbered number (operate s t member op).items) }
         ensures stands { (s : Federation) → RepresentsWorld E.takes E.stands_for self.old s → IsReady s → (session : Session) → leave_to_visit (look s.sessions t) member ≡ Grants session → OnOk result (RepresentsWorld E.takes E.stands_for self.new (operate s t member op).state) }
@@ -213,7 +213,7 @@ impl<E: Engine + Drop> World<E> {
 
     /// An operation of a transaction whose client may act, at a member that is up.
     fn op_at(&mut self, t: Txn, member: u8, op: &Op) -> Result<Answer, WorldFault>
-        requires in_head { (1 ≤ member) × (member ≤ length self.old.members.items) }
+        requires in_head { (1 ≤ member) × (member ≤ length self.old.cluster.members.items) }
         requires stands { (s : Federation) × (session : Session) × RepresentsWorld E.takes E.stands_for self.old s × IsReady s × ((s.member member).up ≡ true) × (leave_to_visit (look s.sessions t) member ≡ Grants session) }
         ensures memory { IfErr result (λ fault. fault ≡ world.Memory) }
         ensures answer { (s : Federation) → RepresentsWorld E.takes E.stands_for self.old s → IsReady s → (session : Session) → leave_to_visit (look s.sessions t) member ≡ Grants session →
@@ -224,10 +224,7 @@ impl<E: Engine + Drop> World<E> {
         ensures held { (home : HomeView) → AreHeld home self.old → AreHeld home self.new }
     {
         let carried = self.sessions.carried(t, member);
-        match self.members[usize::from(member) - 1].op(t, carried, op) {
-            Ok(answer) => Ok(answer),
-            Err(fault) => Err(of_node(fault)),
-        }
+        self.cluster.op(member, t, carried, op)
     }
 
     /// A reply is entered in the session of its transaction.
@@ -293,7 +290,7 @@ impl<E: Engine + Drop> World<E> {
         coord: u8,
         ending: Ending,
     ) -> Result<Items, WorldFault>
-        requires in_head { (1 ≤ coord) × (coord ≤ length self.old.coords.items) }
+        requires in_head { (1 ≤ coord) × (coord ≤ length self.old.cluster.coords.items) }
         requires held { AreHeld (H.seen home.old) self.old }
         requires stands { (s : Federation) × (session : Session) × RepresentsWorld E.takes E.stands_for self.old s × (look s.sessions t ≡ Some session) }
         ensures count { IsErrOf result WorldFault.Count → ⊥ }
@@ -325,7 +322,7 @@ impl<E: Engine + Drop> World<E> {
         member: u8,
         ending: Ending,
     ) -> Result<Items, WorldFault>
-        requires in_head { (1 ≤ member) × (member ≤ length self.old.members.items) }
+        requires in_head { (1 ≤ member) × (member ≤ length self.old.cluster.members.items) }
         requires held { AreHeld (H.seen home.old) self.old }
         requires stands { (s : Federation) × (session : Session) × RepresentsWorld E.takes E.stands_for self.old s × IsReady s × (look s.sessions t ≡ Some session) × (session.asked ≡ false) }
         ensures count { IsErrOf result WorldFault.Count → ⊥ }

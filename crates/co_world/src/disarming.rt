@@ -1,7 +1,6 @@
 //! Armed stops are taken away.
-ghost use Rattle.std.specs.Prelude.{◌≡◌, ℕ, Option, length};
-ghost use Rattle.co_outside.specs.Home.{HomeView, File};
-ghost use Rattle.co_outside.specs.declared.spot.Spot.{Spot};
+ghost use Rattle.std.specs.Prelude.{◌≡◌, length};
+ghost use Rattle.co_outside.specs.Home.{HomeView};
 ghost use Rattle.co_plain.specs.Federation.{Federation};
 ghost use Rattle.co_plain.specs.Step.{disarmed};
 ghost use Rattle.co_world.specs.Standing.{RepresentsWorld, AreHeld};
@@ -14,13 +13,8 @@ impl<E: Engine + Drop> World<E> {
     pub fn disarm(&mut self)
         ensures stands { (s : Federation) → RepresentsWorld E.takes E.stands_for self.old s → RepresentsWorld E.takes E.stands_for self.new (disarmed s) }
         ensures held { (home : HomeView) → AreHeld home self.old → AreHeld home self.new }
-        ensures head { (length self.new.members.items ≡ length self.old.members.items) × (length self.new.coords.items ≡ length self.old.coords.items) }
+        ensures head { (length self.new.cluster.members.items ≡ length self.old.cluster.members.items) × (length self.new.cluster.coords.items ≡ length self.old.cluster.coords.items) }
     {
-        for place in 0..self.members.len() {
-            self.members[place].disarm();
-        }
-        for place in 0..self.coords.len() {
-            self.coords[place].disarm();
-        }
+        self.cluster.disarm();
     }
 }

@@ -5,14 +5,14 @@ ghost use Rattle.co_outside.specs.declared.spot.Spot.{Spot};
 ghost use Rattle.co_plain.specs.Federation.{Federation, noted, items_of, message_list};
 ghost use Rattle.co_plain.specs.Runs.{numbered};
 ghost use Rattle.co_plain.specs.Step.{member_step, coord_step, disarmed};
-ghost use Rattle.co_world.specs.Calls.{member_does, coord_does, MemberMay, CoordMay};
-ghost use Rattle.co_world.specs.Left.{AreLeftBy};
-ghost use Rattle.co_world.specs.Served.{AreServed, HasEndedAs};
-ghost use Rattle.co_world.specs.Standing.{RepresentsWorld, AreHeld};
+ghost use Rattle.co_cluster.specs.Calls.{member_does, coord_does, MemberMay, CoordMay};
+ghost use Rattle.co_cluster.specs.Left.{AreLeftBy};
+ghost use Rattle.co_world.specs.Standing.{AreServed, RepresentsWorld, AreHeld};
+ghost use Rattle.co_cluster.specs.Served.{HasEndedAs};
 
-use crate::calls::{CoordCall, MemberCall};
 use crate::world::World;
 use co_base::Node;
+use co_cluster::{CoordCall, MemberCall};
 use co_coord::CoordStep;
 use co_durable::WorldFault;
 use co_engine::Engine;
@@ -81,7 +81,7 @@ impl<E: Engine + Drop> World<E> {
         member: u8,
         call: MemberCall,
     ) -> Result<Items, WorldFault>
-        requires in_head { (1 ≤ member) × (member ≤ length self.old.members.items) }
+        requires in_head { (1 ≤ member) × (member ≤ length self.old.cluster.members.items) }
         requires held { AreHeld (H.seen home.old) self.old }
         requires stands { (s : Federation) × RepresentsWorld E.takes E.stands_for self.old s × ((s.member member).up ≡ true → MemberMay s.coordinators call (s.member member)) }
         ensures count { IsErrOf result WorldFault.Count → ⊥ }
@@ -108,7 +108,7 @@ impl<E: Engine + Drop> World<E> {
         coord: u8,
         call: CoordCall,
     ) -> Result<Items, WorldFault>
-        requires in_head { (1 ≤ coord) × (coord ≤ length self.old.coords.items) }
+        requires in_head { (1 ≤ coord) × (coord ≤ length self.old.cluster.coords.items) }
         requires held { AreHeld (H.seen home.old) self.old }
         requires stands { (s : Federation) × RepresentsWorld E.takes E.stands_for self.old s × ((s.coord coord).up ≡ true → CoordMay (length s.kinds) coord call (s.coord coord)) }
         ensures count { IsErrOf result WorldFault.Count → ⊥ }

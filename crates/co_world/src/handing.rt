@@ -6,14 +6,14 @@ ghost use Rattle.co_plain.specs.Runs.{numbered};
 ghost use Rattle.co_plain.specs.Step.{disarmed, step};
 ghost use Rattle.co_plain.specs.declared.happening.Happening.TheVariants as happening;
 ghost use Rattle.co_state.specs.Table.{holds};
-ghost use Rattle.co_world.specs.Conditions.{IsReady};
-ghost use Rattle.co_world.specs.Left.{AreLeftBy};
-ghost use Rattle.co_world.specs.Served.{AreServed, HasEndedAs};
-ghost use Rattle.co_world.specs.Standing.{RepresentsWorld, AreHeld};
+ghost use Rattle.co_cluster.specs.Conditions.{IsReady};
+ghost use Rattle.co_cluster.specs.Left.{AreLeftBy};
+ghost use Rattle.co_world.specs.Standing.{AreServed, RepresentsWorld, AreHeld};
+ghost use Rattle.co_cluster.specs.Served.{HasEndedAs};
 
-use crate::calls::MemberCall;
 use crate::world::World;
 use co_base::Txn;
+use co_cluster::MemberCall;
 use co_durable::WorldFault;
 use co_engine::Engine;
 use co_message::{Items, Message};
@@ -22,11 +22,11 @@ use co_outside::Home;
 impl<E: Engine + Drop> World<E> {
     /// The coordinator that asked for the vote of a transaction, which the member has voted.
     fn asker_of(&self, member: u8, t: Txn) -> u8
-        requires in_head { (1 ≤ member) × (member ≤ length self.now.members.items) }
+        requires in_head { (1 ≤ member) × (member ≤ length self.now.cluster.members.items) }
         requires voted { (s : Federation) × RepresentsWorld E.takes E.stands_for self.now s × ((s.member member).up ≡ true) × (holds (s.member member).engine.voted t ≡ true) }
         ensures { (s : Federation) → RepresentsWorld E.takes E.stands_for self.now s → result ≡ coord_of (s.member member) t }
     {
-        match self.member_at(member).coord_of(t) {
+        match self.cluster.member_at(member).coord_of(t) {
             Some(coord) => coord,
             None => unreachable!(),
         }
@@ -45,7 +45,7 @@ impl<E: Engine + Drop> World<E> {
         t: Txn,
         commit: bool,
     ) -> Result<Items, WorldFault>
-        requires in_head { (1 ≤ member) × (member ≤ length self.old.members.items) }
+        requires in_head { (1 ≤ member) × (member ≤ length self.old.cluster.members.items) }
         requires held { AreHeld (H.seen home.old) self.old }
         requires voted { (s : Federation) × RepresentsWorld E.takes E.stands_for self.old s × ((s.member member).up ≡ true) × (holds (s.member member).engine.voted t ≡ true) }
         ensures count { IsErrOf result WorldFault.Count → ⊥ }

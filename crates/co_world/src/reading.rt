@@ -1,70 +1,34 @@
-//! What a federation tells of its nodes.
-ghost use Rattle.std.specs.Prelude.{◌≡◌, ◌≤◌, ◌-◌, true, length, reverse, MatchOption};
-ghost use Rattle.co_opening.specs.Nodes.{IsMemberAt, IsCoordAt};
+//! What a federation tells of its nodes and of its clients.
+ghost use Rattle.std.specs.Prelude.{◌≡◌, ◌≤◌, ℕ, true, false, length, reverse, MatchOption, IsTrue, ◌↔◌};
+ghost use Rattle.co_base.specs.declared.node.Node.{Node as PlainNode};
 ghost use Rattle.co_member.specs.Reading.{phase_of};
 ghost use Rattle.co_plain.specs.Federation.{Federation};
 ghost use Rattle.co_plain.specs.MemberStep.{standing_of};
+ghost use Rattle.co_plain.specs.Quiet.{node_up, IsBusy, IsEnabled, IsNode, IsQuiet};
+ghost use Rattle.co_plain.specs.Quiet as plain;
+ghost use Rattle.co_plain.specs.Settling.{IsFirstDown, IsFirstExchange, IsFirstTimer, exchange_txn, timer_ends};
+ghost use Rattle.co_schedule.specs.View.{IsNode as IsNodeOf};
 ghost use Rattle.co_session.specs.Clients.{carried_of, decider_of, told_of};
 ghost use Rattle.std.specs.FinMap.{keys};
 ghost use Rattle.co_state.specs.Table.{look};
-ghost use Rattle.co_plain.specs.Quiet.{node_up};
-ghost use Rattle.co_plain.specs.Settling.{IsFirstDown};
-ghost use Rattle.co_schedule.specs.View.{IsNode};
-ghost use Rattle.co_world.specs.Readings.{AllUp};
-ghost use Rattle.co_world.specs.Standing.{RepresentsWorld};
+ghost use Rattle.co_cluster.specs.Conditions.{IsReady};
+ghost use Rattle.co_cluster.specs.Readings.{AllUp, exchange_of, IsFirstOf};
+ghost use Rattle.co_world.specs.Standing.{RepresentsWorld, StandsUp};
 
 use crate::world::World;
 use co_base::{Node, Txn};
-use co_coord::Coord;
+use co_cluster::{Due, Exchange};
 use co_engine::Engine;
-use co_member::Member;
 use co_plain::Told;
 use co_vote::Phase;
 
 impl<E: Engine + Drop> World<E> {
-    /// How many members there are.
-    pub(crate) fn member_count(&self) -> u8
-        requires stands { (s : Federation) × RepresentsWorld E.takes E.stands_for self.now s }
-        ensures count { result ≡ length self.now.members.items }
-        ensures few { result ≤ 16 }
-    {
-        self.members.len() as u8
-    }
-
-    /// How many coordinators there are.
-    pub(crate) fn coord_count(&self) -> u8
-        requires stands { (s : Federation) × RepresentsWorld E.takes E.stands_for self.now s }
-        ensures count { result ≡ length self.now.coords.items }
-        ensures few { result ≤ 8 }
-    {
-        self.coords.len() as u8
-    }
-
-    /// The member of this number.
-    pub(crate) fn member_at(&self, member: u8) -> &Member<E>
-        requires { (1 ≤ member) × (member ≤ length self.now.members.items) }
-        ensures { (s : Federation) → RepresentsWorld E.takes E.stands_for self.now s → IsMemberAt E.takes E.stands_for s.coordinators (member - 1) result.now (s.member member) }
-    {
-        &self.members[usize::from(member) - 1]
-    }
-
-    /// The coordinator of this number.
-    pub(crate) fn coord_at(&self, coord: u8) -> &Coord
-        requires { (1 ≤ coord) × (coord ≤ length self.now.coords.items) }
-        ensures { (s : Federation) → RepresentsWorld E.takes E.stands_for self.now s → IsCoordAt (length s.kinds) (coord - 1) result.now (s.coord coord) }
-    {
-        &self.coords[usize::from(coord) - 1]
-    }
-
     /// Whether a node of the head is up. Takes no memory.
     pub fn up(&self, node: Node) -> bool
-        requires in_head { IsNode (length self.now.members.items) (length self.now.coords.items) node }
+        requires in_head { IsNodeOf (length self.now.cluster.members.items) (length self.now.cluster.coords.items) node }
         ensures { (s : Federation) → RepresentsWorld E.takes E.stands_for self.now s → result ≡ node_up s node }
     {
-        match node {
-            Node::Member(member) => self.member_up(member),
-            Node::Coord(coord) => self.coord_up(coord),
-        }
+        self.cluster.up(node)
     }
 
     /// The first node that is down: members before coordinators, each by its number; none where all are up. Takes no memory.
@@ -72,26 +36,64 @@ impl<E: Engine + Drop> World<E> {
         requires stands { (s : Federation) × RepresentsWorld E.takes E.stands_for self.now s }
         ensures { (s : Federation) → RepresentsWorld E.takes E.stands_for self.now s → MatchOption result (AllUp s) (IsFirstDown s) }
     {
-        for member in 1..self.member_count() + 1 {
-            if !self.member_up(member) {
-                return Some(Node::Member(member));
-            }
-        }
-        for coord in 1..self.coord_count() + 1 {
-            if !self.coord_up(coord) {
-                return Some(Node::Coord(coord));
-            }
-        }
-        None
+        self.cluster.first_down()
     }
 
     /// Where a transaction stands at a member that is up. Takes no memory.
     pub fn knows(&self, member: u8, t: Txn) -> Phase
-        requires in_head { (1 ≤ member) × (member ≤ length self.now.members.items) }
+        requires in_head { (1 ≤ member) × (member ≤ length self.now.cluster.members.items) }
         requires up { (s : Federation) × RepresentsWorld E.takes E.stands_for self.now s × ((s.member member).up ≡ true) }
         ensures { (s : Federation) → RepresentsWorld E.takes E.stands_for self.now s → result ≡ phase_of (standing_of (s.member member) t) }
     {
-        self.member_at(member).knows(t)
+        self.cluster.knows(member, t)
+    }
+
+    /// Whether a transaction is busy, where no node is down: collecting or committed at a coordinator, voted at a member, or asked for its vote
+    /// there. An exchange can help no other one. Takes no memory.
+    pub fn is_busy(&self, t: Txn) -> bool
+        requires stands { StandsUp E.takes E.stands_for self.now }
+        ensures { (s : Federation) → RepresentsWorld E.takes E.stands_for self.now s → IsTrue result ↔ IsBusy s t }
+    {
+        self.cluster.is_busy(t)
+    }
+
+    /// The timer of the least transaction that a timer ends, where no node is down: at its coordinator where it is idle, else at the least
+    /// member where it is active; none where no open transaction is idle or active. Takes no memory.
+    pub fn first_timer(&self) -> Option<Due>
+        requires stands { StandsUp E.takes E.stands_for self.now }
+        ensures { (s : Federation) → RepresentsWorld E.takes E.stands_for self.now s →
+            MatchOption result ((t : ℕ) (at : PlainNode) → IsNode s at → timer_ends s t at ≡ false) (λ due. IsFirstTimer s due.txn due.node) }
+    {
+        self.cluster.first_timer()
+    }
+
+    /// The first exchange that can help one transaction, where no node is down: by its kind, and then by its member; none where none can help
+    /// it. Takes no memory.
+    pub fn exchange_with(&self, t: Txn) -> Option<Exchange>
+        requires stands { StandsUp E.takes E.stands_for self.now }
+        ensures { (s : Federation) → RepresentsWorld E.takes E.stands_for self.now s → IsReady s →
+            MatchOption result ((e : plain.Exchange) → exchange_txn e ≡ t → IsEnabled s e → ⊥)
+            (λ e. (e.txn ≡ t) × IsFirstOf s t (exchange_of e)) }
+    {
+        self.cluster.exchange_with(t)
+    }
+
+    /// The first exchange that can help, where no node is down: by its transaction, then by its kind, and then by its member; none where none
+    /// can help. Takes no memory.
+    pub fn first_exchange(&self) -> Option<Exchange>
+        requires stands { StandsUp E.takes E.stands_for self.now }
+        ensures { (s : Federation) → RepresentsWorld E.takes E.stands_for self.now s → IsReady s →
+            MatchOption result ((e : plain.Exchange) → IsEnabled s e → ⊥) (λ e. IsFirstExchange s (exchange_of e)) }
+    {
+        self.cluster.first_exchange()
+    }
+
+    /// Whether nothing but a timer can help: every node is up, and no exchange can help. Takes no memory.
+    pub fn quiet(&self) -> bool
+        requires stands { (s : Federation) × RepresentsWorld E.takes E.stands_for self.now s × IsReady s }
+        ensures { (s : Federation) → RepresentsWorld E.takes E.stands_for self.now s → IsReady s → IsTrue result ↔ IsQuiet s }
+    {
+        self.cluster.quiet()
     }
 
     /// How many operations of a transaction were answered at a member in this run; none where it was not begun in it. Takes no memory.

@@ -8,16 +8,16 @@ ghost use Rattle.co_plain.specs.Runs.{numbered};
 ghost use Rattle.co_plain.specs.Step.{operate, deliver, timer_at, crash_at, restart_at, arm_at, checkpoint_at, disarmed, step_line};
 ghost use Rattle.co_schedule.specs.View.{IsEventFor, IsMessageFor, IsNode};
 ghost use Rattle.co_world.specs.Calls.{receiver};
-ghost use Rattle.co_world.specs.Conditions.{IsReady};
+ghost use Rattle.co_cluster.specs.Conditions.{IsReady};
 ghost use Rattle.co_world.specs.Counting.{MeetsLimit, MeetsPlainLimit};
-ghost use Rattle.co_world.specs.Left.{AreLeftBy};
-ghost use Rattle.co_world.specs.Served.{AreServed, HasEndedAs};
-ghost use Rattle.co_world.specs.Standing.{RepresentsWorld, AreHeld};
+ghost use Rattle.co_cluster.specs.Left.{AreLeftBy};
+ghost use Rattle.co_world.specs.Standing.{AreServed, RepresentsWorld, AreHeld};
+ghost use Rattle.co_cluster.specs.Served.{HasEndedAs};
 
-use crate::calls::{CoordCall, MemberCall};
 use crate::clients::Ending;
 use crate::world::World;
 use co_base::{Key, Leaves, Node, Op, Range, Txn, Value, copy_bytes};
+use co_cluster::{CoordCall, MemberCall};
 use co_durable::WorldFault;
 use co_engine::Engine;
 use co_message::{Answer, Event, Items, Message};
@@ -50,7 +50,7 @@ fn receiver(message: &Message) -> Node
 impl<E: Engine + Drop> World<E> {
     /// A client reads a record.
     fn reads(&mut self, number: u32, t: Txn, member: u8, key: &Key) -> Result<Items, WorldFault>
-        requires in_head { (1 ≤ member) × (member ≤ length self.old.members.items) }
+        requires in_head { (1 ≤ member) × (member ≤ length self.old.cluster.members.items) }
         requires stands { (s : Federation) × RepresentsWorld E.takes E.stands_for self.old s × IsReady s }
         ensures items { (s : Federation) → RepresentsWorld E.takes E.stands_for self.old s → IsReady s → IfOk result (λ items. items ≡ numbered number (operate s t member (op.Read key.now)).items) }
         ensures stands { (s : Federation) → RepresentsWorld E.takes E.stands_for self.old s → IsReady s → OnOk result (RepresentsWorld E.takes E.stands_for self.new (operate s t member (op.Read key.now)).state) }
@@ -69,7 +69,7 @@ impl<E: Engine + Drop> World<E> {
         key: &Key,
         value: &Value,
     ) -> Result<Items, WorldFault>
-        requires in_head { (1 ≤ member) × (member ≤ length self.old.members.items) }
+        requires in_head { (1 ≤ member) × (member ≤ length self.old.cluster.members.items) }
         requires stands { (s : Federation) × RepresentsWorld E.takes E.stands_for self.old s × IsReady s }
         ensures items { (s : Federation) → RepresentsWorld E.takes E.stands_for self.old s → IsReady s → IfOk result (λ items. items ≡ numbered number (operate s t member (op.Write key.now value.now)).items) }
         ensures stands { (s : Federation) → RepresentsWorld E.takes E.stands_for self.old s → IsReady s → OnOk result (RepresentsWorld E.takes E.stands_for self.new (operate s t member (op.Write key.now value.now)).state) }
@@ -81,7 +81,7 @@ impl<E: Engine + Drop> World<E> {
 
     /// A client takes a record away.
     fn erases(&mut self, number: u32, t: Txn, member: u8, key: &Key) -> Result<Items, WorldFault>
-        requires in_head { (1 ≤ member) × (member ≤ length self.old.members.items) }
+        requires in_head { (1 ≤ member) × (member ≤ length self.old.cluster.members.items) }
         requires stands { (s : Federation) × RepresentsWorld E.takes E.stands_for self.old s × IsReady s }
         ensures items { (s : Federation) → RepresentsWorld E.takes E.stands_for self.old s → IsReady s → IfOk result (λ items. items ≡ numbered number (operate s t member (op.Erase key.now)).items) }
         ensures stands { (s : Federation) → RepresentsWorld E.takes E.stands_for self.old s → IsReady s → OnOk result (RepresentsWorld E.takes E.stands_for self.new (operate s t member (op.Erase key.now)).state) }
@@ -93,7 +93,7 @@ impl<E: Engine + Drop> World<E> {
 
     /// A client reads the records of a range.
     fn scans(&mut self, number: u32, t: Txn, member: u8, range: &Range) -> Result<Items, WorldFault>
-        requires in_head { (1 ≤ member) × (member ≤ length self.old.members.items) }
+        requires in_head { (1 ≤ member) × (member ≤ length self.old.cluster.members.items) }
         requires stands { (s : Federation) × RepresentsWorld E.takes E.stands_for self.old s × IsReady s }
         ensures items { (s : Federation) → RepresentsWorld E.takes E.stands_for self.old s → IsReady s → IfOk result (λ items. items ≡ numbered number (operate s t member (op.Scan range.now)).items) }
         ensures stands { (s : Federation) → RepresentsWorld E.takes E.stands_for self.old s → IsReady s → OnOk result (RepresentsWorld E.takes E.stands_for self.new (operate s t member (op.Scan range.now)).state) }
@@ -110,7 +110,7 @@ impl<E: Engine + Drop> World<E> {
         number: u32,
         message: Message,
     ) -> Result<Items, WorldFault>
-        requires in_head { IsMessageFor (length self.old.members.items) (length self.old.coords.items) message }
+        requires in_head { IsMessageFor (length self.old.cluster.members.items) (length self.old.cluster.coords.items) message }
         requires held { AreHeld (H.seen home.old) self.old }
         requires stands { (s : Federation) × RepresentsWorld E.takes E.stands_for self.old s × IsReady s }
         ensures count { IsErrOf result WorldFault.Count → ⊥ }
@@ -142,7 +142,7 @@ impl<E: Engine + Drop> World<E> {
         t: Txn,
         node: Node,
     ) -> Result<Items, WorldFault>
-        requires in_head { IsNode (length self.old.members.items) (length self.old.coords.items) node }
+        requires in_head { IsNode (length self.old.cluster.members.items) (length self.old.cluster.coords.items) node }
         requires held { AreHeld (H.seen home.old) self.old }
         requires stands { (s : Federation) × RepresentsWorld E.takes E.stands_for self.old s × IsReady s }
         ensures count { IsErrOf result WorldFault.Count → ⊥ }
@@ -161,7 +161,7 @@ impl<E: Engine + Drop> World<E> {
 
     /// A node stops between two log writes.
     fn crash<H: Home>(&mut self, home: &mut H, number: u32, node: Node) -> Result<Items, WorldFault>
-        requires in_head { IsNode (length self.old.members.items) (length self.old.coords.items) node }
+        requires in_head { IsNode (length self.old.cluster.members.items) (length self.old.cluster.coords.items) node }
         requires held { AreHeld (H.seen home.old) self.old }
         requires stands { (s : Federation) × RepresentsWorld E.takes E.stands_for self.old s × IsReady s }
         ensures count { IsErrOf result WorldFault.Count → ⊥ }
@@ -185,7 +185,7 @@ impl<E: Engine + Drop> World<E> {
         number: u32,
         node: Node,
     ) -> Result<Items, WorldFault>
-        requires in_head { IsNode (length self.old.members.items) (length self.old.coords.items) node }
+        requires in_head { IsNode (length self.old.cluster.members.items) (length self.old.cluster.coords.items) node }
         requires held { AreHeld (H.seen home.old) self.old }
         requires stands { (s : Federation) × RepresentsWorld E.takes E.stands_for self.old s × IsReady s }
         ensures count { IsErrOf result WorldFault.Count → ⊥ }
@@ -217,7 +217,7 @@ impl<E: Engine + Drop> World<E> {
         call: u8,
         leaves: &Leaves,
     ) -> Result<Items, WorldFault>
-        requires in_head { IsNode (length self.old.members.items) (length self.old.coords.items) node }
+        requires in_head { IsNode (length self.old.cluster.members.items) (length self.old.cluster.coords.items) node }
         requires call { (1 ≤ call) × (call ≤ 4) }
         requires held { AreHeld (H.seen home.old) self.old }
         requires stands { (s : Federation) × RepresentsWorld E.takes E.stands_for self.old s × IsReady s }
@@ -247,7 +247,7 @@ impl<E: Engine + Drop> World<E> {
         number: u32,
         node: Node,
     ) -> Result<Items, WorldFault>
-        requires in_head { IsNode (length self.old.members.items) (length self.old.coords.items) node }
+        requires in_head { IsNode (length self.old.cluster.members.items) (length self.old.cluster.coords.items) node }
         requires held { AreHeld (H.seen home.old) self.old }
         requires stands { (s : Federation) × RepresentsWorld E.takes E.stands_for self.old s × IsReady s }
         ensures count { IsErrOf result WorldFault.Count → ⊥ }
@@ -276,7 +276,7 @@ impl<E: Engine + Drop> World<E> {
         number: u32,
         event: &Event,
     ) -> Result<Items, WorldFault>
-        requires event { IsEventFor (length self.old.members.items) (length self.old.coords.items) event.now }
+        requires event { IsEventFor (length self.old.cluster.members.items) (length self.old.cluster.coords.items) event.now }
         requires held { AreHeld (H.seen home.old) self.old }
         requires stands { (s : Federation) × RepresentsWorld E.takes E.stands_for self.old s × IsReady s }
         ensures count { IsErrOf result WorldFault.Count ↔ MeetsLimit self.old.sessions event.now }

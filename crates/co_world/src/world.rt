@@ -1,27 +1,23 @@
 //! The federation, and what one of its nodes does in it.
-ghost use Rattle.std.specs.Prelude.{◌≡◌, ◌≤◌, ℕ, Option, length, IfOk, IfErr, IsErrOf, OnOk};
-ghost use Rattle.co_outside.specs.Home.{HomeView, File};
-ghost use Rattle.co_outside.specs.declared.spot.Spot.{Spot};
+ghost use Rattle.std.specs.Prelude.{◌≡◌, ◌≤◌, length, IfOk, IfErr, IsErrOf, OnOk};
+ghost use Rattle.co_outside.specs.Home.{HomeView};
 ghost use Rattle.co_plain.specs.Federation.{Federation, answers, with_member, with_coord, noted, items_of};
 ghost use Rattle.co_plain.specs.Runs.{numbered};
 ghost use Rattle.co_plain.specs.Step.{disarmed};
 ghost use Rattle.co_plain.specs.Wire.{send_all};
-ghost use Rattle.co_world.specs.Calls.{member_does, coord_does, MemberMay, CoordMay};
-ghost use Rattle.co_world.specs.Left.{AreLeftWith, member_disarmed, coord_disarmed};
-ghost use Rattle.co_world.specs.Served.{AreServed, HasEndedAs};
-ghost use Rattle.co_world.specs.Standing.{RepresentsWorld, AreHeld};
-ghost use Rattle.co_world.specs.Telling.{IsTold, IsToldBy};
+ghost use Rattle.co_cluster.specs.Calls.{member_does, coord_does, MemberMay, CoordMay};
+ghost use Rattle.co_cluster.specs.Left.{AreLeftWith, member_disarmed, coord_disarmed};
+ghost use Rattle.co_cluster.specs.Served.{HasEndedAs};
+ghost use Rattle.co_cluster.specs.Telling.{IsTold, IsToldBy};
+ghost use Rattle.co_world.specs.Standing.{RepresentsWorld, AreHeld, AreServed};
 
-use crate::calls::{CoordCall, MemberCall};
-use crate::coords::coord_does;
-use crate::faults::of_node;
-use crate::members::member_does;
 use crate::telling::items_of;
 use co_base::Mark;
-use co_coord::{Coord, CoordStep};
+use co_cluster::{Cluster, CoordCall, MemberCall};
+use co_coord::CoordStep;
 use co_durable::WorldFault;
 use co_engine::Engine;
-use co_member::{Member, MemberStep};
+use co_member::MemberStep;
 use co_message::{Answer, Items, Message, Wire};
 use co_outside::Home;
 use co_session::Sessions;
@@ -31,10 +27,8 @@ use std::alloc::{AllocError, Global};
 #[derive(Drop)]
 pub struct World<E> {
     pub(crate) alloc: Global,
-    /// The members, from member 1 on.
-    pub(crate) members: Vec<Member<E>>,
-    /// The coordinators, from coordinator 1 on.
-    pub(crate) coords: Vec<Coord>,
+    /// The members and coordinators.
+    pub(crate) cluster: Cluster<E>,
     /// What clients did in this run.
     pub(crate) sessions: Sessions,
     /// The messages that were sent in this run.
@@ -51,18 +45,18 @@ impl<E: Engine + Drop> World<E> {
 
     /// Whether the member of this number is up.
     pub(crate) fn member_up(&self, member: u8) -> bool
-        requires { (1 ≤ member) × (member ≤ length self.now.members.items) }
+        requires { (1 ≤ member) × (member ≤ length self.now.cluster.members.items) }
         ensures { (s : Federation) → RepresentsWorld E.takes E.stands_for self.now s → result ≡ (s.member member).up }
     {
-        self.members[usize::from(member) - 1].up()
+        self.cluster.member_up(member)
     }
 
     /// Whether the coordinator of this number is up.
     pub(crate) fn coord_up(&self, coord: u8) -> bool
-        requires { (1 ≤ coord) × (coord ≤ length self.now.coords.items) }
+        requires { (1 ≤ coord) × (coord ≤ length self.now.cluster.coords.items) }
         ensures { (s : Federation) → RepresentsWorld E.takes E.stands_for self.now s → result ≡ (s.coord coord).up }
     {
-        self.coords[usize::from(coord) - 1].up()
+        self.cluster.coord_up(coord)
     }
 
     /// An answer that changes nothing.
@@ -80,7 +74,7 @@ impl<E: Engine + Drop> World<E> {
         member: u8,
         call: MemberCall,
     ) -> Result<MemberStep, WorldFault>
-        requires in_head { (1 ≤ member) × (member ≤ length self.old.members.items) }
+        requires in_head { (1 ≤ member) × (member ≤ length self.old.cluster.members.items) }
         requires held { AreHeld (H.seen home.old) self.old }
         requires stands { (s : Federation) × RepresentsWorld E.takes E.stands_for self.old s × MemberMay s.coordinators call (s.member member) }
         ensures count { IsErrOf result WorldFault.Count → ⊥ }
@@ -94,10 +88,7 @@ impl<E: Engine + Drop> World<E> {
         ensures ended { IfErr result (λ fault. HasEndedAs fault (H.seen home.old) (H.seen home.new)) }
         ensures entered { (H.seen home.new).entered ≡ (H.seen home.old).entered }
     {
-        match member_does(&mut self.members[usize::from(member) - 1], home, call) {
-            Ok(did) => Ok(did),
-            Err(fault) => Err(of_node(fault)),
-        }
+        self.cluster.member_does(home, member, call)
     }
 
     /// What is asked of the coordinator of this number is done. A fault leaves the stable records of before, or those of the completed write.
@@ -107,7 +98,7 @@ impl<E: Engine + Drop> World<E> {
         coord: u8,
         call: CoordCall,
     ) -> Result<CoordStep, WorldFault>
-        requires in_head { (1 ≤ coord) × (coord ≤ length self.old.coords.items) }
+        requires in_head { (1 ≤ coord) × (coord ≤ length self.old.cluster.coords.items) }
         requires held { AreHeld (H.seen home.old) self.old }
         requires stands { (s : Federation) × RepresentsWorld E.takes E.stands_for self.old s × CoordMay (length s.kinds) coord call (s.coord coord) }
         ensures count { IsErrOf result WorldFault.Count → ⊥ }
@@ -121,10 +112,7 @@ impl<E: Engine + Drop> World<E> {
         ensures ended { IfErr result (λ fault. HasEndedAs fault (H.seen home.old) (H.seen home.new)) }
         ensures entered { (H.seen home.new).entered ≡ (H.seen home.old).entered }
     {
-        match coord_does(&mut self.coords[usize::from(coord) - 1], home, call) {
-            Ok(did) => Ok(did),
-            Err(fault) => Err(of_node(fault)),
-        }
+        self.cluster.coord_does(home, coord, call)
     }
 
     /// Messages are sent.

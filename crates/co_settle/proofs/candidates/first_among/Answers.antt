@@ -3,10 +3,10 @@ use Rattle.co_plain.specs.Quiet.{IsEnabled}
 use Rattle.co_plain.specs.Quiet as plain
 use Rattle.co_plain.specs.Settling.{exchange_txn, IsFirstExchange}
 use Rattle.co_state.specs.Table.{holds}
-use Rattle.co_world.specs.Readings.{exchange_of, IsFirstOf}
-use Rattle.co_world.proofs.Exchanging.{nothing_found, something_found}
-use Rattle.co_world.proofs.NotedSets.{IsNext, noting_rises, tabled_next}
-use Rattle.co_world.proofs.Walks.{room}
+use Rattle.co_cluster.specs.Readings.{exchange_of, IsFirstOf}
+use Rattle.co_cluster.proofs.Exchanging.{nothing_found, something_found}
+use Rattle.co_cluster.proofs.NotedSets.{IsNext, noting_rises, tabled_next}
+use Rattle.co_cluster.proofs.Walks.{room}
 use Rattle.co_settle.proofs.Seeking.{AreAhead, ahead_starts, ahead_goes_on, first_ahead}
 use Rattle.co_settle.proofs.candidates.first_among.Goals as goal
 

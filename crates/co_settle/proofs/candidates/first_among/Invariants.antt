@@ -1,7 +1,7 @@
 use Rattle.co_plain.specs.Federation.{Federation}
-use Rattle.co_world.specs.Conditions.{IsReady}
+use Rattle.co_cluster.specs.Conditions.{IsReady}
 use Rattle.co_world.specs.Standing.{RepresentsWorld}
-use Rattle.co_world.proofs.Walks.{room}
+use Rattle.co_cluster.proofs.Walks.{room}
 use Rattle.co_settle.specs.Busy.{HaveBusy}
 use Rattle.co_settle.proofs.Seeking.{AreAhead}
 use Rattle.co_settle.proofs.candidates.first_among.Given as goal

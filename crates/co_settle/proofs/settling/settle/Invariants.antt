@@ -1,8 +1,7 @@
 use Rattle.std.proofs.Common.{◌≡◌, ◌≤◌}
 use Rattle.co_plain.specs.Federation.{Federation}
 use Rattle.co_plain.specs.Quiet.{open_count}
-use Rattle.co_world.specs.Served.{AreServed}
-use Rattle.co_world.specs.Standing.{RepresentsWorld}
+use Rattle.co_world.specs.Standing.{AreServed, RepresentsWorld}
 use Rattle.co_settle.specs.Reached.{IsReached}
 use Rattle.co_settle.proofs.GoingOn.{IsGoing}
 use Rattle.co_settle.proofs.settling.settle.Given as goal

@@ -2,7 +2,7 @@ use Rattle.std.proofs.Common.{◌∷◌, [], refl}
 use Rattle.co_message.specs.declared.event.Event.TheVariants as event
 use Rattle.co_plain.specs.Settling.{ByRestart, ByExchange, ByTimer}
 use Rattle.co_law_settle.specs.SettlingTurns.{Restarts, Exchanges, Fires}
-use Rattle.co_world.specs.Readings.{exchange_of}
+use Rattle.co_cluster.specs.Readings.{exchange_of}
 use Rattle.co_settle.proofs.Composing.{cut_as}
 use Rattle.co_settle.proofs.Reaching.{ready, is_stuck}
 use Rattle.co_settle.proofs.turns.take_turn.Goals as goal

@@ -1,7 +1,7 @@
 use Rattle.std.proofs.Common.{sym, subst}
 use Rattle.std.specs.List.{Contains}
 use Rattle.co_plain.specs.Settling.{IsFirstDown}
-use Rattle.co_world.specs.Readings.{AllUp}
+use Rattle.co_cluster.specs.Readings.{AllUp}
 use Rattle.co_settle.proofs.Reaching.{ready, all_reached}
 use Rattle.co_settle.proofs.Seeking.{not_found, have_all}
 use Rattle.co_settle.proofs.candidates.Candidates.collect.Goals as goal

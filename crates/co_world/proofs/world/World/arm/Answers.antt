@@ -4,7 +4,8 @@ use Rattle.co_plain.specs.Step.{arm_at, disarmed}
 use Rattle.co_schedule.specs.View.{IsNode}
 use Rattle.co_world.proofs.Ends.{passed_memory, wants_memory, no_limit}
 use Rattle.co_world.proofs.Told.{told_as, stands_as}
-use Rattle.co_world.proofs.Lefts.{held_left, wanting_left}
+use Rattle.co_cluster.proofs.Lefts.{wanting_left}
+use Rattle.co_world.proofs.Nodes.{held_left}
 use Rattle.co_world.proofs.LeftSteps.{left_as}
 use Rattle.co_world.proofs.world.World.arm.Goals as goal
 
@@ -18,7 +19,7 @@ returns-in_err-leaves-clause-ended g c =
 
 pub at_member-requires-clause-in_head : goal.at_member-requires-clause-in_head
 at_member-requires-clause-in_head g c =
-    subst (λ (n : Node). IsNode (length c.args.self.now.members.items) (length c.args.self.now.coords.items) n) c.in-Member.is c.requires.in_head
+    subst (λ (n : Node). IsNode (length c.args.self.now.cluster.members.items) (length c.args.self.now.cluster.coords.items) n) c.in-Member.is c.requires.in_head
 
 pub at_member-requires-clause-stands : goal.at_member-requires-clause-stands
 at_member-requires-clause-stands g c =
@@ -49,7 +50,7 @@ returns-in-Member-clause-ended g c =
 
 pub at_coord-requires-clause-in_head : goal.at_coord-requires-clause-in_head
 at_coord-requires-clause-in_head g c =
-    subst (λ (n : Node). IsNode (length c.args.self.now.members.items) (length c.args.self.now.coords.items) n) c.in-Coord.is c.requires.in_head
+    subst (λ (n : Node). IsNode (length c.args.self.now.cluster.members.items) (length c.args.self.now.cluster.coords.items) n) c.in-Coord.is c.requires.in_head
 
 pub at_coord-requires-clause-stands : goal.at_coord-requires-clause-stands
 at_coord-requires-clause-stands g c =

@@ -4,14 +4,14 @@ use Rattle.co_plain.specs.Federation.{Federation, Stepped, with_member}
 use Rattle.co_plain.specs.Runs.{numbered}
 use Rattle.co_plain.specs.Step.{disarmed, up_member}
 use Rattle.co_state.proofs.Tables.{on_ok}
-use Rattle.co_world.specs.Calls.{member_does}
-use Rattle.co_world.specs.Left.{member_disarmed, AreLeftBy}
-use Rattle.co_world.specs.Served.{AreServed}
-use Rattle.co_world.specs.Standing.{AreHeld, RepresentsWorld}
-use Rattle.co_world.proofs.Lefts.{either_left, held_left, member_step_left, wanting_left, member_step_overlong}
+use Rattle.co_cluster.specs.Calls.{member_does}
+use Rattle.co_cluster.specs.Left.{member_disarmed, AreLeftBy}
+use Rattle.co_world.specs.Standing.{AreServed, AreHeld, RepresentsWorld}
+use Rattle.co_cluster.proofs.Lefts.{either_left, member_step_left, wanting_left, member_step_overlong}
+use Rattle.co_world.proofs.Nodes.{held_left}
 use Rattle.co_world.proofs.Steps.{member_is_down, member_is_up, member_noted}
 use Rattle.co_world.proofs.Ends.{wants_memory}
-use Rattle.co_world.proofs.Ending.{passed_on}
+use Rattle.co_cluster.proofs.Ending.{passed_on}
 use Rattle.co_world.proofs.world.World.at_member.Goals as goal
 
 pub returns-then-not-member_up-clause-items : goal.returns-then-not-member_up-clause-items

@@ -8,7 +8,7 @@ use Rattle.co_plain.specs.Runs.{numbered}
 use Rattle.co_session.specs.Clients.{none_begun}
 use Rattle.co_durable.specs.declared.fault.WorldFault.TheVariants.{Memory}
 use Rattle.co_opening.proofs.OpenedOnce.{refused_exactly, fit_or_refused}
-use Rattle.co_world.proofs.Ending.{passed_on}
+use Rattle.co_cluster.proofs.Ending.{passed_on}
 use Rattle.co_world.proofs.Openings.{attached_over}
 use Rattle.co_world.proofs.world.World.attach.Goals as goal
 
@@ -21,7 +21,7 @@ returns-clause-opened g c =
     let n = c.in_ok-members.field-0 in
     let sessions : c.in_ok-sessions.sessions ≡ none_begun n.used = c.in_ok-sessions.ensures in
     let told : c.in_ok-items.items ≡ numbered 1 (items_of n.marks [] answer.Opened) = c.in_ok-items.ensures ∙ ap (λ (ms : List Mark). numbered 1 (items_of ms [] answer.Opened)) c.as_slice.ensures in
-    attached_over g.E.Engine.takes g.E.Engine.stands_for (g.H.Home.seen c.args.home.now).file c.args.head.now c.args.resume n _ c.in_ok-items.items c.args.head.now.members c.args.head.now.coordinators c.in_ok-members.ensures.opened refl refl sessions c.new.ensures told
+    attached_over g.E.Engine.takes g.E.Engine.stands_for (g.H.Home.seen c.args.home.now).file c.args.head.now c.args.resume n _ c.in_ok-items.items c.args.head.now.members c.args.head.now.coordinators c.in_ok-members.ensures.opened c.new.ensures.members c.new.ensures.coords sessions c.new-2.ensures told
 
 pub returns-in_err-members-clause-exact : goal.returns-in_err-members-clause-exact
 returns-in_err-members-clause-exact g c = λ told.

@@ -8,14 +8,15 @@ use Rattle.co_plain.specs.Federation.{answers, with_session, with_coord, at_coor
 use Rattle.co_plain.specs.Sessions.{begun_by}
 use Rattle.co_plain.specs.Step.{is_used, begin_where, disarmed}
 use Rattle.co_session.specs.Clients.{is_used as is_used_in}
-use Rattle.co_world.specs.Served.{HasEndedAs, IsOfNoFile}
+use Rattle.co_cluster.specs.Served.{HasEndedAs, IsOfNoFile}
 use Rattle.co_world.proofs.Acting.{used_alike, begins, own_coord}
 use Rattle.co_world.proofs.Ends.{errs_as, passed, passed_limit, passed_memory, wants_memory, no_limit, served_alone, served_after, all_ok}
 use Rattle.co_world.proofs.Told.{told_as, stands_as, answered_stands, coord_told, coord_stands}
-use Rattle.co_world.proofs.Lefts.{held_left, wanting_left, unserved_left}
+use Rattle.co_cluster.proofs.Lefts.{wanting_left, unserved_left}
+use Rattle.co_world.proofs.Nodes.{held_left}
 use Rattle.co_world.proofs.LeftSteps.{at_coord_left, begun_left, left_as}
-use Rattle.co_world.specs.Left.{coord_disarmed, AreLeftBy}
-use Rattle.co_world.proofs.Ending.{passed_on}
+use Rattle.co_cluster.specs.Left.{coord_disarmed, AreLeftBy}
+use Rattle.co_cluster.proofs.Ending.{passed_on}
 use Rattle.co_world.proofs.world.World.begin.Goals as goal
 
 -- ---- the number is used, or there are too many

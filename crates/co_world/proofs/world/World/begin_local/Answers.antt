@@ -6,11 +6,11 @@ use Rattle.co_plain.specs.Federation.{answers, with_session}
 use Rattle.co_plain.specs.Sessions.{begun_by}
 use Rattle.co_plain.specs.Step.{is_used, local_where}
 use Rattle.co_session.specs.Clients.{is_used as is_used_in}
-use Rattle.co_world.specs.Served.{IsOfNoFile}
+use Rattle.co_cluster.specs.Served.{IsOfNoFile}
 use Rattle.co_world.proofs.Acting.{used_alike, begins, own_member}
 use Rattle.co_world.proofs.Ends.{errs_as, passed_memory, no_limit, all_ok, of_memory}
 use Rattle.co_world.proofs.Told.{told_as, answered_stands}
-use Rattle.co_world.proofs.Ending.{passed_on}
+use Rattle.co_cluster.proofs.Ending.{passed_on}
 use Rattle.co_world.proofs.world.World.begin_local.Goals as goal
 
 pub returns-in_err-used-clause-count : goal.returns-in_err-used-clause-count

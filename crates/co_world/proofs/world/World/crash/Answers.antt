@@ -5,12 +5,12 @@ use Rattle.co_plain.specs.Runs.{numbered}
 use Rattle.co_plain.specs.Step.{crash_at, disarmed}
 use Rattle.co_schedule.specs.View.{IsNode}
 use Rattle.co_world.specs.Standing.{RepresentsWorld}
-use Rattle.co_world.specs.Left.{AreLeftBy}
+use Rattle.co_cluster.specs.Left.{AreLeftBy}
 use Rattle.co_world.proofs.world.World.crash.Goals as goal
 
 pub at_member-requires-clause-in_head : goal.at_member-requires-clause-in_head
 at_member-requires-clause-in_head g c =
-    subst (λ (n : Node). IsNode (length c.args.self.now.members.items) (length c.args.self.now.coords.items) n) c.in-Member.is c.requires.in_head
+    subst (λ (n : Node). IsNode (length c.args.self.now.cluster.members.items) (length c.args.self.now.cluster.coords.items) n) c.in-Member.is c.requires.in_head
 
 pub at_member-requires-clause-stands : goal.at_member-requires-clause-stands
 at_member-requires-clause-stands g c =
@@ -41,7 +41,7 @@ returns-in-Member-clause-ended g c =
 
 pub at_coord-requires-clause-in_head : goal.at_coord-requires-clause-in_head
 at_coord-requires-clause-in_head g c =
-    subst (λ (n : Node). IsNode (length c.args.self.now.members.items) (length c.args.self.now.coords.items) n) c.in-Coord.is c.requires.in_head
+    subst (λ (n : Node). IsNode (length c.args.self.now.cluster.members.items) (length c.args.self.now.cluster.coords.items) n) c.in-Coord.is c.requires.in_head
 
 pub at_coord-requires-clause-stands : goal.at_coord-requires-clause-stands
 at_coord-requires-clause-stands g c =

@@ -10,22 +10,23 @@ use Rattle.co_plain.specs.Step.{deliver, disarmed}
 use Rattle.co_schedule.specs.View.{IsNode}
 use Rattle.co_world.proofs.Acting.{own_coord, own_member}
 use Rattle.co_world.proofs.Ends.{served_alone, all_ok, wants_memory, no_limit}
-use Rattle.co_world.proofs.Ready.{takes_note, hears_note}
+use Rattle.co_cluster.proofs.Ready.{takes_note, hears_note}
 use Rattle.co_world.proofs.Told.{told_as, stands_as, answered_stands}
-use Rattle.co_world.proofs.Lefts.{held_left, wanting_left}
+use Rattle.co_cluster.proofs.Lefts.{wanting_left}
+use Rattle.co_world.proofs.Nodes.{held_left}
 use Rattle.co_world.proofs.LeftSteps.{left_as}
 use Rattle.co_world.proofs.world.World.deliver.Goals as goal
 
 pub at_member-requires-clause-in_head : goal.at_member-requires-clause-in_head
 at_member-requires-clause-in_head g c =
-    subst (λ (n : Node). IsNode (length c.args.self.now.members.items) (length c.args.self.now.coords.items) n) (sym c.in-Member.ensures) (receiver_in_head (length c.args.self.now.members.items) (length c.args.self.now.coords.items) c.args.message c.requires.in_head)
+    subst (λ (n : Node). IsNode (length c.args.self.now.cluster.members.items) (length c.args.self.now.cluster.coords.items) n) (sym c.in-Member.ensures) (receiver_in_head (length c.args.self.now.cluster.members.items) (length c.args.self.now.cluster.coords.items) c.args.message c.requires.in_head)
 
 pub at_member-requires-clause-stands : goal.at_member-requires-clause-stands
 at_member-requires-clause-stands g c =
     let s = c.requires.stands.0 in
     let r = c.requires.stands.1 in
     let ready = c.requires.stands.2 in
-    let own = own_member g.E.Engine.takes g.E.Engine.stands_for c.args.self.now s r c.in-Member.member (subst (λ (n : Node). IsNode (length c.args.self.now.members.items) (length c.args.self.now.coords.items) n) (sym c.in-Member.ensures) (receiver_in_head (length c.args.self.now.members.items) (length c.args.self.now.coords.items) c.args.message c.requires.in_head)) in
+    let own = own_member g.E.Engine.takes g.E.Engine.stands_for c.args.self.now s r c.in-Member.member (subst (λ (n : Node). IsNode (length c.args.self.now.cluster.members.items) (length c.args.self.now.cluster.coords.items) n) (sym c.in-Member.ensures) (receiver_in_head (length c.args.self.now.cluster.members.items) (length c.args.self.now.cluster.coords.items) c.args.message c.requires.in_head)) in
     let sent : was_sent s.sent c.args.message ≡ true = sym (ap (λ (ms : List Message). was_sent ms c.args.message) r.wire) ∙ c.in-Ok.ensures.ok.0 refl in
     (s, r, λ up. takes_note s ready c.in-Member.member own c.args.message sent up)
 
@@ -53,14 +54,14 @@ returns-in-Member-clause-ended g c =
 
 pub at_coord-requires-clause-in_head : goal.at_coord-requires-clause-in_head
 at_coord-requires-clause-in_head g c =
-    subst (λ (n : Node). IsNode (length c.args.self.now.members.items) (length c.args.self.now.coords.items) n) (sym c.in-Coord.ensures) (receiver_in_head (length c.args.self.now.members.items) (length c.args.self.now.coords.items) c.args.message c.requires.in_head)
+    subst (λ (n : Node). IsNode (length c.args.self.now.cluster.members.items) (length c.args.self.now.cluster.coords.items) n) (sym c.in-Coord.ensures) (receiver_in_head (length c.args.self.now.cluster.members.items) (length c.args.self.now.cluster.coords.items) c.args.message c.requires.in_head)
 
 pub at_coord-requires-clause-stands : goal.at_coord-requires-clause-stands
 at_coord-requires-clause-stands g c =
     let s = c.requires.stands.0 in
     let r = c.requires.stands.1 in
     let ready = c.requires.stands.2 in
-    let own = own_coord g.E.Engine.takes g.E.Engine.stands_for c.args.self.now s r c.in-Coord.coord (subst (λ (n : Node). IsNode (length c.args.self.now.members.items) (length c.args.self.now.coords.items) n) (sym c.in-Coord.ensures) (receiver_in_head (length c.args.self.now.members.items) (length c.args.self.now.coords.items) c.args.message c.requires.in_head)) in
+    let own = own_coord g.E.Engine.takes g.E.Engine.stands_for c.args.self.now s r c.in-Coord.coord (subst (λ (n : Node). IsNode (length c.args.self.now.cluster.members.items) (length c.args.self.now.cluster.coords.items) n) (sym c.in-Coord.ensures) (receiver_in_head (length c.args.self.now.cluster.members.items) (length c.args.self.now.cluster.coords.items) c.args.message c.requires.in_head)) in
     (s, r, λ up. hears_note s ready c.in-Coord.coord own c.args.message up)
 
 pub returns-in-Coord-clause-count : goal.returns-in-Coord-clause-count

@@ -9,7 +9,8 @@ use Rattle.co_world.proofs.Acting.{some_is, granted, refused, leave_alike, end_g
 use Rattle.co_world.proofs.ClientSteps.{ended_refused, ended_by_coord, ended_by_member}
 use Rattle.co_world.proofs.Ends.{served_alone, all_ok, wants_memory, no_limit}
 use Rattle.co_world.proofs.Told.{told_as, stands_as, answered_stands}
-use Rattle.co_world.proofs.Lefts.{held_left, wanting_left}
+use Rattle.co_cluster.proofs.Lefts.{wanting_left}
+use Rattle.co_world.proofs.Nodes.{held_left}
 use Rattle.co_world.proofs.LeftSteps.{left_as}
 use Rattle.co_plain.specs.Step.{disarmed}
 use Rattle.co_world.proofs.world.World.end.Goals as goal

@@ -4,23 +4,24 @@ use Rattle.co_message.specs.declared.answer.Answer.{Answer}
 use Rattle.co_message.specs.declared.answer.Answer.TheVariants as answer
 use Rattle.co_plain.specs.Federation.{answers, with_coord, at_coord}
 use Rattle.co_plain.specs.Sessions.{parts_of}
-use Rattle.co_world.specs.Telling.{IsToldBy}
-use Rattle.co_world.specs.declared.calls.CoordCall.{CoordCall}
+use Rattle.co_cluster.specs.Telling.{IsToldBy}
+use Rattle.co_cluster.specs.declared.calls.CoordCall.{CoordCall}
 use Rattle.co_plain.specs.Step.{is_stopped, marked_asked, coord_answers, disarmed}
 use Rattle.co_plain.specs.declared.session.Session.{Session}
 use Rattle.co_session.specs.Clients.{parts_at}
 use Rattle.co_state.specs.Table.{Table, look}
-use Rattle.co_world.specs.Calls.{coord_asked, coord_does, CoordMay}
+use Rattle.co_world.specs.Calls.{coord_asked}
+use Rattle.co_cluster.specs.Calls.{coord_does, CoordMay}
 use Rattle.co_world.specs.Standing.{RepresentsWorld}
 use Rattle.co_world.proofs.Acting.{begun_here}
-use Rattle.co_world.proofs.ClientSteps.{marked_by_coord}
+use Rattle.co_world.proofs.ClientSteps.{marked_by_coord, ends_at_coord}
 use Rattle.co_world.proofs.Ends.{passed, passed_limit, passed_memory, wants_memory, no_limit, served_alone, served_after, all_ok}
-use Rattle.co_world.proofs.Ready.{ends_at_coord}
 use Rattle.co_world.proofs.Told.{told_as, stands_as, answered_stands, coord_told, coord_stands}
-use Rattle.co_world.proofs.Lefts.{either_left, held_left, wanting_left}
+use Rattle.co_cluster.proofs.Lefts.{either_left, wanting_left}
+use Rattle.co_world.proofs.Nodes.{held_left}
 use Rattle.co_world.proofs.LeftSteps.{coord_answers_left, coord_answers_overlong}
-use Rattle.co_world.specs.Left.{coord_disarmed, AreLeftBy, AreLeftWith}
-use Rattle.co_world.proofs.Ending.{passed_on}
+use Rattle.co_cluster.specs.Left.{coord_disarmed, AreLeftBy, AreLeftWith}
+use Rattle.co_cluster.proofs.Ending.{passed_on}
 use Rattle.co_world.proofs.world.World.end_at_coord.Goals as goal
 
 pub returns-then-not-coord_up-clause-count : goal.returns-then-not-coord_up-clause-count

@@ -4,23 +4,24 @@ use Rattle.co_message.specs.declared.answer.Answer.{Answer}
 use Rattle.co_message.specs.declared.answer.Answer.TheVariants as answer
 use Rattle.co_plain.specs.Federation.{answers, with_member, at_member}
 use Rattle.co_plain.specs.Sessions.{count_at}
-use Rattle.co_world.specs.Telling.{IsTold}
-use Rattle.co_world.specs.declared.calls.MemberCall.{MemberCall}
+use Rattle.co_cluster.specs.Telling.{IsTold}
+use Rattle.co_cluster.specs.declared.calls.MemberCall.{MemberCall}
 use Rattle.co_plain.specs.Step.{is_held, marked_asked, local_answers, disarmed}
 use Rattle.co_plain.specs.declared.session.Session.{Session}
 use Rattle.co_session.specs.Clients.{carried_of}
 use Rattle.co_state.specs.Table.{Table, look}
-use Rattle.co_world.specs.Calls.{member_asked, member_does, MemberMay}
+use Rattle.co_world.specs.Calls.{member_asked}
+use Rattle.co_cluster.specs.Calls.{member_does, MemberMay}
 use Rattle.co_world.specs.Standing.{RepresentsWorld}
 use Rattle.co_world.proofs.Acting.{begun_here, may_end, own_member}
-use Rattle.co_world.proofs.ClientSteps.{marked_by_member}
+use Rattle.co_world.proofs.ClientSteps.{marked_by_member, ends_alone}
 use Rattle.co_world.proofs.Ends.{passed, passed_limit, served_alone, served_after, all_ok, wants_memory, no_limit}
-use Rattle.co_world.proofs.Ready.{ends_alone}
 use Rattle.co_world.proofs.Told.{told_as, stands_as, answered_stands, member_told, member_stands}
-use Rattle.co_world.proofs.Lefts.{either_left, held_left, wanting_left}
+use Rattle.co_cluster.proofs.Lefts.{either_left, wanting_left}
+use Rattle.co_world.proofs.Nodes.{held_left}
 use Rattle.co_world.proofs.LeftSteps.{local_answers_left, local_answers_overlong}
-use Rattle.co_world.specs.Left.{member_disarmed, AreLeftBy, AreLeftWith}
-use Rattle.co_world.proofs.Ending.{passed_on}
+use Rattle.co_cluster.specs.Left.{member_disarmed, AreLeftBy, AreLeftWith}
+use Rattle.co_cluster.proofs.Ending.{passed_on}
 use Rattle.co_world.proofs.world.World.end_at_member.Goals as goal
 
 pub returns-then-not-member_up-clause-count : goal.returns-then-not-member_up-clause-count

@@ -1,5 +1,7 @@
-use Rattle.std.proofs.Common.{◌∙◌, sym}
 use Rattle.co_world.proofs.world.World.knows.Goals as goal
 
-pub knows-requires : goal.knows-requires
-knows-requires g c = let w = c.requires.up in record { up = sym (c.member_at.ensures w.0 w.1).stands.up ∙ w.2 }
+pub knows-requires-clause-up : goal.knows-requires-clause-up
+knows-requires-clause-up g c = let h = c.requires.up in (h.0, h.1.cluster, h.2)
+
+pub returns : goal.returns
+returns g c = λ s r. c.knows.ensures s r.cluster

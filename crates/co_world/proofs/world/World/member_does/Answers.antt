@@ -1,79 +1,28 @@
-use Rattle.std.proofs.Common.{◌≡◌, ◌<◌, ◌-◌, length, suc, refl, sym, subst, arith}
-use Rattle.std.specs.Prelude.{ℕ}
-use Rattle.std.specs.Vec.{with_item}
-use Rattle.co_world.specs.Calls.{MemberMay, member_does}
+use Rattle.co_state.proofs.Tables.{on_ok}
 use Rattle.co_plain.specs.Federation.{with_member}
-use Rattle.co_plain.specs.Step.{disarmed}
-use Rattle.co_world.specs.Left.{AreLeftWith, member_disarmed}
-use Rattle.co_world.proofs.Kept.{kept_by_member}
-use Rattle.co_world.proofs.Lefts.{member_fault}
-use Rattle.co_world.proofs.Places.{at_place}
-use Rattle.co_world.proofs.Worlds.{are_numbered, member_asked, member_did}
+use Rattle.co_cluster.specs.Calls.{member_does}
+use Rattle.co_cluster.specs.Standing.{RepresentsCluster}
+use Rattle.co_world.specs.Standing.{RepresentsWorld}
+use Rattle.co_world.proofs.Nodes.{member_changed}
 use Rattle.co_world.proofs.world.World.member_does.Goals as goal
 
-pub member_does-requires-clause-kept : goal.member_does-requires-clause-kept
-member_does-requires-clause-kept g c =
-    let w = c.args.self.now in
-    let place : c.from.result - 1 < length w.members.items = omega arith in
-    let here = at_place w.members.items (c.from.result - 1) c.index_mut.result.now place c.index_mut.ensures.value in
-    c.requires.held.member (c.from.result - 1) c.index_mut.result.now here
-
-pub member_does-requires-clause-taken : goal.member_does-requires-clause-taken
-member_does-requires-clause-taken g c =
-    let w = c.args.self.now in
-    let place : c.from.result - 1 < length w.members.items = omega arith in
-    let here = at_place w.members.items (c.from.result - 1) c.index_mut.result.now place c.index_mut.ensures.value in
-    (c.requires.stands.1.member (c.from.result - 1) c.index_mut.result.now here).taken
+pub member_does-requires-clause-held : goal.member_does-requires-clause-held
+member_does-requires-clause-held g c = c.requires.held
 
 pub member_does-requires-clause-stands : goal.member_does-requires-clause-stands
-member_does-requires-clause-stands g c =
-    let w = c.args.self.now in
-    let place : c.from.result - 1 < length w.members.items = omega arith in
-    let next : suc (c.from.result - 1) ≡ c.args.member = omega arith in
-    let here = at_place w.members.items (c.from.result - 1) c.index_mut.result.now place c.index_mut.ensures.value in
-    let s = c.requires.stands.0 in
-    let asked = member_asked g.E.Engine.takes g.E.Engine.stands_for w s (c.from.result - 1) c.index_mut.result.now c.args.call c.requires.stands.1 here
-    (subst (λ (k : ℕ). MemberMay s.coordinators c.args.call (s.member k)) (sym next) c.requires.stands.2) in
-    asked.stands
+member_does-requires-clause-stands g c = let h = c.requires.stands in (h.0, h.1.cluster, h.2)
 
-pub returns-in-Ok-clause-told : goal.returns-in-Ok-clause-told
-returns-in-Ok-clause-told g c = λ s r.
-    let w = c.args.self.now in
-    let place : c.from.result - 1 < length w.members.items = omega arith in
-    let next : suc (c.from.result - 1) ≡ c.args.member = omega arith in
-    let here = at_place w.members.items (c.from.result - 1) c.index_mut.result.now place c.index_mut.ensures.value in
-    (member_did g.E.Engine.takes g.E.Engine.stands_for w (record w { members = with_item w.members (c.from.result - 1) c.member_does.new.member }) s c.args.member (c.from.result - 1) c.index_mut.result.now c.member_does.new.member c.args.call c.in-Ok.did next r here refl refl refl refl c.in-Ok.ensures.same c.in-Ok.ensures.did).told
+pub returns-clause-told : goal.returns-clause-told
+returns-clause-told g c = λ s r. c.member_does.ensures.told s r.cluster
 
-pub returns-in-Ok-clause-stands : goal.returns-in-Ok-clause-stands
-returns-in-Ok-clause-stands g c = λ s r.
-    let w = c.args.self.now in
-    let place : c.from.result - 1 < length w.members.items = omega arith in
-    let next : suc (c.from.result - 1) ≡ c.args.member = omega arith in
-    let here = at_place w.members.items (c.from.result - 1) c.index_mut.result.now place c.index_mut.ensures.value in
-    (member_did g.E.Engine.takes g.E.Engine.stands_for w (record w { members = with_item w.members (c.from.result - 1) c.member_does.new.member }) s c.args.member (c.from.result - 1) c.index_mut.result.now c.member_does.new.member c.args.call c.in-Ok.did next r here refl refl refl refl c.in-Ok.ensures.same c.in-Ok.ensures.did).stands
+pub returns-clause-stands : goal.returns-clause-stands
+returns-clause-stands g c = λ s r.
+    let after = with_member s c.args.member (member_does c.args.member c.args.call (s.member c.args.member)).state in
+    on_ok c.member_does.result {A = RepresentsCluster g.E.Engine.takes g.E.Engine.stands_for c.member_does.new.self after} {B = RepresentsWorld g.E.Engine.takes g.E.Engine.stands_for (record c.args.self.now { cluster = c.member_does.new.self }) after}
+    (member_changed g.E.Engine.takes g.E.Engine.stands_for c.args.self.now c.member_does.new.self s c.args.member (member_does c.args.member c.args.call (s.member c.args.member)).state r) (c.member_does.ensures.stands s r.cluster)
 
-pub returns-in-Ok-clause-served : goal.returns-in-Ok-clause-served
-returns-in-Ok-clause-served g c =
-    let w = c.args.self.now in
-    let place : c.from.result - 1 < length w.members.items = omega arith in
-    let next : suc (c.from.result - 1) ≡ c.args.member = omega arith in
-    let here = at_place w.members.items (c.from.result - 1) c.index_mut.result.now place c.index_mut.ensures.value in
-    let s = c.requires.stands.0 in
-    let are = are_numbered g.E.Engine.takes g.E.Engine.stands_for w s c.requires.stands.1 in
-    let old = g.H.Home.seen c.args.home.now in
-    let new = g.H.Home.seen c.member_does.new.home in
-    let served = c.in-Ok.ensures.served in
-    record {
-      kept = kept_by_member w.members.items w.coords.items are old new c.requires.held (c.from.result - 1) c.index_mut.result.now c.member_does.new.member here c.in-Ok.ensures.same.number c.in-Ok.ensures.rest.others served.kept;
-      clean = served.clean;
-      quiet = served.quiet;
-    }
+pub returns-clause-left : goal.returns-clause-left
+returns-clause-left g c = λ s r. c.member_does.ensures.left s r.cluster
 
-pub returns-in-Err-clause-left : goal.returns-in-Err-clause-left
-returns-in-Err-clause-left g c = λ s r.
-    let w = c.args.self.now in
-    let place : c.from.result - 1 < length w.members.items = omega arith in
-    let next : suc (c.from.result - 1) ≡ c.args.member = omega arith in
-    let here = at_place w.members.items (c.from.result - 1) c.index_mut.result.now place c.index_mut.ensures.value in
-    subst (AreLeftWith (g.H.Home.seen c.member_does.new.home).file s (with_member (disarmed s) c.args.member (member_does c.args.member c.args.call (member_disarmed (s.member c.args.member))).state)) (sym c.of_node.ensures)
-    (member_fault g.E.Engine.takes g.E.Engine.stands_for w s r (g.H.Home.seen c.args.home.now) (g.H.Home.seen c.member_does.new.home) c.requires.held c.args.member (c.from.result - 1) c.index_mut.result.now c.args.call next here c.in-Err.ensures.rest.others c.in-Err.fault c.in-Err.ensures.left)
+pub returns-clause-served : goal.returns-clause-served
+returns-clause-served g c = c.member_does.ensures.served

@@ -16,7 +16,7 @@ use Rattle.co_world.specs.Standing.{RepresentsWorld}
 use Rattle.co_world.proofs.Acting.{begun_here, visit_granted, own_member}
 use Rattle.co_world.proofs.ClientSteps.{operate_down, operate_up}
 use Rattle.co_world.proofs.Ends.{passed_memory, all_ok}
-use Rattle.co_world.proofs.Ready.{replied_few}
+use Rattle.co_cluster.proofs.Ready.{replied_few}
 use Rattle.co_world.proofs.Told.{told_as, answered_stands}
 use Rattle.co_world.proofs.world.World.operated.Goals as goal
 
@@ -59,7 +59,7 @@ enter-requires-clause-in_head g c =
     let s = c.requires.stands.0 in
     let r = c.requires.stands.1 in
     let own : c.args.member ≤ length s.kinds = (own_member g.E.Engine.takes g.E.Engine.stands_for c.args.self.now s r c.args.member c.requires.in_head).1 in
-    let few : length s.kinds ≤ 16 = r.few_members in
+    let few : length s.kinds ≤ 16 = r.cluster.few_members in
     (c.requires.in_head.0, omega (arith, own, few))
 
 pub enter-requires-clause-begun : goal.enter-requires-clause-begun

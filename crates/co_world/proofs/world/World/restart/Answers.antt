@@ -9,17 +9,18 @@ use Rattle.co_plain.specs.Step.{restart_at, disarmed}
 use Rattle.co_schedule.specs.View.{IsNode}
 use Rattle.co_world.specs.Standing.{RepresentsWorld}
 use Rattle.co_world.proofs.Ends.{passed, passed_limit, served_after, wants_memory, no_limit}
-use Rattle.co_world.proofs.Ready.{restarts_member, restarts_coord}
+use Rattle.co_cluster.proofs.Ready.{restarts_member, restarts_coord}
 use Rattle.co_world.proofs.Told.{coord_told, coord_stands, member_told, member_stands}
-use Rattle.co_world.proofs.Lefts.{either_left, held_left, wanting_left}
+use Rattle.co_cluster.proofs.Lefts.{either_left, wanting_left}
+use Rattle.co_world.proofs.Nodes.{held_left}
 use Rattle.co_world.proofs.LeftSteps.{at_coord_left, at_member_left, at_member_overlong, at_coord_overlong}
-use Rattle.co_world.specs.Left.{AreLeftBy, coord_disarmed, member_disarmed}
-use Rattle.co_world.proofs.Ending.{passed_on}
+use Rattle.co_cluster.specs.Left.{AreLeftBy, coord_disarmed, member_disarmed}
+use Rattle.co_cluster.proofs.Ending.{passed_on}
 use Rattle.co_world.proofs.world.World.restart.Goals as goal
 
 pub member_does-requires-clause-in_head : goal.member_does-requires-clause-in_head
 member_does-requires-clause-in_head g c =
-    subst (λ (n : Node). IsNode (length c.args.self.now.members.items) (length c.args.self.now.coords.items) n) c.in-Member.is c.requires.in_head
+    subst (λ (n : Node). IsNode (length c.args.self.now.cluster.members.items) (length c.args.self.now.cluster.coords.items) n) c.in-Member.is c.requires.in_head
 
 pub member_does-requires-clause-stands : goal.member_does-requires-clause-stands
 member_does-requires-clause-stands g c =
@@ -58,7 +59,7 @@ returns-in_ok-did-in-Member-clause-ended g c =
 
 pub coord_does-requires-clause-in_head : goal.coord_does-requires-clause-in_head
 coord_does-requires-clause-in_head g c =
-    subst (λ (n : Node). IsNode (length c.args.self.now.members.items) (length c.args.self.now.coords.items) n) c.in-Coord.is c.requires.in_head
+    subst (λ (n : Node). IsNode (length c.args.self.now.cluster.members.items) (length c.args.self.now.cluster.coords.items) n) c.in-Coord.is c.requires.in_head
 
 pub coord_does-requires-clause-stands : goal.coord_does-requires-clause-stands
 coord_does-requires-clause-stands g c =

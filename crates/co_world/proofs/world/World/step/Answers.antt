@@ -3,15 +3,16 @@ use Rattle.co_message.specs.declared.event.Event.{Event}
 use Rattle.co_schedule.specs.View.{IsEventFor}
 use Rattle.co_world.proofs.Acting.{own_member}
 use Rattle.co_world.proofs.Ends.{served_alone, wants_memory, no_limit, unserved}
-use Rattle.co_world.proofs.Lefts.{held_left, wanting_left, unserved_left}
+use Rattle.co_cluster.proofs.Lefts.{wanting_left, unserved_left}
+use Rattle.co_world.proofs.Nodes.{held_left}
 use Rattle.co_world.proofs.Limits.{through, limits_alike}
-use Rattle.co_world.proofs.Ready.{votes_again}
+use Rattle.co_cluster.proofs.Ready.{votes_again}
 use Rattle.co_world.proofs.Stepped.{limit_of, items_of, stands_of, left_of}
 use Rattle.co_world.proofs.world.World.step.Goals as goal
 
 pub begin-requires-clause-in_head : goal.begin-requires-clause-in_head
 begin-requires-clause-in_head g c =
-    (subst (λ (e : Event). IsEventFor (length c.args.self.now.members.items) (length c.args.self.now.coords.items) e) c.in-Begin.is c.requires.event).1
+    (subst (λ (e : Event). IsEventFor (length c.args.self.now.cluster.members.items) (length c.args.self.now.cluster.coords.items) e) c.in-Begin.is c.requires.event).1
 
 pub begin-requires-clause-stands : goal.begin-requires-clause-stands
 begin-requires-clause-stands g c = (c.requires.stands.0, c.requires.stands.1)
@@ -32,7 +33,7 @@ returns-in-Begin g c =
 
 pub begin_local-requires : goal.begin_local-requires
 begin_local-requires g c =
-    record { in_head = (subst (λ (e : Event). IsEventFor (length c.args.self.now.members.items) (length c.args.self.now.coords.items) e) c.in-Local.is c.requires.event).1 }
+    record { in_head = (subst (λ (e : Event). IsEventFor (length c.args.self.now.cluster.members.items) (length c.args.self.now.cluster.coords.items) e) c.in-Local.is c.requires.event).1 }
 
 pub returns-in-Local : goal.returns-in-Local
 returns-in-Local g c =
@@ -51,7 +52,7 @@ returns-in-Local g c =
 
 pub reads-requires-clause-in_head : goal.reads-requires-clause-in_head
 reads-requires-clause-in_head g c =
-    (subst (λ (e : Event). IsEventFor (length c.args.self.now.members.items) (length c.args.self.now.coords.items) e) c.in-Read.is c.requires.event).1
+    (subst (λ (e : Event). IsEventFor (length c.args.self.now.cluster.members.items) (length c.args.self.now.cluster.coords.items) e) c.in-Read.is c.requires.event).1
 
 pub reads-requires-clause-stands : goal.reads-requires-clause-stands
 reads-requires-clause-stands g c = c.requires.stands
@@ -73,7 +74,7 @@ returns-in-Read g c =
 
 pub writes-requires-clause-in_head : goal.writes-requires-clause-in_head
 writes-requires-clause-in_head g c =
-    (subst (λ (e : Event). IsEventFor (length c.args.self.now.members.items) (length c.args.self.now.coords.items) e) c.in-Write.is c.requires.event).1
+    (subst (λ (e : Event). IsEventFor (length c.args.self.now.cluster.members.items) (length c.args.self.now.cluster.coords.items) e) c.in-Write.is c.requires.event).1
 
 pub writes-requires-clause-stands : goal.writes-requires-clause-stands
 writes-requires-clause-stands g c = c.requires.stands
@@ -95,7 +96,7 @@ returns-in-Write g c =
 
 pub erases-requires-clause-in_head : goal.erases-requires-clause-in_head
 erases-requires-clause-in_head g c =
-    (subst (λ (e : Event). IsEventFor (length c.args.self.now.members.items) (length c.args.self.now.coords.items) e) c.in-Erase.is c.requires.event).1
+    (subst (λ (e : Event). IsEventFor (length c.args.self.now.cluster.members.items) (length c.args.self.now.cluster.coords.items) e) c.in-Erase.is c.requires.event).1
 
 pub erases-requires-clause-stands : goal.erases-requires-clause-stands
 erases-requires-clause-stands g c = c.requires.stands
@@ -117,7 +118,7 @@ returns-in-Erase g c =
 
 pub scans-requires-clause-in_head : goal.scans-requires-clause-in_head
 scans-requires-clause-in_head g c =
-    (subst (λ (e : Event). IsEventFor (length c.args.self.now.members.items) (length c.args.self.now.coords.items) e) c.in-Scan.is c.requires.event).1
+    (subst (λ (e : Event). IsEventFor (length c.args.self.now.cluster.members.items) (length c.args.self.now.cluster.coords.items) e) c.in-Scan.is c.requires.event).1
 
 pub scans-requires-clause-stands : goal.scans-requires-clause-stands
 scans-requires-clause-stands g c = c.requires.stands
@@ -173,7 +174,7 @@ returns-in-Abort g c =
 
 pub deliver-requires-clause-in_head : goal.deliver-requires-clause-in_head
 deliver-requires-clause-in_head g c =
-    subst (λ (e : Event). IsEventFor (length c.args.self.now.members.items) (length c.args.self.now.coords.items) e) c.in-Deliver.is c.requires.event
+    subst (λ (e : Event). IsEventFor (length c.args.self.now.cluster.members.items) (length c.args.self.now.cluster.coords.items) e) c.in-Deliver.is c.requires.event
 
 pub deliver-requires-clause-stands : goal.deliver-requires-clause-stands
 deliver-requires-clause-stands g c = c.requires.stands
@@ -194,14 +195,14 @@ returns-in-Deliver g c =
 
 pub at_member-requires-clause-in_head : goal.at_member-requires-clause-in_head
 at_member-requires-clause-in_head g c =
-    (subst (λ (e : Event). IsEventFor (length c.args.self.now.members.items) (length c.args.self.now.coords.items) e) c.in-Vote.is c.requires.event).1
+    (subst (λ (e : Event). IsEventFor (length c.args.self.now.cluster.members.items) (length c.args.self.now.cluster.coords.items) e) c.in-Vote.is c.requires.event).1
 
 pub at_member-requires-clause-stands : goal.at_member-requires-clause-stands
 at_member-requires-clause-stands g c =
     let s = c.requires.stands.0 in
     let r = c.requires.stands.1 in
     let ready = c.requires.stands.2 in
-    let own = own_member g.E.Engine.takes g.E.Engine.stands_for c.args.self.now s r c.in-Vote.member (subst (λ (e : Event). IsEventFor (length c.args.self.now.members.items) (length c.args.self.now.coords.items) e) c.in-Vote.is c.requires.event).1 in
+    let own = own_member g.E.Engine.takes g.E.Engine.stands_for c.args.self.now s r c.in-Vote.member (subst (λ (e : Event). IsEventFor (length c.args.self.now.cluster.members.items) (length c.args.self.now.cluster.coords.items) e) c.in-Vote.is c.requires.event).1 in
     (s, r, λ up. votes_again s ready c.in-Vote.member own c.in-Vote.txn up)
 
 pub returns-in-Vote : goal.returns-in-Vote
@@ -220,7 +221,7 @@ returns-in-Vote g c =
 
 pub at_member-requires-in-Ask-clause-in_head : goal.at_member-requires-in-Ask-clause-in_head
 at_member-requires-in-Ask-clause-in_head g c =
-    (subst (λ (e : Event). IsEventFor (length c.args.self.now.members.items) (length c.args.self.now.coords.items) e) c.in-Ask.is c.requires.event).1
+    (subst (λ (e : Event). IsEventFor (length c.args.self.now.cluster.members.items) (length c.args.self.now.cluster.coords.items) e) c.in-Ask.is c.requires.event).1
 
 pub at_member-requires-in-Ask-clause-stands : goal.at_member-requires-in-Ask-clause-stands
 at_member-requires-in-Ask-clause-stands g c = (c.requires.stands.0, c.requires.stands.1, λ up. up)
@@ -241,7 +242,7 @@ returns-in-Ask g c =
 
 pub at_coord-requires-clause-in_head : goal.at_coord-requires-clause-in_head
 at_coord-requires-clause-in_head g c =
-    (subst (λ (e : Event). IsEventFor (length c.args.self.now.members.items) (length c.args.self.now.coords.items) e) c.in-Resend.is c.requires.event).1
+    (subst (λ (e : Event). IsEventFor (length c.args.self.now.cluster.members.items) (length c.args.self.now.cluster.coords.items) e) c.in-Resend.is c.requires.event).1
 
 pub at_coord-requires-clause-stands : goal.at_coord-requires-clause-stands
 at_coord-requires-clause-stands g c = (c.requires.stands.0, c.requires.stands.1, λ up. up)
@@ -262,7 +263,7 @@ returns-in-Resend g c =
 
 pub timer-requires-clause-in_head : goal.timer-requires-clause-in_head
 timer-requires-clause-in_head g c =
-    (subst (λ (e : Event). IsEventFor (length c.args.self.now.members.items) (length c.args.self.now.coords.items) e) c.in-Timer.is c.requires.event).1
+    (subst (λ (e : Event). IsEventFor (length c.args.self.now.cluster.members.items) (length c.args.self.now.cluster.coords.items) e) c.in-Timer.is c.requires.event).1
 
 pub timer-requires-clause-stands : goal.timer-requires-clause-stands
 timer-requires-clause-stands g c = c.requires.stands
@@ -283,7 +284,7 @@ returns-in-Timer g c =
 
 pub crash-requires-clause-in_head : goal.crash-requires-clause-in_head
 crash-requires-clause-in_head g c =
-    subst (λ (e : Event). IsEventFor (length c.args.self.now.members.items) (length c.args.self.now.coords.items) e) c.in-Crash.is c.requires.event
+    subst (λ (e : Event). IsEventFor (length c.args.self.now.cluster.members.items) (length c.args.self.now.cluster.coords.items) e) c.in-Crash.is c.requires.event
 
 pub crash-requires-clause-stands : goal.crash-requires-clause-stands
 crash-requires-clause-stands g c = c.requires.stands
@@ -304,7 +305,7 @@ returns-in-Crash g c =
 
 pub restart-requires-clause-in_head : goal.restart-requires-clause-in_head
 restart-requires-clause-in_head g c =
-    subst (λ (e : Event). IsEventFor (length c.args.self.now.members.items) (length c.args.self.now.coords.items) e) c.in-Restart.is c.requires.event
+    subst (λ (e : Event). IsEventFor (length c.args.self.now.cluster.members.items) (length c.args.self.now.cluster.coords.items) e) c.in-Restart.is c.requires.event
 
 pub restart-requires-clause-stands : goal.restart-requires-clause-stands
 restart-requires-clause-stands g c = c.requires.stands
@@ -325,7 +326,7 @@ returns-in-Restart g c =
 
 pub checkpoint-requires-clause-in_head : goal.checkpoint-requires-clause-in_head
 checkpoint-requires-clause-in_head g c =
-    subst (λ (e : Event). IsEventFor (length c.args.self.now.members.items) (length c.args.self.now.coords.items) e) c.in-Checkpoint.is c.requires.event
+    subst (λ (e : Event). IsEventFor (length c.args.self.now.cluster.members.items) (length c.args.self.now.cluster.coords.items) e) c.in-Checkpoint.is c.requires.event
 
 pub checkpoint-requires-clause-stands : goal.checkpoint-requires-clause-stands
 checkpoint-requires-clause-stands g c = c.requires.stands
@@ -346,11 +347,11 @@ returns-in-Checkpoint g c =
 
 pub arm-requires-clause-in_head : goal.arm-requires-clause-in_head
 arm-requires-clause-in_head g c =
-    (subst (λ (e : Event). IsEventFor (length c.args.self.now.members.items) (length c.args.self.now.coords.items) e) c.in-Arm.is c.requires.event).0
+    (subst (λ (e : Event). IsEventFor (length c.args.self.now.cluster.members.items) (length c.args.self.now.cluster.coords.items) e) c.in-Arm.is c.requires.event).0
 
 pub arm-requires-clause-call : goal.arm-requires-clause-call
 arm-requires-clause-call g c =
-    (subst (λ (e : Event). IsEventFor (length c.args.self.now.members.items) (length c.args.self.now.coords.items) e) c.in-Arm.is c.requires.event).1
+    (subst (λ (e : Event). IsEventFor (length c.args.self.now.cluster.members.items) (length c.args.self.now.cluster.coords.items) e) c.in-Arm.is c.requires.event).1
 
 pub arm-requires-clause-stands : goal.arm-requires-clause-stands
 arm-requires-clause-stands g c = c.requires.stands

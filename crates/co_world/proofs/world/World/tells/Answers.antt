@@ -1,4 +1,4 @@
-use Rattle.co_world.proofs.Worlds.{noted_stands}
+use Rattle.co_world.proofs.Nodes.{noted_stands}
 use Rattle.co_world.proofs.world.World.tells.Goals as goal
 
 pub returns-clause-stands : goal.returns-clause-stands

@@ -1,0 +1,8 @@
+use Rattle.std.proofs.Common.{◌≡◌, ◌++◌}
+use Rattle.co_plain.specs.Federation.{Federation}
+use Rattle.co_cluster.specs.Listed.{found_to, wait_at}
+use Rattle.co_cluster.specs.Standing.{RepresentsCluster}
+use Rattle.co_cluster.proofs.cluster.Cluster.add_waits.Given as goal
+
+abbrev pub invariant-loop-place : goal.invariant-loop-place
+invariant-loop-place g l = (s : Federation) → RepresentsCluster g.E.Engine.takes g.E.Engine.stands_for l.fn.self s → l.waits ≡ l.fn.waits ++ found_to l.place (wait_at s l.fn.t)

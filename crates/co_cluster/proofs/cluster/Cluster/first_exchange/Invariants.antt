@@ -1,0 +1,11 @@
+use Rattle.co_plain.specs.Federation.{Federation}
+use Rattle.co_cluster.specs.Conditions.{IsReady}
+use Rattle.co_cluster.specs.Standing.{RepresentsCluster}
+use Rattle.co_cluster.proofs.Walks.{HasPassed, room, Helped, helped_open}
+use Rattle.co_cluster.proofs.cluster.Cluster.first_exchange.Given as goal
+
+abbrev pub invariant-loop-next : goal.invariant-loop-next
+invariant-loop-next g l = (s : Federation) → RepresentsCluster g.E.Engine.takes g.E.Engine.stands_for l.fn.self s → IsReady s → HasPassed s (Helped s) (helped_open s) l.next
+
+abbrev pub decreases-loop-next : goal.decreases-loop-next
+decreases-loop-next g l = room l.next

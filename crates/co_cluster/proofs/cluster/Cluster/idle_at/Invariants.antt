@@ -1,0 +1,10 @@
+use Rattle.std.proofs.Common.{◌≡◌, ◌<◌, ◌≤◌, ℕ, false}
+use Rattle.co_base.specs.declared.node.Node.TheVariants as node
+use Rattle.co_plain.specs.Federation.{Federation}
+use Rattle.co_plain.specs.Settling.{timer_ends}
+use Rattle.co_cluster.specs.Standing.{RepresentsCluster}
+use Rattle.co_cluster.proofs.cluster.Cluster.idle_at.Given as goal
+
+abbrev pub invariant-loop-coord : goal.invariant-loop-coord
+invariant-loop-coord g l =
+    (s : Federation) → RepresentsCluster g.E.Engine.takes g.E.Engine.stands_for l.fn.self s → (c : ℕ) → 1 ≤ c → c < l.coord → timer_ends s l.fn.t (node.Coord c) ≡ false

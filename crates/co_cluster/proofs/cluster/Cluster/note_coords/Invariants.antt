@@ -1,0 +1,8 @@
+use Rattle.co_plain.specs.Federation.{Federation}
+use Rattle.co_state.specs.Table.{holds}
+use Rattle.co_cluster.specs.Listed.{any_to, AreNoted}
+use Rattle.co_cluster.specs.Standing.{RepresentsCluster}
+use Rattle.co_cluster.proofs.cluster.Cluster.note_coords.Given as goal
+
+abbrev pub invariant-loop-place : goal.invariant-loop-place
+invariant-loop-place g l = (s : Federation) → RepresentsCluster g.E.Engine.takes g.E.Engine.stands_for l.fn.self s → AreNoted (λ t. any_to l.place (λ c. holds (s.coord c).table t)) l.fn.found l.found

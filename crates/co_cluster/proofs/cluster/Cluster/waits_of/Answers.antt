@@ -1,0 +1,9 @@
+use Rattle.std.proofs.Common.{length}
+use Rattle.co_cluster.specs.Listed.{found_to, wait_at}
+use Rattle.co_cluster.proofs.Pairwise.{one_given_more}
+use Rattle.co_cluster.proofs.cluster.Cluster.waits_of.Goals as goal
+
+pub loop-t-preserved : goal.loop-t-preserved
+loop-t-preserved g c = λ s r.
+    one_given_more (λ t. found_to (length s.kinds) (wait_at s t)) c.args.txns.now c.loop-t.t-index c.t-item.result c.loop-t.waits c.add_waits.new.waits c.loop-t-test.true c.t-item.is (c.loop-t.invariant s r)
+    (c.in_ok-add_waits.ensures s r)

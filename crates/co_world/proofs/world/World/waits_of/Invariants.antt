@@ -1,8 +1,0 @@
-use Rattle.std.proofs.Common.{◌≡◌, length, flat_map, take}
-use Rattle.co_plain.specs.Federation.{Federation}
-use Rattle.co_world.specs.Listed.{found_to, wait_at}
-use Rattle.co_world.specs.Standing.{RepresentsWorld}
-use Rattle.co_world.proofs.world.World.waits_of.Given as goal
-
-abbrev pub invariant-loop-t : goal.invariant-loop-t
-invariant-loop-t g l = (s : Federation) → RepresentsWorld g.E.Engine.takes g.E.Engine.stands_for l.fn.self s → l.waits ≡ flat_map (λ t. found_to (length s.kinds) (wait_at s t)) (take l.t-index l.txns)
