@@ -19,7 +19,7 @@ use Rattle.co_plain.specs.Step.{step_line, disarmed}
 use Rattle.co_state.specs.declared.engine_state.EngineState.{EngineState}
 use Rattle.co_law_settle.proofs.Settled.{goes_on, bounded, settling_wakes}
 use Rattle.co_law_settle.specs.SettlingTurns.{Turn, Restarts, Exchanges, Fires, turn_events, first_event, wanted, deliveries, delivers, note_in, after_turn, IsNext, IsSettling, SomethingOpen, NothingOpen}
-use Rattle.co_cluster.proofs.Lefts.{held_left}
+use Rattle.co_world.proofs.Nodes.{held_left}
 use Rattle.co_world.specs.Standing.{AreServed, RepresentsWorld, AreHeld}
 use Rattle.co_world.specs.declared.world.World.{World}
 use Rattle.co_settle.specs.Busy.{AreKnown}

@@ -17,7 +17,7 @@ use Rattle.co_replay.specs.Transcript.{items_text, run_items}
 use Rattle.co_replay.proofs.Appended.{items_text-append}
 use Rattle.co_world.specs.Attached.{IsAttachedOver}
 use Rattle.co_cluster.specs.Left.{AreLeftAs}
-use Rattle.co_cluster.proofs.Lefts.{held_left}
+use Rattle.co_world.proofs.Nodes.{held_left}
 use Rattle.co_world.specs.Standing.{RepresentsWorld, AreHeld}
 use Rattle.co_world.specs.declared.world.World.{World}
 use Rattle.co_top.specs.Front.{IsHeaded, StandsBehind, AtStart, IsHeadFault, IsStreamed}

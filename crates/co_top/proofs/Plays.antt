@@ -30,7 +30,7 @@ use Rattle.co_state.specs.declared.engine_state.EngineState.{EngineState}
 use Rattle.co_world.specs.Counting.{MeetsPlainLimit}
 use Rattle.co_cluster.specs.Left.{AreLeftAs, AreLeftBy, AreLeftNear}
 use Rattle.co_world.specs.Standing.{RepresentsWorld}
-use Rattle.co_cluster.proofs.Lefts.{held_left}
+use Rattle.co_world.proofs.Nodes.{held_left}
 use Rattle.co_world.specs.declared.world.World.{World}
 use Rattle.co_top.proofs.Lists.{map_more, count_more, take_behind}
 use Rattle.co_top.specs.Front.{HasRead, StandsBehind, OneMore, IsNext, IsStreamed}

@@ -7,7 +7,7 @@ use Rattle.co_message.specs.declared.item.ItemKind.TheVariants as item
 use Rattle.co_plain.specs.Runs.{numbered}
 use Rattle.co_plain.specs.Step.{step_line}
 use Rattle.co_law_settle.specs.SettlingTurns.{note_in}
-use Rattle.co_cluster.proofs.Lefts.{held_left}
+use Rattle.co_world.proofs.Nodes.{held_left}
 use Rattle.co_settle.specs.Notes.{wanted_by}
 use Rattle.co_settle.specs.Progress.{IsCutIn, HasEnded, IsUntoldFor}
 use Rattle.co_settle.proofs.Composing.{cut_as, ended_as, untold_for, one_told, told_notes}

@@ -3,7 +3,7 @@ use Rattle.co_message.specs.declared.item.Item.{Item}
 use Rattle.co_message.specs.declared.item.ItemKind.TheVariants as item
 use Rattle.co_plain.specs.Runs.{numbered}
 use Rattle.co_replay.specs.Transcript.{items_text}
-use Rattle.co_cluster.proofs.Lefts.{held_left}
+use Rattle.co_world.proofs.Nodes.{held_left}
 use Rattle.co_top.specs.Telling.{IsToldOf, IsTextPut, HasEnded}
 use Rattle.co_top.specs.declared.status.Status.{Status}
 use Rattle.co_top.specs.declared.status.Status.TheVariants as status
