@@ -299,19 +299,3 @@ either_left file before start after completed other fault was so long left = (by
     by : AreLeftAs file start ⊎ AreLeftAs file other → AreLeftNear file before after completed
     by (inl old) = inl (was old)
     by (inr new) = inr (inr (so new))
-
--- there was no memory, or a number too many
-pub unserved_left : {A : Type 0} (out : Result A WorldFault) (file : Spot → Option File) (before after completed : Federation) → IfErr out IsOfNoFile → AreLeftNear file before after completed → IfErr out (AreLeftBy file before after completed)
-unserved_left (Ok a) file before after completed of left = tt
-unserved_left (Err world.Count) file before after completed of left = (left, tt)
-unserved_left (Err world.Memory) file before after completed of left = (left, tt)
-unserved_left (Err (world.Device spot)) file before after completed of left = absurd of
-unserved_left (Err (world.Differs spot at kept read)) file before after completed of left = absurd of
-unserved_left (Err (world.InUse spot)) file before after completed of left = absurd of
-unserved_left (Err (world.Bad spot at)) file before after completed of left = absurd of
-unserved_left (Err (world.Full spot)) file before after completed of left = absurd of
-unserved_left (Err (world.Old spot)) file before after completed of left = absurd of
-
-pub wanting_left : {A : Type 0} (out : Result A WorldFault) (file : Spot → Option File) (before after completed : Federation) → IfErr out (λ fault. fault ≡ world.Memory) → AreLeftNear file before after completed → IfErr out (AreLeftBy file before after completed)
-wanting_left (Ok a) file before after completed memory left = tt
-wanting_left (Err fault) file before after completed memory left = subst (AreLeftBy file before after completed) (sym memory) (left, tt)

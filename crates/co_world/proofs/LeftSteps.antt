@@ -16,10 +16,10 @@ use Rattle.co_cluster.proofs.Lefts.{either_left, noted_left, noted_overlong}
 
 -- ---- a step told in another way
 
-pub left_as : {A : Type 0} (out : Result A WorldFault) (file : Spot → Option File) (before : Federation) (after then whole all : Stepped) → after ≡ then → whole ≡ all → IfErr out (AreLeftBy file before after.state whole.state) →
-    IfErr out (AreLeftBy file before then.state all.state)
-left_as out file before after then whole all one two left =
-    subst (λ (d : Stepped). IfErr out (AreLeftBy file before then.state d.state)) two (subst (λ (d : Stepped). IfErr out (AreLeftBy file before d.state whole.state)) one left)
+pub left_as : (file : Spot → Option File) (before : Federation) (fault : WorldFault) (after then whole all : Stepped) → after ≡ then → whole ≡ all → AreLeftBy file before after.state whole.state fault →
+    AreLeftBy file before then.state all.state fault
+left_as file before fault after then whole all one two left =
+    subst (λ (d : Stepped). AreLeftBy file before then.state d.state fault) two (subst (λ (d : Stepped). AreLeftBy file before d.state whole.state fault) one left)
 
 module _ (file : Spot → Option File) (s : Federation) where
   -- ---- what a node did, whatever its answer

@@ -3,6 +3,7 @@ pub mod Acting
 pub mod Ends
 pub mod ClientSteps
 pub mod Told
+pub mod Answering
 pub mod Steps
 pub mod Stepped
 pub mod Openings

@@ -22,16 +22,3 @@ coord_is_down s c up did is = ap (λ (b : Bool). up_coord s c b did) (sym is)
 
 pub coord_is_up : (s : Federation) (c : ℕ) (up : Bool) (did : PlainCoordStep) → up ≡ true → at_coord s c did ≡ up_coord s c up did
 coord_is_up s c up did is = ap (λ (b : Bool). up_coord s c b did) (sym is)
-
--- what is noted and told of what a member did is that of the plain step
-pub member_noted : (s : Federation) (m : ℕ) (step : PlainMemberStep) (d : MemberStep) → IsTold step d → noted (with_member s m step.state) d.marks (message_list d.sent) ≡ (at_member s m step).state
-member_noted s m step d told = λ i. noted (with_member s m step.state) (told.marks i) (message_list (told.sent i))
-
-pub member_items : (s : Federation) (m : ℕ) (step : PlainMemberStep) (d : MemberStep) → IsTold step d → items_of d.marks (message_list d.sent) d.answer ≡ (at_member s m step).items
-member_items s m step d told = λ i. items_of (told.marks i) (message_list (told.sent i)) (told.answer i)
-
-pub coord_noted : (s : Federation) (c : ℕ) (step : PlainCoordStep) (d : CoordStep) → IsToldBy step d → noted (with_coord s c step.state) d.marks d.sent ≡ (at_coord s c step).state
-coord_noted s c step d told = λ i. noted (with_coord s c step.state) (told.marks i) (told.sent i)
-
-pub coord_items : (s : Federation) (c : ℕ) (step : PlainCoordStep) (d : CoordStep) → IsToldBy step d → items_of d.marks d.sent d.answer ≡ (at_coord s c step).items
-coord_items s c step d told = λ i. items_of (told.marks i) (told.sent i) (told.answer i)

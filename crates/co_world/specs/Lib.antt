@@ -1,4 +1,5 @@
 pub mod Calls
 pub mod Standing
+pub mod Answered
 pub mod Attached
 pub mod Counting

@@ -1,16 +1,15 @@
 //! What clients ask: to begin, to operate and to end.
-ghost use Rattle.std.specs.Prelude.{◌≡◌, ◌≤◌, ◌<◌, ℕ, Option, true, false, Some, length, IfOk, IfErr, IsErrOf, OnOk, ◌↔◌};
+ghost use Rattle.std.specs.Prelude.{◌≡◌, ◌≤◌, ◌<◌, Option, true, false, Some, length, IfOk, IfErr, IsErrOf, OnOk, ◌↔◌};
 ghost use Rattle.co_base.specs.declared.reply.Reply.{Reply};
 ghost use Rattle.co_durable.specs.declared.fault.WorldFault.TheVariants as world;
 ghost use Rattle.co_message.specs.declared.answer.Answer.{Answer};
 ghost use Rattle.co_message.specs.declared.event.Event.TheVariants as event;
-ghost use Rattle.co_outside.specs.Home.{HomeView, File};
-ghost use Rattle.co_outside.specs.declared.spot.Spot.{Spot};
+ghost use Rattle.co_outside.specs.Home.{HomeView};
 ghost use Rattle.co_plain.specs.Federation.{Federation, with_member};
 ghost use Rattle.co_plain.specs.Member.{member_op};
 ghost use Rattle.co_plain.specs.Runs.{numbered};
 ghost use Rattle.co_plain.specs.Sessions.{Grants, leave_to_visit, count_at, parts_of};
-ghost use Rattle.co_plain.specs.Step.{is_stopped, is_held, reply_in, entered, operate, marked_asked, coord_answers, local_answers, disarmed, step_line};
+ghost use Rattle.co_plain.specs.Step.{is_stopped, is_held, reply_in, entered, operate, marked_asked, coord_answers, local_answers, step_line};
 ghost use Rattle.co_plain.specs.declared.session.Session.{Session};
 ghost use Rattle.co_session.specs.Clients.{is_used, is_full, carried_in};
 ghost use Rattle.co_session.specs.Leaves.{refusal_of};
@@ -19,9 +18,9 @@ ghost use Rattle.co_world.specs.Calls.{coord_asked, member_asked, ended};
 ghost use Rattle.co_cluster.specs.Calls.{coord_does, member_does};
 ghost use Rattle.co_cluster.specs.Conditions.{IsReady};
 ghost use Rattle.co_world.specs.Counting.{IsOneMore};
-ghost use Rattle.co_cluster.specs.Left.{AreLeftBy, member_disarmed, coord_disarmed};
-ghost use Rattle.co_world.specs.Standing.{AreServed, RepresentsWorld, AreHeld};
-ghost use Rattle.co_cluster.specs.Served.{HasEndedAs, IsOfNoFile};
+ghost use Rattle.co_world.specs.Standing.{RepresentsWorld, AreHeld};
+ghost use Rattle.co_cluster.specs.Served.{IsOfNoFile};
+ghost use Rattle.co_world.specs.Answered.{AnswersEvent};
 
 use crate::world::World;
 use co_base::{Node, Op, Parts, Reply, Rows, Txn, copy_rows};
@@ -130,12 +129,8 @@ impl<E: Engine + Drop> World<E> {
         requires held { AreHeld (H.seen home.old) self.old }
         requires stands { (s : Federation) × RepresentsWorld E.takes E.stands_for self.old s }
         ensures count { IsErrOf result WorldFault.Count ↔ IsOneMore self.old.sessions t }
-        ensures items { (s : Federation) → RepresentsWorld E.takes E.stands_for self.old s → IfOk result (λ items. items ≡ numbered number (step_line s (event.Begin t coord)).items) }
-        ensures stands { (s : Federation) → RepresentsWorld E.takes E.stands_for self.old s → OnOk result (RepresentsWorld E.takes E.stands_for self.new (step_line s (event.Begin t coord)).state) }
-        ensures left { (s : Federation) → RepresentsWorld E.takes E.stands_for self.old s →
-            IfErr result (AreLeftBy (H.seen home.new).file s (step_line s (event.Begin t coord)).state (step_line (disarmed s) (event.Begin t coord)).state) }
-        ensures served { OnOk result (AreServed self.new (H.seen home.old) (H.seen home.new)) }
-        ensures ended { IfErr result (λ fault. HasEndedAs fault (H.seen home.old) (H.seen home.new)) }
+        ensures answered { (s : Federation) → RepresentsWorld E.takes E.stands_for self.old s →
+            AnswersEvent E.takes E.stands_for number (λ z. step_line z (event.Begin t coord)) s self.new (H.seen home.old) (H.seen home.new) result }
         ensures entered { (H.seen home.new).entered ≡ (H.seen home.old).entered }
     {
         if self.used(t)? {
@@ -266,12 +261,8 @@ impl<E: Engine + Drop> World<E> {
         requires held { AreHeld (H.seen home.old) self.old }
         requires stands { (s : Federation) × RepresentsWorld E.takes E.stands_for self.old s × IsReady s }
         ensures count { IsErrOf result WorldFault.Count → ⊥ }
-        ensures items { (s : Federation) → RepresentsWorld E.takes E.stands_for self.old s → IsReady s → IfOk result (λ items. items ≡ numbered number (ended s t ending).items) }
-        ensures stands { (s : Federation) → RepresentsWorld E.takes E.stands_for self.old s → IsReady s → OnOk result (RepresentsWorld E.takes E.stands_for self.new (ended s t ending).state) }
-        ensures left { (s : Federation) → RepresentsWorld E.takes E.stands_for self.old s → IsReady s →
-            IfErr result (AreLeftBy (H.seen home.new).file s (ended s t ending).state (ended (disarmed s) t ending).state) }
-        ensures served { OnOk result (AreServed self.new (H.seen home.old) (H.seen home.new)) }
-        ensures ended { IfErr result (λ fault. HasEndedAs fault (H.seen home.old) (H.seen home.new)) }
+        ensures answered { (s : Federation) → RepresentsWorld E.takes E.stands_for self.old s → IsReady s →
+            AnswersEvent E.takes E.stands_for number (λ z. ended z t ending) s self.new (H.seen home.old) (H.seen home.new) result }
         ensures entered { (H.seen home.new).entered ≡ (H.seen home.old).entered }
     {
         match self.sessions.may_act(t, None) {
@@ -294,14 +285,8 @@ impl<E: Engine + Drop> World<E> {
         requires held { AreHeld (H.seen home.old) self.old }
         requires stands { (s : Federation) × (session : Session) × RepresentsWorld E.takes E.stands_for self.old s × (look s.sessions t ≡ Some session) }
         ensures count { IsErrOf result WorldFault.Count → ⊥ }
-        ensures items { (s : Federation) → RepresentsWorld E.takes E.stands_for self.old s → (session : Session) → look s.sessions t ≡ Some session → IfOk result (λ items. items ≡ numbered number (coord_answers s t session coord (s.coord coord).up (coord_does coord (coord_asked ending t (parts_of session.told)) (s.coord coord))).items) }
-        ensures stands { (s : Federation) → RepresentsWorld E.takes E.stands_for self.old s → (session : Session) → look s.sessions t ≡ Some session → OnOk result (RepresentsWorld E.takes E.stands_for self.new (coord_answers s t session coord (s.coord coord).up (coord_does coord (coord_asked ending t (parts_of session.told)) (s.coord coord))).state) }
-        ensures left { (s : Federation) → RepresentsWorld E.takes E.stands_for self.old s → (session : Session) → look s.sessions t ≡ Some session →
-            IfErr result (AreLeftBy (H.seen home.new).file s
-            (coord_answers s t session coord (s.coord coord).up (coord_does coord (coord_asked ending t (parts_of session.told)) (s.coord coord))).state
-            (coord_answers (disarmed s) t session coord (s.coord coord).up (coord_does coord (coord_asked ending t (parts_of session.told)) (coord_disarmed (s.coord coord)))).state) }
-        ensures served { OnOk result (AreServed self.new (H.seen home.old) (H.seen home.new)) }
-        ensures ended { IfErr result (λ fault. HasEndedAs fault (H.seen home.old) (H.seen home.new)) }
+        ensures answered { (s : Federation) → RepresentsWorld E.takes E.stands_for self.old s → (session : Session) → look s.sessions t ≡ Some session →
+            AnswersEvent E.takes E.stands_for number (λ z. coord_answers z t session coord (z.coord coord).up (coord_does coord (coord_asked ending t (parts_of session.told)) (z.coord coord))) s self.new (H.seen home.old) (H.seen home.new) result }
         ensures entered { (H.seen home.new).entered ≡ (H.seen home.old).entered }
     {
         if !self.coord_up(coord) {
@@ -326,14 +311,8 @@ impl<E: Engine + Drop> World<E> {
         requires held { AreHeld (H.seen home.old) self.old }
         requires stands { (s : Federation) × (session : Session) × RepresentsWorld E.takes E.stands_for self.old s × IsReady s × (look s.sessions t ≡ Some session) × (session.asked ≡ false) }
         ensures count { IsErrOf result WorldFault.Count → ⊥ }
-        ensures items { (s : Federation) → RepresentsWorld E.takes E.stands_for self.old s → (session : Session) → look s.sessions t ≡ Some session → IfOk result (λ items. items ≡ numbered number (local_answers s t session member (s.member member).up (member_does member (member_asked ending t (count_at session.told member)) (s.member member))).items) }
-        ensures stands { (s : Federation) → RepresentsWorld E.takes E.stands_for self.old s → (session : Session) → look s.sessions t ≡ Some session → OnOk result (RepresentsWorld E.takes E.stands_for self.new (local_answers s t session member (s.member member).up (member_does member (member_asked ending t (count_at session.told member)) (s.member member))).state) }
-        ensures left { (s : Federation) → RepresentsWorld E.takes E.stands_for self.old s → (session : Session) → look s.sessions t ≡ Some session →
-            IfErr result (AreLeftBy (H.seen home.new).file s
-            (local_answers s t session member (s.member member).up (member_does member (member_asked ending t (count_at session.told member)) (s.member member))).state
-            (local_answers (disarmed s) t session member (s.member member).up (member_does member (member_asked ending t (count_at session.told member)) (member_disarmed (s.member member)))).state) }
-        ensures served { OnOk result (AreServed self.new (H.seen home.old) (H.seen home.new)) }
-        ensures ended { IfErr result (λ fault. HasEndedAs fault (H.seen home.old) (H.seen home.new)) }
+        ensures answered { (s : Federation) → RepresentsWorld E.takes E.stands_for self.old s → (session : Session) → look s.sessions t ≡ Some session →
+            AnswersEvent E.takes E.stands_for number (λ z. local_answers z t session member (z.member member).up (member_does member (member_asked ending t (count_at session.told member)) (z.member member))) s self.new (H.seen home.old) (H.seen home.new) result }
         ensures entered { (H.seen home.new).entered ≡ (H.seen home.old).entered }
     {
         if !self.member_up(member) {

@@ -1,14 +1,12 @@
 //! An event at one node, as a step of the federation.
-ghost use Rattle.std.specs.Prelude.{◌≡◌, ◌≤◌, ℕ, Option, length, IfOk, IfErr, IsErrOf, OnOk, true};
-ghost use Rattle.co_outside.specs.Home.{HomeView, File};
-ghost use Rattle.co_outside.specs.declared.spot.Spot.{Spot};
+ghost use Rattle.std.specs.Prelude.{◌≡◌, ◌≤◌, Option, length, IfOk, IfErr, IsErrOf, OnOk, true};
+ghost use Rattle.co_outside.specs.Home.{HomeView};
 ghost use Rattle.co_plain.specs.Federation.{Federation, noted, items_of, message_list};
 ghost use Rattle.co_plain.specs.Runs.{numbered};
-ghost use Rattle.co_plain.specs.Step.{member_step, coord_step, disarmed};
+ghost use Rattle.co_plain.specs.Step.{member_step, coord_step};
 ghost use Rattle.co_cluster.specs.Calls.{member_does, coord_does, MemberMay, CoordMay};
-ghost use Rattle.co_cluster.specs.Left.{AreLeftBy};
-ghost use Rattle.co_world.specs.Standing.{AreServed, RepresentsWorld, AreHeld};
-ghost use Rattle.co_cluster.specs.Served.{HasEndedAs};
+ghost use Rattle.co_world.specs.Standing.{RepresentsWorld, AreHeld};
+ghost use Rattle.co_world.specs.Answered.{AnswersEvent};
 
 use crate::world::World;
 use co_base::Node;
@@ -85,12 +83,8 @@ impl<E: Engine + Drop> World<E> {
         requires held { AreHeld (H.seen home.old) self.old }
         requires stands { (s : Federation) × RepresentsWorld E.takes E.stands_for self.old s × ((s.member member).up ≡ true → MemberMay s.coordinators call (s.member member)) }
         ensures count { IsErrOf result WorldFault.Count → ⊥ }
-        ensures items { (s : Federation) → RepresentsWorld E.takes E.stands_for self.old s → IfOk result (λ items. items ≡ numbered number (member_step s member (member_does member call)).items) }
-        ensures stands { (s : Federation) → RepresentsWorld E.takes E.stands_for self.old s → OnOk result (RepresentsWorld E.takes E.stands_for self.new (member_step s member (member_does member call)).state) }
-        ensures left { (s : Federation) → RepresentsWorld E.takes E.stands_for self.old s →
-            IfErr result (AreLeftBy (H.seen home.new).file s (member_step s member (member_does member call)).state (member_step (disarmed s) member (member_does member call)).state) }
-        ensures served { OnOk result (AreServed self.new (H.seen home.old) (H.seen home.new)) }
-        ensures ended { IfErr result (λ fault. HasEndedAs fault (H.seen home.old) (H.seen home.new)) }
+        ensures answered { (s : Federation) → RepresentsWorld E.takes E.stands_for self.old s →
+            AnswersEvent E.takes E.stands_for number (λ z. member_step z member (member_does member call)) s self.new (H.seen home.old) (H.seen home.new) result }
         ensures entered { (H.seen home.new).entered ≡ (H.seen home.old).entered }
     {
         if !self.member_up(member) {
@@ -112,12 +106,8 @@ impl<E: Engine + Drop> World<E> {
         requires held { AreHeld (H.seen home.old) self.old }
         requires stands { (s : Federation) × RepresentsWorld E.takes E.stands_for self.old s × ((s.coord coord).up ≡ true → CoordMay (length s.kinds) coord call (s.coord coord)) }
         ensures count { IsErrOf result WorldFault.Count → ⊥ }
-        ensures items { (s : Federation) → RepresentsWorld E.takes E.stands_for self.old s → IfOk result (λ items. items ≡ numbered number (coord_step s coord (coord_does coord call)).items) }
-        ensures stands { (s : Federation) → RepresentsWorld E.takes E.stands_for self.old s → OnOk result (RepresentsWorld E.takes E.stands_for self.new (coord_step s coord (coord_does coord call)).state) }
-        ensures left { (s : Federation) → RepresentsWorld E.takes E.stands_for self.old s →
-            IfErr result (AreLeftBy (H.seen home.new).file s (coord_step s coord (coord_does coord call)).state (coord_step (disarmed s) coord (coord_does coord call)).state) }
-        ensures served { OnOk result (AreServed self.new (H.seen home.old) (H.seen home.new)) }
-        ensures ended { IfErr result (λ fault. HasEndedAs fault (H.seen home.old) (H.seen home.new)) }
+        ensures answered { (s : Federation) → RepresentsWorld E.takes E.stands_for self.old s →
+            AnswersEvent E.takes E.stands_for number (λ z. coord_step z coord (coord_does coord call)) s self.new (H.seen home.old) (H.seen home.new) result }
         ensures entered { (H.seen home.new).entered ≡ (H.seen home.old).entered }
     {
         if !self.coord_up(coord) {

@@ -1,15 +1,12 @@
 //! A verdict that is handed over by another member.
-ghost use Rattle.std.specs.Prelude.{◌≡◌, ◌≤◌, true, length, IfOk, IfErr, IsErrOf, OnOk};
+ghost use Rattle.std.specs.Prelude.{◌≡◌, ◌≤◌, true, length, IsErrOf};
 ghost use Rattle.co_plain.specs.Federation.{Federation};
 ghost use Rattle.co_plain.specs.Member.{coord_of};
-ghost use Rattle.co_plain.specs.Runs.{numbered};
-ghost use Rattle.co_plain.specs.Step.{disarmed, step};
+ghost use Rattle.co_plain.specs.Step.{step};
 ghost use Rattle.co_plain.specs.declared.happening.Happening.TheVariants as happening;
 ghost use Rattle.co_state.specs.Table.{holds};
-ghost use Rattle.co_cluster.specs.Conditions.{IsReady};
-ghost use Rattle.co_cluster.specs.Left.{AreLeftBy};
-ghost use Rattle.co_world.specs.Standing.{AreServed, RepresentsWorld, AreHeld};
-ghost use Rattle.co_cluster.specs.Served.{HasEndedAs};
+ghost use Rattle.co_world.specs.Standing.{RepresentsWorld, AreHeld};
+ghost use Rattle.co_world.specs.Answered.{AnswersEvent};
 
 use crate::world::World;
 use co_base::Txn;
@@ -49,12 +46,8 @@ impl<E: Engine + Drop> World<E> {
         requires held { AreHeld (H.seen home.old) self.old }
         requires voted { (s : Federation) × RepresentsWorld E.takes E.stands_for self.old s × ((s.member member).up ≡ true) × (holds (s.member member).engine.voted t ≡ true) }
         ensures count { IsErrOf result WorldFault.Count → ⊥ }
-        ensures items { (s : Federation) → RepresentsWorld E.takes E.stands_for self.old s → IfOk result (λ items. items ≡ numbered number (step s (happening.Hand t member commit)).items) }
-        ensures stands { (s : Federation) → RepresentsWorld E.takes E.stands_for self.old s → OnOk result (RepresentsWorld E.takes E.stands_for self.new (step s (happening.Hand t member commit)).state) }
-        ensures left { (s : Federation) → RepresentsWorld E.takes E.stands_for self.old s →
-            IfErr result (AreLeftBy (H.seen home.new).file s (step s (happening.Hand t member commit)).state (step (disarmed s) (happening.Hand t member commit)).state) }
-        ensures served { OnOk result (AreServed self.new (H.seen home.old) (H.seen home.new)) }
-        ensures ended { IfErr result (λ fault. HasEndedAs fault (H.seen home.old) (H.seen home.new)) }
+        ensures answered { (s : Federation) → RepresentsWorld E.takes E.stands_for self.old s →
+            AnswersEvent E.takes E.stands_for number (λ z. step z (happening.Hand t member commit)) s self.new (H.seen home.old) (H.seen home.new) result }
         ensures entered { (H.seen home.new).entered ≡ (H.seen home.old).entered }
     {
         let coord = self.asker_of(member, t);

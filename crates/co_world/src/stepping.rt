@@ -1,18 +1,16 @@
 //! One event of a schedule line.
-ghost use Rattle.std.specs.Prelude.{◌≡◌, ◌≤◌, ℕ, Option, length, IfOk, IfErr, IsErrOf, OnOk, ◌↔◌};
+ghost use Rattle.std.specs.Prelude.{◌≡◌, ◌≤◌, length, IfOk, IfErr, IsErrOf, OnOk, ◌↔◌};
 ghost use Rattle.co_base.specs.declared.op.Op.TheVariants as op;
-ghost use Rattle.co_outside.specs.Home.{HomeView, File};
-ghost use Rattle.co_outside.specs.declared.spot.Spot.{Spot};
+ghost use Rattle.co_outside.specs.Home.{HomeView};
 ghost use Rattle.co_plain.specs.Federation.{Federation};
 ghost use Rattle.co_plain.specs.Runs.{numbered};
-ghost use Rattle.co_plain.specs.Step.{operate, deliver, timer_at, crash_at, restart_at, arm_at, checkpoint_at, disarmed, step_line};
+ghost use Rattle.co_plain.specs.Step.{operate, deliver, timer_at, crash_at, restart_at, arm_at, checkpoint_at, step_line};
 ghost use Rattle.co_schedule.specs.View.{IsEventFor, IsMessageFor, IsNode};
 ghost use Rattle.co_world.specs.Calls.{receiver};
 ghost use Rattle.co_cluster.specs.Conditions.{IsReady};
 ghost use Rattle.co_world.specs.Counting.{MeetsLimit, MeetsPlainLimit};
-ghost use Rattle.co_cluster.specs.Left.{AreLeftBy};
-ghost use Rattle.co_world.specs.Standing.{AreServed, RepresentsWorld, AreHeld};
-ghost use Rattle.co_cluster.specs.Served.{HasEndedAs};
+ghost use Rattle.co_world.specs.Standing.{RepresentsWorld, AreHeld};
+ghost use Rattle.co_world.specs.Answered.{AnswersEvent};
 
 use crate::clients::Ending;
 use crate::world::World;
@@ -114,11 +112,8 @@ impl<E: Engine + Drop> World<E> {
         requires held { AreHeld (H.seen home.old) self.old }
         requires stands { (s : Federation) × RepresentsWorld E.takes E.stands_for self.old s × IsReady s }
         ensures count { IsErrOf result WorldFault.Count → ⊥ }
-        ensures items { (s : Federation) → RepresentsWorld E.takes E.stands_for self.old s → IsReady s → IfOk result (λ items. items ≡ numbered number (deliver s message).items) }
-        ensures stands { (s : Federation) → RepresentsWorld E.takes E.stands_for self.old s → IsReady s → OnOk result (RepresentsWorld E.takes E.stands_for self.new (deliver s message).state) }
-        ensures left { (s : Federation) → RepresentsWorld E.takes E.stands_for self.old s → IsReady s → IfErr result (AreLeftBy (H.seen home.new).file s (deliver s message).state (deliver (disarmed s) message).state) }
-        ensures served { OnOk result (AreServed self.new (H.seen home.old) (H.seen home.new)) }
-        ensures ended { IfErr result (λ fault. HasEndedAs fault (H.seen home.old) (H.seen home.new)) }
+        ensures answered { (s : Federation) → RepresentsWorld E.takes E.stands_for self.old s → IsReady s →
+            AnswersEvent E.takes E.stands_for number (λ z. deliver z message) s self.new (H.seen home.old) (H.seen home.new) result }
         ensures entered { (H.seen home.new).entered ≡ (H.seen home.old).entered }
     {
         match self.wire.get(&message) {
@@ -146,11 +141,8 @@ impl<E: Engine + Drop> World<E> {
         requires held { AreHeld (H.seen home.old) self.old }
         requires stands { (s : Federation) × RepresentsWorld E.takes E.stands_for self.old s × IsReady s }
         ensures count { IsErrOf result WorldFault.Count → ⊥ }
-        ensures items { (s : Federation) → RepresentsWorld E.takes E.stands_for self.old s → IfOk result (λ items. items ≡ numbered number (timer_at s t node).items) }
-        ensures stands { (s : Federation) → RepresentsWorld E.takes E.stands_for self.old s → OnOk result (RepresentsWorld E.takes E.stands_for self.new (timer_at s t node).state) }
-        ensures left { (s : Federation) → RepresentsWorld E.takes E.stands_for self.old s → IfErr result (AreLeftBy (H.seen home.new).file s (timer_at s t node).state (timer_at (disarmed s) t node).state) }
-        ensures served { OnOk result (AreServed self.new (H.seen home.old) (H.seen home.new)) }
-        ensures ended { IfErr result (λ fault. HasEndedAs fault (H.seen home.old) (H.seen home.new)) }
+        ensures answered { (s : Federation) → RepresentsWorld E.takes E.stands_for self.old s →
+            AnswersEvent E.takes E.stands_for number (λ z. timer_at z t node) s self.new (H.seen home.old) (H.seen home.new) result }
         ensures entered { (H.seen home.new).entered ≡ (H.seen home.old).entered }
     {
         match node {
@@ -165,11 +157,8 @@ impl<E: Engine + Drop> World<E> {
         requires held { AreHeld (H.seen home.old) self.old }
         requires stands { (s : Federation) × RepresentsWorld E.takes E.stands_for self.old s × IsReady s }
         ensures count { IsErrOf result WorldFault.Count → ⊥ }
-        ensures items { (s : Federation) → RepresentsWorld E.takes E.stands_for self.old s → IfOk result (λ items. items ≡ numbered number (crash_at s node).items) }
-        ensures stands { (s : Federation) → RepresentsWorld E.takes E.stands_for self.old s → OnOk result (RepresentsWorld E.takes E.stands_for self.new (crash_at s node).state) }
-        ensures left { (s : Federation) → RepresentsWorld E.takes E.stands_for self.old s → IfErr result (AreLeftBy (H.seen home.new).file s (crash_at s node).state (crash_at (disarmed s) node).state) }
-        ensures served { OnOk result (AreServed self.new (H.seen home.old) (H.seen home.new)) }
-        ensures ended { IfErr result (λ fault. HasEndedAs fault (H.seen home.old) (H.seen home.new)) }
+        ensures answered { (s : Federation) → RepresentsWorld E.takes E.stands_for self.old s →
+            AnswersEvent E.takes E.stands_for number (λ z. crash_at z node) s self.new (H.seen home.old) (H.seen home.new) result }
         ensures entered { (H.seen home.new).entered ≡ (H.seen home.old).entered }
     {
         match node {
@@ -189,11 +178,8 @@ impl<E: Engine + Drop> World<E> {
         requires held { AreHeld (H.seen home.old) self.old }
         requires stands { (s : Federation) × RepresentsWorld E.takes E.stands_for self.old s × IsReady s }
         ensures count { IsErrOf result WorldFault.Count → ⊥ }
-        ensures items { (s : Federation) → RepresentsWorld E.takes E.stands_for self.old s → IfOk result (λ items. items ≡ numbered number (restart_at s node).items) }
-        ensures stands { (s : Federation) → RepresentsWorld E.takes E.stands_for self.old s → OnOk result (RepresentsWorld E.takes E.stands_for self.new (restart_at s node).state) }
-        ensures left { (s : Federation) → RepresentsWorld E.takes E.stands_for self.old s → IfErr result (AreLeftBy (H.seen home.new).file s (restart_at s node).state (restart_at (disarmed s) node).state) }
-        ensures served { OnOk result (AreServed self.new (H.seen home.old) (H.seen home.new)) }
-        ensures ended { IfErr result (λ fault. HasEndedAs fault (H.seen home.old) (H.seen home.new)) }
+        ensures answered { (s : Federation) → RepresentsWorld E.takes E.stands_for self.old s →
+            AnswersEvent E.takes E.stands_for number (λ z. restart_at z node) s self.new (H.seen home.old) (H.seen home.new) result }
         ensures entered { (H.seen home.new).entered ≡ (H.seen home.old).entered }
     {
         match node {
@@ -222,11 +208,8 @@ impl<E: Engine + Drop> World<E> {
         requires held { AreHeld (H.seen home.old) self.old }
         requires stands { (s : Federation) × RepresentsWorld E.takes E.stands_for self.old s × IsReady s }
         ensures count { IsErrOf result WorldFault.Count → ⊥ }
-        ensures items { (s : Federation) → RepresentsWorld E.takes E.stands_for self.old s → IfOk result (λ items. items ≡ numbered number (arm_at s call leaves.now node).items) }
-        ensures stands { (s : Federation) → RepresentsWorld E.takes E.stands_for self.old s → OnOk result (RepresentsWorld E.takes E.stands_for self.new (arm_at s call leaves.now node).state) }
-        ensures left { (s : Federation) → RepresentsWorld E.takes E.stands_for self.old s → IfErr result (AreLeftBy (H.seen home.new).file s (arm_at s call leaves.now node).state (arm_at (disarmed s) call leaves.now node).state) }
-        ensures served { OnOk result (AreServed self.new (H.seen home.old) (H.seen home.new)) }
-        ensures ended { IfErr result (λ fault. HasEndedAs fault (H.seen home.old) (H.seen home.new)) }
+        ensures answered { (s : Federation) → RepresentsWorld E.takes E.stands_for self.old s →
+            AnswersEvent E.takes E.stands_for number (λ z. arm_at z call leaves.now node) s self.new (H.seen home.old) (H.seen home.new) result }
         ensures entered { (H.seen home.new).entered ≡ (H.seen home.old).entered }
     {
         let leaves = copy_leaves(self.alloc, leaves)?;
@@ -251,11 +234,8 @@ impl<E: Engine + Drop> World<E> {
         requires held { AreHeld (H.seen home.old) self.old }
         requires stands { (s : Federation) × RepresentsWorld E.takes E.stands_for self.old s × IsReady s }
         ensures count { IsErrOf result WorldFault.Count → ⊥ }
-        ensures items { (s : Federation) → RepresentsWorld E.takes E.stands_for self.old s → IfOk result (λ items. items ≡ numbered number (checkpoint_at s node).items) }
-        ensures stands { (s : Federation) → RepresentsWorld E.takes E.stands_for self.old s → OnOk result (RepresentsWorld E.takes E.stands_for self.new (checkpoint_at s node).state) }
-        ensures left { (s : Federation) → RepresentsWorld E.takes E.stands_for self.old s → IfErr result (AreLeftBy (H.seen home.new).file s (checkpoint_at s node).state (checkpoint_at (disarmed s) node).state) }
-        ensures served { OnOk result (AreServed self.new (H.seen home.old) (H.seen home.new)) }
-        ensures ended { IfErr result (λ fault. HasEndedAs fault (H.seen home.old) (H.seen home.new)) }
+        ensures answered { (s : Federation) → RepresentsWorld E.takes E.stands_for self.old s →
+            AnswersEvent E.takes E.stands_for number (λ z. checkpoint_at z node) s self.new (H.seen home.old) (H.seen home.new) result }
         ensures entered { (H.seen home.new).entered ≡ (H.seen home.old).entered }
     {
         match node {
@@ -281,11 +261,8 @@ impl<E: Engine + Drop> World<E> {
         requires stands { (s : Federation) × RepresentsWorld E.takes E.stands_for self.old s × IsReady s }
         ensures count { IsErrOf result WorldFault.Count ↔ MeetsLimit self.old.sessions event.now }
         ensures limit { (s : Federation) → RepresentsWorld E.takes E.stands_for self.old s → IsErrOf result WorldFault.Count ↔ MeetsPlainLimit s event.now }
-        ensures items { (s : Federation) → RepresentsWorld E.takes E.stands_for self.old s → IsReady s → IfOk result (λ items. items ≡ numbered number (step_line s event.now).items) }
-        ensures stands { (s : Federation) → RepresentsWorld E.takes E.stands_for self.old s → IsReady s → OnOk result (RepresentsWorld E.takes E.stands_for self.new (step_line s event.now).state) }
-        ensures left { (s : Federation) → RepresentsWorld E.takes E.stands_for self.old s → IsReady s → IfErr result (AreLeftBy (H.seen home.new).file s (step_line s event.now).state (step_line (disarmed s) event.now).state) }
-        ensures served { OnOk result (AreServed self.new (H.seen home.old) (H.seen home.new)) }
-        ensures ended { IfErr result (λ fault. HasEndedAs fault (H.seen home.old) (H.seen home.new)) }
+        ensures answered { (s : Federation) → RepresentsWorld E.takes E.stands_for self.old s → IsReady s →
+            AnswersEvent E.takes E.stands_for number (λ z. step_line z event.now) s self.new (H.seen home.old) (H.seen home.new) result }
         ensures entered { (H.seen home.new).entered ≡ (H.seen home.old).entered }
     {
         match event {

@@ -1,13 +1,11 @@
-use Rattle.std.proofs.Common.{length, subst, inl, refl}
+use Rattle.std.proofs.Common.{length, subst, refl}
 use Rattle.co_message.specs.declared.event.Event.{Event}
 use Rattle.co_schedule.specs.View.{IsEventFor}
 use Rattle.co_world.proofs.Acting.{own_member}
-use Rattle.co_world.proofs.Ends.{served_alone, wants_memory, no_limit, unserved}
-use Rattle.co_cluster.proofs.Lefts.{wanting_left, unserved_left}
-use Rattle.co_world.proofs.Nodes.{held_left}
 use Rattle.co_world.proofs.Limits.{through, limits_alike}
 use Rattle.co_cluster.proofs.Ready.{votes_again}
-use Rattle.co_world.proofs.Stepped.{limit_of, items_of, stands_of, left_of}
+use Rattle.co_world.proofs.Ends.{no_limit, of_memory}
+use Rattle.co_world.proofs.Stepped.{limit_of, answered_at, alone_at}
 use Rattle.co_world.proofs.world.World.step.Goals as goal
 
 pub begin-requires-clause-in_head : goal.begin-requires-clause-in_head
@@ -23,11 +21,7 @@ returns-in-Begin g c =
     record {
       count = count;
       limit = λ s r. through count (limits_alike g.E.Engine.takes g.E.Engine.stands_for c.args.self.now s r c.args.event.now);
-      items = λ s r ready. items_of c.begin.result c.in-Begin.is c.args.number s (c.begin.ensures.items s r);
-      stands = λ s r ready. stands_of c.begin.result c.in-Begin.is g.E.Engine.takes g.E.Engine.stands_for c.begin.new.self s (c.begin.ensures.stands s r);
-      left = λ s r ready. left_of c.begin.result c.in-Begin.is (g.H.Home.seen c.begin.new.home).file s (c.begin.ensures.left s r);
-      served = c.begin.ensures.served;
-      ended = c.begin.ensures.ended;
+      answered = λ s r ready. answered_at g.E.Engine.takes g.E.Engine.stands_for c.args.number c.in-Begin.is s c.begin.new.self (g.H.Home.seen c.args.home.now) (g.H.Home.seen c.begin.new.home) c.begin.result (c.begin.ensures.answered s r);
       entered = c.begin.ensures.entered;
     }
 
@@ -41,12 +35,9 @@ returns-in-Local g c =
     record {
       count = count;
       limit = λ s r. through count (limits_alike g.E.Engine.takes g.E.Engine.stands_for c.args.self.now s r c.args.event.now);
-      items = λ s r ready. items_of c.begin_local.result c.in-Local.is c.args.number s (c.begin_local.ensures.items s r);
-      stands = λ s r ready. stands_of c.begin_local.result c.in-Local.is g.E.Engine.takes g.E.Engine.stands_for c.begin_local.new.self s (c.begin_local.ensures.stands s r);
-      left = λ s r ready.
-          unserved_left c.begin_local.result _ _ _ _ c.begin_local.ensures.ended (inl (held_left g.E.Engine.takes g.E.Engine.stands_for c.args.self.now s (g.H.Home.seen c.args.home.now) r c.requires.held));
-      served = served_alone c.begin_local.result c.begin_local.new.self (g.H.Home.seen c.args.home.now) (c.begin_local.ensures.held (g.H.Home.seen c.args.home.now) c.requires.held);
-      ended = unserved c.begin_local.result (g.H.Home.seen c.args.home.now) c.begin_local.ensures.ended;
+      answered = λ s r ready.
+          alone_at g.E.Engine.takes g.E.Engine.stands_for c.args.number c.in-Local.is s c.args.self.now c.begin_local.new.self (g.H.Home.seen c.args.home.now) c.begin_local.result r c.requires.held (c.begin_local.ensures.items s r) (c.begin_local.ensures.stands s r)
+          (c.begin_local.ensures.held (g.H.Home.seen c.args.home.now) c.requires.held) c.begin_local.ensures.ended;
       entered = refl;
     }
 
@@ -63,12 +54,9 @@ returns-in-Read g c =
     record {
       count = count;
       limit = λ s r. through count (limits_alike g.E.Engine.takes g.E.Engine.stands_for c.args.self.now s r c.args.event.now);
-      items = λ s r ready. items_of c.reads.result c.in-Read.is c.args.number s (c.reads.ensures.items s r ready);
-      stands = λ s r ready. stands_of c.reads.result c.in-Read.is g.E.Engine.takes g.E.Engine.stands_for c.reads.new.self s (c.reads.ensures.stands s r ready);
-      left = λ s r ready.
-          wanting_left c.reads.result _ _ _ _ c.reads.ensures.memory (inl (held_left g.E.Engine.takes g.E.Engine.stands_for c.args.self.now s (g.H.Home.seen c.args.home.now) r c.requires.held));
-      served = served_alone c.reads.result c.reads.new.self (g.H.Home.seen c.args.home.now) (c.reads.ensures.held (g.H.Home.seen c.args.home.now) c.requires.held);
-      ended = wants_memory c.reads.result (g.H.Home.seen c.args.home.now) (g.H.Home.seen c.args.home.now) refl c.reads.ensures.memory;
+      answered = λ s r ready.
+          alone_at g.E.Engine.takes g.E.Engine.stands_for c.args.number c.in-Read.is s c.args.self.now c.reads.new.self (g.H.Home.seen c.args.home.now) c.reads.result r c.requires.held (c.reads.ensures.items s r ready) (c.reads.ensures.stands s r ready)
+          (c.reads.ensures.held (g.H.Home.seen c.args.home.now) c.requires.held) (of_memory c.reads.result c.reads.ensures.memory);
       entered = refl;
     }
 
@@ -85,12 +73,9 @@ returns-in-Write g c =
     record {
       count = count;
       limit = λ s r. through count (limits_alike g.E.Engine.takes g.E.Engine.stands_for c.args.self.now s r c.args.event.now);
-      items = λ s r ready. items_of c.writes.result c.in-Write.is c.args.number s (c.writes.ensures.items s r ready);
-      stands = λ s r ready. stands_of c.writes.result c.in-Write.is g.E.Engine.takes g.E.Engine.stands_for c.writes.new.self s (c.writes.ensures.stands s r ready);
-      left = λ s r ready.
-          wanting_left c.writes.result _ _ _ _ c.writes.ensures.memory (inl (held_left g.E.Engine.takes g.E.Engine.stands_for c.args.self.now s (g.H.Home.seen c.args.home.now) r c.requires.held));
-      served = served_alone c.writes.result c.writes.new.self (g.H.Home.seen c.args.home.now) (c.writes.ensures.held (g.H.Home.seen c.args.home.now) c.requires.held);
-      ended = wants_memory c.writes.result (g.H.Home.seen c.args.home.now) (g.H.Home.seen c.args.home.now) refl c.writes.ensures.memory;
+      answered = λ s r ready.
+          alone_at g.E.Engine.takes g.E.Engine.stands_for c.args.number c.in-Write.is s c.args.self.now c.writes.new.self (g.H.Home.seen c.args.home.now) c.writes.result r c.requires.held (c.writes.ensures.items s r ready) (c.writes.ensures.stands s r ready)
+          (c.writes.ensures.held (g.H.Home.seen c.args.home.now) c.requires.held) (of_memory c.writes.result c.writes.ensures.memory);
       entered = refl;
     }
 
@@ -107,12 +92,9 @@ returns-in-Erase g c =
     record {
       count = count;
       limit = λ s r. through count (limits_alike g.E.Engine.takes g.E.Engine.stands_for c.args.self.now s r c.args.event.now);
-      items = λ s r ready. items_of c.erases.result c.in-Erase.is c.args.number s (c.erases.ensures.items s r ready);
-      stands = λ s r ready. stands_of c.erases.result c.in-Erase.is g.E.Engine.takes g.E.Engine.stands_for c.erases.new.self s (c.erases.ensures.stands s r ready);
-      left = λ s r ready.
-          wanting_left c.erases.result _ _ _ _ c.erases.ensures.memory (inl (held_left g.E.Engine.takes g.E.Engine.stands_for c.args.self.now s (g.H.Home.seen c.args.home.now) r c.requires.held));
-      served = served_alone c.erases.result c.erases.new.self (g.H.Home.seen c.args.home.now) (c.erases.ensures.held (g.H.Home.seen c.args.home.now) c.requires.held);
-      ended = wants_memory c.erases.result (g.H.Home.seen c.args.home.now) (g.H.Home.seen c.args.home.now) refl c.erases.ensures.memory;
+      answered = λ s r ready.
+          alone_at g.E.Engine.takes g.E.Engine.stands_for c.args.number c.in-Erase.is s c.args.self.now c.erases.new.self (g.H.Home.seen c.args.home.now) c.erases.result r c.requires.held (c.erases.ensures.items s r ready) (c.erases.ensures.stands s r ready)
+          (c.erases.ensures.held (g.H.Home.seen c.args.home.now) c.requires.held) (of_memory c.erases.result c.erases.ensures.memory);
       entered = refl;
     }
 
@@ -129,12 +111,9 @@ returns-in-Scan g c =
     record {
       count = count;
       limit = λ s r. through count (limits_alike g.E.Engine.takes g.E.Engine.stands_for c.args.self.now s r c.args.event.now);
-      items = λ s r ready. items_of c.scans.result c.in-Scan.is c.args.number s (c.scans.ensures.items s r ready);
-      stands = λ s r ready. stands_of c.scans.result c.in-Scan.is g.E.Engine.takes g.E.Engine.stands_for c.scans.new.self s (c.scans.ensures.stands s r ready);
-      left = λ s r ready.
-          wanting_left c.scans.result _ _ _ _ c.scans.ensures.memory (inl (held_left g.E.Engine.takes g.E.Engine.stands_for c.args.self.now s (g.H.Home.seen c.args.home.now) r c.requires.held));
-      served = served_alone c.scans.result c.scans.new.self (g.H.Home.seen c.args.home.now) (c.scans.ensures.held (g.H.Home.seen c.args.home.now) c.requires.held);
-      ended = wants_memory c.scans.result (g.H.Home.seen c.args.home.now) (g.H.Home.seen c.args.home.now) refl c.scans.ensures.memory;
+      answered = λ s r ready.
+          alone_at g.E.Engine.takes g.E.Engine.stands_for c.args.number c.in-Scan.is s c.args.self.now c.scans.new.self (g.H.Home.seen c.args.home.now) c.scans.result r c.requires.held (c.scans.ensures.items s r ready) (c.scans.ensures.stands s r ready)
+          (c.scans.ensures.held (g.H.Home.seen c.args.home.now) c.requires.held) (of_memory c.scans.result c.scans.ensures.memory);
       entered = refl;
     }
 
@@ -147,11 +126,7 @@ returns-in-Commit g c =
     record {
       count = count;
       limit = λ s r. through count (limits_alike g.E.Engine.takes g.E.Engine.stands_for c.args.self.now s r c.args.event.now);
-      items = λ s r ready. items_of c.end.result c.in-Commit.is c.args.number s (c.end.ensures.items s r ready);
-      stands = λ s r ready. stands_of c.end.result c.in-Commit.is g.E.Engine.takes g.E.Engine.stands_for c.end.new.self s (c.end.ensures.stands s r ready);
-      left = λ s r ready. left_of c.end.result c.in-Commit.is (g.H.Home.seen c.end.new.home).file s (c.end.ensures.left s r ready);
-      served = c.end.ensures.served;
-      ended = c.end.ensures.ended;
+      answered = λ s r ready. answered_at g.E.Engine.takes g.E.Engine.stands_for c.args.number c.in-Commit.is s c.end.new.self (g.H.Home.seen c.args.home.now) (g.H.Home.seen c.end.new.home) c.end.result (c.end.ensures.answered s r ready);
       entered = c.end.ensures.entered;
     }
 
@@ -164,11 +139,7 @@ returns-in-Abort g c =
     record {
       count = count;
       limit = λ s r. through count (limits_alike g.E.Engine.takes g.E.Engine.stands_for c.args.self.now s r c.args.event.now);
-      items = λ s r ready. items_of c.end-in-Abort.result c.in-Abort.is c.args.number s (c.end-in-Abort.ensures.items s r ready);
-      stands = λ s r ready. stands_of c.end-in-Abort.result c.in-Abort.is g.E.Engine.takes g.E.Engine.stands_for c.end-in-Abort.new.self s (c.end-in-Abort.ensures.stands s r ready);
-      left = λ s r ready. left_of c.end-in-Abort.result c.in-Abort.is (g.H.Home.seen c.end-in-Abort.new.home).file s (c.end-in-Abort.ensures.left s r ready);
-      served = c.end-in-Abort.ensures.served;
-      ended = c.end-in-Abort.ensures.ended;
+      answered = λ s r ready. answered_at g.E.Engine.takes g.E.Engine.stands_for c.args.number c.in-Abort.is s c.end-in-Abort.new.self (g.H.Home.seen c.args.home.now) (g.H.Home.seen c.end-in-Abort.new.home) c.end-in-Abort.result (c.end-in-Abort.ensures.answered s r ready);
       entered = c.end-in-Abort.ensures.entered;
     }
 
@@ -185,11 +156,7 @@ returns-in-Deliver g c =
     record {
       count = count;
       limit = λ s r. through count (limits_alike g.E.Engine.takes g.E.Engine.stands_for c.args.self.now s r c.args.event.now);
-      items = λ s r ready. items_of c.deliver.result c.in-Deliver.is c.args.number s (c.deliver.ensures.items s r ready);
-      stands = λ s r ready. stands_of c.deliver.result c.in-Deliver.is g.E.Engine.takes g.E.Engine.stands_for c.deliver.new.self s (c.deliver.ensures.stands s r ready);
-      left = λ s r ready. left_of c.deliver.result c.in-Deliver.is (g.H.Home.seen c.deliver.new.home).file s (c.deliver.ensures.left s r ready);
-      served = c.deliver.ensures.served;
-      ended = c.deliver.ensures.ended;
+      answered = λ s r ready. answered_at g.E.Engine.takes g.E.Engine.stands_for c.args.number c.in-Deliver.is s c.deliver.new.self (g.H.Home.seen c.args.home.now) (g.H.Home.seen c.deliver.new.home) c.deliver.result (c.deliver.ensures.answered s r ready);
       entered = c.deliver.ensures.entered;
     }
 
@@ -211,11 +178,7 @@ returns-in-Vote g c =
     record {
       count = count;
       limit = λ s r. through count (limits_alike g.E.Engine.takes g.E.Engine.stands_for c.args.self.now s r c.args.event.now);
-      items = λ s r ready. items_of c.at_member.result c.in-Vote.is c.args.number s (c.at_member.ensures.items s r);
-      stands = λ s r ready. stands_of c.at_member.result c.in-Vote.is g.E.Engine.takes g.E.Engine.stands_for c.at_member.new.self s (c.at_member.ensures.stands s r);
-      left = λ s r ready. left_of c.at_member.result c.in-Vote.is (g.H.Home.seen c.at_member.new.home).file s (c.at_member.ensures.left s r);
-      served = c.at_member.ensures.served;
-      ended = c.at_member.ensures.ended;
+      answered = λ s r ready. answered_at g.E.Engine.takes g.E.Engine.stands_for c.args.number c.in-Vote.is s c.at_member.new.self (g.H.Home.seen c.args.home.now) (g.H.Home.seen c.at_member.new.home) c.at_member.result (c.at_member.ensures.answered s r);
       entered = c.at_member.ensures.entered;
     }
 
@@ -232,11 +195,7 @@ returns-in-Ask g c =
     record {
       count = count;
       limit = λ s r. through count (limits_alike g.E.Engine.takes g.E.Engine.stands_for c.args.self.now s r c.args.event.now);
-      items = λ s r ready. items_of c.at_member-in-Ask.result c.in-Ask.is c.args.number s (c.at_member-in-Ask.ensures.items s r);
-      stands = λ s r ready. stands_of c.at_member-in-Ask.result c.in-Ask.is g.E.Engine.takes g.E.Engine.stands_for c.at_member-in-Ask.new.self s (c.at_member-in-Ask.ensures.stands s r);
-      left = λ s r ready. left_of c.at_member-in-Ask.result c.in-Ask.is (g.H.Home.seen c.at_member-in-Ask.new.home).file s (c.at_member-in-Ask.ensures.left s r);
-      served = c.at_member-in-Ask.ensures.served;
-      ended = c.at_member-in-Ask.ensures.ended;
+      answered = λ s r ready. answered_at g.E.Engine.takes g.E.Engine.stands_for c.args.number c.in-Ask.is s c.at_member-in-Ask.new.self (g.H.Home.seen c.args.home.now) (g.H.Home.seen c.at_member-in-Ask.new.home) c.at_member-in-Ask.result (c.at_member-in-Ask.ensures.answered s r);
       entered = c.at_member-in-Ask.ensures.entered;
     }
 
@@ -253,11 +212,7 @@ returns-in-Resend g c =
     record {
       count = count;
       limit = λ s r. through count (limits_alike g.E.Engine.takes g.E.Engine.stands_for c.args.self.now s r c.args.event.now);
-      items = λ s r ready. items_of c.at_coord.result c.in-Resend.is c.args.number s (c.at_coord.ensures.items s r);
-      stands = λ s r ready. stands_of c.at_coord.result c.in-Resend.is g.E.Engine.takes g.E.Engine.stands_for c.at_coord.new.self s (c.at_coord.ensures.stands s r);
-      left = λ s r ready. left_of c.at_coord.result c.in-Resend.is (g.H.Home.seen c.at_coord.new.home).file s (c.at_coord.ensures.left s r);
-      served = c.at_coord.ensures.served;
-      ended = c.at_coord.ensures.ended;
+      answered = λ s r ready. answered_at g.E.Engine.takes g.E.Engine.stands_for c.args.number c.in-Resend.is s c.at_coord.new.self (g.H.Home.seen c.args.home.now) (g.H.Home.seen c.at_coord.new.home) c.at_coord.result (c.at_coord.ensures.answered s r);
       entered = c.at_coord.ensures.entered;
     }
 
@@ -274,11 +229,7 @@ returns-in-Timer g c =
     record {
       count = count;
       limit = λ s r. through count (limits_alike g.E.Engine.takes g.E.Engine.stands_for c.args.self.now s r c.args.event.now);
-      items = λ s r ready. items_of c.timer.result c.in-Timer.is c.args.number s (c.timer.ensures.items s r);
-      stands = λ s r ready. stands_of c.timer.result c.in-Timer.is g.E.Engine.takes g.E.Engine.stands_for c.timer.new.self s (c.timer.ensures.stands s r);
-      left = λ s r ready. left_of c.timer.result c.in-Timer.is (g.H.Home.seen c.timer.new.home).file s (c.timer.ensures.left s r);
-      served = c.timer.ensures.served;
-      ended = c.timer.ensures.ended;
+      answered = λ s r ready. answered_at g.E.Engine.takes g.E.Engine.stands_for c.args.number c.in-Timer.is s c.timer.new.self (g.H.Home.seen c.args.home.now) (g.H.Home.seen c.timer.new.home) c.timer.result (c.timer.ensures.answered s r);
       entered = c.timer.ensures.entered;
     }
 
@@ -295,11 +246,7 @@ returns-in-Crash g c =
     record {
       count = count;
       limit = λ s r. through count (limits_alike g.E.Engine.takes g.E.Engine.stands_for c.args.self.now s r c.args.event.now);
-      items = λ s r ready. items_of c.crash.result c.in-Crash.is c.args.number s (c.crash.ensures.items s r);
-      stands = λ s r ready. stands_of c.crash.result c.in-Crash.is g.E.Engine.takes g.E.Engine.stands_for c.crash.new.self s (c.crash.ensures.stands s r);
-      left = λ s r ready. left_of c.crash.result c.in-Crash.is (g.H.Home.seen c.crash.new.home).file s (c.crash.ensures.left s r);
-      served = c.crash.ensures.served;
-      ended = c.crash.ensures.ended;
+      answered = λ s r ready. answered_at g.E.Engine.takes g.E.Engine.stands_for c.args.number c.in-Crash.is s c.crash.new.self (g.H.Home.seen c.args.home.now) (g.H.Home.seen c.crash.new.home) c.crash.result (c.crash.ensures.answered s r);
       entered = c.crash.ensures.entered;
     }
 
@@ -316,11 +263,7 @@ returns-in-Restart g c =
     record {
       count = count;
       limit = λ s r. through count (limits_alike g.E.Engine.takes g.E.Engine.stands_for c.args.self.now s r c.args.event.now);
-      items = λ s r ready. items_of c.restart.result c.in-Restart.is c.args.number s (c.restart.ensures.items s r);
-      stands = λ s r ready. stands_of c.restart.result c.in-Restart.is g.E.Engine.takes g.E.Engine.stands_for c.restart.new.self s (c.restart.ensures.stands s r);
-      left = λ s r ready. left_of c.restart.result c.in-Restart.is (g.H.Home.seen c.restart.new.home).file s (c.restart.ensures.left s r);
-      served = c.restart.ensures.served;
-      ended = c.restart.ensures.ended;
+      answered = λ s r ready. answered_at g.E.Engine.takes g.E.Engine.stands_for c.args.number c.in-Restart.is s c.restart.new.self (g.H.Home.seen c.args.home.now) (g.H.Home.seen c.restart.new.home) c.restart.result (c.restart.ensures.answered s r);
       entered = c.restart.ensures.entered;
     }
 
@@ -337,11 +280,7 @@ returns-in-Checkpoint g c =
     record {
       count = count;
       limit = λ s r. through count (limits_alike g.E.Engine.takes g.E.Engine.stands_for c.args.self.now s r c.args.event.now);
-      items = λ s r ready. items_of c.checkpoint.result c.in-Checkpoint.is c.args.number s (c.checkpoint.ensures.items s r);
-      stands = λ s r ready. stands_of c.checkpoint.result c.in-Checkpoint.is g.E.Engine.takes g.E.Engine.stands_for c.checkpoint.new.self s (c.checkpoint.ensures.stands s r);
-      left = λ s r ready. left_of c.checkpoint.result c.in-Checkpoint.is (g.H.Home.seen c.checkpoint.new.home).file s (c.checkpoint.ensures.left s r);
-      served = c.checkpoint.ensures.served;
-      ended = c.checkpoint.ensures.ended;
+      answered = λ s r ready. answered_at g.E.Engine.takes g.E.Engine.stands_for c.args.number c.in-Checkpoint.is s c.checkpoint.new.self (g.H.Home.seen c.args.home.now) (g.H.Home.seen c.checkpoint.new.home) c.checkpoint.result (c.checkpoint.ensures.answered s r);
       entered = c.checkpoint.ensures.entered;
     }
 
@@ -362,10 +301,6 @@ returns-in-Arm g c =
     record {
       count = count;
       limit = λ s r. through count (limits_alike g.E.Engine.takes g.E.Engine.stands_for c.args.self.now s r c.args.event.now);
-      items = λ s r ready. items_of c.arm.result c.in-Arm.is c.args.number s (c.arm.ensures.items s r);
-      stands = λ s r ready. stands_of c.arm.result c.in-Arm.is g.E.Engine.takes g.E.Engine.stands_for c.arm.new.self s (c.arm.ensures.stands s r);
-      left = λ s r ready. left_of c.arm.result c.in-Arm.is (g.H.Home.seen c.arm.new.home).file s (c.arm.ensures.left s r);
-      served = c.arm.ensures.served;
-      ended = c.arm.ensures.ended;
+      answered = λ s r ready. answered_at g.E.Engine.takes g.E.Engine.stands_for c.args.number c.in-Arm.is s c.arm.new.self (g.H.Home.seen c.args.home.now) (g.H.Home.seen c.arm.new.home) c.arm.result (c.arm.ensures.answered s r);
       entered = c.arm.ensures.entered;
     }

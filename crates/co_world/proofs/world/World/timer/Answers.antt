@@ -1,11 +1,8 @@
-use Rattle.std.proofs.Common.{◌≡◌, length, sym, subst}
-use Rattle.std.specs.Prelude.{IfOk, OnOk, IfErr}
+use Rattle.std.proofs.Common.{length, sym, subst}
 use Rattle.co_base.specs.declared.node.Node.{Node}
-use Rattle.co_plain.specs.Runs.{numbered}
-use Rattle.co_plain.specs.Step.{timer_at, disarmed}
+use Rattle.co_plain.specs.Step.{timer_at}
 use Rattle.co_schedule.specs.View.{IsNode}
-use Rattle.co_world.specs.Standing.{RepresentsWorld}
-use Rattle.co_cluster.specs.Left.{AreLeftBy}
+use Rattle.co_world.specs.Answered.{AnswersEvent}
 use Rattle.co_world.proofs.world.World.timer.Goals as goal
 
 pub at_member-requires-clause-in_head : goal.at_member-requires-clause-in_head
@@ -23,22 +20,6 @@ pub returns-in-Member-clause-count : goal.returns-in-Member-clause-count
 returns-in-Member-clause-count g c =
     c.at_member.ensures.count
 
-pub returns-in-Member-clause-items : goal.returns-in-Member-clause-items
-returns-in-Member-clause-items g c = λ s r.
-    subst (λ (n : Node). IfOk c.at_member.result (λ items. items ≡ numbered c.args.number (timer_at s c.args.t n).items)) (sym c.in-Member.is) (c.at_member.ensures.items s r)
-
-pub returns-in-Member-clause-stands : goal.returns-in-Member-clause-stands
-returns-in-Member-clause-stands g c = λ s r.
-    subst (λ (n : Node). OnOk c.at_member.result (RepresentsWorld g.E.Engine.takes g.E.Engine.stands_for c.at_member.new.self (timer_at s c.args.t n).state)) (sym c.in-Member.is) (c.at_member.ensures.stands s r)
-
-pub returns-in-Member-clause-served : goal.returns-in-Member-clause-served
-returns-in-Member-clause-served g c =
-    c.at_member.ensures.served
-
-pub returns-in-Member-clause-ended : goal.returns-in-Member-clause-ended
-returns-in-Member-clause-ended g c =
-    c.at_member.ensures.ended
-
 pub at_coord-requires-clause-in_head : goal.at_coord-requires-clause-in_head
 at_coord-requires-clause-in_head g c =
     subst (λ (n : Node). IsNode (length c.args.self.now.cluster.members.items) (length c.args.self.now.cluster.coords.items) n) c.in-Coord.is c.requires.in_head
@@ -54,26 +35,12 @@ pub returns-in-Coord-clause-count : goal.returns-in-Coord-clause-count
 returns-in-Coord-clause-count g c =
     c.at_coord.ensures.count
 
-pub returns-in-Coord-clause-items : goal.returns-in-Coord-clause-items
-returns-in-Coord-clause-items g c = λ s r.
-    subst (λ (n : Node). IfOk c.at_coord.result (λ items. items ≡ numbered c.args.number (timer_at s c.args.t n).items)) (sym c.in-Coord.is) (c.at_coord.ensures.items s r)
+pub returns-in-Member-clause-answered : goal.returns-in-Member-clause-answered
+returns-in-Member-clause-answered g c = λ s r.
+    subst (λ (n : Node). AnswersEvent g.E.Engine.takes g.E.Engine.stands_for c.args.number (λ z. timer_at z c.args.t n) s c.at_member.new.self (g.H.Home.seen c.args.home.now) (g.H.Home.seen c.at_member.new.home) c.at_member.result) (sym c.in-Member.is)
+    (c.at_member.ensures.answered s r)
 
-pub returns-in-Coord-clause-stands : goal.returns-in-Coord-clause-stands
-returns-in-Coord-clause-stands g c = λ s r.
-    subst (λ (n : Node). OnOk c.at_coord.result (RepresentsWorld g.E.Engine.takes g.E.Engine.stands_for c.at_coord.new.self (timer_at s c.args.t n).state)) (sym c.in-Coord.is) (c.at_coord.ensures.stands s r)
-
-pub returns-in-Coord-clause-served : goal.returns-in-Coord-clause-served
-returns-in-Coord-clause-served g c =
-    c.at_coord.ensures.served
-
-pub returns-in-Coord-clause-ended : goal.returns-in-Coord-clause-ended
-returns-in-Coord-clause-ended g c =
-    c.at_coord.ensures.ended
-
-pub returns-in-Member-clause-left : goal.returns-in-Member-clause-left
-returns-in-Member-clause-left g c = λ s r.
-    subst (λ (n : Node). IfErr c.at_member.result (AreLeftBy (g.H.Home.seen c.at_member.new.home).file s (timer_at s c.args.t n).state (timer_at (disarmed s) c.args.t n).state)) (sym c.in-Member.is) (c.at_member.ensures.left s r)
-
-pub returns-in-Coord-clause-left : goal.returns-in-Coord-clause-left
-returns-in-Coord-clause-left g c = λ s r.
-    subst (λ (n : Node). IfErr c.at_coord.result (AreLeftBy (g.H.Home.seen c.at_coord.new.home).file s (timer_at s c.args.t n).state (timer_at (disarmed s) c.args.t n).state)) (sym c.in-Coord.is) (c.at_coord.ensures.left s r)
+pub returns-in-Coord-clause-answered : goal.returns-in-Coord-clause-answered
+returns-in-Coord-clause-answered g c = λ s r.
+    subst (λ (n : Node). AnswersEvent g.E.Engine.takes g.E.Engine.stands_for c.args.number (λ z. timer_at z c.args.t n) s c.at_coord.new.self (g.H.Home.seen c.args.home.now) (g.H.Home.seen c.at_coord.new.home) c.at_coord.result) (sym c.in-Coord.is)
+    (c.at_coord.ensures.answered s r)
