@@ -1,6 +1,6 @@
 -- What the log write of an event leaves of the stable records of its coordinator, where no stop is armed.
 use Rattle.std.proofs.Common.{◌≡◌, ℕ, Bool, true, false, List, refl, sym, ap, subst, ◌∙◌}
-use Rattle.std.specs.Prelude.{None, Option, reverse, Result, Ok, Err, IfErr}
+use Rattle.std.specs.Prelude.{None, reverse, Result, Ok, Err, IfErr}
 use Rattle.co_base.specs.declared.node.Node.{Node}
 use Rattle.co_base.specs.declared.node.Node.TheVariants as node
 use Rattle.co_base.specs.declared.part.Part.{Part}
@@ -11,7 +11,7 @@ use Rattle.co_message.specs.declared.answer.Answer.{Answer}
 use Rattle.co_message.specs.declared.message.Message.{Message}
 use Rattle.co_node.specs.Answers.{LeftAs, IsAnswered}
 use Rattle.co_node.specs.Writes.{filled_with}
-use Rattle.co_outside.specs.Home.{File, HomeView}
+use Rattle.co_outside.specs.Home.{HomeView}
 use Rattle.co_outside.specs.declared.spot.Spot.{Spot}
 use Rattle.co_plain.specs.CoordLog.{coord_checkpoint, coord_checkpoint_by}
 use Rattle.co_plain.specs.Coordinator.{coord_commit, coord_deliver}

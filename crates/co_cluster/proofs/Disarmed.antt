@@ -1,9 +1,8 @@
 -- The armed stops of the nodes up to a place are taken away.
-use Rattle.std.proofs.Common.{◌≡◌, ◌<◌, ◌≤◌, ◌+◌, ◌≢◌, ◌⊎◌, inl, inr, ℕ, suc, List, length, set, slice_get, Option, None, Some, refl, sym, ap, ◌∙◌, subst, arith, length-set}
+use Rattle.std.proofs.Common.{◌≡◌, ◌<◌, ◌≤◌, ◌+◌, ◌≢◌, ◌⊎◌, inl, inr, ℕ, suc, List, length, set, slice_get, None, Some, refl, sym, ◌∙◌, subst, arith, length-set}
 use Rattle.co_base.specs.declared.head.Kind.{Kind}
 use Rattle.co_base.specs.declared.node.Node.TheVariants as node
-use Rattle.co_outside.specs.Home.{HomeView, File}
-use Rattle.co_outside.specs.declared.spot.Spot.{Spot}
+use Rattle.co_outside.specs.Home.{HomeView}
 use Rattle.co_log.specs.LogView.{IsHeld}
 use Rattle.co_plain.specs.CoordStep.{with_coord_log}
 use Rattle.co_plain.specs.Federation.{Federation}

@@ -1,5 +1,5 @@
 -- What one node does, as a change of the federation that it is in.
-use Rattle.std.proofs.Common.{◌≡◌, ℕ, suc, List, length, set, slice_get, Option, Some, sym, ap, subst, ◌∙◌, arith, length-set}
+use Rattle.std.proofs.Common.{◌≡◌, ℕ, suc, List, length, set, slice_get, Some, sym, ap, subst, ◌∙◌, arith, length-set}
 use Rattle.std.specs.Prelude.{is_some}
 use Rattle.co_base.specs.declared.head.Kind.{Kind}
 use Rattle.co_plain.specs.Federation.{Federation, with_member, with_coord}

@@ -15,8 +15,7 @@ use Rattle.co_log.specs.declared.fault.NodeFault.{NodeFault}
 use Rattle.co_log.specs.declared.fault.NodeFault.TheVariants as log
 use Rattle.co_durable.specs.declared.fault.WorldFault.{WorldFault}
 use Rattle.co_durable.specs.declared.fault.WorldFault.TheVariants as world
-use Rattle.std.specs.Prelude.{IfErr, Result, Ok, Err}
-use Rattle.co_cluster.specs.Served.{IsOfNoFile, of_node}
+use Rattle.co_cluster.specs.Served.{of_node}
 use Rattle.co_outside.specs.Home.{HomeView, File}
 use Rattle.co_outside.specs.declared.spot.Spot.{Spot}
 use Rattle.co_base.specs.declared.mark.Mark.{Mark}

@@ -1,6 +1,6 @@
 -- An operation at one member, as a change of the federation that it is in.
 use Rattle.std.specs.Prelude.{IsTrue, false}
-use Rattle.std.proofs.Common.{◌≡◌, ◌≢◌, ◌⊎◌, inl, inr, ℕ, suc, List, length, set, slice_get, Option, Some, sym, ap, subst, ◌∙◌, length-set}
+use Rattle.std.proofs.Common.{◌≡◌, ◌≢◌, ◌⊎◌, inl, inr, ℕ, suc, List, length, set, slice_get, Some, sym, ap, subst, ◌∙◌, length-set}
 use Rattle.co_base.specs.declared.head.Kind.{Kind}
 use Rattle.co_base.specs.declared.op.Op.{Op}
 use Rattle.co_base.specs.declared.node.Node.TheVariants as node
@@ -11,8 +11,7 @@ use Rattle.co_member.specs.Standing.{RepresentsMember, HasAnswered, IsSame}
 use Rattle.co_member.specs.declared.member.Member.{Member}
 use Rattle.co_message.specs.declared.answer.Answer.{Answer}
 use Rattle.co_opening.specs.Nodes.{IsMemberAt, IsKept}
-use Rattle.co_outside.specs.Home.{HomeView, File}
-use Rattle.co_outside.specs.declared.spot.Spot.{Spot}
+use Rattle.co_outside.specs.Home.{HomeView}
 use Rattle.co_plain.specs.Federation.{Federation, with_member}
 use Rattle.co_plain.specs.Invariants.{Memory, view, stands}
 use Rattle.co_plain.specs.Member.{member_op}

@@ -14,7 +14,7 @@ use Rattle.co_engine.specs.Calls.{is_installed, may_operate}
 use Rattle.co_state.specs.declared.engine_state.Install.{Install}
 use Rattle.co_state.specs.declared.engine_state.Vote.{Vote}
 use Rattle.co_state.specs.LockRule.{lock_blocker}
-use Rattle.co_state.specs.Table.{look, holds}
+use Rattle.co_state.specs.Table.{holds}
 use Rattle.co_state.specs.VotingRule.{kept_count}
 use Rattle.co_plain.specs.declared.member_state.MemberState.{MemberState}
 use Rattle.co_plain.specs.declared.member_step.MemberStep.{MemberStep}

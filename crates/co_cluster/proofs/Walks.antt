@@ -8,7 +8,7 @@ use Rattle.co_state.specs.Table.{Table, look, holds, least_where}
 use Rattle.co_state.specs.declared.engine_state.EngineState.{EngineState}
 use Rattle.co_plain.specs.Decisions.{votes_for}
 use Rattle.co_plain.specs.Federation.{Federation}
-use Rattle.co_plain.specs.Quiet.{IsNode, IsMember, IsCoordinator, IsOpen, InTable, ActiveAt, VotedAt, IsEnabled, Prepares, Votes, Commits, Asks, lacks_yes, lacks_ack}
+use Rattle.co_plain.specs.Quiet.{IsNode, IsOpen, InTable, ActiveAt, VotedAt, IsEnabled, Prepares, Votes, Commits, Asks, lacks_yes, lacks_ack}
 use Rattle.co_plain.specs.Quiet as plain
 use Rattle.co_plain.specs.Settling.{exchange_txn, ExchangeBefore, IsFirstExchange, IsFirstTimer, timer_ends, is_idle}
 use Rattle.co_plain.specs.declared.coord_state.CoordState.{CoordState}

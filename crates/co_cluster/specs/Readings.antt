@@ -1,13 +1,10 @@
 -- What a federation tells of the plain one that it stands for.
-use Rattle.std.specs.Prelude.{ℕ, zero, suc, Bool, true, false, ◌||◌, ◌≡◌, ◌<◌, ◌≤◌, ◌⊎◌, ◌==◌, length, Option, None, Some}
+use Rattle.std.specs.Prelude.{ℕ, zero, suc, Bool, true, false, ◌≡◌, ◌<◌, ◌≤◌, ◌⊎◌, ◌==◌, length, Option, None, Some}
 use Rattle.co_base.specs.declared.head.Kind.{Kind}
 use Rattle.co_base.specs.declared.node.Node.{Node}
 use Rattle.co_base.specs.declared.node.Node.TheVariants as node
 use Rattle.co_state.specs.declared.engine_state.EngineState.{EngineState}
-use Rattle.co_state.specs.Table.{look, holds, least_where, lesser}
-use Rattle.co_plain.specs.declared.coord_state.Entry.{Entry}
-use Rattle.co_plain.specs.declared.coord_state.Entry.TheVariants as entry
-use Rattle.co_plain.specs.declared.member_state.MemberState.{MemberState}
+use Rattle.co_state.specs.Table.{least_where, lesser}
 use Rattle.co_plain.specs.Federation.{Federation}
 use Rattle.co_plain.specs.Quiet.{IsNode, IsMember, IsCoordinator, node_up, IsEnabled, prepare_helps, vote_helps, commit_helps, ask_helps, Prepares, Votes, Commits, Asks}
 use Rattle.co_plain.specs.Quiet as plain

@@ -1,5 +1,5 @@
 -- For which plain nodes the nodes of a federation stand.
-use Rattle.std.specs.Prelude.{ℕ, suc, ◌≡◌, ◌≤◌, length, slice_get, Option, Some}
+use Rattle.std.specs.Prelude.{ℕ, suc, ◌≡◌, ◌≤◌, length, slice_get, Some}
 use Rattle.co_base.specs.declared.head.Kind.{Kind}
 use Rattle.co_record.specs.Format.{most_members, most_coordinators}
 use Rattle.co_outside.specs.Home.{HomeView}

@@ -1,6 +1,5 @@
 -- What a client may do, and what its session is after it: of the sessions of a federation on its logs as of those of the plain one.
-use Rattle.std.proofs.Common.{◌≡◌, ◌≢◌, ◌⊎◌, inl, inr, ℕ, Bool, true, false, ◌||◌, ◌≤◌, ◌+◌, ◌++◌, [], ◌∷◌, cond, nat_le, arith, if◌then◌else◌, length, Option, None, Some, Result, Ok, Err, refl, sym, ap, ◌∙◌, subst}
-use Rattle.std.specs.Prelude.{◌↔◌}
+use Rattle.std.proofs.Common.{◌≡◌, ◌≢◌, ◌⊎◌, inl, inr, ℕ, Bool, true, false, ◌||◌, ◌≤◌, ◌+◌, ◌++◌, [], ◌∷◌, cond, nat_le, arith, if◌then◌else◌, length, Option, None, Some, Ok, Err, refl, sym, ap, ◌∙◌, subst}
 use Rattle.std.specs.Cmp.{nat_cmp_total}
 use Rattle.std.specs.FinMap.{entries, keys, len-entries, len-insert}
 use Rattle.std.proofs.lemmas.Bool.Decides.{nat_tests}
@@ -22,7 +21,6 @@ use Rattle.co_schedule.specs.View.{IsNode}
 use Rattle.co_session.specs.Clients.{Clients, is_used as is_used_in, is_full, changed, with_begun}
 use Rattle.co_session.specs.Leaves.{IsLeave, leave_by, leave_in, refusal_of}
 use Rattle.co_session.specs.declared.fault.SessionFault.{SessionFault}
-use Rattle.co_session.specs.declared.fault.SessionFault.TheVariants.{Used}
 use Rattle.co_world.specs.Counting.{AreCounted}
 use Rattle.co_world.specs.Standing.{RepresentsWorld}
 use Rattle.co_world.specs.declared.world.World.{World}

@@ -17,10 +17,10 @@ use Rattle.co_plain.specs.declared.coord_step.CoordStep.{CoordStep as PlainCoord
 use Rattle.co_plain.specs.declared.member_step.MemberStep.{MemberStep as PlainMemberStep}
 use Rattle.co_state.specs.declared.engine_state.EngineState.{EngineState}
 use Rattle.co_cluster.specs.Left.{AreLeftAs, AreLeftBy}
-use Rattle.co_cluster.specs.Served.{HasEndedAs, IsOfNoFile}
+use Rattle.co_cluster.specs.Served.{IsOfNoFile}
 use Rattle.co_cluster.specs.Telling.{IsTold, IsToldBy}
 use Rattle.co_cluster.proofs.Lefts.{noted_left}
-use Rattle.co_world.specs.Answered.{IsEventDone, IsEventCut, AnswersEvent}
+use Rattle.co_world.specs.Answered.{IsEventCut, AnswersEvent}
 use Rattle.co_world.specs.Standing.{RepresentsWorld, AreHeld, AreServed}
 use Rattle.co_world.specs.declared.world.World.{World}
 use Rattle.co_world.proofs.Ends.{all_ok, of_memory}

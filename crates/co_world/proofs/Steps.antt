@@ -2,13 +2,10 @@
 use Rattle.std.proofs.Common.{◌≡◌, ℕ, Bool, true, false, sym, ap}
 use Rattle.co_base.specs.declared.node.Node.TheVariants as node
 use Rattle.co_message.specs.declared.answer.Answer.TheVariants as answer
-use Rattle.co_plain.specs.Federation.{Federation, answers, noted, items_of, message_list, at_member, at_coord, with_member, with_coord}
+use Rattle.co_plain.specs.Federation.{Federation, answers, at_member, at_coord}
 use Rattle.co_plain.specs.Step.{up_member, up_coord}
 use Rattle.co_plain.specs.declared.coord_step.CoordStep.{CoordStep as PlainCoordStep}
 use Rattle.co_plain.specs.declared.member_step.MemberStep.{MemberStep as PlainMemberStep}
-use Rattle.co_coord.specs.declared.step.CoordStep.{CoordStep}
-use Rattle.co_member.specs.declared.step.MemberStep.{MemberStep}
-use Rattle.co_cluster.specs.Telling.{IsTold, IsToldBy}
 
 -- by whether the node is up
 pub member_is_down : (s : Federation) (m : ℕ) (up : Bool) (did : PlainMemberStep) → up ≡ false → answers s (answer.Down (node.Member m)) ≡ up_member s m up did

@@ -1,5 +1,5 @@
 -- For which plain federations a federation on its logs stands.
-use Rattle.std.specs.Prelude.{ℕ, ◌≡◌, length, Option, Some}
+use Rattle.std.specs.Prelude.{ℕ, ◌≡◌, length, Some}
 use Rattle.co_base.specs.declared.head.Kind.{Kind}
 use Rattle.co_outside.specs.Home.{HomeView}
 use Rattle.co_plain.specs.Numbers.{has_number}

@@ -1,4 +1,4 @@
-use Rattle.std.proofs.Common.{◌≡◌, ◌≤◌, ℕ, List, [], length, refl, ap, subst, ◌∙◌}
+use Rattle.std.proofs.Common.{◌≡◌, ◌≤◌, ℕ, List, [], length, ap, subst, ◌∙◌}
 use Rattle.co_base.specs.declared.mark.Mark.{Mark}
 use Rattle.co_message.specs.declared.answer.Answer.TheVariants as answer
 use Rattle.co_opening.specs.Opened.{IsOfFound}

@@ -1,4 +1,4 @@
-use Rattle.std.proofs.Common.{◌≡◌, true, false, length, refl, sym, ap, ◌∙◌, subst, Err}
+use Rattle.std.proofs.Common.{◌≡◌, true, false, length, refl, sym, ap, ◌∙◌, subst}
 use Rattle.std.specs.Prelude.{List}
 use Rattle.co_world.proofs.Arriving.{receiver_in_head, delivers_to_member, delivers_to_coord, never_sent, unsent_is}
 use Rattle.co_plain.specs.Wire.{was_sent}
