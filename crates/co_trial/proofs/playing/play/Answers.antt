@@ -18,13 +18,13 @@ use Rattle.co_trial.proofs.playing.play.Goals as goal
 pub returns-in_ok-note_all-in-Ok-clause-played : goal.returns-in_ok-note_all-in-Ok-clause-played
 returns-in_ok-note_all-in-Ok-clause-played g c = λ s r ready.
     let z = (step_line s c.args.event).state in
-    let stands = c.in-Ok.ensures.stands s r ready in
-    let items = c.in-Ok.ensures.items s r ready in
+    let done = c.in-Ok.ensures.answered s r ready in
+    let items = done.told in
     record {
-      stands = stands;
+      stands = done.stands;
       told = λ text h. subst (λ (is : List Item). Holds256 c.tell.new.told.hasher (text ++ items_text (numbered c.args.number (item.Event c.args.event ∷ []) ++ is))) (c.as_slice.ensures ∙ items) (c.in_ok-tell-in-Ok.ensures text h);
       decided = λ s0 a. subst (AreRun s0 c.note_all.new.self) (ap (λ (is : List Item). decide_all z.sessions s.decided (marks_of is)) (c.as_slice-in-Ok.ensures ∙ items) ∙ line_noted s c.args.event c.args.number)
-          (c.in_ok-note_all-in-Ok.ensures s0 z s.decided stands a);
+          (c.in_ok-note_all-in-Ok.ensures s0 z s.decided done.stands a);
     }
 
 is_err : {A : Type 0} (fault : WorldFault) → fault ≡ world.Count → IsErrOf {T = A} (Err fault) world.Count
@@ -35,10 +35,12 @@ returns-in-Err-clause-ended g c =
     let w = c.requires.stands in
     let old = g.H.Home.seen c.args.home.now in
     let new = g.H.Home.seen c.step.new.home in
-    ends c.in-Err.fault c.undone.result (step_line (disarmed w.0) c.args.event).state old new c.undone.ensures c.in-Err.ensures.ended
-    (λ e. w.3 ((c.in-Err.ensures.limit w.0 w.1).0 (is_err c.in-Err.fault e))) (c.in-Err.ensures.left w.0 w.1 w.2).1 w.4
+    let cut = c.in-Err.ensures.answered w.0 w.1 w.2 in
+    ends c.in-Err.fault c.undone.result (step_line (disarmed w.0) c.args.event).state old new c.undone.ensures cut.ended
+    (λ e. w.3 ((c.in-Err.ensures.limit w.0 w.1).0 (is_err c.in-Err.fault e))) cut.left.1 w.4
 
 pub returns-in-Err-clause-untold : goal.returns-in-Err-clause-untold
 returns-in-Err-clause-untold g c =
+    let w = c.requires.stands in
     subst (IsUntoldFor g.H.Home.seen) (sym c.undone.ensures)
-    (untold_for g.H.Home.seen c.in-Err.fault c.args.home.now (g.H.Home.seen c.step.new.home) c.in-Err.ensures.ended)
+    (untold_for g.H.Home.seen c.in-Err.fault c.args.home.now (g.H.Home.seen c.step.new.home) (c.in-Err.ensures.answered w.0 w.1 w.2).ended)
