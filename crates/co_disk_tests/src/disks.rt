@@ -4,11 +4,18 @@ ghost use Rattle.co_outside.specs.HomeMemory.{memory_seen};
 ghost use Rattle.co_disk.specs.DiskModel.{read_of};
 ghost use Rattle.co_outside.specs.Home.{Agrees};
 
-use crate::words::{M1_A, put};
 use co_base::{Bytes, Leaves};
 use co_disk::{Disk, DiskFault};
-use co_outside::HomeMemory;
+use co_outside::{HomeMemory, Spot};
 use std::alloc::{AllocError, Global};
+
+/// Part `a` of the log of member 1.
+pub(crate) const M1_A: Spot = Spot { node: 1, part: 0 };
+
+/// A home in memory without files.
+pub(crate) fn no_files(alloc: Global) -> HomeMemory {
+    HomeMemory::new(alloc, Vec::new(alloc))
+}
 
 /// A few bytes from a place on.
 #[derive(Drop)]
@@ -42,7 +49,7 @@ pub(crate) fn attached(
 ) -> Result<Disk, DiskFault>
     ensures { IfOk result (λ d. Agrees (memory_seen home.new) d.spot (read_of d.state)) }
 {
-    put(alloc, home, M1_A, bytes)?;
+    home.put(M1_A, bytes.to_vec(alloc)?)?;
     Disk::attach(alloc, home, M1_A)
 }
 

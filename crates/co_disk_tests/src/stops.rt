@@ -4,8 +4,7 @@ ghost use Rattle.co_outside.specs.HomeMemory.{memory_seen};
 ghost use Rattle.co_disk.specs.DiskModel.{read_of};
 ghost use Rattle.co_outside.specs.Home.{Agrees};
 
-use crate::disks::{Choice, Piece, attached, holds, leaves_of, write};
-use crate::words::{M1_A, no_files, put};
+use crate::disks::{Choice, M1_A, Piece, attached, holds, leaves_of, no_files, write};
 use co_base::Leaves;
 use co_disk::{Disk, DiskFault};
 use co_outside::{HomeMemory, HomeTwist};
@@ -141,7 +140,7 @@ fn reread(alloc: Global, home: &mut HomeTwist) -> Result<(), DiskFault> {
 /// What a disk tells of a file of which the last byte has changed.
 fn told_of_change(alloc: Global) -> Result<(), DiskFault> {
     let mut inner = no_files(alloc);
-    put(alloc, &mut inner, M1_A, b"abc")?;
+    inner.put(M1_A, b"abc".to_vec(alloc)?)?;
     let mut home = HomeTwist::new(inner, M1_A, 2, b'?', 2);
     reread(alloc, &mut home)
 }
