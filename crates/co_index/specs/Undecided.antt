@@ -5,7 +5,7 @@ use Rattle.co_pairs.specs.declared.prepared.Prepared.{Prepared}
 use Rattle.co_state.specs.declared.engine_state.Sets.{Sets}
 use Rattle.co_state.specs.Table.{Table, no_entries, look, put, without}
 use Rattle.co_index.specs.declared.undecided.Undecided.{Undecided}
-use Rattle.co_index.specs.NewPairs.{or_nothing, grown_by}
+use Rattle.co_pairs.specs.NewPairs.{or_nothing, grown_by}
 use Rattle.co_index.specs.Touching.{IsIndexed}
 
 -- what prepared transactions read and wrote

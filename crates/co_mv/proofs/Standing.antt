@@ -36,11 +36,11 @@ use Rattle.co_mv.specs.declared.mv_engine.MvEngine.{MvEngine}
 use Rattle.co_mv.specs.declared.version.Version.{Version}
 use Rattle.co_mv.specs.Chains.{chain_of, chain_in}
 use Rattle.co_mv.specs.Kept.{needed, or_now, stamp_of, entered, left, grown, IsNeeded, Keeps, AreStamped, active_sets, voted_sets, IsKept, StandsFor, visible_within}
-use Rattle.co_index.specs.NewPairs.{or_nothing, grown_by, sets_among, AreNew}
+use Rattle.co_pairs.specs.NewPairs.{mapped, or_nothing, grown_by, sets_among, AreNew}
 use Rattle.co_index.specs.Undecided.{IsWhole, grown_at, prepared_sets}
-use Rattle.co_index.proofs.Finding.{ties}
-use Rattle.co_index.proofs.Growing.{new_pairs}
-use Rattle.co_index.proofs.Mapped.{mapped, table-mapped}
+use Rattle.co_pairs.proofs.Picking.{ties}
+use Rattle.co_pairs.proofs.Growing.{new_pairs}
+use Rattle.co_pairs.proofs.Mapped.{table-mapped}
 use Rattle.co_mv.specs.Overwritten.{written_within}
 use Rattle.co_mv.specs.Reading.{all_noted}
 use Rattle.co_mv.specs.Recents.{has_key}
@@ -245,7 +245,7 @@ stands_with e e' b t op s h es k sets ix =
 pub pairs_alike : (e e' : MvEngine) (b : EngineState) (t : ℕ) (op : Op) (pairs : List Pair) → StandsFor e b → StandsFor e' (with_operation b t op) → e'.undecided.sets ≡ grown_at e.undecided.sets t op
     → AreNew (sets_among e.undecided.sets) (sets_among (grown_at e.undecided.sets t op)) pairs → AreNewPairs b (with_operation b t op) pairs
 pairs_alike e e' b t op pairs s next sets new =
-    new_pairs b (with_operation b t op) e.undecided.sets (grown_at e.undecided.sets t op) pairs (λ u. sets_alike e b u s) (λ u. sets_alike e' (with_operation b t op) u next ∙ ap (λ m. sets_among m u) sets) new
+    new_pairs b (with_operation b t op) (sets_among e.undecided.sets) (sets_among (grown_at e.undecided.sets t op)) pairs (λ u. sets_alike e b u s) (λ u. sets_alike e' (with_operation b t op) u next ∙ ap (λ m. sets_among m u) sets) new
 
 -- nobody is blocked
 pub not_blocked : (e : MvEngine) (b : EngineState) (t : ℕ) (op : Op) → StandsFor e b → None ≡ lock_blocker b t op

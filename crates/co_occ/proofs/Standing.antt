@@ -32,10 +32,10 @@ use Rattle.co_state.proofs.Tables.{look-put, look-without, put-without}
 use Rattle.co_engine.specs.declared.answers.Seen.TheVariants.{Answer}
 use Rattle.co_engine.specs.Calls.{may_operate, is_installed, votes_of, vote_in, seen_by, seen_of, AppendsNewPairs}
 use Rattle.co_index.specs.declared.undecided.Undecided.{Undecided}
-use Rattle.co_index.specs.NewPairs.{or_nothing, grown_by, sets_among, AreNew}
+use Rattle.co_pairs.specs.NewPairs.{or_nothing, grown_by, sets_among, AreNew}
 use Rattle.co_index.specs.Undecided.{IsWhole, grown_at, prepared_sets}
-use Rattle.co_index.proofs.Finding.{tied}
-use Rattle.co_index.proofs.Growing.{new_pairs}
+use Rattle.co_pairs.proofs.Picking.{tied}
+use Rattle.co_pairs.proofs.Growing.{new_pairs}
 use Rattle.co_occ.specs.declared.engine.OccEngine.{OccEngine}
 use Rattle.co_occ.specs.declared.reads.Reads.{Reads}
 use Rattle.co_occ.specs.Kept.{reads_of, or_unread, with_read}
@@ -134,7 +134,7 @@ module _ (o : OccEngine) (b : EngineState) (t : ℕ) (op : Op) (h : IsTrue (may_
   -- the pairs that are new of the tables are those of the states
   pub pairs_alike : (pairs : List Pair) → KeepsState o b → AreNew (sets_among o.undecided.sets) (sets_among (grown_at o.undecided.sets t op)) pairs → AreNewPairs b (with_operation b t op) pairs
   pairs_alike pairs k new =
-      new_pairs b (with_operation b t op) o.undecided.sets (grown_at o.undecided.sets t op) pairs (λ u. sets_alike o b u k)
+      new_pairs b (with_operation b t op) (sets_among o.undecided.sets) (sets_among (grown_at o.undecided.sets t op)) pairs (λ u. sets_alike o b u k)
       (λ u. sets_alike (moved o reads undecided) (with_operation b t op) u (keeps_with k) ∙ ap (λ m. sets_among m u) es) new
 
 -- ---- the kept write sets
