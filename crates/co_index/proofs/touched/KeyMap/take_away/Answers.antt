@@ -4,7 +4,7 @@ use Rattle.std.proofs.lemmas.Cmp.{nat_list_cmp_total}
 use Rattle.co_base.specs.Order.{key_cmp}
 use Rattle.co_serial.proofs.MapViews.{view-get, view-insert}
 use Rattle.co_index.specs.Touching.{without_in}
-use Rattle.co_index.proofs.touched.Touched.take_away.Goals as goal
+use Rattle.co_index.proofs.touched.KeyMap.take_away.Goals as goal
 
 pub returns-in_default : goal.returns-in_default
 returns-in_default c =
@@ -13,7 +13,7 @@ returns-in_default c =
 
 pub returns : goal.returns
 returns c =
-    let es = c.self.inside.map.entries in
+    let es = c.self.inside.entries.entries in
     let there = sym (ap is_some c.in-Some.ensures.value) in
     let txns = c.remove.new.self in
     view-insert nat_list_cmp_total (slice_cmp-IsAntisymmetric nat_cmp-IsAntisymmetric) es (c.get_mut.follows.lender txns).entries c.args.key.now txns ((c.get_mut.follows.holds txns).3 there).0
