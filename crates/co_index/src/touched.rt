@@ -24,7 +24,7 @@ impl KeyMap<Table<()>> {
     }
 
     /// A transaction touches a key.
-    pub fn add(&mut self, alloc: Global, key: &Key, t: Txn) -> Result<(), AllocError>
+    pub(crate) fn add(&mut self, alloc: Global, key: &Key, t: Txn) -> Result<(), AllocError>
         ensures { OnOk result (self.new ≡ with_touch self.old key.now t) }
     {
         let mut txns = self.take(alloc, key);
@@ -62,7 +62,7 @@ impl KeyMap<Table<()>> {
     }
 
     /// A transaction no longer touches a key. Takes no memory.
-    pub fn forget(&mut self, key: &Key, t: Txn)
+    pub(crate) fn forget(&mut self, key: &Key, t: Txn)
         ensures { self.new ≡ settled (without_touch self.old key.now t) key.now }
     {
         self.take_away(key, t);
