@@ -1,7 +1,8 @@
 //! What undecided transactions read and wrote.
 ghost use Rattle.std.specs.Prelude.{◌≡◌, IfOk, OnOk, option_copied};
-ghost use Rattle.co_index.specs.Undecided.{IsWhole, grown_at, prepared_sets};
+ghost use Rattle.co_index.specs.Undecided.{IsWhole, grown_at};
 ghost use Rattle.co_pairs.specs.NewPairs.{or_nothing, sets_among, AreNew};
+ghost use Rattle.co_pairs.specs.Votes.{told_of};
 ghost use Rattle.co_state.specs.Table.{look, without};
 
 use crate::index::Index;
@@ -34,7 +35,7 @@ fn take(alloc: Global, sets: &mut Table<Sets>, t: Txn) -> Sets
 
 /// What the prepared transactions read and wrote.
 fn prepared_sets(alloc: Global, prepared: &[Prepared]) -> Result<Table<Sets>, AllocError>
-    ensures { IfOk result (λ sets. sets ≡ prepared_sets prepared.now) }
+    ensures { IfOk result (λ sets. sets ≡ told_of (λ p. p.sets) prepared.now) }
 {
     let mut all = Table::new(alloc);
     let mut place = prepared.len();
@@ -49,7 +50,7 @@ fn prepared_sets(alloc: Global, prepared: &[Prepared]) -> Result<Table<Sets>, Al
 impl Undecided {
     /// The prepared transactions.
     pub fn of_prepared(alloc: Global, prepared: &[Prepared]) -> Result<Undecided, AllocError>
-        ensures sets { IfOk result (λ all. all.sets ≡ prepared_sets prepared.now) }
+        ensures sets { IfOk result (λ all. all.sets ≡ told_of (λ p. p.sets) prepared.now) }
         ensures whole { IfOk result IsWhole }
     {
         let sets = prepared_sets(alloc, prepared)?;

@@ -4,16 +4,18 @@ use Rattle.std.proofs.lemmas.Bool.{or_from}
 use Rattle.std.proofs.lemmas.Bool.Decides.{nat_tests}
 use Rattle.std.proofs.lemmas.Cmp.{tied_itself}
 use Rattle.std.specs.Cmp.{nat_cmp_total}
-use Rattle.std.specs.FinMap.{entries, entries_sorted, from_entries, get-entries, get-from_entries, same_map, nat_cmp-IsAntisymmetric}
+use Rattle.std.specs.Option.{option_map}
+use Rattle.std.specs.FinMap.{entries, entries_sorted, from_entries, get-empty, get-entries, get-from_entries, same_map, nat_cmp-IsAntisymmetric}
 use Rattle.std.specs.FinMap.Entries.{find, is_sorted, below_all}
 use Rattle.std.specs.Ordering.{nat_cmp, eq_by_cmp, is_lt, is_eq}
 use Rattle.co_pairs.specs.declared.prepared.Prepared.{Prepared}
 use Rattle.co_pairs.specs.Free.{clash, clashes_with, are_free}
-use Rattle.co_pairs.specs.Votes.{votes_of, prepared_of, voted_of}
+use Rattle.co_pairs.specs.Votes.{vote_in, votes_of, told_of, prepared_of, voted_of}
 use Rattle.co_pairs.proofs.Picking.{find-below}
 use Rattle.co_state.specs.declared.engine_state.Vote.{Vote}
 use Rattle.co_state.specs.Conflicts.{sets_conflict}
 use Rattle.co_state.specs.Table.{Table, look, put}
+use Rattle.co_state.proofs.Tables.{look-put}
 
 from_votes : (es : List (ℕ × Vote)) → votes_of (map prepared_of es) ≡ from_entries es
 from_votes [] = refl
@@ -24,6 +26,19 @@ pub votes_again : (voted : Table Vote) → votes_of (voted_of voted) ≡ voted
 votes_again voted =
     from_votes (entries voted)
     ∙ same_map nat_cmp_total nat_cmp-IsAntisymmetric _ _ (λ t. get-from_entries nat_cmp_total (entries voted) t ∙ sym (get-entries voted t))
+
+-- ---- what is told of each prepared transaction is told of its vote
+module _ {X : Type 0} (told : Prepared → X) (of_vote : Vote → X) (same : (p : Prepared) → told p ≡ of_vote (vote_in p)) where
+  told_by : (c : Bool) (p : Prepared) (o : Option X) (vote : Option Vote) → o ≡ option_map of_vote vote → cond c (Some (told p)) o ≡ option_map of_vote (cond c (Some (vote_in p)) vote)
+  told_by true p o vote e = ap Some (same p)
+  told_by false p o vote e = e
+
+  pub told_voted : (ps : List Prepared) (t : ℕ) → look (told_of told ps) t ≡ option_map of_vote (look (votes_of ps) t)
+  told_voted [] t = get-empty nat_cmp t ∙ sym (ap (option_map of_vote) (get-empty nat_cmp t))
+  told_voted (p ∷ ps) t =
+      look-put (told_of told ps) p.txn (told p) t
+      ∙ told_by (eq_by_cmp nat_cmp t p.txn) p (look (told_of told ps) t) (look (votes_of ps) t) (told_voted ps t)
+      ∙ ap (option_map of_vote) (sym (look-put (votes_of ps) p.txn (vote_in p) t))
 
 -- ---- votes that are free of conflicts
 

@@ -1,5 +1,5 @@
 -- What a plain engine keeps and for which states it stands.
-use Rattle.std.specs.Prelude.{ℕ, ◌≡◌, ◌&&◌, not, List, [], ◌∷◌, length, ◌==◌, Option}
+use Rattle.std.specs.Prelude.{ℕ, ◌≡◌, ◌&&◌, not, List, ◌∷◌, length, ◌==◌, Option}
 use Rattle.std.specs.FinMap.{entries}
 use Rattle.co_base.specs.declared.op.Op.{Op}
 use Rattle.co_serial.specs.Records.{Records, with_changes}
@@ -11,9 +11,10 @@ use Rattle.co_state.specs.EngineState.{operations_in, records_at}
 use Rattle.co_state.specs.LockRule.{writes_block}
 use Rattle.co_state.specs.ReadRule.{stamp_after}
 use Rattle.co_state.specs.Search.{sets_block}
-use Rattle.co_state.specs.Table.{Table, no_entries, look, put, without, first_in, lesser}
+use Rattle.co_state.specs.Table.{Table, look, put, without, first_in, lesser}
 use Rattle.co_pairs.specs.declared.prepared.Prepared.{Prepared}
 use Rattle.co_pairs.specs.NewPairs.{mapped, grown_by, all_made}
+use Rattle.co_pairs.specs.Votes.{told_of}
 use Rattle.co_engine.specs.declared.undecided.Undecided.{Undecided}
 use Rattle.co_engine.specs.Undecided.{active_with, voted_with, own, IsKept}
 use Rattle.co_plain_engine.specs.declared.plain.PlainEngine.{PlainEngine}
@@ -27,8 +28,7 @@ pub record StandsFor (p : PlainEngine) (b : EngineState) : Type 0 where
 
 -- the prepared transactions as voted ones
 abbrev pub voted_roll : List Prepared → Table Undecided
-voted_roll [] = no_entries
-voted_roll (p ∷ ps) = put (voted_roll ps) p.txn (voted_with p.sets)
+voted_roll ps = told_of (λ p. voted_with p.sets) ps
 
 -- the transactions of a roll by what they read and wrote
 abbrev pub sets_listed : List (ℕ × Undecided) → List (ℕ × Sets)
