@@ -1,5 +1,5 @@
 -- Lists of changes joined from the last one on.
-use Rattle.std.proofs.Common.{◌≡◌, ℕ, ◌+◌, ◌<◌, List, ◌∷◌, length, drop, get_or, Result, Ok, Err, OnErr, sym, ap, ◌∙◌}
+use Rattle.std.proofs.Common.{◌≡◌, ℕ, ◌+◌, ◌<◌, List, ◌∷◌, length, drop, get_or, Result, Ok, Err, OnErr, IfOk, sym, ap, ◌∙◌}
 use Rattle.std.proofs.lemmas.List.{drop_more}
 use Rattle.co_base.specs.declared.written.Written.{Written}
 use Rattle.co_state.specs.Effects.{joined}
@@ -14,3 +14,7 @@ lists_more wss p place ws h e is =
 pub on_err : {X E : Type 0} (r : Result X E) {A : Type 0} → A → OnErr r A
 on_err (Ok x) h = tt
 on_err (Err e) h = h
+
+pub if_ok : {X E : Type 0} (r : Result X E) {P Q : X → Type 0} → ((x : X) → P x → Q x) → IfOk r P → IfOk r Q
+if_ok (Ok x) f h = f x h
+if_ok (Err e) f h = tt

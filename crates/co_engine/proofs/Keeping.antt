@@ -1,125 +1,69 @@
--- What a plain engine keeps of each transaction, against the state for which it stands.
+-- Every change of the undecided transactions, as it is kept.
 use Rattle.std.proofs.Common.{◌≡◌, ℕ, Bool, true, false, cond, not, ◌&&◌, List, [], ◌∷◌, map, filter, if◌then◌else◌, Option, None, Some, refl, sym, ap, ◌∙◌}
-use Rattle.std.specs.Prelude.{◌==◌}
 use Rattle.std.specs.Option.{option_map}
 use Rattle.std.specs.FinMap.{entries, entries_sorted, get-entries}
 use Rattle.std.specs.FinMap.Entries.{find}
 use Rattle.std.specs.Ordering.{nat_cmp}
-use Rattle.co_base.specs.declared.op.Op.{Op}
-use Rattle.co_base.specs.declared.op.Op.TheVariants.{Read, Write, Erase, Scan}
 use Rattle.co_state.specs.declared.engine_state.Operation.{Operation}
 use Rattle.co_state.specs.declared.engine_state.Sets.{Sets}
 use Rattle.co_state.specs.declared.engine_state.Vote.{Vote}
-use Rattle.co_state.specs.Changes.{sets_of, changes_of, no_sets}
-use Rattle.co_state.specs.Effects.{joined, active_changes, voted_changes}
-use Rattle.co_state.specs.EngineState.{operations_in, sets_in}
+use Rattle.co_state.specs.Changes.{sets_of, changes_of}
+use Rattle.co_state.specs.declared.engine_state.EngineState.{EngineState}
+use Rattle.co_state.specs.Effects.{joined, active_changes, voted_changes, undecided_changes}
 use Rattle.co_state.specs.Joined.{joined_all}
-use Rattle.co_state.specs.LockRule.{writes_block, active_blocks}
-use Rattle.co_state.specs.Search.{sets_block}
-use Rattle.co_state.specs.Table.{Table, look, first_in, least_where}
+use Rattle.co_state.specs.Table.{Table, look}
 use Rattle.co_engine.specs.declared.undecided.Undecided.{Undecided}
-use Rattle.co_engine.specs.Plain.{IsKept, active_sets, voted_sets}
-use Rattle.co_engine.specs.Undecided.{or_new, changes_kept}
-use Rattle.co_engine.proofs.Picking.{picked, with_picked, pick_in, passes, first-picked, same_picked}
+use Rattle.co_engine.specs.Undecided.{active_sets, voted_sets, IsKept, changes_kept}
+use Rattle.co_pairs.proofs.Picking.{picked, with_picked, pick_in, same_picked}
 
-abbrev pub sets_seen : Option Undecided → Sets
-sets_seen o = (or_new o).sets
+abbrev pub pick_active : ℕ → Undecided → Option Sets
+pick_active u e = active_sets (Some e)
 
-none_mapped : {A B : Type 0} (f : A → B) (o : Option A) → option_map f o ≡ None → o ≡ None
-none_mapped f None e = refl
-none_mapped f (Some a) e = absurd (let g : Some (f a) ≡ None = e in cc)
+abbrev pub pick_voted : ℕ → Undecided → Option Sets
+pick_voted u e = voted_sets (Some e)
 
-seen_voted : (vote : Option Vote) (os : List Operation) (sets : Sets) → option_map (λ v. v.sets) vote ≡ Some sets → sets_in vote os ≡ sets
-seen_voted None os sets e = absurd (let g : None ≡ Some sets = e in cc)
-seen_voted (Some v) os sets e = let g : Some v.sets ≡ Some sets = e in cc
+abbrev pub pick_operations : ℕ → List Operation → Option Sets
+pick_operations u os = Some (sets_of os)
 
-seen_active : (os : Option (List Operation)) (sets : Sets) → option_map sets_of os ≡ Some sets → sets_of (operations_in os) ≡ sets
-seen_active None sets e = absurd (let g : None ≡ Some sets = e in cc)
-seen_active (Some os) sets e = let g : Some (sets_of os) ≡ Some sets = e in cc
+abbrev pub pick_vote : ℕ → Vote → Option Sets
+pick_vote u vote = Some vote.sets
 
-seen_none : (os : Option (List Operation)) (vote : Option Vote) → option_map sets_of os ≡ None → option_map (λ v. v.sets) vote ≡ None → sets_in vote (operations_in os) ≡ no_sets
-seen_none os vote e f = (λ i. sets_in (none_mapped (λ v. v.sets) vote f i) (operations_in (none_mapped sets_of os e i)))
+picks_active : (q : ℕ) (o : Option Undecided) → active_sets o ≡ pick_in pick_active q o
+picks_active q None = refl
+picks_active q (Some e) = refl
 
-seen_by_flag : (voted : Bool) (e : Undecided) (os : Option (List Operation)) (vote : Option Vote)
-    → option_map sets_of os ≡ (if voted then None else Some e.sets) → option_map (λ v. v.sets) vote ≡ (if voted then Some e.sets else None) → sets_in vote (operations_in os) ≡ e.sets
-seen_by_flag true e os vote f g = seen_voted vote (operations_in os) e.sets g
-seen_by_flag false e os vote f g = ap (λ v. sets_in v (operations_in os)) (none_mapped (λ v. v.sets) vote g) ∙ seen_active os e.sets f
+picks_voted : (q : ℕ) (o : Option Undecided) → voted_sets o ≡ pick_in pick_voted q o
+picks_voted q None = refl
+picks_voted q (Some e) = refl
 
--- what a transaction read and wrote is what is kept of it
-pub sets_kept : (o : Option Undecided) (os : Option (List Operation)) (vote : Option Vote) → IsKept o os vote → sets_in vote (operations_in os) ≡ sets_seen o
-sets_kept None os vote k = seen_none os vote k.sets_are k.votes_are
-sets_kept (Some e) os vote k = seen_by_flag e.voted e os vote k.sets_are k.votes_are
+picks_operations : (q : ℕ) (o : Option (List Operation)) → pick_in pick_operations q o ≡ option_map sets_of o
+picks_operations q None = refl
+picks_operations q (Some os) = refl
 
-abbrev pub pick_active : Undecided → Option Sets
-pick_active e = active_sets (Some e)
-
-abbrev pub pick_voted : Undecided → Option Sets
-pick_voted e = voted_sets (Some e)
-
-picks_active : (o : Option Undecided) → active_sets o ≡ pick_in pick_active o
-picks_active None = refl
-picks_active (Some e) = refl
-
-picks_voted : (o : Option Undecided) → voted_sets o ≡ pick_in pick_voted o
-picks_voted None = refl
-picks_voted (Some e) = refl
-
-picks_mapped : {A B : Type 0} (f : A → B) (o : Option A) → pick_in (λ a. Some (f a)) o ≡ option_map f o
-picks_mapped f None = refl
-picks_mapped f (Some a) = refl
+picks_vote : (q : ℕ) (o : Option Vote) → pick_in pick_vote q o ≡ option_map (λ v. v.sets) o
+picks_vote q None = refl
+picks_vote q (Some vote) = refl
 
 -- the active ones by what they read and wrote
 pub actives_kept : (roll : Table Undecided) (active : Table (List Operation)) → ((t : ℕ) → option_map sets_of (look active t) ≡ active_sets (look roll t))
-    → picked (λ os. Some (sets_of os)) (entries active) ≡ picked pick_active (entries roll)
+    → picked pick_operations (entries active) ≡ picked pick_active (entries roll)
 actives_kept roll active is =
-    same_picked (λ os. Some (sets_of os)) pick_active (entries active) (entries roll) (entries_sorted active) (entries_sorted roll)
-    (λ q. picks_mapped sets_of (find nat_cmp q (entries active)) ∙ ap (option_map sets_of) (sym (get-entries active q)) ∙ is q ∙ ap active_sets (get-entries roll q) ∙ picks_active (find nat_cmp q (entries roll)))
+    same_picked pick_operations pick_active (entries active) (entries roll) (entries_sorted active) (entries_sorted roll)
+    (λ q. picks_operations q (find nat_cmp q (entries active)) ∙ ap (option_map sets_of) (sym (get-entries active q)) ∙ is q ∙ ap active_sets (get-entries roll q) ∙ picks_active q (find nat_cmp q (entries roll)))
 
 -- the voted ones by what they read and wrote
 pub voteds_kept : (roll : Table Undecided) (voted : Table Vote) → ((t : ℕ) → option_map (λ v. v.sets) (look voted t) ≡ voted_sets (look roll t))
-    → picked (λ v. Some v.sets) (entries voted) ≡ picked pick_voted (entries roll)
+    → picked pick_vote (entries voted) ≡ picked pick_voted (entries roll)
 voteds_kept roll voted is =
-    same_picked (λ v. Some v.sets) pick_voted (entries voted) (entries roll) (entries_sorted voted) (entries_sorted roll)
-    (λ q. picks_mapped (λ v. v.sets) (find nat_cmp q (entries voted)) ∙ ap (option_map (λ v. v.sets)) (sym (get-entries voted q)) ∙ is q ∙ ap voted_sets (get-entries roll q) ∙ picks_voted (find nat_cmp q (entries roll)))
-
--- ---- who is in the way
-flag_active : (voted a : Bool) (s : Sets) (test : Sets → Bool) → ((not voted && a) && test s) ≡ passes (λ x. a && test x) (if voted then None else Some s)
-flag_active true a s test = refl
-flag_active false a s test = refl
-
-flag_voted : (voted a : Bool) (s : Sets) (test : Sets → Bool) → ((voted && a) && test s) ≡ passes (λ x. a && test x) (if voted then Some s else None)
-flag_voted true a s test = refl
-flag_voted false a s test = refl
-
-blocks_alike : (os : List Operation) (op : Op) → sets_block (sets_of os) op ≡ active_blocks os op
-blocks_alike os (Read key) = refl
-blocks_alike os (Scan span) = refl
-blocks_alike os (Write key value) = refl
-blocks_alike os (Erase key) = refl
-
-pub active_holder : (roll : Table Undecided) (active : Table (List Operation)) (t : ℕ) (op : Op) → ((u : ℕ) → option_map sets_of (look active u) ≡ active_sets (look roll u))
-    → first_in (λ u e. not e.voted && not (u == t) && sets_block e.sets op) (entries roll) ≡ least_where (λ u os. not (u == t) && active_blocks os op) active
-active_holder roll active t op is =
-    ap (λ test. first_in test (entries roll)) (λ i u (e : Undecided). flag_active e.voted (not (u == t)) e.sets (λ s. sets_block s op) i)
-    ∙ first-picked pick_active (λ u s. not (u == t) && sets_block s op) (entries roll)
-    ∙ ap (first_in (λ u s. not (u == t) && sets_block s op)) (sym (actives_kept roll active is))
-    ∙ sym (first-picked (λ os. Some (sets_of os)) (λ u s. not (u == t) && sets_block s op) (entries active))
-    ∙ ap (λ test. first_in test (entries active)) (λ i u (os : List Operation). not (u == t) && blocks_alike os op i)
-
-pub voted_holder : (roll : Table Undecided) (voted : Table Vote) (t : ℕ) (op : Op) → ((u : ℕ) → option_map (λ v. v.sets) (look voted u) ≡ voted_sets (look roll u))
-    → first_in (λ u e. e.voted && not (u == t) && writes_block e.sets.writes op) (entries roll) ≡ least_where (λ u vote. not (u == t) && writes_block vote.sets.writes op) voted
-voted_holder roll voted t op is =
-    ap (λ test. first_in test (entries roll)) (λ i u (e : Undecided). flag_voted e.voted (not (u == t)) e.sets (λ s. writes_block s.writes op) i)
-    ∙ first-picked pick_voted (λ u s. not (u == t) && writes_block s.writes op) (entries roll)
-    ∙ ap (first_in (λ u s. not (u == t) && writes_block s.writes op)) (sym (voteds_kept roll voted is))
-    ∙ sym (first-picked (λ v. Some v.sets) (λ u s. not (u == t) && writes_block s.writes op) (entries voted))
+    same_picked pick_vote pick_voted (entries voted) (entries roll) (entries_sorted voted) (entries_sorted roll)
+    (λ q. picks_vote q (find nat_cmp q (entries voted)) ∙ ap (option_map (λ v. v.sets)) (sym (get-entries voted q)) ∙ is q ∙ ap voted_sets (get-entries roll q) ∙ picks_voted q (find nat_cmp q (entries roll)))
 
 -- ---- every change
-active-picked : (es : List (ℕ × List Operation)) → active_changes es ≡ joined_all (map (λ y. y.1.writes) (picked (λ os. Some (sets_of os)) es))
+active-picked : (es : List (ℕ × List Operation)) → active_changes es ≡ joined_all (map (λ y. y.1.writes) (picked pick_operations es))
 active-picked [] = refl
 active-picked (e ∷ es) = ap (λ ws. joined (changes_of e.1) ws) (active-picked es)
 
-voted-picked : (es : List (ℕ × Vote)) → voted_changes es ≡ joined_all (map (λ y. y.1.writes) (picked (λ v. Some v.sets) es))
+voted-picked : (es : List (ℕ × Vote)) → voted_changes es ≡ joined_all (map (λ y. y.1.writes) (picked pick_vote es))
 voted-picked [] = refl
 voted-picked (e ∷ es) = ap (λ ws. joined e.1.sets.writes ws) (voted-picked es)
 
@@ -141,9 +85,13 @@ voteds-filter : (es : List (ℕ × Undecided)) → map (λ y. y.1.writes) (picke
 voteds-filter [] = refl
 voteds-filter (e ∷ es) = filter_voted e.1.voted e es (filter (λ f. f.1.voted) es) (picked pick_voted es) (voteds-filter es)
 
-pub changes_alike : (roll : Table Undecided) (active : Table (List Operation)) (voted : Table Vote)
+changes_alike : (roll : Table Undecided) (active : Table (List Operation)) (voted : Table Vote)
     → ((t : ℕ) → option_map sets_of (look active t) ≡ active_sets (look roll t)) → ((t : ℕ) → option_map (λ v. v.sets) (look voted t) ≡ voted_sets (look roll t))
     → changes_kept (entries roll) ≡ joined (voted_changes (entries voted)) (active_changes (entries active))
 changes_alike roll active voted is are = λ i. joined
     ((sym (voted-picked (entries voted) ∙ ap (λ ys. joined_all (map (λ y. y.1.writes) ys)) (voteds_kept roll voted are) ∙ ap joined_all (voteds-filter (entries roll)))) i)
     ((sym (active-picked (entries active) ∙ ap (λ ys. joined_all (map (λ y. y.1.writes) ys)) (actives_kept roll active is) ∙ ap joined_all (actives-filter (entries roll)))) i)
+
+-- those that are kept are those of the state
+pub kept_changes : (roll : Table Undecided) (b : EngineState) → ((t : ℕ) → IsKept (look roll t) (look b.active t) (look b.voted t)) → changes_kept (entries roll) ≡ undecided_changes b
+kept_changes roll b each = changes_alike roll b.active b.voted (λ t. (each t).sets_are) (λ t. (each t).votes_are)

@@ -1,7 +1,5 @@
 mod Knowing
 mod Playing
-mod Joining
-mod Picking
-mod Keeping
-mod Pairing
-mod Standing
+pub mod Joining
+pub mod Keeping
+pub mod Rolling

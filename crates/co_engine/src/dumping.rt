@@ -1,5 +1,5 @@
-//! What a plain engine that locks dumps.
-ghost use Rattle.std.specs.Prelude.{◌≡◌, [], map, filter, not, IfOk};
+//! What an engine dumps that writes in place.
+ghost use Rattle.std.specs.Prelude.{◌≡◌, map, filter, not, IfOk};
 ghost use Rattle.std.specs.FinMap.{entries};
 ghost use Rattle.co_serial.specs.Records.{all_rows, with_changes};
 ghost use Rattle.co_state.specs.Effects.{undo_of};
@@ -24,19 +24,8 @@ pub fn dump_in_place(alloc: Global, mut records: RecordMap, roll: &Roll) -> Resu
     Ok(Dump { rows, undos })
 }
 
-/// The records alone.
-pub fn dump_apart(alloc: Global, records: &RecordMap) -> Result<Dump, AllocError>
-    ensures rows { IfOk result (λ dump. dump.rows ≡ all_rows records.now) }
-    ensures undos { IfOk result (λ dump. dump.undos ≡ []) }
-{
-    Ok(Dump {
-        rows: records.rows(alloc)?,
-        undos: Writes::new(alloc),
-    })
-}
-
 /// For each change, what the records have at its key.
-pub fn undos(alloc: Global, records: &RecordMap, changes: &[Written]) -> Result<Writes, AllocError>
+fn undos(alloc: Global, records: &RecordMap, changes: &[Written]) -> Result<Writes, AllocError>
     ensures { IfOk result (λ undos. undos ≡ map (undo_of records.now) changes.now) }
 {
     let mut undos = Vec::new(alloc);
@@ -61,7 +50,7 @@ fn undo(records: &RecordMap, change: &Written) -> Result<Written, AllocError>
 }
 
 /// Every change of the undecided transactions, by key.
-pub fn undecided_changes(alloc: Global, roll: &Roll) -> Result<Vec<Written>, AllocError>
+fn undecided_changes(alloc: Global, roll: &Roll) -> Result<Vec<Written>, AllocError>
     ensures { IfOk result (λ changes. changes.items ≡ changes_kept (entries roll.now)) }
 {
     let of_voted = changes_of_voted(alloc, roll)?;

@@ -1,7 +1,8 @@
 //! What every engine promises, whatever it keeps: the answers that the state of an engine gives.
 //!
 //! An engine stands for a state, by a relation of its own. Each call answers as that state does, and
-//! afterwards the engine stands for the state that the call leaves.
+//! afterwards the engine stands for the state that the call leaves. What engines keep alike stands here too:
+//! a roll of the undecided transactions, and the dump of one that writes in place.
 #![tactic(auto)]
 
 mod answers;
@@ -9,16 +10,16 @@ mod command;
 mod dumping;
 mod engine;
 mod known;
-mod new_pairs;
 mod operations;
-mod plain;
+mod pairs;
 mod player;
 mod undecided;
 
 pub use answers::{Dump, Seen};
 pub use command::{Answers, Command, Played};
+pub use dumping::dump_in_place;
 pub use engine::Engine;
-pub use new_pairs::append;
 pub use operations::writing;
-pub use plain::PlainEngine;
+pub use pairs::append;
 pub use player::play;
+pub use undecided::{Roll, Undecided};

@@ -1,11 +1,11 @@
-//! The undecided transactions of a plain engine.
+//! The undecided transactions of an engine, each with a mark for its vote.
 ghost use Rattle.std.specs.Prelude.{◌≡◌, OnOk, option_copied};
 ghost use Rattle.std.specs.FinMap.{entries};
 ghost use Rattle.co_state.specs.Table.{no_entries, look, put, without};
-ghost use Rattle.co_engine.specs.Undecided.{with_vote};
+ghost use Rattle.co_engine.specs.Undecided.{with_vote, or_new};
 
 use co_base::Txn;
-use co_state::{Operations, Sets};
+use co_state::Sets;
 use std::alloc::{AllocError, Global};
 use std::collections::BTreeMap;
 use std::collections::btree_map::Iter;
@@ -16,8 +16,6 @@ use std::marker::Model;
 pub struct Undecided {
     /// Whether it has voted.
     pub voted: bool,
-    /// Its operations, which nothing asks for once it has voted.
-    pub operations: Operations,
     /// What it read and wrote.
     pub sets: Sets,
 }
@@ -80,6 +78,21 @@ impl Roll {
         ensures rest { self.new ≡ without self.old t }
     {
         self.entries.remove(&t)
+    }
+
+    /// Takes a transaction away and gives it; where it is absent, an active one that did nothing yet. Takes no
+    /// memory.
+    pub fn take_or_new(&mut self, alloc: Global, t: Txn) -> Undecided
+        ensures value { result ≡ or_new (look self.old t) }
+        ensures rest { self.new ≡ without self.old t }
+    {
+        match self.take(t) {
+            Some(undecided) => undecided,
+            None => Undecided {
+                voted: false,
+                sets: Sets::new(alloc),
+            },
+        }
     }
 
     /// A transaction votes. Takes no memory.

@@ -9,11 +9,12 @@ use crate::rows::{RowFault, cut, kind_of};
 use crate::setups::{is_setup, rows_of, voted_of};
 use co_any::AnyEngine;
 use co_base::Kind;
-use co_engine::{Engine, PlainEngine};
+use co_engine::Engine;
 use co_lock::LockEngine;
 use co_mv::MvEngine;
 use co_occ::OccEngine;
 use co_pairs::are_free;
+use co_plain_engine::PlainEngine;
 use std::alloc::Global;
 
 /// How rows are played.

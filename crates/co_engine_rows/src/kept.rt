@@ -2,10 +2,10 @@
 use crate::texts::{put_number, put_text};
 use co_any::AnyEngine;
 use co_base::{BaseFault, Key};
-use co_engine::PlainEngine;
 use co_lock::LockEngine;
 use co_mv::MvEngine;
 use co_occ::OccEngine;
+use co_plain_engine::PlainEngine;
 use std::alloc::{AllocError, Global};
 
 /// What an engine keeps.

@@ -8,11 +8,12 @@ use crate::rows::{RowFault, number_of};
 use crate::setups::{rows_of, voted_of};
 use crate::texts::{put_all_played, put_dumped};
 use co_base::{BaseFault, Kind, Rows, Sequence};
-use co_engine::{Answers, Command, Engine, PlainEngine, Played, play};
+use co_engine::{Answers, Command, Engine, Played, play};
 use co_lock::LockEngine;
 use co_mv::MvEngine;
 use co_occ::OccEngine;
 use co_pairs::{Prepared, are_free};
+use co_plain_engine::PlainEngine;
 use std::alloc::Global;
 
 /// Makes the calls of those commands that were not refused.

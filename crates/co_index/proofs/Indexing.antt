@@ -11,9 +11,9 @@ use Rattle.co_state.specs.Changes.{span_read, change_made, with_span, with_writt
 use Rattle.co_state.specs.Table.{Table, no_entries, look, put, without}
 use Rattle.co_state.proofs.Tables.{look-put, look-without, put-without}
 use Rattle.co_index.specs.declared.index.Index.{Index}
-use Rattle.co_index.specs.NewPairs.{grown_by, or_nothing}
+use Rattle.co_pairs.specs.NewPairs.{grown_by, or_nothing}
 use Rattle.co_index.specs.Touching.{no_index, with_read, with_all, Covers, Tells, itself, IsIndexed, read_noted, change_noted, gone_from}
-use Rattle.co_index.proofs.Finding.{tied, ties}
+use Rattle.co_pairs.proofs.Picking.{tied, ties}
 use Rattle.co_index.proofs.Touching.{covers_nothing, covers_read, covers_write, covers_own_read, covers_own_write, covers_gone, covers_all}
 
 own_at : (x : Index) (all : Table Sets) (t : ℕ) → IsIndexed x all → (o : Option Sets) → look all t ≡ o → Covers x t (or_nothing o)

@@ -5,8 +5,6 @@ pub mod Finding
 pub mod Touching
 pub mod Indexing
 mod Passing
-mod Pairing
 pub mod Growing
-pub mod Mapped
 pub mod Listed
 pub mod Least

@@ -18,7 +18,7 @@ use Rattle.co_state.specs.Table.{Table, no_entries, look, put, without, holds}
 use Rattle.co_state.proofs.Tables.{look-put, look-without}
 use Rattle.co_index.specs.declared.index.Index.{Index}
 use Rattle.co_index.specs.Touching.{Touches, or_nobody, touches, with_touch, without_in, without_touch, is_nobody, settled, read_at, with_read, with_write, with_reads, with_writes, with_sets, with_all, forgotten_at, without_read, without_write, without_reads, without_writes, without_sets, joined, joined_all, readers_in, may_write, may_read, Covers}
-use Rattle.co_index.proofs.Finding.{tied, ties}
+use Rattle.co_pairs.proofs.Picking.{tied, ties}
 use Rattle.co_index.proofs.Keys as key
 use Rattle.co_index.proofs.Putting.{reads_key-put, writes_key-put}
 

@@ -1,17 +1,11 @@
 -- What undecided transactions read and wrote.
-use Rattle.std.specs.Prelude.{ℕ, List, [], ◌∷◌}
+use Rattle.std.specs.Prelude.{ℕ}
 use Rattle.co_base.specs.declared.op.Op.{Op}
-use Rattle.co_pairs.specs.declared.prepared.Prepared.{Prepared}
 use Rattle.co_state.specs.declared.engine_state.Sets.{Sets}
-use Rattle.co_state.specs.Table.{Table, no_entries, look, put, without}
+use Rattle.co_state.specs.Table.{Table, look, put, without}
 use Rattle.co_index.specs.declared.undecided.Undecided.{Undecided}
-use Rattle.co_index.specs.NewPairs.{or_nothing, grown_by}
+use Rattle.co_pairs.specs.NewPairs.{or_nothing, grown_by}
 use Rattle.co_index.specs.Touching.{IsIndexed}
-
--- what prepared transactions read and wrote
-abbrev pub prepared_sets : List Prepared → Table Sets
-prepared_sets [] = no_entries
-prepared_sets (p ∷ ps) = put (prepared_sets ps) p.txn p.sets
 
 -- a transaction does an operation
 abbrev pub grown_at : Table Sets → ℕ → Op → Table Sets

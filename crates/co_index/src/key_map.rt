@@ -13,7 +13,7 @@ use std::ops::Bound;
 /// A table from keys to entries. A contract sees the finite map.
 #[derive(Drop)]
 pub struct KeyMap<V> {
-    entries: BTreeMap<Key, V>,
+    pub(crate) entries: BTreeMap<Key, V>,
 }
 
 impl<V> Model for KeyMap<V> {
@@ -43,6 +43,13 @@ impl<V> KeyMap<V> {
         ensures { option_copied result ≡ map.get self.now key.now }
     {
         self.entries.get(key)
+    }
+
+    /// Every entry, in the order of the keys.
+    pub fn iter(&self) -> btree_map::Iter<'_, Key, V>
+        ensures { result ≡ entries self.now }
+    {
+        self.entries.iter()
     }
 
     /// The entries of the keys of a range, in the order of the keys.

@@ -1,146 +1,64 @@
 //! The pairs that an operation makes.
 ghost use Rattle.std.specs.Prelude.{◌≡◌, ◌++◌, map, IfOk, OnOk};
 ghost use Rattle.std.specs.FinMap.{entries};
-ghost use Rattle.co_index.specs.NewPairs.{passes, found_at, reads_pair, read_by_pair, writes_pair, written_by_pair, newly_read, newly_reads, newly_wrote_above, newly_wrote_below, pairs_by_read, pairs_by_write, pairs_made};
+ghost use Rattle.co_index.specs.NewPairs.{touches_on, newly_touches, pairs_by_read, pairs_by_write, pairs_made};
 ghost use Rattle.co_index.specs.Touching.{IsIndexed};
+ghost use Rattle.co_pairs.specs.NewPairs.{passes, found_at, pair_of};
+ghost use Rattle.co_pairs.specs.declared.side.Side.TheVariants.{Writer, Lesser, Greater};
 ghost use Rattle.co_state.specs.Changes.{span_read, change_made};
 ghost use Rattle.co_state.specs.Table.{look};
 
 use crate::index::Index;
-use co_base::{Key, Op, Range, Txn};
-use co_pairs::{Pair, PairKind, Pairs, Sets};
+use co_base::{Op, Range, Txn};
+use co_pairs::{Pairs, Sets, Side, meets_on, pair_of};
 use co_state::{Table, change_made, range_read, reads_key, writes_key, writes_within};
 use std::alloc::{AllocError, Global};
 
-/// Whether another transaction wrote in the range that is read now, and in nothing that was read before.
-fn is_read(others: &Table<Sets>, u: Txn, own: &Sets, range: &Range) -> bool
-    ensures { result ≡ passes (newly_read own.now range.now u) (look others.now u) }
+/// Whether an operation of a transaction that touches a range is in conflict on its side with another one. A
+/// write touches the range of its one key.
+fn touches_on(side: Side, t: Txn, range: &Range, u: Txn, other: &Sets) -> bool
+    ensures { result ≡ touches_on side t range.now u other.now }
+{
+    match side {
+        Side::Reader => writes_within(other.writes(), range),
+        Side::Writer => reads_key(other.reads(), range.lo()),
+        Side::Lesser => t < u && writes_key(other.writes(), range.lo()),
+        Side::Greater => u < t && writes_key(other.writes(), range.lo()),
+    }
+}
+
+/// Whether it is so with one of the others, and what the transaction read and wrote before was not.
+fn is_new(
+    others: &Table<Sets>,
+    side: Side,
+    t: Txn,
+    own: &Sets,
+    range: &Range,
+    u: Txn,
+) -> bool
+    ensures { result ≡ passes (newly_touches side t own.now range.now u) (look others.now u) }
 {
     match others.get(u) {
-        Some(other) => writes_within(other.writes(), range) && !own.meets(other),
+        Some(other) => touches_on(side, t, range, u, other) && !meets_on(side, t, own, u, other),
         None => false,
     }
 }
 
-/// Whether another transaction read the key that is written now, and nothing that was written before.
-fn is_reader(others: &Table<Sets>, u: Txn, own: &Sets, key: &Key) -> bool
-    ensures { result ≡ passes (newly_reads own.now key.now u) (look others.now u) }
-{
-    match others.get(u) {
-        Some(other) => reads_key(other.reads(), key) && !other.meets(own),
-        None => false,
-    }
-}
-
-/// Whether a transaction of a greater number wrote the key that is written now, and nothing that was written
-/// before.
-fn is_above(others: &Table<Sets>, t: Txn, u: Txn, own: &Sets, key: &Key) -> bool
-    ensures { result ≡ passes (newly_wrote_above t own.now key.now u) (look others.now u) }
-{
-    match others.get(u) {
-        Some(other) => t < u && writes_key(other.writes(), key) && !own.both(other),
-        None => false,
-    }
-}
-
-/// Whether a transaction of a lesser number wrote the key that is written now, and nothing that was written
-/// before.
-fn is_below(others: &Table<Sets>, t: Txn, u: Txn, own: &Sets, key: &Key) -> bool
-    ensures { result ≡ passes (newly_wrote_below t own.now key.now u) (look others.now u) }
-{
-    match others.get(u) {
-        Some(other) => u < t && writes_key(other.writes(), key) && !other.both(own),
-        None => false,
-    }
-}
-
-/// Adds the pairs of a transaction with those that wrote in the range which it reads now.
-fn add_reads(
+/// Adds the new pairs of a transaction on one side with some of the others.
+fn add_on(
     pairs: &mut Pairs,
+    side: Side,
     found: &Table<()>,
     others: &Table<Sets>,
     t: Txn,
     own: &Sets,
     range: &Range,
 ) -> Result<(), AllocError>
-    ensures { OnOk result (pairs.new ≡ pairs.old ++ map (reads_pair t) (found_at (newly_read own.now range.now) others.now (entries found.now))) }
+    ensures { OnOk result (pairs.new ≡ pairs.old ++ map (pair_of side t) (found_at (newly_touches side t own.now range.now) others.now (entries found.now))) }
 {
     for (u, _) in found.iter() {
-        if is_read(others, *u, own, range) {
-            pairs.push(Pair {
-                by: PairKind::Reads,
-                first: t,
-                second: *u,
-            })?;
-        }
-    }
-    Ok(())
-}
-
-/// Adds the pairs of a transaction with those that read the key which it writes now.
-fn add_readers(
-    pairs: &mut Pairs,
-    found: &Table<()>,
-    others: &Table<Sets>,
-    t: Txn,
-    own: &Sets,
-    key: &Key,
-) -> Result<(), AllocError>
-    ensures { OnOk result (pairs.new ≡ pairs.old ++ map (read_by_pair t) (found_at (newly_reads own.now key.now) others.now (entries found.now))) }
-{
-    for (u, _) in found.iter() {
-        if is_reader(others, *u, own, key) {
-            pairs.push(Pair {
-                by: PairKind::Reads,
-                first: *u,
-                second: t,
-            })?;
-        }
-    }
-    Ok(())
-}
-
-/// Adds the pairs of a transaction with those of greater numbers that wrote the key which it writes now.
-fn add_above(
-    pairs: &mut Pairs,
-    found: &Table<()>,
-    others: &Table<Sets>,
-    t: Txn,
-    own: &Sets,
-    key: &Key,
-) -> Result<(), AllocError>
-    ensures { OnOk result (pairs.new ≡ pairs.old ++ map (writes_pair t) (found_at (newly_wrote_above t own.now key.now) others.now (entries found.now))) }
-{
-    for (u, _) in found.iter() {
-        if is_above(others, t, *u, own, key) {
-            pairs.push(Pair {
-                by: PairKind::Writes,
-                first: t,
-                second: *u,
-            })?;
-        }
-    }
-    Ok(())
-}
-
-/// Adds the pairs of a transaction with those of lesser numbers that wrote the key which it writes now.
-fn add_below(
-    pairs: &mut Pairs,
-    found: &Table<()>,
-    others: &Table<Sets>,
-    t: Txn,
-    own: &Sets,
-    key: &Key,
-) -> Result<(), AllocError>
-    ensures { OnOk result (pairs.new ≡ pairs.old ++ map (written_by_pair t) (found_at (newly_wrote_below t own.now key.now) others.now (entries found.now))) }
-{
-    for (u, _) in found.iter() {
-        if is_below(others, t, *u, own, key) {
-            pairs.push(Pair {
-                by: PairKind::Writes,
-                first: *u,
-                second: t,
-            })?;
+        if is_new(others, side, t, own, range, *u) {
+            pairs.push(pair_of(side, t, *u))?;
         }
     }
     Ok(())
@@ -154,13 +72,13 @@ fn add_by_key(
     others: &Table<Sets>,
     t: Txn,
     own: &Sets,
-    key: &Key,
+    range: &Range,
 ) -> Result<(), AllocError>
-    ensures { OnOk result (pairs.new ≡ ((pairs.old ++ map (read_by_pair t) (found_at (newly_reads own.now key.now) others.now (entries readers.now))) ++ map (writes_pair t) (found_at (newly_wrote_above t own.now key.now) others.now (entries writers.now))) ++ map (written_by_pair t) (found_at (newly_wrote_below t own.now key.now) others.now (entries writers.now))) }
+    ensures { OnOk result (pairs.new ≡ ((pairs.old ++ map (pair_of Writer t) (found_at (newly_touches Writer t own.now range.now) others.now (entries readers.now))) ++ map (pair_of Lesser t) (found_at (newly_touches Lesser t own.now range.now) others.now (entries writers.now))) ++ map (pair_of Greater t) (found_at (newly_touches Greater t own.now range.now) others.now (entries writers.now))) }
 {
-    add_readers(pairs, readers, others, t, own, key)?;
-    add_above(pairs, writers, others, t, own, key)?;
-    add_below(pairs, writers, others, t, own, key)
+    add_on(pairs, Side::Writer, readers, others, t, own, range)?;
+    add_on(pairs, Side::Lesser, writers, others, t, own, range)?;
+    add_on(pairs, Side::Greater, writers, others, t, own, range)
 }
 
 /// Adds the pairs that the range of an operation makes, if it reads one.
@@ -178,7 +96,7 @@ fn add_by_read(
     match range_read(op)? {
         Some(range) => {
             let writers = index.may_write(alloc, &range)?;
-            add_reads(pairs, &writers, others, t, own, &range)
+            add_on(pairs, Side::Reader, &writers, others, t, own, &range)
         }
         None => Ok(()),
     }
@@ -202,7 +120,7 @@ fn add_by_write(
             let range = Range::of_key(key)?;
             let readers = index.may_read(alloc, key)?;
             let writers = index.may_write(alloc, &range)?;
-            add_by_key(pairs, &readers, &writers, others, t, own, key)
+            add_by_key(pairs, &readers, &writers, others, t, own, &range)
         }
         None => Ok(()),
     }

@@ -1,14 +1,15 @@
 //! What undecided transactions read and wrote.
 ghost use Rattle.std.specs.Prelude.{◌≡◌, IfOk, OnOk, option_copied};
-ghost use Rattle.co_index.specs.NewPairs.{grown_by, or_nothing, sets_among, AreNew};
-ghost use Rattle.co_index.specs.Undecided.{IsWhole, grown_at, prepared_sets};
+ghost use Rattle.co_index.specs.Undecided.{IsWhole, grown_at};
+ghost use Rattle.co_pairs.specs.NewPairs.{or_nothing, sets_among, AreNew};
+ghost use Rattle.co_pairs.specs.Votes.{told_of};
 ghost use Rattle.co_state.specs.Table.{look, without};
 
 use crate::index::Index;
 use crate::new_pairs::pairs_made;
-use co_base::{Op, Ranges, Txn, Writes};
-use co_pairs::{Pairs, Prepared, Sets};
-use co_state::{Table, change_made, put_change, put_range, range_read};
+use co_base::{Op, Txn};
+use co_pairs::{Pairs, Prepared, Sets, grown};
+use co_state::Table;
 use std::alloc::{AllocError, Global};
 
 /// What each undecided transaction read and wrote, and an index of who touched which key.
@@ -19,24 +20,6 @@ use std::alloc::{AllocError, Global};
 pub struct Undecided {
     sets: Table<Sets>,
     index: Index,
-}
-
-/// What a transaction read and wrote, with one operation more.
-fn grown(sets: Sets, op: &Op) -> Result<Sets, AllocError>
-    ensures { IfOk result (λ grown. grown ≡ grown_by op.now sets) }
-{
-    let mut reads = sets.reads.into_vec();
-    let mut writes = sets.writes.into_vec();
-    if let Some(range) = range_read(op)? {
-        put_range(&mut reads, range)?;
-    }
-    if let Some(change) = change_made(op)? {
-        put_change(&mut writes, change)?;
-    }
-    Ok(Sets {
-        reads: Ranges::of(reads),
-        writes: Writes::of(writes),
-    })
 }
 
 /// Takes what a transaction read and wrote out of a table; nothing where it is absent.
@@ -52,7 +35,7 @@ fn take(alloc: Global, sets: &mut Table<Sets>, t: Txn) -> Sets
 
 /// What the prepared transactions read and wrote.
 fn prepared_sets(alloc: Global, prepared: &[Prepared]) -> Result<Table<Sets>, AllocError>
-    ensures { IfOk result (λ sets. sets ≡ prepared_sets prepared.now) }
+    ensures { IfOk result (λ sets. sets ≡ told_of (λ p. p.sets) prepared.now) }
 {
     let mut all = Table::new(alloc);
     let mut place = prepared.len();
@@ -67,7 +50,7 @@ fn prepared_sets(alloc: Global, prepared: &[Prepared]) -> Result<Table<Sets>, Al
 impl Undecided {
     /// The prepared transactions.
     pub fn of_prepared(alloc: Global, prepared: &[Prepared]) -> Result<Undecided, AllocError>
-        ensures sets { IfOk result (λ all. all.sets ≡ prepared_sets prepared.now) }
+        ensures sets { IfOk result (λ all. all.sets ≡ told_of (λ p. p.sets) prepared.now) }
         ensures whole { IfOk result IsWhole }
     {
         let sets = prepared_sets(alloc, prepared)?;

@@ -21,10 +21,12 @@ use Rattle.co_state.specs.Table.{Table, look, first_in, least_where, lesser}
 use Rattle.co_locktab.specs.Locks.{IsLeast}
 use Rattle.co_locktab.proofs.Least.{first, second, least_same, least_lesser, found_above}
 use Rattle.co_locktab.proofs.Orders.{same_number, one_number, number_itself}
-use Rattle.co_lock.specs.declared.undecided.Undecided.{Undecided}
-use Rattle.co_lock.specs.Standing.{IsKept}
+use Rattle.co_engine.specs.declared.undecided.Undecided.{Undecided}
+use Rattle.co_engine.specs.Undecided.{IsKept}
+use Rattle.co_engine.proofs.Rolling.{none_mapped}
+use Rattle.co_pairs.specs.NewPairs.{passes}
+use Rattle.co_pairs.proofs.Picking.{find-below}
 use Rattle.co_lock.proofs.Locking.{and_false, or_false}
-use Rattle.co_lock.proofs.Picking.{passes, find-below}
 
 passes_some : {X : Type 0} (test : X → Bool) (o : Option X) → passes test o ≡ true → is_some o ≡ true
 passes_some test None e = e
@@ -108,10 +110,6 @@ least_unique test None None h k = refl
 least_unique test None (Some u) h k = absurd (true≢false (sym k.0 ∙ h u))
 least_unique test (Some t) None h k = absurd (true≢false (sym h.0 ∙ k t))
 least_unique test (Some t) (Some u) h k = ap (λ n. Some n) (at_once t u (h.1 u k.0) (k.1 t h.0))
-
-none_mapped : {A B : Type 0} (f : A → B) (o : Option A) → option_map f o ≡ None → o ≡ None
-none_mapped f None e = refl
-none_mapped f (Some a) e = absurd (let g : Some (f a) ≡ None = e in cc)
 
 one_by : (voted : Bool) (e : Undecided) (os : Option (List Operation)) (vote : Option Vote)
     → option_map sets_of os ≡ (if voted then None else Some e.sets) → option_map (λ v. v.sets) vote ≡ (if voted then Some e.sets else None) → (os ≡ None) ⊎ (vote ≡ None)

@@ -1,8 +1,5 @@
 pub mod Locking
 pub mod Stepping
-mod Picking
-mod Joining
-mod Keeping
 mod Blocking
 mod Fitting
 mod Rolling

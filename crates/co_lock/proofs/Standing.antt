@@ -30,20 +30,23 @@ use Rattle.co_locktab.proofs.Least.{least_same}
 use Rattle.co_locktab.proofs.Orders.{same_number}
 use Rattle.co_law_engine.proofs.Keys.{unchanged, overlaid}
 use Rattle.co_law_engine.proofs.SeenAlike.{span_own}
-use Rattle.co_lock.specs.declared.undecided.Undecided.{Undecided}
+use Rattle.co_engine.specs.declared.undecided.Undecided.{Undecided}
 use Rattle.co_lock.specs.declared.engine.LockEngine.{LockEngine}
 use Rattle.co_lock.specs.declared.locked_store.LockedStore.{LockedStore}
 use Rattle.co_lock.specs.LockedState as state
 use Rattle.co_lock.specs.LockedState.{LockedState, IsClear}
 use Rattle.co_lock.specs.Locked.{IsLocked}
-use Rattle.co_lock.specs.Standing.{StandsFor, IsKept, Fits, voted_sets}
-use Rattle.co_lock.specs.Undecided.{changes_kept, own, or_new, newly_reads, found_in, read_by_pair}
+use Rattle.co_engine.specs.Undecided.{changes_kept, own, or_new, IsKept, voted_sets}
+use Rattle.co_engine.proofs.Keeping.{kept_changes}
+use Rattle.co_engine.proofs.Rolling.{not_voted, sets_kept, own_kept, none_mapped}
+use Rattle.co_pairs.specs.NewPairs.{found_in, pair_of}
+use Rattle.co_pairs.specs.declared.side.Side.TheVariants.{Writer}
+use Rattle.co_lock.specs.Standing.{StandsFor, Fits}
+use Rattle.co_lock.specs.Undecided.{newly_reads}
 use Rattle.co_lock.proofs.Blocking.{blocks, holder_least, least_unique, kept_one}
 use Rattle.co_lock.proofs.Fitting.{fits_read, fits_write, fits_end, fits_cast, fresh_install, same_writes, same_reads, becomes, other_sets}
-use Rattle.co_lock.proofs.Keeping.{changes_alike}
 use Rattle.co_lock.proofs.Locking.{holds_key, neither_left, neither_right, one_of, other_than, same_as, and_false}
 use Rattle.co_lock.proofs.Pairing.{nothing_made, readers_made}
-use Rattle.co_lock.proofs.Rolling.{not_voted, sets_kept, own_kept, none_mapped}
 
 pub one_each : (p : LockEngine) (b : EngineState) → StandsFor p b → (u : ℕ) → (look b.active u ≡ None) ⊎ (look b.voted u ≡ None)
 one_each p b s u = kept_one (look p.roll u) (look b.active u) (look b.voted u) (s.each u)
@@ -119,7 +122,7 @@ pairs_of_read p b t op span s may reads writes none =
 
 pub pairs_of_write : (p : LockEngine) (b : EngineState) (t : ℕ) (op : Op) (change : Written) (s : StandsFor p b) → IsTrue (may_operate b t) → span_read op ≡ None → change_made op ≡ Some change → lock_blocker b t op ≡ None
     → (place : LockedStore) → IsLocked place (state.with_write s.place t change.key change.value)
-    → AreNewPairs b (with_operation b t op) (map (read_by_pair t) (found_in (newly_reads change.key (own p.roll t).sets.writes) (entries (without p.roll t))))
+    → AreNewPairs b (with_operation b t op) (map (pair_of Writer t) (found_in (λ u. newly_reads change.key (own p.roll t).sets.writes) (entries (without p.roll t))))
 pairs_of_write p b t op change s may reads writes none next locked =
     let voted = not_voted b t may in
     let free = clear_write p b t op change s writes none in
@@ -243,4 +246,4 @@ pub never_stale : (p : LockEngine) (b : EngineState) (t : ℕ) → StandsFor p b
 never_stale p b t s = sym (ap least_key (s.fits.fresh t))
 
 pub dump_alike : (p : LockEngine) (b : EngineState) → StandsFor p b → changes_kept (entries p.roll) ≡ undecided_changes b
-dump_alike p b s = changes_alike p.roll b.active b.voted (λ t. (s.each t).sets_are) (λ t. (s.each t).votes_are)
+dump_alike p b s = kept_changes p.roll b s.each

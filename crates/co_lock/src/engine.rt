@@ -21,14 +21,15 @@ ghost use Rattle.co_lock.specs.LockedState.{LockedState, IsClear, with_writes};
 ghost use Rattle.co_index.specs.Touching.{gone_from};
 ghost use Rattle.co_lock.specs.Standing.{StandsFor, TellsReads};
 ghost use Rattle.std.specs.Option.{option_map};
-ghost use Rattle.co_lock.specs.Undecided.{or_new, with_range, with_change_of, newly_reads, found_in, read_by_pair, own};
+ghost use Rattle.co_engine.specs.Undecided.{own};
+ghost use Rattle.co_lock.specs.Undecided.{with_range, with_change_of, newly_reads};
+ghost use Rattle.co_pairs.specs.NewPairs.{found_in, pair_of};
+ghost use Rattle.co_pairs.specs.declared.side.Side.TheVariants.{Writer};
 
-use crate::dumping::dump_in_place;
 use crate::locked_store::LockedStore;
 use crate::pairs::pairs_made;
-use crate::undecided::{Roll, Undecided};
 use co_base::{Key, Kind, Op, Range, Ranges, Reply, Rows, Txn, Value, Writes, Written};
-use co_engine::{Dump, Engine, Seen, append, writing};
+use co_engine::{Dump, Engine, Roll, Seen, Undecided, append, dump_in_place, writing};
 use co_index::Index;
 use co_pairs::{Pairs, Prepared, Sets};
 use co_state::{RecordMap, put_change, put_range, records_from};
@@ -51,25 +52,11 @@ struct Operated {
     pairs: Pairs,
 }
 
-/// Takes an undecided transaction out; a new one where it is absent.
-fn take(alloc: Global, roll: &mut Roll, t: Txn) -> Undecided
-    ensures value { result ≡ or_new (look roll.old t) }
-    ensures rest { roll.new ≡ without roll.old t }
-{
-    match roll.take(t) {
-        Some(undecided) => undecided,
-        None => Undecided {
-            voted: false,
-            sets: Sets::new(alloc),
-        },
-    }
-}
-
 /// A transaction read a range.
 fn note_read(alloc: Global, roll: &mut Roll, t: Txn, range: Range) -> Result<(), AllocError>
     ensures { OnOk result (roll.new ≡ with_range roll.old t range) }
 {
-    let own = take(alloc, roll, t);
+    let own = roll.take_or_new(alloc, t);
     let sets = own.sets;
     let mut reads = sets.reads.into_vec();
     put_range(&mut reads, range)?;
@@ -89,9 +76,9 @@ fn note_write(
     change: Written,
 ) -> Result<Pairs, AllocError>
     ensures roll { OnOk result (roll.new ≡ with_change_of roll.old t change) }
-    ensures pairs { TellsReads readers.now roll.old → IfOk result (λ pairs. pairs ≡ map (read_by_pair t) (found_in (newly_reads change.key (own roll.old t).sets.writes) (entries (without roll.old t)))) }
+    ensures pairs { TellsReads readers.now roll.old → IfOk result (λ pairs. pairs ≡ map (pair_of Writer t) (found_in (λ u. newly_reads change.key (own roll.old t).sets.writes) (entries (without roll.old t)))) }
 {
-    let own = take(alloc, roll, t);
+    let own = roll.take_or_new(alloc, t);
     let pairs = pairs_made(alloc, readers, roll, t, &change.key, &own.sets)?;
     let sets = own.sets;
     let mut writes = sets.writes.into_vec();

@@ -4,10 +4,8 @@
 //! decision and read locks to the vote; what was read stays on record until the decision.
 #![tactic(auto)]
 
-mod dumping;
 mod engine;
 mod locked_store;
 mod pairs;
-mod undecided;
 
 pub use engine::LockEngine;

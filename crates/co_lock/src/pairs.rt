@@ -1,15 +1,16 @@
 //! The pairs that a write makes.
 ghost use Rattle.std.specs.Prelude.{◌≡◌, map, IfOk};
 ghost use Rattle.std.specs.FinMap.{entries};
-ghost use Rattle.co_index.specs.NewPairs.{passes, found_at};
+ghost use Rattle.co_pairs.specs.NewPairs.{passes, found_in, found_at, pair_of};
+ghost use Rattle.co_pairs.specs.declared.side.Side.TheVariants.{Writer};
 ghost use Rattle.co_lock.specs.Standing.{TellsReads};
 ghost use Rattle.co_state.specs.Table.{look};
-ghost use Rattle.co_lock.specs.Undecided.{newly_reads, found_in, read_by_pair};
+ghost use Rattle.co_lock.specs.Undecided.{newly_reads};
 
-use crate::undecided::{Roll, Undecided};
 use co_base::{Key, Txn};
+use co_engine::{Roll, Undecided};
 use co_index::Index;
-use co_pairs::{Pair, PairKind, Pairs, Sets};
+use co_pairs::{Pairs, Sets, Side, pair_of};
 use co_state::{Table, reads_key, reads_meet};
 use std::alloc::{AllocError, Global};
 
@@ -41,16 +42,12 @@ fn pairs_among(
     key: &Key,
     before: &Sets,
 ) -> Result<Pairs, AllocError>
-    ensures { IfOk result (λ pairs. pairs ≡ map (read_by_pair t) (found_at (λ u. newly_reads key.now before.now.writes) others.now (entries found.now))) }
+    ensures { IfOk result (λ pairs. pairs ≡ map (pair_of Writer t) (found_at (λ u. newly_reads key.now before.now.writes) others.now (entries found.now))) }
 {
     let mut pairs = Pairs::new(alloc);
     for (u, _) in found.iter() {
         if is_reader(others, *u, key, before) {
-            pairs.push(Pair {
-                by: PairKind::Reads,
-                first: *u,
-                second: t,
-            })?;
+            pairs.push(pair_of(Side::Writer, t, *u))?;
         }
     }
     Ok(pairs)
@@ -66,7 +63,7 @@ pub fn pairs_made(
     key: &Key,
     before: &Sets,
 ) -> Result<Pairs, AllocError>
-    ensures { TellsReads readers.now others.now → IfOk result (λ pairs. pairs ≡ map (read_by_pair t) (found_in (newly_reads key.now before.now.writes) (entries others.now))) }
+    ensures { TellsReads readers.now others.now → IfOk result (λ pairs. pairs ≡ map (pair_of Writer t) (found_in (λ u. newly_reads key.now before.now.writes) (entries others.now))) }
 {
     let found = readers.may_read(alloc, key)?;
     pairs_among(alloc, &found, others, t, key, before)

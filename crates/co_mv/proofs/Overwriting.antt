@@ -23,7 +23,7 @@ use Rattle.co_mv.specs.Versions.{last_change, base_versions, closed, written_ove
 use Rattle.co_mv.proofs.Archiving.{has-keys}
 use Rattle.co_mv.proofs.Chaining.{same_keys}
 use Rattle.co_index.proofs.Putting.{reads_key-put}
-use Rattle.co_index.proofs.Finding.{first, second}
+use Rattle.co_pairs.proofs.Picking.{first, second}
 use Rattle.co_index.proofs.Listed.{has-append, has-filter, either, key-below, find-within, sorted-within}
 use Rattle.co_mv.proofs.Versioning.{true_le, lt_true, true_lt, lt_false, and_first, and_second, and-false, key_symm, writes-change, IsLink, Linked, linked, written_bound}
 

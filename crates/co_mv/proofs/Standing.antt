@@ -36,11 +36,13 @@ use Rattle.co_mv.specs.declared.mv_engine.MvEngine.{MvEngine}
 use Rattle.co_mv.specs.declared.version.Version.{Version}
 use Rattle.co_mv.specs.Chains.{chain_of, chain_in}
 use Rattle.co_mv.specs.Kept.{needed, or_now, stamp_of, entered, left, grown, IsNeeded, Keeps, AreStamped, active_sets, voted_sets, IsKept, StandsFor, visible_within}
-use Rattle.co_index.specs.NewPairs.{or_nothing, grown_by, sets_among, AreNew}
-use Rattle.co_index.specs.Undecided.{IsWhole, grown_at, prepared_sets}
-use Rattle.co_index.proofs.Finding.{ties}
-use Rattle.co_index.proofs.Growing.{new_pairs}
-use Rattle.co_index.proofs.Mapped.{mapped, table-mapped}
+use Rattle.co_pairs.specs.NewPairs.{mapped, or_nothing, grown_by, sets_among, AreNew}
+use Rattle.co_index.specs.Undecided.{IsWhole, grown_at}
+use Rattle.co_pairs.proofs.Picking.{ties}
+use Rattle.co_pairs.specs.Votes.{told_of}
+use Rattle.co_pairs.proofs.Votes.{told_voted}
+use Rattle.co_pairs.proofs.Growing.{new_pairs}
+use Rattle.co_pairs.proofs.Mapped.{table-mapped}
 use Rattle.co_mv.specs.Overwritten.{written_within}
 use Rattle.co_mv.specs.Reading.{all_noted}
 use Rattle.co_mv.specs.Recents.{has_key}
@@ -245,7 +247,7 @@ stands_with e e' b t op s h es k sets ix =
 pub pairs_alike : (e e' : MvEngine) (b : EngineState) (t : ℕ) (op : Op) (pairs : List Pair) → StandsFor e b → StandsFor e' (with_operation b t op) → e'.undecided.sets ≡ grown_at e.undecided.sets t op
     → AreNew (sets_among e.undecided.sets) (sets_among (grown_at e.undecided.sets t op)) pairs → AreNewPairs b (with_operation b t op) pairs
 pairs_alike e e' b t op pairs s next sets new =
-    new_pairs b (with_operation b t op) e.undecided.sets (grown_at e.undecided.sets t op) pairs (λ u. sets_alike e b u s) (λ u. sets_alike e' (with_operation b t op) u next ∙ ap (λ m. sets_among m u) sets) new
+    new_pairs b (with_operation b t op) (sets_among e.undecided.sets) (sets_among (grown_at e.undecided.sets t op)) pairs (λ u. sets_alike e b u s) (λ u. sets_alike e' (with_operation b t op) u next ∙ ap (λ m. sets_among m u) sets) new
 
 -- nobody is blocked
 pub not_blocked : (e : MvEngine) (b : EngineState) (t : ℕ) (op : Op) → StandsFor e b → None ≡ lock_blocker b t op
@@ -334,22 +336,15 @@ pub stale_absent : (e : MvEngine) (b : EngineState) (t : ℕ) {A : Type 0} → S
 stale_absent e b t s h is = absurd (true≢false (sym h ∙ absent_active (look e.archive.snapshots.stamps t) (look b.active t) (look b.voted t) (kept_along refl is refl refl (s.each t))))
 
 -- ---- the start
-prepared_at : (ps : List Prepared) (u : ℕ) → IsKept None (look (prepared_sets ps) u) (look (no_entries {X = List Operation}) u) (look (votes_of ps) u)
-prepared_at [] u = kept_along refl (sym (get-empty nat_cmp u)) (sym (get-empty nat_cmp u)) (sym (get-empty nat_cmp u)) nothing_kept
-prepared_at (p ∷ ps) u =
-    kept_along refl (sym (look-put (prepared_sets ps) p.txn p.sets u)) refl (sym (look-put (votes_of ps) p.txn (vote_in p) u))
-    (by (eq_by_cmp nat_cmp u p.txn) (prepared_at ps u))
-  where
-    by : (c : Bool) → IsKept None (look (prepared_sets ps) u) (look (no_entries {X = List Operation}) u) (look (votes_of ps) u)
-        → IsKept None (cond c (Some p.sets) (look (prepared_sets ps) u)) (look (no_entries {X = List Operation}) u) (cond c (Some (vote_in p)) (look (votes_of ps) u))
-    by true k = kept_along refl refl (sym (get-empty nat_cmp u)) refl (record { stamps_are = tt; sets_are = refl; votes_are = refl })
-    by false k = k
+prepared_kept : (vote : Option Vote) → IsKept None (option_map (λ v. v.sets) vote) None vote
+prepared_kept None = nothing_kept
+prepared_kept (Some vote) = record { stamps_are = tt; sets_are = refl; votes_are = refl }
 
-pub stands_restored : (e : MvEngine) (kind : Kind) (records : Records) (ps : List Prepared) → Mv ≡ kind → Keeps e.archive records [] → e.archive.snapshots.stamps ≡ no_entries → e.undecided.sets ≡ prepared_sets ps → IsWhole e.undecided
+pub stands_restored : (e : MvEngine) (kind : Kind) (records : Records) (ps : List Prepared) → Mv ≡ kind → Keeps e.archive records [] → e.archive.snapshots.stamps ≡ no_entries → e.undecided.sets ≡ told_of (λ p. p.sets) ps → IsWhole e.undecided
     → StandsFor e (restored kind records (votes_of ps))
 stands_restored e kind records ps is k none sets ix = record {
   kind_is = is;
   keeps = k;
-  each = λ u. kept_along (sym (ap (λ m. look m u) none ∙ get-empty nat_cmp u)) (ap (λ m. look m u) (sym sets)) refl refl (prepared_at ps u);
+  each = λ u. kept_along (sym (ap (λ m. look m u) none ∙ get-empty nat_cmp u)) (sym (ap (λ m. look m u) sets ∙ told_voted (λ p. p.sets) (λ v. v.sets) (λ p. refl) ps u)) (sym (get-empty nat_cmp u)) refl (prepared_kept (look (votes_of ps) u));
   whole = ix;
 }

@@ -20,7 +20,7 @@ use Rattle.co_mv.specs.declared.version.Version.{Version}
 use Rattle.co_mv.specs.Chains.{Chains, chain_in, chain_of}
 use Rattle.co_mv.specs.Reading.{noted, all_noted, changed_within, laid_within}
 use Rattle.co_mv.specs.Versions.{seen_value}
-use Rattle.co_index.proofs.Finding.{second, first}
+use Rattle.co_pairs.proofs.Picking.{first, second}
 use Rattle.co_index.proofs.Listed.{key-below, find-within, sorted-within}
 use Rattle.co_mv.proofs.Chaining.{same_keys, key_itself}
 use Rattle.co_mv.proofs.Versioning.{get-with_change}

@@ -9,7 +9,7 @@ use Rattle.co_mv.specs.declared.archive.Archive.{Archive}
 use Rattle.co_mv.specs.declared.mv_engine.MvEngine.{MvEngine}
 use Rattle.co_mv.specs.declared.version.Version.{Version}
 use Rattle.co_mv.specs.Chains.{Chains, chain_of}
-use Rattle.co_index.specs.NewPairs.{or_nothing}
+use Rattle.co_pairs.specs.NewPairs.{or_nothing}
 use Rattle.co_index.specs.Undecided.{IsWhole}
 use Rattle.co_mv.specs.Reading.{all_noted, laid_within}
 use Rattle.co_mv.specs.Recents.{Recents, keys_at, has_key}

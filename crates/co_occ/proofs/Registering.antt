@@ -10,7 +10,7 @@ use Rattle.co_stamps.specs.Stamped.{IsLeastFrom}
 use Rattle.co_occ.specs.declared.reads.Reads.{Reads}
 use Rattle.co_occ.specs.Kept.{oldest_kept}
 use Rattle.co_occ.specs.Reading.{oldest_at, KnowsOldest, with_oldest}
-use Rattle.co_index.proofs.Finding.{first, second, tied, ties, find-below}
+use Rattle.co_pairs.proofs.Picking.{first, second, tied, ties, find-below}
 
 -- ---- after each call
 pub knows_none : (oldest : Table ℕ) (reads : Table Reads) → oldest ≡ no_entries → reads ≡ no_entries → KnowsOldest oldest reads

@@ -32,10 +32,12 @@ use Rattle.co_state.proofs.Tables.{look-put, look-without, put-without}
 use Rattle.co_engine.specs.declared.answers.Seen.TheVariants.{Answer}
 use Rattle.co_engine.specs.Calls.{may_operate, is_installed, votes_of, vote_in, seen_by, seen_of, AppendsNewPairs}
 use Rattle.co_index.specs.declared.undecided.Undecided.{Undecided}
-use Rattle.co_index.specs.NewPairs.{or_nothing, grown_by, sets_among, AreNew}
-use Rattle.co_index.specs.Undecided.{IsWhole, grown_at, prepared_sets}
-use Rattle.co_index.proofs.Finding.{tied}
-use Rattle.co_index.proofs.Growing.{new_pairs}
+use Rattle.co_pairs.specs.NewPairs.{or_nothing, grown_by, sets_among, AreNew}
+use Rattle.co_index.specs.Undecided.{IsWhole, grown_at}
+use Rattle.co_pairs.proofs.Picking.{tied}
+use Rattle.co_pairs.specs.Votes.{told_of}
+use Rattle.co_pairs.proofs.Votes.{told_voted}
+use Rattle.co_pairs.proofs.Growing.{new_pairs}
 use Rattle.co_occ.specs.declared.engine.OccEngine.{OccEngine}
 use Rattle.co_occ.specs.declared.reads.Reads.{Reads}
 use Rattle.co_occ.specs.Kept.{reads_of, or_unread, with_read}
@@ -134,7 +136,7 @@ module _ (o : OccEngine) (b : EngineState) (t : ℕ) (op : Op) (h : IsTrue (may_
   -- the pairs that are new of the tables are those of the states
   pub pairs_alike : (pairs : List Pair) → KeepsState o b → AreNew (sets_among o.undecided.sets) (sets_among (grown_at o.undecided.sets t op)) pairs → AreNewPairs b (with_operation b t op) pairs
   pairs_alike pairs k new =
-      new_pairs b (with_operation b t op) o.undecided.sets (grown_at o.undecided.sets t op) pairs (λ u. sets_alike o b u k)
+      new_pairs b (with_operation b t op) (sets_among o.undecided.sets) (sets_among (grown_at o.undecided.sets t op)) pairs (λ u. sets_alike o b u k)
       (λ u. sets_alike (moved o reads undecided) (with_operation b t op) u (keeps_with k) ∙ ap (λ m. sets_among m u) es) new
 
 -- ---- the kept write sets
@@ -264,25 +266,18 @@ pub install_absent : (o : OccEngine) (b : EngineState) (t : ℕ) {A : Type 0} �
 install_absent o b t s h is = absurd (true≢false (sym h ∙ absent_vote (look o.reads t) (look b.active t) (look b.voted t) (kept_along refl is refl refl (s.keeps.each t))))
 
 -- ---- the start
-prepared_at : (ps : List Prepared) (u : ℕ) → IsKept None (look (prepared_sets ps) u) (look (no_entries {X = List Operation}) u) (look (votes_of ps) u)
-prepared_at [] u = kept_along refl (sym (get-empty nat_cmp u)) (sym (get-empty nat_cmp u)) (sym (get-empty nat_cmp u)) nothing_kept
-prepared_at (p ∷ ps) u =
-    kept_along refl (sym (look-put (prepared_sets ps) p.txn p.sets u)) refl (sym (look-put (votes_of ps) p.txn (vote_in p) u))
-    (by (eq_by_cmp nat_cmp u p.txn) (prepared_at ps u))
-  where
-    by : (c : Bool) → IsKept None (look (prepared_sets ps) u) (look (no_entries {X = List Operation}) u) (look (votes_of ps) u)
-        → IsKept None (cond c (Some p.sets) (look (prepared_sets ps) u)) (look (no_entries {X = List Operation}) u) (cond c (Some (vote_in p)) (look (votes_of ps) u))
-    by true k = kept_along refl refl (sym (get-empty nat_cmp u)) refl (record { reads_are = refl; sets_are = refl; votes_are = refl })
-    by false k = k
+prepared_kept : (vote : Option Vote) → IsKept None (option_map (λ v. v.sets) vote) None vote
+prepared_kept None = nothing_kept
+prepared_kept (Some vote) = record { reads_are = refl; sets_are = refl; votes_are = refl }
 
-pub stands_restored : (o : OccEngine) (kind : Kind) (records : Records) (ps : List Prepared) → kind ≡ Occ → o.records ≡ records → o.installs ≡ 0 → o.recent ≡ [] → o.lasts ≡ empty → o.reads ≡ no_entries → o.undecided.sets ≡ prepared_sets ps
+pub stands_restored : (o : OccEngine) (kind : Kind) (records : Records) (ps : List Prepared) → kind ≡ Occ → o.records ≡ records → o.installs ≡ 0 → o.recent ≡ [] → o.lasts ≡ empty → o.reads ≡ no_entries → o.undecided.sets ≡ told_of (λ p. p.sets) ps
     → IsWhole o.undecided → StandsFor o (restored kind records (votes_of ps))
 stands_restored o kind records ps is base count recent lasts reads sets w = record {
   keeps = record {
     kind_is = sym is;
     records_are = base;
     count_is = count;
-    each = λ u. kept_along (sym (ap (λ m. look m u) reads ∙ get-empty nat_cmp u)) (ap (λ m. look m u) (sym sets)) refl refl (prepared_at ps u);
+    each = λ u. kept_along (sym (ap (λ m. look m u) reads ∙ get-empty nat_cmp u)) (sym (ap (λ m. look m u) sets ∙ told_voted (λ p. p.sets) (λ v. v.sets) (λ p. refl) ps u)) (sym (get-empty nat_cmp u)) refl (prepared_kept (look (votes_of ps) u));
     whole = w;
   };
   recent_are = recent ∙ after_none (oldest_of (entries (no_entries {X = List Operation})));

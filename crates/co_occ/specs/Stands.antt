@@ -12,7 +12,7 @@ use Rattle.co_state.specs.declared.engine_state.Vote.{Vote}
 use Rattle.co_state.specs.Changes.{sets_of}
 use Rattle.co_state.specs.EngineState.{installed_records}
 use Rattle.co_state.specs.Table.{look}
-use Rattle.co_index.specs.NewPairs.{or_nothing}
+use Rattle.co_pairs.specs.NewPairs.{or_nothing}
 use Rattle.co_index.specs.Undecided.{IsWhole}
 use Rattle.co_occ.specs.declared.engine.OccEngine.{OccEngine}
 use Rattle.co_occ.specs.declared.reads.Read.{Read}

@@ -11,7 +11,7 @@ ghost use Rattle.co_occ.specs.Last.{AreLast};
 ghost use Rattle.co_occ.specs.Old.{old_writes};
 ghost use Rattle.co_occ.specs.Stands.{StandsFor, own_writes, own_records, own_reads, needed, recent_needed, with_needed};
 
-use crate::installed::Installed;
+use crate::installed::{lay, records_of};
 use crate::lasts::{keep_newest, note};
 use crate::old::OldWrites;
 use crate::reading::{all_records, copy_value, records_within, seen_value};
@@ -32,7 +32,7 @@ use std::alloc::{AllocError, Global};
 /// the installs that came after the oldest read of an active transaction.
 #[derive(Drop)]
 pub struct OccEngine {
-    records: Installed,
+    records: KeyMap<Value>,
     installs: u64,
     recent: OldWrites,
     lasts: KeyMap<u64>,
@@ -149,7 +149,7 @@ impl Engine for OccEngine {
     ) -> Result<Self, AllocError> {
         let _ = kind;
         Ok(OccEngine {
-            records: Installed::of_rows(alloc, rows.into_vec())?,
+            records: records_of(alloc, rows.into_vec())?,
             installs: 0,
             recent: OldWrites::new(alloc),
             lasts: KeyMap::new(alloc),
@@ -223,7 +223,7 @@ impl Engine for OccEngine {
         };
         let writes = sets.writes;
         self.installs = one_more(self.installs)?;
-        self.records.lay(writes.as_slice())?;
+        lay(&mut self.records, writes.as_slice())?;
         note(&mut self.lasts, writes.as_slice(), self.installs)?;
         self.recent.push(writes)?;
         self.forget_old();

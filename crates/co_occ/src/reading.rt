@@ -5,8 +5,8 @@ ghost use Rattle.co_serial.specs.Records.{all_rows, rows_within, with_changes};
 ghost use Rattle.co_state.specs.Keys.{same_key};
 ghost use Rattle.co_occ.specs.Seen.{laid_within};
 
-use crate::installed::Installed;
 use co_base::{Key, Range, Value, Written};
+use co_index::KeyMap;
 use co_state::RecordMap;
 use std::alloc::{AllocError, Global};
 
@@ -33,7 +33,7 @@ fn changed<'a>(seen: Option<&'a Value>, change: &'a Written, key: &Key) -> Optio
 
 /// The value at a key, once changes are laid over the records.
 pub fn seen_value<'a>(
-    records: &'a Installed,
+    records: &'a KeyMap<Value>,
     changes: &'a [Written],
     key: &Key,
 ) -> Option<&'a Value>
@@ -62,7 +62,7 @@ fn lay_within(records: &mut RecordMap, changes: &[Written], range: &Range) -> Re
 /// The records of a range, once changes are laid over.
 pub fn records_within(
     alloc: Global,
-    installed: &Installed,
+    installed: &KeyMap<Value>,
     changes: &[Written],
     range: &Range,
 ) -> Result<RecordMap, AllocError>
@@ -77,7 +77,7 @@ pub fn records_within(
 }
 
 /// All records.
-pub fn all_records(alloc: Global, installed: &Installed) -> Result<RecordMap, AllocError>
+pub fn all_records(alloc: Global, installed: &KeyMap<Value>) -> Result<RecordMap, AllocError>
     ensures { IfOk result (λ records. records ≡ installed.now) }
 {
     let mut records = RecordMap::new(alloc);

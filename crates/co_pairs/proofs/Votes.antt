@@ -4,17 +4,18 @@ use Rattle.std.proofs.lemmas.Bool.{or_from}
 use Rattle.std.proofs.lemmas.Bool.Decides.{nat_tests}
 use Rattle.std.proofs.lemmas.Cmp.{tied_itself}
 use Rattle.std.specs.Cmp.{nat_cmp_total}
-use Rattle.std.specs.FinMap.{entries, entries_sorted, from_entries, get-entries, get-from_entries, same_map, nat_cmp-IsAntisymmetric}
+use Rattle.std.specs.Option.{option_map}
+use Rattle.std.specs.FinMap.{entries, entries_sorted, from_entries, get-empty, get-entries, get-from_entries, same_map, nat_cmp-IsAntisymmetric}
 use Rattle.std.specs.FinMap.Entries.{find, is_sorted, below_all}
 use Rattle.std.specs.Ordering.{nat_cmp, eq_by_cmp, is_lt, is_eq}
-use Rattle.std.specs.declared.cmp.Ordering.{Ordering}
-use Rattle.std.specs.declared.cmp.Ordering.TheVariants.{Less, Equal, Greater}
 use Rattle.co_pairs.specs.declared.prepared.Prepared.{Prepared}
 use Rattle.co_pairs.specs.Free.{clash, clashes_with, are_free}
-use Rattle.co_pairs.specs.Votes.{votes_of, prepared_of, voted_of}
+use Rattle.co_pairs.specs.Votes.{vote_in, votes_of, told_of, prepared_of, voted_of}
+use Rattle.co_pairs.proofs.Picking.{find-below}
 use Rattle.co_state.specs.declared.engine_state.Vote.{Vote}
 use Rattle.co_state.specs.Conflicts.{sets_conflict}
 use Rattle.co_state.specs.Table.{Table, look, put}
+use Rattle.co_state.proofs.Tables.{look-put}
 
 from_votes : (es : List (ℕ × Vote)) → votes_of (map prepared_of es) ≡ from_entries es
 from_votes [] = refl
@@ -26,17 +27,20 @@ votes_again voted =
     from_votes (entries voted)
     ∙ same_map nat_cmp_total nat_cmp-IsAntisymmetric _ _ (λ t. get-from_entries nat_cmp_total (entries voted) t ∙ sym (get-entries voted t))
 
--- ---- votes that are free of conflicts
+-- ---- what is told of each prepared transaction is told of its vote
+module _ {X : Type 0} (told : Prepared → X) (of_vote : Vote → X) (same : (p : Prepared) → told p ≡ of_vote (vote_in p)) where
+  told_by : (c : Bool) (p : Prepared) (o : Option X) (vote : Option Vote) → o ≡ option_map of_vote vote → cond c (Some (told p)) o ≡ option_map of_vote (cond c (Some (vote_in p)) vote)
+  told_by true p o vote e = ap Some (same p)
+  told_by false p o vote e = e
 
--- no entry is found at a number that is below all of them
-none_below : {X : Type 0} (k : ℕ) (es : List (ℕ × X)) → T (below_all nat_cmp k es) → find nat_cmp k es ≡ None
-none_below k [] below = refl
-none_below {X} k (e ∷ es) below = by (nat_cmp k e.0) (none_below k es) below
-  where
-    by : (r : Ordering) → (T (below_all nat_cmp k es) → find nat_cmp k es ≡ None) → T (is_lt r && below_all nat_cmp k es) → cond (is_eq r) (Some e.1) (find nat_cmp k es) ≡ None
-    by Less rest b = rest b
-    by Equal rest b = absurd b
-    by Greater rest b = absurd b
+  pub told_voted : (ps : List Prepared) (t : ℕ) → look (told_of told ps) t ≡ option_map of_vote (look (votes_of ps) t)
+  told_voted [] t = get-empty nat_cmp t ∙ sym (ap (option_map of_vote) (get-empty nat_cmp t))
+  told_voted (p ∷ ps) t =
+      look-put (told_of told ps) p.txn (told p) t
+      ∙ told_by (eq_by_cmp nat_cmp t p.txn) p (look (told_of told ps) t) (look (votes_of ps) t) (told_voted ps t)
+      ∙ ap (option_map of_vote) (sym (look-put (votes_of ps) p.txn (vote_in p) t))
+
+-- ---- votes that are free of conflicts
 
 -- an entry that is found behind the first one
 found_later : {X : Type 0} (e : ℕ × X) (es : List (ℕ × X)) (u : ℕ) (x : X) → T (below_all nat_cmp e.0 es) → find nat_cmp u es ≡ Some x → find nat_cmp u (e ∷ es) ≡ Some x
@@ -46,7 +50,7 @@ found_later {X} e es u x below f = by (eq_by_cmp nat_cmp u e.0) refl
     by false g = ap (λ c. cond c (Some e.1) (find nat_cmp u es)) g ∙ f
     by true g =
         let same : u ≡ e.0 = grind (arith, nat_tests, g) in
-        absurd (let q : None ≡ Some x = sym (none_below e.0 es below) ∙ ap (λ k. find nat_cmp k es) (sym same) ∙ f in cc)
+        absurd (let q : None ≡ Some x = sym (find-below e.0 es below) ∙ ap (λ k. find nat_cmp k es) (sym same) ∙ f in cc)
 
 both_T : (a b : Bool) → T (a && b) → T a × T b
 both_T true b h = (tt, h)
@@ -82,7 +86,7 @@ list_free [] sorted apart = refl
 list_free (e ∷ es) sorted apart =
     let s = both_T _ (is_sorted nat_cmp es) sorted in
     both_free (clashes_with (prepared_of e) (map prepared_of es)) (are_free (map prepared_of es))
-    (clashes_not e es (λ u b f. apart e.0 u e.1 b (λ q. absurd (let z : None ≡ Some b = sym (none_below e.0 es s.0) ∙ ap (λ k. find nat_cmp k es) q ∙ f in cc)) (found_first e es) (found_later e es u b s.0 f)) s.0 s.1)
+    (clashes_not e es (λ u b f. apart e.0 u e.1 b (λ q. absurd (let z : None ≡ Some b = sym (find-below e.0 es s.0) ∙ ap (λ k. find nat_cmp k es) q ∙ f in cc)) (found_first e es) (found_later e es u b s.0 f)) s.0 s.1)
     (list_free es s.1 (λ t u a b n f g. apart t u a b n (found_later e es t a s.0 f) (found_later e es u b s.0 g)))
 
 -- votes of which no two are in conflict are free of each other as a list

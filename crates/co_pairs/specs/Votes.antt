@@ -13,6 +13,11 @@ abbrev pub votes_of : List Prepared → Table Vote
 votes_of [] = no_entries
 votes_of (p ∷ ps) = put (votes_of ps) p.txn (vote_in p)
 
+-- what is told of each prepared transaction, as a table
+abbrev pub told_of : {X : Type 0} → (Prepared → X) → List Prepared → Table X
+told_of told [] = no_entries
+told_of told (p ∷ ps) = put (told_of told ps) p.txn (told p)
+
 abbrev pub prepared_of : ℕ × Vote → Prepared
 prepared_of entry = record { txn = entry.0; coord = entry.1.coord; count = entry.1.count; sets = entry.1.sets }
 

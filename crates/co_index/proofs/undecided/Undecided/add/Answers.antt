@@ -2,7 +2,8 @@ use Rattle.std.proofs.Common.{List, refl, sym, ap, ◌∙◌, subst}
 use Rattle.std.specs.FinMap.{entries}
 use Rattle.co_state.specs.declared.pair.Pair.{Pair}
 use Rattle.co_state.specs.Table.{put}
-use Rattle.co_index.specs.NewPairs.{grown_by, pairs_made, sets_among, AreNew}
+use Rattle.co_index.specs.NewPairs.{pairs_made}
+use Rattle.co_pairs.specs.NewPairs.{grown_by, sets_among, AreNew}
 use Rattle.co_index.specs.Undecided.{grown_at}
 use Rattle.co_index.specs.Touching.{itself}
 use Rattle.co_index.proofs.Indexing.{tells_along, tells_others, indexed_grown}

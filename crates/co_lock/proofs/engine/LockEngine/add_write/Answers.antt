@@ -7,15 +7,17 @@ use Rattle.co_state.specs.Effects.{with_operation}
 use Rattle.co_state.specs.EngineState.{operations_of}
 use Rattle.co_state.specs.ReadRule.{snapshot_of}
 use Rattle.co_state.specs.Table.{Table, look, put}
-use Rattle.co_lock.specs.declared.undecided.Undecided.{Undecided}
+use Rattle.co_engine.specs.declared.undecided.Undecided.{Undecided}
 use Rattle.co_lock.specs.Locked.{IsLocked}
 use Rattle.co_lock.specs.LockedState.{with_write}
 use Rattle.co_index.proofs.Indexing.{tells_along}
 use Rattle.co_lock.proofs.Reading.{tells_write}
-use Rattle.co_lock.specs.Standing.{IsKept, reads_alone}
+use Rattle.co_engine.specs.Undecided.{IsKept}
+use Rattle.co_lock.specs.Standing.{reads_alone}
 use Rattle.co_lock.proofs.Fitting.{fits_write}
-use Rattle.co_lock.proofs.Joining.{if_ok}
-use Rattle.co_lock.proofs.Rolling.{not_voted, each_write}
+use Rattle.co_engine.proofs.Joining.{if_ok}
+use Rattle.co_engine.proofs.Rolling.{not_voted}
+use Rattle.co_lock.proofs.Rolling.{each_write}
 use Rattle.co_lock.proofs.Standing.{clear_write, alone_in, pairs_of_write}
 use Rattle.co_lock.proofs.engine.LockEngine.add_write.Goals as goal
 

@@ -9,14 +9,15 @@ use Rattle.co_state.specs.Effects.{records_from}
 use Rattle.co_state.specs.Keys.{writes_key}
 use Rattle.co_state.specs.Table.{Table, no_entries, look, put}
 use Rattle.co_engine.specs.Calls.{votes_of, vote_in}
-use Rattle.co_lock.specs.declared.undecided.Undecided.{Undecided}
+use Rattle.co_engine.specs.declared.undecided.Undecided.{Undecided}
 use Rattle.co_lock.specs.Locked.{IsLocked}
 use Rattle.co_lock.specs.LockedState.{with_writes}
 use Rattle.co_index.proofs.Indexing.{tells_along}
 use Rattle.co_lock.proofs.Reading.{tells_prepared}
-use Rattle.co_lock.specs.Standing.{IsKept, reads_alone}
+use Rattle.co_engine.specs.Undecided.{IsKept}
+use Rattle.co_lock.specs.Standing.{reads_alone}
 use Rattle.co_lock.proofs.Restoring.{alone, fits_laid}
-use Rattle.co_lock.proofs.Rolling.{each_voted}
+use Rattle.co_engine.proofs.Rolling.{each_voted}
 use Rattle.co_lock.proofs.engine.LockEngine.lay_vote.Goals as goal
 
 pub returns : goal.returns

@@ -2,12 +2,13 @@ use Rattle.std.proofs.Common.{refl, sym, subst}
 use Rattle.co_state.specs.Table.{Table, look, put, without}
 use Rattle.co_state.specs.Changes.{sets_of}
 use Rattle.co_state.specs.EngineState.{operations_of}
-use Rattle.co_lock.specs.declared.undecided.Undecided.{Undecided}
+use Rattle.co_engine.specs.declared.undecided.Undecided.{Undecided}
 use Rattle.co_index.proofs.Indexing.{tells_along}
 use Rattle.co_lock.proofs.Reading.{tells_vote}
-use Rattle.co_lock.specs.Standing.{IsKept, reads_alone}
+use Rattle.co_engine.specs.Undecided.{IsKept}
+use Rattle.co_lock.specs.Standing.{reads_alone}
 use Rattle.co_lock.specs.LockedState.{without_reads}
-use Rattle.co_lock.proofs.Rolling.{each_cast}
+use Rattle.co_engine.proofs.Rolling.{each_cast}
 use Rattle.co_lock.proofs.Standing.{fits_vote}
 use Rattle.co_lock.proofs.engine.LockEngineEngine.cast.Goals as goal
 

@@ -1,11 +1,12 @@
 use Rattle.std.specs.Option.{option_map}
 use Rattle.std.proofs.Common.{sym, subst}
 use Rattle.co_state.specs.Table.{Table, look, without}
-use Rattle.co_lock.specs.declared.undecided.Undecided.{Undecided}
+use Rattle.co_engine.specs.declared.undecided.Undecided.{Undecided}
 use Rattle.co_index.proofs.Indexing.{tells_along, tells_gone}
-use Rattle.co_lock.specs.Standing.{IsKept, reads_alone}
+use Rattle.co_engine.specs.Undecided.{IsKept}
+use Rattle.co_lock.specs.Standing.{reads_alone}
 use Rattle.co_lock.specs.LockedState.{ended}
-use Rattle.co_lock.proofs.Rolling.{each_gone}
+use Rattle.co_engine.proofs.Rolling.{each_gone}
 use Rattle.co_lock.proofs.Standing.{fits_drop}
 use Rattle.co_lock.proofs.engine.LockEngineEngine.drop_txn.Goals as goal
 

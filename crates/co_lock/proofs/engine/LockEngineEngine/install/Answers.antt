@@ -7,11 +7,12 @@ use Rattle.co_state.specs.Effects.{install_vote}
 use Rattle.co_state.specs.EngineState.{installed_records}
 use Rattle.co_state.specs.Table.{Table, look, without}
 use Rattle.co_lock.specs.declared.engine.LockEngine.{LockEngine}
-use Rattle.co_lock.specs.declared.undecided.Undecided.{Undecided}
+use Rattle.co_engine.specs.declared.undecided.Undecided.{Undecided}
 use Rattle.co_index.proofs.Indexing.{tells_along, tells_gone}
-use Rattle.co_lock.specs.Standing.{IsKept, StandsFor, reads_alone}
+use Rattle.co_engine.specs.Undecided.{IsKept}
+use Rattle.co_lock.specs.Standing.{StandsFor, reads_alone}
 use Rattle.co_lock.specs.LockedState.{ended}
-use Rattle.co_lock.proofs.Rolling.{each_installed}
+use Rattle.co_engine.proofs.Rolling.{each_installed}
 use Rattle.co_lock.proofs.Standing.{fits_install, installs_seen, no_operations}
 use Rattle.co_lock.proofs.engine.LockEngineEngine.install.Goals as goal
 

@@ -13,7 +13,7 @@ use Rattle.co_lock.specs.LockedState.{of_records}
 use Rattle.co_index.proofs.Indexing.{tells_none}
 use Rattle.co_lock.specs.Standing.{StandsFor, reads_alone}
 use Rattle.co_lock.proofs.Restoring.{fits_start, next_laid, next_free}
-use Rattle.co_lock.proofs.Rolling.{kept_along, nothing_kept}
+use Rattle.co_engine.proofs.Rolling.{kept_along, nothing_kept}
 use Rattle.co_lock.proofs.engine.LockEngineEngine.restore.Goals as goal
 
 pub loop-place-init : goal.loop-place-init

@@ -1,8 +1,0 @@
-use Rattle.std.proofs.Common.{ap, sym, ◌∙◌}
-use Rattle.std.specs.FinMap.{entries, slice_cmp-IsAntisymmetric, nat_cmp-IsAntisymmetric}
-use Rattle.std.proofs.lemmas.Cmp.{nat_list_cmp_total}
-use Rattle.co_serial.proofs.MapViews.{view-entries}
-use Rattle.co_occ.proofs.installed.Installed.iter.Goals as goal
-
-pub returns : goal.returns
-returns c = c.iter.ensures.rest ∙ sym (view-entries nat_list_cmp_total (slice_cmp-IsAntisymmetric nat_cmp-IsAntisymmetric) _ c.iter.ensures.ordered) ∙ ap entries c.self.view_is

@@ -1,0 +1,2 @@
+mod Blocking
+mod Standing
