@@ -19,7 +19,7 @@ use Rattle.co_log.specs.declared.fault.LogFault.{LogFault}
 use Rattle.co_log.specs.declared.fault.LogFault.TheVariants.{Device, Stopped, Bad, Differs, Full, InUse, Memory}
 use Rattle.co_log.specs.declared.fault.NodeFault.{NodeFault}
 use Rattle.co_log.specs.declared.fault.NodeFault.TheVariants as node
-use Rattle.co_log.proofs.Spots.{spots_apart, current_only, spare_only}
+use Rattle.co_log.proofs.Spots.{at_each, at_parts, spots_apart, current_only, spare_only}
 use Rattle.co_node.specs.Answers.{AreTold, AreWithin, LeftAs, IsServed, IsAnswered}
 use Rattle.co_node.specs.Ended.{IsPassedOn}
 use Rattle.co_node.specs.Sizes.{IsOverlong}
@@ -92,16 +92,10 @@ new_records file log version generation items spots within told current =
 
 -- both files of a log, by the parts of its node
 pub both_within : (file : Spot → Option File) (log : LogView) → HasSpots log → AreWithin file log.node → BothWithin file log
-both_within file log spots within = elim spots [
-  | inl own ↦ (subst (λ (s : Spot). IsWithin most_log_bytes (file s)) (sym own.0) within.a, subst (λ (s : Spot). IsWithin most_log_bytes (file s)) (sym own.1) within.b)
-  | inr own ↦ (subst (λ (s : Spot). IsWithin most_log_bytes (file s)) (sym own.0) within.b, subst (λ (s : Spot). IsWithin most_log_bytes (file s)) (sym own.1) within.a)
-]
+both_within file log spots within = at_each (λ s. IsWithin most_log_bytes (file s)) log spots within.a within.b
 
 pub node_within : (file : Spot → Option File) (log : LogView) → HasSpots log → BothWithin file log → AreWithin file log.node
-node_within file log spots both = elim spots [
-  | inl own ↦ record { a = subst (λ (s : Spot). IsWithin most_log_bytes (file s)) own.0 both.0; b = subst (λ (s : Spot). IsWithin most_log_bytes (file s)) own.1 both.1 }
-  | inr own ↦ record { a = subst (λ (s : Spot). IsWithin most_log_bytes (file s)) own.1 both.1; b = subst (λ (s : Spot). IsWithin most_log_bytes (file s)) own.0 both.0 }
-]
+node_within file log spots both = let parts = at_parts (λ s. IsWithin most_log_bytes (file s)) log spots both.0 both.1 in record { a = parts.0; b = parts.1 }
 
 -- which records the current file has where the directory failed, or there was no memory
 pub forced_left : (log : LogView) (items : Items) (more : List Record) (c s : List ℕ) (fault : LogFault) (at : Spot) → IsErrOf {T = List Mark} (Err fault) (Device at) → IsCurrentForced log items more c s (Err fault)
