@@ -1,5 +1,5 @@
 -- What one node does leaves the logs of all others held.
-use Rattle.std.proofs.Common.{◌≡◌, ◌≢◌, ◌⊎◌, ℕ, suc, ◌≤◌, List, sym, ap, subst, ◌∙◌, inl, inr, arith, set, slice_get, Option, Some}
+use Rattle.std.proofs.Common.{◌≡◌, ◌≢◌, ◌⊎◌, ℕ, suc, ◌≤◌, List, sym, subst, inl, inr, arith, set, slice_get, Some}
 use Rattle.std.specs.Prelude.{length}
 use Rattle.co_base.specs.Nodes.{IsValidNode}
 use Rattle.co_base.specs.declared.node.Node.{Node}
