@@ -27,12 +27,12 @@ use Rattle.co_coord.specs.Plans.{carried, carried_out, commit_plan, deliver_plan
 use Rattle.co_coord.specs.Opening.{IsRestarted}
 use Rattle.co_coord.specs.Restating.{restated, IsCheckpointed}
 use Rattle.co_coord.specs.Standing.{written_by}
-use Rattle.co_coord.specs.Writing.{IsAnsweredFor, IsTooLongFor, stable_after}
+use Rattle.co_node.specs.Writing.{IsAnsweredFor, IsTooLongFor, stable_after}
 use Rattle.co_node.specs.NodeLog.{RepresentsLog}
 use Rattle.co_opening.specs.Nodes.{IsKept}
 use Rattle.co_coord.specs.declared.plan.Plan.{Plan}
-use Rattle.co_coord.specs.declared.plan.Writes.{Writes}
-use Rattle.co_coord.specs.declared.plan.Writes.TheVariants.{Nothing, Forces, Keeps}
+use Rattle.co_node.specs.declared.writing.Writes.{Writes}
+use Rattle.co_node.specs.declared.writing.Writes.TheVariants.{Nothing, Keeps, Forces, ForcesBoth}
 use Rattle.co_coord.specs.declared.step.CoordStep.{CoordStep}
 use Rattle.co_world.specs.Left.{IsLeftBy, coord_disarmed}
 use Rattle.co_world.proofs.Leaving.{IsNotFull, fault_left, kept_left, reread_alone}
@@ -42,6 +42,8 @@ carried_stable Nothing c y next a sent is = ap (λ (k : LogState). k.stable) is
 carried_stable (Keeps r) c y next a sent is = ap (λ (k : LogState). k.stable) is
 carried_stable (Forces r) c y next a sent is =
     ap (λ (k : LogState). (carried (Forces r) c (record { up = next.up; table = next.table; log = k }) a sent).state.log.stable) is
+carried_stable (ForcesBoth first r) c y next a sent is =
+    ap (λ (k : LogState). (carried (ForcesBoth first r) c (record { up = next.up; table = next.table; log = k }) a sent).state.log.stable) is
 
 plan_stable : (c t : ℕ) (y : CoordState) (plan : Plan) → stable_after plan.writes y.log ≡ (carried_out c (coord_disarmed y) t plan).state.log.stable
 plan_stable c t y plan = sym (carried_stable plan.writes c y _ plan.answer plan.sent refl)

@@ -37,12 +37,12 @@ use Rattle.co_member.proofs.Steps.{deliver_is, vote_is, local_commit_is}
 use Rattle.co_member.specs.Checkpoint.{spare_items, IsAnsweredIn, IsCheckpointed}
 use Rattle.co_member.specs.Plans.{txn_of, changed, carried, carried_out, prepare_plan, deliver_plan, again_plan, asked_plan, local_commit_plan, marked, marked_by}
 use Rattle.co_member.specs.Standing.{written_by}
-use Rattle.co_member.specs.Writing.{IsAnsweredFor, IsTooLongFor, stable_after}
+use Rattle.co_node.specs.Writing.{IsAnsweredFor, IsTooLongFor, stable_after}
 use Rattle.co_log.specs.Others.{OtherFilesStay}
 use Rattle.co_world.proofs.Serving.{files_stay}
 use Rattle.co_member.specs.declared.plan.Plan.{Plan}
-use Rattle.co_member.specs.declared.plan.Writes.{Writes}
-use Rattle.co_member.specs.declared.plan.Writes.TheVariants.{Nothing, Keeps, Forces, ForcesBoth}
+use Rattle.co_node.specs.declared.writing.Writes.{Writes}
+use Rattle.co_node.specs.declared.writing.Writes.TheVariants.{Nothing, Keeps, Forces, ForcesBoth}
 use Rattle.co_member.specs.declared.step.MemberStep.{MemberStep}
 use Rattle.co_node.specs.Rereading.{IsReread}
 use Rattle.co_member.specs.Attaching.{read_by}

@@ -25,11 +25,9 @@ use Rattle.co_coord.specs.declared.step.CoordStep.{CoordStep}
 use Rattle.co_member.specs.Attaching.{read_by}
 use Rattle.co_member.specs.Standing.{written_by as written_by_member}
 use Rattle.co_coord.specs.Restating.{restated, IsCheckpointed as IsCoordCheckpointed}
-use Rattle.co_coord.specs.Writing.{IsAnsweredFor as IsCoordAnsweredFor, IsTooLongFor as IsCoordTooLongFor, stable_after as coord_stable_after}
-use Rattle.co_coord.specs.declared.plan.Writes.{Writes as CoordWrites}
+use Rattle.co_node.specs.Writing.{IsAnsweredFor, IsTooLongFor, stable_after}
+use Rattle.co_node.specs.declared.writing.Writes.{Writes}
 use Rattle.co_member.specs.Checkpoint.{spare_items, IsAnsweredIn, IsCheckpointed as IsMemberCheckpointed}
-use Rattle.co_member.specs.Writing.{IsAnsweredFor as IsMemberAnsweredFor, IsTooLongFor as IsMemberTooLongFor, stable_after as member_stable_after}
-use Rattle.co_member.specs.declared.plan.Writes.{Writes as MemberWrites}
 use Rattle.co_log.specs.Spare.{IsOverfull}
 use Rattle.co_node.specs.Writes.{filled_with}
 use Rattle.co_node.proofs.Homes.{still_clean}
@@ -104,21 +102,21 @@ module _ (owner : Node) (at : Spot) (long : Type 0) (this that : List Record) (l
   coord_ended (Err e) answered = answered_ended (Err e) answered
 
 -- a plan of a member, and one of a coordinator
-pub plan_served : (w : MemberWrites) (owner : Node) (l : LogState) (log after : LogView) (old new : HomeView) (out : Result MemberStep NodeFault) → IsMemberAnsweredFor w owner l log after old new (written_by_member out) → log.node ≡ owner
+pub plan_served : (w : Writes) (owner : Node) (l : LogState) (log after : LogView) (old new : HomeView) (out : Result MemberStep NodeFault) → IsAnsweredFor w owner l log after old new (written_by_member out) → log.node ≡ owner
     → OtherFilesStay log.node old new → OnOk out (IsServed owner after old new)
 plan_served w owner l log after old new out answered owned stay =
-    member_served owner log.current.spot (IsMemberTooLongFor w log) l.stable (member_stable_after w l) after old new out answered (subst (λ (n : Node). OtherFilesStay n old new) owned stay)
+    member_served owner log.current.spot (IsTooLongFor w log) l.stable (stable_after w l) after old new out answered (subst (λ (n : Node). OtherFilesStay n old new) owned stay)
 
-pub plan_ended : (w : MemberWrites) (owner : Node) (l : LogState) (log after : LogView) (old new : HomeView) (out : Result MemberStep NodeFault) → IsMemberAnsweredFor w owner l log after old new (written_by_member out) → IfErr out (λ fault. HasFailedAs fault old new)
-plan_ended w owner l log after old new out answered = member_ended owner log.current.spot (IsMemberTooLongFor w log) l.stable (member_stable_after w l) after old new out answered
+pub plan_ended : (w : Writes) (owner : Node) (l : LogState) (log after : LogView) (old new : HomeView) (out : Result MemberStep NodeFault) → IsAnsweredFor w owner l log after old new (written_by_member out) → IfErr out (λ fault. HasFailedAs fault old new)
+plan_ended w owner l log after old new out answered = member_ended owner log.current.spot (IsTooLongFor w log) l.stable (stable_after w l) after old new out answered
 
-pub coord_plan_served : (w : CoordWrites) (owner : Node) (l : LogState) (log after : LogView) (old new : HomeView) (out : Result CoordStep NodeFault) → IsCoordAnsweredFor w owner l log after old new (written_by_coord out) → log.node ≡ owner
+pub coord_plan_served : (w : Writes) (owner : Node) (l : LogState) (log after : LogView) (old new : HomeView) (out : Result CoordStep NodeFault) → IsAnsweredFor w owner l log after old new (written_by_coord out) → log.node ≡ owner
     → OtherFilesStay log.node old new → OnOk out (IsServed owner after old new)
 coord_plan_served w owner l log after old new out answered owned stay =
-    coord_served owner log.current.spot (IsCoordTooLongFor w log) l.stable (coord_stable_after w l) after old new out answered (subst (λ (n : Node). OtherFilesStay n old new) owned stay)
+    coord_served owner log.current.spot (IsTooLongFor w log) l.stable (stable_after w l) after old new out answered (subst (λ (n : Node). OtherFilesStay n old new) owned stay)
 
-pub coord_plan_ended : (w : CoordWrites) (owner : Node) (l : LogState) (log after : LogView) (old new : HomeView) (out : Result CoordStep NodeFault) → IsCoordAnsweredFor w owner l log after old new (written_by_coord out) → IfErr out (λ fault. HasFailedAs fault old new)
-coord_plan_ended w owner l log after old new out answered = coord_ended owner log.current.spot (IsCoordTooLongFor w log) l.stable (coord_stable_after w l) after old new out answered
+pub coord_plan_ended : (w : Writes) (owner : Node) (l : LogState) (log after : LogView) (old new : HomeView) (out : Result CoordStep NodeFault) → IsAnsweredFor w owner l log after old new (written_by_coord out) → IfErr out (λ fault. HasFailedAs fault old new)
+coord_plan_ended w owner l log after old new out answered = coord_ended owner log.current.spot (IsTooLongFor w log) l.stable (stable_after w l) after old new out answered
 
 -- ---- a checkpoint
 

@@ -3,10 +3,10 @@ use Rattle.std.specs.Prelude.{Ok}
 use Rattle.co_node.specs.declared.written.Written.TheVariants.{Done}
 use Rattle.co_node.proofs.Homes.{memory_answered}
 use Rattle.co_node.proofs.Opened.{left_before}
-use Rattle.co_coord.specs.Writing.{IsAnsweredFor, IsTooLongFor, stable_after, HasWrittenFor}
-use Rattle.co_coord.specs.declared.plan.Writes.{Writes}
-use Rattle.co_coord.proofs.Directories.{still_served}
-use Rattle.co_coord.proofs.writing.write.Goals as goal
+use Rattle.co_node.specs.Writing.{IsAnsweredFor, IsTooLongFor, stable_after, HasWrittenFor}
+use Rattle.co_node.specs.declared.writing.Writes.{Writes}
+use Rattle.co_node.proofs.Directories.{still_served}
+use Rattle.co_node.proofs.writing.write.Goals as goal
 
 pub returns-in-Nothing-clause-written : goal.returns-in-Nothing-clause-written
 returns-in-Nothing-clause-written g c = λ owner l s. subst (λ (w : Writes). HasWrittenFor w owner l c.args.log.now (Ok (Done c.new.result))) (sym c.in-Nothing.is) (c.new.ensures, s)
