@@ -1,6 +1,6 @@
 //! What an event of a node gives to its log.
 ghost use Rattle.co_base.specs.declared.node.Node.{Node};
-ghost use Rattle.co_log.specs.LogView.{IsHeld, IsShort};
+ghost use Rattle.co_log.specs.LogView.{IsHeld};
 ghost use Rattle.co_log.specs.Others.{OtherNodesStay};
 ghost use Rattle.co_plain.specs.declared.log_state.LogState.{LogState};
 ghost use Rattle.co_node.specs.NodeLog.{RepresentsLog};
@@ -39,7 +39,6 @@ pub fn write<H: Home>(
     home: &mut H,
     writes: Writes,
 ) -> Result<Written, NodeFault>
-    requires short { IsShort log.old.current × IsShort log.old.spare }
     requires held { IsHeld (H.seen home.old) log.old }
     requires stands { (owner : Node) × (l : LogState) × RepresentsLog owner log.old l }
     requires may { MayWriteOne writes }
@@ -49,6 +48,8 @@ pub fn write<H: Home>(
         (H.seen home.old) (H.seen home.new) result }
     ensures rest { OtherNodesStay log.old.node (H.seen home.old) (H.seen home.new) }
 {
+    // What is read of either file is within its bounds, also where nothing is written.
+    let _ = log.lengths();
     match writes {
         Writes::Nothing => Ok(Written::Done {
             marks: Marks::new(alloc),

@@ -15,14 +15,14 @@ pub returns-in-Nothing-clause-answered : goal.returns-in-Nothing-clause-answered
 returns-in-Nothing-clause-answered g c = λ owner l s.
     let log = c.args.log.now in
     let home = g.H.Home.seen c.args.home.now in
-    (λ long. subst (λ (w : Writes). IsTooLongFor w log) c.in-Nothing.is long, still_served owner home log log l s c.requires.held c.requires.short c.requires.held)
+    (λ long. subst (λ (w : Writes). IsTooLongFor w log) c.in-Nothing.is long, still_served owner home log log l s c.requires.held c.lengths.ensures.within c.requires.held)
 
 pub returns-in_err-keep_waiting-in-Keeps-clause-answered : goal.returns-in_err-keep_waiting-in-Keeps-clause-answered
 returns-in_err-keep_waiting-in-Keeps-clause-answered g c = λ owner l s.
     let log = c.args.log.now in
     memory_answered owner log.current.spot (IsTooLongFor c.args.writes log) l.stable (stable_after c.args.writes l) c.keep_waiting.new.log
     (g.H.Home.seen c.args.home.now) c.from_residual.result c.from_residual.ensures
-    (left_before owner (g.H.Home.seen c.args.home.now) log l s c.requires.held c.requires.short)
+    (left_before owner (g.H.Home.seen c.args.home.now) log l s c.requires.held c.lengths.ensures.within)
 
 pub returns-in-Forces-clause-written : goal.returns-in-Forces-clause-written
 returns-in-Forces-clause-written g c = λ owner l s. subst (λ (w : Writes). HasWrittenFor w owner l c.force.new.log c.force.result) (sym c.in-Forces.is) (c.force.ensures.written owner l s)

@@ -1,7 +1,7 @@
 use Rattle.std.proofs.Common.{sym, subst}
 use Rattle.std.specs.Prelude.{Ok, Err}
 use Rattle.co_base.specs.declared.node.Node.TheVariants as node
-use Rattle.co_log.specs.LogView.{LogView, IsHeld, IsShort}
+use Rattle.co_log.specs.LogView.{LogView, IsHeld}
 use Rattle.co_node.specs.NodeLog.{RepresentsLog}
 use Rattle.co_plain.specs.declared.log_state.LogState.{LogState}
 use Rattle.co_member.specs.Plans.{changed}
@@ -17,9 +17,6 @@ returns-in_err-change-clause-answered g c = λ y r.
     let home = g.H.Home.seen c.args.home.now in
     subst (λ (v : LogView). IsAnsweredFor c.args.plan.writes (node.Member x.number) y.log x.log v home home (written_by c.from_residual.result)) (sym c.change.ensures.log)
     (wants_memory marks_in (node.Member x.number) c.args.plan.writes y.log x.log home c.from_residual.result c.from_residual.ensures r.log c.requires.held c.requires.short)
-
-pub write-requires-clause-short : goal.write-requires-clause-short
-write-requires-clause-short g c = subst (λ (v : LogView). IsShort v.current × IsShort v.spare) (sym c.change.ensures.log) c.requires.short
 
 pub write-requires-clause-held : goal.write-requires-clause-held
 write-requires-clause-held g c = subst (λ (v : LogView). IsHeld (g.H.Home.seen c.args.home.now) v) (sym c.change.ensures.log) c.requires.held
