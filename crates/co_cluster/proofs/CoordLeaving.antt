@@ -9,7 +9,7 @@ use Rattle.co_log.specs.Spare.{IsOverfull}
 use Rattle.co_log.specs.declared.fault.NodeFault.{NodeFault}
 use Rattle.co_message.specs.declared.answer.Answer.{Answer}
 use Rattle.co_message.specs.declared.message.Message.{Message}
-use Rattle.co_node.specs.Answers.{LeftAs, IsAnswered}
+use Rattle.co_node.specs.Answers.{LeftAs}
 use Rattle.co_node.specs.Writes.{filled_with}
 use Rattle.co_outside.specs.Home.{HomeView}
 use Rattle.co_outside.specs.declared.spot.Spot.{Spot}
@@ -26,22 +26,22 @@ use Rattle.co_coord.proofs.Steps.{commit_is, deliver_is}
 use Rattle.co_coord.specs.Plans.{carried, carried_out, commit_plan, deliver_plan, txn_of}
 use Rattle.co_coord.specs.Opening.{IsRestarted}
 use Rattle.co_coord.specs.Restating.{restated, IsCheckpointed}
-use Rattle.co_coord.specs.Standing.{written_by}
-use Rattle.co_coord.specs.Writing.{IsAnsweredFor, IsTooLongFor, stable_after}
-use Rattle.co_node.specs.NodeLog.{RepresentsLog}
-use Rattle.co_opening.specs.Nodes.{IsKept}
+use Rattle.co_coord.specs.Standing.{marks_in, written_by}
+use Rattle.co_node.specs.Writing.{stable_after}
 use Rattle.co_coord.specs.declared.plan.Plan.{Plan}
-use Rattle.co_coord.specs.declared.plan.Writes.{Writes}
-use Rattle.co_coord.specs.declared.plan.Writes.TheVariants.{Nothing, Forces, Keeps}
+use Rattle.co_node.specs.declared.writing.Writes.{Writes}
+use Rattle.co_node.specs.declared.writing.Writes.TheVariants.{Nothing, Keeps, Forces, ForcesBoth}
 use Rattle.co_coord.specs.declared.step.CoordStep.{CoordStep}
 use Rattle.co_cluster.specs.Left.{IsLeftBy, coord_disarmed}
-use Rattle.co_cluster.proofs.Leaving.{IsNotFull, fault_left, kept_left, reread_alone}
+use Rattle.co_cluster.proofs.Leaving.{IsNotFull, step_left, reread_alone}
 
 carried_stable : (w : Writes) (c : ℕ) (y : CoordState) (next : CoordState) (a : Answer) (sent : List Message) → next.log ≡ with_stop y.log None → (carried w c next a sent).state.log.stable ≡ stable_after w y.log
 carried_stable Nothing c y next a sent is = ap (λ (k : LogState). k.stable) is
 carried_stable (Keeps r) c y next a sent is = ap (λ (k : LogState). k.stable) is
 carried_stable (Forces r) c y next a sent is =
     ap (λ (k : LogState). (carried (Forces r) c (record { up = next.up; table = next.table; log = k }) a sent).state.log.stable) is
+carried_stable (ForcesBoth first r) c y next a sent is =
+    ap (λ (k : LogState). (carried (ForcesBoth first r) c (record { up = next.up; table = next.table; log = k }) a sent).state.log.stable) is
 
 plan_stable : (c t : ℕ) (y : CoordState) (plan : Plan) → stable_after plan.writes y.log ≡ (carried_out c (coord_disarmed y) t plan).state.log.stable
 plan_stable c t y plan = sym (carried_stable plan.writes c y _ plan.answer plan.sent refl)
@@ -53,28 +53,18 @@ pub deliver_stable : (c : ℕ) (y : CoordState) (note : Message) → stable_afte
 deliver_stable c y note =
     plan_stable c (txn_of note) y (deliver_plan c note (look y.table (txn_of note))) ∙ sym (ap (λ (d : PlainStep). d.state.log.stable) (deliver_is c (coord_disarmed y) note))
 
-module _ (owner : Node) (at : Spot) (long : Type 0) (this that : List Record) (log : LogView) (old new : HomeView) where
-  pub coord_left : (out : Result CoordStep NodeFault) (completed : List Record) → that ≡ completed → IsAnswered owner at long this that log old new (written_by out) → LeftAs old.file owner this that → IfErr out (IsLeftBy new.file owner this completed)
-  coord_left (Ok d) completed same answered before = tt
-  coord_left (Err e) completed same answered before = subst (λ (rs : List Record). IsLeftBy new.file owner this rs e) same (fault_left owner at long this that log old new e answered before)
-
 -- the two steps of a checkpoint
 checkpoint_by_left : (c : ℕ) (y : CoordState) (log after : LogView) (old new : HomeView) (out : Result CoordStep NodeFault) (closed : Bool) → IsCheckpointed closed (node.Coord c) y log after old new (written_by out) → ((that : List Record) → LeftAs old.file (node.Coord c) y.log.stable that)
     → IfErr out (IsLeftBy new.file (node.Coord c) y.log.stable (coord_checkpoint_by c (coord_disarmed y) closed).state.log.stable)
 checkpoint_by_left c y log after old new out false answered before =
-    coord_left (node.Coord c) log.spare.spot ⊥ y.log.stable y.log.stable after old new out y.log.stable refl answered (before y.log.stable)
+    step_left (node.Coord c) log.spare.spot ⊥ y.log.stable y.log.stable after old new marks_in out y.log.stable refl answered (before y.log.stable)
 checkpoint_by_left c y log after old new out true answered before =
     let that = filled_with (node.Coord c) y.log (restated y) in
-    coord_left (node.Coord c) log.spare.spot (IsOverfull log (reverse (restated y))) y.log.stable that after old new out (coord_checkpoint_by c (coord_disarmed y) true).state.log.stable (sym (spare_is c y)) answered (before that)
+    step_left (node.Coord c) log.spare.spot (IsOverfull log (reverse (restated y))) y.log.stable that after old new marks_in out (coord_checkpoint_by c (coord_disarmed y) true).state.log.stable (sym (spare_is c y)) answered (before that)
 
 pub checkpoint_left : (c : ℕ) (y : CoordState) (log after : LogView) (old new : HomeView) (out : Result CoordStep NodeFault) → IsCheckpointed y.log.spare_closed (node.Coord c) y log after old new (written_by out) → ((that : List Record) → LeftAs old.file (node.Coord c) y.log.stable that)
     → IfErr out (IsLeftBy new.file (node.Coord c) y.log.stable (coord_checkpoint c (coord_disarmed y)).state.log.stable)
 checkpoint_left c y log after old new out answered before = checkpoint_by_left c y log after old new out y.log.spare_closed answered before
-
-pub plan_left : (w : Writes) (owner : Node) (y : CoordState) (log after : LogView) (old new : HomeView) (out : Result CoordStep NodeFault) (completed : List Record) → stable_after w y.log ≡ completed → RepresentsLog owner log y.log → IsKept old owner log
-    → IsAnsweredFor w owner y.log log after old new (written_by out) → IfErr out (IsLeftBy new.file owner y.log.stable completed)
-plan_left w owner y log after old new out completed same stands kept answered =
-    coord_left owner log.current.spot (IsTooLongFor w log) y.log.stable (stable_after w y.log) after old new out completed same answered (kept_left owner old log y.log (stable_after w y.log) stands kept)
 
 -- a restart writes nothing
 pub coord_read : {H : Type 0} (gives : H → Spot → ℕ → List ℕ → Type 0) (seen : H → HomeView) (log : LogView) (old new : H) (up : Bool) (out : Result CoordStep NodeFault) →

@@ -1,39 +1,23 @@
 -- What one node does leaves the logs of all others held.
-use Rattle.std.proofs.Common.{◌≡◌, ◌≢◌, ◌⊎◌, ℕ, suc, ◌≤◌, List, sym, ap, subst, ◌∙◌, inl, inr, arith, set, slice_get, Option, Some}
+use Rattle.std.proofs.Common.{◌≡◌, ◌≢◌, ◌⊎◌, ℕ, suc, ◌≤◌, List, sym, subst, inl, inr, arith, set, slice_get, Some}
 use Rattle.std.specs.Prelude.{length}
 use Rattle.co_base.specs.Nodes.{IsValidNode}
 use Rattle.co_base.specs.declared.node.Node.{Node}
 use Rattle.co_base.specs.declared.node.Node.TheVariants as node
-use Rattle.co_base.specs.Limits.{most_log_bytes}
-use Rattle.co_log.specs.Attaching.{IsWithin}
-use Rattle.co_log.specs.LogView.{LogView, spot_of}
+use Rattle.co_log.specs.LogView.{LogView}
 use Rattle.co_log.specs.Others.{OtherFilesStay}
-use Rattle.co_log.proofs.Spots.{bytes_apart, held_elsewhere}
+use Rattle.co_log.proofs.Spots.{stays_elsewhere}
+use Rattle.co_opening.proofs.Stays.{kept_stays}
 use Rattle.co_opening.specs.Nodes.{IsKept, AreKept}
-use Rattle.co_outside.specs.Home.{File, HomeView}
-use Rattle.co_outside.specs.declared.spot.Spot.{Spot}
+use Rattle.co_outside.specs.Home.{HomeView}
 use Rattle.co_coord.specs.declared.coord.Coord.{Coord}
 use Rattle.co_member.specs.declared.member.Member.{Member}
 use Rattle.co_cluster.proofs.Places.{set_cases, within_list}
 
--- the files of two nodes are at other places
-pub apart : (this that : Node) (p q : ℕ) → IsValidNode this → IsValidNode that → that ≢ this → spot_of that p ≢ spot_of this q
-apart this that p q one two other e = other (bytes_apart that this two one (ap (λ (s : Spot). s.node) e))
-
 -- the log of another node stays held
 pub other_kept : (this that : Node) (log : LogView) (old new : HomeView) → IsValidNode this → IsValidNode that → that ≢ this → log.node ≡ that → OtherFilesStay this old new
     → IsKept old that log → IsKept new that log
-other_kept this that log old new one two other owned stay kept =
-    let not_this : log.node ≢ this = λ e. other (sym owned ∙ e) in
-    let same_a = stay.files (spot_of that 0) (apart this that 0 0 one two other) (apart this that 0 1 one two other) in
-    let same_b = stay.files (spot_of that 1) (apart this that 1 0 one two other) (apart this that 1 1 one two other) in
-    record {
-      held = held_elsewhere this old new log one (subst IsValidNode (sym owned) two) not_this stay kept.held;
-      within = record {
-        a = subst (λ (o : Option File). IsWithin most_log_bytes o) (sym same_a) kept.within.a;
-        b = subst (λ (o : Option File). IsWithin most_log_bytes o) (sym same_b) kept.within.b;
-      };
-    }
+other_kept this that log old new one two other owned stay kept = kept_stays that old new log owned (stays_elsewhere this that old new one two other stay) kept
 
 -- each member of a list has the next number and its own log, and so has each coordinator
 pub record AreNumbered {E : Type 0} (members : List (Member E)) (coords : List Coord) : Type 0 where

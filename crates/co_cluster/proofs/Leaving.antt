@@ -1,6 +1,7 @@
 -- What the log write of an event leaves of the stable records of its node, where no stop is armed.
 use Rattle.std.proofs.Common.{◌≡◌, ◌⊎◌, ℕ, Bool, true, false, List, [], ◌∷◌, ◌++◌, refl, sym, ap, subst, ◌∙◌, inl, inr}
 use Rattle.std.specs.Prelude.{Option, None, Some, is_some, Result, Ok, Err, IsOk, IfErr}
+use Rattle.co_base.specs.declared.mark.Mark.{Mark}
 use Rattle.co_base.specs.declared.node.Node.{Node}
 use Rattle.co_base.specs.declared.node.Node.TheVariants as node
 use Rattle.co_log.specs.LogView.{LogView}
@@ -36,13 +37,13 @@ use Rattle.co_member.proofs.Carrying.{changed_log}
 use Rattle.co_member.proofs.Steps.{deliver_is, vote_is, local_commit_is}
 use Rattle.co_member.specs.Checkpoint.{spare_items, IsAnsweredIn, IsCheckpointed}
 use Rattle.co_member.specs.Plans.{txn_of, changed, carried, carried_out, prepare_plan, deliver_plan, again_plan, asked_plan, local_commit_plan, marked, marked_by}
-use Rattle.co_member.specs.Standing.{written_by}
-use Rattle.co_member.specs.Writing.{IsAnsweredFor, IsTooLongFor, stable_after}
+use Rattle.co_member.specs.Standing.{marks_in, written_by}
+use Rattle.co_node.specs.Writing.{IsAnsweredFor, IsTooLongFor, stable_after, written_with}
 use Rattle.co_log.specs.Others.{OtherFilesStay}
 use Rattle.co_cluster.proofs.Serving.{files_stay}
 use Rattle.co_member.specs.declared.plan.Plan.{Plan}
-use Rattle.co_member.specs.declared.plan.Writes.{Writes}
-use Rattle.co_member.specs.declared.plan.Writes.TheVariants.{Nothing, Keeps, Forces, ForcesBoth}
+use Rattle.co_node.specs.declared.writing.Writes.{Writes}
+use Rattle.co_node.specs.declared.writing.Writes.TheVariants.{Nothing, Keeps, Forces, ForcesBoth}
 use Rattle.co_member.specs.declared.step.MemberStep.{MemberStep}
 use Rattle.co_node.specs.Rereading.{IsReread}
 use Rattle.co_member.specs.Attaching.{read_by}
@@ -141,29 +142,30 @@ module _ (owner : Node) (at : Spot) (long : Type 0) (this that : List Record) (l
       either (inl x) = x
       either (inr x) = x
 
-  pub member_left : (out : Result MemberStep NodeFault) (completed : List Record) → that ≡ completed → IsAnswered owner at long this that log old new (written_by out) → LeftAs old.file owner this that → IfErr out (IsLeftBy new.file owner this completed)
-  member_left (Ok d) completed same answered before = tt
-  member_left (Err e) completed same answered before = subst (λ (rs : List Record). IsLeftBy new.file owner this rs e) same (fault_left e answered before)
+  -- so of a step with these marks
+  pub step_left : {D : Type 0} (marks : D → List Mark) (out : Result D NodeFault) (completed : List Record) → that ≡ completed → IsAnswered owner at long this that log old new (written_with marks out) → LeftAs old.file owner this that → IfErr out (IsLeftBy new.file owner this completed)
+  step_left marks (Ok d) completed same answered before = tt
+  step_left marks (Err e) completed same answered before = subst (λ (rs : List Record). IsLeftBy new.file owner this rs e) same (fault_left e answered before)
 
 -- the two steps of a checkpoint
 checkpoint_by_left : (m : ℕ) (x : MemberState) (log after : LogView) (old new : HomeView) (out : Result MemberStep NodeFault) (closed : Bool) → IsAnsweredIn closed m x log after old new (written_by out) → ((that : List Record) → LeftAs old.file (node.Member m) x.log.stable that)
     → IfErr out (IsLeftBy new.file (node.Member m) x.log.stable (checkpoint_by m (member_disarmed x) closed).state.log.stable)
 checkpoint_by_left m x log after old new out false answered before =
-    member_left (node.Member m) log.spare.spot ⊥ x.log.stable x.log.stable after old new out x.log.stable refl answered (before x.log.stable)
+    step_left (node.Member m) log.spare.spot ⊥ x.log.stable x.log.stable after old new marks_in out x.log.stable refl answered (before x.log.stable)
 checkpoint_by_left m x log after old new out true answered before =
     let that = member_spare m x (next_generation (generation_of x.log.stable)) in
-    member_left (node.Member m) log.spare.spot (IsOverfull log (spare_items x)) x.log.stable that after old new out that refl answered (before that)
+    step_left (node.Member m) log.spare.spot (IsOverfull log (spare_items x)) x.log.stable that after old new marks_in out that refl answered (before that)
 
 pub checkpoint_left : (m : ℕ) (x : MemberState) (log after : LogView) (old new : HomeView) (out : Result MemberStep NodeFault) → IsCheckpointed m x log after old new (written_by out) → ((that : List Record) → LeftAs old.file (node.Member m) x.log.stable that)
     → IfErr out (IsLeftBy new.file (node.Member m) x.log.stable (member_checkpoint m (member_disarmed x)).state.log.stable)
 checkpoint_left m x log after old new out answered before = checkpoint_by_left m x log after old new out x.log.spare_closed answered before
 
--- ---- by the calls of a member
+-- ---- by the calls of a node
 
-pub plan_left : (w : Writes) (owner : Node) (l : LogState) (log after : LogView) (old new : HomeView) (out : Result MemberStep NodeFault) (completed : List Record) → stable_after w l ≡ completed → RepresentsLog owner log l → IsKept old owner log
-    → IsAnsweredFor w owner l log after old new (written_by out) → IfErr out (IsLeftBy new.file owner l.stable completed)
-plan_left w owner l log after old new out completed same stands kept answered =
-    member_left owner log.current.spot (IsTooLongFor w log) l.stable (stable_after w l) after old new out completed same answered (kept_left owner old log l (stable_after w l) stands kept)
+pub plan_left : {D : Type 0} (marks : D → List Mark) (w : Writes) (owner : Node) (l : LogState) (log after : LogView) (old new : HomeView) (out : Result D NodeFault) (completed : List Record) → stable_after w l ≡ completed → RepresentsLog owner log l → IsKept old owner log
+    → IsAnsweredFor w owner l log after old new (written_with marks out) → IfErr out (IsLeftBy new.file owner l.stable completed)
+plan_left marks w owner l log after old new out completed same stands kept answered =
+    step_left owner log.current.spot (IsTooLongFor w log) l.stable (stable_after w l) after old new marks out completed same answered (kept_left owner old log l (stable_after w l) stands kept)
 
 -- there was no memory, and nothing was written
 pub still_left : {A : Type 0} (out : Result A NodeFault) (owner : Node) (home : HomeView) (log : LogView) (l : LogState) (that : List Record) → IfErr out (λ e. e ≡ Memory) → RepresentsLog owner log l → IsKept home owner log →

@@ -33,7 +33,7 @@ use Rattle.co_plain.specs.declared.coord_state.CoordState.{CoordState}
 use Rattle.co_plain.specs.declared.member_state.MemberState.{MemberState}
 use Rattle.co_base.specs.Limits.{most_log_bytes}
 use Rattle.co_log.specs.Attaching.{IsWithin}
-use Rattle.co_cluster.proofs.Kept.{apart}
+use Rattle.co_log.proofs.Spots.{stays_elsewhere}
 use Rattle.co_cluster.proofs.Places.{at_other, at_same, within_list}
 use Rattle.co_record.specs.declared.record.Record.{Record}
 use Rattle.co_state.specs.declared.engine_state.EngineState.{EngineState}
@@ -103,8 +103,9 @@ left_split file owner this that left = by (are_told file owner)
 -- the files of another node keep their records
 other_stable : (this that : Node) (old new : HomeView) (records : List Record) → IsValidNode this → IsValidNode that → that ≢ this → OtherFilesStay this old new → HasStable old.file that records → HasStable new.file that records
 other_stable this that old new records one two other stay has told =
-    let same_a = stay.files (spot_of that 0) (apart this that 0 0 one two other) (apart this that 0 1 one two other) in
-    let same_b = stay.files (spot_of that 1) (apart this that 1 0 one two other) (apart this that 1 1 one two other) in
+    let still = stays_elsewhere this that old new one two other stay in
+    let same_a = still.file_a in
+    let same_b = still.file_b in
     let found = has (record { a = told.a; b = told.b; is_a = sym same_a ∙ told.is_a; is_b = sym same_b ∙ told.is_b }) in
     let old = found.1.1 in (
       found.0,

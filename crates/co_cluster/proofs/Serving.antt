@@ -1,6 +1,7 @@
 -- How a call of one node leaves the directory: what was answered of its log write, as one fact, and how the calls do that write nothing.
 use Rattle.std.proofs.Common.{◌≡◌, ◌<◌, ◌≢◌, ◌⊎◌, ℕ, Bool, true, false, refl, sym, ap, subst, ◌∙◌, inl, inr, arith}
 use Rattle.std.specs.Prelude.{List, reverse, Option, None, Some, is_some, Result, Ok, Err, IfErr, OnOk, IsOk}
+use Rattle.co_base.specs.declared.mark.Mark.{Mark}
 use Rattle.co_base.specs.declared.node.Node.{Node}
 use Rattle.co_base.specs.declared.node.Node.TheVariants as node
 use Rattle.co_durable.proofs.Spots.{same_or_other, all_stay}
@@ -15,21 +16,20 @@ use Rattle.co_log.specs.declared.fault.NodeFault.TheVariants.{Device, Differs, F
 use Rattle.co_node.specs.Answers.{IsAnswered}
 use Rattle.co_node.specs.Rereading.{IsReread}
 use Rattle.co_node.specs.declared.written.Written.{Written}
+use Rattle.co_node.specs.declared.written.Written.TheVariants.{Done}
 use Rattle.co_opening.specs.Nodes.{IsKept}
 use Rattle.co_outside.specs.Home.{File, IsClean, HomeView}
 use Rattle.co_outside.specs.declared.spot.Spot.{Spot}
 use Rattle.co_record.specs.declared.record.Record.{Record}
 use Rattle.co_coord.specs.Opening.{IsRestarted}
-use Rattle.co_coord.specs.Standing.{written_by as written_by_coord}
+use Rattle.co_coord.specs.Standing.{marks_in as marks_of_coord, written_by as written_by_coord}
 use Rattle.co_coord.specs.declared.step.CoordStep.{CoordStep}
 use Rattle.co_member.specs.Attaching.{read_by}
-use Rattle.co_member.specs.Standing.{written_by as written_by_member}
+use Rattle.co_member.specs.Standing.{marks_in as marks_of_member, written_by as written_by_member}
 use Rattle.co_coord.specs.Restating.{restated, IsCheckpointed as IsCoordCheckpointed}
-use Rattle.co_coord.specs.Writing.{IsAnsweredFor as IsCoordAnsweredFor, IsTooLongFor as IsCoordTooLongFor, stable_after as coord_stable_after}
-use Rattle.co_coord.specs.declared.plan.Writes.{Writes as CoordWrites}
+use Rattle.co_node.specs.Writing.{IsAnsweredFor, IsTooLongFor, stable_after, written_with}
+use Rattle.co_node.specs.declared.writing.Writes.{Writes}
 use Rattle.co_member.specs.Checkpoint.{spare_items, IsAnsweredIn, IsCheckpointed as IsMemberCheckpointed}
-use Rattle.co_member.specs.Writing.{IsAnsweredFor as IsMemberAnsweredFor, IsTooLongFor as IsMemberTooLongFor, stable_after as member_stable_after}
-use Rattle.co_member.specs.declared.plan.Writes.{Writes as MemberWrites}
 use Rattle.co_log.specs.Spare.{IsOverfull}
 use Rattle.co_node.specs.Writes.{filled_with}
 use Rattle.co_node.proofs.Homes.{still_clean}
@@ -87,46 +87,31 @@ module _ (owner : Node) (at : Spot) (long : Type 0) (this that : List Record) (l
   answered_ended (Err (Full spot)) answered = ap (λ (v : HomeView). v.faults) answered.untouched
   answered_ended (Err Memory) answered = answered.quiet
 
-  pub member_served : (out : Result MemberStep NodeFault) → IsAnswered owner at long this that log old new (written_by_member out) → OtherFilesStay owner old new → OnOk out (IsServed owner log old new)
-  member_served (Ok d) answered stay = answered_served (written_by_member (Ok d)) answered stay
-  member_served (Err e) answered stay = tt
+  -- so of a step with these marks
+  pub step_served : {D : Type 0} (marks : D → List Mark) (out : Result D NodeFault) → IsAnswered owner at long this that log old new (written_with marks out) → OtherFilesStay owner old new → OnOk out (IsServed owner log old new)
+  step_served marks (Ok d) answered stay = answered_served (Ok (Done (marks d))) answered stay
+  step_served marks (Err e) answered stay = tt
 
-  pub member_ended : (out : Result MemberStep NodeFault) → IsAnswered owner at long this that log old new (written_by_member out) → IfErr out (λ fault. HasFailedAs fault old new)
-  member_ended (Ok d) answered = tt
-  member_ended (Err e) answered = answered_ended (Err e) answered
+  pub step_ended : {D : Type 0} (marks : D → List Mark) (out : Result D NodeFault) → IsAnswered owner at long this that log old new (written_with marks out) → IfErr out (λ fault. HasFailedAs fault old new)
+  step_ended marks (Ok d) answered = tt
+  step_ended marks (Err e) answered = answered_ended (Err e) answered
 
-  pub coord_served : (out : Result CoordStep NodeFault) → IsAnswered owner at long this that log old new (written_by_coord out) → OtherFilesStay owner old new → OnOk out (IsServed owner log old new)
-  coord_served (Ok d) answered stay = answered_served (written_by_coord (Ok d)) answered stay
-  coord_served (Err e) answered stay = tt
+-- a plan of a member or of a coordinator
+module _ {D : Type 0} (marks : D → List Mark) (w : Writes) (owner : Node) (l : LogState) (log after : LogView) (old new : HomeView) (out : Result D NodeFault) (answered : IsAnsweredFor w owner l log after old new (written_with marks out)) where
+  pub plan_served : log.node ≡ owner → OtherFilesStay log.node old new → OnOk out (IsServed owner after old new)
+  plan_served owned stay =
+      step_served owner log.current.spot (IsTooLongFor w log) l.stable (stable_after w l) after old new marks out answered (subst (λ (n : Node). OtherFilesStay n old new) owned stay)
 
-  pub coord_ended : (out : Result CoordStep NodeFault) → IsAnswered owner at long this that log old new (written_by_coord out) → IfErr out (λ fault. HasFailedAs fault old new)
-  coord_ended (Ok d) answered = tt
-  coord_ended (Err e) answered = answered_ended (Err e) answered
-
--- a plan of a member, and one of a coordinator
-pub plan_served : (w : MemberWrites) (owner : Node) (l : LogState) (log after : LogView) (old new : HomeView) (out : Result MemberStep NodeFault) → IsMemberAnsweredFor w owner l log after old new (written_by_member out) → log.node ≡ owner
-    → OtherFilesStay log.node old new → OnOk out (IsServed owner after old new)
-plan_served w owner l log after old new out answered owned stay =
-    member_served owner log.current.spot (IsMemberTooLongFor w log) l.stable (member_stable_after w l) after old new out answered (subst (λ (n : Node). OtherFilesStay n old new) owned stay)
-
-pub plan_ended : (w : MemberWrites) (owner : Node) (l : LogState) (log after : LogView) (old new : HomeView) (out : Result MemberStep NodeFault) → IsMemberAnsweredFor w owner l log after old new (written_by_member out) → IfErr out (λ fault. HasFailedAs fault old new)
-plan_ended w owner l log after old new out answered = member_ended owner log.current.spot (IsMemberTooLongFor w log) l.stable (member_stable_after w l) after old new out answered
-
-pub coord_plan_served : (w : CoordWrites) (owner : Node) (l : LogState) (log after : LogView) (old new : HomeView) (out : Result CoordStep NodeFault) → IsCoordAnsweredFor w owner l log after old new (written_by_coord out) → log.node ≡ owner
-    → OtherFilesStay log.node old new → OnOk out (IsServed owner after old new)
-coord_plan_served w owner l log after old new out answered owned stay =
-    coord_served owner log.current.spot (IsCoordTooLongFor w log) l.stable (coord_stable_after w l) after old new out answered (subst (λ (n : Node). OtherFilesStay n old new) owned stay)
-
-pub coord_plan_ended : (w : CoordWrites) (owner : Node) (l : LogState) (log after : LogView) (old new : HomeView) (out : Result CoordStep NodeFault) → IsCoordAnsweredFor w owner l log after old new (written_by_coord out) → IfErr out (λ fault. HasFailedAs fault old new)
-coord_plan_ended w owner l log after old new out answered = coord_ended owner log.current.spot (IsCoordTooLongFor w log) l.stable (coord_stable_after w l) after old new out answered
+  pub plan_ended : IfErr out (λ fault. HasFailedAs fault old new)
+  plan_ended = step_ended owner log.current.spot (IsTooLongFor w log) l.stable (stable_after w l) after old new marks out answered
 
 -- ---- a checkpoint
 
 checkpoint_by_served : (m : ℕ) (x : MemberState) (log after : LogView) (old new : HomeView) (out : Result MemberStep NodeFault) (closed : Bool) → IsAnsweredIn closed m x log after old new (written_by_member out) → OtherFilesStay (node.Member m) old new
     → OnOk out (IsServed (node.Member m) after old new)
-checkpoint_by_served m x log after old new out false answered stay = member_served (node.Member m) log.spare.spot ⊥ x.log.stable x.log.stable after old new out answered stay
+checkpoint_by_served m x log after old new out false answered stay = step_served (node.Member m) log.spare.spot ⊥ x.log.stable x.log.stable after old new marks_of_member out answered stay
 checkpoint_by_served m x log after old new out true answered stay =
-    member_served (node.Member m) log.spare.spot (IsOverfull log (spare_items x)) x.log.stable (member_spare m x (next_generation (generation_of x.log.stable))) after old new out answered stay
+    step_served (node.Member m) log.spare.spot (IsOverfull log (spare_items x)) x.log.stable (member_spare m x (next_generation (generation_of x.log.stable))) after old new marks_of_member out answered stay
 
 pub checkpoint_served : (m : ℕ) (x : MemberState) (log after : LogView) (old new : HomeView) (out : Result MemberStep NodeFault) → IsMemberCheckpointed m x log after old new (written_by_member out) → log.node ≡ node.Member m → OtherFilesStay log.node old new
     → OnOk out (IsServed (node.Member m) after old new)
@@ -134,18 +119,18 @@ checkpoint_served m x log after old new out answered owned stay =
     checkpoint_by_served m x log after old new out x.log.spare_closed answered (subst (λ (n : Node). OtherFilesStay n old new) owned stay)
 
 checkpoint_by_ended : (m : ℕ) (x : MemberState) (log after : LogView) (old new : HomeView) (out : Result MemberStep NodeFault) (closed : Bool) → IsAnsweredIn closed m x log after old new (written_by_member out) → IfErr out (λ fault. HasFailedAs fault old new)
-checkpoint_by_ended m x log after old new out false answered = member_ended (node.Member m) log.spare.spot ⊥ x.log.stable x.log.stable after old new out answered
+checkpoint_by_ended m x log after old new out false answered = step_ended (node.Member m) log.spare.spot ⊥ x.log.stable x.log.stable after old new marks_of_member out answered
 checkpoint_by_ended m x log after old new out true answered =
-    member_ended (node.Member m) log.spare.spot (IsOverfull log (spare_items x)) x.log.stable (member_spare m x (next_generation (generation_of x.log.stable))) after old new out answered
+    step_ended (node.Member m) log.spare.spot (IsOverfull log (spare_items x)) x.log.stable (member_spare m x (next_generation (generation_of x.log.stable))) after old new marks_of_member out answered
 
 pub checkpoint_ended : (m : ℕ) (x : MemberState) (log after : LogView) (old new : HomeView) (out : Result MemberStep NodeFault) → IsMemberCheckpointed m x log after old new (written_by_member out) → IfErr out (λ fault. HasFailedAs fault old new)
 checkpoint_ended m x log after old new out answered = checkpoint_by_ended m x log after old new out x.log.spare_closed answered
 
 coord_checkpoint_by_served : (owner : Node) (y : CoordState) (log after : LogView) (old new : HomeView) (out : Result CoordStep NodeFault) (closed : Bool) → IsCoordCheckpointed closed owner y log after old new (written_by_coord out) → OtherFilesStay owner old new
     → OnOk out (IsServed owner after old new)
-coord_checkpoint_by_served owner y log after old new out false answered stay = coord_served owner log.spare.spot ⊥ y.log.stable y.log.stable after old new out answered stay
+coord_checkpoint_by_served owner y log after old new out false answered stay = step_served owner log.spare.spot ⊥ y.log.stable y.log.stable after old new marks_of_coord out answered stay
 coord_checkpoint_by_served owner y log after old new out true answered stay =
-    coord_served owner log.spare.spot (IsOverfull log (reverse (restated y))) y.log.stable (filled_with owner y.log (restated y)) after old new out answered stay
+    step_served owner log.spare.spot (IsOverfull log (reverse (restated y))) y.log.stable (filled_with owner y.log (restated y)) after old new marks_of_coord out answered stay
 
 pub coord_checkpoint_served : (owner : Node) (y : CoordState) (log after : LogView) (old new : HomeView) (out : Result CoordStep NodeFault) → IsCoordCheckpointed y.log.spare_closed owner y log after old new (written_by_coord out) → log.node ≡ owner → OtherFilesStay log.node old new
     → OnOk out (IsServed owner after old new)
@@ -153,9 +138,9 @@ coord_checkpoint_served owner y log after old new out answered owned stay =
     coord_checkpoint_by_served owner y log after old new out y.log.spare_closed answered (subst (λ (n : Node). OtherFilesStay n old new) owned stay)
 
 coord_checkpoint_by_ended : (owner : Node) (y : CoordState) (log after : LogView) (old new : HomeView) (out : Result CoordStep NodeFault) (closed : Bool) → IsCoordCheckpointed closed owner y log after old new (written_by_coord out) → IfErr out (λ fault. HasFailedAs fault old new)
-coord_checkpoint_by_ended owner y log after old new out false answered = coord_ended owner log.spare.spot ⊥ y.log.stable y.log.stable after old new out answered
+coord_checkpoint_by_ended owner y log after old new out false answered = step_ended owner log.spare.spot ⊥ y.log.stable y.log.stable after old new marks_of_coord out answered
 coord_checkpoint_by_ended owner y log after old new out true answered =
-    coord_ended owner log.spare.spot (IsOverfull log (reverse (restated y))) y.log.stable (filled_with owner y.log (restated y)) after old new out answered
+    step_ended owner log.spare.spot (IsOverfull log (reverse (restated y))) y.log.stable (filled_with owner y.log (restated y)) after old new marks_of_coord out answered
 
 pub coord_checkpoint_ended : (owner : Node) (y : CoordState) (log after : LogView) (old new : HomeView) (out : Result CoordStep NodeFault) → IsCoordCheckpointed y.log.spare_closed owner y log after old new (written_by_coord out) → IfErr out (λ fault. HasFailedAs fault old new)
 coord_checkpoint_ended owner y log after old new out answered = coord_checkpoint_by_ended owner y log after old new out y.log.spare_closed answered

@@ -10,10 +10,11 @@ use Rattle.co_message.specs.declared.answer.Answer.{Answer}
 use Rattle.co_message.specs.declared.answer.Answer.TheVariants as answer
 use Rattle.co_message.specs.declared.message.Message.{Message}
 use Rattle.co_node.specs.NodeLog.{RepresentsLog}
+use Rattle.co_node.specs.Writes.{forcing, HasWritten}
 use Rattle.co_node.specs.declared.written.Written.TheVariants.{Done, Stopped}
 use Rattle.co_plain.specs.CoordLog.{coord_arm, coord_crash}
 use Rattle.co_plain.specs.CoordStep.{coord_down, coord_forced_by, stopped_coord, with_coord_log, with_table}
-use Rattle.co_plain.specs.LogWrite.{crashed_log, marks_of, with_batch, with_stop}
+use Rattle.co_plain.specs.LogWrite.{crashed_log, marks_of, outcome_of, with_batch, with_stop}
 use Rattle.co_plain.specs.declared.coord_state.CoordState.{CoordState}
 use Rattle.co_plain.specs.declared.coord_state.Entry.{Entry}
 use Rattle.co_plain.specs.declared.coord_step.CoordStep.{CoordStep as PlainStep}
@@ -24,13 +25,13 @@ use Rattle.co_record.specs.declared.record.Record.{Record}
 use Rattle.co_state.specs.Table.{Table, look}
 use Rattle.co_coord.specs.Plans.{changed, carried, carried_out}
 use Rattle.co_coord.specs.Standing.{is_up, RepresentsCoord, HasDone}
-use Rattle.co_coord.specs.Writing.{HasWrittenFor}
+use Rattle.co_node.specs.Writing.{HasWrittenFor}
 use Rattle.co_coord.specs.declared.coord.Coord.{Coord}
 use Rattle.co_coord.specs.declared.plan.Change.{Change}
 use Rattle.co_coord.specs.declared.plan.Change.TheVariants.{Stays}
 use Rattle.co_coord.specs.declared.plan.Plan.{Plan}
-use Rattle.co_coord.specs.declared.plan.Writes.{Writes}
-use Rattle.co_coord.specs.declared.plan.Writes.TheVariants.{Nothing, Forces, Keeps}
+use Rattle.co_node.specs.declared.writing.Writes.{Writes}
+use Rattle.co_node.specs.declared.writing.Writes.TheVariants.{Nothing, Keeps, Forces, ForcesBoth}
 use Rattle.co_coord.specs.declared.step.CoordStep.{CoordStep}
 
 -- the table of a coordinator that is up
@@ -71,6 +72,13 @@ stands_down x after l number none log =
 
 -- ---- a write that was done
 
+forced_done : (x after : Coord) (y next : CoordState) (t : Table Entry) (batch : List Record) (a : Answer) (ms : List Message) (marks : List Mark) → RepresentsCoord x y → is_up x ≡ true → after.number ≡ x.number → after.table ≡ Some t → next.up ≡ y.up → next.table ≡ t
+    → HasWritten (forcing (node.Coord x.number) next.log batch) (node.Coord x.number) next.log after.log (Ok (Done marks))
+    → HasDone (coord_forced_by x.number next batch a ms (outcome_of next.log.armed 4)) (record { answer = a; sent = ms; marks = marks }) after
+forced_done x after y next t batch a ms marks r up number is stays table h =
+    subst (λ (o : Outcome). HasDone (coord_forced_by x.number next batch a ms o) (record { answer = a; sent = ms; marks = marks }) after) (sym h.0)
+    (record { answer = refl; sent = refl; marks = h.1; state = stands_on x after y (with_coord_log next (with_batch next.log batch)) t r up number is stays table h.2 })
+
 pub done_step : (x after : Coord) (y : CoordState) (t : Table Entry) (txn : ℕ) (w : Writes) (change : Change) (a : Answer) (ms : List Message) (marks : List Mark) → RepresentsCoord x y → x.table ≡ Some t → after.number ≡ x.number
     → after.table ≡ Some (changed t txn change) → HasWrittenFor w (node.Coord x.number) y.log after.log (Ok (Done marks))
     → HasDone (carried w x.number (with_table y (changed y.table txn change)) a ms) (record { answer = a; sent = ms; marks = marks }) after
@@ -91,25 +99,27 @@ done_step x after y t txn (Keeps item) change a ms marks r is number table h =
       state = stands_on x after y next.state (changed t txn change) r (ap is_some is) number table refl (ap (λ (u : Table Entry). changed u txn change) (r.table t is)) h.1;
     }
 done_step x after y t txn (Forces item) change a ms marks r is number table h =
-    let next = with_table y (changed y.table txn change) in
-    subst (λ (o : Outcome). HasDone (coord_forced_by x.number next (item ∷ []) a ms o) (record { answer = a; sent = ms; marks = marks }) after) (sym h.0)
-    (record {
-      answer = refl;
-      sent = refl;
-      marks = h.1;
-      state = stands_on x after y _ (changed t txn change) r (ap is_some is) number table refl (ap (λ (u : Table Entry). changed u txn change) (r.table t is)) h.2;
-    })
+    forced_done x after y (with_table y (changed y.table txn change)) (changed t txn change) (item ∷ []) a ms marks r (ap is_some is) number table refl (ap (λ (u : Table Entry). changed u txn change) (r.table t is)) h
+done_step x after y t txn (ForcesBoth first item) change a ms marks r is number table h =
+    forced_done x after y (with_table y (changed y.table txn change)) (changed t txn change) (item ∷ first ∷ []) a ms marks r (ap is_some is) number table refl (ap (λ (u : Table Entry). changed u txn change) (r.table t is)) h
 
 -- ---- a write that was stopped
 
-stopped_by : (x after : Coord) (next : CoordState) (item : Record) (call : ℕ) (marks : List Mark) (counts : Bool) → after.number ≡ x.number → after.table ≡ None
-    → marks ≡ (if counts then marks_of (node.Coord x.number) ((item ∷ []) ++ next.log.waiting) else [])
-    → RepresentsLog (node.Coord x.number) after.log (crashed_log (if counts then with_batch next.log (item ∷ []) else next.log))
-    → HasDone (stopped_coord x.number next call counts (item ∷ [])) (record { answer = answer.Stopped call; sent = []; marks = marks }) after
-stopped_by x after next item call marks true number none told log =
-    record { answer = refl; sent = refl; marks = told; state = stands_down x after (with_batch next.log (item ∷ [])) number none log }
-stopped_by x after next item call marks false number none told log =
+stopped_by : (x after : Coord) (next : CoordState) (batch : List Record) (call : ℕ) (marks : List Mark) (counts : Bool) → after.number ≡ x.number → after.table ≡ None
+    → marks ≡ (if counts then marks_of (node.Coord x.number) (batch ++ next.log.waiting) else [])
+    → RepresentsLog (node.Coord x.number) after.log (crashed_log (if counts then with_batch next.log batch else next.log))
+    → HasDone (stopped_coord x.number next call counts batch) (record { answer = answer.Stopped call; sent = []; marks = marks }) after
+stopped_by x after next batch call marks true number none told log =
+    record { answer = refl; sent = refl; marks = told; state = stands_down x after (with_batch next.log batch) number none log }
+stopped_by x after next batch call marks false number none told log =
     record { answer = refl; sent = refl; marks = told; state = stands_down x after next.log number none log }
+
+forced_stopped : (x after : Coord) (next : CoordState) (batch : List Record) (a : Answer) (ms : List Message) (call : ℕ) (marks : List Mark) → after.number ≡ x.number → after.table ≡ None
+    → HasWritten (forcing (node.Coord x.number) next.log batch) (node.Coord x.number) next.log after.log (Ok (Stopped call marks))
+    → HasDone (coord_forced_by x.number next batch a ms (outcome_of next.log.armed 4)) (record { answer = answer.Stopped call; sent = []; marks = marks }) after
+forced_stopped x after next batch a ms call marks number none h =
+    subst (λ (o : Outcome). HasDone (coord_forced_by x.number next batch a ms o) (record { answer = answer.Stopped call; sent = []; marks = marks }) after) (sym h.1)
+    (stopped_by x after next batch call marks (batch_is_stable call h.0) number none h.2 h.3)
 
 pub stopped_step : (x after : Coord) (y : CoordState) (txn : ℕ) (w : Writes) (change : Change) (a : Answer) (ms : List Message) (call : ℕ) (marks : List Mark) (log : LogView) → after.number ≡ x.number → after.table ≡ None → after.log ≡ log
     → HasWrittenFor w (node.Coord x.number) y.log log (Ok (Stopped call marks))
@@ -117,10 +127,11 @@ pub stopped_step : (x after : Coord) (y : CoordState) (txn : ℕ) (w : Writes) (
 stopped_step x after y txn Nothing change a ms call marks log number none is h = absurd h
 stopped_step x after y txn (Keeps item) change a ms call marks log number none is h = absurd h
 stopped_step x after y txn (Forces item) change a ms call marks log number none is h =
-    let next = with_table y (changed y.table txn change) in
-    let here = subst (λ (v : LogView). RepresentsLog (node.Coord x.number) v (crashed_log (if batch_is_stable call h.0 then with_batch y.log (item ∷ []) else y.log))) (sym is) h.3 in
-    subst (λ (o : Outcome). HasDone (coord_forced_by x.number next (item ∷ []) a ms o) (record { answer = answer.Stopped call; sent = []; marks = marks }) after) (sym h.1)
-    (stopped_by x after next item call marks (batch_is_stable call h.0) number none h.2 here)
+    forced_stopped x after (with_table y (changed y.table txn change)) (item ∷ []) a ms call marks number none
+    (subst (λ (v : LogView). HasWrittenFor (Forces item) (node.Coord x.number) y.log v (Ok (Stopped call marks))) (sym is) h)
+stopped_step x after y txn (ForcesBoth first item) change a ms call marks log number none is h =
+    forced_stopped x after (with_table y (changed y.table txn change)) (item ∷ first ∷ []) a ms call marks number none
+    (subst (λ (v : LogView). HasWrittenFor (ForcesBoth first item) (node.Coord x.number) y.log v (Ok (Stopped call marks))) (sym is) h)
 
 -- ---- plans by the entry of their transaction
 

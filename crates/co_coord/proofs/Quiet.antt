@@ -6,7 +6,7 @@ use Rattle.co_plain.specs.declared.coord_state.Entry.{Entry}
 use Rattle.co_plain.specs.declared.coord_state.Entry.TheVariants as entry
 use Rattle.co_coord.specs.Plans.{abort_plan, timer_plan, resend_plan}
 use Rattle.co_coord.specs.declared.plan.Change.TheVariants.{Stays}
-use Rattle.co_coord.specs.declared.plan.Writes.TheVariants.{Nothing}
+use Rattle.co_node.specs.declared.writing.Writes.TheVariants.{Nothing}
 
 pub abort_quiet : (c t : ℕ) (parts : List Part) (e : Option Entry) → (abort_plan c t parts e).writes ≡ Nothing
 abort_quiet c t parts None = refl

@@ -1,5 +1,4 @@
 pub mod Plans
-pub mod Writing
 pub mod Standing
 pub mod Reading
 pub mod Opening

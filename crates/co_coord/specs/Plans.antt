@@ -20,8 +20,8 @@ use Rattle.co_plain.specs.LogWrite.{with_waiting}
 use Rattle.co_coord.specs.declared.plan.Change.{Change}
 use Rattle.co_coord.specs.declared.plan.Change.TheVariants.{Stays, Becomes, Leaves}
 use Rattle.co_coord.specs.declared.plan.Plan.{Plan}
-use Rattle.co_coord.specs.declared.plan.Writes.{Writes}
-use Rattle.co_coord.specs.declared.plan.Writes.TheVariants.{Nothing, Forces, Keeps}
+use Rattle.co_node.specs.declared.writing.Writes.{Writes}
+use Rattle.co_node.specs.declared.writing.Writes.TheVariants.{Nothing, Keeps, Forces, ForcesBoth}
 
 abbrev pub says : Answer → Plan
 says a = record { writes = Nothing; change = Stays; answer = a; sent = [] }
@@ -152,8 +152,9 @@ changed table t Leaves = without table t
 -- What a plan comes to: its log write first, which may be stopped and then leaves the coordinator down; then its change.
 abbrev pub carried : Writes → ℕ → CoordState → Answer → List Message → CoordStep
 carried Nothing c next a messages = record { state = next; answer = a; sent = messages; marks = [] }
-carried (Forces r) c next a messages = force_coord c next (r ∷ []) a messages
 carried (Keeps r) c next a messages = record { state = with_coord_log next (with_waiting next.log r); answer = a; sent = messages; marks = [] }
+carried (Forces r) c next a messages = force_coord c next (r ∷ []) a messages
+carried (ForcesBoth first r) c next a messages = force_coord c next (r ∷ first ∷ []) a messages
 
 abbrev pub carried_out : ℕ → CoordState → ℕ → Plan → CoordStep
 carried_out c x t p = carried p.writes c (with_table x (changed x.table t p.change)) p.answer p.sent

@@ -1,11 +1,12 @@
 -- For which plain coordinator a coordinator stands, and what a call of it does.
-use Rattle.std.specs.Prelude.{ℕ, Bool, ◌≡◌, List, None, Some, is_some, Result, Ok, Err}
+use Rattle.std.specs.Prelude.{ℕ, Bool, ◌≡◌, List, None, Some, is_some, Result}
+use Rattle.co_base.specs.declared.mark.Mark.{Mark}
 use Rattle.co_base.specs.declared.node.Node.TheVariants as node
 use Rattle.co_base.specs.declared.part.Part.{Part}
 use Rattle.co_log.specs.declared.fault.NodeFault.{NodeFault}
 use Rattle.co_node.specs.NodeLog.{RepresentsLog}
+use Rattle.co_node.specs.Writing.{written_with}
 use Rattle.co_node.specs.declared.written.Written.{Written}
-use Rattle.co_node.specs.declared.written.Written.TheVariants.{Done}
 use Rattle.co_plain.specs.CoordStep.{coord_down, members_of}
 use Rattle.co_plain.specs.declared.coord_state.CoordState.{CoordState}
 use Rattle.co_plain.specs.declared.coord_state.Entry.{Entry}
@@ -45,7 +46,10 @@ pub record IsSame (old new : Coord) : Type 0 where
 abbrev pub MayDecide : CoordState → Type 0
 MayDecide y = (t : ℕ) (parts : List Part) (yeses : List ℕ) → look y.table t ≡ Some (entry.Collecting parts yeses) → IsWritable (Commit t (members_of parts))
 
+-- the marks of a step
+abbrev pub marks_in : CoordStep → List Mark
+marks_in d = d.marks
+
 -- what a call of a coordinator says of its log write
 abbrev pub written_by : Result CoordStep NodeFault → Result Written NodeFault
-written_by (Ok d) = Ok (Done d.marks)
-written_by (Err e) = Err e
+written_by out = written_with marks_in out

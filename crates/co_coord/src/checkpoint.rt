@@ -1,12 +1,11 @@
 //! Checkpoints of a coordinator: its spare file is closed, and then filled.
-ghost use Rattle.std.specs.Prelude.{◌≡◌, true, false, [], length, reverse, ℕ, IfOk};
+ghost use Rattle.std.specs.Prelude.{◌≡◌, true, false, [], reverse, IfOk};
 ghost use Rattle.std.specs.FinMap.{entries};
-ghost use Rattle.co_base.specs.declared.node.Node.{Node};
 ghost use Rattle.co_base.specs.declared.node.Node.TheVariants as node;
 ghost use Rattle.co_log.specs.LogView.{IsHeld};
 ghost use Rattle.co_log.specs.Others.{OtherNodesStay};
 ghost use Rattle.co_plain.specs.CoordLog.{commits_onto, coord_close_by, coord_fill_by, coord_checkpoint};
-ghost use Rattle.co_plain.specs.LogWrite.{checkpoint_marks, generation_of, outcome_of};
+ghost use Rattle.co_plain.specs.LogWrite.{generation_of, outcome_of};
 ghost use Rattle.co_plain.specs.Numbers.{next_generation};
 ghost use Rattle.co_plain.specs.declared.coord_state.CoordState.{CoordState};
 ghost use Rattle.co_coord.specs.Restating.{MayRestate, IsCheckpointed};
@@ -14,10 +13,10 @@ ghost use Rattle.co_coord.specs.Standing.{is_up, RepresentsCoord, HasDone, IsSam
 
 use crate::coord::Coord;
 use crate::step::CoordStep;
-use co_base::{Marks, copy_bytes};
+use co_base::copy_bytes;
 use co_log::NodeFault;
 use co_message::{Answer, Messages};
-use co_node::{Written, close, fill, spare_closed};
+use co_node::{Written, close, fill, filled_generation, spare_closed};
 use co_outside::Home;
 use co_plain::Entry;
 use co_record::Record;
@@ -42,14 +41,6 @@ fn commits_in(alloc: Global, table: &Table<Entry>) -> Result<Vec<Record>, AllocE
         }
     }
     Ok(records)
-}
-
-/// The generation that the mark of a filled spare tells.
-fn generation_in(marks: &Marks) -> u32
-    requires { length marks.now ≡ 1 }
-    ensures { (owner : Node) (generation : ℕ) → marks.now ≡ checkpoint_marks owner generation → result ≡ generation }
-{
-    marks.at(0).number
 }
 
 impl Coord {
@@ -91,7 +82,7 @@ impl Coord {
         let records = commits_in(self.alloc, self.table())?;
         match fill(self.alloc, &mut self.log, home, records.as_slice())? {
             Written::Done { marks } => Ok(CoordStep {
-                answer: Answer::Filled(generation_in(&marks)),
+                answer: Answer::Filled(filled_generation(&marks)),
                 sent: Messages::new(self.alloc),
                 marks,
             }),

@@ -4,9 +4,10 @@ ghost use Rattle.co_state.specs.Table.{look};
 ghost use Rattle.co_coord.specs.Plans.{ask_plan_of, begin_plan, commit_plan, abort_plan};
 
 use crate::messages::{aborts, copy_parts, prepares_to, waits};
-use crate::plan::{Change, Plan, Writes, says};
+use crate::plan::{Change, Plan, says};
 use co_base::{Bytes, Part, Txn};
 use co_message::{Answer, Cause, Messages};
+use co_node::Writes;
 use co_plain::Entry;
 use co_record::Record;
 use co_state::Table;

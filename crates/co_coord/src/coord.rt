@@ -10,16 +10,15 @@ ghost use Rattle.co_plain.specs.declared.coord_state.Entry.{Entry};
 ghost use Rattle.co_state.specs.Table.{Table};
 ghost use Rattle.co_coord.specs.Plans.{changed, carried_out};
 ghost use Rattle.co_coord.specs.Standing.{is_up, RepresentsCoord, HasDone, IsSame, written_by};
-ghost use Rattle.co_coord.specs.Writing.{MayWrite, IsAnsweredFor};
-ghost use Rattle.co_coord.specs.declared.plan.Writes.TheVariants.{Nothing};
+ghost use Rattle.co_node.specs.Writing.{MayWriteOne, IsAnsweredFor};
+ghost use Rattle.co_node.specs.declared.writing.Writes.TheVariants.{Nothing};
 
 use crate::plan::{Change, Plan};
 use crate::step::CoordStep;
-use crate::writing::write;
 use co_base::{Marks, Txn};
 use co_log::{Log, NodeFault};
 use co_message::{Answer, Messages};
-use co_node::Written;
+use co_node::{Written, write};
 use co_outside::Home;
 use co_plain::Entry;
 use co_state::Table;
@@ -104,7 +103,7 @@ impl Coord {
         requires short { IsShort self.old.log.current × IsShort self.old.log.spare }
         requires held { IsHeld (H.seen home.old) self.old.log }
         requires stands { (y : CoordState) × RepresentsCoord self.old y }
-        requires writes { MayWrite plan.writes }
+        requires writes { MayWriteOne plan.writes }
         ensures did { (y : CoordState) → RepresentsCoord self.old y → IfOk result (λ d. HasDone (carried_out self.old.number y txn plan) d self.new) }
         ensures answered { (y : CoordState) → RepresentsCoord self.old y →
             IsAnsweredFor plan.writes (node.Coord self.old.number) y.log self.old.log self.new.log

@@ -9,7 +9,7 @@ ghost use Rattle.co_plain.specs.declared.coord_state.CoordState.{CoordState};
 ghost use Rattle.co_state.specs.Table.{look};
 ghost use Rattle.co_coord.specs.Plans.{commit_plan, deliver_plan, txn_of};
 ghost use Rattle.co_coord.specs.Standing.{is_up, RepresentsCoord, HasDone, IsSame, MayDecide, written_by};
-ghost use Rattle.co_coord.specs.Writing.{IsAnsweredFor};
+ghost use Rattle.co_node.specs.Writing.{IsAnsweredFor};
 
 use crate::client::commit_plan;
 use crate::coord::Coord;

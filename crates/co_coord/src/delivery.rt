@@ -7,9 +7,10 @@ ghost use Rattle.co_state.specs.Table.{look};
 ghost use Rattle.co_coord.specs.Plans.{sends, commits, decides, yes_plan, no_plan, vote_plan, ask_plan, ends, acknowledged_plan, ack_plan, deliver_plan, txn_of};
 
 use crate::messages::{aborts, copy_parts, decisions_to, waits};
-use crate::plan::{Change, Plan, Writes, says, sends};
+use crate::plan::{Change, Plan, says, sends};
 use co_base::{Bytes, Part, Txn, copy_bytes};
 use co_message::{Answer, Cause, Message, Messages};
+use co_node::Writes;
 use co_plain::{Entry, first_lacking, has_number, has_part, members_of, with_number};
 use co_record::Record;
 use co_state::Table;

@@ -20,10 +20,9 @@ mod plan;
 mod reading;
 mod step;
 mod timers;
-mod writing;
 
 pub use coord::Coord;
 pub use laws::plans_are_steps;
-pub use plan::{Change, Plan, Writes};
+pub use plan::{Change, Plan};
 pub use reading::Stage;
 pub use step::CoordStep;

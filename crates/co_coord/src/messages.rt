@@ -5,9 +5,10 @@ ghost use Rattle.co_plain.specs.Coordinator.{prepares_to, decisions_to, parts_la
 ghost use Rattle.co_plain.specs.Numbers.{first_lacking};
 ghost use Rattle.co_coord.specs.Plans.{waits, aborts};
 
-use crate::plan::{Change, Plan, Writes, says};
+use crate::plan::{Change, Plan, says};
 use co_base::{Part, Parts, Txn};
 use co_message::{Answer, Cause, Message, Messages};
+use co_node::Writes;
 use co_plain::{first_lacking, has_number, members_of};
 use std::alloc::{AllocError, Global};
 

@@ -4,8 +4,8 @@ ghost use Rattle.co_coord.specs.Plans.{says, sends};
 
 use co_base::Sequence;
 use co_message::{Answer, Messages};
+use co_node::Writes;
 use co_plain::Entry;
-use co_record::Record;
 use std::alloc::Global;
 
 /// What becomes of the entry of a transaction in the table.
@@ -17,17 +17,6 @@ pub enum Change {
     Becomes(Entry),
     /// There is none.
     Leaves,
-}
-
-/// What the log is to get.
-#[derive(Drop)]
-pub enum Writes {
-    /// Nothing.
-    Nothing,
-    /// This record is forced, and the waiting ones in front of it.
-    Forces(Record),
-    /// This record waits for the next log write.
-    Keeps(Record),
 }
 
 /// What an event does.

@@ -4,9 +4,10 @@ ghost use Rattle.co_state.specs.Table.{look};
 ghost use Rattle.co_coord.specs.Plans.{timer_plan, resend_plan};
 
 use crate::messages::{aborts, decisions_to, least_waiting, parts_lacking, prepares_to};
-use crate::plan::{Change, Plan, Writes, says, sends};
+use crate::plan::{Change, Plan, says, sends};
 use co_base::Txn;
 use co_message::{Answer, Cause, Messages};
+use co_node::Writes;
 use co_plain::{Entry, numbers_lacking};
 use co_state::Table;
 use std::alloc::{AllocError, Global};

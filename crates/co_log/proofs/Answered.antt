@@ -1,144 +1,123 @@
 -- The answers of log calls by their cases, from what is so of each, and back.
-use Rattle.std.proofs.Common.{◌≡◌, ◌⊎◌, [], ◌++◌, ℕ, Bool, false, List, refl, ap, subst, inl, inr, Result, Ok, Err, Some, IfOk, IfErr, OnOk, IsErrOf}
+use Rattle.std.proofs.Common.{◌≡◌, ◌⊎◌, ℕ, Bool, false, List, refl, ap, subst, inl, inr, Result, Ok, Err, IfOk, IfErr, OnOk, IsErrOf}
 use Rattle.co_base.specs.Limits.{most_log_bytes}
 use Rattle.co_base.specs.declared.mark.Mark.{Mark}
 use Rattle.co_base.specs.declared.mark.MarkKind.TheVariants as kind
 use Rattle.co_base.specs.declared.node.Node.{Node}
-use Rattle.co_outside.specs.Home.{File, HomeView, IsClean, HasFailed}
+use Rattle.co_outside.specs.Home.{HomeView, IsClean, HasFailed}
 use Rattle.co_outside.specs.declared.spot.Spot.{Spot}
 use Rattle.co_disk.specs.DiskView.{DiskView}
 use Rattle.co_record.specs.declared.record.Record.{Record}
 use Rattle.co_log.specs.Attaching.{IsAttached, IsWithin, IsToldAs, IsOfAttach}
-use Rattle.co_log.specs.Calls.{IsWriteAnswer, IsForceServed, HasOldAlone, IsCloseServed, IsFillServed, HasNoBatch, IsForceAnswer, IsCloseAnswer, IsFillAnswer, IsMakeAnswer, HasFailedAs, IsAttachedOver, IsAttachAnswer, IsReattachAnswer}
-use Rattle.co_log.specs.Forcing.{IsForced, IsDone, IsOfForce}
+use Rattle.co_log.specs.Calls.{IsWriteAnswer, IsForcedWith, HasOldAlone, HasNoBatch, IsForceAnswer, IsCloseAnswer, IsFillAnswer, IsMakeAnswer, HasFailedAs, IsAttachedOver, IsAttachAnswer, IsReattachAnswer}
+use Rattle.co_log.specs.Forcing.{IsDone, IsOfForce}
 use Rattle.co_log.specs.Fresh.{IsFresh, IsMade, IsOfDevice}
-use Rattle.co_log.specs.LogFile.{EndsAt}
-use Rattle.co_log.specs.LogView.{LogView, IsLive, IsHeld, spot_of}
+use Rattle.co_log.specs.LogView.{LogView, IsHeld, spot_of}
 use Rattle.co_log.specs.Rereading.{IsOfReattach, AreReread}
 use Rattle.co_log.specs.Spare.{IsClosing, IsOfClosing, IsFilling, IsOverfull}
 use Rattle.co_log.specs.declared.fault.LogFault.{LogFault}
 use Rattle.co_log.specs.declared.fault.LogFault.TheVariants.{Device, Stopped, Bad, Differs, Full, InUse, Memory}
 
--- a call that was done, or stopped, met none of these
-done_is_no_fault : {A : Type 0} (r : Result A LogFault) (e : LogFault) → (IsDone {A = A} (Err e) → ⊥) → IsDone r → IsErrOf r e → ⊥
-done_is_no_fault r e none done is = none (subst (λ (x : Result _ LogFault). IsDone x) is done)
-
-pub write_answered : {A : Type 0} (spot : Spot) (done : Result A LogFault → Type 0) (device full memory : Type 0) (r : Result A LogFault) → (IsDone r → done r) → (IsErrOf r (Device spot) → device) → (IsErrOf r (Full spot) → full)
-    → (IsErrOf r Memory → memory) → IfErr r (IsOfForce spot) → IsWriteAnswer spot done device full memory r
-write_answered spot done device full memory (Ok it) when failed long wants of = when tt
-write_answered spot done device full memory (Err (Device at)) when failed long wants of = (of, failed (ap (λ (s : Spot). Err (Device s)) of))
-write_answered spot done device full memory (Err (Stopped call stable marks)) when failed long wants of = when tt
-write_answered spot done device full memory (Err (Bad at place)) when failed long wants of = of
-write_answered spot done device full memory (Err (Differs at place kept read)) when failed long wants of = of
-write_answered spot done device full memory (Err (Full at)) when failed long wants of = (of, long (ap (λ (s : Spot). Err (Full s)) of))
-write_answered spot done device full memory (Err (InUse at)) when failed long wants of = of
-write_answered spot done device full memory (Err Memory) when failed long wants of = wants refl
-
--- what is so of each answer
-pub record HasAnswered {A : Type 0} (spot : Spot) (done : Result A LogFault → Type 0) (device full memory : Type 0) (result : Result A LogFault) : Type 0 where
-  pub served : IsDone result → done result
-  pub failed : IsErrOf result (Device spot) → device
-  pub refused : IsErrOf result (Full spot) → full
-  pub wanting : IsErrOf result Memory → memory
+-- What is so of the home and of the answer of a log write, one by one.
+pub record HasWriteParts {A : Type 0} (spot : Spot) (long : Type 0) (after : LogView) (old new : HomeView) (result : Result A LogFault) : Type 0 where
+  pub held : IsDone result → IsHeld new after
+  pub clean : IsDone result → IsClean new spot
+  pub full : IsErrOf result (Full spot) → long
+  pub refused : long → IsErrOf result (Full spot) ⊎ IsErrOf result Memory
   pub faults : IfErr result (IsOfForce spot)
+  pub device : IsErrOf result (Device spot) → HasFailed spot old new
+  pub quiet : (IsErrOf result (Device spot) → ⊥) → new.faults ≡ old.faults
 
-pub answer_of : {A : Type 0} (spot : Spot) (done : Result A LogFault → Type 0) (device full memory : Type 0) (r : Result A LogFault) → IsWriteAnswer spot done device full memory r → HasAnswered spot done device full memory r
-answer_of spot done device full memory (Ok it) is = record { served = λ _. is; failed = λ no. cc; refused = λ no. cc; wanting = λ no. cc; faults = tt }
-answer_of spot done device full memory (Err (Device at)) is = record { served = λ no. absurd no; failed = λ _. is.1; refused = λ no. cc; wanting = λ no. cc; faults = is.0 }
-answer_of spot done device full memory (Err (Stopped call stable marks)) is = record { served = λ _. is; failed = λ no. cc; refused = λ no. cc; wanting = λ no. cc; faults = tt }
-answer_of spot done device full memory (Err (Bad at place)) is = absurd is
-answer_of spot done device full memory (Err (Differs at place kept read)) is = absurd is
-answer_of spot done device full memory (Err (Full at)) is = record { served = λ no. absurd no; failed = λ no. cc; refused = λ _. is.1; wanting = λ no. cc; faults = is.0 }
-answer_of spot done device full memory (Err (InUse at)) is = absurd is
-answer_of spot done device full memory (Err Memory) is = record { served = λ no. absurd no; failed = λ no. cc; refused = λ no. cc; wanting = λ _. is; faults = tt }
+module _ {A : Type 0} (spot : Spot) (did : Result A LogFault → Type 0) (long kept : Type 0) (after : LogView) (old new : HomeView) where
+  ended_of : (r : Result A LogFault) → IsWriteAnswer spot did long kept after old new r → IsDone r → did r
+  ended_of (Ok it) is done = is.0
+  ended_of (Err (Device at)) is done = absurd done
+  ended_of (Err (Stopped call stable marks)) is done = is.0
+  ended_of (Err (Bad at place)) is done = absurd done
+  ended_of (Err (Differs at place kept_byte read)) is done = absurd done
+  ended_of (Err (Full at)) is done = absurd done
+  ended_of (Err (InUse at)) is done = absurd done
+  ended_of (Err Memory) is done = absurd done
 
--- what is so of every answer but that the device failed
-pub unless_failed : {A : Type 0} (spot : Spot) (done : Result A LogFault → Type 0) (device full memory P : Type 0) (r : Result A LogFault) → IsWriteAnswer spot done device full memory r → ((x : Result A LogFault) → done x → P) → (full → P) → (memory → P)
-    → (IsErrOf r (Device spot) → ⊥) → P
-unless_failed spot done device full memory P (Ok it) is when long wants silent = when (Ok it) is
-unless_failed spot done device full memory P (Err (Device at)) is when long wants silent = absurd (silent (ap (λ (s : Spot). Err (Device s)) is.0))
-unless_failed spot done device full memory P (Err (Stopped call stable marks)) is when long wants silent = when (Err (Stopped call stable marks)) is
-unless_failed spot done device full memory P (Err (Bad at place)) is when long wants silent = absurd is
-unless_failed spot done device full memory P (Err (Differs at place kept read)) is when long wants silent = absurd is
-unless_failed spot done device full memory P (Err (Full at)) is when long wants silent = long is.1
-unless_failed spot done device full memory P (Err (InUse at)) is when long wants silent = absurd is
-unless_failed spot done device full memory P (Err Memory) is when long wants silent = wants is
+  parts_of : (r : Result A LogFault) → IsWriteAnswer spot did long kept after old new r → HasWriteParts spot long after old new r
+  parts_of (Ok it) is =
+      record { held = λ _. is.1.held; clean = λ _. is.1.clean; full = λ no. cc; refused = λ too. absurd (is.2 too); faults = tt; device = λ no. cc; quiet = λ _. is.1.quiet }
+  parts_of (Err (Device at)) is =
+      record {
+        held = λ no. absurd no;
+        clean = λ no. absurd no;
+        full = λ no. cc;
+        refused = λ too. absurd (is.2 too);
+        faults = is.0;
+        device = λ _. is.1;
+        quiet = λ silent. absurd (silent (ap (λ (s : Spot). Err (Device s)) is.0));
+      }
+  parts_of (Err (Stopped call stable marks)) is =
+      record { held = λ _. is.1.held; clean = λ _. is.1.clean; full = λ no. cc; refused = λ too. absurd (is.2 too); faults = tt; device = λ no. cc; quiet = λ _. is.1.quiet }
+  parts_of (Err (Bad at place)) is = absurd is
+  parts_of (Err (Differs at place kept_byte read)) is = absurd is
+  parts_of (Err (Full at)) is =
+      record { held = λ no. absurd no; clean = λ no. absurd no; full = λ _. is.1; refused = λ _. inl (ap (λ (s : Spot). Err (Full s)) is.0); faults = is.0; device = λ no. cc; quiet = λ _. is.2 }
+  parts_of (Err (InUse at)) is = absurd is
+  parts_of (Err Memory) is = record { held = λ no. absurd no; clean = λ no. absurd no; full = λ no. cc; refused = λ _. inr refl; faults = tt; device = λ no. cc; quiet = λ _. is.1 }
 
--- a file that would be too long is refused, or there is no memory
-pub refused_or_wanting : {A : Type 0} (spot : Spot) (done : Result A LogFault → Type 0) (device full memory : Type 0) (r : Result A LogFault) → IsWriteAnswer spot done device full memory r → ((x : Result A LogFault) → done x → ⊥) → (device → ⊥)
-    → IsErrOf r (Full spot) ⊎ IsErrOf r Memory
-refused_or_wanting spot done device full memory (Ok it) is when failed = absurd (when (Ok it) is)
-refused_or_wanting spot done device full memory (Err (Device at)) is when failed = absurd (failed is.1)
-refused_or_wanting spot done device full memory (Err (Stopped call stable marks)) is when failed = absurd (when (Err (Stopped call stable marks)) is)
-refused_or_wanting spot done device full memory (Err (Bad at place)) is when failed = absurd is
-refused_or_wanting spot done device full memory (Err (Differs at place kept read)) is when failed = absurd is
-refused_or_wanting spot done device full memory (Err (Full at)) is when failed = inl (ap (λ (s : Spot). Err (Full s)) is.0)
-refused_or_wanting spot done device full memory (Err (InUse at)) is when failed = absurd is
-refused_or_wanting spot done device full memory (Err Memory) is when failed = inr refl
-
--- one that was done or failed was not refused, nor was memory wanting
-never_refused : {A : Type 0} (spot : Spot) (r : Result A LogFault) → IsDone r → IsErrOf r (Full spot) ⊎ IsErrOf r Memory → ⊥
-never_refused spot r done (inl is) = done_is_no_fault r (Full spot) (λ no. no) done is
-never_refused spot r done (inr is) = done_is_no_fault r Memory (λ no. no) done is
-
-never_both : {A : Type 0} (spot : Spot) (r : Result A LogFault) → IsErrOf r (Device spot) → IsErrOf r (Full spot) ⊎ IsErrOf r Memory → ⊥
-never_both spot r failed (inl is) = cc
-never_both spot r failed (inr is) = cc
+  -- and back
+  pub answer_of : (r : Result A LogFault) → (IsDone r → did r) → (IsErrOf r Memory → kept) → HasWriteParts spot long after old new r → IsWriteAnswer spot did long kept after old new r
+  answer_of (Ok it) ended wanting p =
+      (ended tt, record { held = p.held tt; clean = p.clean tt; quiet = p.quiet (λ no. cc) }, λ too. elim (p.refused too) [ inl no ↦ cc | inr no ↦ cc ])
+  answer_of (Err (Device at)) ended wanting p =
+      (p.faults, p.device (ap (λ (s : Spot). Err (Device s)) p.faults), λ too. elim (p.refused too) [ inl no ↦ cc | inr no ↦ cc ])
+  answer_of (Err (Stopped call stable marks)) ended wanting p =
+      (ended tt, record { held = p.held tt; clean = p.clean tt; quiet = p.quiet (λ no. cc) }, λ too. elim (p.refused too) [ inl no ↦ cc | inr no ↦ cc ])
+  answer_of (Err (Bad at place)) ended wanting p = p.faults
+  answer_of (Err (Differs at place kept_byte read)) ended wanting p = p.faults
+  answer_of (Err (Full at)) ended wanting p = (p.faults, p.full (ap (λ (s : Spot). Err (Full s)) p.faults), p.quiet (λ no. cc))
+  answer_of (Err (InUse at)) ended wanting p = p.faults
+  answer_of (Err Memory) ended wanting p = (wanting refl, p.quiet (λ no. cc))
 
 module _ (log after : LogView) (old new : HomeView) where
-  pub force_answered : (long : Type 0) (more : List Record) (r : Result (List Mark) LogFault) → ((items : List (ℕ × Record)) → IsLive log items → IsForced log items (log.waiting ++ more) after r) → (IsDone r → IsHeld new after)
-      → (IsDone r → IsClean new log.current.spot) → (IsErrOf r (Full log.current.spot) → long) → (long → IsErrOf r (Full log.current.spot) ⊎ IsErrOf r Memory)
-      → ((items : List (ℕ × Record)) → IsLive log items → IsErrOf r Memory → (f : File) → new.file log.current.spot ≡ Some f → EndsAt f.bytes log.gate items) → IfErr r (IsOfForce log.current.spot)
-      → (IsErrOf r (Device log.current.spot) → HasFailed log.current.spot old new) → ((IsErrOf r (Device log.current.spot) → ⊥) → new.faults ≡ old.faults) → IsForceAnswer long log after more old new r
-  force_answered long more r forced held clean full refused memory of failed quiet =
-      write_answered log.current.spot (IsForceServed long log after more old new) (HasFailed log.current.spot old new × (long → ⊥)) (long × (new.faults ≡ old.faults)) (HasOldAlone log new × (new.faults ≡ old.faults)) r
-      (λ done. (forced, record { held = held done; clean = clean done; quiet = quiet (done_is_no_fault r (Device log.current.spot) (λ no. no) done) }, λ too. never_refused log.current.spot r done (refused too)))
-      (λ is. (failed is, λ too. never_both log.current.spot r is (refused too)))
-      (λ is. (full is, quiet (λ no. cc)))
-      (λ is. (λ items live. memory items live is, quiet (λ no. cc)))
-      of
+  pub force_parts : (long : Type 0) (more : List Record) (r : Result (List Mark) LogFault) → IsForceAnswer long log after more old new r → HasWriteParts log.current.spot long after old new r
+  force_parts long more = parts_of log.current.spot (IsForcedWith log after more) long (HasOldAlone log new) after old new
 
-  pub close_answered : (r : Result (Unit {0}) LogFault) → IsClosing log after r → (IsDone r → IsHeld new after) → (IsDone r → IsClean new log.spare.spot) → IfErr r (IsOfClosing log.spare.spot)
-      → (IsErrOf r (Device log.spare.spot) → HasFailed log.spare.spot old new) → ((IsErrOf r (Device log.spare.spot) → ⊥) → new.faults ≡ old.faults) → IsCloseAnswer log after old new r
-  close_answered r closing held clean of failed quiet =
-      write_answered log.spare.spot (IsCloseServed log after old new) (HasFailed log.spare.spot old new) ⊥ (new.faults ≡ old.faults) r
-      (λ done. (closing, record { held = held done; clean = clean done; quiet = quiet (done_is_no_fault r (Device log.spare.spot) (λ no. no) done) }))
-      failed
-      (λ is. subst (λ (x : Result (Unit {0}) LogFault). IfErr x (IsOfClosing log.spare.spot)) is of)
-      (λ is. quiet (λ no. cc))
-      (of_write r of)
-    where
-      of_write : (r : Result (Unit {0}) LogFault) → IfErr r (IsOfClosing log.spare.spot) → IfErr r (IsOfForce log.spare.spot)
-      of_write (Ok it) may = tt
-      of_write (Err (Device at)) may = may
-      of_write (Err (Stopped call stable marks)) may = tt
-      of_write (Err (Bad at place)) may = may
-      of_write (Err (Differs at place kept read)) may = may
-      of_write (Err (Full at)) may = absurd may
-      of_write (Err (InUse at)) may = may
-      of_write (Err Memory) may = tt
+  pub close_parts : (r : Result (Unit {0}) LogFault) → IsCloseAnswer log after old new r → HasWriteParts log.spare.spot ⊥ after old new r
+  close_parts = parts_of log.spare.spot (IsClosing log after) ⊥ (Unit {0}) after old new
 
-  pub fill_answered : (more : List Record) (r : Result Mark LogFault) → IsFilling log more after r → (IsDone r → IsHeld new after) → (IsDone r → IsClean new log.spare.spot) → (IsErrOf r (Full log.spare.spot) → IsOverfull log more)
-      → (IsOverfull log more → IsErrOf r (Full log.spare.spot) ⊎ IsErrOf r Memory) → (IsErrOf r Memory → (f : File) → new.file log.spare.spot ≡ Some f → EndsAt f.bytes 0 []) → IfErr r (IsOfForce log.spare.spot)
-      → (IsErrOf r (Device log.spare.spot) → HasFailed log.spare.spot old new) → ((IsErrOf r (Device log.spare.spot) → ⊥) → new.faults ≡ old.faults) → IsFillAnswer log after more old new r
-  fill_answered more r filling held clean full refused memory of failed quiet =
-      write_answered log.spare.spot (IsFillServed log after more old new) (HasFailed log.spare.spot old new × (IsOverfull log more → ⊥)) (IsOverfull log more × (new.faults ≡ old.faults)) (HasNoBatch log new × (new.faults ≡ old.faults)) r
-      (λ done. (filling, record { held = held done; clean = clean done; quiet = quiet (done_is_no_fault r (Device log.spare.spot) (λ no. no) done) }, λ too. never_refused log.spare.spot r done (refused too)))
-      (λ is. (failed is, λ too. never_both log.spare.spot r is (refused too)))
-      (λ is. (full is, quiet (λ no. cc)))
-      (λ is. (memory is, quiet (λ no. cc)))
-      of
+  pub fill_parts : (more : List Record) (r : Result Mark LogFault) → IsFillAnswer log after more old new r → HasWriteParts log.spare.spot (IsOverfull log more) after old new r
+  fill_parts more = parts_of log.spare.spot (IsFilling log more after) (IsOverfull log more) (HasNoBatch log new) after old new
 
-  pub make_answered : (r : Result Mark LogFault) → OnOk r (IsMade log after) → IfOk r (λ m. m ≡ record { node = log.node; kind = kind.Header; number = 1 }) → OnOk r (IsHeld new after) → OnOk r (IsClean new log.current.spot)
-      → IfErr r (IsOfDevice log.current.spot) → (IsErrOf r (Device log.current.spot) → HasFailed log.current.spot old new) → ((IsErrOf r (Device log.current.spot) → ⊥) → new.faults ≡ old.faults) → IsMakeAnswer log after old new r
-  make_answered (Ok mark) made is held clean of failed quiet = (made, is, record { held = held; clean = clean; quiet = quiet (λ no. cc) })
-  make_answered (Err (Device at)) made is held clean of failed quiet = (of, failed (ap (λ (s : Spot). Err (Device s)) of))
-  make_answered (Err (Stopped call stable marks)) made is held clean of failed quiet = of
-  make_answered (Err (Bad at place)) made is held clean of failed quiet = of
-  make_answered (Err (Differs at place kept read)) made is held clean of failed quiet = of
-  make_answered (Err (Full at)) made is held clean of failed quiet = of
-  make_answered (Err (InUse at)) made is held clean of failed quiet = of
-  make_answered (Err Memory) made is held clean of failed quiet = quiet (λ no. cc)
+  pub forced_of : (long : Type 0) (more : List Record) (r : Result (List Mark) LogFault) → IsForceAnswer long log after more old new r → IsDone r → IsForcedWith log after more r
+  forced_of long more = ended_of log.current.spot (IsForcedWith log after more) long (HasOldAlone log new) after old new
+
+  pub closing_of : (r : Result (Unit {0}) LogFault) → IsCloseAnswer log after old new r → IsDone r → IsClosing log after r
+  closing_of = ended_of log.spare.spot (IsClosing log after) ⊥ (Unit {0}) after old new
+
+  pub filling_of : (more : List Record) (r : Result Mark LogFault) → IsFillAnswer log after more old new r → IsDone r → IsFilling log more after r
+  filling_of more = ended_of log.spare.spot (IsFilling log more after) (IsOverfull log more) (HasNoBatch log new) after old new
+
+-- the faults of a closing are those of a log write, but that none is too long
+pub closing_faults : (spot : Spot) (r : Result (Unit {0}) LogFault) → IfErr r (IsOfClosing spot) → IfErr r (IsOfForce spot)
+closing_faults spot (Ok it) may = tt
+closing_faults spot (Err (Device at)) may = may
+closing_faults spot (Err (Stopped call stable marks)) may = tt
+closing_faults spot (Err (Bad at place)) may = may
+closing_faults spot (Err (Differs at place kept read)) may = may
+closing_faults spot (Err (Full at)) may = absurd may
+closing_faults spot (Err (InUse at)) may = may
+closing_faults spot (Err Memory) may = tt
+
+pub closing_fits : (spot : Spot) (r : Result (Unit {0}) LogFault) → IfErr r (IsOfClosing spot) → IsErrOf r (Full spot) → ⊥
+closing_fits spot r may is = subst (λ (x : Result (Unit {0}) LogFault). IfErr x (IsOfClosing spot)) is may
+
+pub make_answered : (log after : LogView) (old new : HomeView) (r : Result Mark LogFault) → OnOk r (IsMade log after) → IfOk r (λ m. m ≡ record { node = log.node; kind = kind.Header; number = 1 }) → OnOk r (IsHeld new after) → OnOk r (IsClean new log.current.spot)
+    → IfErr r (IsOfDevice log.current.spot) → (IsErrOf r (Device log.current.spot) → HasFailed log.current.spot old new) → ((IsErrOf r (Device log.current.spot) → ⊥) → new.faults ≡ old.faults) → IsMakeAnswer log after old new r
+make_answered log after old new (Ok mark) made is held clean of failed quiet = (made, is, record { held = held; clean = clean; quiet = quiet (λ no. cc) })
+make_answered log after old new (Err (Device at)) made is held clean of failed quiet = (of, failed (ap (λ (s : Spot). Err (Device s)) of))
+make_answered log after old new (Err (Stopped call stable marks)) made is held clean of failed quiet = of
+make_answered log after old new (Err (Bad at place)) made is held clean of failed quiet = of
+make_answered log after old new (Err (Differs at place kept read)) made is held clean of failed quiet = of
+make_answered log after old new (Err (Full at)) made is held clean of failed quiet = of
+make_answered log after old new (Err (InUse at)) made is held clean of failed quiet = of
+make_answered log after old new (Err Memory) made is held clean of failed quiet = quiet (λ no. cc)
 
 -- how the count of faults stands with each fault
 failed_as : {A : Type 0} (old new : HomeView) (e : LogFault) → ((spot : Spot) → IsErrOf {T = A} (Err e) (Device spot) → HasFailed spot old new) → (((spot : Spot) → IsErrOf {T = A} (Err e) (Device spot) → ⊥) → new.faults ≡ old.faults) → HasFailedAs e old new
@@ -179,118 +158,6 @@ as_quiet old new (Differs spot at kept read) is silent = is
 as_quiet old new (Full spot) is silent = is
 as_quiet old new (InUse spot) is silent = is
 as_quiet old new Memory is silent = is
-
--- What a log write says of its answer, one by one, for a caller that passes a fault on.
-pub record HasForceParts (long : Type 0) (log after : LogView) (more : List Record) (old new : HomeView) (result : Result (List Mark) LogFault) : Type 0 where
-  pub forced : (items : List (ℕ × Record)) → IsLive log items → IsForced log items (log.waiting ++ more) after result
-  pub held : IsDone result → IsHeld new after
-  pub clean : IsDone result → IsClean new log.current.spot
-  pub full : IsErrOf result (Full log.current.spot) → long
-  pub refused : long → IsErrOf result (Full log.current.spot) ⊎ IsErrOf result Memory
-  pub faults : IfErr result (IsOfForce log.current.spot)
-  pub device : IsErrOf result (Device log.current.spot) → HasFailed log.current.spot old new
-  pub quiet : (IsErrOf result (Device log.current.spot) → ⊥) → new.faults ≡ old.faults
-
-pub record HasCloseParts (log after : LogView) (old new : HomeView) (result : Result (Unit {0}) LogFault) : Type 0 where
-  pub closing : IsClosing log after result
-  pub held : IsDone result → IsHeld new after
-  pub clean : IsDone result → IsClean new log.spare.spot
-  pub full : IsErrOf result (Full log.spare.spot) → ⊥
-  pub faults : IfErr result (IsOfForce log.spare.spot)
-  pub device : IsErrOf result (Device log.spare.spot) → HasFailed log.spare.spot old new
-  pub quiet : (IsErrOf result (Device log.spare.spot) → ⊥) → new.faults ≡ old.faults
-
-pub record HasFillParts (log after : LogView) (more : List Record) (old new : HomeView) (result : Result Mark LogFault) : Type 0 where
-  pub filled : IsFilling log more after result
-  pub held : IsDone result → IsHeld new after
-  pub clean : IsDone result → IsClean new log.spare.spot
-  pub full : IsErrOf result (Full log.spare.spot) → IsOverfull log more
-  pub refused : IsOverfull log more → IsErrOf result (Full log.spare.spot) ⊎ IsErrOf result Memory
-  pub faults : IfErr result (IsOfForce log.spare.spot)
-  pub device : IsErrOf result (Device log.spare.spot) → HasFailed log.spare.spot old new
-  pub quiet : (IsErrOf result (Device log.spare.spot) → ⊥) → new.faults ≡ old.faults
-
-module _ (log after : LogView) (old new : HomeView) where
-  forced_of : (long : Type 0) (more : List Record) (r : Result (List Mark) LogFault) → IsForceAnswer long log after more old new r → (items : List (ℕ × Record)) → IsLive log items → IsForced log items (log.waiting ++ more) after r
-  forced_of long more (Ok marks) is items live = is.0 items live
-  forced_of long more (Err (Device at)) is items live = tt
-  forced_of long more (Err (Stopped call stable marks)) is items live = is.0 items live
-  forced_of long more (Err (Bad at place)) is items live = tt
-  forced_of long more (Err (Differs at place kept read)) is items live = tt
-  forced_of long more (Err (Full at)) is items live = tt
-  forced_of long more (Err (InUse at)) is items live = tt
-  forced_of long more (Err Memory) is items live = tt
-
-  closing_of : (r : Result (Unit {0}) LogFault) → IsCloseAnswer log after old new r → IsClosing log after r
-  closing_of (Ok it) is = is.0
-  closing_of (Err (Device at)) is = tt
-  closing_of (Err (Stopped call stable marks)) is = is.0
-  closing_of (Err (Bad at place)) is = tt
-  closing_of (Err (Differs at place kept read)) is = tt
-  closing_of (Err (Full at)) is = tt
-  closing_of (Err (InUse at)) is = tt
-  closing_of (Err Memory) is = tt
-
-  filling_of : (more : List Record) (r : Result Mark LogFault) → IsFillAnswer log after more old new r → IsFilling log more after r
-  filling_of more (Ok mark) is = is.0
-  filling_of more (Err (Device at)) is = tt
-  filling_of more (Err (Stopped call stable marks)) is = is.0
-  filling_of more (Err (Bad at place)) is = tt
-  filling_of more (Err (Differs at place kept read)) is = tt
-  filling_of more (Err (Full at)) is = tt
-  filling_of more (Err (InUse at)) is = tt
-  filling_of more (Err Memory) is = tt
-
-  pub force_parts : (long : Type 0) (more : List Record) (r : Result (List Mark) LogFault) → IsForceAnswer long log after more old new r → HasForceParts long log after more old new r
-  force_parts long more r is =
-      let served = IsForceServed long log after more old new in
-      let failed = HasFailed log.current.spot old new × (long → ⊥) in
-      let refused = long × (new.faults ≡ old.faults) in
-      let wanting = HasOldAlone log new × (new.faults ≡ old.faults) in
-      let of = answer_of log.current.spot served failed refused wanting r is in
-      record {
-        forced = forced_of long more r is;
-        held = λ done. (of.served done).1.held;
-        clean = λ done. (of.served done).1.clean;
-        full = λ full. (of.refused full).0;
-        refused = λ too. refused_or_wanting log.current.spot served failed refused wanting r is (λ x was. was.2 too) (λ was. was.1 too);
-        faults = of.faults;
-        device = λ no. (of.failed no).0;
-        quiet = unless_failed log.current.spot served failed refused wanting (new.faults ≡ old.faults) r is (λ x was. was.1.quiet) (λ was. was.1) (λ was. was.1);
-      }
-
-  pub close_parts : (r : Result (Unit {0}) LogFault) → IsCloseAnswer log after old new r → HasCloseParts log after old new r
-  close_parts r is =
-      let served = IsCloseServed log after old new in
-      let failed = HasFailed log.spare.spot old new in
-      let of = answer_of log.spare.spot served failed ⊥ (new.faults ≡ old.faults) r is in
-      record {
-        closing = closing_of r is;
-        held = λ done. (of.served done).1.held;
-        clean = λ done. (of.served done).1.clean;
-        full = of.refused;
-        faults = of.faults;
-        device = of.failed;
-        quiet = unless_failed log.spare.spot served failed ⊥ (new.faults ≡ old.faults) (new.faults ≡ old.faults) r is (λ x was. was.1.quiet) (λ was. absurd was) (λ was. was);
-      }
-
-  pub fill_parts : (more : List Record) (r : Result Mark LogFault) → IsFillAnswer log after more old new r → HasFillParts log after more old new r
-  fill_parts more r is =
-      let served = IsFillServed log after more old new in
-      let failed = HasFailed log.spare.spot old new × (IsOverfull log more → ⊥) in
-      let refused = IsOverfull log more × (new.faults ≡ old.faults) in
-      let wanting = HasNoBatch log new × (new.faults ≡ old.faults) in
-      let of = answer_of log.spare.spot served failed refused wanting r is in
-      record {
-        filled = filling_of more r is;
-        held = λ done. (of.served done).1.held;
-        clean = λ done. (of.served done).1.clean;
-        full = λ full. (of.refused full).0;
-        refused = λ too. refused_or_wanting log.spare.spot served failed refused wanting r is (λ x was. was.2 too) (λ was. was.1 too);
-        faults = of.faults;
-        device = λ no. (of.failed no).0;
-        quiet = unless_failed log.spare.spot served failed refused wanting (new.faults ≡ old.faults) r is (λ x was. was.1.quiet) (λ was. was.1) (λ was. was.1);
-      }
 
 -- What an attach says of its answer, one by one.
 pub record HasAttachParts (node : Node) (resume : Bool) (old new : HomeView) (result : Result LogView LogFault) : Type 0 where

@@ -19,3 +19,4 @@ pub mod Bounds
 pub mod Sizes
 pub mod Counted
 pub mod Answered
+pub mod Spelled

@@ -10,10 +10,20 @@ use Rattle.co_disk.specs.DiskModel.{read_of}
 use Rattle.co_disk.specs.DiskView.{DiskView}
 use Rattle.co_log.specs.Attaching.{built, IsAttached}
 use Rattle.co_log.specs.LogView.{LogView, IsHeld, HasSpots, spot_of}
-use Rattle.co_log.specs.Others.{OtherFilesStay, OtherNodesStay}
+use Rattle.co_log.specs.Others.{NodeStays, OtherFilesStay, OtherNodesStay}
 
 parts_apart : (node : Node) (p q : ℕ) → (p ≡ q → ⊥) → spot_of node p ≢ spot_of node q
 parts_apart node p q other e = absurd (other (ap (λ (s : Spot). s.part) e))
+
+-- what is so at both files of a node is so at each file of its log
+pub at_each : (P : Spot → Type 0) (log : LogView) → HasSpots log → P (spot_of log.node 0) → P (spot_of log.node 1) → P log.current.spot × P log.spare.spot
+at_each P log (inl own) a b = (subst P (sym own.0) a, subst P (sym own.1) b)
+at_each P log (inr own) a b = (subst P (sym own.0) b, subst P (sym own.1) a)
+
+-- and back
+pub at_parts : (P : Spot → Type 0) (log : LogView) → HasSpots log → P log.current.spot → P log.spare.spot → P (spot_of log.node 0) × P (spot_of log.node 1)
+at_parts P log (inl own) current spare = (subst P own.0 current, subst P own.1 spare)
+at_parts P log (inr own) current spare = (subst P own.1 spare, subst P own.0 current)
 
 -- the files of a log are two
 pub spots_apart : (log : LogView) → HasSpots log → log.current.spot ≢ log.spare.spot
@@ -79,28 +89,37 @@ bytes_apart (Member m) (Coord n) one two e = absurd (omega (arith, one.1, two.0,
 bytes_apart (Coord m) (Member n) one two e = absurd (omega (arith, one.0, two.1, e))
 bytes_apart (Coord m) (Coord n) one two e = ap Coord (let h : m ≡ n = omega (arith, e) in h)
 
+-- no file is of two nodes
 spot_elsewhere : (this that : Node) (p q : ℕ) → IsValidNode this → IsValidNode that → that ≢ this → spot_of that p ≢ spot_of this q
 spot_elsewhere this that p q one two other e = absurd (other (bytes_apart that this two one (ap (λ (s : Spot). s.node) e)))
 
--- the files of another node's log are none of these two
-elsewhere : (node : Node) (log : LogView) → IsValidNode node → IsValidNode log.node → log.node ≢ node → HasSpots log
-    → (log.current.spot ≢ spot_of node 0) × (log.current.spot ≢ spot_of node 1) × (log.spare.spot ≢ spot_of node 0) × (log.spare.spot ≢ spot_of node 1)
-elsewhere node log one two other spots = elim spots [
-  | inl own ↦ (λ e. spot_elsewhere node log.node 0 0 one two other (sym own.0 ∙ e), λ e. spot_elsewhere node log.node 0 1 one two other (sym own.0 ∙ e), λ e. spot_elsewhere node log.node 1 0 one two other (sym own.1 ∙ e), λ e. spot_elsewhere node log.node 1 1 one two other (sym own.1 ∙ e))
-  | inr own ↦ (λ e. spot_elsewhere node log.node 1 0 one two other (sym own.0 ∙ e), λ e. spot_elsewhere node log.node 1 1 one two other (sym own.0 ∙ e), λ e. spot_elsewhere node log.node 0 0 one two other (sym own.1 ∙ e), λ e. spot_elsewhere node log.node 0 1 one two other (sym own.1 ∙ e))
-]
+-- what one node does leaves the files of each other one
+pub stays_elsewhere : (this that : Node) (old new : HomeView) → IsValidNode this → IsValidNode that → that ≢ this → OtherFilesStay this old new → NodeStays that old new
+stays_elsewhere this that old new one two other stay =
+    let away : (p q : ℕ) → spot_of that p ≢ spot_of this q = λ p q. spot_elsewhere this that p q one two other in
+    record {
+      file_a = stay.files (spot_of that 0) (away 0 0) (away 0 1);
+      file_b = stay.files (spot_of that 1) (away 1 0) (away 1 1);
+      reach_a = stay.reaches (spot_of that 0) (away 0 0) (away 0 1);
+      reach_b = stay.reaches (spot_of that 1) (away 1 0) (away 1 1);
+    }
 
 agrees_on : (old new : HomeView) (spot : Spot) (bytes : List ℕ) → new.file spot ≡ old.file spot → new.reach spot ≡ old.reach spot → Agrees old spot bytes → Agrees new spot bytes
 agrees_on old new spot bytes same still agrees = record { told = λ f is. agrees.told f (sym same ∙ is); room = omega (arith, agrees.room, still) }
 
-pub held_elsewhere : (node : Node) (old new : HomeView) (log : LogView) → IsValidNode node → IsValidNode log.node → log.node ≢ node → OtherFilesStay node old new → IsHeld old log → IsHeld new log
-held_elsewhere node old new log one two other stay held =
-    let away = elsewhere node log one two other held.spots in
+-- what leaves the files of a log keeps it held
+pub held_stays : (old new : HomeView) (log : LogView) → NodeStays log.node old new → IsHeld old log → IsHeld new log
+held_stays old new log stay held =
+    let files = at_each (λ s. new.file s ≡ old.file s) log held.spots stay.file_a stay.file_b in
+    let reaches = at_each (λ s. new.reach s ≡ old.reach s) log held.spots stay.reach_a stay.reach_b in
     record {
       spots = held.spots;
-      current = agrees_on old new log.current.spot (read_of log.current.state) (stay.files log.current.spot away.0 away.1) (stay.reaches log.current.spot away.0 away.1) held.current;
-      spare = agrees_on old new log.spare.spot (read_of log.spare.state) (stay.files log.spare.spot away.2 away.3) (stay.reaches log.spare.spot away.2 away.3) held.spare;
+      current = agrees_on old new log.current.spot (read_of log.current.state) files.0 reaches.0 held.current;
+      spare = agrees_on old new log.spare.spot (read_of log.spare.state) files.1 reaches.1 held.spare;
     }
+
+pub held_elsewhere : (node : Node) (old new : HomeView) (log : LogView) → IsValidNode node → IsValidNode log.node → log.node ≢ node → OtherFilesStay node old new → IsHeld old log → IsHeld new log
+held_elsewhere node old new log one two other stay held = held_stays old new log (stays_elsewhere node log.node old new one two other stay) held
 
 module _ (log : LogView) (spots : HasSpots log) where
   -- a call on one of its two files leaves all other nodes

@@ -56,38 +56,36 @@ pub record MayCut (home : HomeView) (log : LogView) : Type 0 where
   pub still : log.current.state.pending ≡ []
   pub spare_still : log.spare.state.pending ≡ []
 
--- What a call answers that writes the file of this spot: it was done, or stopped at the armed device call, as `done` says of the answer; the device
--- failed; the file would be too long; or there was no memory.
-abbrev pub IsWriteAnswer : {A : Type 0} → Spot → (done : Result A LogFault → Type 0) → (device full memory : Type 0) → Result A LogFault → Type 0
-IsWriteAnswer spot done device full memory (Ok it) = done (Ok it)
-IsWriteAnswer spot done device full memory (Err (Device at)) = (at ≡ spot) × device
-IsWriteAnswer spot done device full memory (Err (Stopped call stable marks)) = done (Err (Stopped call stable marks))
-IsWriteAnswer spot done device full memory (Err (Bad at place)) = ⊥
-IsWriteAnswer spot done device full memory (Err (Differs at place kept read)) = ⊥
-IsWriteAnswer spot done device full memory (Err (Full at)) = (at ≡ spot) × full
-IsWriteAnswer spot done device full memory (Err (InUse at)) = ⊥
-IsWriteAnswer spot done device full memory (Err Memory) = memory
-
 -- where a log write was done or stopped, the home holds the log with the written file clean, and did not fail
 pub record IsServed (after : LogView) (spot : Spot) (old new : HomeView) : Type 0 where
   pub held : IsHeld new after
   pub clean : IsClean new spot
   pub quiet : new.faults ≡ old.faults
 
--- a log write of the waiting records and of these behind them was done or stopped; `long` says that the file would be too long with them
-abbrev pub IsForceServed : Type 0 → LogView → LogView → List Record → HomeView → HomeView → Result (List Mark) LogFault → Type 0
-IsForceServed long log after more old new result =
-    ((items : List (ℕ × Record)) → IsLive log items → IsForced log items (log.waiting ++ more) after result) × IsServed after log.current.spot old new × (long → ⊥)
+-- What a log write on the file of this spot answers. It was done, or stopped at the armed device call, as `did` says of the answer; or the device
+-- failed; or the file would be too long, as `long` says, which is so of no other answer but want of memory; or there was no memory, and the file is as
+-- `kept` says.
+abbrev pub IsWriteAnswer : {A : Type 0} → Spot → (did : Result A LogFault → Type 0) → (long kept : Type 0) → LogView → HomeView → HomeView → Result A LogFault → Type 0
+IsWriteAnswer spot did long kept after old new (Ok it) = did (Ok it) × IsServed after spot old new × (long → ⊥)
+IsWriteAnswer spot did long kept after old new (Err (Device at)) = (at ≡ spot) × HasFailed spot old new × (long → ⊥)
+IsWriteAnswer spot did long kept after old new (Err (Stopped call stable marks)) = did (Err (Stopped call stable marks)) × IsServed after spot old new × (long → ⊥)
+IsWriteAnswer spot did long kept after old new (Err (Bad at place)) = ⊥
+IsWriteAnswer spot did long kept after old new (Err (Differs at place kept_byte read)) = ⊥
+IsWriteAnswer spot did long kept after old new (Err (Full at)) = (at ≡ spot) × long × (new.faults ≡ old.faults)
+IsWriteAnswer spot did long kept after old new (Err (InUse at)) = ⊥
+IsWriteAnswer spot did long kept after old new (Err Memory) = kept × (new.faults ≡ old.faults)
+
+-- the log after a log write of the waiting records and of these behind them
+abbrev pub IsForcedWith : LogView → LogView → List Record → Result (List Mark) LogFault → Type 0
+IsForcedWith log after more result = (items : List (ℕ × Record)) → IsLive log items → IsForced log items (log.waiting ++ more) after result
 
 -- the file has the old records alone
 abbrev pub HasOldAlone : LogView → HomeView → Type 0
 HasOldAlone log home = (items : List (ℕ × Record)) → IsLive log items → (f : File) → home.file log.current.spot ≡ Some f → EndsAt f.bytes log.gate items
 
--- what such a log write answers
+-- what such a log write answers; `long` says that the file would be too long with the records
 abbrev pub IsForceAnswer : Type 0 → LogView → LogView → List Record → HomeView → HomeView → Result (List Mark) LogFault → Type 0
-IsForceAnswer long log after more old new result =
-    IsWriteAnswer log.current.spot (IsForceServed long log after more old new) (HasFailed log.current.spot old new × (long → ⊥)) (long × (new.faults ≡ old.faults))
-    (HasOldAlone log new × (new.faults ≡ old.faults)) result
+IsForceAnswer long log after more old new result = IsWriteAnswer log.current.spot (IsForcedWith log after more) long (HasOldAlone log new) after old new result
 
 -- What the log write of the waiting records and of these behind them leaves. `long` says that the file would be too long with them; then it is
 -- refused, or there is no memory.
@@ -98,14 +96,9 @@ pub record HasForced (long : Type 0) (log after : LogView) (more : List Record) 
   pub short : BothWithin new.file log
   pub rest : RestStays log.current.spot old new
 
--- a closing of the spare file was done or stopped
-abbrev pub IsCloseServed : LogView → LogView → HomeView → HomeView → Result (Unit {0}) LogFault → Type 0
-IsCloseServed log after old new result = IsClosing log after result × IsServed after log.spare.spot old new
-
--- what it answers: it is never too long
+-- what the closing of the spare file answers: it is never too long
 abbrev pub IsCloseAnswer : LogView → LogView → HomeView → HomeView → Result (Unit {0}) LogFault → Type 0
-IsCloseAnswer log after old new result =
-    IsWriteAnswer log.spare.spot (IsCloseServed log after old new) (HasFailed log.spare.spot old new) ⊥ (new.faults ≡ old.faults) result
+IsCloseAnswer log after old new result = IsWriteAnswer log.spare.spot (IsClosing log after) ⊥ (Unit {0}) after old new result
 
 -- what the closing of the spare file leaves
 pub record HasClosed (log after : LogView) (old new : HomeView) (result : Result (Unit {0}) LogFault) : Type 0 where
@@ -115,19 +108,13 @@ pub record HasClosed (log after : LogView) (old new : HomeView) (result : Result
   pub short : BothWithin new.file log
   pub rest : RestStays log.spare.spot old new
 
--- a filling of the spare file with these records was done or stopped
-abbrev pub IsFillServed : LogView → LogView → List Record → HomeView → HomeView → Result Mark LogFault → Type 0
-IsFillServed log after more old new result = IsFilling log more after result × IsServed after log.spare.spot old new × (IsOverfull log more → ⊥)
-
 -- the spare file has no batch
 abbrev pub HasNoBatch : LogView → HomeView → Type 0
 HasNoBatch log home = (f : File) → home.file log.spare.spot ≡ Some f → EndsAt f.bytes 0 []
 
--- what such a filling answers
+-- what the filling of the spare file with these records answers
 abbrev pub IsFillAnswer : LogView → LogView → List Record → HomeView → HomeView → Result Mark LogFault → Type 0
-IsFillAnswer log after more old new result =
-    IsWriteAnswer log.spare.spot (IsFillServed log after more old new) (HasFailed log.spare.spot old new × (IsOverfull log more → ⊥)) (IsOverfull log more × (new.faults ≡ old.faults))
-    (HasNoBatch log new × (new.faults ≡ old.faults)) result
+IsFillAnswer log after more old new result = IsWriteAnswer log.spare.spot (IsFilling log more after) (IsOverfull log more) (HasNoBatch log new) after old new result
 
 -- What the filling of the spare file with these records leaves. One that is overfull is refused, or there is no memory.
 pub record HasFilled (log after : LogView) (more : List Record) (old new : HomeView) (result : Result Mark LogFault) : Type 0 where

@@ -7,7 +7,14 @@ use Rattle.co_base.specs.Limits.{most_log_bytes}
 use Rattle.co_log.specs.Attaching.{IsWithin}
 use Rattle.co_log.specs.LogView.{LogView, spot_of}
 
--- all files but the two of this node are as they were
+-- both files of this node are as they were
+pub record NodeStays (node : Node) (old new : HomeView) : Type 0 where
+  pub file_a : new.file (spot_of node 0) ≡ old.file (spot_of node 0)
+  pub file_b : new.file (spot_of node 1) ≡ old.file (spot_of node 1)
+  pub reach_a : new.reach (spot_of node 0) ≡ old.reach (spot_of node 0)
+  pub reach_b : new.reach (spot_of node 1) ≡ old.reach (spot_of node 1)
+
+-- all files but those two are
 pub record OtherFilesStay (node : Node) (old new : HomeView) : Type 0 where
   pub files : (s : Spot) → s ≢ spot_of node 0 → s ≢ spot_of node 1 → new.file s ≡ old.file s
   pub reaches : (s : Spot) → s ≢ spot_of node 0 → s ≢ spot_of node 1 → new.reach s ≡ old.reach s

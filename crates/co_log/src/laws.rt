@@ -122,13 +122,16 @@ pub fn starts_find_the_current_file()
         IsAttached node a b log → log ≡ built node version b a current.gate generation }
 {}
 
-/// A file is a log of its node, with one gate and one generation, or bad at one place, and not both. Over the two
-/// files of a node a log is attached, or one of them is bad at one place, and not both. At most one of the two is
-/// current, with one version and one list of records; a file without a batch is not.
+/// A file is a log of its node, with one gate and one generation, or bad at one place, and not both.
 pub fn files_are_judged_once()
     ensures log { (node : Node) (bytes : List ℕ) (this that : ℕ) (g h : Option ℕ) → IsLogFile node bytes this g → IsLogFile node bytes that h → (this ≡ that) × (g ≡ h) }
     ensures place { (node : Node) (bytes : List ℕ) (this that : ℕ) → IsBadAt node bytes this → IsBadAt node bytes that → this ≡ that }
     ensures either { (node : Node) (bytes : List ℕ) (gate at : ℕ) (g : Option ℕ) → IsLogFile node bytes gate g → IsBadAt node bytes at → ⊥ }
+{}
+
+/// Over the two files of a node a log is attached, or one of them is bad at one place, and not both. At most one of the two is
+/// current, with one version and one list of records; a file without a batch is not.
+pub fn nodes_are_judged_once()
     ensures pair { (node : Node) (a b : DiskView) (this that : LogFault) → IsBadPair node a b this → IsBadPair node a b that → this ≡ that }
     ensures attached { (node : Node) (a b : DiskView) (log : LogView) (fault : LogFault) → IsAttached node a b log → IsBadPair node a b fault → ⊥ }
     ensures records { (node : Node) (v w g h : ℕ) (a b : List ℕ) (items more : List (ℕ × Record)) → IsCurrentOf node v g a b items → IsCurrentOf node w h a b more → (v ≡ w) × (items ≡ more) }

@@ -1,10 +1,8 @@
 //! The log of a node.
-ghost use Rattle.std.specs.Prelude.{◌≡◌, ◌≤◌, ◌<◌, ◌+◌, ◌++◌, ◌∷◌, ◌==◌, [], ℕ, List, length, OnOk, OnErr, IfOk, IfErr, IsErrOf, Some, None, true, false, ◌⊎◌};
+ghost use Rattle.std.specs.Prelude.{◌≡◌, ◌≤◌, ◌<◌, ◌++◌, ◌∷◌, ◌==◌, [], ℕ, List, length, OnOk, OnErr, Some, None};
 ghost use Rattle.std.specs.List.{AllByRecursion};
-ghost use Rattle.co_outside.specs.Home.{File};
 ghost use Rattle.co_disk.specs.DiskModel.{read_of};
 ghost use Rattle.co_record.specs.declared.record.Record.{Record};
-ghost use Rattle.co_record.specs.Format.{newest};
 ghost use Rattle.co_record.specs.Spelling.{IsWritable};
 ghost use Rattle.co_record.specs.Stored.{HasRecords, HasLeft};
 
@@ -49,15 +47,10 @@ impl Model for Log {
 }
 
 impl Log {
-    ghost use Rattle.co_outside.specs.Home.{IsClean, RestStays, HasFailed};
     ghost use Rattle.co_log.specs.Appending.{IsTooLong};
     ghost use Rattle.co_log.specs.Calls.{MayForce, HasForced};
     ghost use Rattle.co_frame.specs.Gate.{begins_closed};
-    ghost use Rattle.co_log.specs.Forcing.{IsForced, IsDone, IsOfForce};
-    ghost use Rattle.co_log.specs.LogFile.{EndsAt, OldOrBoth};
-    ghost use Rattle.co_log.specs.LogView.{IsLive, IsHeld, IsForcible, IsShort, MayWait, lengths_of};
-    ghost use Rattle.co_log.specs.Current.{IsOrdered, IsCurrentForced};
-    ghost use Rattle.co_log.specs.Others.{BothWithin};
+    ghost use Rattle.co_log.specs.LogView.{IsForcible, IsShort, MayWait, lengths_of};
 
     /// The lengths of both files in bytes, that of part `a` first. Each is at most 268,435,456.
     pub fn lengths(&self) -> (u32, u32)
@@ -144,31 +137,17 @@ impl Log {
         lent: &[LentPrepare<'_>],
         back: &[Record],
     ) -> Result<Marks, LogFault>
-        requires held { IsHeld (H.seen home.old) self.old }
-        requires newest { self.old.version ≡ newest }
-        requires live { (items : List (ℕ × Record)) × IsLive self.old items }
+        requires ready { MayForce (H.seen home.old) self.old }
         requires some { 0 < length (lent.now ++ back.now) }
         requires lent { AllByRecursion IsWritable lent.now }
         requires back { AllByRecursion IsWritable back.now }
-        ensures forced { (items : List (ℕ × Record)) → IsLive self.old items → IsForced self.old items (self.old.waiting ++ (lent.now ++ back.now)) self.new result }
-        ensures held { IsDone result → IsHeld (H.seen home.new) self.new }
-        ensures clean { IsDone result → IsClean (H.seen home.new) self.old.current.spot }
-        ensures full { IsErrOf result (LogFault.Full self.old.current.spot) → IsTooLong self.old.gate (self.old.waiting ++ (lent.now ++ back.now)) }
-        ensures too_long { IsTooLong self.old.gate (self.old.waiting ++ (lent.now ++ back.now)) → IsErrOf result (LogFault.Full self.old.current.spot) ⊎ IsErrOf result LogFault.Memory }
+        ensures called { HasForced (IsTooLong self.old.gate (self.old.waiting ++ (lent.now ++ back.now))) self.old self.new (lent.now ++ back.now) (H.seen home.old) (H.seen home.new) result }
         ensures untouched { IsTooLong self.old.gate (self.old.waiting ++ (lent.now ++ back.now)) → (self.new ≡ self.old) × (home.new ≡ home.old) }
-        ensures told { (items : List (ℕ × Record)) → IsLive self.old items → (f : File) → (H.seen home.new).file self.old.current.spot ≡ Some f → IsDone result ⊎ OldOrBoth f.bytes self.old.gate items (self.old.waiting ++ (lent.now ++ back.now)) }
-        ensures memory { (items : List (ℕ × Record)) → IsLive self.old items → IsErrOf result LogFault.Memory → (f : File) → (H.seen home.new).file self.old.current.spot ≡ Some f → EndsAt f.bytes self.old.gate items }
-        ensures current { (items : List (ℕ × Record)) → IsOrdered self.old items → (c s : File) → (H.seen home.new).file self.old.current.spot ≡ Some c → (H.seen home.new).file self.old.spare.spot ≡ Some s → IsCurrentForced self.old items (self.old.waiting ++ (lent.now ++ back.now)) c.bytes s.bytes result }
-        ensures short { BothWithin (H.seen home.new).file self.old }
-        ensures faults { IfErr result (IsOfForce self.old.current.spot) }
-        ensures rest { RestStays self.old.current.spot (H.seen home.old) (H.seen home.new) }
-        ensures device { IsErrOf result (LogFault.Device self.old.current.spot) → HasFailed self.old.current.spot (H.seen home.old) (H.seen home.new) }
-        ensures quiet { (IsErrOf result (LogFault.Device self.old.current.spot) → ⊥) → (H.seen home.new).faults ≡ (H.seen home.old).faults }
     {
         // What is read of either file is within its bounds, also where nothing is written.
         let _ = self.lengths();
         let batch = self.spell_all(lent, back)?;
-        self.lay_batch(home, batch)
+        self.force_batch(home, batch)
     }
 
     /// Appends one batch in one log write: the waiting records in order, and then this one, which is a prepare, a

@@ -37,14 +37,14 @@ use Rattle.co_state.specs.Table.{holds, look}
 use Rattle.co_state.specs.declared.engine_state.EngineState.{EngineState}
 use Rattle.co_member.specs.Plans.{changed, carried, carried_out, plan_of}
 use Rattle.co_member.specs.Standing.{is_up, RepresentsMember, RepresentsRunning, HasDone, HasEnded, IsSame}
-use Rattle.co_member.specs.Writing.{HasWrittenFor}
+use Rattle.co_node.specs.Writing.{HasWrittenFor}
 use Rattle.co_member.specs.declared.member.Member.{Member}
 use Rattle.co_member.specs.declared.plan.Change.{Change}
 use Rattle.co_member.specs.declared.plan.Change.TheVariants.{Stays, Casts, Drops, Installs, CastsAndInstalls}
 use Rattle.co_member.specs.declared.plan.Course.TheVariants.{GrantsLocal}
 use Rattle.co_member.specs.declared.plan.Plan.{Plan}
-use Rattle.co_member.specs.declared.plan.Writes.{Writes}
-use Rattle.co_member.specs.declared.plan.Writes.TheVariants.{Nothing, Keeps, Forces, ForcesBoth}
+use Rattle.co_node.specs.declared.writing.Writes.{Writes}
+use Rattle.co_node.specs.declared.writing.Writes.TheVariants.{Nothing, Keeps, Forces, ForcesBoth}
 use Rattle.co_member.specs.declared.running.Running.{Running}
 use Rattle.co_member.specs.declared.step.MemberStep.{MemberStep}
 use Rattle.co_member.proofs.Changing.{cast_sets, cast_undecided, counted_small}

@@ -2,7 +2,6 @@ pub mod Steps
 pub mod Standings
 pub mod Changing
 pub mod Carrying
-pub mod Directories
 pub mod Quiet
 pub mod Writable
 pub mod Least

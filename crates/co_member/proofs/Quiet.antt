@@ -6,7 +6,7 @@ use Rattle.co_plain.specs.declared.standing.Standing.TheVariants.{IsActive, IsVo
 use Rattle.co_member.specs.Plans.{timer_plan, ask_plan, local_abort_plan}
 use Rattle.co_member.specs.Standing.{Suits}
 use Rattle.co_member.specs.declared.plan.Change.TheVariants.{Stays}
-use Rattle.co_member.specs.declared.plan.Writes.TheVariants.{Nothing}
+use Rattle.co_node.specs.declared.writing.Writes.TheVariants.{Nothing}
 
 pub timer_quiet : (s : Standing) → (timer_plan s).writes ≡ Nothing
 timer_quiet IsActive = refl

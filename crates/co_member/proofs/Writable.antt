@@ -26,9 +26,11 @@ use Rattle.co_plain.specs.declared.member_state.MemberState.{MemberState}
 use Rattle.co_plain.specs.declared.standing.Standing.{Standing}
 use Rattle.co_plain.specs.declared.standing.Standing.TheVariants.{IsActive, IsVoted, IsInstalled, IsAbsent}
 use Rattle.co_member.specs.Conditions.{MayCast, MayTake, MayVote, MayCommit, IsAboutSome, IsCastable, IsCastableFor}
-use Rattle.co_member.specs.Plans.{plan_of, says, sends, vote_plan, ballot_plan, prepare_plan, asked_plan, again_plan, commit_plan, abort_plan, deliver_plan, marked_by, marked, txn_of, local_vote_plan, local_commit_plan}
+use Rattle.co_member.specs.Plans.{plan_of, says, sends, vote_plan, ballot_plan, prepare_plan, asked_plan, again_plan, commit_plan, abort_plan, deliver_plan, marked_by, marked, txn_of, local_vote_plan, local_commit_plan, IsSingle, IsSingleIn}
 use Rattle.co_member.specs.Standing.{Suits}
-use Rattle.co_member.specs.Writing.{MayWrite, IsSingle, IsSingleIn}
+use Rattle.co_node.specs.Writing.{MayWrite, MayWriteOne}
+use Rattle.co_node.specs.declared.writing.Writes.{Writes}
+use Rattle.co_node.specs.declared.writing.Writes.TheVariants.{Nothing, Keeps, Forces, ForcesBoth}
 use Rattle.co_member.specs.declared.plan.Course.{Course}
 use Rattle.co_member.specs.declared.plan.Course.TheVariants.{Carries, Grants, GrantsLocal}
 use Rattle.co_member.specs.declared.plan.Plan.{Plan}
@@ -86,6 +88,12 @@ deliver_may m x (message.Ask t member coord) may = tt
 deliver_may m x (message.Ack t member coord) may = tt
 
 -- ---- plans that give the log at most one record
+
+pub may_one : (w : Writes) → MayWrite w → IsSingle w → MayWriteOne w
+may_one Nothing may single = tt
+may_one (Keeps r) may single = may
+may_one (Forces r) may single = may
+may_one (ForcesBoth first r) may single = single
 
 vote_single : (m t coord count kept : ℕ) (sets : Sets) (v : Verdict) → IsSingle (vote_plan m t coord count kept sets v).writes
 vote_single m t coord count kept sets LostOperations = tt

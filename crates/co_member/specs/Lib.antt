@@ -1,5 +1,4 @@
 pub mod Plans
-pub mod Writing
 pub mod Standing
 pub mod Conditions
 pub mod Checkpoint

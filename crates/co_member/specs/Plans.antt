@@ -28,8 +28,8 @@ use Rattle.co_member.specs.declared.plan.Change.TheVariants.{Stays, Casts, Drops
 use Rattle.co_member.specs.declared.plan.Course.{Course}
 use Rattle.co_member.specs.declared.plan.Course.TheVariants.{Carries, Grants, GrantsLocal}
 use Rattle.co_member.specs.declared.plan.Plan.{Plan}
-use Rattle.co_member.specs.declared.plan.Writes.{Writes}
-use Rattle.co_member.specs.declared.plan.Writes.TheVariants.{Nothing, Keeps, Forces, ForcesBoth}
+use Rattle.co_node.specs.declared.writing.Writes.{Writes}
+use Rattle.co_node.specs.declared.writing.Writes.TheVariants.{Nothing, Keeps, Forces, ForcesBoth}
 
 abbrev pub says : Answer → Plan
 says a = record { writes = Nothing; change = Stays; answer = a; sent = None }
@@ -175,6 +175,19 @@ abbrev pub plan_of : Course → ℕ → MemberState → ℕ → Plan
 plan_of (Carries plan) m x t = plan
 plan_of (Grants coord count) m x t = vote_plan m t coord count (kept_count x.engine t) (sets_of (operations_of x.engine t)) VoteYes
 plan_of (GrantsLocal count) m x t = local_vote_plan t count (kept_count x.engine t) (sets_of (operations_of x.engine t)) VoteYes
+
+-- at most one record is given to the log
+abbrev pub IsSingle : Writes → Type 0
+IsSingle Nothing = Unit {0}
+IsSingle (Keeps r) = Unit {0}
+IsSingle (Forces r) = Unit {0}
+IsSingle (ForcesBoth first r) = ⊥
+
+-- so it is by a plan that a course carries out; the two records of a local commit are granted
+abbrev pub IsSingleIn : Course → Type 0
+IsSingleIn (Carries plan) = IsSingle plan.writes
+IsSingleIn (Grants coord count) = Unit {0}
+IsSingleIn (GrantsLocal count) = Unit {0}
 
 -- ---- carrying a plan out
 

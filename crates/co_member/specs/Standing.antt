@@ -1,12 +1,14 @@
 -- For which plain member a member stands, and what a call of it does.
-use Rattle.std.specs.Prelude.{ℕ, Bool, ◌≡◌, Option, None, Some, is_some, Result, Ok, Err}
+use Rattle.std.specs.Prelude.{ℕ, Bool, ◌≡◌, List, Option, None, Some, is_some, Result}
 use Rattle.co_base.specs.declared.head.Kind.{Kind}
+use Rattle.co_base.specs.declared.mark.Mark.{Mark}
 use Rattle.co_base.specs.declared.node.Node.TheVariants as node
 use Rattle.co_log.specs.declared.fault.NodeFault.{NodeFault}
 use Rattle.co_message.specs.declared.answer.Answer.{Answer}
 use Rattle.co_message.specs.declared.answer.Answer.TheVariants as answer
 use Rattle.co_message.specs.declared.message.Message.{Message}
 use Rattle.co_node.specs.NodeLog.{RepresentsLog}
+use Rattle.co_node.specs.Writing.{written_with}
 use Rattle.co_node.specs.declared.written.Written.{Written}
 use Rattle.co_node.specs.declared.written.Written.TheVariants.{Done, Stopped}
 use Rattle.co_plain.specs.MemberStep.{member_down_with, standing_of}
@@ -53,10 +55,13 @@ pub record IsSame {E : Type 0} (old new : Member E) : Type 0 where
   pub kind : new.kind ≡ old.kind
   pub coords : new.coords ≡ old.coords
 
+-- the marks of a step
+abbrev pub marks_in : MemberStep → List Mark
+marks_in d = d.marks
+
 -- what a call of a member says of its log write
 abbrev pub written_by : Result MemberStep NodeFault → Result Written NodeFault
-written_by (Ok d) = Ok (Done d.marks)
-written_by (Err e) = Err e
+written_by out = written_with marks_in out
 
 -- what is left once a log write ended: the answer and what is sent where it was done, and a member that is down where it was stopped
 abbrev pub HasEnded : {E : Type 0} → Answer → Option Message → Written → Member E → MemberStep → Member E → Type 0

@@ -1,8 +1,7 @@
 //! Checkpoints, in two steps.
-ghost use Rattle.std.specs.Prelude.{◌≡◌, ◌∷◌, ◌++◌, [], map, true, false, IfOk};
+ghost use Rattle.std.specs.Prelude.{◌≡◌, ◌++◌, map, true, false, IfOk};
 ghost use Rattle.std.specs.FinMap.{keys};
 ghost use Rattle.co_base.specs.declared.head.Kind.{Kind};
-ghost use Rattle.co_base.specs.declared.mark.Mark.{Mark};
 ghost use Rattle.co_log.specs.LogView.{IsHeld, IsShort};
 ghost use Rattle.co_log.specs.Others.{OtherNodesStay};
 ghost use Rattle.co_plain.specs.MemberLog.{member_checkpoint};
@@ -13,7 +12,7 @@ ghost use Rattle.co_member.specs.Standing.{is_up, RepresentsMember, RepresentsRu
 use crate::member::Member;
 use crate::running::Running;
 use crate::step::MemberStep;
-use co_base::{Mark, Txns};
+use co_base::Txns;
 use co_engine::Engine;
 use co_log::NodeFault;
 use co_message::Answer;
@@ -129,7 +128,7 @@ impl<E: Engine + Drop> Member<E> {
         let items = self.running().spare(self.alloc)?;
         match co_node::fill(self.alloc, &mut self.log, home, items.as_slice())? {
             Written::Done { marks } => Ok(MemberStep {
-                answer: Answer::Filled(generation_of(marks.as_slice())),
+                answer: Answer::Filled(co_node::filled_generation(&marks)),
                 sent: None,
                 marks,
             }),
@@ -160,16 +159,5 @@ impl<E: Engine + Drop> Member<E> {
         } else {
             self.close(home)
         }
-    }
-}
-
-/// The generation that the one mark of a filled spare names.
-fn generation_of(marks: &[Mark]) -> u32
-    requires { (mark : Mark) × (marks.now ≡ mark ∷ []) }
-    ensures { (mark : Mark) → marks.now ≡ mark ∷ [] → result ≡ mark.number }
-{
-    match marks {
-        [mark, ..] => mark.number,
-        [] => unreachable!(),
     }
 }

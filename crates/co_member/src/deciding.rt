@@ -12,7 +12,7 @@ ghost use Rattle.co_state.specs.Table.{holds};
 ghost use Rattle.co_member.specs.Conditions.{IsAboutSome, MayTake, MayVote, MayCommit};
 ghost use Rattle.co_member.specs.Plans.{again_plan, deliver_plan, local_commit_plan, marked};
 ghost use Rattle.co_member.specs.Standing.{is_up, RepresentsMember, HasDone, IsSame, written_by};
-ghost use Rattle.co_member.specs.Writing.{IsAnsweredFor};
+ghost use Rattle.co_node.specs.Writing.{IsAnsweredFor};
 
 use crate::delivery::txn_of;
 use crate::member::Member;

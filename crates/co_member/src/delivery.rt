@@ -6,11 +6,12 @@ ghost use Rattle.co_record.specs.declared.record.Record.TheVariants as log;
 ghost use Rattle.co_member.specs.Plans.{commit_plan, abort_plan, decide_plan, deliver_plan, marked, plan_of, txn_of};
 ghost use Rattle.co_member.specs.Standing.{RepresentsRunning};
 
-use crate::plan::{Change, Course, Plan, Writes, drops, says, sends};
+use crate::plan::{Change, Course, Plan, drops, says, sends};
 use crate::running::Running;
 use co_base::{Bytes, Txn};
 use co_engine::Engine;
 use co_message::{Answer, Message};
+use co_node::Writes;
 use co_plain::Standing;
 use co_record::Record;
 use std::alloc::{AllocError, Global};

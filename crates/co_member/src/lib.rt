@@ -24,10 +24,9 @@ mod restart;
 mod running;
 mod step;
 mod timers;
-mod writing;
 
 pub use laws::plans_are_steps;
 pub use member::Member;
-pub use plan::{Change, Plan, Writes};
+pub use plan::{Change, Plan};
 pub use running::Running;
 pub use step::MemberStep;

@@ -6,9 +6,8 @@ ghost use Rattle.co_state.specs.Changes.{sets_of};
 ghost use Rattle.co_state.specs.EngineState.{operations_of};
 ghost use Rattle.co_state.specs.Table.{holds};
 ghost use Rattle.co_state.specs.VotingRule.{vote_of, kept_count};
-ghost use Rattle.co_member.specs.Plans.{plan_of, local_vote_plan, local_commit_plan, local_abort_plan};
+ghost use Rattle.co_member.specs.Plans.{plan_of, local_vote_plan, local_commit_plan, local_abort_plan, IsSingleIn};
 ghost use Rattle.co_member.specs.Standing.{RepresentsRunning};
-ghost use Rattle.co_member.specs.Writing.{IsSingleIn};
 
 use crate::plan::{Course, Plan, drops, says};
 use crate::running::Running;

@@ -13,11 +13,11 @@ ghost use Rattle.co_plain.specs.declared.standing.Standing.TheVariants.{IsActive
 ghost use Rattle.co_record.specs.Spelling.{IsWritable};
 ghost use Rattle.co_state.specs.Changes.{sets_of};
 ghost use Rattle.co_state.specs.EngineState.{operations_of};
-ghost use Rattle.co_member.specs.Plans.{changed, carried_out, plan_of};
+ghost use Rattle.co_member.specs.Plans.{changed, carried_out, plan_of, IsSingleIn};
 ghost use Rattle.co_member.specs.Standing.{is_up, RepresentsMember, RepresentsRunning, HasDone, HasEnded, IsSame, Suits, written_by};
-ghost use Rattle.co_member.specs.Writing.{MayWrite, IsSingle, IsSingleIn, IsAnsweredFor};
+ghost use Rattle.co_node.specs.Writing.{MayWrite, MayWriteOne, IsAnsweredFor};
 ghost use Rattle.co_member.specs.declared.plan.Course.TheVariants.{Grants, GrantsLocal};
-ghost use Rattle.co_member.specs.declared.plan.Writes.TheVariants.{Nothing};
+ghost use Rattle.co_node.specs.declared.writing.Writes.TheVariants.{Nothing};
 ghost use Rattle.co_member.specs.declared.running.Running.{Running};
 
 use crate::delivery::commit_record;
@@ -25,12 +25,11 @@ use crate::local::LOCAL_COORD;
 use crate::plan::{Change, Course, Plan};
 use crate::running::Running;
 use crate::step::MemberStep;
-use crate::writing::write;
 use co_base::{Kind, Marks, Txn};
 use co_engine::Engine;
 use co_log::{Log, NodeFault};
 use co_message::{Answer, Message};
-use co_node::{Written, force_batch, force_prepare, spell_both};
+use co_node::{Written, force_batch, force_prepare, spell_both, write};
 use co_outside::Home;
 use std::alloc::{AllocError, Global};
 
@@ -117,8 +116,7 @@ impl<E: Engine + Drop> Member<E> {
         requires short { IsShort self.old.log.current × IsShort self.old.log.spare }
         requires held { IsHeld (H.seen home.old) self.old.log }
         requires stands { (x : MemberState) × RepresentsMember E.stands_for self.old x }
-        requires writes { MayWrite plan.writes }
-        requires single { IsSingle plan.writes }
+        requires writes { MayWriteOne plan.writes }
         ensures did { (x : MemberState) → RepresentsMember E.stands_for self.old x → Suits x t plan.change →
             IfOk result (λ d. HasDone E.stands_for (carried_out self.old.number x t plan) d self.new) }
         ensures answered { (x : MemberState) → RepresentsMember E.stands_for self.old x →

@@ -3,7 +3,7 @@ ghost use Rattle.std.specs.Prelude.{◌≡◌};
 ghost use Rattle.co_member.specs.Plans.{says, sends, drops};
 
 use co_message::{Answer, Message};
-use co_record::Record;
+use co_node::Writes;
 
 /// What becomes of a transaction.
 #[derive(Clone, Copy)]
@@ -28,20 +28,6 @@ pub enum Change {
         /// How many operations were answered here.
         count: u16,
     },
-}
-
-/// What the log is to get.
-#[derive(Drop)]
-pub enum Writes {
-    /// Nothing.
-    Nothing,
-    /// This record waits for the next log write.
-    Keeps(Record),
-    /// This record is forced, and the waiting ones in front of it.
-    Forces(Record),
-    /// These two records are forced in one log write, and the waiting ones in front of them. No plan that is carried out writes so: a local
-    /// commit is granted, from the sets of its transaction.
-    ForcesBoth(Record, Record),
 }
 
 /// What an event does.

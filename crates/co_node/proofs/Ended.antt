@@ -5,13 +5,14 @@ use Rattle.std.proofs.lemmas.List.{reverse-append, reverse-reverse}
 use Rattle.co_base.specs.declared.leaves.Leaves.{Leaves}
 use Rattle.co_base.specs.declared.mark.Mark.{Mark}
 use Rattle.co_base.specs.declared.node.Node.{Node}
+use Rattle.co_outside.specs.Home.{HomeView}
 use Rattle.co_record.specs.declared.record.Record.{Record}
 use Rattle.co_frame.specs.Gate.{batch_is_stable}
 use Rattle.co_log.specs.declared.fault.LogFault.{LogFault}
 use Rattle.co_log.specs.declared.fault.LogFault.TheVariants.{Device, Stopped, Bad, Differs, Full, InUse, Memory}
 use Rattle.co_log.specs.declared.fault.NodeFault.{NodeFault}
 use Rattle.co_base.specs.declared.leaves.Stop.{Stop}
-use Rattle.co_log.specs.Forcing.{IsForced}
+use Rattle.co_log.specs.Calls.{HasForced}
 use Rattle.co_log.specs.LogView.{LogView}
 use Rattle.co_log.specs.Marks.{marks_of as told_of}
 use Rattle.co_plain.specs.declared.log_state.LogState.{LogState}
@@ -49,19 +50,23 @@ told_marks owner log l forced s =
     reverse-append (reverse forced) l.waiting ∙ ap (λ (xs : List Record). xs ++ reverse (reverse forced)) waiting ∙ ap (λ (xs : List Record). log.waiting ++ xs) (reverse-reverse forced) in
     ap (λ (n : Node). told_of n (log.waiting ++ forced)) s.owned ∙ ap (told_of owner) (sym back)
 
-pub force_done : (owner : Node) (log after : LogView) (l : LogState) (forced : List Record) (marks : List Mark) (s : RepresentsLog owner log l) → IsForced log s.items (log.waiting ++ forced) after (Ok marks)
+pub force_done : (owner : Node) (log after : LogView) (l : LogState) (forced : List Record) (long : Type 0) (old new : HomeView) (marks : List Mark) → RepresentsLog owner log l → HasForced long log after forced old new (Ok marks)
     → HasWritten (forcing owner l (reverse forced)) owner l after (Ok (written.Done marks))
-force_done owner log after l forced marks s f = (unarmed owner log l 4 s f.0, f.1 ∙ told_marks owner log l forced s, written_stands true owner log after l forced s f.2)
+force_done owner log after l forced long old new marks s did =
+    let f = did.answered.0 s.items s.ordered.live in
+    (unarmed owner log l 4 s f.0, f.1 ∙ told_marks owner log l forced s, written_stands true owner log after l forced s f.2)
 
-pub force_ended : (owner : Node) (log after : LogView) (l : LogState) (forced : List Record) (fault : LogFault) (out : Result Written NodeFault) (s : RepresentsLog owner log l) → IsForced log s.items (log.waiting ++ forced) after (Err fault) → IsPassedOn fault out → HasWritten (forcing owner l (reverse forced)) owner l after out
-force_ended owner log after l forced (Stopped call stable marks) out s f is =
+pub force_ended : (owner : Node) (log after : LogView) (l : LogState) (forced : List Record) (long : Type 0) (old new : HomeView) (fault : LogFault) (out : Result Written NodeFault) → RepresentsLog owner log l → HasForced long log after forced old new (Err fault)
+    → IsPassedOn fault out → HasWritten (forcing owner l (reverse forced)) owner l after out
+force_ended owner log after l forced long old new (Stopped call stable marks) out s did is =
+    let f = did.answered.0 s.items s.ordered.live in
     let leaves = f.0 in
     let told = ap (λ (b : Bool). if b then told_of log.node (log.waiting ++ forced) else []) f.2 ∙ ap (λ (ms : List Mark). if batch_is_stable call leaves then ms else []) (told_marks owner log l forced s) in
     let stands = subst (λ (b : Bool). RepresentsLog owner after (crashed_log (if b then with_batch l (reverse forced) else l))) f.2 (written_stands stable owner log after l forced s f.4) in
     subst (HasWritten (forcing owner l (reverse forced)) owner l after) (sym is) (leaves, armed_at owner log l 4 call leaves s f.1 (within_four owner log l call leaves s f.1), f.3 ∙ told, stands)
-force_ended owner log after l forced (Device spot) out s f is = subst (HasWritten (forcing owner l (reverse forced)) owner l after) (sym is) tt
-force_ended owner log after l forced (Full spot) out s f is = subst (HasWritten (forcing owner l (reverse forced)) owner l after) (sym is) tt
-force_ended owner log after l forced (Differs spot at kept read) out s f is = subst (HasWritten (forcing owner l (reverse forced)) owner l after) (sym is) tt
-force_ended owner log after l forced Memory out s f is = subst (HasWritten (forcing owner l (reverse forced)) owner l after) (sym is) tt
-force_ended owner log after l forced (Bad spot at) out s f is = absurd is
-force_ended owner log after l forced (InUse spot) out s f is = absurd is
+force_ended owner log after l forced long old new (Device spot) out s did is = subst (HasWritten (forcing owner l (reverse forced)) owner l after) (sym is) tt
+force_ended owner log after l forced long old new (Full spot) out s did is = subst (HasWritten (forcing owner l (reverse forced)) owner l after) (sym is) tt
+force_ended owner log after l forced long old new (Differs spot at kept read) out s did is = subst (HasWritten (forcing owner l (reverse forced)) owner l after) (sym is) tt
+force_ended owner log after l forced long old new Memory out s did is = subst (HasWritten (forcing owner l (reverse forced)) owner l after) (sym is) tt
+force_ended owner log after l forced long old new (Bad spot at) out s did is = absurd is
+force_ended owner log after l forced long old new (InUse spot) out s did is = absurd is

@@ -22,25 +22,20 @@ use Rattle.co_node.specs.declared.written.Written.{Written}
 use Rattle.co_node.proofs.Homes.{Wrote, fault_answered, forced_left, forced_wants, old_records, told_of}
 use Rattle.co_node.proofs.Standing.{next_newest}
 
--- `long` is what the write itself says of its length; it is so exactly where the file would be too long
-pub forced_answered : (owner : Node) (log after : LogView) (l : LogState) (more : List Record) (long : Type 0) (old new : HomeView) (fault : LogFault) (out : Result Written NodeFault) → RepresentsLog owner log l → IsHeld old log
-    → (long → IsTooLong log.gate (log.waiting ++ more)) → (IsTooLong log.gate (log.waiting ++ more) → long × IsOverlong (with_batch l (reverse more)).stable × (new ≡ old))
-    → HasForced long log after more old new (Err fault) → IsPassedOn fault out
+pub forced_answered : (owner : Node) (log after : LogView) (l : LogState) (more : List Record) (old new : HomeView) (fault : LogFault) (out : Result Written NodeFault) → RepresentsLog owner log l → IsHeld old log
+    → (IsTooLong log.gate (log.waiting ++ more) → IsOverlong (with_batch l (reverse more)).stable × (new ≡ old))
+    → HasForced (IsTooLong log.gate (log.waiting ++ more)) log after more old new (Err fault) → IsPassedOn fault out
     → IsAnswered owner log.current.spot (IsTooLong log.gate (log.waiting ++ more)) l.stable (with_batch l (reverse more)).stable after old new out
-forced_answered owner log after l more long old new fault out s held so back did passed =
+forced_answered owner log after l more old new fault out s held refused did passed =
     let all = log.waiting ++ more in
-    let parts = force_parts log after old new long more (Err fault) did.answered in
     let both = next_newest owner log l more s in
     let wrote : Wrote {T = List Mark} log after log.current.spot (IsTooLong log.gate all) l.stable (with_batch l (reverse more)).stable old new (Err fault) =
     record {
       spots = held.spots;
       its = inl refl;
-      held = parts.held;
-      clean = parts.clean;
-      full = λ is. so (parts.full is);
-      overlong = λ is. (back is).1;
-      too_long = λ is. parts.refused (back is).0;
-      untouched = λ is. (back is).2;
+      parts = force_parts log after old new (IsTooLong log.gate all) more (Err fault) did.answered;
+      overlong = λ is. (refused is).0;
+      untouched = λ is. (refused is).1;
       broken = λ failed told.
           let files = told_of new.file log held.spots told in
           elim (forced_left log s.items all files.current.bytes files.spare.bytes fault log.current.spot failed (did.current s.items s.ordered files.current files.spare files.is_current files.is_spare)) [
@@ -53,8 +48,6 @@ forced_answered owner log after l more long old new fault out s held so back did
           (s.items, old_records new.file log log.version log.generation s.items held.spots did.short files kept, inl (sym s.stable));
       short = did.short;
       rest = did.rest;
-      device = parts.device;
-      quiet = parts.quiet;
     } in
     subst (λ (n : Node). IsAnswered n log.current.spot (IsTooLong log.gate all) l.stable (with_batch l (reverse more)).stable after old new out) s.owned
-    (fault_answered log after log.current.spot (IsTooLong log.gate all) l.stable (with_batch l (reverse more)).stable old new (List Mark) fault out parts.faults wrote passed)
+    (fault_answered log after log.current.spot (IsTooLong log.gate all) l.stable (with_batch l (reverse more)).stable old new (List Mark) fault out wrote passed)

@@ -4,14 +4,14 @@ use Rattle.std.specs.Prelude.{Option, Some, Result, Ok, Err, IsErr, IsErrOf}
 use Rattle.std.specs.Result.{IsErrAnd}
 use Rattle.co_base.specs.declared.node.Node.{Node}
 use Rattle.co_outside.specs.declared.spot.Spot.{Spot}
-use Rattle.co_outside.specs.Home.{File, IsClean, RestStays, HasFailed, HomeView}
+use Rattle.co_outside.specs.Home.{File, IsClean, RestStays, HomeView}
 use Rattle.co_base.specs.Limits.{most_log_bytes}
 use Rattle.co_record.specs.declared.record.Record.{Record}
 use Rattle.co_log.specs.Attaching.{IsWithin}
 use Rattle.co_log.specs.Current.{IsCurrentOf, IsOldCurrent, IsNewCurrent, IsCurrentForced, IsCurrentAfter}
 use Rattle.co_log.specs.LogFile.{next_items}
 use Rattle.co_base.specs.declared.mark.Mark.{Mark}
-use Rattle.co_log.specs.Forcing.{IsDone, IsOfForce}
+use Rattle.co_log.specs.Forcing.{IsDone}
 use Rattle.co_log.specs.LogView.{LogView, HasSpots, IsHeld, spot_of}
 use Rattle.co_log.specs.NodeFiles.{Items, HasRecordsIn}
 use Rattle.co_log.specs.Others.{BothWithin, OtherNodesStay}
@@ -19,7 +19,8 @@ use Rattle.co_log.specs.declared.fault.LogFault.{LogFault}
 use Rattle.co_log.specs.declared.fault.LogFault.TheVariants.{Device, Stopped, Bad, Differs, Full, InUse, Memory}
 use Rattle.co_log.specs.declared.fault.NodeFault.{NodeFault}
 use Rattle.co_log.specs.declared.fault.NodeFault.TheVariants as node
-use Rattle.co_log.proofs.Spots.{spots_apart, current_only, spare_only}
+use Rattle.co_log.proofs.Answered.{HasWriteParts}
+use Rattle.co_log.proofs.Spots.{at_each, at_parts, spots_apart, current_only, spare_only}
 use Rattle.co_node.specs.Answers.{AreTold, AreWithin, LeftAs, IsServed, IsAnswered}
 use Rattle.co_node.specs.Ended.{IsPassedOn}
 use Rattle.co_node.specs.Sizes.{IsOverlong}
@@ -92,16 +93,10 @@ new_records file log version generation items spots within told current =
 
 -- both files of a log, by the parts of its node
 pub both_within : (file : Spot → Option File) (log : LogView) → HasSpots log → AreWithin file log.node → BothWithin file log
-both_within file log spots within = elim spots [
-  | inl own ↦ (subst (λ (s : Spot). IsWithin most_log_bytes (file s)) (sym own.0) within.a, subst (λ (s : Spot). IsWithin most_log_bytes (file s)) (sym own.1) within.b)
-  | inr own ↦ (subst (λ (s : Spot). IsWithin most_log_bytes (file s)) (sym own.0) within.b, subst (λ (s : Spot). IsWithin most_log_bytes (file s)) (sym own.1) within.a)
-]
+both_within file log spots within = at_each (λ s. IsWithin most_log_bytes (file s)) log spots within.a within.b
 
 pub node_within : (file : Spot → Option File) (log : LogView) → HasSpots log → BothWithin file log → AreWithin file log.node
-node_within file log spots both = elim spots [
-  | inl own ↦ record { a = subst (λ (s : Spot). IsWithin most_log_bytes (file s)) own.0 both.0; b = subst (λ (s : Spot). IsWithin most_log_bytes (file s)) own.1 both.1 }
-  | inr own ↦ record { a = subst (λ (s : Spot). IsWithin most_log_bytes (file s)) own.1 both.1; b = subst (λ (s : Spot). IsWithin most_log_bytes (file s)) own.0 both.0 }
-]
+node_within file log spots both = let parts = at_parts (λ s. IsWithin most_log_bytes (file s)) log spots both.0 both.1 in record { a = parts.0; b = parts.1 }
 
 -- which records the current file has where the directory failed, or there was no memory
 pub forced_left : (log : LogView) (items : Items) (more : List Record) (c s : List ℕ) (fault : LogFault) (at : Spot) → IsErrOf {T = List Mark} (Err fault) (Device at) → IsCurrentForced log items more c s (Err fault)
@@ -126,18 +121,13 @@ still_clean old new s same was = λ f told. was f (sym same ∙ told)
 pub record Wrote {T : Type 0} (log after : LogView) (at : Spot) (long : Type 0) (this that : List Record) (old new : HomeView) (result : Result T LogFault) : Type 0 where
   pub spots : HasSpots log
   pub its : (at ≡ log.current.spot) ⊎ (at ≡ log.spare.spot)
-  pub held : IsDone result → IsHeld new after
-  pub clean : IsDone result → IsClean new at
-  pub full : IsErrOf result (Full at) → long
+  pub parts : HasWriteParts at long after old new result
   pub overlong : long → IsOverlong that
-  pub too_long : long → IsErrOf result (Full at) ⊎ IsErrOf result Memory
   pub untouched : long → new ≡ old
   pub broken : IsErrOf result (Device at) → LeftAs new.file log.node this that
   pub wanting : IsErrOf result Memory → LeftAs new.file log.node this this
   pub short : BothWithin new.file log
   pub rest : RestStays at old new
-  pub device : IsErrOf result (Device at) → HasFailed at old new
-  pub quiet : (IsErrOf result (Device at) → ⊥) → new.faults ≡ old.faults
 
 module _ (log after : LogView) (at : Spot) (long : Type 0) (this that : List Record) (old new : HomeView) where
   -- the files of the node are the one that was written and one that stays
@@ -157,37 +147,39 @@ module _ (log after : LogView) (at : Spot) (long : Type 0) (this that : List Rec
 
   served : {T : Type 0} (result : Result T LogFault) → Wrote log after at long this that old new result → IsDone result → (IsErrOf result (Device at) → ⊥) → IsServed log.node after old new
   served result w done silent = record {
-    held = w.held done;
-    clean_a = clean_kept (spot_of log.node 0) (place_a w.spots) w.spots w.its (w.clean done) w.rest;
-    clean_b = clean_kept (spot_of log.node 1) (place_b w.spots) w.spots w.its (w.clean done) w.rest;
+    held = w.parts.held done;
+    clean_a = clean_kept (spot_of log.node 0) (place_a w.spots) w.spots w.its (w.parts.clean done) w.rest;
+    clean_b = clean_kept (spot_of log.node 1) (place_b w.spots) w.spots w.its (w.parts.clean done) w.rest;
     within = node_within new.file log w.spots w.short;
-    quiet = w.quiet silent;
+    quiet = w.parts.quiet silent;
   }
 
-  pub fault_answered : (T : Type 0) (e : LogFault) (out : Result Written NodeFault) → IsOfForce at e → Wrote {T = T} log after at long this that old new (Err e) → IsPassedOn e out → IsAnswered log.node at long this that after old new out
-  fault_answered T (Stopped call stable marks) out of w is =
-      subst (IsAnswered log.node at long this that after old new) (sym is) (λ l. none (w.too_long l), served (Err (Stopped call stable marks)) w tt (λ e. absurd cc))
+  pub fault_answered : (T : Type 0) (e : LogFault) (out : Result Written NodeFault) → Wrote {T = T} log after at long this that old new (Err e) → IsPassedOn e out → IsAnswered log.node at long this that after old new out
+  fault_answered T (Stopped call stable marks) out w is =
+      subst (IsAnswered log.node at long this that after old new) (sym is) (λ l. none (w.parts.refused l), served (Err (Stopped call stable marks)) w tt (λ e. absurd cc))
     where
       none : (IsErrOf {T = T} (Err (Stopped call stable marks)) (Full at)) ⊎ (IsErrOf {T = T} (Err (Stopped call stable marks)) Memory) → ⊥
       none (inl e) = absurd cc
       none (inr e) = absurd cc
-  fault_answered T (Device spot) out of w is =
+  fault_answered T (Device spot) out w is =
+      let of = w.parts.faults in
       let it : IsErrOf {T = T} (Err (Device spot)) (Device at) = ap (λ (s : Spot). Err (Device s)) of in
-      let failed = w.device it in
+      let failed = w.parts.device it in
       subst (IsAnswered log.node at long this that after old new) (sym is)
-      (λ l. none (w.too_long l), record { spot = of; count = failed.count; last = failed.named ∙ sym of; left = w.broken it })
+      (λ l. none (w.parts.refused l), record { spot = of; count = failed.count; last = failed.named ∙ sym of; left = w.broken it })
     where
       none : (IsErrOf {T = T} (Err (Device spot)) (Full at)) ⊎ (IsErrOf {T = T} (Err (Device spot)) Memory) → ⊥
       none (inl e) = absurd cc
       none (inr e) = absurd cc
-  fault_answered T (Full spot) out of w is =
-      let l = w.full (ap (λ (s : Spot). Err (Full s)) of) in
+  fault_answered T (Full spot) out w is =
+      let of = w.parts.faults in
+      let l = w.parts.full (ap (λ (s : Spot). Err (Full s)) of) in
       subst (IsAnswered log.node at long this that after old new) (sym is) (record { spot = of; long = l; overlong = w.overlong l; untouched = w.untouched l })
-  fault_answered T Memory out of w is =
-      subst (IsAnswered log.node at long this that after old new) (sym is) (record { left = w.wanting refl; quiet = w.quiet (λ e. absurd cc) })
-  fault_answered T (Bad spot place) out of w is = absurd of
-  fault_answered T (Differs spot place kept read) out of w is = absurd of
-  fault_answered T (InUse spot) out of w is = absurd of
+  fault_answered T Memory out w is =
+      subst (IsAnswered log.node at long this that after old new) (sym is) (record { left = w.wanting refl; quiet = w.parts.quiet (λ e. absurd cc) })
+  fault_answered T (Bad spot place) out w is = absurd w.parts.faults
+  fault_answered T (Differs spot place kept read) out w is = absurd w.parts.faults
+  fault_answered T (InUse spot) out w is = absurd w.parts.faults
 
 -- want of memory before anything was written
 pub memory_answered : (owner : Node) (at : Spot) (long : Type 0) (this that : List Record) (log : LogView) (home : HomeView) (out : Result Written NodeFault) → IsErr out × IsErrAnd out (λ e. e ≡ node.Memory) → LeftAs home.file owner this this
@@ -195,11 +187,7 @@ pub memory_answered : (owner : Node) (at : Spot) (long : Type 0) (this that : Li
 memory_answered owner at long this that log home (Ok x) is left = absurd is.1
 memory_answered owner at long this that log home (Err e) is left = subst (λ (f : NodeFault). IsAnswered owner at long this that log home home (Err f)) (sym is.1) (record { left = left; quiet = refl })
 
--- a stopped write was not too long
-pub not_stopped : {T : Type 0} (at : Spot) (fault : LogFault) (call : ℕ) (stable : Bool) (marks : List Mark) → fault ≡ Stopped call stable marks → (IsErrOf {T = T} (Err fault) (Full at)) ⊎ (IsErrOf {T = T} (Err fault) Memory) → ⊥
-not_stopped at fault call stable marks is (inl e) = absurd cc
-not_stopped at fault call stable marks is (inr e) = absurd cc
-
+-- a write that failed was not too long
 pub not_failed : {T : Type 0} (at spot : Spot) (fault : LogFault) → IsErrOf {T = T} (Err fault) (Device spot) → (IsErrOf {T = T} (Err fault) (Full at)) ⊎ (IsErrOf {T = T} (Err fault) Memory) → ⊥
 not_failed at spot fault is (inl e) = absurd cc
 not_failed at spot fault is (inr e) = absurd cc

@@ -6,3 +6,4 @@ pub mod Homes
 pub mod Opened
 pub mod Spelled
 pub mod Forced
+pub mod Directories

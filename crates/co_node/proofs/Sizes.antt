@@ -8,14 +8,12 @@ use Rattle.co_base.specs.Limits.{most_log_bytes}
 use Rattle.co_record.specs.declared.record.Record.{Record}
 use Rattle.co_record.specs.declared.record.Record.TheVariants.{Header}
 use Rattle.co_log.specs.Appending.{IsTooLong}
-use Rattle.co_log.specs.Batches.{IsBatchOf}
 use Rattle.co_log.specs.LogFile.{EndsIn}
 use Rattle.co_log.specs.LogView.{LogView}
 use Rattle.co_log.specs.Sizes.{log_bytes}
 use Rattle.co_log.specs.Spare.{IsOverfull, filling}
 use Rattle.co_log.proofs.Ordered.{filled_records}
 use Rattle.co_log.proofs.Sizes.{forced_overlong, filled_overlong}
-use Rattle.co_log.specs.declared.batch.SpelledBatch.{SpelledBatch}
 use Rattle.co_plain.specs.LogWrite.{generation_in, generation_of, with_batch}
 use Rattle.co_plain.specs.Numbers.{next_generation}
 use Rattle.co_plain.specs.declared.log_state.LogState.{LogState}
@@ -30,10 +28,6 @@ forced_is_overlong owner log l forced s some long =
     let ends = subst (λ (v : ℕ). EndsIn v log.current.state.stable log.gate s.items) s.latest s.ordered.live.ends in
     let many : 1 ≤ length (log.waiting ++ forced) = omega (arith, length-append log.waiting forced, some) in
     inl (subst (λ (rs : List Record). most_log_bytes < log_bytes rs) (next_newest owner log l forced s) (forced_overlong log.current.state.stable log.gate s.items (log.waiting ++ forced) ends many long))
-
--- a file is not too long with what was spelled out for it
-pub fits : (log : LogView) (more : List Record) (batch : SpelledBatch) → IsBatchOf log more batch → IsTooLong log.gate (log.waiting ++ more) → ⊥
-fits log more batch is long = omega (arith, is.batch.short, long)
 
 -- behind the last generation the next one stands still
 filled_last : (owner : Node) (log : LogView) (l : LogState) (records : List Record) → RepresentsLog owner log l → log.generation ≡ 4294967295 → generation_of (filled_with owner l records) ≡ 4294967295

@@ -5,3 +5,4 @@ pub mod Answers
 pub mod Ended
 pub mod Rereading
 pub mod Batches
+pub mod Writing

@@ -9,10 +9,12 @@ mod forcing;
 mod going;
 mod laws;
 mod spare;
+mod writing;
 mod written;
 
 pub use forcing::{force, force_batch, force_prepare, spell_both};
 pub use going::{arm, crash, disarm, keep_waiting, reread};
 pub use laws::{opened_logs_stand, standing_logs_are_told};
-pub use spare::{close, fill, spare_closed};
+pub use spare::{close, fill, filled_generation, spare_closed};
+pub use writing::{Writes, write};
 pub use written::Written;

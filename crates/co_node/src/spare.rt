@@ -1,10 +1,11 @@
 //! The spare file of a node: it is closed, and then filled.
-ghost use Rattle.std.specs.Prelude.{◌≡◌, ◌∷◌, [], length, reverse, true, false, IfOk};
+ghost use Rattle.std.specs.Prelude.{◌≡◌, ◌∷◌, [], ℕ, length, reverse, true, false, IfOk};
 ghost use Rattle.std.specs.List.{AllByRecursion};
 ghost use Rattle.co_base.specs.declared.node.Node.{Node};
 ghost use Rattle.co_log.specs.LogView.{IsHeld};
 ghost use Rattle.co_log.specs.Others.{OtherNodesStay};
 ghost use Rattle.co_log.specs.Spare.{IsFillable, IsOverfull};
+ghost use Rattle.co_plain.specs.LogWrite.{checkpoint_marks};
 ghost use Rattle.co_plain.specs.declared.log_state.LogState.{LogState};
 ghost use Rattle.co_node.specs.Answers.{IsAnswered};
 ghost use Rattle.co_node.specs.NodeLog.{RepresentsLog};
@@ -92,4 +93,12 @@ pub fn fill<H: Home>(
         }
         Err(fault) => stopped(fault),
     }
+}
+
+/// The generation that the one mark of a filled spare tells.
+pub fn filled_generation(marks: &Marks) -> u32
+    requires { length marks.now ≡ 1 }
+    ensures { (owner : Node) (generation : ℕ) → marks.now ≡ checkpoint_marks owner generation → result ≡ generation }
+{
+    marks.at(0).number
 }

@@ -20,7 +20,8 @@ use Rattle.co_coord.specs.declared.coord.Coord.{Coord as CoordOn}
 use Rattle.co_member.specs.declared.member.Member.{Member as MemberOn}
 use Rattle.co_opening.specs.Counted.{with_members, with_coords}
 use Rattle.co_opening.specs.Judged.{AreJudged}
-use Rattle.co_opening.specs.Kept.{NodeStays, IsOwnLog, AreOwnLogs}
+use Rattle.co_log.specs.Others.{NodeStays}
+use Rattle.co_opening.specs.Kept.{IsOwnLog, AreOwnLogs}
 use Rattle.co_opening.specs.Nodes.{IsMemberAt, IsCoordAt, IsKept, AreKept}
 use Rattle.co_opening.specs.Opened.{AreOpened}
 use Rattle.co_opening.specs.Running.{AreMembersAt, AreCoordsAt, AreOwnMembers, AreOwnCoords}

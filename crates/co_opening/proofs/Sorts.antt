@@ -7,19 +7,20 @@ use Rattle.co_base.specs.declared.node.Node.TheVariants.{Member, Coord}
 use Rattle.co_outside.specs.Home.{HomeView, File}
 use Rattle.co_outside.specs.declared.spot.Spot.{Spot}
 use Rattle.co_log.specs.LogView.{LogView}
-use Rattle.co_log.specs.Others.{OtherFilesStay}
+use Rattle.co_log.specs.Others.{NodeStays, OtherFilesStay}
 use Rattle.co_durable.specs.declared.fault.WorldFault.{WorldFault}
 use Rattle.co_durable.specs.Pairs.{EachPair}
 use Rattle.co_durable.proofs.Pairs.{pairs_push}
 use Rattle.co_durable.proofs.Readings.{same_files}
 use Rattle.co_opening.specs.Attached.{IsAttachedTo, IsUnattached, IsFirstUnattached}
-use Rattle.co_opening.specs.Kept.{NodeStays, IsOwnLog, AreOwnLogs}
+use Rattle.co_opening.specs.Kept.{IsOwnLog, AreOwnLogs}
 use Rattle.co_opening.specs.Sorts.{node_in, most_in, nodes_in}
 use Rattle.co_opening.specs.declared.sort.Sort.{Sort}
 use Rattle.co_opening.specs.declared.sort.Sort.TheVariants.{Members, Coords}
 use Rattle.co_opening.proofs.From.{all_from_next}
 use Rattle.co_opening.proofs.Judgings.{first_unattached}
-use Rattle.co_opening.proofs.Stays.{stays_elsewhere, stays_on, own_all_stay}
+use Rattle.co_log.proofs.Spots.{stays_elsewhere}
+use Rattle.co_opening.proofs.Stays.{stays_on, own_all_stay}
 
 pub next_of : (place : ℕ) → place + 1 ≡ suc place
 next_of place = omega arith

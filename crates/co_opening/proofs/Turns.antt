@@ -7,14 +7,15 @@ use Rattle.co_base.specs.declared.node.Node.{Node}
 use Rattle.co_outside.specs.Home.{HomeView, File}
 use Rattle.co_outside.specs.declared.spot.Spot.{Spot}
 use Rattle.co_log.specs.LogView.{LogView}
-use Rattle.co_log.specs.Others.{OtherFilesStay}
+use Rattle.co_log.specs.Others.{NodeStays, OtherFilesStay}
 use Rattle.co_opening.specs.From.{AllFrom, BothFrom}
-use Rattle.co_opening.specs.Kept.{NodeStays, IsOwnLog, AreOwnLogs}
+use Rattle.co_opening.specs.Kept.{IsOwnLog, AreOwnLogs}
 use Rattle.co_opening.specs.Sorts.{node_in, most_in}
 use Rattle.co_opening.specs.declared.sort.Sort.{Sort}
 use Rattle.co_opening.proofs.From.{all_from_map, all_from_next, both_next}
 use Rattle.co_opening.proofs.Sorts.{next_of, number_valid, nodes_apart}
-use Rattle.co_opening.proofs.Stays.{stays_elsewhere, stays_on, own_stays, own_all_stay}
+use Rattle.co_log.proofs.Spots.{stays_elsewhere}
+use Rattle.co_opening.proofs.Stays.{stays_on, own_stays, own_all_stay}
 
 pub leaves : (this that : Node) (old mid new : HomeView) → IsValidNode this → IsValidNode that → that ≢ this → NodeStays that old mid → OtherFilesStay this mid new → NodeStays that old new
 leaves this that old mid new one two other left stay = stays_on that old mid new left (stays_elsewhere this that mid new one two other stay)

@@ -7,11 +7,11 @@ ghost use Rattle.co_outside.specs.declared.spot.Spot.{Spot};
 ghost use Rattle.co_outside.specs.Home.{HasFailed};
 ghost use Rattle.co_log.specs.Attaching.{IsOfAttach};
 ghost use Rattle.co_log.specs.LogView.{spot_of};
-ghost use Rattle.co_log.specs.Others.{OtherFilesStay};
+ghost use Rattle.co_log.specs.Others.{NodeStays, OtherFilesStay};
 ghost use Rattle.co_durable.specs.Pairs.{EachPair};
 ghost use Rattle.co_durable.specs.Reading.{OnlyReads};
 ghost use Rattle.co_opening.specs.Attached.{AreAttached, IsAttachedTo, IsUnattached, IsFirstUnattached};
-ghost use Rattle.co_opening.specs.Kept.{NodeStays, IsOwnLog, AreOwnLogs};
+ghost use Rattle.co_opening.specs.Kept.{IsOwnLog, AreOwnLogs};
 ghost use Rattle.co_opening.specs.Opened.{IsUnopened};
 ghost use Rattle.co_opening.specs.Sorts.{node_in, most_in, nodes_in};
 

@@ -12,16 +12,16 @@ use Rattle.co_replay.specs.Schedule.{HasLine}
 use Rattle.co_schedule.specs.Limits.{longest_line}
 use Rattle.co_schedule.specs.LineText.{first_line, behind_line, next_line}
 use Rattle.co_schedule.specs.Spelling.{line_text}
+use Rattle.co_schedule.specs.declared.fault.LineKind.{LineKind}
 use Rattle.co_schedule.specs.declared.fault.LinesFault.TheVariants as lines
-use Rattle.co_schedule.proofs.HeadUnique.{head_line}
 use Rattle.co_top.specs.Complete.{IsSchedule, IsUnhindered}
-use Rattle.co_top.specs.Front.{IsHeaded, StandsBehind, AtStart, OneMore, IsHeadFault, IsLineFault, most}
+use Rattle.co_top.specs.Front.{IsHeaded, StandsBehind, AtStart, OneMore, IsLineFault, most}
 use Rattle.co_top.specs.Ran.{Ran, HasStoppedAt, IsUnopenedFor, IsAtLimit, IsOutgrown, IsRunEnd}
 use Rattle.co_top.specs.declared.status.LimitKind.TheVariants as limit
 use Rattle.co_top.specs.declared.status.Status.{Status}
 use Rattle.co_top.specs.declared.status.Status.TheVariants as status
 use Rattle.co_top.proofs.Lists.{count_more}
-use Rattle.co_top.proofs.Reading.{next_is_first, short_first}
+use Rattle.co_top.proofs.Reading.{next_is_first, one_head, head_is_some, head_is_short}
 
 -- ---- how far a text is cut
 
@@ -58,73 +58,47 @@ line_at head text es rest (OneMore t left events e before line next) n less =
 no_line : (lent : ℕ) (line : List ℕ) (text : List ℕ) → text ≡ [] → next_line longest_line most lent text ≡ Ok (Some line) → ⊥
 no_line lent line text none next = let z : Ok None ≡ Ok (Some line) = sym (ap (next_line longest_line most lent) none) ∙ next in cc
 
--- why a line gives no event is not so of a line of an event
-no_fault : (head : Head) (count : ℕ) (left : List ℕ) (ended : Status) (e : Event) → HasLine head e → next_line longest_line most (suc count) left ≡ Ok (Some (line_text e)) → IsLineFault head count left ended → (ended ≡ status.Read) ⊎ (ended ≡ status.Memory)
-no_fault head count left (status.Schedule line what) e has next fault = absurd (fault.2.2 e has (sym (next_is_first longest_line most (suc count) left (line_text e) next)))
-no_fault head count left (status.Limit (limit.Line line)) e has next fault =
-    absurd (let first : line_text e ≡ first_line left = next_is_first longest_line most (suc count) left (line_text e) next in omega (arith, has.1, fault.1, ap length first))
-no_fault head count left (status.Limit limit.Lines) e has next fault = absurd (let z : Ok (Some (line_text e)) ≡ Err lines.Many = sym next ∙ fault in cc)
-no_fault head count left status.Read e has next fault = inl refl
-no_fault head count left status.Memory e has next fault = inr refl
-no_fault head count left status.Done e has next fault = absurd fault
-no_fault head count left status.Usage e has next fault = absurd fault
-no_fault head count left status.Write e has next fault = absurd fault
-no_fault head count left (status.Device spot) e has next fault = absurd fault
-no_fault head count left (status.Differs spot at kept read) e has next fault = absurd fault
-no_fault head count left (status.InUse spot) e has next fault = absurd fault
-no_fault head count left (status.BadLog spot at) e has next fault = absurd fault
-no_fault head count left (status.Limit limit.Transactions) e has next fault = absurd fault
-no_fault head count left (status.Limit (limit.Log spot)) e has next fault = absurd fault
-no_fault head count left (status.OldLog spot) e has next fault = absurd fault
-no_fault head count left (status.NotSerial txn line) e has next fault = absurd fault
-no_fault head count left (status.Transcript line) e has next fault = absurd fault
+-- a line gives no event only where the source fails or memory is wanting, but for these three causes
+only_wanting : (head : Head) (count : ℕ) (left : List ℕ) → ((line : ℕ) (what : LineKind) → IsLineFault head count left (status.Schedule line what) → ⊥) → ((line : ℕ) → IsLineFault head count left (status.Limit (limit.Line line)) → ⊥)
+    → (IsLineFault head count left (status.Limit limit.Lines) → ⊥) → (ended : Status) → IsLineFault head count left ended → (ended ≡ status.Read) ⊎ (ended ≡ status.Memory)
+only_wanting head count left outside long many (status.Schedule line what) fault = absurd (outside line what fault)
+only_wanting head count left outside long many (status.Limit (limit.Line line)) fault = absurd (long line fault)
+only_wanting head count left outside long many (status.Limit limit.Lines) fault = absurd (many fault)
+only_wanting head count left outside long many status.Read fault = inl refl
+only_wanting head count left outside long many status.Memory fault = inr refl
+only_wanting head count left outside long many status.Done fault = absurd fault
+only_wanting head count left outside long many status.Usage fault = absurd fault
+only_wanting head count left outside long many status.Write fault = absurd fault
+only_wanting head count left outside long many (status.Device spot) fault = absurd fault
+only_wanting head count left outside long many (status.Differs spot at kept read) fault = absurd fault
+only_wanting head count left outside long many (status.InUse spot) fault = absurd fault
+only_wanting head count left outside long many (status.BadLog spot at) fault = absurd fault
+only_wanting head count left outside long many (status.Limit limit.Transactions) fault = absurd fault
+only_wanting head count left outside long many (status.Limit (limit.Log spot)) fault = absurd fault
+only_wanting head count left outside long many (status.OldLog spot) fault = absurd fault
+only_wanting head count left outside long many (status.NotSerial txn line) fault = absurd fault
+only_wanting head count left outside long many (status.Transcript line) fault = absurd fault
 
--- nor is it at the end
+-- so it is of a line of an event
+no_fault : (head : Head) (count : ℕ) (left : List ℕ) (ended : Status) (e : Event) → HasLine head e → next_line longest_line most (suc count) left ≡ Ok (Some (line_text e)) → IsLineFault head count left ended → (ended ≡ status.Read) ⊎ (ended ≡ status.Memory)
+no_fault head count left ended e has next fault =
+    let first : line_text e ≡ first_line left = next_is_first longest_line most (suc count) left (line_text e) next in
+    only_wanting head count left (λ line what outside. outside.2.2 e has (sym first)) (λ line long. omega (arith, has.1, long.1, ap length first))
+    (λ many. let z : Ok (Some (line_text e)) ≡ Err lines.Many = sym next ∙ many in cc) ended fault
+
+-- and at the end
 no_end_fault : (head : Head) (count : ℕ) (left : List ℕ) (ended : Status) → left ≡ [] → IsLineFault head count left ended → (ended ≡ status.Read) ⊎ (ended ≡ status.Memory)
-no_end_fault head count left (status.Schedule line what) none fault = absurd (fault.1 none)
-no_end_fault head count left (status.Limit (limit.Line line)) none fault = absurd (let long : longest_line < length (first_line left) = fault.1 in omega (arith, long, ap (λ (t : List ℕ). length (first_line t)) none))
-no_end_fault head count left (status.Limit limit.Lines) none fault = absurd (let z : Ok None ≡ Err lines.Many = sym (ap (next_line longest_line most (suc count)) none) ∙ fault in cc)
-no_end_fault head count left status.Read none fault = inl refl
-no_end_fault head count left status.Memory none fault = inr refl
-no_end_fault head count left status.Done none fault = absurd fault
-no_end_fault head count left status.Usage none fault = absurd fault
-no_end_fault head count left status.Write none fault = absurd fault
-no_end_fault head count left (status.Device spot) none fault = absurd fault
-no_end_fault head count left (status.Differs spot at kept read) none fault = absurd fault
-no_end_fault head count left (status.InUse spot) none fault = absurd fault
-no_end_fault head count left (status.BadLog spot at) none fault = absurd fault
-no_end_fault head count left (status.Limit limit.Transactions) none fault = absurd fault
-no_end_fault head count left (status.Limit (limit.Log spot)) none fault = absurd fault
-no_end_fault head count left (status.OldLog spot) none fault = absurd fault
-no_end_fault head count left (status.NotSerial txn line) none fault = absurd fault
-no_end_fault head count left (status.Transcript line) none fault = absurd fault
+no_end_fault head count left ended none fault =
+    only_wanting head count left (λ line what outside. outside.1 none)
+    (λ line long. let more : longest_line < length (first_line left) = long.1 in omega (arith, more, ap (λ (t : List ℕ). length (first_line t)) none))
+    (λ many. let z : Ok None ≡ Err lines.Many = sym (ap (next_line longest_line most (suc count)) none) ∙ many in cc) ended fault
 
 -- ---- a run over a schedule
 
 module _ (input : List ℕ) (schedule : IsSchedule input) where
-  -- the head is no fault
-  no_head_fault : (ended : Status) → IsHeadFault input ended → (ended ≡ status.Read) ⊎ (ended ≡ status.Memory)
-  no_head_fault (status.Schedule line what) fault = absurd (fault.2 schedule.head (sym (next_is_first longest_line most 0 input _ schedule.headed.line)))
-  no_head_fault (status.Limit (limit.Line line)) fault = absurd (short_first longest_line most 0 input _ schedule.headed.line fault.1)
-  no_head_fault status.Read fault = inl refl
-  no_head_fault status.Memory fault = inr refl
-  no_head_fault status.Done fault = absurd fault
-  no_head_fault status.Usage fault = absurd fault
-  no_head_fault status.Write fault = absurd fault
-  no_head_fault (status.Device spot) fault = absurd fault
-  no_head_fault (status.Differs spot at kept read) fault = absurd fault
-  no_head_fault (status.InUse spot) fault = absurd fault
-  no_head_fault (status.BadLog spot at) fault = absurd fault
-  no_head_fault (status.Limit limit.Lines) fault = absurd fault
-  no_head_fault (status.Limit limit.Transactions) fault = absurd fault
-  no_head_fault (status.Limit (limit.Log spot)) fault = absurd fault
-  no_head_fault (status.OldLog spot) fault = absurd fault
-  no_head_fault (status.NotSerial txn line) fault = absurd fault
-  no_head_fault (status.Transcript line) fault = absurd fault
-
   module _ {resume : Bool} {old : Spot → Option File} (r : Ran resume input old) (ended : Status) (fault : IsLineFault r.head (length r.events) r.rest ended) where
     same_head : schedule.head ≡ r.head
-    same_head = head_line schedule.head r.head (next_is_first longest_line most 0 input _ schedule.headed.line ∙ sym (next_is_first longest_line most 0 input _ r.headed.line))
+    same_head = one_head input schedule.head r.head schedule.text r.text schedule.headed r.headed
 
     same_text : schedule.text ≡ r.text
     same_text = schedule.headed.behind ∙ sym r.headed.behind
@@ -181,15 +155,15 @@ module _ (input : List ℕ) (schedule : IsSchedule input) where
     Comes (status.Transcript line) = ⊥
     Comes _ = Unit {0}
 
-    other_than : {A : Type 0} (ended : Status) → (ended ≡ status.Read → A) → (ended ≡ status.Memory → A) → (ended ≡ status.Read) ⊎ (ended ≡ status.Memory) → A
-    other_than ended f g (inl e) = f e
-    other_than ended f g (inr e) = g e
+    wanting_comes : (ended : Status) → (ended ≡ status.Read) ⊎ (ended ≡ status.Memory) → Comes ended
+    wanting_comes ended (inl e) = subst Comes (sym e) tt
+    wanting_comes ended (inr e) = subst Comes (sym e) tt
 
     pub comes : (ended : Status) → IsRunEnd resume input left held old new told ended → Comes ended
     comes status.Done h = tt
     comes status.Usage h = absurd h
-    comes (status.Schedule line what) (inl h) = other_than (status.Schedule line what) (λ e. let z : status.Schedule line what ≡ status.Read = e in cc) (λ e. let z : status.Schedule line what ≡ status.Memory = e in cc) (no_head_fault (status.Schedule line what) h.1)
-    comes (status.Schedule line what) (inr h) = other_than (status.Schedule line what) (λ e. let z : status.Schedule line what ≡ status.Read = e in cc) (λ e. let z : status.Schedule line what ≡ status.Memory = e in cc) (stopped (status.Schedule line what) h)
+    comes (status.Schedule line what) (inl h) = absurd (head_is_some input schedule.head schedule.text schedule.headed line what h.1)
+    comes (status.Schedule line what) (inr h) = wanting_comes (status.Schedule line what) (stopped (status.Schedule line what) h)
     comes status.Read h = tt
     comes status.Write h = tt
     comes (status.Device spot) h = tt
@@ -199,9 +173,9 @@ module _ (input : List ℕ) (schedule : IsSchedule input) where
     comes (status.OldLog spot) h = absurd (unopened (world.Old spot) tt h.1)
     comes (status.NotSerial txn line) h = absurd h
     comes (status.Transcript line) h = absurd h
-    comes (status.Limit (limit.Line line)) (inl h) = other_than (status.Limit (limit.Line line)) (λ e. let z : status.Limit (limit.Line line) ≡ status.Read = e in cc) (λ e. let z : status.Limit (limit.Line line) ≡ status.Memory = e in cc) (no_head_fault (status.Limit (limit.Line line)) h.1)
-    comes (status.Limit (limit.Line line)) (inr h) = other_than (status.Limit (limit.Line line)) (λ e. let z : status.Limit (limit.Line line) ≡ status.Read = e in cc) (λ e. let z : status.Limit (limit.Line line) ≡ status.Memory = e in cc) (stopped (status.Limit (limit.Line line)) h)
-    comes (status.Limit limit.Lines) h = other_than (status.Limit limit.Lines) (λ e. let z : status.Limit limit.Lines ≡ status.Read = e in cc) (λ e. let z : status.Limit limit.Lines ≡ status.Memory = e in cc) (stopped (status.Limit limit.Lines) h)
+    comes (status.Limit (limit.Line line)) (inl h) = absurd (head_is_short input schedule.head schedule.text schedule.headed line h.1)
+    comes (status.Limit (limit.Line line)) (inr h) = wanting_comes (status.Limit (limit.Line line)) (stopped (status.Limit (limit.Line line)) h)
+    comes (status.Limit limit.Lines) h = wanting_comes (status.Limit limit.Lines) (stopped (status.Limit limit.Lines) h)
     comes (status.Limit limit.Transactions) (inl h) = absurd (unopened world.Count tt h.1)
     comes (status.Limit limit.Transactions) (inr h) = absurd (few h.0.ran h.2)
     comes (status.Limit (limit.Log spot)) (inl h) = absurd (unopened (world.Full spot) tt h.1)

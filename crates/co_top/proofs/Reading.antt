@@ -7,10 +7,12 @@ use Rattle.co_replay.specs.Schedule.{IsOutside, IsFaultOf}
 use Rattle.co_schedule.specs.LineText.{first_line, behind_line, next_line}
 use Rattle.co_schedule.specs.Limits.{longest_line}
 use Rattle.co_schedule.specs.Spelling.{head_text}
+use Rattle.co_schedule.specs.declared.fault.LineKind.{LineKind}
 use Rattle.co_schedule.specs.declared.fault.LineKind.TheVariants as kind
 use Rattle.co_schedule.specs.declared.fault.LinesFault.{LinesFault}
 use Rattle.co_schedule.specs.declared.fault.LinesFault.TheVariants as lines
-use Rattle.co_top.specs.Front.{IsHeadFault, most}
+use Rattle.co_schedule.proofs.HeadUnique.{head_line}
+use Rattle.co_top.specs.Front.{IsHeaded, IsHeadFault, most}
 use Rattle.co_top.specs.Heads.{IsHeadIn, IsEventIn, IsHeadRead, IsEventRead, some_of}
 use Rattle.co_top.specs.declared.status.LimitKind.TheVariants as limit
 use Rattle.co_top.specs.declared.status.Status.{Status}
@@ -78,6 +80,18 @@ head_reads text line ahead (Err (status.Transcript at)) next behind h = absurd h
 
 pub no_head : (text : List ℕ) → next_line longest_line most 0 text ≡ Ok None → IsHeadFault text (status.Schedule 1 kind.Head)
 no_head text next = (refl, refl, λ head e. let z : [] ≡ head_text head = ap first_line (sym (none_left longest_line most 0 text next)) ∙ e in cc)
+
+-- the head of a text is one
+pub one_head : (input : List ℕ) (head other : Head) (text more : List ℕ) → IsHeaded input head text → IsHeaded input other more → head ≡ other
+one_head input head other text more one two = head_line head other (next_is_first longest_line most 0 input _ one.line ∙ sym (next_is_first longest_line most 0 input _ two.line))
+
+-- where there is one, the first line is not the line of no head, nor is it long
+module _ (input : List ℕ) (head : Head) (text : List ℕ) (headed : IsHeaded input head text) where
+  pub head_is_some : (line : ℕ) (what : LineKind) → IsHeadFault input (status.Schedule line what) → ⊥
+  head_is_some line what fault = fault.2 head (sym (next_is_first longest_line most 0 input _ headed.line))
+
+  pub head_is_short : (line : ℕ) → IsHeadFault input (status.Limit (limit.Line line)) → ⊥
+  head_is_short line fault = short_first longest_line most 0 input _ headed.line fault.1
 
 -- ---- a line behind the head
 

@@ -1,5 +1,5 @@
 -- A run whose files are refused ends with that refusal.
-use Rattle.std.proofs.Common.{◌≡◌, ◌⊎◌, inl, inr, ℕ, ◌<◌, Bool, List, length, Option, Some, refl, sym, ap, ◌∙◌, subst}
+use Rattle.std.proofs.Common.{◌≡◌, ◌⊎◌, inl, inr, ℕ, Bool, List, length, Option, ap, subst}
 use Rattle.co_base.specs.declared.head.Head.{Head}
 use Rattle.co_outside.specs.declared.spot.Spot.{Spot}
 use Rattle.co_outside.specs.Home.{File}
@@ -8,20 +8,14 @@ use Rattle.co_durable.specs.declared.fault.WorldFault.{WorldFault}
 use Rattle.co_durable.specs.declared.fault.WorldFault.TheVariants as world
 use Rattle.co_opening.specs.Opened.{IsUnopened, IsOfFound}
 use Rattle.co_opening.proofs.OpenedOnce.{refused_once, fit_or_refused}
-use Rattle.co_schedule.specs.Limits.{longest_line}
-use Rattle.co_schedule.proofs.HeadUnique.{head_line}
 use Rattle.co_top.specs.Complete.{HasGivenWay, IsRefusedExactly}
 use Rattle.co_top.specs.Ends.{of_world}
-use Rattle.co_top.specs.Front.{IsHeaded, IsHeadFault, most}
+use Rattle.co_top.specs.Front.{IsHeaded}
 use Rattle.co_top.specs.Ran.{Ran, IsUnopenedFor, IsRunEnd}
 use Rattle.co_top.specs.declared.status.LimitKind.TheVariants as limit
 use Rattle.co_top.specs.declared.status.Status.{Status}
 use Rattle.co_top.specs.declared.status.Status.TheVariants as status
-use Rattle.co_top.proofs.Reading.{next_is_first, short_first}
-
--- the head of a text is one
-one_head : (input : List ℕ) (head other : Head) (text more : List ℕ) → IsHeaded input head text → IsHeaded input other more → head ≡ other
-one_head input head other text more one two = head_line head other (next_is_first longest_line most 0 input _ one.line ∙ sym (next_is_first longest_line most 0 input _ two.line))
+use Rattle.co_top.proofs.Reading.{one_head, head_is_some, head_is_short}
 
 module _ (resume : Bool) (input held : List ℕ) (left told : Option (List ℕ)) (old new : Spot → Option File) (head : Head) (text : List ℕ) (headed : IsHeaded input head text) (are_told : AreTold old (length head.kinds) head.coords)
     (why : WorldFault) (of : IsOfFound why) (refused : IsUnopened old head resume why) where
@@ -41,30 +35,10 @@ module _ (resume : Bool) (input held : List ℕ) (left told : Option (List ℕ))
       let same : u.head ≡ head = one_head input u.head head u.text text u.headed headed in
       ap of_world (refused_once old head resume are_told fault why is of (subst (λ (h : Head). IsUnopened old h resume fault) same u.cause) refused)
 
-  -- the head is no fault
-  none_of_head : (ended : Status) → IsHeadFault input ended → HasGivenWay ended
-  none_of_head (status.Schedule line what) fault = absurd (fault.2 head (sym (next_is_first longest_line most 0 input _ headed.line)))
-  none_of_head (status.Limit (limit.Line line)) fault = absurd (short_first longest_line most 0 input _ headed.line fault.1)
-  none_of_head status.Read fault = tt
-  none_of_head status.Memory fault = tt
-  none_of_head status.Done fault = absurd fault
-  none_of_head status.Usage fault = absurd fault
-  none_of_head status.Write fault = absurd fault
-  none_of_head (status.Device spot) fault = absurd fault
-  none_of_head (status.Differs spot at kept read) fault = absurd fault
-  none_of_head (status.InUse spot) fault = absurd fault
-  none_of_head (status.BadLog spot at) fault = absurd fault
-  none_of_head (status.Limit limit.Lines) fault = absurd fault
-  none_of_head (status.Limit limit.Transactions) fault = absurd fault
-  none_of_head (status.Limit (limit.Log spot)) fault = absurd fault
-  none_of_head (status.OldLog spot) fault = absurd fault
-  none_of_head (status.NotSerial txn line) fault = absurd fault
-  none_of_head (status.Transcript line) fault = absurd fault
-
   pub given : (ended : Status) → IsRunEnd resume input left held old new told ended → Given ended
   given status.Done h = absurd (never_ran h.0.ran)
   given status.Usage h = absurd h
-  given (status.Schedule line what) (inl h) = inr (none_of_head (status.Schedule line what) h.1)
+  given (status.Schedule line what) (inl h) = absurd (head_is_some input head text headed line what h.1)
   given (status.Schedule line what) (inr h) = absurd (never_ran h.run.ran)
   given status.Read h = inr tt
   given status.Write h = absurd (never_ran h.0.ran)
@@ -75,7 +49,7 @@ module _ (resume : Bool) (input held : List ℕ) (left told : Option (List ℕ))
   given (status.OldLog spot) h = inl (the_cause (world.Old spot) tt h.1)
   given (status.NotSerial txn line) h = absurd h
   given (status.Transcript line) h = absurd h
-  given (status.Limit (limit.Line line)) (inl h) = inr (none_of_head (status.Limit (limit.Line line)) h.1)
+  given (status.Limit (limit.Line line)) (inl h) = absurd (head_is_short input head text headed line h.1)
   given (status.Limit (limit.Line line)) (inr h) = absurd (never_ran h.run.ran)
   given (status.Limit limit.Lines) h = absurd (never_ran h.run.ran)
   given (status.Limit limit.Transactions) (inl h) = inl (the_cause world.Count tt h.1)

@@ -2,7 +2,7 @@ use Rattle.std.proofs.Common.{subst}
 use Rattle.co_base.specs.declared.node.Node.{Node}
 use Rattle.co_base.specs.declared.node.Node.TheVariants as node
 use Rattle.co_coord.specs.Plans.{commit_plan, deliver_plan, txn_of}
-use Rattle.co_coord.specs.Standing.{is_up}
+use Rattle.co_coord.specs.Standing.{is_up, marks_in}
 use Rattle.co_log.specs.Others.{OtherNodesStay}
 use Rattle.std.proofs.Common.{List, sym, ap, ◌∙◌}
 use Rattle.std.specs.Prelude.{IfErr}
@@ -11,10 +11,10 @@ use Rattle.co_state.specs.Table.{look}
 use Rattle.co_plain.specs.Coordinator.{coord_commit, coord_deliver}
 use Rattle.co_cluster.specs.Calls.{coord_does, CoordMay}
 use Rattle.co_cluster.specs.Left.{IsLeftBy, coord_disarmed}
-use Rattle.co_cluster.proofs.Leaving.{kept_left, never_left, restart_left, still_left}
-use Rattle.co_cluster.proofs.CoordLeaving.{checkpoint_left, commit_stable, coord_read, deliver_stable, plan_left}
+use Rattle.co_cluster.proofs.Leaving.{kept_left, never_left, plan_left, restart_left, still_left}
+use Rattle.co_cluster.proofs.CoordLeaving.{checkpoint_left, commit_stable, coord_read, deliver_stable}
 use Rattle.co_cluster.specs.declared.calls.CoordCall.{CoordCall}
-use Rattle.co_cluster.proofs.Serving.{IsLeft, coord_checkpoint_ended, coord_checkpoint_served, coord_restarted, coord_unrestarted, coord_plan_ended, coord_plan_served}
+use Rattle.co_cluster.proofs.Serving.{IsLeft, coord_checkpoint_ended, coord_checkpoint_served, coord_restarted, coord_unrestarted, plan_ended, plan_served}
 use Rattle.co_cluster.proofs.coords.coord_does.Goals as goal
 
 pub deliver-requires-clause-stands : goal.deliver-requires-clause-stands
@@ -39,7 +39,7 @@ returns-in-Deliver-clause-served g c =
     let r = c.requires.stands.1 in
     let old = g.H.Home.seen c.args.home.now in
     let new = g.H.Home.seen c.deliver.new.home in
-    coord_plan_served (deliver_plan m.number c.in-Deliver.message (look y.table (txn_of c.in-Deliver.message))).writes (node.Coord m.number) y.log m.log c.deliver.new.self.log old new c.deliver.result (c.deliver.ensures.answered y r) r.log.owned c.deliver.ensures.rest.others
+    plan_served marks_in (deliver_plan m.number c.in-Deliver.message (look y.table (txn_of c.in-Deliver.message))).writes (node.Coord m.number) y.log m.log c.deliver.new.self.log old new c.deliver.result (c.deliver.ensures.answered y r) r.log.owned c.deliver.ensures.rest.others
 
 pub returns-in-Deliver-clause-ended : goal.returns-in-Deliver-clause-ended
 returns-in-Deliver-clause-ended g c =
@@ -48,7 +48,7 @@ returns-in-Deliver-clause-ended g c =
     let r = c.requires.stands.1 in
     let old = g.H.Home.seen c.args.home.now in
     let new = g.H.Home.seen c.deliver.new.home in
-    coord_plan_ended (deliver_plan m.number c.in-Deliver.message (look y.table (txn_of c.in-Deliver.message))).writes (node.Coord m.number) y.log m.log c.deliver.new.self.log old new c.deliver.result (c.deliver.ensures.answered y r)
+    plan_ended marks_in (deliver_plan m.number c.in-Deliver.message (look y.table (txn_of c.in-Deliver.message))).writes (node.Coord m.number) y.log m.log c.deliver.new.self.log old new c.deliver.result (c.deliver.ensures.answered y r)
 
 pub returns-in-Commit-clause-served : goal.returns-in-Commit-clause-served
 returns-in-Commit-clause-served g c =
@@ -57,7 +57,7 @@ returns-in-Commit-clause-served g c =
     let r = c.requires.stands.1 in
     let old = g.H.Home.seen c.args.home.now in
     let new = g.H.Home.seen c.commit.new.home in
-    coord_plan_served (commit_plan m.number c.in-Commit.txn c.as_slice.result.now (look y.table c.in-Commit.txn)).writes (node.Coord m.number) y.log m.log c.commit.new.self.log old new c.commit.result (c.commit.ensures.answered y r) r.log.owned c.commit.ensures.rest.others
+    plan_served marks_in (commit_plan m.number c.in-Commit.txn c.as_slice.result.now (look y.table c.in-Commit.txn)).writes (node.Coord m.number) y.log m.log c.commit.new.self.log old new c.commit.result (c.commit.ensures.answered y r) r.log.owned c.commit.ensures.rest.others
 
 pub returns-in-Commit-clause-ended : goal.returns-in-Commit-clause-ended
 returns-in-Commit-clause-ended g c =
@@ -66,7 +66,7 @@ returns-in-Commit-clause-ended g c =
     let r = c.requires.stands.1 in
     let old = g.H.Home.seen c.args.home.now in
     let new = g.H.Home.seen c.commit.new.home in
-    coord_plan_ended (commit_plan m.number c.in-Commit.txn c.as_slice.result.now (look y.table c.in-Commit.txn)).writes (node.Coord m.number) y.log m.log c.commit.new.self.log old new c.commit.result (c.commit.ensures.answered y r)
+    plan_ended marks_in (commit_plan m.number c.in-Commit.txn c.as_slice.result.now (look y.table c.in-Commit.txn)).writes (node.Coord m.number) y.log m.log c.commit.new.self.log old new c.commit.result (c.commit.ensures.answered y r)
 
 pub returns-in-Checkpoint-clause-served : goal.returns-in-Checkpoint-clause-served
 returns-in-Checkpoint-clause-served g c =
@@ -141,14 +141,14 @@ returns-in-Deliver-clause-left g c = λ y r.
     let m = c.args.coord.now in
     let n = node.Coord m.number in
     subst (λ (k : CoordCall). IfErr c.deliver.result (IsLeftBy (g.H.Home.seen c.deliver.new.home).file n y.log.stable (coord_does m.number k (coord_disarmed y)).state.log.stable)) (sym c.in-Deliver.is)
-    (plan_left (deliver_plan m.number c.in-Deliver.message (look y.table (txn_of c.in-Deliver.message))).writes n y m.log c.deliver.new.self.log (g.H.Home.seen c.args.home.now) (g.H.Home.seen c.deliver.new.home) c.deliver.result (coord_deliver m.number (coord_disarmed y) c.in-Deliver.message).state.log.stable (deliver_stable m.number y c.in-Deliver.message) r.log c.requires.kept (c.deliver.ensures.answered y r))
+    (plan_left marks_in (deliver_plan m.number c.in-Deliver.message (look y.table (txn_of c.in-Deliver.message))).writes n y.log m.log c.deliver.new.self.log (g.H.Home.seen c.args.home.now) (g.H.Home.seen c.deliver.new.home) c.deliver.result (coord_deliver m.number (coord_disarmed y) c.in-Deliver.message).state.log.stable (deliver_stable m.number y c.in-Deliver.message) r.log c.requires.kept (c.deliver.ensures.answered y r))
 
 pub returns-in-Commit-clause-left : goal.returns-in-Commit-clause-left
 returns-in-Commit-clause-left g c = λ y r.
     let m = c.args.coord.now in
     let n = node.Coord m.number in
     subst (λ (k : CoordCall). IfErr c.commit.result (IsLeftBy (g.H.Home.seen c.commit.new.home).file n y.log.stable (coord_does m.number k (coord_disarmed y)).state.log.stable)) (sym c.in-Commit.is)
-    (plan_left (commit_plan m.number c.in-Commit.txn c.as_slice.result.now (look y.table c.in-Commit.txn)).writes n y m.log c.commit.new.self.log (g.H.Home.seen c.args.home.now) (g.H.Home.seen c.commit.new.home) c.commit.result (coord_commit m.number (coord_disarmed y) c.in-Commit.txn c.in-Commit.parts).state.log.stable
+    (plan_left marks_in (commit_plan m.number c.in-Commit.txn c.as_slice.result.now (look y.table c.in-Commit.txn)).writes n y.log m.log c.commit.new.self.log (g.H.Home.seen c.args.home.now) (g.H.Home.seen c.commit.new.home) c.commit.result (coord_commit m.number (coord_disarmed y) c.in-Commit.txn c.in-Commit.parts).state.log.stable
     (commit_stable m.number c.in-Commit.txn y c.as_slice.result.now ∙ ap (λ (parts : List Part). (coord_commit m.number (coord_disarmed y) c.in-Commit.txn parts).state.log.stable) c.as_slice.ensures) r.log c.requires.kept (c.commit.ensures.answered y r))
 
 pub returns-in-Checkpoint-clause-left : goal.returns-in-Checkpoint-clause-left

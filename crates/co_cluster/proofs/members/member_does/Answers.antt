@@ -3,6 +3,7 @@ use Rattle.co_base.specs.declared.node.Node.{Node}
 use Rattle.co_base.specs.declared.node.Node.TheVariants as node
 use Rattle.co_log.specs.Others.{OtherNodesStay}
 use Rattle.co_member.specs.Plans.{again_plan, deliver_plan, local_commit_plan}
+use Rattle.co_member.specs.Standing.{marks_in}
 use Rattle.std.specs.Prelude.{IfErr}
 use Rattle.co_plain.specs.MemberStep.{standing_of}
 use Rattle.co_plain.specs.LocalCommit.{member_local_commit}
@@ -46,7 +47,7 @@ returns-in-Deliver-clause-served g c =
     let r = c.requires.stands.1 in
     let old = g.H.Home.seen c.args.home.now in
     let new = g.H.Home.seen c.deliver.new.home in
-    plan_served (deliver_plan m.number x c.in-Deliver.message).writes (node.Member m.number) x.log m.log c.deliver.new.self.log old new c.deliver.result (c.deliver.ensures.answered x r) r.log.owned c.deliver.ensures.rest.others
+    plan_served marks_in (deliver_plan m.number x c.in-Deliver.message).writes (node.Member m.number) x.log m.log c.deliver.new.self.log old new c.deliver.result (c.deliver.ensures.answered x r) r.log.owned c.deliver.ensures.rest.others
 
 pub returns-in-Deliver-clause-ended : goal.returns-in-Deliver-clause-ended
 returns-in-Deliver-clause-ended g c =
@@ -55,7 +56,7 @@ returns-in-Deliver-clause-ended g c =
     let r = c.requires.stands.1 in
     let old = g.H.Home.seen c.args.home.now in
     let new = g.H.Home.seen c.deliver.new.home in
-    plan_ended (deliver_plan m.number x c.in-Deliver.message).writes (node.Member m.number) x.log m.log c.deliver.new.self.log old new c.deliver.result (c.deliver.ensures.answered x r)
+    plan_ended marks_in (deliver_plan m.number x c.in-Deliver.message).writes (node.Member m.number) x.log m.log c.deliver.new.self.log old new c.deliver.result (c.deliver.ensures.answered x r)
 
 pub returns-in-Vote-clause-served : goal.returns-in-Vote-clause-served
 returns-in-Vote-clause-served g c =
@@ -64,7 +65,7 @@ returns-in-Vote-clause-served g c =
     let r = c.requires.stands.1 in
     let old = g.H.Home.seen c.args.home.now in
     let new = g.H.Home.seen c.vote.new.home in
-    plan_served (again_plan m.number x c.in-Vote.t (standing_of x c.in-Vote.t)).writes (node.Member m.number) x.log m.log c.vote.new.self.log old new c.vote.result (c.vote.ensures.answered x r) r.log.owned c.vote.ensures.rest.others
+    plan_served marks_in (again_plan m.number x c.in-Vote.t (standing_of x c.in-Vote.t)).writes (node.Member m.number) x.log m.log c.vote.new.self.log old new c.vote.result (c.vote.ensures.answered x r) r.log.owned c.vote.ensures.rest.others
 
 pub returns-in-Vote-clause-ended : goal.returns-in-Vote-clause-ended
 returns-in-Vote-clause-ended g c =
@@ -73,7 +74,7 @@ returns-in-Vote-clause-ended g c =
     let r = c.requires.stands.1 in
     let old = g.H.Home.seen c.args.home.now in
     let new = g.H.Home.seen c.vote.new.home in
-    plan_ended (again_plan m.number x c.in-Vote.t (standing_of x c.in-Vote.t)).writes (node.Member m.number) x.log m.log c.vote.new.self.log old new c.vote.result (c.vote.ensures.answered x r)
+    plan_ended marks_in (again_plan m.number x c.in-Vote.t (standing_of x c.in-Vote.t)).writes (node.Member m.number) x.log m.log c.vote.new.self.log old new c.vote.result (c.vote.ensures.answered x r)
 
 pub returns-in-LocalCommit-clause-served : goal.returns-in-LocalCommit-clause-served
 returns-in-LocalCommit-clause-served g c =
@@ -82,7 +83,7 @@ returns-in-LocalCommit-clause-served g c =
     let r = c.requires.stands.1 in
     let old = g.H.Home.seen c.args.home.now in
     let new = g.H.Home.seen c.local_commit.new.home in
-    plan_served (local_commit_plan x c.in-LocalCommit.txn c.in-LocalCommit.carried).writes (node.Member m.number) x.log m.log c.local_commit.new.self.log old new c.local_commit.result (c.local_commit.ensures.answered x r) r.log.owned c.local_commit.ensures.rest.others
+    plan_served marks_in (local_commit_plan x c.in-LocalCommit.txn c.in-LocalCommit.carried).writes (node.Member m.number) x.log m.log c.local_commit.new.self.log old new c.local_commit.result (c.local_commit.ensures.answered x r) r.log.owned c.local_commit.ensures.rest.others
 
 pub returns-in-LocalCommit-clause-ended : goal.returns-in-LocalCommit-clause-ended
 returns-in-LocalCommit-clause-ended g c =
@@ -91,7 +92,7 @@ returns-in-LocalCommit-clause-ended g c =
     let r = c.requires.stands.1 in
     let old = g.H.Home.seen c.args.home.now in
     let new = g.H.Home.seen c.local_commit.new.home in
-    plan_ended (local_commit_plan x c.in-LocalCommit.txn c.in-LocalCommit.carried).writes (node.Member m.number) x.log m.log c.local_commit.new.self.log old new c.local_commit.result (c.local_commit.ensures.answered x r)
+    plan_ended marks_in (local_commit_plan x c.in-LocalCommit.txn c.in-LocalCommit.carried).writes (node.Member m.number) x.log m.log c.local_commit.new.self.log old new c.local_commit.result (c.local_commit.ensures.answered x r)
 
 pub returns-in-Checkpoint-clause-served : goal.returns-in-Checkpoint-clause-served
 returns-in-Checkpoint-clause-served g c =
@@ -159,21 +160,21 @@ returns-in-Deliver-clause-left g c = λ x r.
     let m = c.args.member.now in
     let n = node.Member m.number in
     subst (λ (k : MemberCall). IfErr c.deliver.result (IsLeftBy (g.H.Home.seen c.deliver.new.home).file n x.log.stable (member_does m.number k (member_disarmed x)).state.log.stable)) (sym c.in-Deliver.is)
-    (plan_left (deliver_plan m.number x c.in-Deliver.message).writes n x.log m.log c.deliver.new.self.log (g.H.Home.seen c.args.home.now) (g.H.Home.seen c.deliver.new.home) c.deliver.result (member_deliver m.number (member_disarmed x) c.in-Deliver.message).state.log.stable (deliver_stable m.number x c.in-Deliver.message) r.log c.requires.kept (c.deliver.ensures.answered x r))
+    (plan_left marks_in (deliver_plan m.number x c.in-Deliver.message).writes n x.log m.log c.deliver.new.self.log (g.H.Home.seen c.args.home.now) (g.H.Home.seen c.deliver.new.home) c.deliver.result (member_deliver m.number (member_disarmed x) c.in-Deliver.message).state.log.stable (deliver_stable m.number x c.in-Deliver.message) r.log c.requires.kept (c.deliver.ensures.answered x r))
 
 pub returns-in-Vote-clause-left : goal.returns-in-Vote-clause-left
 returns-in-Vote-clause-left g c = λ x r.
     let m = c.args.member.now in
     let n = node.Member m.number in
     subst (λ (k : MemberCall). IfErr c.vote.result (IsLeftBy (g.H.Home.seen c.vote.new.home).file n x.log.stable (member_does m.number k (member_disarmed x)).state.log.stable)) (sym c.in-Vote.is)
-    (plan_left (again_plan m.number x c.in-Vote.t (standing_of x c.in-Vote.t)).writes n x.log m.log c.vote.new.self.log (g.H.Home.seen c.args.home.now) (g.H.Home.seen c.vote.new.home) c.vote.result (member_vote m.number (member_disarmed x) c.in-Vote.t).state.log.stable (vote_stable m.number c.in-Vote.t x) r.log c.requires.kept (c.vote.ensures.answered x r))
+    (plan_left marks_in (again_plan m.number x c.in-Vote.t (standing_of x c.in-Vote.t)).writes n x.log m.log c.vote.new.self.log (g.H.Home.seen c.args.home.now) (g.H.Home.seen c.vote.new.home) c.vote.result (member_vote m.number (member_disarmed x) c.in-Vote.t).state.log.stable (vote_stable m.number c.in-Vote.t x) r.log c.requires.kept (c.vote.ensures.answered x r))
 
 pub returns-in-LocalCommit-clause-left : goal.returns-in-LocalCommit-clause-left
 returns-in-LocalCommit-clause-left g c = λ x r.
     let m = c.args.member.now in
     let n = node.Member m.number in
     subst (λ (k : MemberCall). IfErr c.local_commit.result (IsLeftBy (g.H.Home.seen c.local_commit.new.home).file n x.log.stable (member_does m.number k (member_disarmed x)).state.log.stable)) (sym c.in-LocalCommit.is)
-    (plan_left (local_commit_plan x c.in-LocalCommit.txn c.in-LocalCommit.carried).writes n x.log m.log c.local_commit.new.self.log (g.H.Home.seen c.args.home.now) (g.H.Home.seen c.local_commit.new.home) c.local_commit.result (member_local_commit m.number (member_disarmed x) c.in-LocalCommit.txn c.in-LocalCommit.carried).state.log.stable (local_commit_stable m.number c.in-LocalCommit.txn c.in-LocalCommit.carried x) r.log c.requires.kept (c.local_commit.ensures.answered x r))
+    (plan_left marks_in (local_commit_plan x c.in-LocalCommit.txn c.in-LocalCommit.carried).writes n x.log m.log c.local_commit.new.self.log (g.H.Home.seen c.args.home.now) (g.H.Home.seen c.local_commit.new.home) c.local_commit.result (member_local_commit m.number (member_disarmed x) c.in-LocalCommit.txn c.in-LocalCommit.carried).state.log.stable (local_commit_stable m.number c.in-LocalCommit.txn c.in-LocalCommit.carried x) r.log c.requires.kept (c.local_commit.ensures.answered x r))
 
 pub returns-in-Checkpoint-clause-left : goal.returns-in-Checkpoint-clause-left
 returns-in-Checkpoint-clause-left g c = λ x r.

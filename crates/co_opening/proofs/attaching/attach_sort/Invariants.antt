@@ -4,7 +4,8 @@ use Rattle.co_base.specs.declared.node.Node.{Node}
 use Rattle.co_durable.specs.Pairs.{EachPair}
 use Rattle.co_durable.specs.Reading.{OnlyReads}
 use Rattle.co_opening.specs.Attached.{IsAttachedTo}
-use Rattle.co_opening.specs.Kept.{NodeStays, AreOwnLogs}
+use Rattle.co_log.specs.Others.{NodeStays}
+use Rattle.co_opening.specs.Kept.{AreOwnLogs}
 use Rattle.co_opening.specs.Sorts.{node_in, nodes_in}
 use Rattle.co_opening.proofs.attaching.attach_sort.Given as goal
 

@@ -4,7 +4,8 @@ use Rattle.co_base.specs.declared.node.Node.TheVariants.{Member, Coord}
 use Rattle.co_outside.specs.Home.{IsClean}
 use Rattle.co_outside.specs.declared.spot.Spot.{Spot}
 use Rattle.co_plain.specs.Opening.{Found, member_headers}
-use Rattle.co_opening.specs.Kept.{NodeStays, AreOwnLogs}
+use Rattle.co_log.specs.Others.{NodeStays}
+use Rattle.co_opening.specs.Kept.{AreOwnLogs}
 use Rattle.co_opening.specs.Running.{AreMembersAt, AreOwnMembers}
 use Rattle.co_opening.specs.Standing.{AreMembersFound}
 use Rattle.co_opening.proofs.members.open_members.Given as goal

@@ -1,16 +1,16 @@
 use Rattle.std.proofs.Common.{sym, subst, ◌∙◌}
 use Rattle.std.specs.Prelude.{Ok, Err}
 use Rattle.co_base.specs.declared.node.Node.TheVariants as node
-use Rattle.co_log.specs.LogView.{LogView, IsHeld, IsShort}
+use Rattle.co_log.specs.LogView.{LogView, IsHeld}
 use Rattle.co_node.specs.NodeLog.{RepresentsLog}
 use Rattle.co_node.specs.declared.written.Written.{Written}
 use Rattle.co_coord.specs.Plans.{carried_out}
-use Rattle.co_coord.specs.Standing.{HasDone, written_by}
-use Rattle.co_coord.specs.Writing.{HasWrittenFor, IsAnsweredFor}
+use Rattle.co_coord.specs.Standing.{HasDone, marks_in, written_by}
+use Rattle.co_node.specs.Writing.{HasWrittenFor, IsAnsweredFor}
 use Rattle.co_coord.specs.declared.coord.Coord.{Coord}
 use Rattle.co_coord.specs.declared.step.CoordStep.{CoordStep}
 use Rattle.co_coord.proofs.Carrying.{done_step, stopped_step, table_of}
-use Rattle.co_coord.proofs.Directories.{passed_on, wants_memory}
+use Rattle.co_node.proofs.Directories.{passed_on, wants_memory}
 use Rattle.co_coord.proofs.coord.Coord.carry_out.Goals as goal
 
 pub returns-in_err-change-clause-answered : goal.returns-in_err-change-clause-answered
@@ -18,10 +18,7 @@ returns-in_err-change-clause-answered g c = λ y r.
     let x = c.args.self.now in
     let home = g.H.Home.seen c.args.home.now in
     subst (λ (v : LogView). IsAnsweredFor c.args.plan.writes (node.Coord x.number) y.log x.log v home home (written_by c.from_residual.result)) (sym c.change.ensures.log)
-    (wants_memory (node.Coord x.number) c.args.plan.writes y.log x.log home c.from_residual.result c.from_residual.ensures r.log c.requires.held c.requires.short)
-
-pub write-requires-clause-short : goal.write-requires-clause-short
-write-requires-clause-short g c = subst (λ (v : LogView). IsShort v.current × IsShort v.spare) (sym c.change.ensures.log) c.requires.short
+    (wants_memory marks_in (node.Coord x.number) c.args.plan.writes y.log x.log home c.from_residual.result c.from_residual.ensures r.log c.requires.held c.requires.short)
 
 pub write-requires-clause-held : goal.write-requires-clause-held
 write-requires-clause-held g c = subst (λ (v : LogView). IsHeld (g.H.Home.seen c.args.home.now) v) (sym c.change.ensures.log) c.requires.held
@@ -40,7 +37,7 @@ returns-in_err-marks-clause-answered g c = λ y r.
     let new = g.H.Home.seen c.write.new.home in
     let here = subst (λ (v : LogView). RepresentsLog n v y.log) (sym c.change.ensures.log) r.log in
     let left = subst (λ (v : LogView). IsAnsweredFor w n y.log v c.write.new.log old new (Err c.in_err-marks.field-0.0)) c.change.ensures.log (c.in_err-marks.ensures.answered n y.log here) in
-    passed_on n w y.log c.args.self.now.log c.write.new.log old new c.in_err-marks.field-0.0 c.from_residual-in_err-marks.result c.from_residual-in_err-marks.ensures left
+    passed_on marks_in n w y.log c.args.self.now.log c.write.new.log old new c.in_err-marks.field-0.0 c.from_residual-in_err-marks.result c.from_residual-in_err-marks.ensures left
 
 pub returns-in-Done-clause-did : goal.returns-in-Done-clause-did
 returns-in-Done-clause-did g c = λ y r.

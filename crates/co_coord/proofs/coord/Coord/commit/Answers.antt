@@ -4,11 +4,11 @@ use Rattle.co_plain.specs.Coordinator.{coord_commit}
 use Rattle.co_plain.specs.declared.coord_state.Entry.{Entry}
 use Rattle.co_state.specs.Table.{Table, look}
 use Rattle.co_coord.specs.Plans.{commit_plan}
-use Rattle.co_coord.specs.Standing.{written_by}
-use Rattle.co_coord.specs.Writing.{MayWrite, IsAnsweredFor}
+use Rattle.co_coord.specs.Standing.{marks_in, written_by}
+use Rattle.co_node.specs.Writing.{MayWriteOne, IsAnsweredFor}
 use Rattle.co_coord.specs.declared.plan.Plan.{Plan}
 use Rattle.co_coord.proofs.Carrying.{planned}
-use Rattle.co_coord.proofs.Directories.{wants_memory}
+use Rattle.co_node.proofs.Directories.{wants_memory}
 use Rattle.co_coord.proofs.Steps.{commit_is}
 use Rattle.co_coord.proofs.Writable.{commit_may}
 use Rattle.co_coord.proofs.coord.Coord.commit.Goals as goal
@@ -16,12 +16,12 @@ use Rattle.co_coord.proofs.coord.Coord.commit.Goals as goal
 pub returns-in_err-plan-clause-answered : goal.returns-in_err-plan-clause-answered
 returns-in_err-plan-clause-answered g c = λ y r.
     let x = c.args.self.now in
-    wants_memory (node.Coord x.number) (commit_plan x.number c.args.t c.args.parts.now (look y.table c.args.t)).writes y.log x.log (g.H.Home.seen c.args.home.now) c.from_residual.result
+    wants_memory marks_in (node.Coord x.number) (commit_plan x.number c.args.t c.args.parts.now (look y.table c.args.t)).writes y.log x.log (g.H.Home.seen c.args.home.now) c.from_residual.result
     c.from_residual.ensures r.log c.requires.held c.lengths.ensures.within
 
 pub carry_out-requires-clause-writes : goal.carry_out-requires-clause-writes
 carry_out-requires-clause-writes g c =
-    subst (λ (p : Plan). MayWrite p.writes) (sym c.in_ok-plan.ensures) (commit_may c.args.self.now.number c.args.t c.args.parts.now (look c.table.result.now c.args.t))
+    subst (λ (p : Plan). MayWriteOne p.writes) (sym c.in_ok-plan.ensures) (commit_may c.args.self.now.number c.args.t c.args.parts.now (look c.table.result.now c.args.t))
 
 pub returns-clause-did : goal.returns-clause-did
 returns-clause-did g c = λ y r.

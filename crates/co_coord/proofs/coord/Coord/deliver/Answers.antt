@@ -5,11 +5,11 @@ use Rattle.co_plain.specs.Coordinator.{coord_deliver}
 use Rattle.co_plain.specs.declared.coord_state.Entry.{Entry}
 use Rattle.co_state.specs.Table.{Table, look}
 use Rattle.co_coord.specs.Plans.{carried_out, deliver_plan, txn_of}
-use Rattle.co_coord.specs.Standing.{HasDone, written_by}
-use Rattle.co_coord.specs.Writing.{MayWrite, IsAnsweredFor}
+use Rattle.co_coord.specs.Standing.{HasDone, marks_in, written_by}
+use Rattle.co_node.specs.Writing.{MayWriteOne, IsAnsweredFor}
 use Rattle.co_coord.specs.declared.plan.Plan.{Plan}
 use Rattle.co_coord.proofs.Carrying.{planned}
-use Rattle.co_coord.proofs.Directories.{wants_memory}
+use Rattle.co_node.proofs.Directories.{wants_memory}
 use Rattle.co_coord.proofs.Steps.{deliver_is}
 use Rattle.co_coord.proofs.Writable.{deliver_may}
 use Rattle.co_coord.proofs.coord.Coord.deliver.Goals as goal
@@ -18,7 +18,7 @@ pub returns-in_err-plan-clause-answered : goal.returns-in_err-plan-clause-answer
 returns-in_err-plan-clause-answered g c = λ y r.
     let x = c.args.self.now in
     let m = c.args.message.now in
-    wants_memory (node.Coord x.number) (deliver_plan x.number m (look y.table (txn_of m))).writes y.log x.log (g.H.Home.seen c.args.home.now) c.from_residual.result
+    wants_memory marks_in (node.Coord x.number) (deliver_plan x.number m (look y.table (txn_of m))).writes y.log x.log (g.H.Home.seen c.args.home.now) c.from_residual.result
     c.from_residual.ensures r.log c.requires.held c.lengths.ensures.within
 
 pub carry_out-requires-clause-stands : goal.carry_out-requires-clause-stands
@@ -29,7 +29,7 @@ carry_out-requires-clause-writes g c =
     let m = c.args.message.now in
     let same = c.requires.stands.1.table c.table.result.now c.table.ensures in
     let plain : _ ≡ _ = ap (λ (u : Table Entry). look u (txn_of m)) same in
-    subst (λ (p : Plan). MayWrite p.writes) (sym c.in_ok-plan.ensures)
+    subst (λ (p : Plan). MayWriteOne p.writes) (sym c.in_ok-plan.ensures)
     (deliver_may c.args.self.now.number m (look c.table.result.now (txn_of m)) (λ parts yeses is. c.requires.stands.2 (txn_of m) parts yeses (plain ∙ is)))
 
 pub returns-clause-did : goal.returns-clause-did

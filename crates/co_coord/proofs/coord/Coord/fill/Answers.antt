@@ -16,11 +16,11 @@ use Rattle.co_plain.specs.LogWrite.{generation_of, outcome_of}
 use Rattle.co_plain.specs.Numbers.{next_generation}
 use Rattle.co_record.specs.declared.record.Record.{Record}
 use Rattle.co_coord.specs.Restating.{restated}
-use Rattle.co_coord.specs.Standing.{HasDone}
+use Rattle.co_coord.specs.Standing.{HasDone, marks_in}
 use Rattle.co_coord.specs.declared.coord.Coord.{Coord}
 use Rattle.co_coord.specs.declared.step.CoordStep.{CoordStep}
 use Rattle.co_coord.proofs.Checkpoints.{fill_done, fill_stopped}
-use Rattle.co_coord.proofs.Directories.{wanting}
+use Rattle.co_node.proofs.Directories.{wanting}
 use Rattle.co_coord.proofs.Restating.{may_fill, oldest_first, same_commits}
 use Rattle.co_coord.proofs.coord.Coord.fill.Goals as goal
 
@@ -28,7 +28,7 @@ pub returns-in_err-records-clause-answered : goal.returns-in_err-records-clause-
 returns-in_err-records-clause-answered g c = λ y r.
     let x = c.args.self.now in
     let n = node.Coord x.number in
-    wanting n x.log.spare.spot (IsOverfull x.log (reverse (restated y))) (filled_with n y.log (restated y)) y.log x.log (g.H.Home.seen c.args.home.now) c.from_residual.result
+    wanting marks_in n x.log.spare.spot (IsOverfull x.log (reverse (restated y))) (filled_with n y.log (restated y)) y.log x.log (g.H.Home.seen c.args.home.now) c.from_residual.result
     c.from_residual.ensures r.log c.requires.held c.lengths.ensures.within
 
 pub fill-requires-clause-items : goal.fill-requires-clause-items
@@ -38,8 +38,8 @@ fill-requires-clause-items g c =
     let made = same_commits y c.table.result.now c.in_ok-records.records.items (r.table c.table.result.now c.table.ensures) c.in_ok-records.ensures in
     subst (AllByRecursion IsFillable) (sym c.as_slice.ensures.value) (may_fill c.args.self.now.number y c.in_ok-records.records.items c.requires.stands.3 made)
 
-pub generation_in-requires : goal.generation_in-requires
-generation_in-requires g c =
+pub filled_generation-requires : goal.filled_generation-requires
+filled_generation-requires g c =
     let n = node.Coord c.args.self.now.number in
     let y = c.requires.stands.0 in
     let written = subst (λ (o : Written). HasWritten (filling n y.log (reverse c.as_slice.result.now)) n y.log c.fill.new.log (Ok o)) c.in-Done.is (c.in_ok-marks.ensures.written n y.log c.requires.stands.1.log) in
@@ -54,8 +54,8 @@ returns-in-Done-clause-did g c = λ y r.
     let made = ap reverse c.as_slice.ensures.value ∙ same_commits y c.table.result.now c.in_ok-records.records.items (r.table c.table.result.now c.table.ensures) c.in_ok-records.ensures in
     let there = subst (λ (o : Written). HasWritten (filling n y.log (reverse c.as_slice.result.now)) n y.log c.fill.new.log (Ok o)) c.in-Done.is (c.in_ok-marks.ensures.written n y.log r.log) in
     let written = subst (λ (rs : List Record). HasWritten (filling n y.log rs) n y.log c.fill.new.log (Ok (Done c.in-Done.marks))) made there in
-    subst (λ (ms : List Message). HasDone (coord_fill_by x.number y generation (outcome_of y.log.armed 4)) (record { answer = answer.Filled c.generation_in.result; sent = ms; marks = c.in-Done.marks }) after) (sym c.new.ensures)
-    (fill_done x after y c.in-Done.marks c.generation_in.result r c.requires.up refl refl (c.generation_in.ensures n generation written.1) written)
+    subst (λ (ms : List Message). HasDone (coord_fill_by x.number y generation (outcome_of y.log.armed 4)) (record { answer = answer.Filled c.filled_generation.result; sent = ms; marks = c.in-Done.marks }) after) (sym c.new.ensures)
+    (fill_done x after y c.in-Done.marks c.filled_generation.result r c.requires.up refl refl (c.filled_generation.ensures n generation written.1) written)
 
 pub returns-in-Done-clause-answered : goal.returns-in-Done-clause-answered
 returns-in-Done-clause-answered g c = λ y r.

@@ -1,14 +1,14 @@
 use Rattle.std.proofs.Common.{sym, subst}
 use Rattle.std.specs.Prelude.{Ok, Err}
 use Rattle.co_base.specs.declared.node.Node.TheVariants as node
-use Rattle.co_log.specs.LogView.{LogView, IsHeld, IsShort}
+use Rattle.co_log.specs.LogView.{LogView, IsHeld}
 use Rattle.co_node.specs.NodeLog.{RepresentsLog}
 use Rattle.co_plain.specs.declared.log_state.LogState.{LogState}
 use Rattle.co_member.specs.Plans.{changed}
-use Rattle.co_member.specs.Standing.{written_by}
-use Rattle.co_member.specs.Writing.{HasWrittenFor, IsAnsweredFor}
+use Rattle.co_member.specs.Standing.{marks_in, written_by}
+use Rattle.co_node.specs.Writing.{HasWrittenFor, IsAnsweredFor}
 use Rattle.co_member.proofs.Carrying.{changed_log, changed_up, ended_step}
-use Rattle.co_member.proofs.Directories.{passed_on, wants_memory}
+use Rattle.co_node.proofs.Directories.{passed_on, wants_memory}
 use Rattle.co_member.proofs.member.Member.carry_out.Goals as goal
 
 pub returns-in_err-change-clause-answered : goal.returns-in_err-change-clause-answered
@@ -16,10 +16,7 @@ returns-in_err-change-clause-answered g c = λ y r.
     let x = c.args.self.now in
     let home = g.H.Home.seen c.args.home.now in
     subst (λ (v : LogView). IsAnsweredFor c.args.plan.writes (node.Member x.number) y.log x.log v home home (written_by c.from_residual.result)) (sym c.change.ensures.log)
-    (wants_memory (node.Member x.number) c.args.plan.writes y.log x.log home c.from_residual.result c.from_residual.ensures r.log c.requires.held c.requires.short)
-
-pub write-requires-clause-short : goal.write-requires-clause-short
-write-requires-clause-short g c = subst (λ (v : LogView). IsShort v.current × IsShort v.spare) (sym c.change.ensures.log) c.requires.short
+    (wants_memory marks_in (node.Member x.number) c.args.plan.writes y.log x.log home c.from_residual.result c.from_residual.ensures r.log c.requires.held c.requires.short)
 
 pub write-requires-clause-held : goal.write-requires-clause-held
 write-requires-clause-held g c = subst (λ (v : LogView). IsHeld (g.H.Home.seen c.args.home.now) v) (sym c.change.ensures.log) c.requires.held
@@ -38,7 +35,7 @@ returns-in_err-written-clause-answered g c = λ y r.
     let new = g.H.Home.seen c.write.new.home in
     let here = subst (λ (v : LogView). RepresentsLog n v y.log) (sym c.change.ensures.log) r.log in
     let left = subst (λ (v : LogView). IsAnsweredFor w n y.log v c.write.new.log old new (Err c.in_err-written.field-0.0)) c.change.ensures.log (c.in_err-written.ensures.answered n y.log here) in
-    passed_on n w y.log c.args.self.now.log c.write.new.log old new c.in_err-written.field-0.0 c.from_residual-in_err-written.result c.from_residual-in_err-written.ensures left
+    passed_on marks_in n w y.log c.args.self.now.log c.write.new.log old new c.in_err-written.field-0.0 c.from_residual-in_err-written.result c.from_residual-in_err-written.ensures left
 
 pub returns-clause-did : goal.returns-clause-did
 returns-clause-did g c = λ y r suits.

@@ -6,11 +6,11 @@ use Rattle.co_plain.specs.Member.{member_deliver}
 use Rattle.co_plain.specs.declared.log_state.LogState.{LogState}
 use Rattle.co_plain.specs.declared.member_state.MemberState.{MemberState}
 use Rattle.co_member.specs.Plans.{carried_out, deliver_plan, marked, plan_of, txn_of}
-use Rattle.co_member.specs.Standing.{HasDone, RepresentsMember, Suits, written_by}
-use Rattle.co_member.specs.Writing.{MayWrite, IsAnsweredFor}
+use Rattle.co_member.specs.Standing.{HasDone, RepresentsMember, Suits, marks_in, written_by}
+use Rattle.co_node.specs.Writing.{MayWrite, IsAnsweredFor}
 use Rattle.co_member.specs.declared.plan.Plan.{Plan}
 use Rattle.co_member.proofs.Carrying.{planned}
-use Rattle.co_member.proofs.Directories.{wants_memory}
+use Rattle.co_node.proofs.Directories.{wants_memory}
 use Rattle.co_member.proofs.Steps.{deliver_is}
 use Rattle.co_member.proofs.Writable.{castable_for, course_single, deliver_marked, deliver_may, deliver_single, deliver_suits, marked_log}
 use Rattle.co_member.proofs.member.Member.deliver.Goals as goal
@@ -21,7 +21,7 @@ returns-in_err-course-clause-answered g c = λ x r.
     let w = (deliver_plan m.number x c.args.message.now).writes in
     let home = g.H.Home.seen c.args.home.now in
     subst (λ (v : LogView). IsAnsweredFor w (node.Member m.number) x.log m.log v home home (written_by c.from_residual.result)) (sym c.take_note.ensures.log)
-    (wants_memory (node.Member m.number) w x.log m.log home c.from_residual.result c.from_residual.ensures r.log c.requires.held c.lengths.ensures.within)
+    (wants_memory marks_in (node.Member m.number) w x.log m.log home c.from_residual.result c.from_residual.ensures r.log c.requires.held c.lengths.ensures.within)
 
 pub follow-requires-clause-short : goal.follow-requires-clause-short
 follow-requires-clause-short g c = subst (λ (v : LogView). IsShort v.current × IsShort v.spare) (sym c.take_note.ensures.log) c.lengths.ensures.within

@@ -1,8 +1,7 @@
-use Rattle.std.proofs.Common.{ℕ, reverse, refl, sym, subst, ◌∙◌}
+use Rattle.std.proofs.Common.{List, length, reverse, refl, sym, ap, subst, ◌∙◌}
 use Rattle.std.specs.Prelude.{true, Ok, Err}
 use Rattle.std.specs.List.{AllByRecursion}
 use Rattle.co_base.specs.declared.mark.Mark.{Mark}
-use Rattle.co_base.specs.declared.mark.MarkKind.TheVariants as kind
 use Rattle.co_base.specs.declared.node.Node.TheVariants as node
 use Rattle.co_log.specs.LogView.{LogView}
 use Rattle.co_log.specs.Spare.{IsFillable, IsOverfull}
@@ -12,23 +11,18 @@ use Rattle.co_node.specs.declared.written.Written.TheVariants.{Stopped}
 use Rattle.co_plain.specs.LogWrite.{generation_of}
 use Rattle.co_plain.specs.MemberLog.{member_checkpoint, member_spare}
 use Rattle.co_plain.specs.Numbers.{next_generation}
-use Rattle.co_plain.specs.declared.member_state.MemberState.{MemberState}
 use Rattle.co_member.specs.Checkpoint.{spare_items, IsAnsweredIn}
-use Rattle.co_member.specs.Standing.{HasDone}
+use Rattle.co_member.specs.Standing.{HasDone, marks_in}
 use Rattle.co_member.specs.declared.step.MemberStep.{MemberStep}
 use Rattle.co_member.proofs.Checkpointing.{filled_answered, filled_done, filled_stopped, spare_alike}
 use Rattle.co_member.proofs.Filling.{fillable}
-use Rattle.co_member.proofs.Directories.{memory_before, passed}
+use Rattle.co_node.proofs.Directories.{wanting, passed}
 use Rattle.co_member.proofs.member.Member.fill.Goals as goal
-
--- the one mark of a filled spare
-abbrev filled_mark : ℕ → MemberState → Mark
-filled_mark m y = record { node = node.Member m; kind = kind.Checkpoint; number = next_generation (generation_of y.log.stable) }
 
 pub returns-in_err-items-clause-answered : goal.returns-in_err-items-clause-answered
 returns-in_err-items-clause-answered g c = λ y r.
     let x = c.args.self.now in
-    memory_before (node.Member x.number) x.log.spare.spot (IsOverfull x.log (spare_items y)) (member_spare x.number y (next_generation (generation_of y.log.stable))) y.log x.log
+    wanting marks_in (node.Member x.number) x.log.spare.spot (IsOverfull x.log (spare_items y)) (member_spare x.number y (next_generation (generation_of y.log.stable))) y.log x.log
     (g.H.Home.seen c.args.home.now) c.from_residual.result c.from_residual.ensures r.log c.requires.held c.requires.short
 
 pub fill-requires-clause-items : goal.fill-requires-clause-items
@@ -46,16 +40,15 @@ returns-in_err-marks-clause-answered g c = λ y r.
     let new = g.H.Home.seen c.fill.new.home in
     let are = c.as_slice.ensures.value ∙ c.in_ok-items.ensures x.kind y (r.running c.running.result.now c.running.ensures) in
     let left = filled_answered x.number y x.log c.fill.new.log old new (Err c.in_err-marks.field-0.0) c.as_slice.result.now are (c.in_err-marks.ensures.answered n y.log r.log) in
-    passed n x.log.spare.spot (IsOverfull x.log (spare_items y)) y.log.stable (member_spare x.number y (next_generation (generation_of y.log.stable))) c.fill.new.log old new c.in_err-marks.field-0.0
+    passed marks_in n x.log.spare.spot (IsOverfull x.log (spare_items y)) y.log.stable (member_spare x.number y (next_generation (generation_of y.log.stable))) c.fill.new.log old new c.in_err-marks.field-0.0
     c.from_residual-in_err-marks.result c.from_residual-in_err-marks.ensures left
 
-pub generation_of-requires : goal.generation_of-requires
-generation_of-requires g c =
-    let x = c.args.self.now in
+pub filled_generation-requires : goal.filled_generation-requires
+filled_generation-requires g c =
+    let n = node.Member c.args.self.now.number in
     let y = c.requires.stands.0 in
-    let n = node.Member x.number in
     let written = subst (λ (o : Written). HasWritten (filling n y.log (reverse c.as_slice.result.now)) n y.log c.fill.new.log (Ok o)) c.in-Done.is (c.in_ok-marks.ensures.written n y.log c.requires.stands.1.log) in
-    (filled_mark x.number y, c.as_slice-in-Done.ensures ∙ written.1)
+    ap (λ (ms : List Mark). length ms) written.1
 
 pub returns-in-Done-clause-did : goal.returns-in-Done-clause-did
 returns-in-Done-clause-did g c = λ y r.
@@ -64,8 +57,8 @@ returns-in-Done-clause-did g c = λ y r.
     let closed = spare_alike g.E.Engine.stands_for x c.requires.stands.0 y true c.requires.stands.1 r c.requires.stands.2 in
     let are = c.as_slice.ensures.value ∙ c.in_ok-items.ensures x.kind y (r.running c.running.result.now c.running.ensures) in
     let written = subst (λ (o : Written). HasWritten (filling n y.log (reverse c.as_slice.result.now)) n y.log c.fill.new.log (Ok o)) c.in-Done.is (c.in_ok-marks.ensures.written n y.log r.log) in
-    let number = c.generation_of.ensures (filled_mark x.number y) (c.as_slice-in-Done.ensures ∙ written.1) in
-    filled_done g.E.Engine.stands_for x (record x { log = c.fill.new.log }) y c.as_slice.result.now c.generation_of.result c.in-Done.marks r c.requires.up refl refl refl closed are number written
+    let number = c.filled_generation.ensures n (next_generation (generation_of y.log.stable)) written.1 in
+    filled_done g.E.Engine.stands_for x (record x { log = c.fill.new.log }) y c.as_slice.result.now c.filled_generation.result c.in-Done.marks r c.requires.up refl refl refl closed are number written
 
 pub returns-in-Done-clause-answered : goal.returns-in-Done-clause-answered
 returns-in-Done-clause-answered g c = λ y r.

@@ -1,20 +1,19 @@
 use Rattle.std.proofs.Common.{sym, subst}
 use Rattle.std.specs.Prelude.{IfOk}
 use Rattle.co_base.specs.declared.node.Node.TheVariants as node
-use Rattle.co_member.specs.Plans.{carried_out, plan_of}
+use Rattle.co_member.specs.Plans.{carried_out, plan_of, IsSingleIn}
 use Rattle.co_member.specs.Standing.{HasDone, Suits, written_by}
-use Rattle.co_member.specs.Writing.{MayWrite, IsSingleIn, IsAnsweredFor}
+use Rattle.co_node.specs.Writing.{MayWrite, IsAnsweredFor}
 use Rattle.co_member.specs.declared.plan.Course.{Course}
+use Rattle.co_member.proofs.Writable.{may_one}
 use Rattle.co_member.proofs.member.Member.follow.Goals as goal
 
 pub carry_out-requires-clause-stands : goal.carry_out-requires-clause-stands
 carry_out-requires-clause-stands g c = (c.requires.stands.0, c.requires.stands.1)
 
 pub carry_out-requires-clause-writes : goal.carry_out-requires-clause-writes
-carry_out-requires-clause-writes g c = subst (λ (k : Course). MayWrite (plan_of k c.args.self.now.number c.requires.stands.0 c.args.t).writes) c.in-Carries.is c.requires.stands.3
-
-pub carry_out-requires-clause-single : goal.carry_out-requires-clause-single
-carry_out-requires-clause-single g c = subst IsSingleIn c.in-Carries.is c.requires.single
+carry_out-requires-clause-writes g c =
+    may_one c.in-Carries.plan.writes (subst (λ (k : Course). MayWrite (plan_of k c.args.self.now.number c.requires.stands.0 c.args.t).writes) c.in-Carries.is c.requires.stands.3) (subst IsSingleIn c.in-Carries.is c.requires.single)
 
 pub grant_local-requires-clause-stands : goal.grant_local-requires-clause-stands
 grant_local-requires-clause-stands g c =

@@ -11,13 +11,13 @@ use Rattle.co_record.specs.declared.record.Record.{Record}
 use Rattle.co_state.specs.Changes.{sets_of}
 use Rattle.co_state.specs.EngineState.{operations_of}
 use Rattle.co_member.specs.Plans.{plan_of}
-use Rattle.co_member.specs.Standing.{HasEnded, written_by}
-use Rattle.co_member.specs.Writing.{HasWrittenFor, IsAnsweredFor}
+use Rattle.co_member.specs.Standing.{HasEnded, marks_in, written_by}
+use Rattle.co_node.specs.Writing.{HasWrittenFor, IsAnsweredFor}
 use Rattle.co_member.specs.declared.member.Member.{Member}
 use Rattle.co_member.specs.declared.plan.Course.TheVariants.{Grants}
-use Rattle.co_member.specs.declared.plan.Writes.TheVariants.{Forces}
+use Rattle.co_node.specs.declared.writing.Writes.TheVariants.{Forces}
 use Rattle.co_member.proofs.Carrying.{ended_step, lent_record}
-use Rattle.co_member.proofs.Directories.{passed_on, wants_memory}
+use Rattle.co_node.proofs.Directories.{passed_on, wants_memory}
 use Rattle.co_member.proofs.member.Member.grant.Goals as goal
 
 pub returns-in_err-change-clause-answered : goal.returns-in_err-change-clause-answered
@@ -26,7 +26,7 @@ returns-in_err-change-clause-answered g c = λ y r active.
     let w = (plan_of (Grants c.args.coord c.args.count) x.number y c.args.t).writes in
     let home = g.H.Home.seen c.args.home.now in
     subst (λ (v : LogView). IsAnsweredFor w (node.Member x.number) y.log x.log v home home (written_by c.from_residual.result)) (sym c.change.ensures.log)
-    (wants_memory (node.Member x.number) w y.log x.log home c.from_residual.result c.from_residual.ensures r.log c.requires.held c.requires.short)
+    (wants_memory marks_in (node.Member x.number) w y.log x.log home c.from_residual.result c.from_residual.ensures r.log c.requires.held c.requires.short)
 
 pub force_prepare-requires-clause-held : goal.force_prepare-requires-clause-held
 force_prepare-requires-clause-held g c = subst (λ (v : LogView). IsHeld (g.H.Home.seen c.args.home.now) v) (sym c.change.ensures.log) c.requires.held
@@ -57,7 +57,7 @@ returns-in_err-written-clause-answered g c = λ y r active.
     let here = subst (λ (v : LogView). RepresentsLog n v y.log) (sym c.change.ensures.log) r.log in
     let kept = subst (λ (v : LogView). IsAnsweredFor (Forces c.vote_record-item.result) n y.log v c.force_prepare.new.log old new (Err c.in_err-written.field-0.0)) c.change.ensures.log (c.in_err-written.ensures.answered n y.log here) in
     let left = subst (λ (i : Record). IsAnsweredFor (Forces i) n y.log m.log c.force_prepare.new.log old new (Err c.in_err-written.field-0.0)) is kept in
-    passed_on n (Forces item) y.log m.log c.force_prepare.new.log old new c.in_err-written.field-0.0 c.from_residual-in_err-written.result c.from_residual-in_err-written.ensures left
+    passed_on marks_in n (Forces item) y.log m.log c.force_prepare.new.log old new c.in_err-written.field-0.0 c.from_residual-in_err-written.result c.from_residual-in_err-written.ensures left
 
 pub returns-clause-did : goal.returns-clause-did
 returns-clause-did g c = λ y r active.

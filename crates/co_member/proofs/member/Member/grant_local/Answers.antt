@@ -8,15 +8,15 @@ use Rattle.co_node.proofs.Spelled.{unspelled_answered}
 use Rattle.co_record.specs.Spelling.{IsWritable}
 use Rattle.co_record.specs.declared.record.Record.{Record}
 use Rattle.co_member.specs.Plans.{changed, plan_of}
-use Rattle.co_member.specs.Standing.{RepresentsRunning, written_by}
-use Rattle.co_member.specs.Writing.{HasWrittenFor, IsAnsweredFor, MayWrite}
+use Rattle.co_member.specs.Standing.{RepresentsRunning, marks_in, written_by}
+use Rattle.co_node.specs.Writing.{HasWrittenFor, IsAnsweredFor, MayWrite}
 use Rattle.co_member.specs.declared.member.Member.{Member}
 use Rattle.co_member.specs.declared.plan.Change.{Change}
 use Rattle.co_member.specs.declared.plan.Course.TheVariants.{GrantsLocal}
-use Rattle.co_member.specs.declared.plan.Writes.{Writes}
-use Rattle.co_member.specs.declared.plan.Writes.TheVariants.{ForcesBoth}
+use Rattle.co_node.specs.declared.writing.Writes.{Writes}
+use Rattle.co_node.specs.declared.writing.Writes.TheVariants.{ForcesBoth}
 use Rattle.co_member.proofs.Carrying.{ended_step, local_change, local_record, local_writes}
-use Rattle.co_member.proofs.Directories.{passed_on, wants_memory}
+use Rattle.co_node.proofs.Directories.{passed_on, wants_memory}
 use Rattle.co_member.proofs.Writable.{nobody}
 use Rattle.co_member.proofs.member.Member.grant_local.Goals as goal
 
@@ -43,7 +43,7 @@ returns-in_err-batch-clause-answered g c = λ y r active.
     let e = c.in_err-batch.field-0.0 in
     let left = unspelled_answered n m.log y.log (c.vote_record-prepare.result ∷ c.commit_record.result ∷ []) home e r.log c.requires.held c.requires.short (omega arith) c.in_err-batch.ensures in
     let kept = subst (λ (w : Writes). IsAnsweredFor w n y.log m.log m.log home home (Err e)) both left in
-    passed_on n (plan_of (GrantsLocal c.args.count) m.number y c.args.t).writes y.log m.log m.log home home e c.from_residual.result c.from_residual.ensures kept
+    passed_on marks_in n (plan_of (GrantsLocal c.args.count) m.number y c.args.t).writes y.log m.log m.log home home e c.from_residual.result c.from_residual.ensures kept
 
 pub returns-in_err-change-clause-answered : goal.returns-in_err-change-clause-answered
 returns-in_err-change-clause-answered g c = λ y r active.
@@ -51,7 +51,7 @@ returns-in_err-change-clause-answered g c = λ y r active.
     let w = (plan_of (GrantsLocal c.args.count) x.number y c.args.t).writes in
     let home = g.H.Home.seen c.args.home.now in
     subst (λ (v : LogView). IsAnsweredFor w (node.Member x.number) y.log x.log v home home (written_by c.from_residual-in_err-change.result)) (sym c.change.ensures.log)
-    (wants_memory (node.Member x.number) w y.log x.log home c.from_residual-in_err-change.result c.from_residual-in_err-change.ensures r.log c.requires.held c.requires.short)
+    (wants_memory marks_in (node.Member x.number) w y.log x.log home c.from_residual-in_err-change.result c.from_residual-in_err-change.ensures r.log c.requires.held c.requires.short)
 
 pub force_batch-requires-clause-held : goal.force_batch-requires-clause-held
 force_batch-requires-clause-held g c = subst (λ (v : LogView). IsHeld (g.H.Home.seen c.args.home.now) v) (sym c.change.ensures.log) c.requires.held
@@ -84,7 +84,7 @@ returns-in_err-written-clause-answered g c = λ y r active.
     let laid = subst (λ (v : LogView). IsBatchOf v more c.in_ok-batch.batch) (sym c.change.ensures.log) c.in_ok-batch.ensures in
     let kept = subst (λ (v : LogView). IsAnsweredFor (ForcesBoth first item) n y.log v c.force_batch.new.log old new (Err e)) c.change.ensures.log (c.in_err-written.ensures.answered n y.log more here laid) in
     let left = subst (λ (w : Writes). IsAnsweredFor w n y.log m.log c.force_batch.new.log old new (Err e)) both kept in
-    passed_on n (plan_of (GrantsLocal c.args.count) m.number y c.args.t).writes y.log m.log c.force_batch.new.log old new e c.from_residual-in_err-written.result c.from_residual-in_err-written.ensures left
+    passed_on marks_in n (plan_of (GrantsLocal c.args.count) m.number y c.args.t).writes y.log m.log c.force_batch.new.log old new e c.from_residual-in_err-written.result c.from_residual-in_err-written.ensures left
 
 pub returns-clause-did : goal.returns-clause-did
 returns-clause-did g c = λ y r active.

@@ -2,11 +2,11 @@ use Rattle.std.proofs.Common.{sym, subst}
 use Rattle.co_base.specs.declared.node.Node.TheVariants as node
 use Rattle.co_plain.specs.LocalCommit.{member_local_commit}
 use Rattle.co_member.specs.Plans.{local_commit_plan, plan_of}
-use Rattle.co_member.specs.Standing.{Suits, written_by}
-use Rattle.co_member.specs.Writing.{MayWrite, IsAnsweredFor}
+use Rattle.co_member.specs.Standing.{Suits, marks_in, written_by}
+use Rattle.co_node.specs.Writing.{MayWrite, IsAnsweredFor}
 use Rattle.co_member.specs.declared.plan.Plan.{Plan}
 use Rattle.co_member.proofs.Carrying.{planned}
-use Rattle.co_member.proofs.Directories.{wants_memory}
+use Rattle.co_node.proofs.Directories.{wants_memory}
 use Rattle.co_member.proofs.Standings.{unvoted_alike}
 use Rattle.co_member.proofs.Steps.{local_commit_is}
 use Rattle.co_member.proofs.Writable.{local_commit_may, local_commit_suits}
@@ -15,7 +15,7 @@ use Rattle.co_member.proofs.member.Member.local_commit.Goals as goal
 pub returns-in_err-course-clause-answered : goal.returns-in_err-course-clause-answered
 returns-in_err-course-clause-answered g c = λ x r.
     let m = c.args.self.now in
-    wants_memory (node.Member m.number) (local_commit_plan x c.args.t c.args.carried).writes x.log m.log (g.H.Home.seen c.args.home.now) c.from_residual.result
+    wants_memory marks_in (node.Member m.number) (local_commit_plan x c.args.t c.args.carried).writes x.log m.log (g.H.Home.seen c.args.home.now) c.from_residual.result
     c.from_residual.ensures r.log c.requires.held c.lengths.ensures.within
 
 pub follow-requires-clause-stands : goal.follow-requires-clause-stands

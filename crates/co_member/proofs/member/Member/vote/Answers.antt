@@ -3,11 +3,11 @@ use Rattle.co_base.specs.declared.node.Node.TheVariants as node
 use Rattle.co_plain.specs.Member.{member_vote}
 use Rattle.co_plain.specs.MemberStep.{standing_of}
 use Rattle.co_member.specs.Plans.{again_plan, plan_of}
-use Rattle.co_member.specs.Standing.{Suits, written_by}
-use Rattle.co_member.specs.Writing.{MayWrite, IsAnsweredFor}
+use Rattle.co_member.specs.Standing.{Suits, marks_in, written_by}
+use Rattle.co_node.specs.Writing.{MayWrite, IsAnsweredFor}
 use Rattle.co_member.specs.declared.plan.Plan.{Plan}
 use Rattle.co_member.proofs.Carrying.{planned}
-use Rattle.co_member.proofs.Directories.{wants_memory}
+use Rattle.co_node.proofs.Directories.{wants_memory}
 use Rattle.co_member.proofs.Steps.{vote_is}
 use Rattle.co_member.proofs.Writable.{again_may, again_single, again_suits, course_single}
 use Rattle.co_member.proofs.member.Member.vote.Goals as goal
@@ -15,7 +15,7 @@ use Rattle.co_member.proofs.member.Member.vote.Goals as goal
 pub returns-in_err-course-clause-answered : goal.returns-in_err-course-clause-answered
 returns-in_err-course-clause-answered g c = λ x r.
     let m = c.args.self.now in
-    wants_memory (node.Member m.number) (again_plan m.number x c.args.t (standing_of x c.args.t)).writes x.log m.log (g.H.Home.seen c.args.home.now) c.from_residual.result
+    wants_memory marks_in (node.Member m.number) (again_plan m.number x c.args.t (standing_of x c.args.t)).writes x.log m.log (g.H.Home.seen c.args.home.now) c.from_residual.result
     c.from_residual.ensures r.log c.requires.held c.lengths.ensures.within
 
 pub follow-requires-clause-stands : goal.follow-requires-clause-stands
