@@ -15,7 +15,8 @@ use Rattle.co_plain.specs.SoundLogs.{unended_in, log_has_voted, log_has_committe
 use Rattle.co_plain.specs.Quiet.{IsOpen, IsQuiet}
 use Rattle.co_law_base.proofs.Lookups.{look_none}
 use Rattle.co_law_base.proofs.Facts.{Facts}
-use Rattle.co_plain.specs.Premises.{AreTrueVerdicts, IsBetween, AreOwn, AreOwnLogs, AreOpenable}
+use Rattle.co_plain.specs.Premises.{AreTrueVerdicts, AreOwn, AreOwnLogs, AreOpenable}
+use Rattle.co_plain.specs.Numbers.{IsAmong}
 use Rattle.co_law_moves.proofs.Steps.{run_keeps}
 use Rattle.co_law_moves.proofs.Growing.{run_grows}
 use Rattle.co_law_runs.proofs.Agreement.{run_works, opened_works}
@@ -25,7 +26,7 @@ use Rattle.co_law_runs.proofs.InQuiet.{OpenedFit, timer_there, ends_for_good}
 use Rattle.co_law_moves.proofs.Start.{start_facts}
 
 -- whose log tells something is a member of the federation
-member_is : (kinds : List Kind) (coords : ℕ) (fm fc : ℕ → Found) → OnlyOwnLogs kinds coords fm fc → (m t : ℕ) → (log_has_voted (fm m).records t || log_has_committed (fm m).records t) ≡ true → IsBetween m (length kinds)
+member_is : (kinds : List Kind) (coords : ℕ) (fm fc : ℕ → Found) → OnlyOwnLogs kinds coords fm fc → (m t : ℕ) → (log_has_voted (fm m).records t || log_has_committed (fm m).records t) ≡ true → IsAmong m (length kinds)
 member_is kinds coords fm fc own m t h = by (nat_le 1 m && nat_le m (length kinds)) refl
   where
     none : (records : List Record) → records ≡ [] → (log_has_voted records t || log_has_committed records t) ≡ true → ⊥
@@ -37,7 +38,7 @@ member_is kinds coords fm fc own m t h = by (nat_le 1 m && nat_le m (length kind
         now (inl q) = let y : false ≡ true = ap is_some (sym (look_none t)) ∙ q in cc
         now (inr q) = let y : false ≡ true = ap is_some (sym (look_none t)) ∙ q in cc
 
-    by : (b : Bool) → (nat_le 1 m && nat_le m (length kinds)) ≡ b → IsBetween m (length kinds)
+    by : (b : Bool) → (nat_le 1 m && nat_le m (length kinds)) ≡ b → IsAmong m (length kinds)
     by true e = let p = and_parts (nat_le 1 m) (nat_le m (length kinds)) e in let l = p.0 in let k = p.1 in (grind (arith, nat_tests, l), grind (arith, nat_tests, k))
     by false e = absurd (none (fm m).records (own.members m e) h)
 
@@ -60,7 +61,7 @@ every_quiet kinds coords fm fc hs t g own v names quiet open' =
     logs : OpenedFit (run hs (opened kinds coords fm fc))
     logs =
         record {
-          votes = λ m u c h. subst (λ k. IsBetween c k) (sym fit.coordinators) (own.votes m u c (ap (λ k. votes_for (look (recovered_view (k m)).voted u) c) (sym (run_grows hs (opened kinds coords fm fc)).members) ∙ h));
-          commits = λ c u m members h k. subst (λ n. IsBetween m (length n)) (sym fit.kinds)
+          votes = λ m u c h. subst (λ k. IsAmong c k) (sym fit.coordinators) (own.votes m u c (ap (λ k. votes_for (look (recovered_view (k m)).voted u) c) (sym (run_grows hs (opened kinds coords fm fc)).members) ∙ h));
+          commits = λ c u m members h k. subst (λ n. IsAmong m (length n)) (sym fit.kinds)
               (member_is kinds coords fm fc own.own m u (g.sound.participants u c m members (ap (λ n. unended_in (n c) u) (sym (run_grows hs (opened kinds coords fm fc)).coords) ∙ h) k));
         }

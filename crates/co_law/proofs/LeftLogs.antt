@@ -13,12 +13,12 @@ use Rattle.co_plain.specs.Decisions.{votes_for}
 use Rattle.co_plain.specs.Federation.{Federation}
 use Rattle.co_plain.specs.Invariants.{Stable}
 use Rattle.co_plain.specs.MemberView.{recovered_view, first_refused_at_member}
-use Rattle.co_plain.specs.Numbers.{has_number}
+use Rattle.co_plain.specs.Numbers.{has_number, IsAmong}
 use Rattle.co_plain.specs.Opening.{Found, OnlyOwnLogs, opened}
 use Rattle.co_plain.specs.Runs.{run}
 use Rattle.co_plain.specs.SoundLogs.{AreSound, log_votes_for, log_has_voted, log_has_committed, unended_in, has_unended, LogsName, ByVote, ByCommit}
 use Rattle.co_law_base.proofs.Lookups.{is_nothing, look_none}
-use Rattle.co_plain.specs.Premises.{AreTrueVerdicts, IsBetween, AreOwn, AreOwnLogs, MayBeOpened}
+use Rattle.co_plain.specs.Premises.{AreTrueVerdicts, AreOwn, AreOwnLogs, MayBeOpened}
 use Rattle.co_law_node.specs.WholeNodes.{AreWhole}
 use Rattle.co_law_node.proofs.Allowed.{tells, allowed_from}
 use Rattle.co_law_node.proofs.AllowedCommits.{commits_from, unended_up}
@@ -29,12 +29,12 @@ use Rattle.co_law.proofs.Readable.{readable}
 use Rattle.co_law.proofs.WholeRuns.{are_whole}
 
 -- votes of an allowed log name coordinators of the federation
-vote_among : (coords : ℕ) (rs : List Record) → first_refused_at_member coords (reverse rs) ≡ None → (t c : ℕ) → log_votes_for rs t c ≡ true → IsBetween c coords
+vote_among : (coords : ℕ) (rs : List Record) → first_refused_at_member coords (reverse rs) ≡ None → (t c : ℕ) → log_votes_for rs t c ≡ true → IsAmong c coords
 vote_among coords rs allowed t c h = by (look (recovered_view rs).voted t) refl h
   where
-    by : (o : Option Vote) → look (recovered_view rs).voted t ≡ o → votes_for o c ≡ true → IsBetween c coords
+    by : (o : Option Vote) → look (recovered_view rs).voted t ≡ o → votes_for o c ≡ true → IsAmong c coords
     by None e k = absurd (let z : false ≡ true = k in cc)
-    by (Some vote) e k = subst (λ d. IsBetween d coords) (eqb-true vote.coord c k) ((tells coords rs (allowed_from coords rs allowed)).among t vote e)
+    by (Some vote) e k = subst (λ d. IsAmong d coords) (eqb-true vote.coord c k) ((tells coords rs (allowed_from coords rs allowed)).among t vote e)
 
 pub allowed_own : (kinds : List Kind) (coords : ℕ) (fm fc : ℕ → Found) → OnlyOwnLogs kinds coords fm fc →
     ((m : ℕ) → first_refused_at_member coords (reverse (fm m).records) ≡ None) → AreOwnLogs kinds coords fm fc
@@ -79,7 +79,7 @@ module _ (most : ℕ) (logs : ℕ → List Record) where
       by true = all n
       by false = none
 
-between_own : (most n : ℕ) → IsBetween n most → (nat_le 1 n && nat_le n most) ≡ true
+between_own : (most n : ℕ) → IsAmong n most → (nat_le 1 n && nat_le n most) ≡ true
 between_own most n i = and_from _ _ (low n i.0) (high n i.1)
   where
     low : (k : ℕ) → 1 ≤ k → nat_le 1 k ≡ true

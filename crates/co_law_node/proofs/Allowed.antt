@@ -20,7 +20,7 @@ use Rattle.co_law_base.proofs.Commits.{holds_cases}
 use Rattle.co_law_base.proofs.ImageRules.{EachEntry, each_entry}
 use Rattle.co_law_base.proofs.ViewRules.{three_parts, cast_free, forget_free, install_free}
 use Rattle.co_law_base.proofs.ViewMoves.{holds_without, put_holds}
-use Rattle.co_law_node.specs.WholeMembers.{IsAmong}
+use Rattle.co_plain.specs.Numbers.{IsAmong}
 use Rattle.co_law_node.proofs.FirstRefused.{AllAllowed, older_allowed, all_from_none, none_from_all}
 
 -- each record of a member's log is allowed where it stands; the newest is first
@@ -43,7 +43,7 @@ module _ (coords : ℕ) where
 pub record Tells (coords : ℕ) (v : MemberView) : Type 0 where
   pub free : VotedAreConflictFree v
   pub apart : (t : ℕ) → holds v.committed t ≡ true → holds v.voted t ≡ false
-  pub among : (t : ℕ) (vote : Vote) → look v.voted t ≡ Some vote → IsAmong coords vote.coord
+  pub among : (t : ℕ) (vote : Vote) → look v.voted t ≡ Some vote → IsAmong vote.coord coords
 
 pub tells_nothing : (coords : ℕ) → Tells coords nothing_known
 tells_nothing coords =
@@ -75,7 +75,7 @@ module _ (coords : ℕ) (v : MemberView) (f : Tells coords v) where
       never u p (inr k) = let z : true ≡ false = sym p.1 ∙ f.apart u k in cc
 
   pub tells_cast : (t : ℕ) (vote : Vote) → ((u : ℕ) (other : Vote) → t ≢ u → look v.voted u ≡ Some other → voted_holds vote.sets other.sets ≡ false) →
-      holds v.committed t ≡ false → IsAmong coords vote.coord → Tells coords (cast_in v t vote)
+      holds v.committed t ≡ false → IsAmong vote.coord coords → Tells coords (cast_in v t vote)
   tells_cast t vote way new own =
       record {
         free = cast_free v t vote f.free way;
@@ -87,15 +87,15 @@ module _ (coords : ℕ) (v : MemberView) (f : Tells coords v) where
       never u k (inl e) = let z : true ≡ false = sym k ∙ ap (holds v.committed) (sym e) ∙ new in cc
       never u k (inr w) = let z : true ≡ false = sym w ∙ f.apart u k in cc
 
-      by : (u : ℕ) (other : Vote) → ((t ≡ u) × (vote ≡ other)) ⊎ ((t ≢ u) × (look v.voted u ≡ Some other)) → IsAmong coords other.coord
-      by u other (inl p) = subst (λ z. IsAmong coords z.coord) p.1 own
+      by : (u : ℕ) (other : Vote) → ((t ≡ u) × (vote ≡ other)) ⊎ ((t ≢ u) × (look v.voted u ≡ Some other)) → IsAmong other.coord coords
+      by u other (inl p) = subst (λ z. IsAmong z.coord coords) p.1 own
       by u other (inr p) = f.among u other p.1
 
 -- what an allowed vote comes with
 record MayVote (coords place : ℕ) (v : MemberView) (t coord : ℕ) (sets : Sets) : Type 0 where
   voted : holds v.voted t ≡ false
   committed : holds v.committed t ≡ false
-  among : IsAmong coords coord
+  among : IsAmong coord coords
   free : conflicts_with_voted v sets ≡ false
 
 false_of : (b : Bool) → not b ≡ true → b ≡ false
@@ -170,7 +170,7 @@ no_conflict v sets h =
     (none_first (λ u vote. sets_conflict vote.sets sets) (entries v.voted)
     (each_entry (λ u vote. sets_conflict vote.sets sets ≡ false) (entries v.voted) (entries_sorted v.voted) (λ u x g. h u x (get-entries v.voted u ∙ g))))
 
-pub may_vote : (coords place : ℕ) (v : MemberView) (t coord : ℕ) (sets : Sets) → 1 ≤ place → holds v.voted t ≡ false → holds v.committed t ≡ false → IsAmong coords coord →
+pub may_vote : (coords place : ℕ) (v : MemberView) (t coord : ℕ) (sets : Sets) → 1 ≤ place → holds v.voted t ≡ false → holds v.committed t ≡ false → IsAmong coord coords →
     ((u : ℕ) (other : Vote) → look v.voted u ≡ Some other → sets_conflict other.sets sets ≡ false) →
     (nat_le 1 place && not (holds v.voted t) && not (holds v.committed t) && nat_le 1 coord && nat_le coord coords && not (conflicts_with_voted v sets)) ≡ true
 may_vote coords place v t coord sets behind voted committed among free =

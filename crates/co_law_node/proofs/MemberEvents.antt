@@ -18,7 +18,7 @@ use Rattle.co_state.specs.LockRule.{lock_blocker}
 use Rattle.co_state.specs.VotingRule.{vote_of, kept_count}
 use Rattle.co_plain.specs.declared.member_state.AskedMark.{AskedMark}
 use Rattle.co_plain.specs.declared.member_state.MemberState.{MemberState}
-use Rattle.co_plain.specs.Numbers.{counted}
+use Rattle.co_plain.specs.Numbers.{counted, IsAmong}
 use Rattle.co_plain.specs.LogWrite.{with_stop}
 use Rattle.co_plain.specs.MemberView.{recovered_view, first_refused_at_member}
 use Rattle.co_plain.specs.MemberStep.{says, standing_by, with_log}
@@ -28,7 +28,6 @@ use Rattle.co_plain.specs.LocalCommit.{local_coord, local_commit_by, member_loca
 use Rattle.co_plain.specs.Opening.{Found, made, member_with, opened_member, kind_of}
 use Rattle.co_plain.specs.Invariants.{Memory, view, stands}
 use Rattle.co_law_base.proofs.Lookups.{is_nothing, look_none, holds_found}
-use Rattle.co_law_node.specs.WholeMembers.{IsAmong}
 use Rattle.co_law_node.proofs.Allowed.{allowed_from}
 use Rattle.co_law_node.proofs.WholeMoves.{Whole, whole_down, stable_allowed, alike, drops, drops_vote, marks, runs}
 use Rattle.co_law_node.proofs.WholeVotes.{operates, casts, installs, commits_alone}
@@ -67,7 +66,7 @@ module _ (coords : ℕ) (x : MemberState) (w : Whole coords x) where
       kept false e = w
 
   -- a vote, whatever its verdict
-  votes_on : (m t coord count : ℕ) → IsAmong coords coord → x.up ≡ true → stands (view Memory x) t ≡ false → Whole coords (vote_on m x t coord count).state
+  votes_on : (m t coord count : ℕ) → IsAmong coord coords → x.up ≡ true → stands (view Memory x) t ≡ false → Whole coords (vote_on m x t coord count).state
   votes_on m t coord count own u n = by (vote_of x.engine t count) refl
     where
       by : (v : Verdict) → vote_of x.engine t count ≡ v → Whole coords (vote_by m x t coord count v).state
@@ -162,7 +161,7 @@ module _ (coords : ℕ) (x : MemberState) (w : Whole coords x) where
       by false e false false = w
 
 module _ (coords : ℕ) (x : MemberState) (w : Whole coords x) where
-  pub whole_prepare : (m t coord count : ℕ) → IsAmong coords coord → 1 ≤ count → x.up ≡ true → Whole coords (member_prepare m x t coord count).state
+  pub whole_prepare : (m t coord count : ℕ) → IsAmong coord coords → 1 ≤ count → x.up ≡ true → Whole coords (member_prepare m x t coord count).state
   whole_prepare m t coord count own some u =
       by (holds x.engine.active t) refl (holds x.engine.voted t) refl (holds x.committed t) refl
     where

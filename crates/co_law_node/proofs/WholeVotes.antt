@@ -26,7 +26,8 @@ use Rattle.co_law_base.proofs.Lookups.{put_cases, put_here, put_there, without_c
 use Rattle.co_law_base.proofs.Commits.{holds_cases, holds_new, holds_more}
 use Rattle.co_law_base.proofs.ViewMoves.{neither_stands, holds_without, holds_put}
 use Rattle.co_law_base.proofs.ViewRules.{apart_ways}
-use Rattle.co_law_node.specs.WholeMembers.{was_installed, IsAmong}
+use Rattle.co_law_node.specs.WholeMembers.{was_installed}
+use Rattle.co_plain.specs.Numbers.{IsAmong}
 use Rattle.co_law_node.proofs.Allowed.{Allowed, may_vote}
 use Rattle.co_law_node.proofs.WholeMoves.{Whole, Forcible, IsActiveHere, runs, forces, more_headed, fewer_marked}
 
@@ -88,7 +89,7 @@ module _ (coords : ℕ) (x : MemberState) (w : Whole coords x) where
   abbrev own_vote : ℕ → ℕ → ℕ → Vote
   own_vote t coord count = record { coord = coord; count = count; sets = sets_of (operations_of x.engine t) }
 
-  vote_allowed : (t coord count carried : ℕ) → vote_of x.engine t carried ≡ VoteYes → stands (view Memory x) t ≡ false → IsAmong coords coord →
+  vote_allowed : (t coord count carried : ℕ) → vote_of x.engine t carried ≡ VoteYes → stands (view Memory x) t ≡ false → IsAmong coord coords →
       Allowed coords (prepare_record t coord count (sets_of (operations_of x.engine t)) ∷ (x.log.waiting ++ x.log.stable))
   vote_allowed t coord count carried granted n own = (
     subst (λ v. member_allows coords (length (x.log.waiting ++ x.log.stable)) v (prepare_record t coord count (sets_of (operations_of x.engine t))) ≡ true) (sym w.logged)
@@ -113,7 +114,7 @@ module _ (coords : ℕ) (x : MemberState) (w : Whole coords x) where
 
   -- a yes is forced
   pub casts : (m t coord count : ℕ) (a : Answer) (message : Option Message) → x.up ≡ true → vote_of x.engine t count ≡ VoteYes →
-      stands (view Memory x) t ≡ false → IsAmong coords coord →
+      stands (view Memory x) t ≡ false → IsAmong coord coords →
       Whole coords (force_member m (voted_state x t coord count) (prepare_record t coord count (sets_of (operations_of x.engine t)) ∷ []) a message).state
   casts m t coord count a message u granted n own =
       forces coords m (voted_state x t coord count) (prepare_record t coord count (sets_of (operations_of x.engine t)) ∷ []) a message
@@ -176,7 +177,7 @@ module _ (coords : ℕ) (x : MemberState) (w : Whole coords x) where
 
   -- a local transaction votes and commits in one batch
   pub commits_alone : (m t coord count carried : ℕ) (a : Answer) (message : Option Message) → x.up ≡ true → vote_of x.engine t carried ≡ VoteYes →
-      stands (view Memory x) t ≡ false → IsAmong coords coord →
+      stands (view Memory x) t ≡ false → IsAmong coord coords →
       Whole coords (force_member m (installed_state (voted_state x t coord count) t)
       (log.Commit t [] ∷ prepare_record t coord count (sets_of (operations_of x.engine t)) ∷ []) a message).state
   commits_alone m t coord count carried a message u granted n own =

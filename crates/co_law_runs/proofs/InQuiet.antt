@@ -14,7 +14,7 @@ use Rattle.co_plain.specs.declared.happening.Happening.TheVariants as happening
 use Rattle.co_plain.specs.declared.session.Session.{Session}
 use Rattle.co_plain.specs.declared.standing.Standing.{Standing}
 use Rattle.co_plain.specs.declared.standing.Standing.TheVariants.{IsActive, IsVoted, IsInstalled, IsAbsent}
-use Rattle.co_plain.specs.Numbers.{first_lacking, has_number}
+use Rattle.co_plain.specs.Numbers.{first_lacking, has_number, IsAmong}
 use Rattle.co_plain.specs.MemberView.{recovered_view}
 use Rattle.co_plain.specs.MemberStep.{standing_by, standing_of, dropped}
 use Rattle.co_plain.specs.Member.{coord_of, timer_by}
@@ -41,7 +41,7 @@ use Rattle.co_law_moves.proofs.Steps.{step_keeps}
 use Rattle.co_law_moves.proofs.MemberEvents.{active_is, installed_is, votes_own}
 use Rattle.co_law_moves.proofs.Onward.{present}
 use Rattle.co_law_runs.proofs.Working.{Working}
-use Rattle.co_plain.specs.Premises.{AreTrueVerdicts, IsBetween, IsOwnNode}
+use Rattle.co_plain.specs.Premises.{AreTrueVerdicts, IsOwnNode}
 use Rattle.co_law_moves.specs.MoveTraces.{run_items}
 use Rattle.co_law_runs.specs.OnlyTimers.{EndsForGood, SomeTimerEnds, tells_commit}
 use Rattle.co_law_runs.proofs.Fitting.{FitSessions}
@@ -85,7 +85,7 @@ module _ (s : Federation) (q : FitSessions (length s.kinds) s.coordinators s.ses
     where
       home : (at : Node) → IsOwnNode (length s.kinds) s.coordinators at → same_node at (node.Coord c) ≡ true → IsCoordinator s c
       home (node.Member m) fits k = absurd (let z : false ≡ true = k in cc)
-      home (node.Coord d) fits k = subst (λ e. IsBetween e s.coordinators) (eqb-true d c k) fits
+      home (node.Coord d) fits k = subst (λ e. IsAmong e s.coordinators) (eqb-true d c k) fits
 
       by : (z : Option Session) → look s.sessions t ≡ z → by_coord z c ≡ true → IsCoordinator s c
       by None e k = absurd (let z : false ≡ true = k in cc)

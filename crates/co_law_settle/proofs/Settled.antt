@@ -28,7 +28,8 @@ use Rattle.co_plain.specs.Quiet.{node_up, IsMember, IsOpen, VotedAt, IsQuiet, Is
 use Rattle.co_plain.specs.Settling.{SettlesBy}
 use Rattle.co_law_base.proofs.Lookups.{look_none, found_holds}
 use Rattle.co_law_base.proofs.Facts.{Facts}
-use Rattle.co_plain.specs.Premises.{AreTrueVerdicts, IsBetween, AreOwn, AreOwnLogs, AreOpenable}
+use Rattle.co_plain.specs.Premises.{AreTrueVerdicts, AreOwn, AreOwnLogs, AreOpenable}
+use Rattle.co_plain.specs.Numbers.{IsAmong}
 use Rattle.co_law_moves.proofs.Steps.{run_keeps, step_keeps}
 use Rattle.co_law_moves.proofs.Growing.{Grows, grows_on, run_grows}
 use Rattle.co_law_moves.proofs.Derived.{logs_give}
@@ -50,14 +51,14 @@ use Rattle.co_law_settle.proofs.QuietTimers.{quiet_timers}
 use Rattle.co_law_settle.proofs.OneWay.{one_way}
 
 -- whose log tells something is a member of the federation
-member_is : (kinds : List Kind) (coords : ℕ) (fm fc : ℕ → Found) → OnlyOwnLogs kinds coords fm fc → (m t : ℕ) → (log_has_voted (fm m).records t || log_has_committed (fm m).records t) ≡ true → IsBetween m (length kinds)
+member_is : (kinds : List Kind) (coords : ℕ) (fm fc : ℕ → Found) → OnlyOwnLogs kinds coords fm fc → (m t : ℕ) → (log_has_voted (fm m).records t || log_has_committed (fm m).records t) ≡ true → IsAmong m (length kinds)
 member_is kinds coords fm fc own m t h = by (nat_le 1 m && nat_le m (length kinds)) refl
   where
     nothing : (holds (recovered_view []).voted t ≡ true) ⊎ (holds (recovered_view []).committed t ≡ true) → ⊥
     nothing (inl q) = let y : false ≡ true = ap is_some (sym (look_none t)) ∙ q in cc
     nothing (inr q) = let y : false ≡ true = ap is_some (sym (look_none t)) ∙ q in cc
 
-    by : (b : Bool) → (nat_le 1 m && nat_le m (length kinds)) ≡ b → IsBetween m (length kinds)
+    by : (b : Bool) → (nat_le 1 m && nat_le m (length kinds)) ≡ b → IsAmong m (length kinds)
     by true e = let p = and_parts (nat_le 1 m) (nat_le m (length kinds)) e in let l = p.0 in let k = p.1 in (grind (arith, nat_tests, l), grind (arith, nat_tests, k))
     by false e = absurd (nothing (or_cases _ _ (ap (λ rs. log_has_voted rs t || log_has_committed rs t) (sym (own.members m e)) ∙ h)))
 
@@ -100,8 +101,8 @@ module _ (kinds : List Kind) (coords : ℕ) (fm fc : ℕ → Found) (hs : List H
         sessions = subst (λ k. FitSessions (length k) (run hs (opened kinds coords fm fc)).coordinators (run hs (opened kinds coords fm fc)).sessions) (sym fit.kinds)
             (subst (λ k. FitSessions (length kinds) k (run hs (opened kinds coords fm fc)).sessions) (sym fit.coordinators) fit.sessions);
         opened = record {
-          votes = λ m u c h. subst (λ k. IsBetween c k) (sym fit.coordinators) (own.votes m u c (ap (λ k. votes_for (look (recovered_view (k m)).voted u) c) (sym (run_grows hs (opened kinds coords fm fc)).members) ∙ h));
-          commits = λ c u m members h k. subst (λ n. IsBetween m (length n)) (sym fit.kinds)
+          votes = λ m u c h. subst (λ k. IsAmong c k) (sym fit.coordinators) (own.votes m u c (ap (λ k. votes_for (look (recovered_view (k m)).voted u) c) (sym (run_grows hs (opened kinds coords fm fc)).members) ∙ h));
+          commits = λ c u m members h k. subst (λ n. IsAmong m (length n)) (sym fit.kinds)
               (member_is kinds coords fm fc own.own m u (g.sound.participants u c m members (ap (λ n. unended_in (n c) u) (sym (run_grows hs (opened kinds coords fm fc)).coords) ∙ h) k));
         };
       }
