@@ -5,6 +5,7 @@ pub mod ImageRules
 pub mod Facts
 pub mod Carrying
 pub mod Commits
+pub mod NumberSets
 pub mod TwoViews
 pub mod ViewMoves
 pub mod MemberFrame

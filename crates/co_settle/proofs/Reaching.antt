@@ -31,7 +31,7 @@ use Rattle.co_plain.specs.Premises.{AreTrueVerdicts, IsTrueVerdict, AreOwn, AreO
 use Rattle.co_plain.specs.Numbers.{IsAmong}
 use Rattle.co_law_node.specs.WholeNodes.{AreWhole, AreWritable}
 use Rattle.co_law_runs.proofs.Fitting.{Fit, run_fits}
-use Rattle.co_law_settle.proofs.Settled.{Reached, reached}
+use Rattle.co_law_runs.proofs.Reached.{Reached, reached}
 use Rattle.co_world.specs.Conditions.{IsReady}
 use Rattle.co_settle.specs.Reached.{IsReached}
 
