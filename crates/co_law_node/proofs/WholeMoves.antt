@@ -1,6 +1,5 @@
 -- What a member's changes keep of a whole one.
 use Rattle.std.proofs.Common.{◌≡◌, ◌≢◌, ◌⊎◌, inl, inr, ℕ, Bool, true, false, ◌≤◌, List, ◌++◌, length, Option, Some, refl, sym, ap, ◌∙◌, subst, arith}
-use Rattle.std.proofs.lemmas.Bool.{or_from, false_from_ne_true}
 use Rattle.std.proofs.lemmas.List.{length-append}
 use Rattle.co_base.specs.declared.head.Kind.{Kind}
 use Rattle.co_message.specs.declared.answer.Answer.{Answer}
@@ -22,7 +21,7 @@ use Rattle.co_plain.specs.MemberStep.{with_log, dropped, member_down, member_dow
 use Rattle.co_plain.specs.Member.{with_mark, most_operations}
 use Rattle.co_plain.specs.Invariants.{Memory, view, stands}
 use Rattle.co_law_base.proofs.Lookups.{is_nothing, look_none, put_cases, without_cases}
-use Rattle.co_law_base.proofs.ViewMoves.{neither_stands, holds_without, still_holds}
+use Rattle.co_law_base.proofs.ViewMoves.{neither_stands, still_holds, forget_leaves}
 use Rattle.co_law_base.proofs.LogMoves.{without_absent, not_held}
 use Rattle.co_law_node.specs.WholeMembers.{AbortsAlone, was_installed}
 use Rattle.co_plain.specs.Numbers.{IsAmong}
@@ -144,13 +143,7 @@ module _ (coords : ℕ) (x : MemberState) (w : Whole coords x) where
       }
     where
       active : (k : ℕ) (os : List Operation) → look x.engine.active k ≡ Some os → IsActiveHere (with_log (dropped x t) (with_waiting x.log (log.Abort t))) k os
-      active k os h =
-          let a = w.keeps.active k os h in
-          let p = neither_stands (view Memory x) k a.0 in (
-            or_from _ _ (false_from_ne_true _ (λ q. let z : true ≡ false = sym (holds_without x.engine.voted t k q).1 ∙ p.0 in cc)) p.1,
-            a.1,
-            a.2,
-          )
+      active k os h = let a = w.keeps.active k os h in (forget_leaves (view Memory x) t k a.0, a.1, a.2)
 
   -- a prepare is marked
   pub marks : (t coord count : ℕ) → x.up ≡ true → holds x.engine.active t ≡ true → IsAmong coord coords → 1 ≤ count → Whole coords (with_mark x t coord count)
