@@ -16,6 +16,7 @@ pub mod KeptTold
 pub mod LogMoves
 pub mod VoteMoves
 pub mod Filling
+pub mod SessionPut
 pub mod Beginning
 pub mod Asking
 pub mod Operating
