@@ -38,7 +38,7 @@ use Rattle.co_law_base.proofs.CoordMoves.{open_unsettled}
 use Rattle.co_law_base.proofs.Sending.{parts_told, part_member}
 use Rattle.co_law_base.proofs.Taking.{took_takes}
 use Rattle.co_law_moves.proofs.Steps.{step_keeps}
-use Rattle.co_law_moves.proofs.MemberEvents.{active_is, installed_is, votes_own}
+use Rattle.co_law_moves.proofs.Standings.{active_is, installed_is, votes_own}
 use Rattle.co_law_moves.proofs.Onward.{present}
 use Rattle.co_law_runs.proofs.Working.{Working}
 use Rattle.co_plain.specs.Premises.{AreTrueVerdicts, IsOwnNode}
