@@ -94,18 +94,7 @@ module _ (s : Federation) (f : Facts s) (t : ℕ) (by' : Node) (new : seen (rest
 
   begin_facts : (l : Later (rest_of s) coord with_new s.sent s.member) → ((d : ℕ) → CoordHas (changed (rest_of s) coord with_new s.sent) d (coord d)) →
       ((d u : ℕ) (members : List ℕ) → unended_in (coord d).log.stable u ≡ Some members → unended_in (s.coord d).log.stable u ≡ Some members) →
-      Facts (record {
-        kinds = s.kinds;
-        coordinators = s.coordinators;
-        member = s.member;
-        coord = coord;
-        sessions = with_new;
-        sent = s.sent;
-        decided = s.decided;
-        opened_member = s.opened_member;
-        opened_coord = s.opened_coord;
-        used = s.used;
-      })
+      Facts (record s { coord = coord; sessions = with_new })
   begin_facts l coords back =
       record {
         numbers = begin_numbers;
