@@ -42,7 +42,7 @@ use Rattle.co_law_moves.proofs.Standings.{active_is, installed_is, votes_own}
 use Rattle.co_law_moves.proofs.Onward.{present}
 use Rattle.co_law_runs.proofs.Working.{Working}
 use Rattle.co_plain.specs.Premises.{AreTrueVerdicts, IsOwnNode}
-use Rattle.co_law_moves.specs.MoveTraces.{run_items}
+use Rattle.co_law_moves.specs.MoveTraces.{items_along}
 use Rattle.co_law_runs.specs.OnlyTimers.{EndsForGood, SomeTimerEnds, tells_commit}
 use Rattle.co_law_runs.proofs.Fitting.{FitSessions}
 use Rattle.co_law_runs.proofs.Hopeless.{Hopeless, Dead, Lost, run_tells_none, step_works}
@@ -183,7 +183,7 @@ module _ (s : Federation) (f : Facts s) (w : Working s) where
 
   -- after a timer that leaves it hopeless no commit record of it becomes stable
   pub timer_never : (t : ℕ) (at : Node) → Hopeless (timed t at).state t → (hs : List Happening) → AreTrueVerdicts hs (timed t at).state →
-      tells_commit (trace_of (run_items hs (timed t at).state)) t ≡ false
+      tells_commit (trace_of (items_along hs (timed t at).state)) t ≡ false
   timer_never t at hopeless hs v =
       run_tells_none hs (timed t at).state (step_keeps s f (happening.Line (event.Timer t at)) tt) (step_works s f (happening.Line (event.Timer t at)) tt w) t hopeless v
 
