@@ -15,7 +15,7 @@ use Rattle.co_state.specs.Table.{look}
 use Rattle.co_plain.specs.CoordStep.{members_of}
 use Rattle.co_plain.specs.CoordView.{recovered_commits}
 use Rattle.co_plain.specs.Federation.{Federation}
-use Rattle.co_plain.specs.Numbers.{has_number}
+use Rattle.co_plain.specs.Numbers.{has_number, IsAmong}
 use Rattle.co_plain.specs.Quiet.{lacks_yes, lacks_ack}
 use Rattle.co_plain.specs.SoundLogs.{unended_in}
 use Rattle.co_plain.specs.declared.coord_state.Entry.{Entry}
@@ -23,7 +23,6 @@ use Rattle.co_plain.specs.declared.coord_state.Entry.TheVariants as entry
 use Rattle.co_law_base.proofs.Commits.{commit_cases}
 use Rattle.co_law_base.proofs.Lookups.{is_nothing, look_none, without_cases}
 use Rattle.co_law_base.proofs.Sending.{part_member}
-use Rattle.co_law_node.specs.WholeMembers.{IsAmong}
 use Rattle.co_coord.specs.Reading.{lacking_of, stage_of}
 use Rattle.co_coord.specs.declared.reading.Stage.TheVariants as stage
 use Rattle.co_cluster.specs.Conditions.{IsReady}
@@ -120,7 +119,7 @@ unended_ascending (log.Commit u ns ∷ rs) b t ms e = by (unended_ascending rs b
 
 -- ---- a coordinator
 
-module _ (s : Federation) (ready : IsReady s) (c : ℕ) (own : IsAmong s.coordinators c) (t m : ℕ) (some : 1 ≤ m) where
+module _ (s : Federation) (ready : IsReady s) (c : ℕ) (own : IsAmong c s.coordinators) (t m : ℕ) (some : 1 ≤ m) where
   named_yes : (o : Option Entry) → look (s.coord c).table t ≡ o → stage_of o ≡ stage.Collecting → names (lacking_of (m - 1) o) m ≡ lacks_yes o m
   named_yes None is e = absurd (cc)
   named_yes (Some entry.Idle) is e = absurd (cc)

@@ -23,12 +23,12 @@ use Rattle.co_plain.specs.Invariants.{Memory, Stable, view, stands}
 use Rattle.co_plain.specs.Member.{most_operations, prepare_record, unless_blocked, member_op}
 use Rattle.co_plain.specs.MemberLog.{prepares_onto, member_spare}
 use Rattle.co_plain.specs.MemberStep.{says}
-use Rattle.co_plain.specs.Numbers.{counted}
+use Rattle.co_plain.specs.Numbers.{counted, IsAmong}
 use Rattle.co_plain.specs.Step.{reply_in}
 use Rattle.co_plain.specs.Wire.{was_sent}
 use Rattle.co_law_base.proofs.ImageRules.{EachEntry, entry_has}
 use Rattle.co_law_base.proofs.Lookups.{apart_by, is_nothing}
-use Rattle.co_law_node.specs.WholeMembers.{IsAmong, IsWholeMember, was_installed}
+use Rattle.co_law_node.specs.WholeMembers.{IsWholeMember, was_installed}
 use Rattle.co_law_node.specs.Writable.{IsWithinBounds}
 use Rattle.co_law_node.proofs.MemberEvents.{few_kept}
 use Rattle.co_law_node.proofs.MemberLaws.{as_kept}
@@ -107,7 +107,7 @@ module _ (x : MemberState) (t carried : ℕ) (op : Op) where
 -- ---- what the calls ask for
 
 module _ (s : Federation) (ready : IsReady s) where
-  module _ (m : ℕ) (own : IsAmong (length s.kinds) m) where
+  module _ (m : ℕ) (own : IsAmong m (length s.kinds)) where
     pub takes_note : (note : Message) → was_sent s.sent note ≡ true → (s.member m).up ≡ true → MemberMay s.coordinators (to_member.Deliver note) (s.member m)
     takes_note (message.Prepare t c o n) sent up = let p = ready.whole.prepares t c o n sent in (up, p.1, λ granted. (ready.writable.member m own).vote t c n p.0 p.1 granted)
     takes_note (message.Decide t c o commit) sent up = (up, tt, tt)
@@ -128,7 +128,7 @@ module _ (s : Federation) (ready : IsReady s) where
   pub restarts_member : (m : ℕ) → MemberMay s.coordinators to_member.Restart (s.member m)
   restarts_member m = record { allowed = (ready.whole.member m).readable Stable; free = (ready.whole.member m).conflict_free Stable }
 
-  module _ (c : ℕ) (own : IsAmong s.coordinators c) where
+  module _ (c : ℕ) (own : IsAmong c s.coordinators) where
     pub hears_note : (note : Message) → (s.coord c).up ≡ true → CoordMay (length s.kinds) c (to_coord.Deliver note) (s.coord c)
     hears_note note up = (up, λ t parts yeses is. (ready.writable.coord c own).decision t parts yeses is)
 

@@ -16,7 +16,7 @@ use Rattle.co_plain.specs.declared.coord_step.CoordStep.{CoordStep as PlainStep}
 use Rattle.co_law_node.proofs.CoordLaws.{coord_stays_whole}
 use Rattle.co_law_node.proofs.WritableCoords.{coord_stays}
 use Rattle.co_law_node.specs.WholeCoords.{CoordStays, CoordStaysWhole, IsWholeCoord}
-use Rattle.co_law_node.specs.WholeMembers.{IsAmong}
+use Rattle.co_plain.specs.Numbers.{IsAmong}
 use Rattle.co_law_node.specs.Writable.{CoordStaysWritable, IsWritableCoord}
 use Rattle.co_coord.specs.Restating.{IsCheckpointed}
 use Rattle.co_coord.specs.Standing.{is_up, HasDone, IsSame}
@@ -52,7 +52,7 @@ module _ (home : HomeMemory) (x : Coord) (p : IsPlayed home x) where
   played after new step d same held done whole writable =
       record {
         members = same.members ∙ p.members;
-        own = subst (IsAmong most_coordinators) (sym same.number) p.own;
+        own = subst (λ c. IsAmong c most_coordinators) (sym same.number) p.own;
         held = held;
         plain = step.state;
         stands = done.state;

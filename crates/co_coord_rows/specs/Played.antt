@@ -1,5 +1,5 @@
 -- A coordinator over a directory in memory that stands for a plain one.
-use Rattle.std.specs.Prelude.{ℕ, Bool, true, ◌≡◌, List, [], length}
+use Rattle.std.specs.Prelude.{ℕ, Bool, true, ◌≡◌, List, []}
 use Rattle.co_base.specs.Order.{IsAscending}
 use Rattle.co_base.specs.declared.node.Node.TheVariants as node
 use Rattle.co_base.specs.declared.part.Part.{Part}
@@ -13,7 +13,7 @@ use Rattle.co_plain.specs.CoordView.{all_up_to}
 use Rattle.co_plain.specs.Opening.{opened_log}
 use Rattle.co_plain.specs.declared.coord_state.CoordState.{CoordState}
 use Rattle.co_law_node.specs.WholeCoords.{IsWholeCoord}
-use Rattle.co_law_node.specs.WholeMembers.{IsAmong}
+use Rattle.co_plain.specs.Numbers.{IsAmong}
 use Rattle.co_law_node.specs.Writable.{IsWritableCoord}
 use Rattle.co_coord.specs.Standing.{is_up, RepresentsCoord}
 use Rattle.co_coord.specs.declared.coord.Coord.{Coord}
@@ -25,7 +25,7 @@ IsHeldIn home log = IsHeld (memory_seen home) log
 -- a coordinator of three members, whose log the directory has, stands for some plain one that is whole and writable
 pub record IsPlayed (home : HomeMemory) (coord : Coord) : Type 0 where
   pub members : coord.members ≡ 3
-  pub own : IsAmong most_coordinators coord.number
+  pub own : IsAmong coord.number most_coordinators
   pub held : IsHeldIn home coord.log
   pub plain : CoordState
   pub stands : RepresentsCoord coord plain

@@ -42,9 +42,9 @@ use Rattle.co_plain.specs.Promises.{says_committed, is_about, asks_for, is_ackno
 use Rattle.co_law_base.proofs.Facts.{rest_of, by_coord, Facts}
 use Rattle.co_plain.specs.Premises.{AreTrueVerdicts}
 use Rattle.co_law_moves.proofs.Marks.{aborts_quiet, ends_quiet, commit_marks}
-use Rattle.co_law_moves.proofs.CoordEvents.{decides_there}
-use Rattle.co_law_moves.proofs.ClientEvents.{by_there}
-use Rattle.co_law_moves.proofs.LocalEvents.{decided_alone, batch_alone, decides_alone}
+use Rattle.co_law_moves.proofs.CoordMade.{decides_there}
+use Rattle.co_law_moves.proofs.ClientMade.{by_there}
+use Rattle.co_law_moves.proofs.LocalMade.{decided_alone, batch_alone, decides_alone}
 use Rattle.co_law_moves.proofs.Steps.{step_keeps}
 use Rattle.co_law_moves.proofs.Growing.{run_grows}
 

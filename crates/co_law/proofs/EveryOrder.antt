@@ -20,7 +20,7 @@ use Rattle.co_plain.specs.Invariants.{Memory}
 use Rattle.co_law_base.proofs.Lookups.{look_none}
 use Rattle.co_law_base.proofs.Facts.{Facts}
 use Rattle.co_plain.specs.Premises.{AreTrueVerdicts, AreOpenable}
-use Rattle.co_law_moves.specs.MoveTraces.{run_items}
+use Rattle.co_law_moves.specs.MoveTraces.{items_along}
 use Rattle.co_law_runs.proofs.Acts.{ActedAs, acted}
 use Rattle.co_law_runs.proofs.Deciders.{homed, home_of}
 use Rattle.co_law_runs.proofs.Traced.{acts_traced}
@@ -62,14 +62,14 @@ abbrev InOrder : List Kind → List Trace → Type 0
 InOrder kinds tr = (t u m : ℕ) → t ≢ u → has_number (decisions_in tr) t ≡ true → has_number (decisions_in tr) u ≡ true → Precedes kinds tr t u m → StandsBefore (decisions_in tr) t u
 
 pub every_order : (kinds : List Kind) (coords : ℕ) (fm fc : ℕ → Found) (hs : List Happening) → AreOpenable kinds coords fm fc → AreTrueVerdicts hs (opened kinds coords fm fc) →
-    IsCommitmentOrdered kinds (run_items hs (opened kinds coords fm fc))
+    IsCommitmentOrdered kinds (items_along hs (opened kinds coords fm fc))
 every_order kinds coords fm fc hs g v = by (acted hs (opened kinds coords fm fc) (start_facts kinds coords fm fc g) v)
   where
-    by : ActedAs (run hs (opened kinds coords fm fc)) (trace_of (run_items hs (opened kinds coords fm fc))) (opened kinds coords fm fc) → InOrder kinds (trace_of (run_items hs (opened kinds coords fm fc)))
+    by : ActedAs (run hs (opened kinds coords fm fc)) (trace_of (items_along hs (opened kinds coords fm fc))) (opened kinds coords fm fc) → InOrder kinds (trace_of (items_along hs (opened kinds coords fm fc)))
     by a = subst (InOrder kinds) (sym a.tells) (ordered kinds (opened kinds coords fm fc) (fresh_opened kinds coords fm fc g) a.acts a.guarded)
 
 -- the items of schedule lines
-transcript_items : (number : ℕ) (events : List Event) (s : Federation) → map (λ i. i.what) (transcript number events s) ≡ run_items (lines events) s
+transcript_items : (number : ℕ) (events : List Event) (s : Federation) → map (λ i. i.what) (transcript number events s) ≡ items_along (lines events) s
 transcript_items number [] s = refl
 transcript_items number (e ∷ es) s =
     what_more (item.Event e ∷ (step s (happening.Line e)).items) (transcript (suc number) es (step s (happening.Line e)).state)
@@ -85,11 +85,11 @@ every_transcript kinds coords fm fc number events g =
     subst (λ items. InOrder kinds (trace_of items)) (sym (transcript_items number events (opened kinds coords fm fc))) (every_order kinds coords fm fc (lines events) g (lines_true events (opened kinds coords fm fc)))
 
 pub every_decision : (kinds : List Kind) (coords : ℕ) (fm fc : ℕ → Found) (hs : List Happening) → AreOpenable kinds coords fm fc → AreTrueVerdicts hs (opened kinds coords fm fc) →
-    told_decisions (run_items hs (opened kinds coords fm fc)) ≡ decided_numbers (run hs (opened kinds coords fm fc)).decided
+    told_decisions (items_along hs (opened kinds coords fm fc)) ≡ decided_numbers (run hs (opened kinds coords fm fc)).decided
 every_decision kinds coords fm fc hs g v = by (acted hs (opened kinds coords fm fc) (start_facts kinds coords fm fc g) v)
   where
-    by : ActedAs (run hs (opened kinds coords fm fc)) (trace_of (run_items hs (opened kinds coords fm fc))) (opened kinds coords fm fc) →
-        told_decisions (run_items hs (opened kinds coords fm fc)) ≡ decided_numbers (run hs (opened kinds coords fm fc)).decided
+    by : ActedAs (run hs (opened kinds coords fm fc)) (trace_of (items_along hs (opened kinds coords fm fc))) (opened kinds coords fm fc) →
+        told_decisions (items_along hs (opened kinds coords fm fc)) ≡ decided_numbers (run hs (opened kinds coords fm fc)).decided
     by a =
         let fresh = fresh_opened kinds coords fm fc g in
         ap decisions_in a.tells ∙ (acts_traced a.acts (opened kinds coords fm fc) fresh.facts [] fresh.traced a.guarded).decisions

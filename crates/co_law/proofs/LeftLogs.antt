@@ -1,7 +1,6 @@
 -- What a run leaves may be opened again, and so may logs without records.
-use Rattle.std.proofs.Common.{◌≡◌, ◌⊎◌, inl, inr, ℕ, Bool, true, false, ◌||◌, ◌&&◌, ◌==◌, ◌≤◌, nat_le, if◌then◌else◌, List, [], ◌∷◌, length, reverse, Option, None, Some, refl, sym, ap, ◌∙◌, subst, arith}
-use Rattle.std.proofs.lemmas.Bool.{and_parts, and_from, or_cases, eqb-true}
-use Rattle.std.proofs.lemmas.Bool.Decides.{nat_tests}
+use Rattle.std.proofs.Common.{◌≡◌, ◌⊎◌, inl, inr, ℕ, Bool, true, false, ◌||◌, ◌&&◌, ◌==◌, ◌≤◌, nat_le, if◌then◌else◌, List, [], ◌∷◌, length, reverse, Option, None, Some, refl, sym, ap, ◌∙◌, subst}
+use Rattle.std.proofs.lemmas.Bool.{and_parts, or_cases, eqb-true}
 use Rattle.std.specs.Option.{is_some}
 use Rattle.co_base.specs.declared.head.Kind.{Kind}
 use Rattle.co_record.specs.declared.record.Record.{Record}
@@ -13,12 +12,13 @@ use Rattle.co_plain.specs.Decisions.{votes_for}
 use Rattle.co_plain.specs.Federation.{Federation}
 use Rattle.co_plain.specs.Invariants.{Stable}
 use Rattle.co_plain.specs.MemberView.{recovered_view, first_refused_at_member}
-use Rattle.co_plain.specs.Numbers.{has_number}
+use Rattle.co_plain.specs.Numbers.{has_number, IsAmong}
 use Rattle.co_plain.specs.Opening.{Found, OnlyOwnLogs, opened}
 use Rattle.co_plain.specs.Runs.{run}
 use Rattle.co_plain.specs.SoundLogs.{AreSound, log_votes_for, log_has_voted, log_has_committed, unended_in, has_unended, LogsName, ByVote, ByCommit}
 use Rattle.co_law_base.proofs.Lookups.{is_nothing, look_none}
-use Rattle.co_plain.specs.Premises.{AreTrueVerdicts, IsBetween, AreOwn, AreOwnLogs, MayBeOpened}
+use Rattle.co_law_base.proofs.NumberSets.{among_test}
+use Rattle.co_plain.specs.Premises.{AreTrueVerdicts, AreOwn, AreOwnLogs, MayBeOpened}
 use Rattle.co_law_node.specs.WholeNodes.{AreWhole}
 use Rattle.co_law_node.proofs.Allowed.{tells, allowed_from}
 use Rattle.co_law_node.proofs.AllowedCommits.{commits_from, unended_up}
@@ -29,12 +29,12 @@ use Rattle.co_law.proofs.Readable.{readable}
 use Rattle.co_law.proofs.WholeRuns.{are_whole}
 
 -- votes of an allowed log name coordinators of the federation
-vote_among : (coords : ℕ) (rs : List Record) → first_refused_at_member coords (reverse rs) ≡ None → (t c : ℕ) → log_votes_for rs t c ≡ true → IsBetween c coords
+vote_among : (coords : ℕ) (rs : List Record) → first_refused_at_member coords (reverse rs) ≡ None → (t c : ℕ) → log_votes_for rs t c ≡ true → IsAmong c coords
 vote_among coords rs allowed t c h = by (look (recovered_view rs).voted t) refl h
   where
-    by : (o : Option Vote) → look (recovered_view rs).voted t ≡ o → votes_for o c ≡ true → IsBetween c coords
+    by : (o : Option Vote) → look (recovered_view rs).voted t ≡ o → votes_for o c ≡ true → IsAmong c coords
     by None e k = absurd (let z : false ≡ true = k in cc)
-    by (Some vote) e k = subst (λ d. IsBetween d coords) (eqb-true vote.coord c k) ((tells coords rs (allowed_from coords rs allowed)).among t vote e)
+    by (Some vote) e k = subst (λ d. IsAmong d coords) (eqb-true vote.coord c k) ((tells coords rs (allowed_from coords rs allowed)).among t vote e)
 
 pub allowed_own : (kinds : List Kind) (coords : ℕ) (fm fc : ℕ → Found) → OnlyOwnLogs kinds coords fm fc →
     ((m : ℕ) → first_refused_at_member coords (reverse (fm m).records) ≡ None) → AreOwnLogs kinds coords fm fc
@@ -79,15 +79,6 @@ module _ (most : ℕ) (logs : ℕ → List Record) where
       by true = all n
       by false = none
 
-between_own : (most n : ℕ) → IsBetween n most → (nat_le 1 n && nat_le n most) ≡ true
-between_own most n i = and_from _ _ (low n i.0) (high n i.1)
-  where
-    low : (k : ℕ) → 1 ≤ k → nat_le 1 k ≡ true
-    low k l = grind (arith, nat_tests, l)
-
-    high : (k : ℕ) → k ≤ most → nat_le k most ≡ true
-    high k l = grind (arith, nat_tests, l)
-
 -- a number among those up to a bound
 up_own : (most : ℕ) (ms : List ℕ) (m : ℕ) → all_up_to most ms ≡ true → has_number ms m ≡ true → (nat_le 1 m && nat_le m most) ≡ true
 up_own most [] m a h = absurd (let z : false ≡ true = h in cc)
@@ -111,7 +102,7 @@ module _ (n k : ℕ) (ml cl : ℕ → List Record) (sound : AreSound ml cl) (am 
 
   -- the coordinator of a vote is one of the federation
   voted_coord : (t c m : ℕ) → log_votes_for (ml m) t c ≡ true → (nat_le 1 c && nat_le c k) ≡ true
-  voted_coord t c m h = between_own k c (vote_among k (ml m) (am m) t c h)
+  voted_coord t c m h = among_test c k (vote_among k (ml m) (am m) t c h)
 
   none_left : (test : List Record → Bool) → test [] ≡ false → (most : ℕ) (logs : ℕ → List Record) (j : ℕ) → test (logs j) ≡ false → test (records_left most logs j) ≡ false
   none_left test none most logs j h = by (nat_le 1 j && nat_le j most)

@@ -15,7 +15,6 @@ pub mod WritableRuns
 pub mod Unchanged
 pub mod Refusing
 pub mod RefusedLines
-pub mod FirstRefusals
 pub mod MemberNames
 pub mod CoordNames
 pub mod EveryHome

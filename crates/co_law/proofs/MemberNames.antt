@@ -31,7 +31,7 @@ use Rattle.co_plain.specs.LocalCommit.{local_coord, local_commit_by, member_loca
 use Rattle.co_plain.specs.Federation.{Federation}
 use Rattle.co_plain.specs.Invariants.{Memory}
 use Rattle.co_law_base.proofs.Facts.{Facts}
-use Rattle.co_law_moves.proofs.MemberEvents.{votes_own}
+use Rattle.co_law_moves.proofs.Standings.{votes_own}
 use Rattle.co_law_moves.proofs.KeptFrom.{belongs_is}
 use Rattle.co_law.specs.MessageHomes.{IsHome, Belongs, NamesHome}
 

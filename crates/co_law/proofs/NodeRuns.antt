@@ -46,7 +46,8 @@ use Rattle.co_law_base.proofs.Facts.{by_coord}
 use Rattle.co_law_base.proofs.Sending.{parts_told, parts_ascend}
 use Rattle.co_law_moves.proofs.Own.{OwnFacts, spent}
 use Rattle.co_law_moves.proofs.OwnRuns.{own_step}
-use Rattle.co_plain.specs.Premises.{IsBetween, AreOwn, IsOwnNode}
+use Rattle.co_plain.specs.Premises.{AreOwn, IsOwnNode}
+use Rattle.co_plain.specs.Numbers.{IsAmong}
 use Rattle.co_law_runs.proofs.Fitting.{FitSessions, step_fits}
 use Rattle.co_law_node.specs.WholeMembers.{MemberStays}
 use Rattle.co_law_node.specs.WholeCoords.{EndsAlone, CoordStays}
@@ -97,7 +98,7 @@ three : (a b c : Bool) → a ≡ true → b ≡ true → c ≡ true → (a && b 
 three a b c p q r = rw (p, q, r)
 
 -- participants are members where each of them is
-each_up : (n : ℕ) (ps : List Part) → ((m : ℕ) → has_part ps m ≡ true → IsBetween m n) → all_up_to n (members_of ps) ≡ true
+each_up : (n : ℕ) (ps : List Part) → ((m : ℕ) → has_part ps m ≡ true → IsAmong m n) → all_up_to n (members_of ps) ≡ true
 each_up n [] h = refl
 each_up n (p ∷ ps) h =
     let own = h p.member (or_left (p.member == p.member) (has_part ps p.member) (eq-eqb p.member p.member refl)) in
@@ -164,14 +165,14 @@ module _ (n k : ℕ) (some : 1 ≤ k) (P : ℕ → MemberState → Type 0) (Q : 
           by (inr p) = let e = f.numbers.commit_used c t p in let z : true ≡ false = sym e ∙ parts.1 in cc
 
   -- a prepare that was sent is of an own coordinator
-  pub asks_own : (t c m count : ℕ) → was_sent s.sent (message.Prepare t c m count) ≡ true → IsBetween c k
+  pub asks_own : (t c m count : ℕ) → was_sent s.sent (message.Prepare t c m count) ≡ true → IsAmong c k
   asks_own t c m count h = by (look s.sessions t) refl (f.sent.prepares t c m count h).0
     where
-      home : (session : Session) → look s.sessions t ≡ Some session → (at : Node) → session.by ≡ at → same_node at (node.Coord c) ≡ true → IsBetween c k
+      home : (session : Session) → look s.sessions t ≡ Some session → (at : Node) → session.by ≡ at → same_node at (node.Coord c) ≡ true → IsAmong c k
       home session e (node.Member m') p r = absurd (let z : false ≡ true = r in cc)
-      home session e (node.Coord d) p r = subst (λ j. IsBetween j k) (eqb-true d c r) (subst (IsOwnNode n k) p (q t session e).home)
+      home session e (node.Coord d) p r = subst (λ j. IsAmong j k) (eqb-true d c r) (subst (IsOwnNode n k) p (q t session e).home)
 
-      by : (o : Option Session) → look s.sessions t ≡ o → by_coord o c ≡ true → IsBetween c k
+      by : (o : Option Session) → look s.sessions t ≡ o → by_coord o c ≡ true → IsAmong c k
       by None e r = absurd (let z : false ≡ true = r in cc)
       by (Some session) e r = home session e session.by refl r
 

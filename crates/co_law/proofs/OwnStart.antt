@@ -20,7 +20,7 @@ use Rattle.co_law_moves.proofs.Own.{OwnView, OwnMember, OwnFacts}
 use Rattle.co_law_moves.proofs.KeptBySelf.{kept_by_each}
 use Rattle.co_law_moves.proofs.Start.{made_view, coord_facts}
 use Rattle.co_law_moves.proofs.OwnRuns.{own_run}
-use Rattle.co_law.proofs.Readable.{votes_free, votes_apart, members_used, coords_used}
+use Rattle.co_law.proofs.Readable.{tells_there, members_used, coords_used}
 
 -- from what the records of the opened logs tell
 module _ (kinds : List Kind) (coords : ℕ) (fm fc : ℕ → Found) (free : (m : ℕ) → VotedAreConflictFree (recovered_view (fm m).records))
@@ -76,7 +76,7 @@ module _ (kinds : List Kind) (coords : ℕ) (fm fc : ℕ → Found) (free : (m :
 module _ (kinds : List Kind) (coords : ℕ) (fm fc : ℕ → Found) (own : OnlyOwnLogs kinds coords fm fc) (allowed : (m : ℕ) → first_refused_at_member coords (reverse (fm m).records) ≡ None) where
   pub start_own : OwnFacts (opened kinds coords fm fc)
   start_own =
-      own_start kinds coords fm fc (votes_free kinds coords fm fc own allowed) (votes_apart kinds coords fm fc own allowed)
+      own_start kinds coords fm fc (λ m. (tells_there kinds coords fm fc own allowed m).free) (λ m. (tells_there kinds coords fm fc own allowed m).apart)
       (members_used kinds coords fm fc own allowed) (coords_used kinds coords fm fc own allowed)
 
   pub each_keeps : (hs : List Happening) → KeptByEach (run hs (opened kinds coords fm fc))

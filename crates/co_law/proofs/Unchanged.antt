@@ -1,17 +1,16 @@
 -- A line that is refused leaves the state as it was.
-use Rattle.std.proofs.Common.{◌≡◌, ℕ, Bool, true, false, ◌==◌, if◌then◌else◌, List, [], ◌∷◌, ◌++◌, map, None, Some, refl, sym, ap, ◌∙◌, subst}
-use Rattle.std.proofs.lemmas.Bool.{eqb-true}
+use Rattle.std.proofs.Common.{◌≡◌, ℕ, List, [], ◌∷◌, ◌++◌, map, None, Some, refl, sym, ap, ◌∙◌, subst}
 use Rattle.co_base.specs.declared.mark.Mark.{Mark}
 use Rattle.co_message.specs.declared.answer.Answer.{Answer}
 use Rattle.co_message.specs.declared.item.ItemKind.TheVariants as item
 use Rattle.co_message.specs.declared.message.Message.{Message}
-use Rattle.co_serial.specs.SerialRun.{with_at}
 use Rattle.co_plain.specs.declared.coord_step.CoordStep.{CoordStep}
 use Rattle.co_plain.specs.declared.member_state.MemberState.{MemberState}
 use Rattle.co_plain.specs.declared.member_step.MemberStep.{MemberStep}
 use Rattle.co_plain.specs.Federation.{Federation, Stepped, items_of, message_list, noted, with_member, answers, at_member, at_coord}
 use Rattle.co_plain.specs.Step.{reply_in}
 use Rattle.co_law_engine.proofs.YesTells.{in_some}
+use Rattle.co_law_moves.proofs.Made.{member_same}
 use Rattle.co_law.specs.Refusals.{IsRefusal, reply_told}
 
 -- what a step tells last
@@ -22,14 +21,6 @@ reply_of_sent (m ∷ ms) a = reply_of_sent ms a
 pub reply_of : (marks : List Mark) (messages : List Message) (a : Answer) → reply_told (items_of marks messages a) ≡ Some a
 reply_of [] messages a = reply_of_sent messages a
 reply_of (m ∷ ms) messages a = reply_of ms messages a
-
--- a family of nodes with its own node laid in
-pub same_at : {X : Type 0} (f : ℕ → X) (m n : ℕ) → with_at f m (f m) n ≡ f n
-same_at {X} f m n = by (m == n) refl
-  where
-    by : (b : Bool) → (m == n) ≡ b → with_at f m (f m) n ≡ f n
-    by true e = ap (λ b. if b then f m else f n) e ∙ ap f (eqb-true m n e)
-    by false e = ap (λ b. if b then f m else f n) e
 
 -- what leaves the state where its reply is a refusal
 abbrev pub Unchanged : Federation → Stepped → Type 0
@@ -42,20 +33,6 @@ pub record LeavesMember (x : MemberState) (did : MemberStep) : Type 0 where
   pub sent : did.sent ≡ None
   pub reply : reply_in did.answer ≡ None
 
-member_back : (s : Federation) (m : ℕ) → noted (with_member s m (s.member m)) [] [] ≡ s
-member_back s m = λ i. record {
-  kinds = s.kinds;
-  coordinators = s.coordinators;
-  member = λ n. same_at s.member m n i;
-  coord = s.coord;
-  sessions = s.sessions;
-  sent = s.sent;
-  decided = s.decided;
-  opened_member = s.opened_member;
-  opened_coord = s.opened_coord;
-  used = s.used;
-}
-
 pub member_unchanged : (s : Federation) (m : ℕ) (did : MemberStep) → (IsRefusal did.answer → LeavesMember (s.member m) did) → Unchanged s (at_member s m did)
 member_unchanged s m did h a e r =
     let is : did.answer ≡ a = in_some (sym (reply_of did.marks (message_list did.sent) did.answer) ∙ e) in
@@ -63,7 +40,7 @@ member_unchanged s m did h a e r =
     ap (λ x. noted (with_member s m x) did.marks (message_list did.sent)) l.state
     ∙ ap (λ ms. noted (with_member s m (s.member m)) ms (message_list did.sent)) l.marks
     ∙ ap (λ o. noted (with_member s m (s.member m)) [] (message_list o)) l.sent
-    ∙ member_back s m
+    ∙ member_same s m
 
 -- a step that is no refusal
 pub member_admitted : (s z : Federation) (m : ℕ) (did : MemberStep) → (IsRefusal did.answer → ⊥) → Unchanged s (at_member z m did)

@@ -14,7 +14,8 @@ use Rattle.co_plain.specs.Opening.{Found, OnlyOwnLogs, opened}
 use Rattle.co_plain.specs.Runs.{run}
 use Rattle.co_law_base.proofs.Lookups.{is_nothing, look_none}
 use Rattle.co_plain.specs.Premises.{AreOwn}
-use Rattle.co_law_node.specs.WholeMembers.{IsAmong, IsWholeMember}
+use Rattle.co_law_node.specs.WholeMembers.{IsWholeMember}
+use Rattle.co_plain.specs.Numbers.{IsAmong}
 use Rattle.co_law_node.specs.WholeCoords.{IsWholeCoord}
 use Rattle.co_law_node.specs.WholeNodes.{AreWritable}
 use Rattle.co_law_node.specs.Writable.{IsWithinBounds, IsWritableMember, IsWritableCoord}
@@ -29,22 +30,22 @@ use Rattle.co_law.proofs.OwnStart.{start_own}
 
 -- a node that is whole, and writable where the federation has it
 abbrev WritesAt : ℕ → ℕ → ℕ → MemberState → Type 0
-WritesAt n k m x = IsWholeMember k x × (IsAmong n m → IsWritableMember k m x)
+WritesAt n k m x = IsWholeMember k x × (IsAmong m n → IsWritableMember k m x)
 
 abbrev CommitsAt : ℕ → ℕ → ℕ → CoordState → Type 0
-CommitsAt n k c y = IsWholeCoord n y × (IsAmong k c → IsWritableCoord c y)
+CommitsAt n k c y = IsWholeCoord n y × (IsAmong c k → IsWritableCoord c y)
 
-wider : (n most m : ℕ) → n ≤ most → IsAmong n m → IsAmong most m
+wider : (n most m : ℕ) → n ≤ most → IsAmong m n → IsAmong m most
 wider n most m few a = let up = a.1 in (a.0, omega (arith, few, up))
 
 always_writable : (n k : ℕ) → n ≤ most_members → k ≤ most_coordinators → KeepAlways n k (WritesAt n k) (CommitsAt n k)
 always_writable n k few short =
     record {
       member = λ m x p.
-          stays_both k m x (IsWholeMember k) (IsWritableMember k m) (IsAmong n m) (stays_whole k m x p.0)
+          stays_both k m x (IsWholeMember k) (IsWritableMember k m) (IsAmong m n) (stays_whole k m x p.0)
           (λ a. stays_writable k m x short (wider n most_members m few a) p.0 (p.1 a));
       coord = λ c y p.
-          coord_stays_both c y (IsWholeCoord n) (IsWritableCoord c) (MayName n) (IsAmong k c)
+          coord_stays_both c y (IsWholeCoord n) (IsWritableCoord c) (MayName n) (IsAmong c k)
           (coord_stays_as c y (IsWholeCoord n) (IsWholeCoord n) (λ parts. all_up_to n (members_of parts) ≡ true) (MayName n) (λ z v. v) (λ parts named. named.0) (coord_stays_whole n c y p.0))
           (λ a. coord_stays n c y few (wider k most_coordinators c short a) p.0 (p.1 a));
       ends = λ c y p. p.0.waiting;

@@ -8,7 +8,7 @@ ghost use Rattle.co_plain.specs.Decisions.{decided_numbers};
 ghost use Rattle.co_plain.specs.Opening.{Found, opened};
 ghost use Rattle.co_plain.specs.Runs.{run, transcript, lines};
 ghost use Rattle.co_plain.specs.Premises.{AreTrueVerdicts, AreOpenable};
-ghost use Rattle.co_law_moves.specs.MoveTraces.{run_items};
+ghost use Rattle.co_law_moves.specs.MoveTraces.{items_along};
 
 /// The items of every run are commitment ordered: where an operation of one decided transaction stands before a
 /// conflicting one of another, it is decided first (Raz, The principle of commitment ordering, VLDB 1992). A transaction of
@@ -17,7 +17,7 @@ pub fn commitment_ordered()
     ensures { (kinds : List Kind) (coords : ℕ) (found_member found_coord : ℕ → Found) (hs : List Happening) →
         AreOpenable kinds coords found_member found_coord →
         AreTrueVerdicts hs (opened kinds coords found_member found_coord) →
-        IsCommitmentOrdered kinds (run_items hs (opened kinds coords found_member found_coord)) }
+        IsCommitmentOrdered kinds (items_along hs (opened kinds coords found_member found_coord)) }
 {}
 
 /// So is the transcript of every schedule: the items of its lines.
@@ -33,7 +33,7 @@ pub fn decisions_told()
     ensures runs { (kinds : List Kind) (coords : ℕ) (found_member found_coord : ℕ → Found) (hs : List Happening) →
         AreOpenable kinds coords found_member found_coord →
         AreTrueVerdicts hs (opened kinds coords found_member found_coord) →
-        told_decisions (run_items hs (opened kinds coords found_member found_coord))
+        told_decisions (items_along hs (opened kinds coords found_member found_coord))
         ≡ decided_numbers (run hs (opened kinds coords found_member found_coord)).decided }
     ensures transcripts { (kinds : List Kind) (coords : ℕ) (found_member found_coord : ℕ → Found) (number : ℕ) (events : List Event) →
         AreOpenable kinds coords found_member found_coord →

@@ -3,17 +3,18 @@ use Rattle.std.proofs.Common.{◌≡◌, ◌≢◌, ◌⊎◌, inl, inr, ℕ, Bo
 use Rattle.std.specs.Option.{is_some}
 use Rattle.std.proofs.lemmas.Bool.{eqb-true, eqb-false}
 use Rattle.co_base.specs.declared.node.Node.TheVariants as node
-use Rattle.co_state.specs.Table.{Table, look, holds, put}
+use Rattle.co_state.specs.Table.{Table, look, put}
 use Rattle.co_plain.specs.declared.session.Decided.{Decided}
 use Rattle.co_plain.specs.declared.session.Session.{Session}
 use Rattle.co_plain.specs.Sessions.{told_at, count_at, asked_to_end}
 use Rattle.co_plain.specs.Federation.{Federation, with_session}
-use Rattle.co_plain.specs.Decisions.{is_decided, told_in, asked_in}
+use Rattle.co_plain.specs.Decisions.{told_in, asked_in}
 use Rattle.co_plain.specs.Moves.{AskEnd, effect, Guard, marked_over}
 use Rattle.co_law_base.proofs.Lookups.{put_here, put_there, put_cases, holds_found, found_holds}
 use Rattle.co_law_base.proofs.Facts.{rest_of, changed, told, asked, by_coord, NumberFacts, Facts}
 use Rattle.co_law_base.proofs.Carrying.{Later, later_member, later_coord, later_records, later_sent}
-use Rattle.co_law_base.proofs.ViewMoves.{each_map, holds_put, put_holds}
+use Rattle.co_law_base.proofs.ViewMoves.{each_map, holds_put}
+use Rattle.co_law_base.proofs.SessionPut.{unused_put, asked_put}
 
 -- a reading of a session that asking leaves
 pub same_reading : {A : Type 0} (P : Option Session → A) (sessions : Table Session) (t : ℕ) (old new : Session) → look sessions t ≡ Some old → P (Some new) ≡ P (Some old) →
@@ -62,11 +63,11 @@ asked_facts s f t old here =
     numbers : Later (rest_of s) s.coord (put s.sessions t (asked_to_end old)) s.sent s.member → NumberFacts (changed (rest_of s) s.coord (put s.sessions t (asked_to_end old)) s.sent)
     numbers l =
         record {
-          new = λ u h. new u (put_holds s.sessions t (asked_to_end old) u h);
+          new = unused_put s.sessions t (asked_to_end old) s.used f.numbers.new (f.numbers.new t (found_holds s.sessions t old here));
           decided_begun = λ u h. l.begun_on u (f.numbers.decided_begun u h);
           once = f.numbers.once;
           local = λ u m k session h. local u m k session (put_cases s.sessions t (asked_to_end old) u session h);
-          local_asked = λ u m session h b d. local_asked u m session b d (put_cases s.sessions t (asked_to_end old) u session h);
+          local_asked = asked_put s.sessions t (asked_to_end old) s.decided f.numbers.local_asked (λ m b d. refl);
           kept = each_map (λ d. (d.told ≡ []) ⊎ ((told (rest_of s) d.txn ≡ d.told) × (asked (rest_of s) d.txn ≡ true)))
               (λ d. (d.told ≡ []) ⊎ ((told_in (look (put s.sessions t (asked_to_end old)) d.txn) ≡ d.told) × (asked_in (look (put s.sessions t (asked_to_end old)) d.txn) ≡ true))) s.decided
               (λ d p. kept d p) f.numbers.kept;
@@ -78,17 +79,9 @@ asked_facts s f t old here =
           one_commit = f.numbers.one_commit;
         }
       where
-        new : (u : ℕ) → (t ≡ u) ⊎ (holds s.sessions u ≡ true) → holds s.used u ≡ false
-        new u (inl e) = ap (holds s.used) (sym e) ∙ f.numbers.new t (found_holds s.sessions t old here)
-        new u (inr h) = f.numbers.new u h
-
         local : (u m k : ℕ) (session : Session) → ((t ≡ u) × (asked_to_end old ≡ session)) ⊎ ((t ≢ u) × (look s.sessions u ≡ Some session)) → session.by ≡ node.Member m → k ≢ m → count_at session.told k ≡ 0
         local u m k session (inl p) b n = ap (λ z. count_at z.told k) (sym p.1) ∙ f.numbers.local t m k old here (ap (λ z. z.by) p.1 ∙ b) n
         local u m k session (inr p) b n = f.numbers.local u m k session p.1 b n
-
-        local_asked : (u m : ℕ) (session : Session) → session.by ≡ node.Member m → is_decided s.decided u ≡ true → ((t ≡ u) × (asked_to_end old ≡ session)) ⊎ ((t ≢ u) × (look s.sessions u ≡ Some session)) → session.asked ≡ true
-        local_asked u m session b d (inr p) = f.numbers.local_asked u m session p.1 b d
-        local_asked u m session b d (inl p) = ap (λ z. z.asked) (sym p.1)
 
         kept : (d : Decided) → (d.told ≡ []) ⊎ ((told (rest_of s) d.txn ≡ d.told) × (asked (rest_of s) d.txn ≡ true)) →
             (d.told ≡ []) ⊎ ((told_in (look (put s.sessions t (asked_to_end old)) d.txn) ≡ d.told) × (asked_in (look (put s.sessions t (asked_to_end old)) d.txn) ≡ true))

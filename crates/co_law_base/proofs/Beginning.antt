@@ -21,7 +21,8 @@ use Rattle.co_plain.specs.Moves.{Begin, BeginLocal, effect, Guard}
 use Rattle.co_law_base.proofs.Lookups.{put_here, put_there, put_cases}
 use Rattle.co_law_base.proofs.Facts.{Rest, rest_of, changed, told, begun, asked, seen, entry_of, settled_at, alive, by_coord, OpenEntry, CoordHas, NumberFacts, Facts}
 use Rattle.co_law_base.proofs.Carrying.{at_each, over_seen, belongs_seen, by_coord_begun, Later, later_member, later_coord, later_records, later_sent}
-use Rattle.co_law_base.proofs.ViewMoves.{each_map, each_both, each_decided, holds_put, put_holds}
+use Rattle.co_law_base.proofs.ViewMoves.{each_map, each_both, each_decided, holds_put}
+use Rattle.co_law_base.proofs.SessionPut.{unused_put, asked_put}
 use Rattle.co_law_base.proofs.Tabled.{coord_put}
 use Rattle.co_law_base.proofs.KeptTold.{told_begun}
 
@@ -64,11 +65,12 @@ module _ (s : Federation) (f : Facts s) (t : ℕ) (by' : Node) (new : seen (rest
   begin_numbers : NumberFacts (changed (rest_of s) coord with_new s.sent)
   begin_numbers =
       record {
-        new = λ u h. fresh u (put_holds s.sessions t (begun_by by') u h);
+        new = unused_put s.sessions t (begun_by by') s.used f.numbers.new (or_parts (begun (rest_of s) t) (holds s.used t) new).1;
         decided_begun = λ u h. holds_put s.sessions t (begun_by by') u (f.numbers.decided_begun u h);
         once = f.numbers.once;
         local = λ u m k session h. local u m k session (put_cases s.sessions t (begun_by by') u session h);
-        local_asked = λ u m session h b d. local_asked u m session b d (put_cases s.sessions t (begun_by by') u session h);
+        local_asked = asked_put s.sessions t (begun_by by') s.decided f.numbers.local_asked
+            (λ m b d. absurd (let z : true ≡ false = sym (f.numbers.decided_begun t d) ∙ (or_parts (begun (rest_of s) t) (holds s.used t) new).0 in cc));
         kept = each_map (λ d. ((d.told ≡ []) ⊎ ((told (rest_of s) d.txn ≡ d.told) × (asked (rest_of s) d.txn ≡ true))) × (is_decided s.decided d.txn ≡ true))
             (λ d. (d.told ≡ []) ⊎ ((told_in (look with_new d.txn) ≡ d.told) × (asked_in (look with_new d.txn) ≡ true))) s.decided
             (λ d p. kept d (f.numbers.decided_begun d.txn p.1) p.0)
@@ -81,17 +83,9 @@ module _ (s : Federation) (f : Facts s) (t : ℕ) (by' : Node) (new : seen (rest
         one_commit = f.numbers.one_commit;
       }
     where
-      fresh : (u : ℕ) → (t ≡ u) ⊎ (holds s.sessions u ≡ true) → holds s.used u ≡ false
-      fresh u (inl e) = ap (holds s.used) (sym e) ∙ (or_parts (begun (rest_of s) t) (holds s.used t) new).1
-      fresh u (inr h) = f.numbers.new u h
-
       local : (u m k : ℕ) (session : Session) → ((t ≡ u) × (begun_by by' ≡ session)) ⊎ ((t ≢ u) × (look s.sessions u ≡ Some session)) → session.by ≡ node.Member m → k ≢ m → count_at session.told k ≡ 0
       local u m k session (inl p) b n = ap (λ z. count_at z.told k) (sym p.1)
       local u m k session (inr p) b n = f.numbers.local u m k session p.1 b n
-
-      local_asked : (u m : ℕ) (session : Session) → session.by ≡ node.Member m → is_decided s.decided u ≡ true → ((t ≡ u) × (begun_by by' ≡ session)) ⊎ ((t ≢ u) × (look s.sessions u ≡ Some session)) → session.asked ≡ true
-      local_asked u m session b d (inr p) = f.numbers.local_asked u m session p.1 b d
-      local_asked u m session b d (inl p) = absurd (let z : true ≡ false = sym (f.numbers.decided_begun u d) ∙ ap (begun (rest_of s)) (sym p.0) ∙ (or_parts (begun (rest_of s) t) (holds s.used t) new).0 in cc)
 
       kept : (d : Decided) → begun (rest_of s) d.txn ≡ true → (d.told ≡ []) ⊎ ((told (rest_of s) d.txn ≡ d.told) × (asked (rest_of s) d.txn ≡ true)) →
           (d.told ≡ []) ⊎ ((told_in (look with_new d.txn) ≡ d.told) × (asked_in (look with_new d.txn) ≡ true))
@@ -100,18 +94,7 @@ module _ (s : Federation) (f : Facts s) (t : ℕ) (by' : Node) (new : seen (rest
 
   begin_facts : (l : Later (rest_of s) coord with_new s.sent s.member) → ((d : ℕ) → CoordHas (changed (rest_of s) coord with_new s.sent) d (coord d)) →
       ((d u : ℕ) (members : List ℕ) → unended_in (coord d).log.stable u ≡ Some members → unended_in (s.coord d).log.stable u ≡ Some members) →
-      Facts (record {
-        kinds = s.kinds;
-        coordinators = s.coordinators;
-        member = s.member;
-        coord = coord;
-        sessions = with_new;
-        sent = s.sent;
-        decided = s.decided;
-        opened_member = s.opened_member;
-        opened_coord = s.opened_coord;
-        used = s.used;
-      })
+      Facts (record s { coord = coord; sessions = with_new })
   begin_facts l coords back =
       record {
         numbers = begin_numbers;

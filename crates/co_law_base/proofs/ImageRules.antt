@@ -123,16 +123,6 @@ image_decide serial next settled later v t changes grows keeps here others voted
         let n = eqb-false t u k in
         grows key ∙ unchanged changes serial key (unmet u a key f w n (look v.voted t) refl) ∙ i.written u a key f (others u n d) w r
 
--- the same image, where the same votes are settled
-pub image_same : (serial next : Records) (settled later : ℕ → Type 0) (v : MemberView) → ((q : List ℕ) → get next q ≡ get serial q) →
-    ((u : ℕ) (a : Vote) → look v.voted u ≡ Some a → settled u → later u) → ((u : ℕ) (a : Vote) → look v.voted u ≡ Some a → later u → settled u) →
-    IsImage serial settled v → IsImage next later v
-image_same serial next settled later v same there back i =
-    record {
-      untouched = λ key h. same key ∙ i.untouched key (λ u a f d. h u a f (there u a f d));
-      written = λ u a key f d w r. same key ∙ i.written u a key f (back u a f d) w r;
-    }
-
 -- a voted transaction that is not settled replays on the serial records
 pub replays_serially : (serial : Records) (settled : ℕ → Type 0) (v : MemberView) (t : ℕ) (vote : Vote) (told : List Told) → ¬ (settled t) → look v.voted t ≡ Some vote →
     vote.sets.reads ≡ told_spans told → VotedAreConflictFree v → IsImage serial settled v → Replays v.records told → Replays serial told

@@ -1,5 +1,5 @@
 -- What an active transaction keeps, as its engine changes.
-use Rattle.std.proofs.Common.{◌≡◌, ℕ, true, false, ◌≤◌, nat_lt, if◌then◌else◌, List, [], ◌∷◌, length, Option, None, Some, refl, sym, ap, ◌∙◌, arith}
+use Rattle.std.proofs.Common.{◌≡◌, ℕ, true, false, ◌≤◌, nat_lt, if◌then◌else◌, List, [], ◌∷◌, length, Option, None, Some, refl, sym, ap, ◌∙◌, subst, arith}
 use Rattle.std.proofs.lemmas.Bool.Decides.{nat_tests}
 use Rattle.std.specs.Option.{is_some}
 use Rattle.co_serial.specs.Records.{Records, with_changes}
@@ -8,7 +8,9 @@ use Rattle.co_state.specs.declared.engine_state.EngineState.{EngineState}
 use Rattle.co_state.specs.declared.engine_state.Install.{Install}
 use Rattle.co_state.specs.declared.engine_state.Operation.{Operation}
 use Rattle.co_state.specs.Changes.{changes_of}
-use Rattle.co_state.specs.EngineState.{records_now, records_at}
+use Rattle.co_state.specs.EngineState.{operations_in, operations_of, records_now, records_at}
+use Rattle.co_state.specs.Table.{look}
+use Rattle.co_state.specs.VotingRule.{kept_count}
 use Rattle.co_plain.specs.declared.session.Session.{Session}
 use Rattle.co_plain.specs.declared.session.Told.{Told}
 use Rattle.co_plain.specs.Sessions.{told_at, count_at}
@@ -48,6 +50,22 @@ stamps_more n m (o ∷ os) l s = (omega (arith, l, s.0), stamps_more n m os l s.
 pub count_told : (told : List Told) (m : ℕ) → count_at told m ≡ length (told_at told m)
 count_told [] m = refl
 count_told (o ∷ os) m = grind (arith, nat_tests, count_told os m)
+
+-- where a client was told of as many operations as are kept, none of them may be kept
+pub kept_so_far : (b : EngineState) (t : ℕ) (told : List Told) → kept_count b t ≡ length told →
+    ((os : List Operation) → look b.active t ≡ Some os → KeptAsTold b os told × StampsIn (length b.installed) os) →
+    KeptAsTold b (operations_of b t) told × StampsIn (length b.installed) (operations_of b t)
+kept_so_far b t told same active = by (look b.active t) refl
+  where
+    nothing : (ts : List Told) → 0 ≡ length ts → KeptAsTold b [] ts
+    nothing [] e = tt
+    nothing (x ∷ xs) e = absurd (omega (arith, e))
+
+    by : (o : Option (List Operation)) → look b.active t ≡ o → KeptAsTold b (operations_of b t) told × StampsIn (length b.installed) (operations_of b t)
+    by None e =
+        subst (λ os. KeptAsTold b os told × StampsIn (length b.installed) os) (sym (ap operations_in e))
+        (nothing told (sym (ap (λ o. length (operations_in o)) e) ∙ same), tt)
+    by (Some os) e = subst (λ os. KeptAsTold b os told × StampsIn (length b.installed) os) (sym (ap operations_in e)) (active os e)
 
 -- who was told of operations was begun
 pub told_begun : (o : Option Session) (m : ℕ) → 1 ≤ count_at (told_in o) m → is_some o ≡ true

@@ -5,6 +5,7 @@ pub mod ImageRules
 pub mod Facts
 pub mod Carrying
 pub mod Commits
+pub mod NumberSets
 pub mod TwoViews
 pub mod ViewMoves
 pub mod MemberFrame
@@ -15,6 +16,7 @@ pub mod KeptTold
 pub mod LogMoves
 pub mod VoteMoves
 pub mod Filling
+pub mod SessionPut
 pub mod Beginning
 pub mod Asking
 pub mod Operating

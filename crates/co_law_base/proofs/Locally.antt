@@ -27,7 +27,7 @@ use Rattle.co_plain.specs.SoundLogs.{unended_in}
 use Rattle.co_plain.specs.Invariants.{Memory, Stable, view, stands, told_changes, Replays, VotedAreConflictFree}
 use Rattle.co_plain.specs.Moves.{CommitLocally, effect, Guard, with_decision, marked_over, session_by_member, local_state}
 use Rattle.co_law_engine.proofs.YesTells.{SaysYes, yes_parts, yes_apart, yes_sees, in_some}
-use Rattle.co_law_base.proofs.Lookups.{put_here, put_there, without_there, without_cases, found_holds, is_nothing}
+use Rattle.co_law_base.proofs.Lookups.{put_here, put_there, without_cases, found_holds, is_nothing}
 use Rattle.co_law_base.proofs.ToldRuns.{CastReplays, cast_replays, told_serially}
 use Rattle.co_law_base.proofs.ViewRules.{AllReplay, cast_free, cast_replay, install_free, install_replay}
 use Rattle.co_law_base.proofs.ImageRules.{IsImage, image_cast, image_decide, image_install, replays_serially}
@@ -35,7 +35,7 @@ use Rattle.co_law_base.proofs.Commits.{holds_more, holds_new, holds_cases, unend
 use Rattle.co_law_base.proofs.Facts.{rest_of, told, told_here, begun, asked, over, settled_at, settled, Here, Before, by_coord, belongs, Begun, serial, OpenEntry, ActiveFacts, ViewFacts, MemberFacts, CoordHas, RecordFacts, Facts}
 use Rattle.co_law_base.proofs.Carrying.{at_each, StandsOn, stands_same, sent_on, records_on}
 use Rattle.co_law_base.proofs.TwoViews.{both_sides, forced}
-use Rattle.co_law_base.proofs.ViewMoves.{each_map, neither_stands, holds_put, holds_without, still_holds, votes_without}
+use Rattle.co_law_base.proofs.ViewMoves.{each_map, neither_stands, holds_put, still_holds, votes_without, cast_stands, install_stands, cast_leaves, install_leaves, cast_apart, install_apart}
 use Rattle.co_law_base.proofs.MemberFrame.{unended_settled}
 use Rattle.co_law_base.proofs.KeptTold.{kept_install, stamps_more, count_told}
 use Rattle.co_law_base.proofs.LogMoves.{local_apart}
@@ -175,8 +175,8 @@ module _ (s : Federation) (f : Facts s) (t m : ℕ) (old : Session) (g : Alone s
         image = image_install (serial (decided_rest (rest_of s) s.coord t) m) (settled (decided_rest (rest_of s) s.coord t)) (cast_in (view Memory (s.member m)) t (local_vote s t m)) t (local_vote s t m)
             middle_here (Here (decided_now (rest_of s) s.coord t decides)) settled_image;
         named = λ u c h. v.named u c (others u c h).1;
-        over = λ u h. overs u (or_cases _ _ h);
-        apart = λ u h. false_from_ne_true _ (λ k. never u (gone u k) (holds_cases (s.member m).committed t u h));
+        over = λ u h. overs u (install_stands (cast_in (view Memory (s.member m)) t (local_vote s t m)) t (local_vote s t m) u h);
+        apart = install_apart (cast_in (view Memory (s.member m)) t (local_vote s t m)) t (local_vote s t m) (cast_apart (view Memory (s.member m)) t (local_vote s t m) new v.apart);
         done = (
           (λ h. more_t),
           each_map (λ e. 1 ≤ count_at e.told m → stands (view Memory (s.member m)) e.txn ≡ true)
@@ -192,9 +192,6 @@ module _ (s : Federation) (f : Facts s) (t m : ℕ) (old : Session) (g : Alone s
       v : ViewFacts (rest_of s) m (view Memory (s.member m))
       v = (f.members m).views Memory
 
-      gone : (u : ℕ) → holds (without (put (s.member m).engine.voted t (local_vote s t m)) t) u ≡ true → (t ≢ u) × (holds (s.member m).engine.voted u ≡ true)
-      gone u h = let p = holds_without (put (s.member m).engine.voted t (local_vote s t m)) t u h in (p.0, ap is_some (sym (put_there (s.member m).engine.voted t (local_vote s t m) u p.0)) ∙ p.1)
-
       others : (u c : ℕ) → votes_for (look (without (put (s.member m).engine.voted t (local_vote s t m)) t) u) c ≡ true → (t ≢ u) × (votes_for (look (s.member m).engine.voted u) c ≡ true)
       others u c h =
           let p = votes_without (put (s.member m).engine.voted t (local_vote s t m)) t u c h in
@@ -203,17 +200,16 @@ module _ (s : Federation) (f : Facts s) (t m : ℕ) (old : Session) (g : Alone s
       over_t : over (rest_of s) t ≡ true
       over_t = or_left (asked (rest_of s) t) (holds s.used t) (ap asked_in g.here ∙ g.asks)
 
-      overs : (u : ℕ) → (holds (without (put (s.member m).engine.voted t (local_vote s t m)) t) u ≡ true) ⊎ (holds (with_number (s.member m).committed t) u ≡ true) → over (rest_of s) u ≡ true
-      overs u (inl h) = v.over u (or_left (holds (s.member m).engine.voted u) (holds (s.member m).committed u) (gone u h).1)
-      overs u (inr h) = by (holds_cases (s.member m).committed t u h)
-        where
-          by : (t ≡ u) ⊎ (holds (s.member m).committed u ≡ true) → over (rest_of s) u ≡ true
-          by (inl e) = ap (over (rest_of s)) (sym e) ∙ over_t
-          by (inr k) = v.over u (or_right (holds (s.member m).engine.voted u) (holds (s.member m).committed u) k)
+      new : holds (s.member m).committed t ≡ false
+      new = (neither_stands (view Memory (s.member m)) t is_active.apart).1
 
-      never : (u : ℕ) → (t ≢ u) × (holds (s.member m).engine.voted u ≡ true) → (t ≡ u) ⊎ (holds (s.member m).committed u ≡ true) → ⊥
-      never u p (inl e) = p.0 e
-      never u p (inr k) = let z : true ≡ false = sym p.1 ∙ v.apart u k in cc
+      overs : (u : ℕ) → (t ≡ u) ⊎ (stands (cast_in (view Memory (s.member m)) t (local_vote s t m)) u ≡ true) → over (rest_of s) u ≡ true
+      overs u (inl e) = ap (over (rest_of s)) (sym e) ∙ over_t
+      overs u (inr k) = by (cast_stands (view Memory (s.member m)) t (local_vote s t m) u k)
+        where
+          by : (t ≡ u) ⊎ (stands (view Memory (s.member m)) u ≡ true) → over (rest_of s) u ≡ true
+          by (inl e) = ap (over (rest_of s)) (sym e) ∙ over_t
+          by (inr h) = v.over u h
 
       more_t : stands (install_in (cast_in (view Memory (s.member m)) t (local_vote s t m)) t (Some (local_vote s t m))) t ≡ true
       more_t = or_right (holds (without (put (s.member m).engine.voted t (local_vote s t m)) t) t) (holds (with_number (s.member m).committed t) t) (holds_new (s.member m).committed t)
@@ -253,14 +249,11 @@ module _ (s : Federation) (f : Facts s) (t m : ℕ) (old : Session) (g : Alone s
       active : (u : ℕ) (os : List Operation) → (t ≢ u) × (look (s.member m).engine.active u ≡ Some os) → ActiveFacts (decided_rest (rest_of s) s.coord t) m (member_after s t m (Some (local_vote s t m))) u os
       active u os p =
           let a = (f.members m).active u os p.1 in
-          let apart = neither_stands (view Memory (s.member m)) u a.apart in
           record {
             kept = kept_install (s.member m).engine (record { txn = t; writes = (local_vote s t m).sets.writes }) os (told_here (rest_of s) m u) (member_after s t m (Some (local_vote s t m))).engine refl refl a.stamps a.kept;
             stamps = stamps_more (length (s.member m).engine.installed) (suc (length (s.member m).engine.installed)) os (omega arith) a.stamps;
             begun = a.begun;
-            apart = or_from _ _
-                (ap is_some (without_there (put (s.member m).engine.voted t (local_vote s t m)) t u p.0 ∙ put_there (s.member m).engine.voted t (local_vote s t m) u p.0) ∙ apart.0)
-                (ap is_some (put_there (s.member m).committed t tt u p.0) ∙ apart.1);
+            apart = install_leaves (cast_in (view Memory (s.member m)) t (local_vote s t m)) t (local_vote s t m) (ap is_some middle_here) u (cast_leaves (view Memory (s.member m)) t (local_vote s t m) u p.0 a.apart);
           }
 
   stands_on : StandsOn (rest_of s) (s.member m) (member_after s t m (Some (local_vote s t m)))

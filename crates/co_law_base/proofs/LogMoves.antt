@@ -1,7 +1,7 @@
 -- The moves of a member's log, and those of its memory alone.
 use Rattle.std.proofs.Common.{◌≡◌, ◌≢◌, ◌⊎◌, inl, inr, ℕ, Bool, true, false, ◌==◌, Option, None, Some, refl, sym, ap, ◌∙◌, subst}
 use Rattle.std.specs.Option.{is_some}
-use Rattle.std.proofs.lemmas.Bool.{or_cases, or_left, or_right, or_from, eqb-true, eqb-false, eq-eqb, false_from_ne_true}
+use Rattle.std.proofs.lemmas.Bool.{or_cases, or_left, or_right, or_from, eqb-true, eqb-false, eq-eqb}
 use Rattle.co_base.specs.declared.node.Node.TheVariants as node
 use Rattle.co_message.specs.declared.message.Message.TheVariants as message
 use Rattle.co_record.specs.declared.record.Record.TheVariants as log
@@ -24,8 +24,8 @@ use Rattle.co_plain.specs.Moves.{MarkAsked, DropActive, DropVoted, CrashMember, 
 use Rattle.co_law_base.proofs.Lookups.{is_nothing, look_none, put_cases, without_here, without_there, without_cases, holds_found}
 use Rattle.co_law_base.proofs.Facts.{rest_of, settled, alive, by_coord, belongs, Begun, Voted, ViewFacts, MemberFacts, NumberFacts, Facts}
 use Rattle.co_law_base.proofs.Carrying.{votes_stand, LivesOn, one_belongs, settled_alive}
-use Rattle.co_law_base.proofs.TwoViews.{memory_to_stable, committed_both}
-use Rattle.co_law_base.proofs.ViewMoves.{neither_stands, view_forget, holds_without, still_holds}
+use Rattle.co_law_base.proofs.TwoViews.{memory_to_stable, committed_both, stands_alike}
+use Rattle.co_law_base.proofs.ViewMoves.{neither_stands, view_forget, still_holds, forget_leaves}
 use Rattle.co_law_base.proofs.KeptTold.{kept_same}
 use Rattle.co_law_base.proofs.MemberFrame.{member_change}
 
@@ -47,7 +47,7 @@ alike s f m up armed closed =
       logged = x.logged;
       waiting = x.waiting;
     })
-    (record { standing = standing; committed = committed })
+    (stands_alike (rest_of s) (s.member m) y refl refl)
   where
     x : MemberFacts (rest_of s) m (s.member m)
     x = f.members m
@@ -64,14 +64,6 @@ alike s f m up armed closed =
     views : (side : Side) → ViewFacts (rest_of s) m (view side y)
     views Memory = x.views Memory
     views Stable = x.views Stable
-
-    standing : (side : Side) (t : ℕ) → LivesOn (rest_of s) t → stands (view side (s.member m)) t ≡ true → stands (view side y) t ≡ true
-    standing Memory t l h = h
-    standing Stable t l h = h
-
-    committed : (side : Side) (t : ℕ) → holds (view side (s.member m)).committed t ≡ true → holds (view side y).committed t ≡ true
-    committed Memory t h = h
-    committed Stable t h = h
 
 pub keeps_member_restart : (s : Federation) → Facts s → (m : ℕ) → Guard s (RestartMember m) → Facts (effect s (RestartMember m))
 keeps_member_restart s f m g = alike s f m true (s.member m).log.armed (s.member m).log.spare_closed
@@ -93,7 +85,7 @@ keeps_mark s f t m c n g =
       logged = x.logged;
       waiting = x.waiting;
     })
-    (record { standing = standing; committed = committed })
+    (stands_alike (rest_of s) (s.member m) y refl refl)
   where
     x : MemberFacts (rest_of s) m (s.member m)
     x = f.members m
@@ -104,14 +96,6 @@ keeps_mark s f t m c n g =
     views : (side : Side) → ViewFacts (rest_of s) m (view side y)
     views Memory = x.views Memory
     views Stable = x.views Stable
-
-    standing : (side : Side) (t : ℕ) → LivesOn (rest_of s) t → stands (view side (s.member m)) t ≡ true → stands (view side y) t ≡ true
-    standing Memory t l h = h
-    standing Stable t l h = h
-
-    committed : (side : Side) (t : ℕ) → holds (view side (s.member m)).committed t ≡ true → holds (view side y).committed t ≡ true
-    committed Memory t h = h
-    committed Stable t h = h
 
     marked : (u : ℕ) (mark : AskedMark) → ((t ≡ u) × (◌≡◌ {A = AskedMark} (record { coord = c; count = n }) mark)) ⊎ ((t ≢ u) × (look (s.member m).asked u ≡ Some mark)) →
         (holds (s.member m).engine.active u ≡ true) × (was_sent s.sent (message.Prepare u mark.coord m mark.count) ≡ true)
@@ -149,7 +133,7 @@ keeps_drop_active s f t m g =
       logged = x.logged ∙ sym same;
       waiting = x.waiting;
     })
-    (record { standing = standing; committed = committed })
+    (stands_alike (rest_of s) (s.member m) y same refl)
   where
     x : MemberFacts (rest_of s) m (s.member m)
     x = f.members m
@@ -166,14 +150,6 @@ keeps_drop_active s f t m g =
     views : (side : Side) → ViewFacts (rest_of s) m (view side y)
     views Memory = subst (ViewFacts (rest_of s) m) (sym same) (x.views Memory)
     views Stable = x.views Stable
-
-    standing : (side : Side) (t : ℕ) → LivesOn (rest_of s) t → stands (view side (s.member m)) t ≡ true → stands (view side y) t ≡ true
-    standing Memory u l h = ap (λ v. stands v u) same ∙ h
-    standing Stable u l h = h
-
-    committed : (side : Side) (t : ℕ) → holds (view side (s.member m)).committed t ≡ true → holds (view side y).committed t ≡ true
-    committed Memory t h = h
-    committed Stable t h = h
 
 -- Presumed aborted, for a transaction that belongs to a coordinator.
 pub as_belongs : (s : Federation) (t c : ℕ) → BelongsTo s t c → belongs (rest_of s) t c
@@ -203,7 +179,7 @@ drop_dead s f t m c g b dead =
             kept = kept_same (s.member m).engine y.engine os _ (λ stamp. refl) a.kept;
             stamps = a.stamps;
             begun = a.begun;
-            apart = or_from _ _ (false_from_ne_true _ (λ k. let z : true ≡ false = sym (holds_without (s.member m).engine.voted t u k).1 ∙ (neither_stands (view Memory (s.member m)) u a.apart).0 in cc)) (neither_stands (view Memory (s.member m)) u a.apart).1;
+            apart = forget_leaves (view Memory (s.member m)) t u a.apart;
           };
       marked = λ u mark h. let p = without_cases (s.member m).asked t u mark h in let q = x.marked u mark p.1 in (still_holds (s.member m).engine.active t u p.0 q.0, q.1);
       logged = ap (λ v. forget_in v t) x.logged;

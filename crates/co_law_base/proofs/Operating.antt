@@ -9,7 +9,7 @@ use Rattle.co_base.specs.declared.op.Op.{Op}
 use Rattle.co_serial.specs.SerialRun.{with_at}
 use Rattle.co_state.specs.declared.engine_state.Operation.{Operation}
 use Rattle.co_state.specs.Table.{Table, look, holds, put}
-use Rattle.co_state.specs.EngineState.{operations_in, operations_of}
+use Rattle.co_state.specs.EngineState.{operations_of}
 use Rattle.co_state.specs.ReadRule.{stamp_after, snapshot_of, operation_reply}
 use Rattle.co_state.specs.Effects.{with_operation}
 use Rattle.co_state.specs.VotingRule.{kept_count}
@@ -20,16 +20,17 @@ use Rattle.co_plain.specs.declared.session.Told.{Told}
 use Rattle.co_plain.specs.MemberStep.{with_engine}
 use Rattle.co_plain.specs.Sessions.{told_at, count_at, with_told}
 use Rattle.co_plain.specs.Federation.{Federation, with_session, with_member}
-use Rattle.co_plain.specs.Decisions.{is_decided, told_in, asked_in}
+use Rattle.co_plain.specs.Decisions.{told_in, asked_in}
 use Rattle.co_plain.specs.Invariants.{Side, Memory, Stable, view, stands, KeptAsTold, StampsIn}
 use Rattle.co_plain.specs.Moves.{Operate, effect, Guard, entered_reply, may_operate_at}
 use Rattle.co_law_base.proofs.Lookups.{put_here, put_there, put_cases, found_holds}
 use Rattle.co_law_base.proofs.Facts.{Before, rest_of, changed, told, told_here, asked, over, by_coord, ActiveFacts, ViewFacts, MemberFacts, NumberFacts, Facts}
 use Rattle.co_law_base.proofs.Carrying.{at_each, LivesOn, StandsOn, stands_same, sent_on, records_on, Later, later_member, later_view, later_waiting, later_coord, later_records, later_sent}
-use Rattle.co_law_base.proofs.ViewMoves.{each_map, holds_put, put_holds}
+use Rattle.co_law_base.proofs.ViewMoves.{each_map, holds_put}
+use Rattle.co_law_base.proofs.SessionPut.{unused_put, asked_put}
 use Rattle.co_law_base.proofs.MemberFrame.{unended_settled}
 use Rattle.co_law_base.proofs.Commits.{unended_seen}
-use Rattle.co_law_base.proofs.KeptTold.{kept_same, count_told}
+use Rattle.co_law_base.proofs.KeptTold.{kept_so_far, kept_same, count_told}
 use Rattle.co_law_base.proofs.Asking.{same_reading}
 
 pub snapshot_in : (kind : Kind) (now : ℕ) (os : List Operation) → StampsIn now os → stamp_after kind now os ≤ now
@@ -94,11 +95,11 @@ module _ (s : Federation) (f : Facts s) (t m : ℕ) (o : Op) (old : Session) (g 
   operate_numbers : NumberFacts (changed (rest_of s) s.coord (sessions_with s t m o old) s.sent)
   operate_numbers =
       record {
-        new = λ u h. new u (put_holds s.sessions t (with_told old (entry_for s t m o)) u h);
+        new = unused_put s.sessions t (with_told old (entry_for s t m o)) s.used f.numbers.new (f.numbers.new t (found_holds s.sessions t old g.here));
         decided_begun = λ u h. operate_later.begun_on u (f.numbers.decided_begun u h);
         once = f.numbers.once;
         local = λ u n k session h. local u n k session (put_cases s.sessions t (with_told old (entry_for s t m o)) u session h);
-        local_asked = λ u n session h b d. local_asked u n session b d (put_cases s.sessions t (with_told old (entry_for s t m o)) u session h);
+        local_asked = asked_put s.sessions t (with_told old (entry_for s t m o)) s.decided f.numbers.local_asked (λ n b d. f.numbers.local_asked t n old g.here b d);
         kept = each_map (λ d. (d.told ≡ []) ⊎ ((told (rest_of s) d.txn ≡ d.told) × (asked (rest_of s) d.txn ≡ true)))
             (λ d. (d.told ≡ []) ⊎ ((told_in (look (sessions_with s t m o old) d.txn) ≡ d.told) × (asked_in (look (sessions_with s t m o old) d.txn) ≡ true))) s.decided kept f.numbers.kept;
         voted_used = f.numbers.voted_used;
@@ -109,10 +110,6 @@ module _ (s : Federation) (f : Facts s) (t m : ℕ) (o : Op) (old : Session) (g 
         one_commit = f.numbers.one_commit;
       }
     where
-      new : (u : ℕ) → (t ≡ u) ⊎ (holds s.sessions u ≡ true) → holds s.used u ≡ false
-      new u (inl e) = ap (holds s.used) (sym e) ∙ f.numbers.new t (found_holds s.sessions t old g.here)
-      new u (inr h) = f.numbers.new u h
-
       local : (u n k : ℕ) (session : Session) → ((t ≡ u) × (with_told old (entry_for s t m o) ≡ session)) ⊎ ((t ≢ u) × (look s.sessions u ≡ Some session)) → session.by ≡ node.Member n → k ≢ n → count_at session.told k ≡ 0
       local u n k session (inr p) b d = f.numbers.local u n k session p.1 b d
       local u n k session (inl p) b d =
@@ -121,10 +118,6 @@ module _ (s : Federation) (f : Facts s) (t m : ℕ) (o : Op) (old : Session) (g 
           let zero' : count_at old.told k ≡ 0 = f.numbers.local t n k old g.here by d in
           let other : (m == k) ≡ false = ne_eqb m k (λ e. d (sym e ∙ sym same)) in
           ap (λ z. count_at z.told k) (sym p.1) ∙ ap (λ b. if b then count_at old.told k + 1 else count_at old.told k) other ∙ zero'
-
-      local_asked : (u n : ℕ) (session : Session) → session.by ≡ node.Member n → is_decided s.decided u ≡ true → ((t ≡ u) × (with_told old (entry_for s t m o) ≡ session)) ⊎ ((t ≢ u) × (look s.sessions u ≡ Some session)) → session.asked ≡ true
-      local_asked u n session b d (inr p) = f.numbers.local_asked u n session p.1 b d
-      local_asked u n session b d (inl p) = ap (λ z. z.asked) (sym p.1) ∙ f.numbers.local_asked t n old g.here (ap (λ z. z.by) p.1 ∙ b) (ap (is_decided s.decided) p.0 ∙ d)
 
       kept : (d : Decided) → (d.told ≡ []) ⊎ ((told (rest_of s) d.txn ≡ d.told) × (asked (rest_of s) d.txn ≡ true)) →
           (d.told ≡ []) ⊎ ((told_in (look (sessions_with s t m o old) d.txn) ≡ d.told) × (asked_in (look (sessions_with s t m o old) d.txn) ≡ true))
@@ -135,19 +128,9 @@ module _ (s : Federation) (f : Facts s) (t m : ℕ) (o : Op) (old : Session) (g 
 
   -- the operations that are kept before the new one
   kept_before : KeptAsTold (s.member m).engine (operations_of (s.member m).engine t) (told_here (rest_of s) m t) × StampsIn (length (s.member m).engine.installed) (operations_of (s.member m).engine t)
-  kept_before = by (look (s.member m).engine.active t) refl
-    where
-      nothing : (ts : List Told) → 0 ≡ length ts → KeptAsTold (s.member m).engine [] ts
-      nothing [] e = tt
-      nothing (x ∷ xs) e = absurd (omega (arith, e))
-
-      by : (z : Option (List Operation)) → look (s.member m).engine.active t ≡ z → KeptAsTold (s.member m).engine (operations_of (s.member m).engine t) (told_here (rest_of s) m t) × StampsIn (length (s.member m).engine.installed) (operations_of (s.member m).engine t)
-      by None e =
-          subst (λ os. KeptAsTold (s.member m).engine os (told_here (rest_of s) m t) × StampsIn (length (s.member m).engine.installed) os) (sym (ap operations_in e))
-          (nothing (told_here (rest_of s) m t) (sym (ap (λ z. length (operations_in z)) e) ∙ g.all_kept ∙ count_told (told (rest_of s) t) m), tt)
-      by (Some os) e =
-          let a = (f.members m).active t os e in
-          subst (λ os. KeptAsTold (s.member m).engine os (told_here (rest_of s) m t) × StampsIn (length (s.member m).engine.installed) os) (sym (ap operations_in e)) (a.kept, a.stamps)
+  kept_before =
+      kept_so_far (s.member m).engine t (told_here (rest_of s) m t) (g.all_kept ∙ count_told (told (rest_of s) t) m)
+      (λ os e. let a = (f.members m).active t os e in (a.kept, a.stamps))
 
   after_it : MemberState
   after_it = with_engine (s.member m) (with_operation (s.member m).engine t o)

@@ -87,6 +87,18 @@ module _ (r : Rest) (m : ℕ) (x : MemberState) (f : MemberFacts r m x) where
       done Memory t h = committed t h
       done Stable t h = ap (λ v. holds v.committed t) e ∙ committed t (ap (λ n. holds n t) committed_both ∙ h)
 
+-- a change that leaves both views
+pub stands_alike : (r : Rest) (x y : MemberState) → view Memory y ≡ view Memory x → view Stable y ≡ view Stable x → StandsOn r x y
+stands_alike r x y memory stable = record { standing = λ side t l h. standing side t h; committed = λ side t h. committed side t h }
+  where
+    standing : (side : Side) (t : ℕ) → stands (view side x) t ≡ true → stands (view side y) t ≡ true
+    standing Memory t h = ap (λ v. stands v t) memory ∙ h
+    standing Stable t h = ap (λ v. stands v t) stable ∙ h
+
+    committed : (side : Side) (t : ℕ) → holds (view side x).committed t ≡ true → holds (view side y).committed t ≡ true
+    committed Memory t h = ap (λ v. holds v.committed t) memory ∙ h
+    committed Stable t h = ap (λ v. holds v.committed t) stable ∙ h
+
 pub both_sides : (P : MemberView → Type 0) (y : MemberState) → view Stable y ≡ view Memory y → P (view Memory y) → (side : Side) → P (view side y)
 both_sides P y e p Memory = p
 both_sides P y e p Stable = subst P (sym e) p

@@ -77,6 +77,76 @@ votes_put voted t vote u c h = by (t == u) refl
         inl (same, eqb-true vote.coord c (ap (λ o. votes_for o c) (sym (put_here voted t vote) ∙ ap (look (put voted t vote)) same) ∙ h))
     by false e = inr (ap (λ o. votes_for o c) (sym (put_there voted t vote u (eqb-false t u e))) ∙ h)
 
+-- no committed transaction is voted
+abbrev pub AreApart : MemberView → Type 0
+AreApart v = (u : ℕ) → holds v.committed u ≡ true → holds v.voted u ≡ false
+
+-- Who stands after an abort, a vote and an install stood before it, or is the one that it is of; and no committed one becomes voted.
+module _ (v : MemberView) (t : ℕ) where
+  pub forget_stands : (u : ℕ) → stands (forget_in v t) u ≡ true → stands v u ≡ true
+  forget_stands u h = by (or_cases _ _ h)
+    where
+      by : (holds (without v.voted t) u ≡ true) ⊎ (holds v.committed u ≡ true) → stands v u ≡ true
+      by (inl k) = or_left _ _ (holds_without v.voted t u k).1
+      by (inr k) = or_right _ _ k
+
+  pub cast_stands : (vote : Vote) (u : ℕ) → stands (cast_in v t vote) u ≡ true → (t ≡ u) ⊎ (stands v u ≡ true)
+  cast_stands vote u h = by (or_cases _ _ h)
+    where
+      voted : (t ≡ u) ⊎ (holds v.voted u ≡ true) → (t ≡ u) ⊎ (stands v u ≡ true)
+      voted (inl e) = inl e
+      voted (inr k) = inr (or_left _ _ k)
+
+      by : (holds (put v.voted t vote) u ≡ true) ⊎ (holds v.committed u ≡ true) → (t ≡ u) ⊎ (stands v u ≡ true)
+      by (inl k) = voted (put_holds v.voted t vote u k)
+      by (inr k) = inr (or_right _ _ k)
+
+  pub install_stands : (vote : Vote) (u : ℕ) → stands (install_in v t (Some vote)) u ≡ true → (t ≡ u) ⊎ (stands v u ≡ true)
+  install_stands vote u h = by (or_cases _ _ h)
+    where
+      committed : (t ≡ u) ⊎ (holds v.committed u ≡ true) → (t ≡ u) ⊎ (stands v u ≡ true)
+      committed (inl e) = inl e
+      committed (inr k) = inr (or_right _ _ k)
+
+      by : (holds (without v.voted t) u ≡ true) ⊎ (holds (install_in v t (Some vote)).committed u ≡ true) → (t ≡ u) ⊎ (stands v u ≡ true)
+      by (inl k) = inr (or_left _ _ (holds_without v.voted t u k).1)
+      by (inr k) = committed (holds_cases v.committed t u k)
+
+  -- so who stands nowhere does not stand after them, where the vote is of another one
+  pub forget_leaves : (u : ℕ) → stands v u ≡ false → stands (forget_in v t) u ≡ false
+  forget_leaves u n = false_from_ne_true _ (λ k. let z : true ≡ false = sym (forget_stands u k) ∙ n in cc)
+
+  pub cast_leaves : (vote : Vote) (u : ℕ) → t ≢ u → stands v u ≡ false → stands (cast_in v t vote) u ≡ false
+  cast_leaves vote u other n = false_from_ne_true _ (λ k. by (cast_stands vote u k))
+    where
+      by : (t ≡ u) ⊎ (stands v u ≡ true) → ⊥
+      by (inl e) = other e
+      by (inr k) = let z : true ≡ false = sym k ∙ n in cc
+
+  pub install_leaves : (vote : Vote) → holds v.voted t ≡ true → (u : ℕ) → stands v u ≡ false → stands (install_in v t (Some vote)) u ≡ false
+  install_leaves vote here u n = false_from_ne_true _ (λ k. by (install_stands vote u k))
+    where
+      by : (t ≡ u) ⊎ (stands v u ≡ true) → ⊥
+      by (inl e) = let z : true ≡ false = sym (or_left (holds v.voted t) (holds v.committed t) here) ∙ ap (λ k. stands v k) e ∙ n in cc
+      by (inr k) = let z : true ≡ false = sym k ∙ n in cc
+
+  pub forget_apart : AreApart v → AreApart (forget_in v t)
+  forget_apart apart u h = false_from_ne_true _ (λ k. let z : true ≡ false = sym (holds_without v.voted t u k).1 ∙ apart u h in cc)
+
+  pub cast_apart : (vote : Vote) → holds v.committed t ≡ false → AreApart v → AreApart (cast_in v t vote)
+  cast_apart vote new apart u h = false_from_ne_true _ (λ k. never (put_holds v.voted t vote u k))
+    where
+      never : (t ≡ u) ⊎ (holds v.voted u ≡ true) → ⊥
+      never (inl e) = let z : true ≡ false = sym h ∙ ap (holds v.committed) (sym e) ∙ new in cc
+      never (inr k) = let z : true ≡ false = sym k ∙ apart u h in cc
+
+  pub install_apart : (vote : Vote) → AreApart v → AreApart (install_in v t (Some vote))
+  install_apart vote apart u h = false_from_ne_true _ (λ k. never (holds_without v.voted t u k) (holds_cases v.committed t u h))
+    where
+      never : (t ≢ u) × (holds v.voted u ≡ true) → (t ≡ u) ⊎ (holds v.committed u ≡ true) → ⊥
+      never p (inl e) = p.0 e
+      never p (inr k) = let z : true ≡ false = sym p.1 ∙ apart u k in cc
+
 module _ (r : Rest) (n : NumberFacts r) (m : ℕ) (v : MemberView) (f : ViewFacts r m v) where
   -- an abort
   pub view_forget : (t : ℕ) → ¬ (settled r t) → ViewFacts r m (forget_in v t)
@@ -86,8 +156,8 @@ module _ (r : Rest) (n : NumberFacts r) (m : ℕ) (v : MemberView) (f : ViewFact
         replay = forget_replay v t (told_here r m) (begun r) f.replay;
         image = image_forget (serial r m) (settled r) v t open' f.image;
         named = λ u c h. f.named u c (votes_without v.voted t u c h).1;
-        over = λ u h. f.over u (fewer u (or_cases _ _ h));
-        apart = λ u h. false_from_ne_true _ (λ k. let z : true ≡ false = sym (holds_without v.voted t u k).1 ∙ f.apart u h in cc);
+        over = λ u h. f.over u (forget_stands v t u h);
+        apart = forget_apart v t f.apart;
         done = each_map (λ d. (1 ≤ count_at d.told m → stands v d.txn ≡ true) × (is_decided r.decided d.txn ≡ true)) (λ d. 1 ≤ count_at d.told m → stands (forget_in v t) d.txn ≡ true) r.decided
             (λ d p h. kept d.txn p.1 (or_cases _ _ (p.0 h)))
             (each_both (λ d. 1 ≤ count_at d.told m → stands v d.txn ≡ true) (λ d. is_decided r.decided d.txn ≡ true) r.decided f.done (each_decided r.decided));
@@ -97,10 +167,6 @@ module _ (r : Rest) (n : NumberFacts r) (m : ℕ) (v : MemberView) (f : ViewFact
         works = λ u c h a. f.works u c (votes_without v.voted t u c h).1 a;
       }
     where
-      fewer : (u : ℕ) → (holds (without v.voted t) u ≡ true) ⊎ (holds v.committed u ≡ true) → stands v u ≡ true
-      fewer u (inl h) = or_left _ _ (holds_without v.voted t u h).1
-      fewer u (inr h) = or_right _ _ h
-
       kept : (u : ℕ) → is_decided r.decided u ≡ true → (holds v.voted u ≡ true) ⊎ (holds v.committed u ≡ true) → stands (forget_in v t) u ≡ true
       kept u d (inl h) = or_left _ _ (still_holds v.voted t u (λ e. open' (subst (settled r) (sym e) (Here d))) h)
       kept u d (inr h) = or_right _ _ h
@@ -115,8 +181,8 @@ module _ (r : Rest) (n : NumberFacts r) (m : ℕ) (v : MemberView) (f : ViewFact
         replay = cast_replay v t vote (told_here r m) (begun r) f.replay replays;
         image = image_cast (serial r m) (settled r) v t vote open' f.image;
         named = λ u c h. named u c (votes_put v.voted t vote u c h);
-        over = λ u h. overs u (or_cases _ _ h);
-        apart = λ u h. false_from_ne_true _ (λ k. never u h (put_holds v.voted t vote u k));
+        over = λ u h. overs u (cast_stands v t vote u h);
+        apart = cast_apart v t vote new f.apart;
         done = each_map (λ d. 1 ≤ count_at d.told m → stands v d.txn ≡ true) (λ d. 1 ≤ count_at d.told m → stands (cast_in v t vote) d.txn ≡ true) r.decided
             (λ d p h. more d.txn (or_cases _ _ (p h))) f.done;
         known = f.known;
@@ -129,17 +195,9 @@ module _ (r : Rest) (n : NumberFacts r) (m : ℕ) (v : MemberView) (f : ViewFact
       named u c (inl p) = subst (λ k. belongs r k c) p.0 (subst (belongs r t) p.1 mine)
       named u c (inr h) = f.named u c h
 
-      overs : (u : ℕ) → (holds (put v.voted t vote) u ≡ true) ⊎ (holds v.committed u ≡ true) → over r u ≡ true
-      overs u (inr h) = f.over u (or_right _ _ h)
-      overs u (inl h) = by (put_holds v.voted t vote u h)
-        where
-          by : (t ≡ u) ⊎ (holds v.voted u ≡ true) → over r u ≡ true
-          by (inl e) = ap (over r) (sym e) ∙ o
-          by (inr k) = f.over u (or_left _ _ k)
-
-      never : (u : ℕ) → holds v.committed u ≡ true → (t ≡ u) ⊎ (holds v.voted u ≡ true) → ⊥
-      never u h (inl e) = let z : true ≡ false = sym h ∙ ap (holds v.committed) (sym e) ∙ new in cc
-      never u h (inr k) = let z : true ≡ false = sym k ∙ f.apart u h in cc
+      overs : (u : ℕ) → (t ≡ u) ⊎ (stands v u ≡ true) → over r u ≡ true
+      overs u (inl e) = ap (over r) (sym e) ∙ o
+      overs u (inr k) = f.over u k
 
       more : (u : ℕ) → (holds v.voted u ≡ true) ⊎ (holds v.committed u ≡ true) → stands (cast_in v t vote) u ≡ true
       more u (inl h) = or_left _ _ (holds_put v.voted t vote u h)
@@ -163,8 +221,8 @@ module _ (r : Rest) (n : NumberFacts r) (m : ℕ) (v : MemberView) (f : ViewFact
         replay = install_replay v t vote (told_here r m) (begun r) f.free here f.replay;
         image = image_install (serial r m) (settled r) v t vote here d f.image;
         named = λ u c h. f.named u c (votes_without v.voted t u c h).1;
-        over = λ u h. overs u (or_cases _ _ h);
-        apart = λ u h. false_from_ne_true _ (λ k. never u (holds_without v.voted t u k) (holds_cases v.committed t u h));
+        over = λ u h. overs u (install_stands v t vote u h);
+        apart = install_apart v t vote f.apart;
         done = each_map (λ e. 1 ≤ count_at e.told m → stands v e.txn ≡ true) (λ e. 1 ≤ count_at e.told m → stands (install_in v t (Some vote)) e.txn ≡ true) r.decided
             (λ e p h. more e.txn (or_cases _ _ (p h))) f.done;
         known = λ u h b. known u b (holds_cases v.committed t u h);
@@ -173,17 +231,9 @@ module _ (r : Rest) (n : NumberFacts r) (m : ℕ) (v : MemberView) (f : ViewFact
         works = λ u c h a. f.works u c (votes_without v.voted t u c h).1 a;
       }
     where
-      overs : (u : ℕ) → (holds (without v.voted t) u ≡ true) ⊎ (holds (install_in v t (Some vote)).committed u ≡ true) → over r u ≡ true
-      overs u (inl h) = f.over u (or_left _ _ (holds_without v.voted t u h).1)
-      overs u (inr h) = by (holds_cases v.committed t u h)
-        where
-          by : (t ≡ u) ⊎ (holds v.committed u ≡ true) → over r u ≡ true
-          by (inl e) = ap (over r) (sym e) ∙ f.over t (or_left _ _ (found_holds v.voted t vote here))
-          by (inr k) = f.over u (or_right _ _ k)
-
-      never : (u : ℕ) → (t ≢ u) × (holds v.voted u ≡ true) → (t ≡ u) ⊎ (holds v.committed u ≡ true) → ⊥
-      never u p (inl e) = p.0 e
-      never u p (inr k) = let z : true ≡ false = sym p.1 ∙ f.apart u k in cc
+      overs : (u : ℕ) → (t ≡ u) ⊎ (stands v u ≡ true) → over r u ≡ true
+      overs u (inl e) = ap (over r) (sym e) ∙ f.over t (or_left _ _ (found_holds v.voted t vote here))
+      overs u (inr k) = f.over u k
 
       more : (u : ℕ) → (holds v.voted u ≡ true) ⊎ (holds v.committed u ≡ true) → stands (install_in v t (Some vote)) u ≡ true
       more u (inr h) = or_right _ _ (holds_more v.committed t u h)

@@ -1,7 +1,6 @@
 -- A vote and an install keep the facts.
 use Rattle.std.proofs.Common.{◌≡◌, ◌≢◌, ◌⊎◌, inl, inr, ℕ, suc, Bool, true, false, ◌==◌, ◌≤◌, List, [], ◌∷◌, length, Option, None, Some, refl, sym, ap, ◌∙◌, subst, arith}
-use Rattle.std.specs.Option.{is_some}
-use Rattle.std.proofs.lemmas.Bool.{or_cases, or_left, or_right, or_from, eqb-true, eqb-false, false_from_ne_true}
+use Rattle.std.proofs.lemmas.Bool.{or_cases, or_left, or_right, eqb-true, eqb-false}
 use Rattle.co_message.specs.declared.message.Message.TheVariants as message
 use Rattle.co_record.specs.declared.record.Record.{Record}
 use Rattle.co_record.specs.declared.record.Record.TheVariants as log
@@ -24,13 +23,13 @@ use Rattle.co_plain.specs.Decisions.{IsSettled, InThisRun, InOpenedFile}
 use Rattle.co_plain.specs.Invariants.{Memory, Stable, view, stands, takes_part_in}
 use Rattle.co_plain.specs.Moves.{Cast, Install as InstallVote, effect, Guard, cast_state}
 use Rattle.co_law_engine.proofs.YesTells.{SaysYes, yes_parts, yes_apart, yes_sees}
-use Rattle.co_law_base.proofs.Lookups.{holds_found, found_holds, put_there, without_cases}
+use Rattle.co_law_base.proofs.Lookups.{holds_found, found_holds, without_cases}
 use Rattle.co_law_base.proofs.ToldRuns.{CastReplays, cast_replays}
-use Rattle.co_law_base.proofs.Commits.{holds_cases, holds_more, holds_new}
+use Rattle.co_law_base.proofs.Commits.{holds_more, holds_new}
 use Rattle.co_law_base.proofs.Facts.{Rest, rest_of, told_here, entry_of, settled, Here, Before, ByTold, OpenEntry, ActiveFacts, ViewFacts, MemberFacts, NumberFacts, Facts}
 use Rattle.co_law_base.proofs.Carrying.{settled_alive, by_coord_begun}
 use Rattle.co_law_base.proofs.TwoViews.{both_sides, forced}
-use Rattle.co_law_base.proofs.ViewMoves.{neither_stands, view_cast, view_install, holds_without, still_holds, holds_put}
+use Rattle.co_law_base.proofs.ViewMoves.{neither_stands, view_cast, view_install, still_holds, holds_put, cast_leaves, install_leaves}
 use Rattle.co_law_base.proofs.MemberFrame.{member_change}
 use Rattle.co_law_base.proofs.KeptTold.{kept_same, kept_install, stamps_more}
 
@@ -128,7 +127,7 @@ keeps_cast s f t m c n g =
           kept = kept_same b y.engine os (told_here (rest_of s) m u) (λ stamp. refl) old.kept;
           stamps = old.stamps;
           begun = old.begun;
-          apart = or_from _ _ (ap is_some (put_there b.voted t vote u p.0) ∙ (neither_stands (view Memory (s.member m)) u old.apart).0) (neither_stands (view Memory (s.member m)) u old.apart).1;
+          apart = cast_leaves (view Memory (s.member m)) t vote u p.0 old.apart;
         }
 
     grows : (u : ℕ) → (holds (s.member m).engine.voted u ≡ true) ⊎ (holds (s.member m).committed u ≡ true) → stands (view Memory y) u ≡ true
@@ -185,14 +184,8 @@ install_found s f t m vote here d =
           kept = kept_install b (record { txn = t; writes = vote.sets.writes }) os (told_here (rest_of s) m u) y.engine refl refl old.stamps old.kept;
           stamps = stamps_more (length b.installed) (suc (length b.installed)) os (omega arith) old.stamps;
           begun = old.begun;
-          apart = or_from _ _
-              (false_from_ne_true _ (λ k. let z : true ≡ false = sym (holds_without b.voted t u k).1 ∙ (neither_stands (view Memory (s.member m)) u old.apart).0 in cc))
-              (false_from_ne_true _ (λ k. never (holds_cases (s.member m).committed t u k)));
+          apart = install_leaves (view Memory (s.member m)) t vote (found_holds (s.member m).engine.voted t vote here) u old.apart;
         }
-      where
-        never : (t ≡ u) ⊎ (holds (s.member m).committed u ≡ true) → ⊥
-        never (inl e) = let z : true ≡ false = sym (found_holds b.voted t vote here) ∙ ap (holds b.voted) e ∙ (neither_stands (view Memory (s.member m)) u old.apart).0 in cc
-        never (inr k) = let z : true ≡ false = sym k ∙ (neither_stands (view Memory (s.member m)) u old.apart).1 in cc
 
     grows : (u : ℕ) (k : Bool) → (t == u) ≡ k → (holds (s.member m).engine.voted u ≡ true) ⊎ (holds (s.member m).committed u ≡ true) → stands (view Memory y) u ≡ true
     grows u true e h = or_right _ _ (ap (holds (with_number (s.member m).committed t)) (sym (eqb-true t u e)) ∙ holds_new (s.member m).committed t)

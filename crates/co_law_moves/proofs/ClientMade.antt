@@ -1,13 +1,13 @@
 -- What a client does is its list of moves.
 use Rattle.std.proofs.Common.{◌≡◌, ◌≢◌, inl, ℕ, Bool, true, false, not, ◌==◌, if◌then◌else◌, List, [], ◌∷◌, Option, None, Some, refl, sym, ap, ◌∙◌, subst}
-use Rattle.std.proofs.lemmas.Bool.{eqb-true, eqb-false}
+use Rattle.std.proofs.lemmas.Bool.{eqb-true, eqb-false, or_left, eq-eqb}
 use Rattle.co_base.specs.declared.node.Node.TheVariants as node
 use Rattle.co_base.specs.declared.op.Op.{Op}
 use Rattle.co_base.specs.declared.part.Part.{Part}
 use Rattle.co_message.specs.declared.answer.Answer.TheVariants as answer
 use Rattle.co_message.specs.declared.answer.Cause.TheVariants as cause
 use Rattle.co_record.specs.declared.record.Record.TheVariants as log
-use Rattle.co_state.specs.Table.{look, put, without}
+use Rattle.co_state.specs.Table.{look, put, without, holds}
 use Rattle.co_state.specs.LockRule.{lock_blocker}
 use Rattle.co_state.specs.VotingRule.{kept_count}
 use Rattle.co_state.specs.Effects.{with_operation}
@@ -23,20 +23,34 @@ use Rattle.co_plain.specs.MemberStep.{says, with_engine}
 use Rattle.co_plain.specs.Member.{most_operations, unless_blocked, member_op}
 use Rattle.co_plain.specs.CoordStep.{with_table, with_coord_log, stopped_coord, coord_forced_by}
 use Rattle.co_plain.specs.Coordinator.{prepares_to, ask_commit, commit_entry, abort_entry}
-use Rattle.co_plain.specs.Sessions.{parts_of, count_at, asked_to_end}
+use Rattle.co_plain.specs.Sessions.{parts_of, count_at, asked_to_end, same_node}
 use Rattle.co_plain.specs.Federation.{Federation, with_session, with_coord, with_member, at_coord, at_member}
 use Rattle.co_plain.specs.Step.{marked_asked, is_stopped, operated, entered, reply_in}
 use Rattle.co_plain.specs.Decisions.{told_of, told_in, asked_in}
 use Rattle.co_plain.specs.Moves.{Move, AskEnd, Collect, Decide, CrashCoord, effect, marked_over, with_decision, decide_entry, session_by_coord, entered_reply, may_operate_at}
 use Rattle.co_law_base.proofs.Lookups.{put_here, found_holds}
 use Rattle.co_law_base.proofs.Carrying.{at_here}
+use Rattle.co_law_base.proofs.Facts.{rest_of, over, by_coord}
 use Rattle.co_law_moves.proofs.CoordNotes.{prepares_allowed}
-use Rattle.co_law_moves.proofs.ClientEvents as clients
 use Rattle.co_law_moves.specs.EventMoves.{sends, stopped_moves, decided_at_once, ask_commit_moves, commit_entry_moves, leave_moves, abort_entry_moves, unless_lock, operation_moves, where_up}
 use Rattle.co_law_moves.proofs.Made.{all_prepares, MadeOver, no_move, one_more, made_from, coord_still, member_still, sends_made}
 use Rattle.co_law_moves.proofs.CoordMade.{deciding_made, leave_made}
 use Rattle.co_law_moves.specs.OwnGuards.{Logs}
 use Rattle.co_law_moves.proofs.FactsOver.{FactsOver, coords_over, asks_over}
+
+-- the session of who asked, at its coordinator
+module _ (s : Federation) (t c : ℕ) (session : Session) where
+  asked_here : look (put s.sessions t (asked_to_end session)) t ≡ Some (asked_to_end session)
+  asked_here = put_here s.sessions t (asked_to_end session)
+
+  over_asked : over (rest_of (with_session s t (asked_to_end session))) t ≡ true
+  over_asked = or_left (asked_in (look (put s.sessions t (asked_to_end session)) t)) (holds s.used t) (ap asked_in asked_here)
+
+  by_here : look s.sessions t ≡ Some session → session.by ≡ node.Coord c → by_coord (look s.sessions t) c ≡ true
+  by_here e mine = ap (λ o. by_coord o c) e ∙ ap (λ k. same_node k (node.Coord c)) mine ∙ eq-eqb c c refl
+
+  pub by_there : session.by ≡ node.Coord c → by_coord (look (put s.sessions t (asked_to_end session)) t) c ≡ true
+  by_there mine = ap (λ o. by_coord o c) asked_here ∙ ap (λ k. same_node k (node.Coord c)) mine ∙ eq-eqb c c refl
 
 -- the client asked, and then
 pub ask_first : (l : Logs) (s : Federation) (t : ℕ) (session : Session) → look s.sessions t ≡ Some session → (moves : List Move) (z : Federation) → MadeOver l (with_session s t (asked_to_end session)) moves z → MadeOver l s (AskEnd t ∷ moves) z
@@ -63,11 +77,11 @@ module _ (l : Logs) (s : Federation) (f : FactsOver l s) (t c : ℕ) (session : 
       (coord_forced_by c (with_table (s.coord c) (without (s.coord c).table t)) (log.Commit t [] ∷ []) answer.Committed [] o)).state
   none_told p Completes i =
       ask_first l s t session e (Decide t c ∷ []) (at_coord (with_session s t (asked_to_end session)) c (coord_forced_by c (with_table (s.coord c) (without (s.coord c).table t)) (log.Commit t [] ∷ []) answer.Committed [] Completes)).state
-      (deciding_made l (with_session s t (asked_to_end session)) c t f1 (with_table (s.coord c) (without (s.coord c).table t)) [] answer.Committed [] refl (clients.by_there s t c session mine)
+      (deciding_made l (with_session s t (asked_to_end session)) c t f1 (with_table (s.coord c) (without (s.coord c).table t)) [] answer.Committed [] refl (by_there s t c session mine)
       (inl (i, ap (λ o. parts_of (told_in o)) found ∙ p)) (at_once (with_session s t (asked_to_end session)) i) tt Completes)
   none_told p (StopsAt call leaves) i =
       by (batch_is_stable call leaves)
-      (deciding_made l s c t f (with_table (s.coord c) (without (s.coord c).table t)) [] answer.Committed [] refl (clients.by_here s t c session e mine)
+      (deciding_made l s c t f (with_table (s.coord c) (without (s.coord c).table t)) [] answer.Committed [] refl (by_here s t c session e mine)
       (inl (i, ap (λ o. parts_of (told_in o)) e ∙ p)) (at_once s i) tt (StopsAt call leaves))
     where
       by : (b : Bool) → MadeOver l s (stopped_moves (Decide t c) (CrashCoord c) b) (at_coord s c (stopped_coord c (with_table (s.coord c) (without (s.coord c).table t)) call b (log.Commit t [] ∷ []))).state →
@@ -119,7 +133,7 @@ module _ (l : Logs) (s : Federation) (f : FactsOver l s) (t c : ℕ) (session : 
   abort_made None i = still1
   abort_made (Some entry.Idle) i =
       ask_first l s t session e (leave_moves t c (parts_of session.told)) (at_coord (with_session s t (asked_to_end session)) c (abort_entry c (s.coord c) t (parts_of session.told) (Some entry.Idle))).state
-      (leave_made l (with_session s t (asked_to_end session)) c f1 t cause.Client (parts_of session.told) ((coords_over l (with_session s t (asked_to_end session)) f1 c).idle t i) (clients.over1 s t c session) (inl i))
+      (leave_made l (with_session s t (asked_to_end session)) c f1 t cause.Client (parts_of session.told) ((coords_over l (with_session s t (asked_to_end session)) f1 c).idle t i) (over_asked s t c session) (inl i))
   abort_made (Some (entry.Collecting parts yeses)) i = still1
   abort_made (Some (entry.Committed members acks)) i = still1
 

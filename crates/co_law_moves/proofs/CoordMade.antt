@@ -1,7 +1,7 @@
 -- Each event of a coordinator is its list of moves.
 use Rattle.std.proofs.Common.{◌≡◌, ◌≢◌, ◌⊎◌, inl, inr, ℕ, Bool, true, false, not, ◌||◌, ◌&&◌, ◌==◌, if◌then◌else◌, List, [], ◌∷◌, Option, None, Some, refl, sym, ap, ◌∙◌, subst}
 use Rattle.std.specs.Option.{is_some}
-use Rattle.std.proofs.lemmas.Bool.{or_left, or_from, and_parts, eq-eqb, false_from_ne_true}
+use Rattle.std.proofs.lemmas.Bool.{or_left, or_from, and_parts, eq-eqb, false_from_ne_true, or_cases, or_right}
 use Rattle.co_base.specs.declared.node.Node.TheVariants as node
 use Rattle.co_base.specs.declared.part.Part.{Part}
 use Rattle.co_message.specs.declared.answer.Answer.{Answer}
@@ -26,24 +26,53 @@ use Rattle.co_plain.specs.CoordStep.{with_table, with_coord_log, coord_down, has
 use Rattle.co_plain.specs.Coordinator.{member_or_none, waits, aborts, decided_by, yes_entry, no_entry, ask_entry, ended_by, ack_entry, timer_entry, resend_entry, parts_lacking, decisions_to, prepares_to}
 use Rattle.co_plain.specs.CoordLog.{coord_stopped_fill, coord_fill_by, coord_close_by, coord_checkpoint_by, coord_restart_by, coord_spare, coord_crash}
 use Rattle.co_plain.specs.Wire.{was_sent}
-use Rattle.co_plain.specs.Federation.{Federation, with_coord, at_coord, noted, decide_all}
-use Rattle.co_plain.specs.Decisions.{told_of}
-use Rattle.co_plain.specs.Invariants.{Stable, view, ends_only}
+use Rattle.co_plain.specs.Federation.{Federation, with_coord, at_coord, noted, decide_all, decided_where}
+use Rattle.co_plain.specs.Decisions.{told_of, told_in}
+use Rattle.co_plain.specs.Invariants.{Stable, view, ends_only, takes_part_in}
 use Rattle.co_plain.specs.Moves.{Decide, Leave, CrashCoord, RestartCoord, ArmCoord, CloseCoordSpare, FillCoordSpare, Guard, effect, with_decision, table_decided, decide_entry, record_yes, record_ack}
-use Rattle.co_law_base.proofs.Lookups.{without_here}
-use Rattle.co_law_base.proofs.Facts.{rest_of, over, asked, told, Here, AtDecision, settled_at, by_coord, belongs, Begun, OpenEntry, Facts}
+use Rattle.co_plain.specs.declared.session.Session.{Session}
+use Rattle.co_plain.specs.declared.session.Decided.{Decided}
+use Rattle.co_law_base.proofs.Lookups.{without_here, found_holds}
+use Rattle.co_law_base.proofs.Facts.{rest_of, over, asked, told, Here, AtDecision, settled_at, by_coord, belongs, Begun, OpenEntry, Facts, took}
 use Rattle.co_law_base.proofs.Carrying.{at_here}
 use Rattle.co_law_base.proofs.MemberFrame.{unended_settled}
 use Rattle.co_law_base.proofs.CoordMoves.{open_unsettled}
 use Rattle.co_law_base.proofs.Sending.{parts_told, part_member}
-use Rattle.co_law_base.proofs.Taking.{took_here}
+use Rattle.co_law_base.proofs.Taking.{took_here, some_member, takes_took}
+use Rattle.co_law_base.proofs.TwoViews.{committed_both}
 use Rattle.co_law_moves.proofs.Marks.{ends_quiet, commit_marks}
 use Rattle.co_law_moves.proofs.CoordNotes.{each_filter, lacking_among, prepares_allowed}
-use Rattle.co_law_moves.proofs.CoordEvents.{decides_there, took_by_asker, unknown_aborts}
 use Rattle.co_law_moves.specs.EventMoves.{sends, written_moves, stopped_moves, leave_moves, yes_counted_moves, yes_moves, no_moves, ask_moves, ack_counted_moves, ack_moves, coord_timer_moves, resend_moves, closing_moves, coord_checkpoint_moves, restart_moves}
 use Rattle.co_law_moves.proofs.Made.{all_commits, all_aborts, all_prepares, always, AllowedOver, AllAllowedOver, MadeOver, one_more, made_to, made_from, coord_first, coord_still, coord_then, sends_made, coord_crash_made}
 use Rattle.co_law_moves.specs.OwnGuards.{Logs}
 use Rattle.co_law_moves.proofs.FactsOver.{FactsOver, where_sound, coords_over, sent_over}
+
+-- a commit record at the deciding coordinator decides
+pub decides_there : (o : Option Session) (c t : ℕ) (ds : List Decided) → by_coord o c ≡ true → decided_where o (node.Coord c) t ds ≡ record { txn = t; told = told_in o } ∷ ds
+decides_there None c t ds h = absurd (let z : false ≡ true = h in cc)
+decides_there (Some session) c t ds h = ap (λ b. if b then record { txn = t; told = session.told } ∷ ds else ds) h
+
+module _ (s : Federation) (c : ℕ) (f : Facts s) where
+  -- an abort of what is not in the table is true, or goes to a member that committed
+  unknown_aborts : (t m : ℕ) → was_sent s.sent (message.Ask t m c) ≡ true → look (s.coord c).table t ≡ None →
+      (belongs (rest_of s) t c × ((holds (s.coord c).table t || settled_at (rest_of s) c t) ≡ false)) ⊎ (holds (view Stable (s.member m)).committed t ≡ true)
+  unknown_aborts t m a e = by (settled_at (rest_of s) c t) refl
+    where
+      held : (takes_part_in (look (s.coord c).table t) m ≡ true) ⊎ (holds (s.member m).committed t ≡ true) → holds (view Stable (s.member m)).committed t ≡ true
+      held (inl h) = absurd (let z : false ≡ true = ap (λ o. takes_part_in o m) (sym e) ∙ h in cc)
+      held (inr h) = sym (ap (λ n. holds n t) (committed_both (rest_of s) m (s.member m) (f.members m))) ∙ h
+
+      by : (b : Bool) → settled_at (rest_of s) c t ≡ b → (belongs (rest_of s) t c × ((holds (s.coord c).table t || settled_at (rest_of s) c t) ≡ false)) ⊎ (holds (view Stable (s.member m)).committed t ≡ true)
+      by false h = inl (f.sent.asks_named t m c a, or_from _ _ (ap is_some e) h)
+      by true h = inr (held (or_cases _ _ (f.sent.asks_held t m c a (or_right (holds (s.coord c).table t) (settled_at (rest_of s) c t) h))))
+
+  -- who asks about a committed one took part in it
+  took_by_asker : (t m : ℕ) (members acks : List ℕ) → look (s.coord c).table t ≡ Some (entry.Committed members acks) → was_sent s.sent (message.Ask t m c) ≡ true → took (rest_of s) t m
+  took_by_asker t m members acks e a =
+      let x = (f.coords c).committed t members acks e in
+      let some = some_member members acks x.lacks in
+      takes_took (rest_of s) f.numbers t some.0 m (f.records.taking t c some.0 members x.recorded some.1)
+      (f.sent.asks_take t m c a (or_left (holds (s.coord c).table t) (settled_at (rest_of s) c t) (found_holds (s.coord c).table t (entry.Committed members acks) e)))
 
 -- A decision is forced: the move, or the move and a crash, or the crash alone.
 pub deciding_made : (l : Logs) (s : Federation) (c t : ℕ) → FactsOver l s → (next : CoordState) (members : List ℕ) (a : Answer) (notes : List Message) → next.log ≡ (s.coord c).log → by_coord (look s.sessions t) c ≡ true →

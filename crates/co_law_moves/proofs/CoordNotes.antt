@@ -12,15 +12,12 @@ use Rattle.co_plain.specs.declared.coord_state.Entry.TheVariants as entry
 use Rattle.co_plain.specs.declared.session.Told.{Told}
 use Rattle.co_plain.specs.Numbers.{has_number, numbers_lacking}
 use Rattle.co_plain.specs.CoordStep.{has_part}
-use Rattle.co_plain.specs.Coordinator.{prepares_to, decisions_to}
 use Rattle.co_base.specs.Parts.{with_part}
 use Rattle.co_plain.specs.Sessions.{count_at, parts_of}
 use Rattle.co_plain.specs.Federation.{Federation}
 use Rattle.co_plain.specs.Decisions.{told_of}
-use Rattle.co_plain.specs.Moves.{Send, effect}
 use Rattle.co_state.specs.Table.{look}
 use Rattle.co_law_base.proofs.Sending.{Allowed, told_parts}
-use Rattle.co_law_moves.proofs.Marks.{AllAllowed}
 
 -- the members of participants ascend, each with its count
 abbrev Above : ℕ → List Part → Type 0
@@ -121,22 +118,6 @@ parts_counted (o ∷ os) =
     (λ n d. ap (λ b. if b then count_at os n + 1 else count_at os n) (ne_eqb o.site.member n (λ e. d (sym e))))
     (ap (λ b. if b then count_at os o.site.member + 1 else count_at os o.site.member) (eq-eqb o.site.member o.site.member refl))
     (none_told os o.site.member) (parts_ascend os) (parts_counted os)
-
--- Messages that are true now stay true while others are sent.
-pub all_commits : (s : Federation) (t c : ℕ) (ms : List ℕ) → ((m : ℕ) → has_number ms m ≡ true → Allowed s (message.Decide t c m true)) → AllAllowed s (decisions_to c t true ms)
-all_commits s t c [] h = tt
-all_commits s t c (m ∷ ms) h = (
-  h m (or_left (m == m) (has_number ms m) (eq-eqb m m refl)),
-  all_commits (effect s (Send (message.Decide t c m true))) t c ms (λ k n. h k (or_right (m == k) (has_number ms k) n)),
-)
-
-pub all_aborts : (s : Federation) (t c : ℕ) (ms : List ℕ) → ((m : ℕ) → Allowed s (message.Decide t c m false)) → AllAllowed s (decisions_to c t false ms)
-all_aborts s t c [] h = tt
-all_aborts s t c (m ∷ ms) h = (h m, all_aborts (effect s (Send (message.Decide t c m false))) t c ms h)
-
-pub all_prepares : (s : Federation) (t c : ℕ) (ps : List Part) → EachPart (λ p. Allowed s (message.Prepare t c p.member p.count)) ps → AllAllowed s (prepares_to c t ps)
-all_prepares s t c [] h = tt
-all_prepares s t c (p ∷ ps) h = (h.0, all_prepares (effect s (Send (message.Prepare t c p.member p.count))) t c ps h.1)
 
 pub each_filter : (P : Part → Type 0) (test : Part → Bool) (ps : List Part) → EachPart P ps → EachPart P (filter test ps)
 each_filter P test [] h = tt

@@ -1,5 +1,5 @@
 -- What an event needs of a state: the facts over sound opened logs have it, and so have those over any.
-use Rattle.std.proofs.Common.{◌≡◌, ℕ, true, false, if◌then◌else◌, List, [], ◌∷◌, Option, None, Some, refl, sym, ap, ◌∙◌}
+use Rattle.std.proofs.Common.{◌≡◌, ℕ, true, false, if◌then◌else◌, List, [], ◌∷◌, Option, None, Some, refl, sym, ap, ◌∙◌, subst}
 use Rattle.std.proofs.lemmas.Bool.{false_from_ne_true}
 use Rattle.std.specs.Option.{is_some}
 use Rattle.co_base.specs.declared.node.Node.{Node}
@@ -16,14 +16,17 @@ use Rattle.co_plain.specs.Sessions.{same_node, asked_to_end}
 use Rattle.co_plain.specs.Wire.{was_sent}
 use Rattle.co_plain.specs.Federation.{Federation, with_session, decided_where}
 use Rattle.co_plain.specs.Invariants.{Memory, txn_of, OwnAborts}
+use Rattle.co_plain.specs.Member.{coord_of}
+use Rattle.co_plain.specs.Moves.{marked_over}
+use Rattle.co_law_base.proofs.Lookups.{found_holds}
 use Rattle.co_law_base.proofs.Facts.{rest_of, over, by_coord, CoordHas, Facts}
+use Rattle.co_law_base.proofs.LogMoves.{local_apart}
+use Rattle.co_law_base.proofs.Asking.{keeps_ask}
 use Rattle.co_law_moves.specs.OwnGuards.{Logs, SoundLogs, AnyLogs, Where}
 use Rattle.co_law_moves.proofs.Own.{OwnFacts}
 use Rattle.co_law_moves.proofs.OwnClients.{asks_own}
 use Rattle.co_law_moves.proofs.Marks.{AllQuiet, aborts_quiet}
-use Rattle.co_law_moves.proofs.MemberEvents.{voted_quiet}
-use Rattle.co_law_moves.proofs.ClientEvents.{asked_state}
-use Rattle.co_law_moves.proofs.LocalEvents as locals
+use Rattle.co_law_moves.proofs.Standings.{votes_own}
 
 abbrev pub FactsOver : Logs → Federation → Type 0
 FactsOver SoundLogs s = Facts s
@@ -61,33 +64,32 @@ pub waiting_quiet : (l : Logs) (s : Federation) → FactsOver l s → (m : ℕ) 
 waiting_quiet SoundLogs s f m sessions = aborts_quiet (rest_of s) sessions (node.Member m) (s.member m).log.waiting (f.members m).waiting
 waiting_quiet AnyLogs s f m sessions = own_quiet sessions (node.Member m) (s.member m).log.stable (s.member m).log.waiting (f.members m).waiting
 
--- who is voted here is no local one, so a commit record here decides nothing
-own_voted_quiet : (s : Federation) → OwnFacts s → (m t : ℕ) → holds (s.member m).engine.voted t ≡ true → (ds : List Decided) → decided_where (look s.sessions t) (node.Member m) t ds ≡ ds
-own_voted_quiet s f m t h ds = by (look s.sessions t) refl
+-- who is voted is no local one
+voted_away : (l : Logs) (s : Federation) → FactsOver l s → (m t : ℕ) → holds (s.member m).engine.voted t ≡ true → (session : Session) → look s.sessions t ≡ Some session → (k : ℕ) → session.by ≡ node.Member k → ⊥
+voted_away SoundLogs s f m t h session e k b =
+    let c = coord_of (s.member m) t in
+    local_apart s f.numbers t c k session (((f.members m).views Memory).named t c (votes_own s m t h)) e b
+voted_away AnyLogs s f m t h session e k b =
+    let home = ((f.members m).views Memory).away t h (ap is_some e) in
+    let z : true ≡ false = sym home.1 ∙ ap (λ o. by_coord o home.0) e ∙ ap (λ n. same_node n (node.Coord home.0)) b in cc
+
+-- so a commit record of it here decides nothing
+pub vote_quiet : (l : Logs) (s : Federation) → FactsOver l s → (m t : ℕ) → holds (s.member m).engine.voted t ≡ true → (ds : List Decided) → decided_where (look s.sessions t) (node.Member m) t ds ≡ ds
+vote_quiet l s f m t h ds = by (look s.sessions t) refl
   where
     node_of : (session : Session) → look s.sessions t ≡ Some session → (at : Node) → session.by ≡ at → (if same_node at (node.Member m) then record { txn = t; told = session.told } ∷ ds else ds) ≡ ds
+    node_of session e (node.Member k) b = absurd (voted_away l s f m t h session e k b)
     node_of session e (node.Coord c) b = refl
-    node_of session e (node.Member k) b =
-        let home = ((f.members m).views Memory).away t h (ap is_some e) in
-        absurd (let z : true ≡ false = sym home.1 ∙ ap (λ o. by_coord o home.0) e ∙ ap (λ n. same_node n (node.Coord home.0)) b in cc)
 
     by : (o : Option Session) → look s.sessions t ≡ o → decided_where o (node.Member m) t ds ≡ ds
     by None e = refl
     by (Some session) e = node_of session e session.by refl
 
-pub vote_quiet : (l : Logs) (s : Federation) → FactsOver l s → (m t : ℕ) → holds (s.member m).engine.voted t ≡ true → (ds : List Decided) → decided_where (look s.sessions t) (node.Member m) t ds ≡ ds
-vote_quiet SoundLogs s f m = voted_quiet s m f
-vote_quiet AnyLogs s f m = own_voted_quiet s f m
-
 -- after the client asked
 pub asks_over : (l : Logs) (s : Federation) → FactsOver l s → (t : ℕ) (session : Session) → look s.sessions t ≡ Some session → FactsOver l (with_session s t (asked_to_end session))
-asks_over SoundLogs s f t session e = asked_state s f t session e
+asks_over SoundLogs s f t session e = subst (λ o. Facts (marked_over s t o)) e (keeps_ask s f t (found_holds s.sessions t session e))
 asks_over AnyLogs s f t session e = asks_own s f t session e
 
--- a local transaction that was not asked to end is voted nowhere
-pub local_unvoted : (l : Logs) (s : Federation) → FactsOver l s → (t m : ℕ) (session : Session) → look s.sessions t ≡ Some session → session.by ≡ node.Member m → session.asked ≡ false → holds (s.member m).engine.voted t ≡ false
-local_unvoted SoundLogs s f t m session e mine unasked = locals.unvoted s f t m session e mine unasked
-local_unvoted AnyLogs s f t m session e mine unasked =
-    false_from_ne_true (holds (s.member m).engine.voted t) (λ h.
-    let home = ((f.members m).views Memory).away t h (ap is_some e) in
-    let z : true ≡ false = sym home.1 ∙ ap (λ o. by_coord o home.0) e ∙ ap (λ n. same_node n (node.Coord home.0)) mine in cc)
+-- a local transaction is voted nowhere
+pub local_unvoted : (l : Logs) (s : Federation) → FactsOver l s → (t m : ℕ) (session : Session) → look s.sessions t ≡ Some session → session.by ≡ node.Member m → holds (s.member m).engine.voted t ≡ false
+local_unvoted l s f t m session e mine = false_from_ne_true (holds (s.member m).engine.voted t) (λ h. voted_away l s f m t h session e m mine)

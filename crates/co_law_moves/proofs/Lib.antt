@@ -6,14 +6,9 @@ pub mod OwnOperations
 pub mod OwnDecisions
 pub mod OwnMoves
 pub mod KeptBySelf
-pub mod Nodes
 pub mod Marks
-pub mod MemberEvents
+pub mod Standings
 pub mod CoordNotes
-pub mod CoordEvents
-pub mod ClientEvents
-pub mod LocalEvents
-pub mod Steps
 pub mod Laid
 pub mod Start
 pub mod Growing
@@ -27,6 +22,7 @@ pub mod CoordMade
 pub mod ClientMade
 pub mod LocalMade
 pub mod StepsMade
+pub mod Steps
 pub mod OwnRuns
 pub mod Onward
 pub mod MemberOnward

@@ -1,7 +1,7 @@
 -- A list of moves from one state to another.
 use Rattle.std.specs.Option.{is_some}
 use Rattle.co_state.specs.declared.engine_state.Vote.{Vote}
-use Rattle.std.proofs.Common.{◌≡◌, ◌⊎◌, inl, inr, ℕ, true, false, ◌==◌, List, [], ◌∷◌, Option, None, Some, refl, sym, ap, ◌∙◌, subst}
+use Rattle.std.proofs.Common.{◌≡◌, ◌⊎◌, inl, inr, ℕ, true, false, ◌==◌, List, [], ◌∷◌, Option, None, Some, refl, sym, ap, ◌∙◌, subst, Bool, if◌then◌else◌}
 use Rattle.std.proofs.lemmas.Bool.{or_left, or_right, eqb-true, eq-eqb}
 use Rattle.co_base.specs.declared.part.Part.{Part}
 use Rattle.co_plain.specs.Numbers.{has_number}
@@ -26,7 +26,6 @@ use Rattle.co_law_base.proofs.Carrying.{at_here}
 use Rattle.co_law_base.proofs.Sending.{Allowed}
 use Rattle.co_law_moves.specs.OwnGuards.{Logs, SoundLogs, AnyLogs, Where, may_say, GuardOver, GuardsOver}
 use Rattle.co_law_moves.proofs.CoordNotes.{EachPart}
-use Rattle.co_law_moves.proofs.Nodes.{same_family, twice_family}
 use Rattle.co_law_moves.specs.EventMoves.{sends}
 use Rattle.co_law_moves.proofs.KeptFrom.{settled_is, took_is, dead_is, belongs_is}
 
@@ -95,6 +94,20 @@ pub made_from : (l : Logs) (s w : Federation) (moves : List Move) (z : Federatio
 made_from l s w moves z e r = subst (λ k. MadeOver l k moves z) (sym e) r
 
 -- a node that stays, and a second change of the same node
+same_family : {X : Type 0} (f : ℕ → X) (m : ℕ) → with_at f m (f m) ≡ f
+same_family f m = λ i n. by n (m == n) refl i
+  where
+    by : (n : ℕ) (b : Bool) → (m == n) ≡ b → (if m == n then f m else f n) ≡ f n
+    by n true e = ap (λ b. if b then f m else f n) e ∙ ap f (eqb-true m n e)
+    by n false e = ap (λ b. if b then f m else f n) e
+
+twice_family : {X : Type 0} (f : ℕ → X) (m : ℕ) (x y : X) → with_at (with_at f m x) m y ≡ with_at f m y
+twice_family f m x y = λ i n. by n (m == n) i
+  where
+    by : (n : ℕ) (b : Bool) → (if b then y else (if b then x else f n)) ≡ (if b then y else f n)
+    by n true = refl
+    by n false = refl
+
 pub member_same : (s : Federation) (m : ℕ) → with_member s m (s.member m) ≡ s
 member_same s m = λ i. record s { member = same_family s.member m i }
 

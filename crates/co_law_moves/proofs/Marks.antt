@@ -1,9 +1,8 @@
 -- What became stable decides exactly the transactions whose commit record became stable at their deciding node.
-use Rattle.std.proofs.Common.{◌≡◌, ℕ, true, false, List, [], ◌∷◌, ◌++◌, map, reverse, Option, None, Some, refl, sym, ap, ◌∙◌, subst}
+use Rattle.std.proofs.Common.{◌≡◌, ℕ, true, false, List, [], ◌∷◌, ◌++◌, map, reverse, refl, sym, ap, ◌∙◌, subst}
 use Rattle.std.proofs.lemmas.List.{reverse-append}
 use Rattle.co_base.specs.declared.mark.Mark.{Mark}
 use Rattle.co_base.specs.declared.node.Node.{Node}
-use Rattle.co_message.specs.declared.message.Message.{Message}
 use Rattle.co_record.specs.declared.record.Record.{Record}
 use Rattle.co_record.specs.declared.record.Record.TheVariants as log
 use Rattle.co_state.specs.Table.{Table, look}
@@ -11,11 +10,9 @@ use Rattle.co_plain.specs.declared.session.Decided.{Decided}
 use Rattle.co_plain.specs.declared.session.Session.{Session}
 use Rattle.co_plain.specs.LogWrite.{marks_of}
 use Rattle.co_record.specs.Marks.{mark_of}
-use Rattle.co_plain.specs.Federation.{Federation, decided_where, decide_all, noted, message_list}
+use Rattle.co_plain.specs.Federation.{decided_where, decide_all}
 use Rattle.co_plain.specs.Invariants.{ends_only}
-use Rattle.co_plain.specs.Moves.{Send, effect}
-use Rattle.co_law_base.proofs.Facts.{Rest, OnlyAborts, Facts}
-use Rattle.co_law_base.proofs.Sending.{Allowed, keeps_send}
+use Rattle.co_law_base.proofs.Facts.{Rest, OnlyAborts}
 
 -- the record decides nothing at this node
 abbrev pub Quiet : Table Session → Node → Record → Type 0
@@ -88,20 +85,3 @@ ends_quiet sessions at (log.Prepare a b c d x ∷ rs) e = absurd (let z : false 
 ends_quiet sessions at (log.Commit a b ∷ rs) e = absurd (let z : false ≡ true = e in cc)
 ends_quiet sessions at (log.Abort a ∷ rs) e = absurd (let z : false ≡ true = e in cc)
 ends_quiet sessions at (log.Checkpoint a b c ∷ rs) e = absurd (let z : false ≡ true = e in cc)
-
--- a state with its marks, that decide nothing, and its messages, which are true where they are sent
-pub noted_quiet : (s : Federation) (marks : List Mark) → Facts s → decide_all s.sessions s.decided marks ≡ s.decided → Facts (noted s marks [])
-noted_quiet s marks f e = subst (λ ds. Facts (record s { decided = ds })) (sym e) f
-
-pub noted_sent : (s : Federation) (marks : List Mark) (note : Option Message) → Facts s → decide_all s.sessions s.decided marks ≡ s.decided → ((k : Message) → note ≡ Some k → Allowed s k) → Facts (noted s marks (message_list note))
-noted_sent s marks None f e g = noted_quiet s marks f e
-noted_sent s marks (Some k) f e g = subst (λ ds. Facts (record (effect s (Send k)) { decided = ds })) (sym e) (keeps_send s f k (g k refl))
-
--- messages that stay true while others are sent
-abbrev pub AllAllowed : Federation → List Message → Type 0
-AllAllowed s [] = Unit {0}
-AllAllowed s (k ∷ ks) = Allowed s k × AllAllowed (effect s (Send k)) ks
-
-pub noted_all : (s : Federation) (marks : List Mark) (notes : List Message) → Facts s → decide_all s.sessions s.decided marks ≡ s.decided → AllAllowed s notes → Facts (noted s marks notes)
-noted_all s marks [] f e g = noted_quiet s marks f e
-noted_all s marks (k ∷ ks) f e g = noted_all (effect s (Send k)) marks ks (keeps_send s f k g.0) e g.1

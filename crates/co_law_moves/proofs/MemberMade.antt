@@ -41,7 +41,7 @@ use Rattle.co_law_base.proofs.Carrying.{at_here}
 use Rattle.co_law_base.proofs.TwoViews.{committed_both}
 use Rattle.co_law_base.proofs.LogMoves.{without_absent, not_held}
 use Rattle.co_law_moves.proofs.Marks.{AllQuiet, quiet_marks}
-use Rattle.co_law_moves.proofs.MemberEvents.{active_is, voted_is, installed_is, absent_is, votes_own, install_kind}
+use Rattle.co_law_moves.proofs.Standings.{active_is, voted_is, installed_is, absent_is, votes_own, install_kind}
 use Rattle.co_law_moves.specs.EventMoves.{sends, written_moves, stopped_moves, drop_moves, vote_moves, prepare_moves, asked_moves, again_moves, commit_moves, abort_moves, timer_moves, question_moves, closing_moves, member_checkpoint_moves, restart_moves}
 use Rattle.co_law_moves.proofs.KeptFrom.{settled_is, dead_is}
 use Rattle.co_law_moves.proofs.Made.{where_map, AllowedOver, AllAllowedOver, MadeOver, no_move, made_to, member_first, member_still, member_then, sends_made, crash_made}

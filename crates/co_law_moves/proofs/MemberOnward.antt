@@ -23,7 +23,7 @@ use Rattle.co_law_base.proofs.Facts.{rest_of, Facts}
 use Rattle.co_law_base.proofs.Carrying.{LivesOn}
 use Rattle.co_law_base.proofs.TwoViews.{memory_to_stable, stable_to_memory, committed_both}
 use Rattle.co_law_base.proofs.LogMoves.{dead_there}
-use Rattle.co_law_moves.proofs.MemberEvents.{votes_own}
+use Rattle.co_law_moves.proofs.Standings.{votes_own}
 use Rattle.co_law_moves.proofs.Onward.{Onward, absent_votes, holds_put_off, holds_put_on, holds_without_off, member_alike, member_onward, none_without, present}
 
 module _ (s : Federation) (f : Facts s) where

@@ -25,10 +25,11 @@ use Rattle.co_plain.specs.Decisions.{is_decided, told_in, asked_in}
 use Rattle.co_plain.specs.SoundLogs.{unended_in}
 use Rattle.co_plain.specs.Invariants.{Memory, view, KeptAsTold, ends_only, txn_of}
 use Rattle.co_plain.specs.Moves.{Begin, BeginLocal, AskEnd, Send, effect, Guard, marked_over}
-use Rattle.co_law_base.proofs.Lookups.{put_here, put_there, put_cases, holds_found, found_holds}
+use Rattle.co_law_base.proofs.Lookups.{put_here, put_there, holds_found, found_holds}
 use Rattle.co_law_base.proofs.Facts.{rest_of, changed, seen, by_coord, OpenEntry, CoordHas}
 use Rattle.co_law_base.proofs.Carrying.{at_each, by_coord_begun, ClientsOn, clients_over, clients_coord}
-use Rattle.co_law_base.proofs.ViewMoves.{holds_put, put_holds}
+use Rattle.co_law_base.proofs.ViewMoves.{holds_put}
+use Rattle.co_law_base.proofs.SessionPut.{unused_put, asked_put}
 use Rattle.co_law_base.proofs.Tabled.{coord_put}
 use Rattle.co_law_base.proofs.Asking.{same_reading}
 use Rattle.co_law_base.proofs.Beginning.{other_than}
@@ -127,20 +128,12 @@ module _ (s : Federation) (f : OwnFacts s) (t : ℕ) (old : Session) (here : loo
   asks_numbers : OwnNumbers (put s.sessions t (asked_to_end old)) s.used s.decided s.opened_coord
   asks_numbers =
       record {
-        new = λ u h. new u (put_holds s.sessions t (asked_to_end old) u h);
+        new = unused_put s.sessions t (asked_to_end old) s.used f.numbers.new (f.numbers.new t (found_holds s.sessions t old here));
         decided_begun = λ u h. holds_put s.sessions t (asked_to_end old) u (f.numbers.decided_begun u h);
         once = f.numbers.once;
-        local_asked = λ u m session h b d. local_asked u m session b d (put_cases s.sessions t (asked_to_end old) u session h);
+        local_asked = asked_put s.sessions t (asked_to_end old) s.decided f.numbers.local_asked (λ m b d. refl);
         commit_used = f.numbers.commit_used;
       }
-    where
-      new : (u : ℕ) → (t ≡ u) ⊎ (holds s.sessions u ≡ true) → holds s.used u ≡ false
-      new u (inl e) = ap (holds s.used) (sym e) ∙ f.numbers.new t (found_holds s.sessions t old here)
-      new u (inr h) = f.numbers.new u h
-
-      local_asked : (u m : ℕ) (session : Session) → session.by ≡ node.Member m → is_decided s.decided u ≡ true → ((t ≡ u) × (asked_to_end old ≡ session)) ⊎ ((t ≢ u) × (look s.sessions u ≡ Some session)) → session.asked ≡ true
-      local_asked u m session b d (inr p) = f.numbers.local_asked u m session p.1 b d
-      local_asked u m session b d (inl p) = ap (λ z. z.asked) (sym p.1)
 
   pub asks_own : OwnFacts (with_session s t (asked_to_end old))
   asks_own =
@@ -188,20 +181,12 @@ module _ (s : Federation) (f : OwnFacts s) (t : ℕ) (by' : Node) (new : seen (r
   begins_numbers : OwnNumbers (put s.sessions t (begun_by by')) s.used s.decided s.opened_coord
   begins_numbers =
       record {
-        new = λ u h. fresh u (put_holds s.sessions t (begun_by by') u h);
+        new = unused_put s.sessions t (begun_by by') s.used f.numbers.new (or_parts (holds s.sessions t) (holds s.used t) new).1;
         decided_begun = λ u h. holds_put s.sessions t (begun_by by') u (f.numbers.decided_begun u h);
         once = f.numbers.once;
-        local_asked = λ u m session h b d. local_asked u m session b d (put_cases s.sessions t (begun_by by') u session h);
+        local_asked = asked_put s.sessions t (begun_by by') s.decided f.numbers.local_asked (λ m b d. absurd (let z : true ≡ false = sym (f.numbers.decided_begun t d) ∙ not_begun in cc));
         commit_used = f.numbers.commit_used;
       }
-    where
-      fresh : (u : ℕ) → (t ≡ u) ⊎ (holds s.sessions u ≡ true) → holds s.used u ≡ false
-      fresh u (inl e) = ap (holds s.used) (sym e) ∙ (or_parts (holds s.sessions t) (holds s.used t) new).1
-      fresh u (inr h) = f.numbers.new u h
-
-      local_asked : (u m : ℕ) (session : Session) → session.by ≡ node.Member m → is_decided s.decided u ≡ true → ((t ≡ u) × (begun_by by' ≡ session)) ⊎ ((t ≢ u) × (look s.sessions u ≡ Some session)) → session.asked ≡ true
-      local_asked u m session b d (inr p) = f.numbers.local_asked u m session p.1 b d
-      local_asked u m session b d (inl p) = absurd (let z : true ≡ false = sym (f.numbers.decided_begun u d) ∙ ap (holds s.sessions) (sym p.0) ∙ not_begun in cc)
 
   begins_member : (m : ℕ) → OwnMember (put s.sessions t (begun_by by')) s.used s.sent m (s.member m)
   begins_member m =

@@ -1,7 +1,7 @@
 -- A decision keeps what each node keeps by itself.
 use Rattle.std.proofs.Common.{◌≡◌, ◌≢◌, ◌⊎◌, inl, inr, ℕ, suc, Bool, true, false, ◌||◌, ◌==◌, ◌≤◌, List, [], length, Option, None, Some, refl, sym, ap, ◌∙◌, subst, arith}
 use Rattle.std.specs.Option.{is_some}
-use Rattle.std.proofs.lemmas.Bool.{or_cases, or_left, or_right, or_from, eqb-true, false_from_ne_true}
+use Rattle.std.proofs.lemmas.Bool.{or_cases, or_left, eqb-true, false_from_ne_true}
 use Rattle.co_base.specs.declared.node.Node.TheVariants as node
 use Rattle.co_state.specs.declared.engine_state.Operation.{Operation}
 use Rattle.co_state.specs.declared.engine_state.Vote.{Vote}
@@ -10,27 +10,27 @@ use Rattle.co_state.specs.EngineState.{operations_of}
 use Rattle.co_plain.specs.declared.member_state.MemberState.{MemberState}
 use Rattle.co_plain.specs.declared.member_view.MemberView.{MemberView}
 use Rattle.co_plain.specs.declared.session.Session.{Session}
-use Rattle.co_plain.specs.MemberView.{cast_in, install_in, with_number}
+use Rattle.co_plain.specs.MemberView.{cast_in, install_in}
 use Rattle.co_plain.specs.CoordStep.{members_of}
 use Rattle.co_plain.specs.Sessions.{count_at, same_node, asked_to_end}
 use Rattle.co_plain.specs.Federation.{Federation, with_session, with_member, with_coord}
 use Rattle.co_plain.specs.Decisions.{is_decided, told_of, told_in, asked_in}
-use Rattle.co_plain.specs.Invariants.{Memory, Stable, view}
+use Rattle.co_plain.specs.Invariants.{Memory, Stable, view, stands}
 use Rattle.co_plain.specs.Moves.{CommitLocally, Decide, effect, Guard, with_decision, decide_entry, decide_members, marked_over, session_by_member, local_state}
 use Rattle.co_law_engine.proofs.YesTells.{SaysYes, yes_parts, yes_apart}
-use Rattle.co_law_base.proofs.Lookups.{put_here, put_there, without_there, without_cases, found_holds}
-use Rattle.co_law_base.proofs.Commits.{holds_cases}
+use Rattle.co_law_base.proofs.Lookups.{put_here, put_there, without_cases, found_holds}
 use Rattle.co_law_base.proofs.Facts.{rest_of, told, over, by_coord, OpenEntry}
 use Rattle.co_law_base.proofs.Carrying.{at_each, by_coord_begun}
 use Rattle.co_law_base.proofs.ViewRules.{cast_free, install_free}
-use Rattle.co_law_base.proofs.ViewMoves.{neither_stands, holds_without, still_holds}
+use Rattle.co_law_base.proofs.TwoViews.{both_sides}
+use Rattle.co_law_base.proofs.ViewMoves.{neither_stands, holds_without, still_holds, cast_stands, install_stands, cast_leaves, install_leaves, cast_apart, install_apart}
 use Rattle.co_law_base.proofs.KeptTold.{kept_install, stamps_more}
 use Rattle.co_law_base.proofs.VoteMoves.{active_found}
 use Rattle.co_law_base.proofs.AtCoord.{coord_each}
 use Rattle.co_law_base.proofs.Locally.{local_vote, member_after, coord_still}
 use Rattle.co_plain.specs.CoordInvariants.{OwnEnds}
 use Rattle.co_law_moves.proofs.Own.{spent, told_there, OwnView, OwnActive, OwnMember, OwnNumbers, OwnFacts}
-use Rattle.co_law_moves.proofs.OwnMembers.{own_member, own_both}
+use Rattle.co_law_moves.proofs.OwnMembers.{own_member}
 use Rattle.co_law_moves.proofs.OwnClients.{asks_own}
 
 -- one more decision among the numbers
@@ -116,22 +116,21 @@ module _ (s : Federation) (f : OwnFacts s) (t m : ℕ) (old : Session) (here : l
       record {
         free = install_free (cast_in v t vote) t vote
             (cast_free v t vote (x.views Memory).free (λ u other d h. yes_apart (s.member m).engine t (count_at (told (rest_of s) t) m) u other says d h));
-        over = λ u h. overs u (or_cases _ _ h);
-        apart = λ u h. false_from_ne_true _ (λ k. never u (gone u k) (holds_cases (s.member m).committed t u h));
+        over = λ u h. overs u (install_stands (cast_in v t vote) t vote u h);
+        apart = install_apart (cast_in v t vote) t vote (cast_apart v t vote new (x.views Memory).apart);
         away = λ u h. (x.views Memory).away u (gone u h).1;
       }
     where
-      overs : (u : ℕ) → (holds (without (put (s.member m).engine.voted t (local_vote s t m)) t) u ≡ true) ⊎ (holds (with_number (s.member m).committed t) u ≡ true) → spent s.sessions s.used u ≡ true
-      overs u (inl h) = (x.views Memory).over u (or_left (holds (s.member m).engine.voted u) (holds (s.member m).committed u) (gone u h).1)
-      overs u (inr h) = by (holds_cases (s.member m).committed t u h)
-        where
-          by : (t ≡ u) ⊎ (holds (s.member m).committed u ≡ true) → spent s.sessions s.used u ≡ true
-          by (inl e) = ap (spent s.sessions s.used) (sym e) ∙ over_t
-          by (inr k) = (x.views Memory).over u (or_right (holds (s.member m).engine.voted u) (holds (s.member m).committed u) k)
+      new : holds v.committed t ≡ false
+      new = (neither_stands v t (x.active t (operations_of (s.member m).engine t) found).apart).1
 
-      never : (u : ℕ) → (t ≢ u) × (holds (s.member m).engine.voted u ≡ true) → (t ≡ u) ⊎ (holds (s.member m).committed u ≡ true) → ⊥
-      never u p (inl e) = p.0 e
-      never u p (inr k) = let z : true ≡ false = sym p.1 ∙ (x.views Memory).apart u k in cc
+      overs : (u : ℕ) → (t ≡ u) ⊎ (stands (cast_in v t vote) u ≡ true) → spent s.sessions s.used u ≡ true
+      overs u (inl e) = ap (spent s.sessions s.used) (sym e) ∙ over_t
+      overs u (inr k) = by (cast_stands v t vote u k)
+        where
+          by : (t ≡ u) ⊎ (stands v u ≡ true) → spent s.sessions s.used u ≡ true
+          by (inl e) = ap (spent s.sessions s.used) (sym e) ∙ over_t
+          by (inr h) = (x.views Memory).over u h
 
   same_views : view Stable (member_after s t m (Some (local_vote s t m))) ≡ view Memory (member_after s t m (Some (local_vote s t m)))
   same_views =
@@ -141,7 +140,7 @@ module _ (s : Federation) (f : OwnFacts s) (t m : ℕ) (old : Session) (here : l
   member_then : OwnMember s.sessions s.used s.sent m (member_after s t m (Some (local_vote s t m)))
   member_then =
       record {
-        views = own_both (OwnView s.sessions s.used) y same_views view_then;
+        views = both_sides (OwnView s.sessions s.used) y same_views view_then;
         active = λ u os h. active u os (without_cases (s.member m).engine.active t u os h);
         marked = λ u mark h. let p = without_cases (s.member m).asked t u mark h in let q = x.marked u mark p.1 in (still_holds (s.member m).engine.active t u p.0 q.0, q.1);
         logged = same_views;
@@ -151,14 +150,11 @@ module _ (s : Federation) (f : OwnFacts s) (t m : ℕ) (old : Session) (here : l
       active : (u : ℕ) (os : List Operation) → (t ≢ u) × (look (s.member m).engine.active u ≡ Some os) → OwnActive s.sessions m (member_after s t m (Some (local_vote s t m))) u os
       active u os p =
           let a = x.active u os p.1 in
-          let apart = neither_stands (view Memory (s.member m)) u a.apart in
           record {
             kept = kept_install (s.member m).engine (record { txn = t; writes = (local_vote s t m).sets.writes }) os (told_there s.sessions m u) y.engine refl refl a.stamps a.kept;
             stamps = stamps_more (length (s.member m).engine.installed) (suc (length (s.member m).engine.installed)) os (omega arith) a.stamps;
             begun = a.begun;
-            apart = or_from _ _
-                (ap is_some (without_there (put (s.member m).engine.voted t (local_vote s t m)) t u p.0 ∙ put_there (s.member m).engine.voted t (local_vote s t m) u p.0) ∙ apart.0)
-                (ap is_some (put_there (s.member m).committed t tt u p.0) ∙ apart.1);
+            apart = install_leaves (cast_in (view Memory (s.member m)) t (local_vote s t m)) t (local_vote s t m) (ap is_some middle_here) u (cast_leaves (view Memory (s.member m)) t (local_vote s t m) u p.0 a.apart);
           }
 
   alone_then : OwnFacts (with_decision (with_member s m (member_after s t m (Some (local_vote s t m)))) t)

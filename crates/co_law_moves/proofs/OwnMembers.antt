@@ -1,14 +1,13 @@
 -- Each move of a member keeps what each node keeps by itself.
 use Rattle.std.proofs.Common.{◌≡◌, ◌≢◌, ◌⊎◌, inl, inr, ℕ, suc, Bool, true, false, ◌≤◌, List, [], ◌∷◌, length, Option, None, Some, refl, sym, ap, ◌∙◌, subst, arith}
-use Rattle.std.specs.Option.{is_some}
-use Rattle.std.proofs.lemmas.Bool.{or_cases, or_left, or_right, or_from, false_from_ne_true}
+use Rattle.std.proofs.lemmas.Bool.{or_left}
 use Rattle.co_message.specs.declared.message.Message.TheVariants as message
 use Rattle.co_record.specs.declared.record.Record.TheVariants as log
 use Rattle.co_state.specs.declared.engine_state.EngineState.{EngineState}
 use Rattle.co_state.specs.declared.engine_state.Operation.{Operation}
 use Rattle.co_state.specs.declared.engine_state.Vote.{Vote}
 use Rattle.co_state.specs.declared.verdict.Verdict.TheVariants.{VoteYes}
-use Rattle.co_state.specs.Table.{Table, look, holds, put, without}
+use Rattle.co_state.specs.Table.{Table, look, holds, without}
 use Rattle.co_state.specs.Changes.{sets_of}
 use Rattle.co_state.specs.EngineState.{operations_of}
 use Rattle.co_state.specs.Effects.{install_vote}
@@ -29,11 +28,11 @@ use Rattle.co_plain.specs.Federation.{Federation, with_member}
 use Rattle.co_plain.specs.Invariants.{Side, Memory, Stable, view, stands}
 use Rattle.co_plain.specs.Moves.{MarkAsked, Cast, DropActive, DropVoted, Install, CrashMember, RestartMember, ArmMember, CloseMemberSpare, FillMemberSpare, effect, cast_state}
 use Rattle.co_law_engine.proofs.YesTells.{SaysYes, yes_parts, yes_apart}
-use Rattle.co_law_base.proofs.Lookups.{is_nothing, look_none, put_cases, put_there, without_cases, holds_found, found_holds}
-use Rattle.co_law_base.proofs.Commits.{holds_cases}
+use Rattle.co_law_base.proofs.Lookups.{is_nothing, look_none, put_cases, without_cases, holds_found, found_holds}
 use Rattle.co_law_base.proofs.Carrying.{at_each}
 use Rattle.co_law_base.proofs.ViewRules.{cast_free, forget_free, install_free}
-use Rattle.co_law_base.proofs.ViewMoves.{neither_stands, holds_without, still_holds, put_holds}
+use Rattle.co_law_base.proofs.TwoViews.{both_sides}
+use Rattle.co_law_base.proofs.ViewMoves.{neither_stands, holds_without, still_holds, put_holds, forget_stands, cast_stands, install_stands, forget_apart, cast_apart, install_apart, forget_leaves, cast_leaves, install_leaves}
 use Rattle.co_law_base.proofs.KeptTold.{kept_same, kept_install, stamps_more}
 use Rattle.co_law_base.proofs.LogMoves.{without_absent, not_held}
 use Rattle.co_law_base.proofs.VoteMoves.{active_found}
@@ -57,36 +56,24 @@ module _ (sessions : Table Session) (used : Numbers) (v : MemberView) (f : OwnVi
   own_forget t =
       record {
         free = forget_free v t f.free;
-        over = λ u h. f.over u (fewer u (or_cases _ _ h));
-        apart = λ u h. false_from_ne_true _ (λ k. let z : true ≡ false = sym (holds_without v.voted t u k).1 ∙ f.apart u h in cc);
+        over = λ u h. f.over u (forget_stands v t u h);
+        apart = forget_apart v t f.apart;
         away = λ u h. f.away u (holds_without v.voted t u h).1;
       }
-    where
-      fewer : (u : ℕ) → (holds (without v.voted t) u ≡ true) ⊎ (holds v.committed u ≡ true) → stands v u ≡ true
-      fewer u (inl h) = or_left _ _ (holds_without v.voted t u h).1
-      fewer u (inr h) = or_right _ _ h
 
   pub own_cast : (t : ℕ) (vote : Vote) → ((u : ℕ) (other : Vote) → t ≢ u → look v.voted u ≡ Some other → voted_holds vote.sets other.sets ≡ false) →
       spent sessions used t ≡ true → holds v.committed t ≡ false → (holds sessions t ≡ true → AtCoord sessions t) → OwnView sessions used (cast_in v t vote)
   own_cast t vote apart o new home =
       record {
         free = cast_free v t vote f.free apart;
-        over = λ u h. overs u (or_cases _ _ h);
-        apart = λ u h. false_from_ne_true _ (λ k. never u h (put_holds v.voted t vote u k));
+        over = λ u h. overs u (cast_stands v t vote u h);
+        apart = cast_apart v t vote new f.apart;
         away = λ u h. away u (put_holds v.voted t vote u h);
       }
     where
-      overs : (u : ℕ) → (holds (put v.voted t vote) u ≡ true) ⊎ (holds v.committed u ≡ true) → spent sessions used u ≡ true
-      overs u (inr h) = f.over u (or_right _ _ h)
-      overs u (inl h) = by (put_holds v.voted t vote u h)
-        where
-          by : (t ≡ u) ⊎ (holds v.voted u ≡ true) → spent sessions used u ≡ true
-          by (inl e) = ap (spent sessions used) (sym e) ∙ o
-          by (inr k) = f.over u (or_left _ _ k)
-
-      never : (u : ℕ) → holds v.committed u ≡ true → (t ≡ u) ⊎ (holds v.voted u ≡ true) → ⊥
-      never u h (inl e) = let z : true ≡ false = sym h ∙ ap (holds v.committed) (sym e) ∙ new in cc
-      never u h (inr k) = let z : true ≡ false = sym k ∙ f.apart u h in cc
+      overs : (u : ℕ) → (t ≡ u) ⊎ (stands v u ≡ true) → spent sessions used u ≡ true
+      overs u (inl e) = ap (spent sessions used) (sym e) ∙ o
+      overs u (inr k) = f.over u k
 
       away : (u : ℕ) → (t ≡ u) ⊎ (holds v.voted u ≡ true) → holds sessions u ≡ true → AtCoord sessions u
       away u (inl e) = subst (λ k. holds sessions k ≡ true → AtCoord sessions k) e home
@@ -96,26 +83,14 @@ module _ (sessions : Table Session) (used : Numbers) (v : MemberView) (f : OwnVi
   own_install t vote o =
       record {
         free = install_free v t vote f.free;
-        over = λ u h. overs u (or_cases _ _ h);
-        apart = λ u h. false_from_ne_true _ (λ k. never u (holds_without v.voted t u k) (holds_cases v.committed t u h));
+        over = λ u h. overs u (install_stands v t vote u h);
+        apart = install_apart v t vote f.apart;
         away = λ u h. f.away u (holds_without v.voted t u h).1;
       }
     where
-      overs : (u : ℕ) → (holds (without v.voted t) u ≡ true) ⊎ (holds (install_in v t (Some vote)).committed u ≡ true) → spent sessions used u ≡ true
-      overs u (inl h) = f.over u (or_left _ _ (holds_without v.voted t u h).1)
-      overs u (inr h) = by (holds_cases v.committed t u h)
-        where
-          by : (t ≡ u) ⊎ (holds v.committed u ≡ true) → spent sessions used u ≡ true
-          by (inl e) = ap (spent sessions used) (sym e) ∙ o
-          by (inr k) = f.over u (or_right _ _ k)
-
-      never : (u : ℕ) → (t ≢ u) × (holds v.voted u ≡ true) → (t ≡ u) ⊎ (holds v.committed u ≡ true) → ⊥
-      never u p (inl e) = p.0 e
-      never u p (inr k) = let z : true ≡ false = sym p.1 ∙ f.apart u k in cc
-
-pub own_both : (P : MemberView → Type 0) (y : MemberState) → view Stable y ≡ view Memory y → P (view Memory y) → (side : Side) → P (view side y)
-own_both P y e p Memory = p
-own_both P y e p Stable = subst P (sym e) p
+      overs : (u : ℕ) → (t ≡ u) ⊎ (stands v u ≡ true) → spent sessions used u ≡ true
+      overs u (inl e) = ap (spent sessions used) (sym e) ∙ o
+      overs u (inr k) = f.over u k
 
 -- the same engine and records
 alike : (s : Federation) → OwnFacts s → (m : ℕ) (up : Bool) (armed : Option Stop) (closed : Bool) →
@@ -251,7 +226,7 @@ module _ (s : Federation) (f : OwnFacts s) (m : ℕ) where
             kept = kept_same (s.member m).engine y.engine os _ (λ stamp. refl) a.kept;
             stamps = a.stamps;
             begun = a.begun;
-            apart = or_from _ _ (false_from_ne_true _ (λ k. let z : true ≡ false = sym (holds_without (s.member m).engine.voted t u k).1 ∙ (neither u os h).0 in cc)) (neither u os h).1;
+            apart = forget_leaves (view Memory (s.member m)) t u a.apart;
           }
 
   -- a crash: memory is what the stable records tell
@@ -275,7 +250,7 @@ module _ (s : Federation) (f : OwnFacts s) (m : ℕ) where
   own_fill =
       own_member s f m y
       (record {
-        views = own_both (OwnView s.sessions s.used) y same (x.views Memory);
+        views = both_sides (OwnView s.sessions s.used) y same (x.views Memory);
         active = λ t os h. let a = x.active t os h in record { kept = a.kept; stamps = a.stamps; begun = a.begun; apart = a.apart };
         marked = x.marked;
         logged = same;
@@ -293,7 +268,7 @@ module _ (s : Federation) (f : OwnFacts s) (m : ℕ) where
   own_yes t c n g v =
       own_member s f m y
       (record {
-        views = own_both (OwnView s.sessions s.used) y same
+        views = both_sides (OwnView s.sessions s.used) y same
             (own_cast s.sessions s.used (view Memory (s.member m)) (x.views Memory) t vote
             (λ u other d h. yes_apart (s.member m).engine t n u other yes' d h)
             (f.sent.over (message.Prepare t c m n) g) (neither t (operations_of (s.member m).engine t) found).1
@@ -326,7 +301,7 @@ module _ (s : Federation) (f : OwnFacts s) (m : ℕ) where
             kept = kept_same (s.member m).engine y.engine os (told_there s.sessions m u) (λ stamp. refl) a.kept;
             stamps = a.stamps;
             begun = a.begun;
-            apart = or_from _ _ (ap is_some (put_there (s.member m).engine.voted t vote u p.0) ∙ (neither u os p.1).0) (neither u os p.1).1;
+            apart = cast_leaves (view Memory (s.member m)) t vote u p.0 a.apart;
           }
 
   -- a commit is forced
@@ -341,7 +316,7 @@ module _ (s : Federation) (f : OwnFacts s) (m : ℕ) where
   installed t vote here =
       own_member s f m y
       (record {
-        views = own_both (OwnView s.sessions s.used) y same
+        views = both_sides (OwnView s.sessions s.used) y same
             (own_install s.sessions s.used (view Memory (s.member m)) (x.views Memory) t vote ((x.views Memory).over t (or_left _ _ (found_holds (s.member m).engine.voted t vote here))));
         active = λ u os h. active u os h;
         marked = x.marked;
@@ -368,14 +343,8 @@ module _ (s : Federation) (f : OwnFacts s) (m : ℕ) where
             kept = kept_install (s.member m).engine (record { txn = t; writes = vote.sets.writes }) os (told_there s.sessions m u) y.engine refl refl a.stamps a.kept;
             stamps = stamps_more (length (s.member m).engine.installed) (suc (length (s.member m).engine.installed)) os (omega arith) a.stamps;
             begun = a.begun;
-            apart = or_from _ _
-                (false_from_ne_true _ (λ k. let z : true ≡ false = sym (holds_without (s.member m).engine.voted t u k).1 ∙ (neither u os h).0 in cc))
-                (false_from_ne_true _ (λ k. never (holds_cases (s.member m).committed t u k)));
+            apart = install_leaves (view Memory (s.member m)) t vote (found_holds (s.member m).engine.voted t vote here) u a.apart;
           }
-        where
-          never : (t ≡ u) ⊎ (holds (s.member m).committed u ≡ true) → ⊥
-          never (inl e) = let z : true ≡ false = sym (found_holds (s.member m).engine.voted t vote here) ∙ ap (holds (s.member m).engine.voted) e ∙ (neither u os h).0 in cc
-          never (inr k) = let z : true ≡ false = sym k ∙ (neither u os h).1 in cc
 
   pub own_installed : (t : ℕ) → holds (s.member m).engine.voted t ≡ true → OwnFacts (effect s (Install t m))
   own_installed t v =

@@ -1,28 +1,28 @@
 -- An answered operation keeps what each node keeps by itself.
-use Rattle.std.proofs.Common.{◌≡◌, ◌≢◌, ◌⊎◌, inl, inr, ℕ, Bool, true, false, ◌==◌, if◌then◌else◌, List, [], ◌∷◌, length, Option, None, Some, refl, sym, ap, ◌∙◌, subst, arith}
+use Rattle.std.proofs.Common.{◌≡◌, ◌≢◌, ◌⊎◌, inl, inr, ℕ, Bool, true, false, ◌==◌, if◌then◌else◌, List, ◌∷◌, length, Option, None, Some, refl, sym, ap, ◌∙◌, subst}
 use Rattle.std.specs.Option.{is_some}
 use Rattle.std.proofs.lemmas.Bool.{or_from, eqb-true, eqb-false, eq-eqb, ne_eqb, false_from_ne_true}
 use Rattle.co_base.specs.declared.node.Node.TheVariants as node
 use Rattle.co_base.specs.declared.op.Op.{Op}
 use Rattle.co_state.specs.declared.engine_state.Operation.{Operation}
 use Rattle.co_state.specs.Table.{look, holds}
-use Rattle.co_state.specs.EngineState.{operations_in, operations_of}
+use Rattle.co_state.specs.EngineState.{operations_of}
 use Rattle.co_state.specs.ReadRule.{snapshot_of}
 use Rattle.co_state.specs.Effects.{with_operation}
 use Rattle.co_state.specs.VotingRule.{kept_count}
 use Rattle.co_plain.specs.declared.member_state.MemberState.{MemberState}
 use Rattle.co_plain.specs.declared.session.Session.{Session}
-use Rattle.co_plain.specs.declared.session.Told.{Told}
 use Rattle.co_plain.specs.MemberStep.{with_engine}
 use Rattle.co_plain.specs.Sessions.{told_at, count_at, with_told}
 use Rattle.co_plain.specs.Federation.{Federation, with_session, with_member}
-use Rattle.co_plain.specs.Decisions.{is_decided, told_in, asked_in}
+use Rattle.co_plain.specs.Decisions.{told_in, asked_in}
 use Rattle.co_plain.specs.Invariants.{Side, Memory, Stable, view, stands, KeptAsTold, StampsIn}
 use Rattle.co_plain.specs.Moves.{Operate, effect, Guard, entered_reply, may_operate_at}
 use Rattle.co_law_base.proofs.Lookups.{put_here, put_there, put_cases, found_holds}
 use Rattle.co_law_base.proofs.Facts.{by_coord}
-use Rattle.co_law_base.proofs.ViewMoves.{holds_put, put_holds}
-use Rattle.co_law_base.proofs.KeptTold.{kept_same, count_told}
+use Rattle.co_law_base.proofs.ViewMoves.{holds_put}
+use Rattle.co_law_base.proofs.SessionPut.{unused_put, asked_put}
+use Rattle.co_law_base.proofs.KeptTold.{kept_so_far, kept_same, count_told}
 use Rattle.co_law_base.proofs.Asking.{same_reading}
 use Rattle.co_law_base.proofs.Operating.{entry_for, sessions_with, snapshot_in}
 use Rattle.co_law_moves.proofs.Own.{spent, told_there, OwnView, OwnActive, OwnMember, OwnNumbers, OwnFacts}
@@ -59,39 +59,18 @@ module _ (s : Federation) (f : OwnFacts s) (t m : ℕ) (o : Op) (old : Session) 
   operates_numbers : OwnNumbers (sessions_with s t m o old) s.used s.decided s.opened_coord
   operates_numbers =
       record {
-        new = λ u h. new u (put_holds s.sessions t (with_told old (entry_for s t m o)) u h);
+        new = unused_put s.sessions t (with_told old (entry_for s t m o)) s.used f.numbers.new (f.numbers.new t (found_holds s.sessions t old here));
         decided_begun = λ u h. holds_put s.sessions t (with_told old (entry_for s t m o)) u (f.numbers.decided_begun u h);
         once = f.numbers.once;
-        local_asked = λ u n session h b d. local_asked u n session b d (put_cases s.sessions t (with_told old (entry_for s t m o)) u session h);
+        local_asked = asked_put s.sessions t (with_told old (entry_for s t m o)) s.decided f.numbers.local_asked (λ n b d. f.numbers.local_asked t n old here b d);
         commit_used = f.numbers.commit_used;
       }
-    where
-      new : (u : ℕ) → (t ≡ u) ⊎ (holds s.sessions u ≡ true) → holds s.used u ≡ false
-      new u (inl e) = ap (holds s.used) (sym e) ∙ f.numbers.new t (found_holds s.sessions t old here)
-      new u (inr h) = f.numbers.new u h
-
-      local_asked : (u n : ℕ) (session : Session) → session.by ≡ node.Member n → is_decided s.decided u ≡ true → ((t ≡ u) × (with_told old (entry_for s t m o) ≡ session)) ⊎ ((t ≢ u) × (look s.sessions u ≡ Some session)) → session.asked ≡ true
-      local_asked u n session b d (inr p) = f.numbers.local_asked u n session p.1 b d
-      local_asked u n session b d (inl p) = ap (λ z. z.asked) (sym p.1) ∙ f.numbers.local_asked t n old here (ap (λ z. z.by) p.1 ∙ b) (ap (is_decided s.decided) p.0 ∙ d)
 
   -- the operations that are kept before the new one
-  abbrev Before : List Operation → Type 0
-  Before os = KeptAsTold (s.member m).engine os (told_there s.sessions m t) × StampsIn (length (s.member m).engine.installed) os
-
-  kept_before : Before (operations_of (s.member m).engine t)
-  kept_before = by (look (s.member m).engine.active t) refl
-    where
-      nothing : (ts : List Told) → 0 ≡ length ts → KeptAsTold (s.member m).engine [] ts
-      nothing [] e = tt
-      nothing (x ∷ xs) e = absurd (omega (arith, e))
-
-      by : (z : Option (List Operation)) → look (s.member m).engine.active t ≡ z → Before (operations_of (s.member m).engine t)
-      by None e =
-          subst Before (sym (ap operations_in e))
-          (nothing (told_there s.sessions m t) (sym (ap (λ z. length (operations_in z)) e) ∙ all_kept ∙ count_told (told_in (look s.sessions t)) m), tt)
-      by (Some os) e =
-          let a = (f.members m).active t os e in
-          subst Before (sym (ap operations_in e)) (a.kept, a.stamps)
+  kept_before : KeptAsTold (s.member m).engine (operations_of (s.member m).engine t) (told_there s.sessions m t) × StampsIn (length (s.member m).engine.installed) (operations_of (s.member m).engine t)
+  kept_before =
+      kept_so_far (s.member m).engine t (told_there s.sessions m t) (all_kept ∙ count_told (told_in (look s.sessions t)) m)
+      (λ os e. let a = (f.members m).active t os e in (a.kept, a.stamps))
 
   after_it : MemberState
   after_it = with_engine (s.member m) (with_operation (s.member m).engine t o)

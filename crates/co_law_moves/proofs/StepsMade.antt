@@ -1,5 +1,6 @@
 -- Every event is its list of moves, each with its guard, where a verdict that is handed is true of the run.
-use Rattle.std.proofs.Common.{◌≡◌, ◌≢◌, ℕ, Bool, true, false, if◌then◌else◌, List, [], ◌∷◌, Option, None, Some, refl}
+use Rattle.std.proofs.Common.{◌≡◌, ◌≢◌, ℕ, Bool, true, false, if◌then◌else◌, List, [], ◌∷◌, Option, None, Some, refl, sym, ap, ◌∙◌}
+use Rattle.std.proofs.lemmas.Bool.{eqb-true}
 use Rattle.co_base.specs.declared.leaves.Leaves.{Leaves}
 use Rattle.co_base.specs.declared.node.Node.{Node}
 use Rattle.co_base.specs.declared.node.Node.TheVariants as node
@@ -28,11 +29,10 @@ use Rattle.co_plain.specs.Sessions.{Refuses, Grants, parts_of, leave_to_visit, l
 use Rattle.co_plain.specs.Wire.{was_sent}
 use Rattle.co_plain.specs.Federation.{Federation, answers, at_member, at_coord}
 use Rattle.co_plain.specs.Step.{up_member, member_step, up_coord, coord_step, coord_answers, local_answers, is_used, begin_where, local_where, operate, operate_with, commit_at, commit_with, abort_at, abort_with, arrives, deliver, timer_at, crash_at, restart_at, arm_at, checkpoint_at, step_line, step}
-use Rattle.co_plain.specs.Moves.{Move, Begin, BeginLocal, CrashMember, CrashCoord, ArmMember, ArmCoord}
+use Rattle.co_plain.specs.Moves.{Move, Begin, BeginLocal, CrashMember, CrashCoord, ArmMember, ArmCoord, may_operate_at}
 use Rattle.co_law_base.proofs.Facts.{Facts}
 use Rattle.co_law_base.proofs.VoteMoves.{as_settled}
 use Rattle.co_plain.specs.Premises.{IsTrueVerdict}
-use Rattle.co_law_moves.proofs.Steps.{visits_there}
 use Rattle.co_law_moves.specs.EventMoves.{where_up, begin_moves, operate_moves, operate_with_moves, commit_entry_moves, local_commit_moves, commit_at_moves, commit_with_moves, abort_entry_moves, local_abort_moves, abort_at_moves, abort_with_moves, prepare_moves, commit_moves, abort_moves, decision_moves, yes_moves, no_moves, ask_moves, ack_moves, arrival_moves, timer_moves, coord_timer_moves, timer_at_moves, crash_at_moves, restart_at_moves, arm_at_moves, member_checkpoint_moves, coord_checkpoint_moves, checkpoint_at_moves, again_moves, question_moves, resend_moves, line_moves, moves_of}
 use Rattle.co_law_moves.proofs.Made.{where_map, Made, MadeOver, sound_made, no_move}
 use Rattle.co_law_moves.proofs.MemberMade as members
@@ -41,6 +41,9 @@ use Rattle.co_law_moves.proofs.ClientMade as clients
 use Rattle.co_law_moves.proofs.LocalMade as locals
 use Rattle.co_law_moves.specs.OwnGuards.{Logs, SoundLogs, Where}
 use Rattle.co_law_moves.proofs.FactsOver.{FactsOver, where_sound}
+
+visits_there : (session : Session) (m : ℕ) → may_visit session.by m ≡ true → session.asked ≡ false → may_operate_at (Some session) m
+visits_there session m v a = (a, λ n b. eqb-true n m (sym (ap (λ k. may_visit k m) b) ∙ v))
 
 module _ (l : Logs) (s : Federation) (f : FactsOver l s) where
   begins : (t c : ℕ) (used up : Bool) → is_used s t ≡ used → MadeOver l s (begin_moves (Begin t c) used up) (begin_where s t c used up).state

@@ -27,14 +27,14 @@ abbrev pub moves_trace : List Move → Federation → List Trace
 moves_trace [] s = []
 moves_trace (move ∷ moves) s = move_trace s move ++ moves_trace moves (effect s move)
 
--- The items of a run: an event of a schedule line tells itself, and then what came of it.
+-- The items that happenings tell, one behind another: an event of a schedule line tells itself, and then what came of it.
 abbrev pub told_with : Happening → List ItemKind → List ItemKind
 told_with (happening.Line e) items = item.Event e ∷ items
 told_with _ items = items
 
-abbrev pub run_items : List Happening → Federation → List ItemKind
-run_items [] s = []
-run_items (h ∷ hs) s = told_with h (step s h).items ++ run_items hs (step s h).state
+abbrev pub items_along : List Happening → Federation → List ItemKind
+items_along [] s = []
+items_along (h ∷ hs) s = told_with h (step s h).items ++ items_along hs (step s h).state
 
 -- An event is its list of moves: they leave what it leaves, each guard holds where its move is made, and the items
 -- tell of these moves.

@@ -1,7 +1,7 @@
 -- Records of a member's log that are allowed where they stand, and what they tell.
 use Rattle.std.proofs.Common.{◌≡◌, ◌≢◌, ◌⊎◌, inl, inr, ℕ, Bool, true, false, not, ◌&&◌, ◌≤◌, nat_le, if◌then◌else◌, List, [], ◌∷◌, ◌++◌, length, reverse, Option, None, Some, refl, sym, ap, ◌∙◌, subst, arith}
 use Rattle.std.specs.Option.{is_some, is_none}
-use Rattle.std.proofs.lemmas.Bool.{or_from, and_parts, false_from_ne_true}
+use Rattle.std.proofs.lemmas.Bool.{or_from, and_parts}
 use Rattle.std.proofs.lemmas.Bool.Decides.{nat_tests}
 use Rattle.co_record.specs.declared.record.Record.{Record}
 use Rattle.co_record.specs.declared.record.Record.TheVariants as log
@@ -16,11 +16,10 @@ use Rattle.co_plain.specs.MemberView.{nothing_known, view_with, recovered_view, 
 use Rattle.co_plain.specs.Invariants.{VotedAreConflictFree}
 use Rattle.co_law_engine.proofs.YesTells.{passes_none}
 use Rattle.co_law_base.proofs.Lookups.{is_nothing, look_none, put_cases, without_cases}
-use Rattle.co_law_base.proofs.Commits.{holds_cases}
 use Rattle.co_law_base.proofs.ImageRules.{EachEntry, each_entry}
 use Rattle.co_law_base.proofs.ViewRules.{three_parts, cast_free, forget_free, install_free}
-use Rattle.co_law_base.proofs.ViewMoves.{holds_without, put_holds}
-use Rattle.co_law_node.specs.WholeMembers.{IsAmong}
+use Rattle.co_law_base.proofs.ViewMoves.{AreApart, forget_apart, cast_apart, install_apart}
+use Rattle.co_plain.specs.Numbers.{IsAmong}
 use Rattle.co_law_node.proofs.FirstRefused.{AllAllowed, older_allowed, all_from_none, none_from_all}
 
 -- each record of a member's log is allowed where it stands; the newest is first
@@ -42,8 +41,8 @@ module _ (coords : ℕ) where
 -- What allowed records tell: votes that neither conflict nor are committed, each of a coordinator of the federation.
 pub record Tells (coords : ℕ) (v : MemberView) : Type 0 where
   pub free : VotedAreConflictFree v
-  pub apart : (t : ℕ) → holds v.committed t ≡ true → holds v.voted t ≡ false
-  pub among : (t : ℕ) (vote : Vote) → look v.voted t ≡ Some vote → IsAmong coords vote.coord
+  pub apart : AreApart v
+  pub among : (t : ℕ) (vote : Vote) → look v.voted t ≡ Some vote → IsAmong vote.coord coords
 
 pub tells_nothing : (coords : ℕ) → Tells coords nothing_known
 tells_nothing coords =
@@ -58,7 +57,7 @@ module _ (coords : ℕ) (v : MemberView) (f : Tells coords v) where
   tells_forget t =
       record {
         free = forget_free v t f.free;
-        apart = λ u k. false_from_ne_true _ (λ w. let z : true ≡ false = sym (holds_without v.voted t u w).1 ∙ f.apart u k in cc);
+        apart = forget_apart v t f.apart;
         among = λ u vote e. f.among u vote (without_cases v.voted t u vote e).1;
       }
 
@@ -66,36 +65,28 @@ module _ (coords : ℕ) (v : MemberView) (f : Tells coords v) where
   tells_install t vote =
       record {
         free = install_free v t vote f.free;
-        apart = λ u k. false_from_ne_true _ (λ w. never u (holds_without v.voted t u w) (holds_cases v.committed t u k));
+        apart = install_apart v t vote f.apart;
         among = λ u other e. f.among u other (without_cases v.voted t u other e).1;
       }
-    where
-      never : (u : ℕ) → (t ≢ u) × (holds v.voted u ≡ true) → (t ≡ u) ⊎ (holds v.committed u ≡ true) → ⊥
-      never u p (inl e) = p.0 e
-      never u p (inr k) = let z : true ≡ false = sym p.1 ∙ f.apart u k in cc
 
   pub tells_cast : (t : ℕ) (vote : Vote) → ((u : ℕ) (other : Vote) → t ≢ u → look v.voted u ≡ Some other → voted_holds vote.sets other.sets ≡ false) →
-      holds v.committed t ≡ false → IsAmong coords vote.coord → Tells coords (cast_in v t vote)
+      holds v.committed t ≡ false → IsAmong vote.coord coords → Tells coords (cast_in v t vote)
   tells_cast t vote way new own =
       record {
         free = cast_free v t vote f.free way;
-        apart = λ u k. false_from_ne_true _ (λ w. never u k (put_holds v.voted t vote u w));
+        apart = cast_apart v t vote new f.apart;
         among = λ u other e. by u other (put_cases v.voted t vote u other e);
       }
     where
-      never : (u : ℕ) → holds v.committed u ≡ true → (t ≡ u) ⊎ (holds v.voted u ≡ true) → ⊥
-      never u k (inl e) = let z : true ≡ false = sym k ∙ ap (holds v.committed) (sym e) ∙ new in cc
-      never u k (inr w) = let z : true ≡ false = sym w ∙ f.apart u k in cc
-
-      by : (u : ℕ) (other : Vote) → ((t ≡ u) × (vote ≡ other)) ⊎ ((t ≢ u) × (look v.voted u ≡ Some other)) → IsAmong coords other.coord
-      by u other (inl p) = subst (λ z. IsAmong coords z.coord) p.1 own
+      by : (u : ℕ) (other : Vote) → ((t ≡ u) × (vote ≡ other)) ⊎ ((t ≢ u) × (look v.voted u ≡ Some other)) → IsAmong other.coord coords
+      by u other (inl p) = subst (λ z. IsAmong z.coord coords) p.1 own
       by u other (inr p) = f.among u other p.1
 
 -- what an allowed vote comes with
 record MayVote (coords place : ℕ) (v : MemberView) (t coord : ℕ) (sets : Sets) : Type 0 where
   voted : holds v.voted t ≡ false
   committed : holds v.committed t ≡ false
-  among : IsAmong coords coord
+  among : IsAmong coord coords
   free : conflicts_with_voted v sets ≡ false
 
 false_of : (b : Bool) → not b ≡ true → b ≡ false
@@ -170,7 +161,7 @@ no_conflict v sets h =
     (none_first (λ u vote. sets_conflict vote.sets sets) (entries v.voted)
     (each_entry (λ u vote. sets_conflict vote.sets sets ≡ false) (entries v.voted) (entries_sorted v.voted) (λ u x g. h u x (get-entries v.voted u ∙ g))))
 
-pub may_vote : (coords place : ℕ) (v : MemberView) (t coord : ℕ) (sets : Sets) → 1 ≤ place → holds v.voted t ≡ false → holds v.committed t ≡ false → IsAmong coords coord →
+pub may_vote : (coords place : ℕ) (v : MemberView) (t coord : ℕ) (sets : Sets) → 1 ≤ place → holds v.voted t ≡ false → holds v.committed t ≡ false → IsAmong coord coords →
     ((u : ℕ) (other : Vote) → look v.voted u ≡ Some other → sets_conflict other.sets sets ≡ false) →
     (nat_le 1 place && not (holds v.voted t) && not (holds v.committed t) && nat_le 1 coord && nat_le coord coords && not (conflicts_with_voted v sets)) ≡ true
 may_vote coords place v t coord sets behind voted committed among free =

@@ -11,6 +11,5 @@ pub mod CoordEvents
 pub mod CoordLaws
 pub mod WritableMembers
 pub mod WritableCoords
-pub mod Recovered
 pub mod MemberCauses
 pub mod CoordCauses

@@ -18,18 +18,17 @@ use Rattle.co_state.specs.LockRule.{lock_blocker}
 use Rattle.co_state.specs.VotingRule.{vote_of, kept_count}
 use Rattle.co_plain.specs.declared.member_state.AskedMark.{AskedMark}
 use Rattle.co_plain.specs.declared.member_state.MemberState.{MemberState}
-use Rattle.co_plain.specs.Numbers.{counted}
+use Rattle.co_plain.specs.Numbers.{counted, IsAmong}
 use Rattle.co_plain.specs.LogWrite.{with_stop}
 use Rattle.co_plain.specs.MemberView.{recovered_view, first_refused_at_member}
 use Rattle.co_plain.specs.MemberStep.{says, standing_by, with_log}
 use Rattle.co_plain.specs.Member.{most_operations, unless_blocked, member_op, vote_by, vote_on, with_mark, prepare_by, member_prepare, vote_where_asked, vote_again_by, member_vote, commit_by, abort_by, member_decide, timer_by, member_timer, ask_by, member_ask}
 use Rattle.co_plain.specs.MemberLog.{restart_by, member_restart, member_crash, member_arm}
 use Rattle.co_plain.specs.LocalCommit.{local_coord, local_commit_by, member_local_commit, local_abort_by, member_local_abort}
-use Rattle.co_plain.specs.Opening.{Found, made, member_with, opened_member, kind_of}
+use Rattle.co_plain.specs.Opening.{Found, made, opened_member}
 use Rattle.co_plain.specs.Invariants.{Memory, view, stands}
 use Rattle.co_law_base.proofs.Lookups.{is_nothing, look_none, holds_found}
-use Rattle.co_law_node.specs.WholeMembers.{IsAmong}
-use Rattle.co_law_node.proofs.Allowed.{allowed_from}
+use Rattle.co_law_node.proofs.Allowed.{Allowed, allowed_from}
 use Rattle.co_law_node.proofs.WholeMoves.{Whole, whole_down, stable_allowed, alike, drops, drops_vote, marks, runs}
 use Rattle.co_law_node.proofs.WholeVotes.{operates, casts, installs, commits_alone}
 
@@ -67,7 +66,7 @@ module _ (coords : ℕ) (x : MemberState) (w : Whole coords x) where
       kept false e = w
 
   -- a vote, whatever its verdict
-  votes_on : (m t coord count : ℕ) → IsAmong coords coord → x.up ≡ true → stands (view Memory x) t ≡ false → Whole coords (vote_on m x t coord count).state
+  votes_on : (m t coord count : ℕ) → IsAmong coord coords → x.up ≡ true → stands (view Memory x) t ≡ false → Whole coords (vote_on m x t coord count).state
   votes_on m t coord count own u n = by (vote_of x.engine t count) refl
     where
       by : (v : Verdict) → vote_of x.engine t count ≡ v → Whole coords (vote_by m x t coord count v).state
@@ -162,7 +161,7 @@ module _ (coords : ℕ) (x : MemberState) (w : Whole coords x) where
       by false e false false = w
 
 module _ (coords : ℕ) (x : MemberState) (w : Whole coords x) where
-  pub whole_prepare : (m t coord count : ℕ) → IsAmong coords coord → 1 ≤ count → x.up ≡ true → Whole coords (member_prepare m x t coord count).state
+  pub whole_prepare : (m t coord count : ℕ) → IsAmong coord coords → 1 ≤ count → x.up ≡ true → Whole coords (member_prepare m x t coord count).state
   whole_prepare m t coord count own some u =
       by (holds x.engine.active t) refl (holds x.engine.voted t) refl (holds x.committed t) refl
     where
@@ -176,33 +175,23 @@ module _ (coords : ℕ) (x : MemberState) (w : Whole coords x) where
 
 -- an opened member is whole
 pub whole_opened : (coords : ℕ) (kinds : List Kind) (m : ℕ) (found : Found) → first_refused_at_member coords (reverse found.records) ≡ None → Whole coords (opened_member kinds m found)
-whole_opened coords kinds m found h = by found.records h
+whole_opened coords kinds m found h =
+    let p = told found.records h in
+    record {
+      allowed = p.0;
+      headed = p.1;
+      aborts = tt;
+      logged = p.2;
+      keeps = record {
+        active = λ t os e. is_nothing (sym (look_none t) ∙ e);
+        installed = λ t e. absurd (let z : false ≡ true = e in cc);
+        marked = λ t mark e. is_nothing (sym (look_none t) ∙ e);
+      };
+      down = λ e. absurd (let z : true ≡ false = e in cc);
+    }
   where
-    by : (rs : List Record) → first_refused_at_member coords (reverse rs) ≡ None →
-        Whole coords (member_with (kind_of kinds m) (record { stable = made (node.Member m) rs; waiting = []; armed = None; spare_closed = found.spare_closed }) (recovered_view rs))
-    by [] a =
-        record {
-          allowed = (refl, tt);
-          headed = omega arith;
-          aborts = tt;
-          logged = refl;
-          keeps = record {
-            active = λ t os e. is_nothing (sym (look_none t) ∙ e);
-            installed = λ t e. absurd (let z : false ≡ true = e in cc);
-            marked = λ t mark e. is_nothing (sym (look_none t) ∙ e);
-          };
-          down = λ e. absurd (let z : true ≡ false = e in cc);
-        }
-    by (r ∷ rs) a =
-        record {
-          allowed = allowed_from coords (r ∷ rs) a;
-          headed = omega arith;
-          aborts = tt;
-          logged = refl;
-          keeps = record {
-            active = λ t os e. is_nothing (sym (look_none t) ∙ e);
-            installed = λ t e. absurd (let z : false ≡ true = e in cc);
-            marked = λ t mark e. is_nothing (sym (look_none t) ∙ e);
-          };
-          down = λ e. absurd (let z : true ≡ false = e in cc);
-        }
+    -- a header is made where there are no records
+    told : (rs : List Record) → first_refused_at_member coords (reverse rs) ≡ None →
+        Allowed coords (made (node.Member m) rs) × (1 ≤ length (made (node.Member m) rs)) × (recovered_view (made (node.Member m) rs) ≡ recovered_view rs)
+    told [] a = ((refl, tt), omega arith, refl)
+    told (r ∷ rs) a = (allowed_from coords (r ∷ rs) a, omega arith, refl)

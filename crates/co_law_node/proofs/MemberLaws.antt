@@ -6,7 +6,8 @@ use Rattle.co_state.specs.Table.{look, holds}
 use Rattle.co_plain.specs.declared.member_state.MemberState.{MemberState}
 use Rattle.co_plain.specs.MemberView.{first_refused_at_member}
 use Rattle.co_plain.specs.Invariants.{Side, Memory, Stable, view, VotedAreConflictFree}
-use Rattle.co_law_node.specs.WholeMembers.{IsWholeMember, MemberStays, MemberStaysWhole, IsAmong, records_of}
+use Rattle.co_law_node.specs.WholeMembers.{IsWholeMember, MemberStays, MemberStaysWhole, records_of}
+use Rattle.co_plain.specs.Numbers.{IsAmong}
 use Rattle.co_law_node.proofs.Allowed.{tells, allowed_from, none_from}
 use Rattle.co_law_node.proofs.WholeMoves.{Whole, memory_tells, stable_allowed}
 use Rattle.co_law_node.proofs.WholeFilling.{checkpoints}
@@ -44,7 +45,7 @@ as_told coords x w =
     apart Memory = (memory_tells coords x w).apart
     apart Stable = (tells coords x.log.stable (stable_allowed coords x w)).apart
 
-    voted : (side : Side) (t : ℕ) (vote : Vote) → look (view side x).voted t ≡ Some vote → IsAmong coords vote.coord
+    voted : (side : Side) (t : ℕ) (vote : Vote) → look (view side x).voted t ≡ Some vote → IsAmong vote.coord coords
     voted Memory = (memory_tells coords x w).among
     voted Stable = (tells coords x.log.stable (stable_allowed coords x w)).among
 

@@ -16,7 +16,7 @@ use Rattle.co_plain.specs.declared.member_view.MemberView.{MemberView}
 use Rattle.co_plain.specs.declared.outcome.Outcome.{Outcome}
 use Rattle.co_plain.specs.declared.outcome.Outcome.TheVariants.{Completes, StopsAt}
 use Rattle.co_plain.specs.LogWrite.{outcome_of, with_filled_spare, with_spare, generation_of}
-use Rattle.co_plain.specs.Numbers.{next_generation}
+use Rattle.co_plain.specs.Numbers.{next_generation, IsAmong}
 use Rattle.co_plain.specs.MemberView.{recovered_view, cast_in, sets_conflict}
 use Rattle.co_plain.specs.Member.{prepare_record}
 use Rattle.co_plain.specs.MemberLog.{prepares_onto, member_spare, stopped_fill, fill_by, close_by, checkpoint_by, member_checkpoint}
@@ -27,7 +27,6 @@ use Rattle.co_law_base.proofs.Commits.{both_T}
 use Rattle.co_law_base.proofs.ImageRules.{EachEntry, each_entry, entry_has, below_found}
 use Rattle.co_law_base.proofs.ViewMoves.{put_holds}
 use Rattle.co_law_base.proofs.Filling.{spare_tells}
-use Rattle.co_law_node.specs.WholeMembers.{IsAmong}
 use Rattle.co_law_node.proofs.Allowed.{Allowed, Tells, may_vote}
 use Rattle.co_law_node.proofs.WholeMoves.{Whole, whole_down, memory_tells, stable_allowed, alike, runs}
 
@@ -35,7 +34,7 @@ use Rattle.co_law_node.proofs.WholeMoves.{Whole, whole_down, memory_tells, stabl
 abbrev MayLay : ℕ → MemberView → List (ℕ × Vote) → Type 0
 MayLay coords v [] = Unit {0}
 MayLay coords v (e ∷ es) =
-    (holds v.voted e.0 ≡ false) × (holds v.committed e.0 ≡ false) × IsAmong coords e.1.coord
+    (holds v.voted e.0 ≡ false) × (holds v.committed e.0 ≡ false) × IsAmong e.1.coord coords
     × ((u : ℕ) (other : Vote) → look v.voted u ≡ Some other → sets_conflict other.sets e.1.sets ≡ false) × MayLay coords (cast_in v e.0 e.1) es
 
 allowed_onto : (coords : ℕ) (rs : List Record) (es : List (ℕ × Vote)) → 1 ≤ length rs → Allowed coords rs → MayLay coords (recovered_view rs) es → Allowed coords (prepares_onto rs es)

@@ -1,6 +1,5 @@
 -- What a member's changes keep of a whole one.
 use Rattle.std.proofs.Common.{◌≡◌, ◌≢◌, ◌⊎◌, inl, inr, ℕ, Bool, true, false, ◌≤◌, List, ◌++◌, length, Option, Some, refl, sym, ap, ◌∙◌, subst, arith}
-use Rattle.std.proofs.lemmas.Bool.{or_from, false_from_ne_true}
 use Rattle.std.proofs.lemmas.List.{length-append}
 use Rattle.co_base.specs.declared.head.Kind.{Kind}
 use Rattle.co_message.specs.declared.answer.Answer.{Answer}
@@ -22,9 +21,10 @@ use Rattle.co_plain.specs.MemberStep.{with_log, dropped, member_down, member_dow
 use Rattle.co_plain.specs.Member.{with_mark, most_operations}
 use Rattle.co_plain.specs.Invariants.{Memory, view, stands}
 use Rattle.co_law_base.proofs.Lookups.{is_nothing, look_none, put_cases, without_cases}
-use Rattle.co_law_base.proofs.ViewMoves.{neither_stands, holds_without, still_holds}
+use Rattle.co_law_base.proofs.ViewMoves.{neither_stands, still_holds, forget_leaves}
 use Rattle.co_law_base.proofs.LogMoves.{without_absent, not_held}
-use Rattle.co_law_node.specs.WholeMembers.{AbortsAlone, was_installed, IsAmong}
+use Rattle.co_law_node.specs.WholeMembers.{AbortsAlone, was_installed}
+use Rattle.co_plain.specs.Numbers.{IsAmong}
 use Rattle.co_law_node.proofs.Allowed.{Allowed, Tells, tells, older}
 
 -- of an active transaction with these operations
@@ -32,7 +32,7 @@ abbrev pub IsActiveHere : MemberState → ℕ → List Operation → Type 0
 IsActiveHere x t os = (stands (view Memory x) t ≡ false) × (1 ≤ length os) × (length os ≤ most_operations)
 
 abbrev pub IsMarkedHere : ℕ → MemberState → ℕ → AskedMark → Type 0
-IsMarkedHere coords x t mark = (holds x.engine.active t ≡ true) × IsAmong coords mark.coord × (1 ≤ mark.count)
+IsMarkedHere coords x t mark = (holds x.engine.active t ≡ true) × IsAmong mark.coord coords × (1 ≤ mark.count)
 
 -- what memory has beside its views
 pub record Keeps (coords : ℕ) (x : MemberState) : Type 0 where
@@ -97,7 +97,7 @@ module _ (coords : ℕ) (x : MemberState) (w : Whole coords x) where
 
   -- who is left marked and active when one is taken out
   pub fewer_marked : (t u : ℕ) (mark : AskedMark) → look (without x.asked t) u ≡ Some mark →
-      (holds (without x.engine.active t) u ≡ true) × IsAmong coords mark.coord × (1 ≤ mark.count)
+      (holds (without x.engine.active t) u ≡ true) × IsAmong mark.coord coords × (1 ≤ mark.count)
   fewer_marked t u mark h =
       let p = without_cases x.asked t u mark h in
       let q = w.keeps.marked u mark p.1 in
@@ -143,16 +143,10 @@ module _ (coords : ℕ) (x : MemberState) (w : Whole coords x) where
       }
     where
       active : (k : ℕ) (os : List Operation) → look x.engine.active k ≡ Some os → IsActiveHere (with_log (dropped x t) (with_waiting x.log (log.Abort t))) k os
-      active k os h =
-          let a = w.keeps.active k os h in
-          let p = neither_stands (view Memory x) k a.0 in (
-            or_from _ _ (false_from_ne_true _ (λ q. let z : true ≡ false = sym (holds_without x.engine.voted t k q).1 ∙ p.0 in cc)) p.1,
-            a.1,
-            a.2,
-          )
+      active k os h = let a = w.keeps.active k os h in (forget_leaves (view Memory x) t k a.0, a.1, a.2)
 
   -- a prepare is marked
-  pub marks : (t coord count : ℕ) → x.up ≡ true → holds x.engine.active t ≡ true → IsAmong coords coord → 1 ≤ count → Whole coords (with_mark x t coord count)
+  pub marks : (t coord count : ℕ) → x.up ≡ true → holds x.engine.active t ≡ true → IsAmong coord coords → 1 ≤ count → Whole coords (with_mark x t coord count)
   marks t coord count u a c n =
       record {
         allowed = w.allowed;

@@ -1,7 +1,7 @@
 -- Operations, votes and installs keep a member whole.
 use Rattle.std.proofs.Common.{◌≡◌, ◌≢◌, ◌⊎◌, inl, inr, ℕ, true, false, ◌&&◌, ◌==◌, ◌≤◌, ◌<◌, List, [], ◌∷◌, ◌++◌, length, Option, None, Some, refl, sym, ap, ◌∙◌, subst, arith}
 use Rattle.std.specs.Option.{is_some}
-use Rattle.std.proofs.lemmas.Bool.{or_cases, or_from, eqb-true, false_from_ne_true}
+use Rattle.std.proofs.lemmas.Bool.{or_cases, eqb-true}
 use Rattle.co_base.specs.declared.op.Op.{Op}
 use Rattle.co_message.specs.declared.answer.Answer.{Answer}
 use Rattle.co_message.specs.declared.message.Message.{Message}
@@ -22,11 +22,12 @@ use Rattle.co_plain.specs.MemberStep.{force_member, with_engine}
 use Rattle.co_plain.specs.Member.{most_operations, prepare_record, voted_state, installed_state}
 use Rattle.co_plain.specs.Invariants.{Memory, view, stands}
 use Rattle.co_law_engine.proofs.YesTells.{yes_parts, yes_apart}
-use Rattle.co_law_base.proofs.Lookups.{put_cases, put_here, put_there, without_cases, found_holds}
-use Rattle.co_law_base.proofs.Commits.{holds_cases, holds_new, holds_more}
-use Rattle.co_law_base.proofs.ViewMoves.{neither_stands, holds_without, holds_put}
+use Rattle.co_law_base.proofs.Lookups.{put_cases, put_here, without_cases, found_holds}
+use Rattle.co_law_base.proofs.Commits.{holds_new, holds_more}
+use Rattle.co_law_base.proofs.ViewMoves.{neither_stands, holds_put, cast_leaves, install_leaves}
 use Rattle.co_law_base.proofs.ViewRules.{apart_ways}
-use Rattle.co_law_node.specs.WholeMembers.{was_installed, IsAmong}
+use Rattle.co_law_node.specs.WholeMembers.{was_installed}
+use Rattle.co_plain.specs.Numbers.{IsAmong}
 use Rattle.co_law_node.proofs.Allowed.{Allowed, may_vote}
 use Rattle.co_law_node.proofs.WholeMoves.{Whole, Forcible, IsActiveHere, runs, forces, more_headed, fewer_marked}
 
@@ -38,14 +39,6 @@ more_installed is committed i old u h = by (or_cases (i.txn == u) (was_installed
     by : ((i.txn == u) ≡ true) ⊎ (was_installed is u ≡ true) → holds (with_number committed i.txn) u ≡ true
     by (inl e) = ap (holds (with_number committed i.txn)) (sym (eqb-true i.txn u e)) ∙ holds_new committed i.txn
     by (inr k) = holds_more committed i.txn u (old u k)
-
--- another number does not come among the committed ones
-not_committed : (committed : Numbers) (t u : ℕ) → t ≢ u → holds committed u ≡ false → holds (with_number committed t) u ≡ false
-not_committed committed t u n h = false_from_ne_true _ (λ q. by (holds_cases committed t u q))
-  where
-    by : (t ≡ u) ⊎ (holds committed u ≡ true) → ⊥
-    by (inl e) = n e
-    by (inr k) = let z : true ≡ false = sym k ∙ h in cc
 
 ap_le : (xs ys : List Operation) → xs ≡ ys → 1 ≤ length xs → 1 ≤ length ys
 ap_le xs ys e h = subst (λ zs. 1 ≤ length zs) e h
@@ -88,7 +81,7 @@ module _ (coords : ℕ) (x : MemberState) (w : Whole coords x) where
   abbrev own_vote : ℕ → ℕ → ℕ → Vote
   own_vote t coord count = record { coord = coord; count = count; sets = sets_of (operations_of x.engine t) }
 
-  vote_allowed : (t coord count carried : ℕ) → vote_of x.engine t carried ≡ VoteYes → stands (view Memory x) t ≡ false → IsAmong coords coord →
+  vote_allowed : (t coord count carried : ℕ) → vote_of x.engine t carried ≡ VoteYes → stands (view Memory x) t ≡ false → IsAmong coord coords →
       Allowed coords (prepare_record t coord count (sets_of (operations_of x.engine t)) ∷ (x.log.waiting ++ x.log.stable))
   vote_allowed t coord count carried granted n own = (
     subst (λ v. member_allows coords (length (x.log.waiting ++ x.log.stable)) v (prepare_record t coord count (sets_of (operations_of x.engine t))) ≡ true) (sym w.logged)
@@ -104,16 +97,15 @@ module _ (coords : ℕ) (x : MemberState) (w : Whole coords x) where
 
   -- who is left active once a transaction has voted
   left_active : (t : ℕ) (vote : Vote) (k : ℕ) (os : List Operation) → look (without x.engine.active t) k ≡ Some os →
-      (t ≢ k) × (holds (put x.engine.voted t vote) k ≡ false) × (holds x.committed k ≡ false) × (1 ≤ length os) × (length os ≤ most_operations)
+      (stands (cast_in (view Memory x) t vote) k ≡ false) × (1 ≤ length os) × (length os ≤ most_operations)
   left_active t vote k os h =
       let p = without_cases x.engine.active t k os h in
       let a = w.keeps.active k os p.1 in
-      let q = neither_stands (view Memory x) k a.0 in
-      (p.0, ap is_some (put_there x.engine.voted t vote k p.0) ∙ q.0, q.1, a.1, a.2)
+      (cast_leaves (view Memory x) t vote k p.0 a.0, a.1, a.2)
 
   -- a yes is forced
   pub casts : (m t coord count : ℕ) (a : Answer) (message : Option Message) → x.up ≡ true → vote_of x.engine t count ≡ VoteYes →
-      stands (view Memory x) t ≡ false → IsAmong coords coord →
+      stands (view Memory x) t ≡ false → IsAmong coord coords →
       Whole coords (force_member m (voted_state x t coord count) (prepare_record t coord count (sets_of (operations_of x.engine t)) ∷ []) a message).state
   casts m t coord count a message u granted n own =
       forces coords m (voted_state x t coord count) (prepare_record t coord count (sets_of (operations_of x.engine t)) ∷ []) a message
@@ -123,7 +115,7 @@ module _ (coords : ℕ) (x : MemberState) (w : Whole coords x) where
         up = u;
         logged = ap (λ v. cast_in v t (own_vote t coord count)) w.logged;
         keeps = record {
-          active = λ k os h. let p = left_active t (own_vote t coord count) k os h in (or_from _ _ p.1 p.2, p.3, p.4);
+          active = left_active t (own_vote t coord count);
           installed = w.keeps.installed;
           marked = fewer_marked coords x w t;
         };
@@ -139,14 +131,7 @@ module _ (coords : ℕ) (x : MemberState) (w : Whole coords x) where
   installs m t a message u v = forces coords m (installed_state x t) (log.Commit t [] ∷ []) a message (by (look x.engine.voted t) refl)
     where
       active : (vote : Vote) (k : ℕ) (os : List Operation) → look x.engine.active k ≡ Some os → IsActiveHere (with_install t (Some vote)) k os
-      active vote k os h =
-          let b = w.keeps.active k os h in
-          let q = neither_stands (view Memory x) k b.0 in (
-            or_from _ _ (false_from_ne_true _ (λ z. let e : true ≡ false = sym (holds_without x.engine.voted t k z).1 ∙ q.0 in cc))
-                (not_committed x.committed t k (λ same. let e : true ≡ false = sym v ∙ ap (holds x.engine.voted) same ∙ q.0 in cc) q.1),
-            b.1,
-            b.2,
-          )
+      active vote k os h = let a = w.keeps.active k os h in (install_leaves (view Memory x) t vote v k a.0, a.1, a.2)
 
       by : (o : Option Vote) → look x.engine.voted t ≡ o → Forcible coords (with_install t o) (log.Commit t [] ∷ [])
       by None e = absurd (let z : false ≡ true = sym (ap is_some e) ∙ v in cc)
@@ -176,7 +161,7 @@ module _ (coords : ℕ) (x : MemberState) (w : Whole coords x) where
 
   -- a local transaction votes and commits in one batch
   pub commits_alone : (m t coord count carried : ℕ) (a : Answer) (message : Option Message) → x.up ≡ true → vote_of x.engine t carried ≡ VoteYes →
-      stands (view Memory x) t ≡ false → IsAmong coords coord →
+      stands (view Memory x) t ≡ false → IsAmong coord coords →
       Whole coords (force_member m (installed_state (voted_state x t coord count) t)
       (log.Commit t [] ∷ prepare_record t coord count (sets_of (operations_of x.engine t)) ∷ []) a message).state
   commits_alone m t coord count carried a message u granted n own =
@@ -187,10 +172,9 @@ module _ (coords : ℕ) (x : MemberState) (w : Whole coords x) where
       active : (vote : Vote) (k : ℕ) (os : List Operation) → look (without x.engine.active t) k ≡ Some os → IsActiveHere (with_own_install t coord count (Some vote)) k os
       active vote k os h =
           let p = left_active t (own_vote t coord count) k os h in (
-            or_from _ _ (false_from_ne_true _ (λ z. let e : true ≡ false = sym (holds_without (put x.engine.voted t (own_vote t coord count)) t k z).1 ∙ p.1 in cc))
-                (not_committed x.committed t k p.0 p.2),
-            p.3,
-            p.4,
+            install_leaves (cast_in (view Memory x) t (own_vote t coord count)) t vote (ap is_some (put_here x.engine.voted t (own_vote t coord count))) k p.0,
+            p.1,
+            p.2,
           )
 
       by : (o : Option Vote) → look (put x.engine.voted t (own_vote t coord count)) t ≡ o →

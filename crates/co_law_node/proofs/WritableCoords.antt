@@ -26,7 +26,7 @@ use Rattle.co_plain.specs.declared.coord_state.Entry.TheVariants as entry
 use Rattle.co_plain.specs.declared.log_state.LogState.{LogState}
 use Rattle.co_plain.specs.declared.outcome.Outcome.{Outcome}
 use Rattle.co_plain.specs.declared.outcome.Outcome.TheVariants.{Completes, StopsAt}
-use Rattle.co_plain.specs.Numbers.{first_lacking, has_number, next_generation}
+use Rattle.co_plain.specs.Numbers.{first_lacking, has_number, next_generation, IsAmong}
 use Rattle.co_plain.specs.LogWrite.{outcome_of, with_batch, with_filled_spare, with_stop, generation_of}
 use Rattle.co_plain.specs.CoordView.{recovered_commits, all_up_to, first_refused_at_coord}
 use Rattle.co_plain.specs.CoordStep.{coord_says, with_coord_log, with_table, members_of, has_part, coord_down, stopped_coord, coord_forced_by, force_coord}
@@ -37,7 +37,6 @@ use Rattle.co_plain.specs.SoundLogs.{unended_in}
 use Rattle.co_law_base.proofs.Lookups.{is_nothing, look_none, put_cases, without_cases}
 use Rattle.co_law_base.proofs.Commits.{commit_cases, from_cases}
 use Rattle.co_law_base.proofs.ImageRules.{EachEntry, each_entry}
-use Rattle.co_law_node.specs.WholeMembers.{IsAmong}
 use Rattle.co_law_node.specs.WholeCoords.{FitsRecords, IsWholeCoord}
 use Rattle.co_law_node.specs.Writable.{IsWritableCoord, CoordStaysWritable}
 use Rattle.co_law_node.proofs.WholeTables.{WholeTable, coord_checkpoints}
@@ -149,7 +148,7 @@ module _ (y : CoordState) (b : BoundedCoord y) where
   takes : (t : ℕ) → BoundedCoord (with_table y (without y.table t))
   takes t = record { records = b.records; collecting = λ u parts yeses h. b.collecting u parts yeses (without_cases y.table t u (entry.Collecting parts yeses) h).1 }
 
-module _ (members c : ℕ) (few : members ≤ most_members) (own : (1 ≤ c) × (c ≤ most_coordinators)) (y : CoordState) (w : WholeTable members y) (b : BoundedCoord y) where
+module _ (members c : ℕ) (few : members ≤ most_members) (own : IsAmong c most_coordinators) (y : CoordState) (w : WholeTable members y) (b : BoundedCoord y) where
   decision_writable : (t : ℕ) (parts : List Part) (yeses : List ℕ) → look y.table t ≡ Some (entry.Collecting parts yeses) → IsWritable (log.Commit t (members_of parts))
   decision_writable t parts yeses e = names_writable members t (members_of parts) few (w.table.fits t (entry.Collecting parts yeses) e).1.1 (b.collecting t parts yeses e)
 
@@ -303,7 +302,7 @@ module _ (members c : ℕ) (few : members ≤ most_members) (own : (1 ≤ c) × 
       by true = fills (next_generation (generation_of y.log.stable)) (outcome_of y.log.armed 4)
 
 -- each event
-module _ (members c : ℕ) (few : members ≤ most_members) (own : (1 ≤ c) × (c ≤ most_coordinators)) (y : CoordState) (w : WholeTable members y) (b : BoundedCoord y) where
+module _ (members c : ℕ) (few : members ≤ most_members) (own : IsAmong c most_coordinators) (y : CoordState) (w : WholeTable members y) (b : BoundedCoord y) where
   next : (z : CoordState) → WholeTable members z → BoundedCoord z → IsWritableCoord c z
   next = coord_writable members c few own
 
@@ -328,15 +327,15 @@ module _ (members c : ℕ) (few : members ≤ most_members) (own : (1 ≤ c) × 
 as_bounded : (c : ℕ) (y : CoordState) → IsWritableCoord c y → BoundedCoord y
 as_bounded c y f = record { records = f.records; collecting = λ t parts yeses e. (f.decision t parts yeses e).2 }
 
-pub coord_stays : (members c : ℕ) (y : CoordState) → members ≤ most_members → IsAmong most_coordinators c → IsWholeCoord members y → IsWritableCoord c y →
+pub coord_stays : (members c : ℕ) (y : CoordState) → members ≤ most_members → IsAmong c most_coordinators → IsWholeCoord members y → IsWritableCoord c y →
     CoordStaysWritable members c y
 coord_stays members c y few own whole f = coord_stays_writable members c few own y (coord_as_kept members y whole) (as_bounded c y f)
 
-opened_records : (c : ℕ) → IsAmong most_coordinators c → (rs : List Record) → AllByRecursion IsWritable rs → AllByRecursion IsWritable (made (node.Coord c) rs)
+opened_records : (c : ℕ) → IsAmong c most_coordinators → (rs : List Record) → AllByRecursion IsWritable rs → AllByRecursion IsWritable (made (node.Coord c) rs)
 opened_records c own [] b = (own, tt)
 opened_records c own (r ∷ rs) b = b
 
-pub opened_coord_writable : (members c : ℕ) (found : Found) → members ≤ most_members → IsAmong most_coordinators c →
+pub opened_coord_writable : (members c : ℕ) (found : Found) → members ≤ most_members → IsAmong c most_coordinators →
     first_refused_at_coord members (reverse found.records) ≡ None → AllByRecursion IsWritable found.records → IsWritableCoord c (opened_coord c found)
 opened_coord_writable members c found few own allowed b =
     coord_writable members c few own (opened_coord c found) (whole_coord_opened members c found allowed)

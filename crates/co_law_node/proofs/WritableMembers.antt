@@ -30,7 +30,7 @@ use Rattle.co_plain.specs.declared.member_state.AskedMark.{AskedMark}
 use Rattle.co_plain.specs.declared.member_state.MemberState.{MemberState}
 use Rattle.co_plain.specs.declared.outcome.Outcome.{Outcome}
 use Rattle.co_plain.specs.declared.outcome.Outcome.TheVariants.{Completes, StopsAt}
-use Rattle.co_plain.specs.Numbers.{counted, next_generation}
+use Rattle.co_plain.specs.Numbers.{counted, next_generation, IsAmong}
 use Rattle.co_plain.specs.LogWrite.{outcome_of, generation_of}
 use Rattle.co_plain.specs.MemberView.{recovered_view, install_in, first_refused_at_member}
 use Rattle.co_plain.specs.MemberStep.{says, standing_by, stopped_member, forced_by, force_member}
@@ -41,7 +41,7 @@ use Rattle.co_plain.specs.Opening.{Found, made, opened_member}
 use Rattle.co_law_engine.proofs.YesTells.{yes_parts}
 use Rattle.co_law_base.proofs.Lookups.{is_nothing, look_none, put_cases, without_cases}
 use Rattle.co_law_base.proofs.ImageRules.{EachEntry, each_entry}
-use Rattle.co_law_node.specs.WholeMembers.{IsAmong, IsWholeMember}
+use Rattle.co_law_node.specs.WholeMembers.{IsWholeMember}
 use Rattle.co_law_node.specs.Writable.{IsWithinBounds, IsWritableMember, MemberStaysWritable}
 use Rattle.co_law_node.proofs.WholeMoves.{Whole}
 use Rattle.co_law_node.proofs.MemberEvents.{few_kept, whole_operation, whole_local_commit, whole_local_abort, whole_prepare, whole_decision, whole_vote, whole_timer, whole_question, whole_crash, whole_restart, whole_arming, whole_disarmed, whole_opened}
@@ -133,9 +133,9 @@ votes_bounded x b m t coord count may = by (vote_of x.engine t count) refl
     by VoteYes e =
         forces_bounded m (voted_state x t coord count) (prepare_record t coord count (sets_of (operations_of x.engine t)) ∷ []) answer.Yes (Some (message.Vote t m coord true)) (may e, tt) b
 
-module _ (coords m : ℕ) (few : coords ≤ most_coordinators) (own : (1 ≤ m) × (m ≤ most_members)) (x : MemberState) (w : Whole coords x) (b : Bounded x) where
+module _ (coords m : ℕ) (few : coords ≤ most_coordinators) (own : IsAmong m most_members) (x : MemberState) (w : Whole coords x) (b : Bounded x) where
   -- a yes counts what is kept, which is bounded
-  yes_writable : (t coord count : ℕ) → IsAmong coords coord → 1 ≤ count → vote_of x.engine t count ≡ VoteYes →
+  yes_writable : (t coord count : ℕ) → IsAmong coord coords → 1 ≤ count → vote_of x.engine t count ≡ VoteYes →
       IsWritable (prepare_record t coord count (sets_of (operations_of x.engine t)))
   yes_writable t coord count among some granted =
       let os = operations_of x.engine t in
@@ -243,7 +243,7 @@ module _ (coords m : ℕ) (few : coords ≤ most_coordinators) (own : (1 ≤ m) 
       by false false true = b
       by false false false = b
 
-  bounded_prepare : (t coord count : ℕ) → IsAmong coords coord → 1 ≤ count → Bounded (member_prepare m x t coord count).state
+  bounded_prepare : (t coord count : ℕ) → IsAmong coord coords → 1 ≤ count → Bounded (member_prepare m x t coord count).state
   bounded_prepare t coord count among some = by (holds x.engine.active t) (holds x.engine.voted t) (holds x.committed t)
     where
       by : (a v c : Bool) → Bounded (prepare_by m x t coord count (standing_by a v c)).state
@@ -330,7 +330,7 @@ module _ (coords m : ℕ) (few : coords ≤ most_coordinators) (own : (1 ≤ m) 
       by true = fills (next_generation (generation_of x.log.stable)) (outcome_of x.log.armed 4)
 
 -- each event
-module _ (coords m : ℕ) (few : coords ≤ most_coordinators) (own : (1 ≤ m) × (m ≤ most_members)) (x : MemberState) (w : Whole coords x) (b : Bounded x) where
+module _ (coords m : ℕ) (few : coords ≤ most_coordinators) (own : IsAmong m most_members) (x : MemberState) (w : Whole coords x) (b : Bounded x) where
   next : (y : MemberState) → Whole coords y → Bounded y → IsWritableMember coords m y
   next = member_writable coords m few own
 
@@ -353,16 +353,16 @@ module _ (coords m : ℕ) (few : coords ≤ most_coordinators) (own : (1 ≤ m) 
       }
 
 -- a member that is opened over records within their bounds
-opened_bounded : (m : ℕ) → (1 ≤ m) × (m ≤ most_members) → (rs : List Record) → AllByRecursion IsWithinBounds rs → AllByRecursion IsWithinBounds (made (node.Member m) rs)
+opened_bounded : (m : ℕ) → IsAmong m most_members → (rs : List Record) → AllByRecursion IsWithinBounds rs → AllByRecursion IsWithinBounds (made (node.Member m) rs)
 opened_bounded m own [] b = (own, tt)
 opened_bounded m own (r ∷ rs) b = b
 
 -- what is told of a member that is whole and writable is what the induction keeps
-pub stays_writable : (coords m : ℕ) (x : MemberState) → coords ≤ most_coordinators → IsAmong most_members m → IsWholeMember coords x → IsWritableMember coords m x →
+pub stays_writable : (coords m : ℕ) (x : MemberState) → coords ≤ most_coordinators → IsAmong m most_members → IsWholeMember coords x → IsWritableMember coords m x →
     MemberStaysWritable coords m x
 stays_writable coords m x few own whole f = member_stays_writable coords m few own x (as_kept coords x whole) f.records
 
-pub opened_writable : (coords : ℕ) (kinds : List Kind) (m : ℕ) (found : Found) → coords ≤ most_coordinators → IsAmong most_members m →
+pub opened_writable : (coords : ℕ) (kinds : List Kind) (m : ℕ) (found : Found) → coords ≤ most_coordinators → IsAmong m most_members →
     first_refused_at_member coords (reverse found.records) ≡ None → AllByRecursion IsWithinBounds found.records → IsWritableMember coords m (opened_member kinds m found)
 opened_writable coords kinds m found few own allowed b =
     member_writable coords m few own (opened_member kinds m found) (whole_opened coords kinds m found allowed) (opened_bounded m own found.records b)

@@ -11,6 +11,7 @@ use Rattle.co_state.specs.declared.engine_state.Vote.{Vote}
 use Rattle.co_state.specs.Table.{look, holds}
 use Rattle.co_plain.specs.declared.member_state.AskedMark.{AskedMark}
 use Rattle.co_plain.specs.declared.member_state.MemberState.{MemberState}
+use Rattle.co_plain.specs.Numbers.{IsAmong}
 use Rattle.co_plain.specs.MemberView.{recovered_view, first_refused_at_member}
 use Rattle.co_plain.specs.LogWrite.{with_stop}
 use Rattle.co_plain.specs.MemberStep.{member_down, with_log}
@@ -35,15 +36,11 @@ abbrev pub was_installed : List Install → ℕ → Bool
 was_installed [] t = false
 was_installed (i ∷ is) t = (i.txn == t) || was_installed is t
 
--- a coordinator of a federation with so many
-abbrev pub IsAmong : ℕ → ℕ → Type 0
-IsAmong coords c = (1 ≤ c) × (c ≤ coords)
-
 pub record IsWholeMember (coords : ℕ) (x : MemberState) : Type 0 where
   -- on both sides votes neither conflict nor are committed, and name coordinators of the federation
   pub conflict_free : (side : Side) → VotedAreConflictFree (view side x)
   pub apart : (side : Side) (t : ℕ) → holds (view side x).committed t ≡ true → holds (view side x).voted t ≡ false
-  pub voted : (side : Side) (t : ℕ) (vote : Vote) → look (view side x).voted t ≡ Some vote → IsAmong coords vote.coord
+  pub voted : (side : Side) (t : ℕ) (vote : Vote) → look (view side x).voted t ≡ Some vote → IsAmong vote.coord coords
   -- who is active is neither voted nor committed, and has a bounded number of operations, but some
   pub active : (t : ℕ) (os : List Operation) → look x.engine.active t ≡ Some os →
       (stands (view Memory x) t ≡ false) × (1 ≤ length os) × (length os ≤ most_operations)
@@ -51,7 +48,7 @@ pub record IsWholeMember (coords : ℕ) (x : MemberState) : Type 0 where
   pub installed : (t : ℕ) → was_installed x.engine.installed t ≡ true → holds x.committed t ≡ true
   -- who is marked is active, and was asked by a coordinator of the federation about some operations
   pub marked : (t : ℕ) (mark : AskedMark) → look x.asked t ≡ Some mark →
-      (holds x.engine.active t ≡ true) × IsAmong coords mark.coord × (1 ≤ mark.count)
+      (holds x.engine.active t ≡ true) × IsAmong mark.coord coords × (1 ≤ mark.count)
   -- the records with the waiting ones tell what memory has
   pub logged : recovered_view (records_of Memory x) ≡ view Memory x
   pub waiting : AbortsAlone x.log.waiting
@@ -68,7 +65,7 @@ pub record MemberStays (Keeps : MemberState → Type 0) (coords m : ℕ) (x : Me
   pub local_commit : (t carried : ℕ) → 1 ≤ coords → x.up ≡ true → stands (view Memory x) t ≡ false → Keeps (member_local_commit m x t carried).state
   pub local_abort : (t : ℕ) → x.up ≡ true → Keeps (member_local_abort x t).state
   -- a prepare comes from a coordinator of the federation, about some operations
-  pub prepare : (t coord count : ℕ) → IsAmong coords coord → 1 ≤ count → x.up ≡ true → Keeps (member_prepare m x t coord count).state
+  pub prepare : (t coord count : ℕ) → IsAmong coord coords → 1 ≤ count → x.up ≡ true → Keeps (member_prepare m x t coord count).state
   pub decision : (t coord : ℕ) (commit : Bool) → x.up ≡ true → Keeps (member_decide m x t coord commit).state
   pub vote : (t : ℕ) → x.up ≡ true → Keeps (member_vote m x t).state
   pub timer : (t : ℕ) → x.up ≡ true → Keeps (member_timer x t).state

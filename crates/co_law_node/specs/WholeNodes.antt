@@ -11,7 +11,8 @@ use Rattle.co_plain.specs.Member.{most_operations}
 use Rattle.co_plain.specs.Premises.{IsOwnSession}
 use Rattle.co_plain.specs.Wire.{was_sent}
 use Rattle.co_plain.specs.Invariants.{Memory, view, stands}
-use Rattle.co_law_node.specs.WholeMembers.{IsAmong, IsWholeMember}
+use Rattle.co_law_node.specs.WholeMembers.{IsWholeMember}
+use Rattle.co_plain.specs.Numbers.{IsAmong}
 use Rattle.co_law_node.specs.WholeCoords.{IsWholeCoord}
 use Rattle.co_law_node.specs.Writable.{IsWritableMember, IsWritableCoord}
 
@@ -25,9 +26,9 @@ pub record AreWhole (members coords : ℕ) (s : Federation) : Type 0 where
   pub few : (t m : ℕ) → count_at (told_of s t) m ≤ most_operations
   -- its sessions are of own nodes
   pub sessions : (t : ℕ) (session : Session) → look s.sessions t ≡ Some session → IsOwnSession members coords session
-  pub prepares : (t c m count : ℕ) → was_sent s.sent (message.Prepare t c m count) ≡ true → IsAmong coords c × (1 ≤ count)
+  pub prepares : (t c m count : ℕ) → was_sent s.sent (message.Prepare t c m count) ≡ true → IsAmong c coords × (1 ≤ count)
 
 -- A federation whose nodes hold what can be written, and write what can be written next.
 pub record AreWritable (members coords : ℕ) (s : Federation) : Type 0 where
-  pub member : (m : ℕ) → IsAmong members m → IsWritableMember coords m (s.member m)
-  pub coord : (c : ℕ) → IsAmong coords c → IsWritableCoord c (s.coord c)
+  pub member : (m : ℕ) → IsAmong m members → IsWritableMember coords m (s.member m)
+  pub coord : (c : ℕ) → IsAmong c coords → IsWritableCoord c (s.coord c)

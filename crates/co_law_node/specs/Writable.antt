@@ -18,7 +18,7 @@ use Rattle.co_state.specs.VotingRule.{vote_of}
 use Rattle.co_plain.specs.declared.coord_state.CoordState.{CoordState}
 use Rattle.co_plain.specs.declared.coord_state.Entry.TheVariants as entry
 use Rattle.co_plain.specs.declared.member_state.MemberState.{MemberState}
-use Rattle.co_plain.specs.Numbers.{counted}
+use Rattle.co_plain.specs.Numbers.{counted, IsAmong}
 use Rattle.co_plain.specs.CoordStep.{members_of}
 use Rattle.co_plain.specs.CoordLog.{coord_spare}
 use Rattle.co_plain.specs.CoordView.{all_up_to}
@@ -26,7 +26,7 @@ use Rattle.co_plain.specs.LocalCommit.{local_coord}
 use Rattle.co_plain.specs.Member.{prepare_record}
 use Rattle.co_plain.specs.MemberLog.{member_spare}
 use Rattle.co_plain.specs.Invariants.{Memory}
-use Rattle.co_law_node.specs.WholeMembers.{records_of, IsAmong, MemberStays}
+use Rattle.co_law_node.specs.WholeMembers.{records_of, MemberStays}
 use Rattle.co_law_node.specs.WholeCoords.{commits_of, CoordStays}
 
 -- A record that can be written, but for how many rows, undos and numbers a checkpoint has: only its file bounds those.
@@ -49,7 +49,7 @@ pub record IsWritableMember (coords m : ℕ) (x : MemberState) : Type 0 where
   -- the stable records, and those that wait
   pub records : AllByRecursion IsWithinBounds (records_of Memory x)
   -- the record of a vote, where the rule says yes
-  pub vote : (t coord count : ℕ) → IsAmong coords coord → 1 ≤ count → vote_of x.engine t count ≡ VoteYes →
+  pub vote : (t coord count : ℕ) → IsAmong coord coords → 1 ≤ count → vote_of x.engine t count ≡ VoteYes →
       IsWritable (prepare_record t coord count (sets_of (operations_of x.engine t)))
   -- the two records of a local commit
   pub alone : (t carried : ℕ) → 1 ≤ carried → vote_of x.engine t carried ≡ VoteYes →

@@ -7,7 +7,7 @@ ghost use Rattle.co_plain.specs.declared.coord_state.CoordState.{CoordState};
 ghost use Rattle.co_plain.specs.CoordView.{first_refused_at_coord};
 ghost use Rattle.co_plain.specs.Opening.{Found, opened_coord};
 ghost use Rattle.co_law_node.specs.WholeCoords.{HasCommitsAlone, IsWholeCoord, CoordStaysWhole};
-ghost use Rattle.co_law_node.specs.WholeMembers.{IsAmong};
+ghost use Rattle.co_plain.specs.Numbers.{IsAmong};
 ghost use Rattle.co_law_node.specs.Writable.{IsWritableCoord, CoordStaysWritable};
 
 /// Each event of a whole coordinator leaves it whole, however its log write ends, and a crash at any moment too: who is
@@ -26,13 +26,13 @@ pub fn opened_coordinators_are_whole()
 /// What a whole coordinator writes can be written, and stays so with each event: its records, the decision of each
 /// transaction that collects votes, and a filled spare. The participants that a commit names are members, ascending.
 pub fn coordinators_stay_writable()
-    ensures { (members c : ℕ) (y : CoordState) → members ≤ most_members → IsAmong most_coordinators c →
+    ensures { (members c : ℕ) (y : CoordState) → members ≤ most_members → IsAmong c most_coordinators →
         IsWholeCoord members y → IsWritableCoord c y → CoordStaysWritable members c y }
 {}
 
 /// So is a coordinator that is opened over an allowed log whose records can be written.
 pub fn opened_coordinators_are_writable()
-    ensures { (members c : ℕ) (found : Found) → members ≤ most_members → IsAmong most_coordinators c →
+    ensures { (members c : ℕ) (found : Found) → members ≤ most_members → IsAmong c most_coordinators →
         first_refused_at_coord members (reverse found.records) ≡ None → AllByRecursion IsWritable found.records →
         IsWritableCoord c (opened_coord c found) }
 {}

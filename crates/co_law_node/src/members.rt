@@ -6,7 +6,8 @@ ghost use Rattle.co_record.specs.Format.{most_coordinators, most_members};
 ghost use Rattle.co_plain.specs.declared.member_state.MemberState.{MemberState};
 ghost use Rattle.co_plain.specs.MemberView.{first_refused_at_member};
 ghost use Rattle.co_plain.specs.Opening.{Found, opened_member};
-ghost use Rattle.co_law_node.specs.WholeMembers.{IsAmong, IsWholeMember, MemberStaysWhole};
+ghost use Rattle.co_law_node.specs.WholeMembers.{IsWholeMember, MemberStaysWhole};
+ghost use Rattle.co_plain.specs.Numbers.{IsAmong};
 ghost use Rattle.co_law_node.specs.Writable.{IsWithinBounds, IsWritableMember, MemberStaysWritable};
 
 /// Each event of a whole member leaves it whole, however its log write ends, and a crash at any moment too: votes do not
@@ -27,13 +28,13 @@ pub fn opened_members_are_whole()
 /// a local commit; and a filled spare, where its lists are as short as a count of 32 bits tells. Whatever they count, the undos of its
 /// checkpoint are in order, and the votes that it tells again can be written.
 pub fn members_stay_writable()
-    ensures { (coords m : ℕ) (x : MemberState) → coords ≤ most_coordinators → IsAmong most_members m →
+    ensures { (coords m : ℕ) (x : MemberState) → coords ≤ most_coordinators → IsAmong m most_members →
         IsWholeMember coords x → IsWritableMember coords m x → MemberStaysWritable coords m x }
 {}
 
 /// So is a member that is opened over an allowed log whose records are within their bounds.
 pub fn opened_members_are_writable()
-    ensures { (coords : ℕ) (kinds : List Kind) (m : ℕ) (found : Found) → coords ≤ most_coordinators → IsAmong most_members m →
+    ensures { (coords : ℕ) (kinds : List Kind) (m : ℕ) (found : Found) → coords ≤ most_coordinators → IsAmong m most_members →
         first_refused_at_member coords (reverse found.records) ≡ None → AllByRecursion IsWithinBounds found.records →
         IsWritableMember coords m (opened_member kinds m found) }
 {}

@@ -11,7 +11,7 @@ use Rattle.co_law_base.proofs.Facts.{Facts}
 use Rattle.co_plain.specs.Premises.{IsTrueVerdict, AreTrueVerdicts}
 use Rattle.co_law_moves.proofs.Steps.{step_keeps}
 use Rattle.co_law_moves.specs.EventMoves.{moves_of}
-use Rattle.co_law_moves.specs.MoveTraces.{move_trace, moves_trace, run_items}
+use Rattle.co_law_moves.specs.MoveTraces.{move_trace, moves_trace, items_along}
 use Rattle.co_law_moves.proofs.ItemsTold.{more}
 use Rattle.co_law_moves.proofs.Made.{Made}
 use Rattle.co_law_moves.proofs.MoveByMove.{move_keeps}
@@ -113,18 +113,18 @@ step_acted s f (happening.Line e) v = made_acted s (moves_of s (happening.Line e
 step_acted s f (happening.Hand t m commit) v =
     made_acted s (moves_of s (happening.Hand t m commit)) (step s (happening.Hand t m commit)).state (event_made s f (happening.Hand t m commit) (λ n. let z : happening.Hand t m commit ≡ happening.Disarm = n in cc) v)
 
-pub acted : (hs : List Happening) (s : Federation) → Facts s → AreTrueVerdicts hs s → ActedAs (run hs s) (trace_of (run_items hs s)) s
+pub acted : (hs : List Happening) (s : Federation) → Facts s → AreTrueVerdicts hs s → ActedAs (run hs s) (trace_of (items_along hs s)) s
 acted [] s f v = record { acts = []; leaves = refl; guarded = tt; tells = refl }
 acted (h ∷ hs) s f v = by (step_acted s f h v.0) (acted hs (step s h).state (step_keeps s f h v.0) v.1)
   where
-    by : ActedAs (step s h).state (moves_trace (moves_of s h) s) s → ActedAs (run hs (step s h).state) (trace_of (run_items hs (step s h).state)) (step s h).state → ActedAs (run (h ∷ hs) s) (trace_of (run_items (h ∷ hs) s)) s
+    by : ActedAs (step s h).state (moves_trace (moves_of s h) s) s → ActedAs (run hs (step s h).state) (trace_of (items_along hs (step s h).state)) (step s h).state → ActedAs (run (h ∷ hs) s) (trace_of (items_along (h ∷ hs) s)) s
     by a b =
         record {
           acts = a.acts ++ b.acts;
           leaves = acts_more a.acts b.acts s ∙ ap (run_acts b.acts) a.leaves ∙ b.leaves;
           guarded = hold_more a.acts b.acts s a.guarded (subst (ActsHold b.acts) (sym a.leaves) b.guarded);
           tells =
-              step_told s f h (run_items hs (step s h).state) ∙ (λ i. a.tells i ++ b.tells i)
+              step_told s f h (items_along hs (step s h).state) ∙ (λ i. a.tells i ++ b.tells i)
               ∙ ap (λ z. acts_trace a.acts s ++ acts_trace b.acts z) (sym a.leaves) ∙ sym (trace_more a.acts b.acts s);
         }
 

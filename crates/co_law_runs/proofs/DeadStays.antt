@@ -26,7 +26,7 @@ use Rattle.co_law_engine.proofs.YesTells.{in_some}
 use Rattle.co_law_base.proofs.Lookups.{found_holds, put_here, put_there}
 use Rattle.co_law_base.proofs.Facts.{rest_of, alive, Begun, OpenEntry, Facts}
 use Rattle.co_plain.specs.Premises.{AreTrueVerdicts}
-use Rattle.co_law_moves.proofs.MemberEvents.{votes_own}
+use Rattle.co_law_moves.proofs.Standings.{votes_own}
 use Rattle.co_law_base.proofs.KeptTold.{count_told}
 use Rattle.co_law_base.proofs.LogMoves.{as_belongs, local_apart, dead_there}
 use Rattle.co_law_moves.proofs.ByMoves.{run_leaves}

@@ -23,7 +23,7 @@ use Rattle.co_plain.specs.declared.member_state.MemberState.{MemberState}
 use Rattle.co_plain.specs.declared.member_step.MemberStep.{MemberStep}
 use Rattle.co_plain.specs.declared.session.Told.{Told}
 use Rattle.co_plain.specs.declared.session.Session.{Session}
-use Rattle.co_plain.specs.Numbers.{counted}
+use Rattle.co_plain.specs.Numbers.{counted, IsAmong}
 use Rattle.co_plain.specs.MemberStep.{says}
 use Rattle.co_plain.specs.Member.{most_operations, unless_blocked, coord_of, member_deliver, member_vote, member_timer, member_ask, member_decide, member_op}
 use Rattle.co_plain.specs.MemberLog.{member_checkpoint, member_crash, member_restart, member_arm}
@@ -36,7 +36,7 @@ use Rattle.co_plain.specs.Federation.{Federation, answers, at_member, at_coord, 
 use Rattle.co_plain.specs.Step.{up_member, up_coord, is_used, begin_where, local_where, entered, operated, operate_with, marked_asked, coord_answers, local_answers, commit_at, commit_with, abort_at, abort_with, arrives, timer_at, crash_at, restart_at, arm_at, checkpoint_at, reply_in, is_stopped, is_held, step_line, step}
 use Rattle.co_plain.specs.Runs.{run}
 use Rattle.co_law_base.proofs.Lookups.{put_cases}
-use Rattle.co_plain.specs.Premises.{IsBetween, NamesOwnNode, IsOwn, AreOwn, IsOwnNode, IsOwnSession}
+use Rattle.co_plain.specs.Premises.{NamesOwnNode, IsOwn, AreOwn, IsOwnNode, IsOwnSession}
 
 abbrev pub FitSessions : ℕ → ℕ → Table Session → Type 0
 FitSessions n k sessions = (t : ℕ) (session : Session) → look sessions t ≡ Some session → IsOwnSession n k session
@@ -53,7 +53,7 @@ put_fits n k sessions t new old fits u session e = by (put_cases sessions t new 
     by (inl p) = subst (IsOwnSession n k) p.1 fits
     by (inr p) = old u session p.1
 
-told_fits : (n k m : ℕ) (o : Told) (session : Session) → o.site.member ≡ m → IsBetween m n → count_at session.told m < most_operations → IsOwnSession n k session →
+told_fits : (n k m : ℕ) (o : Told) (session : Session) → o.site.member ≡ m → IsAmong m n → count_at session.told m < most_operations → IsOwnSession n k session →
     IsOwnSession n k (with_told session o)
 told_fits n k m o session e own room f = record { home = f.home; sites = λ j h. by j (o.site.member == j) refl h; few = λ j. short j (o.site.member == j) refl }
   where
@@ -63,8 +63,8 @@ told_fits n k m o session e own room f = record { home = f.home; sites = λ j h.
         subst (λ b. (if b then count_at session.told j + 1 else count_at session.told j) ≤ most_operations) (sym q) (omega (arith, more))
     short j false q = subst (λ b. (if b then count_at session.told j + 1 else count_at session.told j) ≤ most_operations) (sym q) (f.few j)
 
-    by : (j : ℕ) (b : Bool) → (o.site.member == j) ≡ b → 1 ≤ (if o.site.member == j then count_at session.told j + 1 else count_at session.told j) → IsBetween j n
-    by j true q h = subst (λ i. IsBetween i n) (sym e ∙ eqb-true o.site.member j q) own
+    by : (j : ℕ) (b : Bool) → (o.site.member == j) ≡ b → 1 ≤ (if o.site.member == j then count_at session.told j + 1 else count_at session.told j) → IsAmong j n
+    by j true q h = subst (λ i. IsAmong i n) (sym e ∙ eqb-true o.site.member j q) own
     by j false q h = f.sites j (subst (λ b. 1 ≤ (if b then count_at session.told j + 1 else count_at session.told j)) q h)
 
 abbrev LeaveFits : ℕ → ℕ → Leave → Type 0
@@ -107,7 +107,7 @@ module _ (n k : ℕ) (s : Federation) (q : FitSessions n k s.sessions) where
   asked_grows t session fits true = sessions_grow t (asked_to_end session) (record { home = fits.home; sites = fits.sites; few = fits.few })
   asked_grows t session fits false = stays
 
-  entered_grows : (t : ℕ) (session : Session) (m : ℕ) (o : Op) → IsBetween m n → IsOwnSession n k session → (reply : Option Reply) →
+  entered_grows : (t : ℕ) (session : Session) (m : ℕ) (o : Op) → IsAmong m n → IsOwnSession n k session → (reply : Option Reply) →
       ((r : Reply) → reply ≡ Some r → count_at session.told m < most_operations) → Fit n k s (entered s t session m o reply)
   entered_grows t session m o own fits None room = stays
   entered_grows t session m o own fits (Some reply) room =
@@ -127,17 +127,17 @@ module _ (n k : ℕ) (s : Federation) (q : FitSessions n k s.sessions) where
   new_fits : (at : Node) → IsOwnNode n k at → IsOwnSession n k (begun_by at)
   new_fits at home = record { home = home; sites = λ m h. absurd (omega (arith, h)); few = λ m. omega arith }
 
-  begins : (t c : ℕ) → IsBetween c k → (used up : Bool) → Fit n k s (begin_where s t c used up).state
+  begins : (t c : ℕ) → IsAmong c k → (used up : Bool) → Fit n k s (begin_where s t c used up).state
   begins t c own true up = stays
   begins t c own false true = at_c (with_session s t (begun_by (node.Coord c))) (sessions_grow t (begun_by (node.Coord c)) (new_fits (node.Coord c) own)) c (coord_begin (s.coord c) t)
   begins t c own false false = stays
 
-  begins_local : (t m : ℕ) → IsBetween m n → (used up : Bool) → Fit n k s (local_where s t m used up).state
+  begins_local : (t m : ℕ) → IsAmong m n → (used up : Bool) → Fit n k s (local_where s t m used up).state
   begins_local t m own true up = stays
   begins_local t m own false true = sessions_grow t (begun_by (node.Member m)) (new_fits (node.Member m) own)
   begins_local t m own false false = stays
 
-  operates_by : (t m : ℕ) (o : Op) (session : Session) → IsBetween m n → IsOwnSession n k session → (up : Bool) →
+  operates_by : (t m : ℕ) (o : Op) (session : Session) → IsAmong m n → IsOwnSession n k session → (up : Bool) →
       Fit n k s (operated s t session m o up (member_op (s.member m) t (count_at session.told m) o)).state
   operates_by t m o session own fits false = stays
   operates_by t m o session own fits true =
@@ -145,7 +145,7 @@ module _ (n k : ℕ) (s : Federation) (q : FitSessions n k s.sessions) where
       at_m (entered s t session m o (reply_in did.answer))
       (entered_grows t session m o own fits (reply_in did.answer) (λ r h. replied (s.member m) t (count_at session.told m) o (fits.few m) r h)) m did
 
-  operates : (t m : ℕ) (o : Op) → IsBetween m n → (leave : Leave) → LeaveFits n k leave → Fit n k s (operate_with s t m o leave).state
+  operates : (t m : ℕ) (o : Op) → IsAmong m n → (leave : Leave) → LeaveFits n k leave → Fit n k s (operate_with s t m o leave).state
   operates t m o own (Refuses a) fits = stays
   operates t m o own (Grants session) fits = operates_by t m o session own fits (s.member m).up
 

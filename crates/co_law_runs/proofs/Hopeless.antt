@@ -29,7 +29,7 @@ use Rattle.co_law_base.proofs.KeptTold.{told_begun}
 use Rattle.co_plain.specs.Premises.{IsTrueVerdict, AreTrueVerdicts}
 use Rattle.co_law_moves.proofs.Steps.{step_keeps}
 use Rattle.co_law_moves.specs.EventMoves.{moves_of}
-use Rattle.co_law_moves.specs.MoveTraces.{move_trace, moves_trace, run_items}
+use Rattle.co_law_moves.specs.MoveTraces.{move_trace, moves_trace, items_along}
 use Rattle.co_law_moves.proofs.MoveByMove.{move_keeps}
 use Rattle.co_law_moves.proofs.StepsMade.{event_made}
 use Rattle.co_law_moves.proofs.StepsTold.{step_told}
@@ -134,9 +134,9 @@ step_tells_none s f w t hopeless (happening.Hand u m commit) v =
 step_tells_none s f w t hopeless happening.Disarm v = refl
 
 -- in no continuation a commit record of it becomes stable
-pub run_tells_none : (hs : List Happening) (s : Federation) → Facts s → Working s → (t : ℕ) → Hopeless s t → AreTrueVerdicts hs s → tells_commit (trace_of (run_items hs s)) t ≡ false
+pub run_tells_none : (hs : List Happening) (s : Federation) → Facts s → Working s → (t : ℕ) → Hopeless s t → AreTrueVerdicts hs s → tells_commit (trace_of (items_along hs s)) t ≡ false
 run_tells_none [] s f w t h v = refl
 run_tells_none (x ∷ hs) s f w t h v =
-    ap (λ k. tells_commit k t) (step_told s f x (run_items hs (step s x).state))
-    ∙ tells_more (moves_trace (moves_of s x) s) (trace_of (run_items hs (step s x).state)) t (step_tells_none s f w t h x v.0)
+    ap (λ k. tells_commit k t) (step_told s f x (items_along hs (step s x).state))
+    ∙ tells_more (moves_trace (moves_of s x) s) (trace_of (items_along hs (step s x).state)) t (step_tells_none s f w t h x v.0)
     (run_tells_none hs (step s x).state (step_keeps s f x v.0) (step_works s f x v.0 w) t (hopeless_on s (step s x).state (step_onward s f x v.0) t h) v.1)

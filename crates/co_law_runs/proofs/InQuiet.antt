@@ -14,7 +14,7 @@ use Rattle.co_plain.specs.declared.happening.Happening.TheVariants as happening
 use Rattle.co_plain.specs.declared.session.Session.{Session}
 use Rattle.co_plain.specs.declared.standing.Standing.{Standing}
 use Rattle.co_plain.specs.declared.standing.Standing.TheVariants.{IsActive, IsVoted, IsInstalled, IsAbsent}
-use Rattle.co_plain.specs.Numbers.{first_lacking, has_number}
+use Rattle.co_plain.specs.Numbers.{first_lacking, has_number, IsAmong}
 use Rattle.co_plain.specs.MemberView.{recovered_view}
 use Rattle.co_plain.specs.MemberStep.{standing_by, standing_of, dropped}
 use Rattle.co_plain.specs.Member.{coord_of, timer_by}
@@ -38,11 +38,11 @@ use Rattle.co_law_base.proofs.CoordMoves.{open_unsettled}
 use Rattle.co_law_base.proofs.Sending.{parts_told, part_member}
 use Rattle.co_law_base.proofs.Taking.{took_takes}
 use Rattle.co_law_moves.proofs.Steps.{step_keeps}
-use Rattle.co_law_moves.proofs.MemberEvents.{active_is, installed_is, votes_own}
+use Rattle.co_law_moves.proofs.Standings.{active_is, installed_is, votes_own}
 use Rattle.co_law_moves.proofs.Onward.{present}
 use Rattle.co_law_runs.proofs.Working.{Working}
-use Rattle.co_plain.specs.Premises.{AreTrueVerdicts, IsBetween, IsOwnNode}
-use Rattle.co_law_moves.specs.MoveTraces.{run_items}
+use Rattle.co_plain.specs.Premises.{AreTrueVerdicts, IsOwnNode}
+use Rattle.co_law_moves.specs.MoveTraces.{items_along}
 use Rattle.co_law_runs.specs.OnlyTimers.{EndsForGood, SomeTimerEnds, tells_commit}
 use Rattle.co_law_runs.proofs.Fitting.{FitSessions}
 use Rattle.co_law_runs.proofs.Hopeless.{Hopeless, Dead, Lost, run_tells_none, step_works}
@@ -85,7 +85,7 @@ module _ (s : Federation) (q : FitSessions (length s.kinds) s.coordinators s.ses
     where
       home : (at : Node) → IsOwnNode (length s.kinds) s.coordinators at → same_node at (node.Coord c) ≡ true → IsCoordinator s c
       home (node.Member m) fits k = absurd (let z : false ≡ true = k in cc)
-      home (node.Coord d) fits k = subst (λ e. IsBetween e s.coordinators) (eqb-true d c k) fits
+      home (node.Coord d) fits k = subst (λ e. IsAmong e s.coordinators) (eqb-true d c k) fits
 
       by : (z : Option Session) → look s.sessions t ≡ z → by_coord z c ≡ true → IsCoordinator s c
       by None e k = absurd (let z : false ≡ true = k in cc)
@@ -183,7 +183,7 @@ module _ (s : Federation) (f : Facts s) (w : Working s) where
 
   -- after a timer that leaves it hopeless no commit record of it becomes stable
   pub timer_never : (t : ℕ) (at : Node) → Hopeless (timed t at).state t → (hs : List Happening) → AreTrueVerdicts hs (timed t at).state →
-      tells_commit (trace_of (run_items hs (timed t at).state)) t ≡ false
+      tells_commit (trace_of (items_along hs (timed t at).state)) t ≡ false
   timer_never t at hopeless hs v =
       run_tells_none hs (timed t at).state (step_keeps s f (happening.Line (event.Timer t at)) tt) (step_works s f (happening.Line (event.Timer t at)) tt w) t hopeless v
 

@@ -1,10 +1,8 @@
 -- A member's kind stays.
 use Rattle.std.proofs.Common.{◌≡◌, ℕ, Option, None, Some, refl, ap}
 use Rattle.co_serial.specs.SerialRun.{with_at}
-use Rattle.co_state.specs.declared.engine_state.EngineState.{EngineState}
-use Rattle.co_state.specs.declared.engine_state.Vote.{Vote}
 use Rattle.co_state.specs.Table.{look}
-use Rattle.co_state.specs.Effects.{with_operation, after_cast, install_vote}
+use Rattle.co_state.specs.Effects.{with_operation, after_cast}
 use Rattle.co_plain.specs.declared.member_state.MemberState.{MemberState}
 use Rattle.co_plain.specs.declared.session.Session.{Session}
 use Rattle.co_plain.specs.Numbers.{counted}
@@ -23,14 +21,11 @@ use Rattle.co_plain.specs.Moves.{restarted}
 use Rattle.co_plain.specs.MemberStep.{with_log, dropped, member_down}
 use Rattle.co_plain.specs.Moves.{cast_state}
 use Rattle.co_law_base.proofs.Carrying.{at_each}
+use Rattle.co_law_moves.proofs.Standings.{install_kind}
 use Rattle.co_law_runs.proofs.Acts.{Act, Moves, Disarms, after_act, act_guard}
 
 abbrev pub SameKinds : Federation → Federation → Type 0
 SameKinds s z = (m : ℕ) → (z.member m).engine.kind ≡ (s.member m).engine.kind
-
-install_kind : (b : EngineState) (t : ℕ) (o : Option Vote) → (install_vote b t o).kind ≡ b.kind
-install_kind b t None = refl
-install_kind b t (Some vote) = refl
 
 module _ (s : Federation) where
   one : (k : ℕ) (x : MemberState) → x.engine.kind ≡ (s.member k).engine.kind → (m : ℕ) → (with_at s.member k x m).engine.kind ≡ (s.member m).engine.kind

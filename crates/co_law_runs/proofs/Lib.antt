@@ -3,6 +3,7 @@ pub mod Agreement
 pub mod Hopeless
 pub mod Fitting
 pub mod InQuiet
+pub mod Reached
 pub mod DeadStays
 pub mod Final
 pub mod MemberYes

@@ -39,7 +39,7 @@ use Rattle.co_plain.specs.Premises.{IsTrueVerdict, AreTrueVerdicts}
 use Rattle.co_law_moves.proofs.Steps.{step_keeps, run_keeps}
 use Rattle.co_law_base.proofs.Filling.{spare_tells}
 use Rattle.co_law_moves.specs.EventMoves.{moves_of}
-use Rattle.co_law_moves.specs.MoveTraces.{move_trace, moves_trace, told_with, run_items}
+use Rattle.co_law_moves.specs.MoveTraces.{move_trace, moves_trace, told_with, items_along}
 use Rattle.co_law_moves.proofs.ByMoves.{step_leaves, run_leaves}
 use Rattle.co_law_moves.proofs.MoveByMove.{move_keeps}
 use Rattle.co_law_moves.proofs.MoveOnward.{move_onward}
@@ -260,11 +260,11 @@ step_tells_none_at s f t m g (happening.Line e) v = event_tells_none_at s f t m 
 step_tells_none_at s f t m g (happening.Hand u k commit) v = event_tells_none_at s f t m g (happening.Hand u k commit) (λ n. let z : happening.Hand u k commit ≡ happening.Disarm = n in cc) v
 step_tells_none_at s f t m g happening.Disarm v = refl
 
-run_tells_none_at : (hs : List Happening) (s : Federation) → Facts s → (t m : ℕ) → Gone s t m → AreTrueVerdicts hs s → tells_commit_at (trace_of (run_items hs s)) (node.Member m) t ≡ false
+run_tells_none_at : (hs : List Happening) (s : Federation) → Facts s → (t m : ℕ) → Gone s t m → AreTrueVerdicts hs s → tells_commit_at (trace_of (items_along hs s)) (node.Member m) t ≡ false
 run_tells_none_at [] s f t m g v = refl
 run_tells_none_at (h ∷ hs) s f t m g v =
-    ap (λ k. tells_commit_at k (node.Member m) t) (step_told s f h (run_items hs (step s h).state))
-    ∙ more_at (moves_trace (moves_of s h) s) (trace_of (run_items hs (step s h).state)) (node.Member m) t (step_tells_none_at s f t m g h v.0)
+    ap (λ k. tells_commit_at k (node.Member m) t) (step_told s f h (items_along hs (step s h).state))
+    ∙ more_at (moves_trace (moves_of s h) s) (trace_of (items_along hs (step s h).state)) (node.Member m) t (step_tells_none_at s f t m g h v.0)
     (run_tells_none_at hs (step s h).state (step_keeps s f h v.0) t m (step_gone s f h v.0 t m g) v.1)
 
 -- ---- yeses
@@ -287,11 +287,11 @@ told_yes (happening.Line e) items t m = refl
 told_yes (happening.Hand u k commit) items t m = refl
 told_yes happening.Disarm items t m = refl
 
-run_tells_no_yes : (hs : List Happening) (s : Federation) → Facts s → (t m : ℕ) → Gone s t m → AreTrueVerdicts hs s → tells_yes (run_items hs s) t m ≡ false
+run_tells_no_yes : (hs : List Happening) (s : Federation) → Facts s → (t m : ℕ) → Gone s t m → AreTrueVerdicts hs s → tells_yes (items_along hs s) t m ≡ false
 run_tells_no_yes [] s f t m g v = refl
 run_tells_no_yes (h ∷ hs) s f t m g v =
     let next = step_gone s f h v.0 t m g in
-    yes_more (told_with h (step s h).items) (run_items hs (step s h).state) t m
+    yes_more (told_with h (step s h).items) (items_along hs (step s h).state) t m
     (told_yes h (step s h).items t m ∙ step_silent s h t m (memory_gone (step s h).state (step_keeps s f h v.0) t m next))
     (run_tells_no_yes hs (step s h).state (step_keeps s f h v.0) t m next v.1)
 

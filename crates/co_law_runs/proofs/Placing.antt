@@ -16,7 +16,7 @@ use Rattle.co_plain.specs.Member.{coord_of}
 use Rattle.co_plain.specs.Moves.{Operate, Install, CommitLocally, Decide, Guard, effect}
 use Rattle.co_law_base.proofs.Facts.{rest_of, belongs, Facts}
 use Rattle.co_law_base.proofs.LogMoves.{local_apart}
-use Rattle.co_law_moves.proofs.MemberEvents.{votes_own}
+use Rattle.co_law_moves.proofs.Standings.{votes_own}
 use Rattle.co_law_moves.proofs.Onward.{Onward}
 use Rattle.co_law_runs.proofs.Acts.{Act, Moves, after_act, act_guard, acts_trace, run_acts, ActsHold, act_keeps, acts_keep, acts_more, hold_parts, trace_more, Placed, placed}
 use Rattle.co_law_runs.proofs.Deciders.{committed_at, decider_in, decided_in, decided_number, homed_session, same_home}

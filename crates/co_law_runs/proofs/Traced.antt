@@ -30,7 +30,7 @@ use Rattle.co_law_base.proofs.Carrying.{at_each, at_here, over_seen, votes_stand
 use Rattle.co_law_base.proofs.TwoViews.{committed_both}
 use Rattle.co_law_base.proofs.LogMoves.{not_held}
 use Rattle.co_law_base.proofs.Asking.{same_reading}
-use Rattle.co_law_moves.proofs.MemberEvents.{votes_own}
+use Rattle.co_law_moves.proofs.Standings.{votes_own}
 use Rattle.co_law_moves.specs.MoveTraces.{move_trace}
 use Rattle.co_law_moves.proofs.ItemsTold.{no_rest, more}
 use Rattle.co_law_runs.proofs.Acts.{Act, Moves, Disarms, after_act, act_guard, act_trace, acts_trace, run_acts, ActsHold, act_keeps}

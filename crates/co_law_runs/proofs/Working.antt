@@ -35,7 +35,7 @@ use Rattle.co_law_base.proofs.TwoViews.{stable_to_memory}
 use Rattle.co_law_base.proofs.LogMoves.{local_apart}
 use Rattle.co_law_base.proofs.VoteMoves.{active_found, asked_unsettled}
 use Rattle.co_law_base.proofs.Asking.{same_reading}
-use Rattle.co_law_moves.proofs.MemberEvents.{votes_own}
+use Rattle.co_law_moves.proofs.Standings.{votes_own}
 use Rattle.co_law_moves.proofs.MoveOnward.{move_onward}
 use Rattle.co_law_moves.proofs.Onward.{Onward, holds_put_off, holds_without_off, back_without}
 

@@ -18,7 +18,7 @@ use Rattle.co_plain.specs.Runs.{run}
 use Rattle.co_plain.specs.Sessions.{same_node, count_at}
 use Rattle.co_plain.specs.Step.{step}
 use Rattle.co_plain.specs.Premises.{AreTrueVerdicts}
-use Rattle.co_law_moves.specs.MoveTraces.{run_items}
+use Rattle.co_law_moves.specs.MoveTraces.{items_along}
 use Rattle.co_law_runs.specs.OnlyTimers.{ending_answer, tells_commit}
 
 -- the reply among the items of an event
@@ -33,7 +33,7 @@ abbrev pub IsFinal : Federation → ℕ → Node → Type 0
 IsFinal s t at =
     reply_told (step s (happening.Line (event.Timer t at))).items ≡ Some (ending_answer at) →
     (hs : List Happening) → AreTrueVerdicts hs (step s (happening.Line (event.Timer t at))).state →
-    tells_commit (trace_of (run_items hs (step s (happening.Line (event.Timer t at))).state)) t ≡ false
+    tells_commit (trace_of (items_along hs (step s (happening.Line (event.Timer t at))).state)) t ≡ false
 
 -- The client was told of operations at a member that has the transaction nowhere: it is not active there, and neither
 -- memory nor records have it voted or committed.
@@ -59,5 +59,5 @@ tells_commit_at (Committed by u ∷ rest) at t = (same_node by at && (u == t)) |
 -- nor commits it.
 pub record StaysLost (s : Federation) (hs : List Happening) (t m : ℕ) : Type 0 where
   pub lost : IsLostAt (run hs s) t m
-  pub no_yes : tells_yes (run_items hs s) t m ≡ false
-  pub no_commit : tells_commit_at (trace_of (run_items hs s)) (node.Member m) t ≡ false
+  pub no_yes : tells_yes (items_along hs s) t m ≡ false
+  pub no_commit : tells_commit_at (trace_of (items_along hs s)) (node.Member m) t ≡ false

@@ -15,7 +15,7 @@ use Rattle.co_plain.specs.CommitmentOrder.{Trace, Began, Operated, Committed, tr
 use Rattle.co_plain.specs.Quiet.{IsNode}
 use Rattle.co_plain.specs.Settling.{timer_ends}
 use Rattle.co_plain.specs.Premises.{AreTrueVerdicts}
-use Rattle.co_law_moves.specs.MoveTraces.{run_items}
+use Rattle.co_law_moves.specs.MoveTraces.{items_along}
 
 -- whether a commit record of the transaction becomes stable in a trace
 abbrev pub tells_commit : List Trace → ℕ → Bool
@@ -36,7 +36,7 @@ pub record EndsForGood (s : Federation) (t : ℕ) (at : Node) : Type 0 where
   pub ends : timer_ends s t at ≡ true
   pub answers : (step s (happening.Line (event.Timer t at))).items ≡ item.Answered (ending_answer at) ∷ []
   pub never : (hs : List Happening) → AreTrueVerdicts hs (step s (happening.Line (event.Timer t at))).state →
-      tells_commit (trace_of (run_items hs (step s (happening.Line (event.Timer t at))).state)) t ≡ false
+      tells_commit (trace_of (items_along hs (step s (happening.Line (event.Timer t at))).state)) t ≡ false
 
 -- some timer does so
 pub record SomeTimerEnds (s : Federation) : Type 0 where

@@ -1,38 +1,25 @@
 -- What is open is among the numbers that are counted, and what is left is at most three for each pair and one for each
 -- transaction of them.
-use Rattle.std.proofs.Common.{◌≡◌, ◌⊎◌, inl, inr, ℕ, zero, suc, Bool, true, false, cond, ◌||◌, ◌==◌, ◌≤◌, ◌+◌, ◌*◌, if◌then◌else◌, List, [], ◌∷◌, map, filter, length, Option, None, Some, refl, sym, ap, ◌∙◌, arith}
+use Rattle.std.proofs.Common.{◌≡◌, ℕ, zero, suc, Bool, true, false, cond, ◌==◌, ◌≤◌, ◌+◌, ◌*◌, if◌then◌else◌, List, [], ◌∷◌, map, filter, length, Option, None, Some, refl, sym, ap, ◌∙◌, arith}
 use Rattle.std.specs.Option.{is_some}
 use Rattle.std.specs.Ordering.{nat_cmp, eq_by_cmp}
 use Rattle.std.specs.FinMap.{entries, get-entries, keys}
 use Rattle.std.specs.FinMap.Entries.{find}
-use Rattle.std.proofs.lemmas.Bool.{or_left, or_right, or_cases, and_parts, eqb-true, eqb-false, eq-eqb}
+use Rattle.std.proofs.lemmas.Bool.{or_left, or_right, and_parts, eq-eqb}
 use Rattle.co_state.specs.Table.{Table, look, holds, no_entries}
 use Rattle.co_plain.specs.declared.coord_state.Entry.{Entry}
 use Rattle.co_plain.specs.declared.coord_state.Entry.TheVariants as entry
 use Rattle.co_plain.specs.declared.member_state.MemberState.{MemberState}
 use Rattle.co_plain.specs.Numbers.{has_number}
-use Rattle.co_plain.specs.MemberView.{Numbers, with_number, with_numbers}
-use Rattle.co_plain.specs.Opening.{with_all, union_to}
+use Rattle.co_plain.specs.MemberView.{Numbers}
+use Rattle.co_plain.specs.Opening.{union_to}
 use Rattle.co_plain.specs.Federation.{Federation}
-use Rattle.co_plain.specs.Quiet.{IsOpen, InTable, ActiveAt, VotedAt, table_numbers, takes_part, open_here, open_numbers, open_between, open_count, open_pairs, sum_to, lacks_yes, lacks_ack}
+use Rattle.co_plain.specs.Quiet.{IsCoordinator, IsOpen, InTable, ActiveAt, VotedAt, table_numbers, takes_part, open_here, open_numbers, open_between, open_count, open_pairs, sum_to, lacks_yes, lacks_ack}
 use Rattle.co_plain.specs.Settling.{is_idle}
-use Rattle.co_law_base.proofs.Commits.{holds_more, holds_new}
+use Rattle.co_law_base.proofs.NumberSets.{laid_has, key_of, first_has, second_has, union_has}
 use Rattle.co_law_base.proofs.Lookups.{same_number}
 use Rattle.co_law_settle.specs.SettlingMeasure.{any_to, weight, left_between, left_idle, left_of, sum_over, yes_lacking, ack_lacking, pairs_in, numbers_in_state}
 use Rattle.co_law_settle.proofs.Falling.{any_found, weight_most}
-
--- numbers laid into a set
-more_has : (n : Numbers) (ts : List ℕ) (t : ℕ) → holds n t ≡ true → holds (with_numbers n ts) t ≡ true
-more_has n [] t h = h
-more_has n (u ∷ us) t h = more_has (with_number n u) us t (holds_more n u t h)
-
-laid_has : (n : Numbers) (ts : List ℕ) (t : ℕ) → has_number ts t ≡ true → holds (with_numbers n ts) t ≡ true
-laid_has n [] t h = absurd (let z : false ≡ true = h in cc)
-laid_has n (u ∷ us) t h = by (laid_has (with_number n u) us t) (or_cases (u == t) (has_number us t) h)
-  where
-    by : (has_number us t ≡ true → holds (with_numbers (with_number n u) us) t ≡ true) → ((u == t) ≡ true) ⊎ (has_number us t ≡ true) → holds (with_numbers (with_number n u) us) t ≡ true
-    by rest (inl e) = more_has (with_number n u) us t (ap (holds (with_number n u)) (sym (eqb-true u t e)) ∙ holds_new n u)
-    by rest (inr k) = rest k
 
 -- the keys of the entries that pass a test
 passing_key : {X : Type 0} (test : X → Bool) (es : List (ℕ × X)) (t : ℕ) (x : X) → find nat_cmp t es ≡ Some x → test x ≡ true → has_number (map (λ e. e.0) (filter (λ e. test e.1) es)) t ≡ true
@@ -57,31 +44,6 @@ passing_key {X} test (e ∷ es) t x h p = by (passing_key test es t x) (eq_by_cm
         now true = or_right (e.0 == t) (has_number (map (λ e. e.0) (filter (λ e. test e.1) es)) t) more
         now false = more
 
-found_key : {X : Type 0} (es : List (ℕ × X)) (t : ℕ) → is_some (find nat_cmp t es) ≡ true → has_number (map (λ e. e.0) es) t ≡ true
-found_key [] t h = absurd (let z : false ≡ true = h in cc)
-found_key {X} (e ∷ es) t h = by (found_key es t) (eq_by_cmp nat_cmp t e.0) refl
-  where
-    by : (is_some (find nat_cmp t es) ≡ true → has_number (map (λ e. e.0) es) t ≡ true) → (b : Bool) → eq_by_cmp nat_cmp t e.0 ≡ b → ((e.0 == t) || has_number (map (λ e. e.0) es) t) ≡ true
-    by rest true g = or_left (e.0 == t) (has_number (map (λ e. e.0) es) t) (eq-eqb e.0 t (sym (same_number t e.0 g)))
-    by rest false g = or_right (e.0 == t) (has_number (map (λ e. e.0) es) t) (rest (sym (ap (λ c. is_some (cond c (Some e.1) (find nat_cmp t es))) g) ∙ h))
-
-pub key_of : {X : Type 0} (table : Table X) (t : ℕ) → holds table t ≡ true → has_number (keys table) t ≡ true
-key_of table t h = found_key (entries table) t (sym (ap is_some (get-entries table t)) ∙ h)
-
-first_has : (a b : Numbers) (t : ℕ) → holds a t ≡ true → holds (with_all a b) t ≡ true
-first_has a b t h = more_has a (keys b) t h
-
-second_has : (a b : Numbers) (t : ℕ) → holds b t ≡ true → holds (with_all a b) t ≡ true
-second_has a b t h = laid_has a (keys b) t (key_of b t h)
-
-union_has : (n : ℕ) (sets : ℕ → Numbers) (m t : ℕ) → 1 ≤ m → m ≤ n → holds (sets m) t ≡ true → holds (union_to n sets) t ≡ true
-union_has zero sets m t l u h = absurd (omega (arith, l, u))
-union_has (suc n) sets m t l u h = by (union_has n sets m t l) (m == suc n) refl
-  where
-    by : (m ≤ n → holds (sets m) t ≡ true → holds (union_to n sets) t ≡ true) → (b : Bool) → (m == suc n) ≡ b → holds (with_all (union_to n sets) (sets (suc n))) t ≡ true
-    by rest true e = second_has (union_to n sets) (sets (suc n)) t (ap (λ k. holds (sets k) t) (sym (eqb-true m (suc n) e)) ∙ h)
-    by rest false e = let d = eqb-false m (suc n) e in first_has (union_to n sets) (sets (suc n)) t (rest (omega (arith, u, d)) h)
-
 -- a table's numbers, and those of the entries that pass a test
 table_has : {X : Type 0} (table : Table X) (t : ℕ) → holds table t ≡ true → holds (table_numbers (entries table)) t ≡ true
 table_has table t h = laid_has no_entries (keys table) t (key_of table t h)
@@ -105,19 +67,19 @@ module _ (s : Federation) where
   -- what is open is counted
   pub open_counted : (t : ℕ) → IsOpen s t → has_number (numbers_in_state s) t ≡ true
   open_counted t (InTable c i h) =
-      key_of (open_numbers s) t (second_has here tabled t (union_has s.coordinators (λ c. table_numbers (entries (s.coord c).table)) c t i.0 i.1 (table_has (s.coord c).table t h)))
+      key_of (open_numbers s) t (second_has here tabled t (union_has s.coordinators (λ c. table_numbers (entries (s.coord c).table)) c t i (table_has (s.coord c).table t h)))
   open_counted t (ActiveAt m i h) =
-      key_of (open_numbers s) t (first_has here tabled t (union_has (length s.kinds) (λ m. open_here (s.member m)) m t i.0 i.1 (active_has (s.member m) t h)))
+      key_of (open_numbers s) t (first_has here tabled t (union_has (length s.kinds) (λ m. open_here (s.member m)) m t i (active_has (s.member m) t h)))
   open_counted t (VotedAt m i h) =
-      key_of (open_numbers s) t (first_has here tabled t (union_has (length s.kinds) (λ m. open_here (s.member m)) m t i.0 i.1 (voted_has (s.member m) t h)))
+      key_of (open_numbers s) t (first_has here tabled t (union_has (length s.kinds) (λ m. open_here (s.member m)) m t i (voted_has (s.member m) t h)))
 
   abbrev taking : ℕ → ℕ → Numbers
   taking m c = table_numbers (filter (λ e. takes_part m e.1) (entries (s.coord c).table))
 
-  in_table : (t m c : ℕ) → 1 ≤ c → c ≤ s.coordinators → (x : Entry) → look (s.coord c).table t ≡ Some x → takes_part m x ≡ true → has_number (pairs_in s m) t ≡ true
-  in_table t m c l u x h p =
+  in_table : (t m c : ℕ) → IsCoordinator s c → (x : Entry) → look (s.coord c).table t ≡ Some x → takes_part m x ≡ true → has_number (pairs_in s m) t ≡ true
+  in_table t m c own x h p =
       key_of (open_between s m) t (second_has (open_here (s.member m)) (union_to s.coordinators (taking m)) t
-      (union_has s.coordinators (taking m) c t l u (passing_has (s.coord c).table m t x h p)))
+      (union_has s.coordinators (taking m) c t own (passing_has (s.coord c).table m t x h p)))
 
   lacks_yes_takes : (m : ℕ) (o : Option Entry) → lacks_yes o m ≡ true → (x : Entry) × (o ≡ Some x) × (takes_part m x ≡ true)
   lacks_yes_takes m None h = absurd (let z : false ≡ true = h in cc)
@@ -154,11 +116,11 @@ module _ (s : Federation) where
       by (OfYes e) =
           let c = any_found s.coordinators (λ c. lacks_yes (look (s.coord c).table t) m) e in
           let x = lacks_yes_takes m (look (s.coord c.0).table t) c.3 in
-          in_table t m c.0 c.1 c.2 x.0 x.1 x.2
+          in_table t m c.0 (c.1, c.2) x.0 x.1 x.2
       by (OfAck e) =
           let c = any_found s.coordinators (λ c. lacks_ack (look (s.coord c).table t) m) e in
           let x = lacks_ack_takes m (look (s.coord c.0).table t) c.3 in
-          in_table t m c.0 c.1 c.2 x.0 x.1 x.2
+          in_table t m c.0 (c.1, c.2) x.0 x.1 x.2
 
   idle_held : (o : Option Entry) → is_idle o ≡ true → is_some o ≡ true
   idle_held None h = h

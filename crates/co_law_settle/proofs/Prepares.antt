@@ -35,7 +35,7 @@ use Rattle.co_plain.specs.Step.{step_line, up_coord, up_member}
 use Rattle.co_plain.specs.Quiet.{IsMember, IsCoordinator, Exchange, Prepares, Votes, IsEnabled, lacks_yes, lacks_ack, may_be_asked, is_free, free_where_asked, busy_in, IsBusy, BusyAt, BusyIn}
 use Rattle.co_law_base.proofs.Facts.{rest_of, belongs}
 use Rattle.co_law_base.proofs.Carrying.{at_here}
-use Rattle.co_law_moves.proofs.MemberEvents.{active_is, voted_is, absent_is, votes_own}
+use Rattle.co_law_moves.proofs.Standings.{active_is, voted_is, absent_is, votes_own}
 use Rattle.co_law_runs.proofs.InQuiet.{belongs_fits}
 use Rattle.co_law_settle.specs.SettlingTurns.{AllUp, prepares_member, votes_from, note_in, IsServed, wanted, first_event}
 use Rattle.co_law_settle.specs.SettlingMeasure.{RaisesNothing, weight, weight_at, left_between, yes_lacking, ack_lacking}

@@ -1,8 +1,5 @@
 -- Settling over runs.
-use Rattle.std.proofs.Common.{◌≡◌, ◌⊎◌, inl, inr, ℕ, Bool, true, false, ◌||◌, ◌&&◌, ◌≤◌, nat_le, List, [], ◌∷◌, ◌++◌, length, None, Some, refl, sym, ap, ◌∙◌, subst, arith}
-use Rattle.std.proofs.lemmas.Bool.Decides.{nat_tests}
-use Rattle.std.proofs.lemmas.Bool.{or_cases, and_parts}
-use Rattle.std.specs.Option.{is_some}
+use Rattle.std.proofs.Common.{◌≡◌, ℕ, true, ◌≤◌, List, [], ◌∷◌, ◌++◌, length, refl, sym, ap, ◌∙◌, subst, arith}
 use Rattle.std.proofs.lemmas.Cmp.{nat_list_cmp_total}
 use Rattle.std.specs.FinMap.{same_map, slice_cmp-IsAntisymmetric, nat_cmp-IsAntisymmetric}
 use Rattle.co_base.specs.declared.head.Kind.{Kind}
@@ -11,30 +8,25 @@ use Rattle.co_message.specs.declared.event.Event.{Event}
 use Rattle.co_message.specs.declared.event.Event.TheVariants as event
 use Rattle.co_message.specs.declared.message.Message.{Message}
 use Rattle.co_message.specs.declared.message.Message.TheVariants as message
-use Rattle.co_state.specs.Table.{look, holds}
 use Rattle.co_plain.specs.declared.happening.Happening.{Happening}
 use Rattle.co_plain.specs.declared.happening.Happening.TheVariants as happening
-use Rattle.co_plain.specs.MemberView.{recovered_view}
-use Rattle.co_plain.specs.Opening.{Found, OnlyOwnLogs, opened}
+use Rattle.co_plain.specs.Opening.{Found, opened}
 use Rattle.co_plain.specs.Federation.{Federation}
 use Rattle.co_plain.specs.Member.{member_deliver, member_vote, member_ask}
 use Rattle.co_plain.specs.Coordinator.{coord_deliver, coord_resend}
 use Rattle.co_plain.specs.Step.{disarmed, arrives, up_member, up_coord}
 use Rattle.co_plain.specs.Runs.{run, lines}
-use Rattle.co_plain.specs.Decisions.{votes_for}
-use Rattle.co_plain.specs.SoundLogs.{unended_in, log_has_voted, log_has_committed}
 use Rattle.co_plain.specs.Invariants.{Memory}
 use Rattle.co_plain.specs.Quiet.{node_up, IsMember, IsOpen, VotedAt, IsQuiet, IsEnabled, Exchange, settling_bound, IsBusy}
 use Rattle.co_plain.specs.Settling.{SettlesBy}
-use Rattle.co_law_base.proofs.Lookups.{look_none, found_holds}
+use Rattle.co_law_base.proofs.Lookups.{found_holds}
 use Rattle.co_law_base.proofs.Facts.{Facts}
-use Rattle.co_plain.specs.Premises.{AreTrueVerdicts, IsBetween, AreOwn, AreOwnLogs, AreOpenable}
+use Rattle.co_plain.specs.Premises.{AreTrueVerdicts, AreOwn, AreOwnLogs, AreOpenable}
 use Rattle.co_law_moves.proofs.Steps.{run_keeps, step_keeps}
 use Rattle.co_law_moves.proofs.Growing.{Grows, grows_on, run_grows}
 use Rattle.co_law_moves.proofs.Derived.{logs_give}
 use Rattle.co_law_moves.proofs.KeptFrom.{same_serial}
-use Rattle.co_law_runs.proofs.Fitting.{Fit, FitSessions, run_fits}
-use Rattle.co_law_runs.proofs.InQuiet.{OpenedFit}
+use Rattle.co_law_runs.proofs.Reached.{Reached, fits, reached}
 use Rattle.co_law_moves.proofs.Start.{start_facts}
 use Rattle.co_law_settle.specs.SettlingTurns.{AllUp, Turn, Exchanges, turn_events, after_turn, AreServed, IsServed, IsAnswered, goes_to, node_arrives, CanTurn, IsUnarmed, IsNext, SomethingOpen, NothingOpen, AreTurns, turns_events, IsSettling, Settles}
 use Rattle.co_law_settle.specs.SettlingMeasure.{AreCounted, TurnLowers, pairs_in, numbers_in_state, events_left}
@@ -48,18 +40,6 @@ use Rattle.co_law_settle.proofs.Turns.{exchanged, can_done, next_done, TurnsDone
 use Rattle.co_law_settle.proofs.Ending.{settles_from}
 use Rattle.co_law_settle.proofs.QuietTimers.{quiet_timers}
 use Rattle.co_law_settle.proofs.OneWay.{one_way}
-
--- whose log tells something is a member of the federation
-member_is : (kinds : List Kind) (coords : ℕ) (fm fc : ℕ → Found) → OnlyOwnLogs kinds coords fm fc → (m t : ℕ) → (log_has_voted (fm m).records t || log_has_committed (fm m).records t) ≡ true → IsBetween m (length kinds)
-member_is kinds coords fm fc own m t h = by (nat_le 1 m && nat_le m (length kinds)) refl
-  where
-    nothing : (holds (recovered_view []).voted t ≡ true) ⊎ (holds (recovered_view []).committed t ≡ true) → ⊥
-    nothing (inl q) = let y : false ≡ true = ap is_some (sym (look_none t)) ∙ q in cc
-    nothing (inr q) = let y : false ≡ true = ap is_some (sym (look_none t)) ∙ q in cc
-
-    by : (b : Bool) → (nat_le 1 m && nat_le m (length kinds)) ≡ b → IsBetween m (length kinds)
-    by true e = let p = and_parts (nat_le 1 m) (nat_le m (length kinds)) e in let l = p.0 in let k = p.1 in (grind (arith, nat_tests, l), grind (arith, nat_tests, k))
-    by false e = absurd (nothing (or_cases _ _ (ap (λ rs. log_has_voted rs t || log_has_committed rs t) (sym (own.members m e)) ∙ h)))
 
 -- what is left somewhere is counted
 pub counted : (s : Federation) → AreCounted (pairs_in s) (numbers_in_state s) s
@@ -76,54 +56,29 @@ holds_serially s0 s f grows none m i =
           ∙ ap (λ all. all m) (same_serial s0 s grows s.decided);
     }
 
--- a state of a run over own logs
-pub record Reached (s : Federation) : Type 0 where
-  pub facts : Facts s
-  pub sessions : FitSessions (length s.kinds) s.coordinators s.sessions
-  pub opened : OpenedFit s
-
 module _ (kinds : List Kind) (coords : ℕ) (fm fc : ℕ → Found) (hs : List Happening) (g : AreOpenable kinds coords fm fc) (own : AreOwnLogs kinds coords fm fc)
     (v : AreTrueVerdicts hs (opened kinds coords fm fc)) (names : AreOwn (length kinds) coords hs) where
-  abbrev reached_state : Federation
-  reached_state = run hs (opened kinds coords fm fc)
-
-  reached_facts : Facts (run hs (opened kinds coords fm fc))
-  reached_facts = run_keeps hs (opened kinds coords fm fc) (start_facts kinds coords fm fc g) v
-
-  fit : Fit (length kinds) coords (opened kinds coords fm fc) (run hs (opened kinds coords fm fc))
-  fit = run_fits (length kinds) coords hs (opened kinds coords fm fc) (λ u session e. absurd (let y : None ≡ Some session = sym (look_none u) ∙ e in cc)) names
-
-  pub reached : Reached (run hs (opened kinds coords fm fc))
-  reached =
-      record {
-        facts = reached_facts;
-        sessions = subst (λ k. FitSessions (length k) (run hs (opened kinds coords fm fc)).coordinators (run hs (opened kinds coords fm fc)).sessions) (sym fit.kinds)
-            (subst (λ k. FitSessions (length kinds) k (run hs (opened kinds coords fm fc)).sessions) (sym fit.coordinators) fit.sessions);
-        opened = record {
-          votes = λ m u c h. subst (λ k. IsBetween c k) (sym fit.coordinators) (own.votes m u c (ap (λ k. votes_for (look (recovered_view (k m)).voted u) c) (sym (run_grows hs (opened kinds coords fm fc)).members) ∙ h));
-          commits = λ c u m members h k. subst (λ n. IsBetween m (length n)) (sym fit.kinds)
-              (member_is kinds coords fm fc own.own m u (g.sound.participants u c m members (ap (λ n. unended_in (n c) u) (sym (run_grows hs (opened kinds coords fm fc)).coords) ∙ h) k));
-        };
-      }
+  here : Reached (run hs (opened kinds coords fm fc))
+  here = reached kinds coords fm fc hs g own v names
 
   -- where every armed stop was taken away
   pub calm : Calm (disarmed (run hs (opened kinds coords fm fc)))
   calm =
       let s = run hs (opened kinds coords fm fc) in
       record {
-        facts = step_keeps s reached.facts happening.Disarm tt;
-        sessions = reached.sessions;
-        opened = record { votes = reached.opened.votes; commits = reached.opened.commits };
+        facts = step_keeps s here.facts happening.Disarm tt;
+        sessions = here.sessions;
+        opened = record { votes = here.opened.votes; commits = here.opened.commits };
         members = λ m. refl;
         coords = λ c. refl;
       }
 
   -- settling is never stuck
   pub never_stuck : (t : ℕ) → IsOpen (run hs (opened kinds coords fm fc)) t → SettlesBy (run hs (opened kinds coords fm fc))
-  never_stuck t open' = settles_by (run hs (opened kinds coords fm fc)) reached.facts reached.sessions reached.opened t open'
+  never_stuck t open' = settles_by (run hs (opened kinds coords fm fc)) here.facts here.sessions here.opened t open'
 
   pub calm_at : IsUnarmed (run hs (opened kinds coords fm fc)) → Calm (run hs (opened kinds coords fm fc))
-  calm_at u = record { facts = reached.facts; sessions = reached.sessions; opened = reached.opened; members = u.members; coords = u.coords }
+  calm_at u = record { facts = here.facts; sessions = here.sessions; opened = here.opened; members = u.members; coords = u.coords }
 
   pub served : IsUnarmed (run hs (opened kinds coords fm fc)) → AllUp (run hs (opened kinds coords fm fc)) → (e : Exchange) → IsEnabled (run hs (opened kinds coords fm fc)) e →
       AreServed (turn_events (run hs (opened kinds coords fm fc)) (Exchanges e)) (run hs (opened kinds coords fm fc))
@@ -152,6 +107,7 @@ module _ (kinds : List Kind) (coords : ℕ) (fm fc : ℕ → Found) (hs : List H
       let b = most_down s in
       let c = left_most s in
       let d = ap length settling.same in
+      let fit = fits kinds coords fm fc hs g own v names in
       let e = ap length fit.kinds in
       let k = fit.coordinators in
       omega (arith, few, some, a, b, c, d, e, k)

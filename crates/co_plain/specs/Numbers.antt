@@ -1,5 +1,5 @@
 -- Numbers, and lists of them.
-use Rattle.std.specs.Prelude.{ℕ, Bool, ◌==◌, ◌+◌, min, not, List, filter, find, Option}
+use Rattle.std.specs.Prelude.{ℕ, Bool, ◌==◌, ◌≤◌, ◌+◌, min, not, List, filter, find, Option}
 use Rattle.std.specs.List.{list_any}
 
 -- What a number is. All are natural numbers, so a name says what is meant and asks for nothing.
@@ -28,6 +28,10 @@ Place = ℕ
 
 abbrev pub LineNumber : Type 0
 LineNumber = ℕ
+
+-- a number from 1 to a count: what members, coordinators and other nodes are numbered by
+abbrev pub IsAmong : ℕ → ℕ → Type 0
+IsAmong n count = (1 ≤ n) × (n ≤ count)
 
 -- A count of 16 bits, and a generation of 32, stand still at the end of their type.
 abbrev pub counted : ℕ → ℕ

@@ -10,6 +10,7 @@ use Rattle.co_state.specs.Table.{look, holds}
 use Rattle.co_plain.specs.declared.happening.Happening.{Happening}
 use Rattle.co_plain.specs.declared.happening.Happening.TheVariants as happening
 use Rattle.co_plain.specs.declared.session.Session.{Session}
+use Rattle.co_plain.specs.Numbers.{IsAmong}
 use Rattle.co_plain.specs.Member.{most_operations}
 use Rattle.co_plain.specs.MemberView.{recovered_view, first_refused_at_member}
 use Rattle.co_plain.specs.Sessions.{count_at}
@@ -43,17 +44,14 @@ abbrev pub AreTrueVerdicts : List Happening → Federation → Type 0
 AreTrueVerdicts [] s = Unit {0}
 AreTrueVerdicts (h ∷ hs) s = IsTrueVerdict s h × AreTrueVerdicts hs (step s h).state
 
-abbrev pub IsBetween : ℕ → ℕ → Type 0
-IsBetween n most = (1 ≤ n) × (n ≤ most)
-
 -- Begins and operations name nodes of the federation; what else happens may name any.
 abbrev pub NamesOwnNode : ℕ → ℕ → Event → Type 0
-NamesOwnNode members coords (event.Begin t c) = IsBetween c coords
-NamesOwnNode members coords (event.Local t m) = IsBetween m members
-NamesOwnNode members coords (event.Read t m key) = IsBetween m members
-NamesOwnNode members coords (event.Write t m key value) = IsBetween m members
-NamesOwnNode members coords (event.Erase t m key) = IsBetween m members
-NamesOwnNode members coords (event.Scan t m span) = IsBetween m members
+NamesOwnNode members coords (event.Begin t c) = IsAmong c coords
+NamesOwnNode members coords (event.Local t m) = IsAmong m members
+NamesOwnNode members coords (event.Read t m key) = IsAmong m members
+NamesOwnNode members coords (event.Write t m key value) = IsAmong m members
+NamesOwnNode members coords (event.Erase t m key) = IsAmong m members
+NamesOwnNode members coords (event.Scan t m span) = IsAmong m members
 NamesOwnNode members coords _ = Unit {0}
 
 abbrev pub IsOwn : ℕ → ℕ → Happening → Type 0
@@ -66,13 +64,13 @@ AreOwn members coords (h ∷ hs) = IsOwn members coords h × AreOwn members coor
 
 -- a node of a federation with so many members and coordinators
 abbrev pub IsOwnNode : ℕ → ℕ → Node → Type 0
-IsOwnNode members coords (node.Member m) = IsBetween m members
-IsOwnNode members coords (node.Coord c) = IsBetween c coords
+IsOwnNode members coords (node.Member m) = IsAmong m members
+IsOwnNode members coords (node.Coord c) = IsAmong c coords
 
 -- the opened logs are those of the federation's own nodes, and their votes name its coordinators
 pub record AreOwnLogs (kinds : List Kind) (coords : ℕ) (found_member found_coord : ℕ → Found) : Type 0 where
   pub own : OnlyOwnLogs kinds coords found_member found_coord
-  pub votes : (m t c : ℕ) → votes_for (look (recovered_view (found_member m).records).voted t) c ≡ true → IsBetween c coords
+  pub votes : (m t c : ℕ) → votes_for (look (recovered_view (found_member m).records).voted t) c ≡ true → IsAmong c coords
 
 -- Logs of which every premise of the laws holds: they may be opened, they are those of the federation's own nodes, with votes
 -- that name its coordinators, and the grammars allow them.
@@ -86,5 +84,5 @@ pub record MayBeOpened (kinds : List Kind) (coords : ℕ) (found_member found_co
 -- members alone, and of a bounded number at each.
 pub record IsOwnSession (members coords : ℕ) (session : Session) : Type 0 where
   pub home : IsOwnNode members coords session.by
-  pub sites : (m : ℕ) → 1 ≤ count_at session.told m → IsBetween m members
+  pub sites : (m : ℕ) → 1 ≤ count_at session.told m → IsAmong m members
   pub few : (m : ℕ) → count_at session.told m ≤ most_operations

@@ -1,5 +1,5 @@
 -- Open transactions, enabled exchanges, and quiet states: those in which nothing but a timer can help.
-use Rattle.std.specs.Prelude.{ℕ, zero, suc, Bool, true, false, not, ◌&&◌, ◌||◌, ◌≡◌, ◌≤◌, ◌+◌, ◌*◌, List, map, filter, length, Option, None, Some}
+use Rattle.std.specs.Prelude.{ℕ, zero, suc, Bool, true, false, not, ◌&&◌, ◌||◌, ◌≡◌, ◌+◌, ◌*◌, List, map, filter, length, Option, None, Some}
 use Rattle.std.specs.FinMap.{entries, keys}
 use Rattle.co_base.specs.declared.node.Node.{Node}
 use Rattle.co_base.specs.declared.node.Node.TheVariants as node
@@ -8,7 +8,7 @@ use Rattle.co_state.specs.Table.{look, holds}
 use Rattle.co_state.specs.declared.verdict.Verdict.{Verdict}
 use Rattle.co_state.specs.declared.verdict.Verdict.TheVariants.{LostOperations, StaleRead, HeldBy, VoteYes}
 use Rattle.co_state.specs.VotingRule.{vote_of}
-use Rattle.co_plain.specs.Numbers.{TxnNumber, MemberNumber, CoordNumber, has_number}
+use Rattle.co_plain.specs.Numbers.{TxnNumber, MemberNumber, CoordNumber, IsAmong, has_number}
 use Rattle.co_plain.specs.declared.coord_state.Entry.{Entry}
 use Rattle.co_plain.specs.declared.coord_state.Entry.TheVariants as entry
 use Rattle.co_plain.specs.declared.member_state.AskedMark.{AskedMark}
@@ -23,10 +23,10 @@ use Rattle.co_plain.specs.Opening.{with_all, union_to}
 use Rattle.co_plain.specs.Federation.{Federation}
 
 abbrev pub IsMember : Federation → MemberNumber → Type 0
-IsMember s m = (1 ≤ m) × (m ≤ length s.kinds)
+IsMember s m = IsAmong m (length s.kinds)
 
 abbrev pub IsCoordinator : Federation → CoordNumber → Type 0
-IsCoordinator s c = (1 ≤ c) × (c ≤ s.coordinators)
+IsCoordinator s c = IsAmong c s.coordinators
 
 abbrev pub node_up : Federation → Node → Bool
 node_up s (node.Member m) = (s.member m).up

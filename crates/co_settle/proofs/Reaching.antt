@@ -27,10 +27,11 @@ use Rattle.co_law.proofs.WritableRuns.{are_writable}
 use Rattle.co_law.specs.MessageHomes.{IsHome, Belongs, CommittedBefore, MessagesNameHomes}
 use Rattle.co_law_base.proofs.Lookups.{is_nothing, look_none}
 use Rattle.co_law_moves.proofs.Growing.{run_grows}
-use Rattle.co_plain.specs.Premises.{AreTrueVerdicts, IsTrueVerdict, AreOwn, AreOwnLogs, IsOwn, IsBetween, NamesOwnNode, IsOwnNode}
+use Rattle.co_plain.specs.Premises.{AreTrueVerdicts, IsTrueVerdict, AreOwn, AreOwnLogs, IsOwn, NamesOwnNode, IsOwnNode}
+use Rattle.co_plain.specs.Numbers.{IsAmong}
 use Rattle.co_law_node.specs.WholeNodes.{AreWhole, AreWritable}
 use Rattle.co_law_runs.proofs.Fitting.{Fit, run_fits}
-use Rattle.co_law_settle.proofs.Settled.{Reached, reached}
+use Rattle.co_law_runs.proofs.Reached.{Reached, reached}
 use Rattle.co_cluster.specs.Conditions.{IsReady}
 use Rattle.co_settle.specs.Reached.{IsReached}
 
@@ -124,24 +125,24 @@ module _ (s : Federation) (r : IsReached s) where
   opened_are = subst (λ z. z.opened_coord ≡ λ c. (r.found_coord c).records) r.is (run_grows r.happened s0).coords
 
   -- whose opened log has a commit is a coordinator of the federation
-  unended_own : (t c : ℕ) (members : List ℕ) → unended_in (s.opened_coord c) t ≡ Some members → IsBetween c s.coordinators
+  unended_own : (t c : ℕ) (members : List ℕ) → unended_in (s.opened_coord c) t ≡ Some members → IsAmong c s.coordinators
   unended_own t c members e = by (nat_le 1 c && nat_le c r.coords) refl
     where
-      by : (b : Bool) → (nat_le 1 c && nat_le c r.coords) ≡ b → IsBetween c s.coordinators
+      by : (b : Bool) → (nat_le 1 c && nat_le c r.coords) ≡ b → IsAmong c s.coordinators
       by true q = let p = and_parts (nat_le 1 c) (nat_le c r.coords) q in let low = p.0 in let high = p.1 in let k = coords_are in (grind (arith, nat_tests, low), let l : c ≤ r.coords = grind (arith, nat_tests, high) in omega (arith, l, k))
       by false q = is_nothing (sym (look_none t) ∙ ap (λ rs. unended_in rs t) (sym (ap (λ logs. logs c) opened_are ∙ r.may.own.coordinators c q)) ∙ e)
 
-  at_home : (t c : ℕ) → IsHome s t c → IsBetween c s.coordinators
+  at_home : (t c : ℕ) → IsHome s t c → IsAmong c s.coordinators
   at_home t c (CommittedBefore members e) = unended_own t c members e
   at_home t c (Belongs (VotedBefore m h)) = all_reached.opened.votes m t c h
   at_home t c (Belongs (BegunThere session e by)) = subst (IsOwnNode (length s.kinds) s.coordinators) by (all_reached.sessions t session e).home
 
   -- each message but an acknowledgement names a coordinator of the federation
   abbrev pub NamesCoord : Message → Type 0
-  NamesCoord (message.Prepare t c m n) = IsBetween c s.coordinators
-  NamesCoord (message.Vote t m c granted) = IsBetween c s.coordinators
-  NamesCoord (message.Decide t c m commit) = IsBetween c s.coordinators
-  NamesCoord (message.Ask t m c) = IsBetween c s.coordinators
+  NamesCoord (message.Prepare t c m n) = IsAmong c s.coordinators
+  NamesCoord (message.Vote t m c granted) = IsAmong c s.coordinators
+  NamesCoord (message.Decide t c m commit) = IsAmong c s.coordinators
+  NamesCoord (message.Ask t m c) = IsAmong c s.coordinators
   NamesCoord (message.Ack t m c) = Unit {0}
 
   pub sent_names : (note : Message) → was_sent s.sent note ≡ true → NamesCoord note

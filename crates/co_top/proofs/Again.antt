@@ -21,27 +21,27 @@ use Rattle.co_plain.specs.MemberView.{first_refused_at_member}
 use Rattle.co_plain.specs.Opening.{Found}
 use Rattle.co_law_node.specs.WholeNodes.{AreWhole, AreWritable}
 use Rattle.co_law_node.specs.Writable.{IsWithinBounds}
-use Rattle.co_plain.specs.Premises.{IsBetween}
+use Rattle.co_plain.specs.Numbers.{IsAmong}
 
 -- whether there is a node of this number
 abbrev pub is_one : ℕ → ℕ → Bool
 is_one n count = nat_le 1 n && nat_le n count
 
-pub one_between : (n count : ℕ) → is_one n count ≡ true → IsBetween n count
+pub one_between : (n count : ℕ) → is_one n count ≡ true → IsAmong n count
 one_between n count e = by (nat_le 1 n) (nat_le n count) refl refl e
   where
-    by : (a b : Bool) → nat_le 1 n ≡ a → nat_le n count ≡ b → (a && b) ≡ true → IsBetween n count
+    by : (a b : Bool) → nat_le 1 n ≡ a → nat_le n count ≡ b → (a && b) ≡ true → IsAmong n count
     by true true low high e = (leb-true 1 n low, leb-true n count high)
     by true false low high e = absurd cc
     by false b low high e = absurd cc
 
-between_one : (n count : ℕ) → IsBetween n count → is_one n count ≡ true
+between_one : (n count : ℕ) → IsAmong n count → is_one n count ≡ true
 between_one n count between = rw (le-leb 1 n between.0, le-leb n count between.1) refl
 
 -- the nodes of a sort, in whose files these records are
-module _ (file : Spot → Option File) (sort : ℕ → Node) (logs : ℕ → List Record) (count : ℕ) (has : (n : ℕ) → IsBetween n count → (items : Items) × HasRecordsIn file (sort n) items × (newest_first items ≡ logs n)) where
+module _ (file : Spot → Option File) (sort : ℕ → Node) (logs : ℕ → List Record) (count : ℕ) (has : (n : ℕ) → IsAmong n count → (items : Items) × HasRecordsIn file (sort n) items × (newest_first items ≡ logs n)) where
   -- what is found of one of them, and of what is none
-  abbrev pub found_of : (n : ℕ) → IsBetween n count → Found
+  abbrev pub found_of : (n : ℕ) → IsAmong n count → Found
   found_of n between =
       let it = has n between in
       record { records = newest_first it.0; spare_closed = begins_closed (if it.1.0 == 0 then it.1.1.b else it.1.1.a) }
@@ -53,12 +53,12 @@ module _ (file : Spot → Option File) (sort : ℕ → Node) (logs : ℕ → Lis
   abbrev pub found_at : ℕ → Found
   found_at n = found_if n (is_one n count) refl
 
-  found_in : (n : ℕ) (between : IsBetween n count) → IsFoundIn file (sort n) (found_of n between)
+  found_in : (n : ℕ) (between : IsAmong n count) → IsFoundIn file (sort n) (found_of n between)
   found_in n between =
       let it = has n between in
       record { part = it.1.0; items = it.0; current = it.1.1; records = refl; spare = refl }
 
-  pub is_found : (n : ℕ) → IsBetween n count → IsFoundIn file (sort n) (found_at n)
+  pub is_found : (n : ℕ) → IsAmong n count → IsFoundIn file (sort n) (found_at n)
   is_found n between = by (is_one n count) refl
     where
       by : (b : Bool) (e : is_one n count ≡ b) → IsFoundIn file (sort n) (found_if n b e)
@@ -73,7 +73,7 @@ module _ (file : Spot → Option File) (sort : ℕ → Node) (logs : ℕ → Lis
       by false e = refl
 
   -- what holds of the records of each, and of none, holds of what is found
-  pub all_found : (P : List Record → Type 0) → P [] → ((n : ℕ) → IsBetween n count → P (logs n)) → (n : ℕ) → P (found_at n).records
+  pub all_found : (P : List Record → Type 0) → P [] → ((n : ℕ) → IsAmong n count → P (logs n)) → (n : ℕ) → P (found_at n).records
   all_found P empty each n = by (is_one n count) refl
     where
       by : (b : Bool) (e : is_one n count ≡ b) → P (found_if n b e).records
@@ -84,8 +84,8 @@ module _ (file : Spot → Option File) (sort : ℕ → Node) (logs : ℕ → Lis
 
 -- The files have the stable records of a state whose nodes are whole and writable: what they have then may be run.
 module _ (file : Spot → Option File) (kinds : List Kind) (coords : ℕ) (s : Federation) (whole : AreWhole (length kinds) coords s) (writable : AreWritable (length kinds) coords s)
-    (members : (m : ℕ) → IsBetween m (length kinds) → (items : Items) × HasRecordsIn file (node.Member m) items × (newest_first items ≡ (s.member m).log.stable))
-    (coordinators : (c : ℕ) → IsBetween c coords → (items : Items) × HasRecordsIn file (node.Coord c) items × (newest_first items ≡ (s.coord c).log.stable)) where
+    (members : (m : ℕ) → IsAmong m (length kinds) → (items : Items) × HasRecordsIn file (node.Member m) items × (newest_first items ≡ (s.member m).log.stable))
+    (coordinators : (c : ℕ) → IsAmong c coords → (items : Items) × HasRecordsIn file (node.Coord c) items × (newest_first items ≡ (s.coord c).log.stable)) where
   abbrev fm : ℕ → Found
   fm = found_at file node.Member (λ m. (s.member m).log.stable) (length kinds) members
 

@@ -31,7 +31,8 @@ use Rattle.co_durable.specs.Recovering.{member_refuses, coord_refuses}
 use Rattle.co_durable.specs.Told as files
 use Rattle.co_law_base.proofs.ImageRules.{EachEntry, each_entry}
 use Rattle.co_law_node.specs.WholeNodes.{AreWhole}
-use Rattle.co_plain.specs.Premises.{AreTrueVerdicts, IsBetween, AreOwn}
+use Rattle.co_plain.specs.Premises.{AreTrueVerdicts, AreOwn}
+use Rattle.co_plain.specs.Numbers.{IsAmong}
 use Rattle.co_law_runs.proofs.Agreement.{run_more}
 use Rattle.co_law.proofs.EveryRun.{every_log, every_sound}
 use Rattle.co_law.proofs.GoingOn.{lines_true}
@@ -53,7 +54,7 @@ all_but_last file (y ∷ ys) x a = let rest = all_but_last file ys x a.1 in ((a.
 as_told : (file : Spot → Option File) (n : Node) → files.IsTold file n → AreTold file n
 as_told file n t = record { a = t.0; b = t.1; is_a = t.2; is_b = t.3 }
 
-told_at : (file : Spot → Option File) (sort : ℕ → Node) (count n : ℕ) → AllByRecursion (files.IsTold file) (numbered sort count) → IsBetween n count → AreTold file (sort n)
+told_at : (file : Spot → Option File) (sort : ℕ → Node) (count n : ℕ) → AllByRecursion (files.IsTold file) (numbered sort count) → IsAmong n count → AreTold file (sort n)
 told_at file sort zero n all between = absurd (omega (arith, between.0, between.1))
 told_at file sort (suc count) n all between =
     let parts = all_but_last file (numbered sort count) (sort (suc count)) all in
@@ -90,7 +91,7 @@ module _ (file : Spot → Option File) (members coords : ℕ) (s : Federation) (
   as_all [] h = tt
   as_all (e ∷ es) h = (h.0, as_all es h.1)
 
-  same_durable : (m : ℕ) → IsBetween m members → durable_records (log_of in_members.lists) (log_of in_coords.lists) m ≡ durable_in s m
+  same_durable : (m : ℕ) → IsAmong m members → durable_records (log_of in_members.lists) (log_of in_coords.lists) m ≡ durable_in s m
   same_durable m between =
       ap (λ rs. durable_records (λ n. rs) (log_of in_coords.lists) m) (in_members.are m between)
       ∙ (let v = recovered_view (s.member m).log.stable in

@@ -11,7 +11,7 @@ use Rattle.co_serial.specs.SerialRun.{AllRecords}
 use Rattle.co_state.specs.declared.engine_state.Vote.{Vote}
 use Rattle.co_plain.specs.CoordView.{has_commit_of}
 use Rattle.co_plain.specs.DurableRecords.{with_decided}
-use Rattle.co_plain.specs.Premises.{IsBetween}
+use Rattle.co_plain.specs.Numbers.{IsAmong}
 use Rattle.co_durable.specs.Durable.{log_of, numbered_rows}
 use Rattle.co_durable.specs.Laying.{member_rows}
 use Rattle.co_durable.specs.Nodes.{numbered}
@@ -26,7 +26,7 @@ pub record Gathered (file : Spot → Option File) (sort : ℕ → Node) (P : Ite
   pub read : EachPair (HasRecordsIn file) (numbered sort count) lists
   pub many : length lists ≡ count
   pub each : AllByRecursion P lists
-  pub are : (n : ℕ) → IsBetween n count → log_of lists n ≡ logs n
+  pub are : (n : ℕ) → IsAmong n count → log_of lists n ≡ logs n
 
 module _ (file : Spot → Option File) (sort : ℕ → Node) (P : Items → Type 0) (logs : ℕ → List Record) where
   one_more : (count : ℕ) → Gathered file sort P logs count → (items : Items) → HasRecordsIn file (sort (suc count)) items → P items → newest_first items ≡ logs (suc count) →
@@ -46,7 +46,7 @@ module _ (file : Spot → Option File) (sort : ℕ → Node) (P : Items → Type
       so_many : length all ≡ count
       so_many = map_count newest_first g.lists ∙ g.many
 
-      by : (n : ℕ) → IsBetween n (suc count) → (n ≤ count) ⊎ (n ≡ suc count) → log_of (g.lists ++ items ∷ []) n ≡ logs n
+      by : (n : ℕ) → IsAmong n (suc count) → (n ≤ count) ⊎ (n ≡ suc count) → log_of (g.lists ++ items ∷ []) n ≡ logs n
       by n between (inl few) =
           ap (λ (ls : List (List Record)). get_or ls (n - 1) []) (map_more newest_first g.lists items)
           ∙ get_before all (newest_first items) [] (n - 1) (subst (λ k. n - 1 < k) (sym so_many) (omega (arith, between.0, few)))
@@ -56,7 +56,7 @@ module _ (file : Spot → Option File) (sort : ℕ → Node) (P : Items → Type
           ∙ get_last all (newest_first items) [] (n - 1) (omega (arith, last) ∙ sym so_many)
           ∙ is ∙ ap logs (sym last)
 
-  pub gather : (count : ℕ) → ((n : ℕ) → IsBetween n count → (items : Items) × HasRecordsIn file (sort n) items × P items × (newest_first items ≡ logs n)) → Gathered file sort P logs count
+  pub gather : (count : ℕ) → ((n : ℕ) → IsAmong n count → (items : Items) × HasRecordsIn file (sort n) items × P items × (newest_first items ≡ logs n)) → Gathered file sort P logs count
   gather zero f = record { lists = []; read = tt; many = refl; each = tt; are = λ n between. absurd (omega (arith, between.0, between.1)) }
   gather (suc count) f =
       let last = f (suc count) (omega arith, omega arith) in

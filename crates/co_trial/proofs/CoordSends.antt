@@ -18,13 +18,12 @@ use Rattle.co_plain.specs.declared.coord_state.Entry.TheVariants as entry
 use Rattle.co_plain.specs.declared.coord_step.CoordStep.{CoordStep}
 use Rattle.co_plain.specs.declared.outcome.Outcome.{Outcome}
 use Rattle.co_plain.specs.declared.outcome.Outcome.TheVariants.{Completes, StopsAt}
-use Rattle.co_plain.specs.Numbers.{first_lacking, has_number, numbers_lacking, next_generation}
+use Rattle.co_plain.specs.Numbers.{first_lacking, has_number, numbers_lacking, next_generation, IsAmong}
 use Rattle.co_plain.specs.LogWrite.{outcome_of, generation_of}
 use Rattle.co_plain.specs.CoordStep.{coord_says, with_table, has_part, members_of, stopped_coord, coord_forced_by, force_coord}
 use Rattle.co_plain.specs.CoordView.{all_up_to}
 use Rattle.co_plain.specs.Coordinator.{prepares_to, decisions_to, parts_lacking, ask_commit, commit_entry, coord_commit, aborts, abort_entry, coord_abort, waits, decided_by, yes_entry, no_entry, coord_vote, ask_entry, coord_ask, ended_by, ack_entry, coord_ack, timer_entry, coord_timer, resend_entry, coord_resend}
 use Rattle.co_plain.specs.CoordLog.{coord_stopped_fill, coord_fill_by, coord_close_by, coord_checkpoint_by, coord_checkpoint, coord_restart_by, coord_restart}
-use Rattle.co_plain.specs.Premises.{IsBetween}
 use Rattle.co_trial.proofs.InHead.{InHead}
 
 -- what one step of a coordinator sends
@@ -33,7 +32,7 @@ CoordSends n k did = AllByRecursion (InHead n k) did.sent
 
 -- numbers of members of the head
 abbrev pub AreMembers : ℕ → List ℕ → Type 0
-AreMembers n ms = AllByRecursion (λ m. IsBetween m n) ms
+AreMembers n ms = AllByRecursion (λ m. IsAmong m n) ms
 
 pub members_up : (n : ℕ) (ms : List ℕ) → all_up_to n ms ≡ true → AreMembers n ms
 members_up n [] h = tt
@@ -140,7 +139,7 @@ module _ (n k c : ℕ) (y : CoordState) (fits : (t : ℕ) (e : Entry) → look y
       by (Some (entry.Committed ms acks)) e = tt
 
   -- who asked is a member
-  pub sends_answer : (t m : ℕ) → IsBetween m n → CoordSends n k (coord_ask c y t m)
+  pub sends_answer : (t m : ℕ) → IsAmong m n → CoordSends n k (coord_ask c y t m)
   sends_answer t m own = by (look y.table t)
     where
       by : (o : Option Entry) → CoordSends n k (ask_entry c y t m o)

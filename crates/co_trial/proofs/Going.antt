@@ -26,7 +26,8 @@ use Rattle.co_state.specs.declared.engine_state.EngineState.{EngineState}
 use Rattle.co_law.proofs.FreshLogs.{empty_openable}
 use Rattle.co_law.proofs.GoingOn.{transcript_more, lines_true}
 use Rattle.co_law_base.proofs.Lookups.{is_nothing, look_none}
-use Rattle.co_plain.specs.Premises.{AreOwn, NamesOwnNode, IsBetween}
+use Rattle.co_plain.specs.Premises.{AreOwn, NamesOwnNode}
+use Rattle.co_plain.specs.Numbers.{IsAmong}
 use Rattle.co_law_runs.proofs.Agreement.{run_more}
 use Rattle.co_law_runs.proofs.Fitting.{Fit, run_fits}
 use Rattle.co_settle.specs.Reached.{IsReached}
@@ -151,7 +152,7 @@ module _ (o : Opened) where
     headed sent =
         record {
           sent = sent;
-          decisions = λ t c m commit h. subst (IsBetween c) coords_same (named (message.Decide t c m commit) h);
+          decisions = λ t c m commit h. subst (IsAmong c) coords_same (named (message.Decide t c m commit) h);
           sessions = fit.sessions;
           coord = λ c. subst (λ ks. IsWholeCoord (length ks) (z.coord c)) kinds_same ((ready z reached).whole.coord c);
         }
@@ -213,18 +214,18 @@ module _ (o : Opened) where
           three : members ≡ 3
           three = ap length o.kinds
 
-          m_of : (m : ℕ) → IsBetween m members → IsBetween m 3
-          m_of m h = subst (IsBetween m) three h
+          m_of : (m : ℕ) → IsAmong m members → IsAmong m 3
+          m_of m h = subst (IsAmong m) three h
 
-          c_of : (c : ℕ) → IsBetween c here.coordinators → IsBetween c 2
-          c_of c h = subst (IsBetween c) (coords_same es g.valid ∙ o.coords) h
+          c_of : (c : ℕ) → IsAmong c here.coordinators → IsAmong c 2
+          c_of c h = subst (IsAmong c) (coords_same es g.valid ∙ o.coords) h
 
           by : (note : Message) → InHead members coords note → NamesCoord here (reached es g.valid) note → IsForHead 3 2 note
           by (message.Prepare t c m count) h k = (m_of m h, c_of c k)
           by (message.Vote t m c granted) h k = (m_of m h, c_of c k)
           by (message.Decide t c m commit) h k = (m_of m h, c_of c k)
           by (message.Ask t m c) h k = (m_of m h, c_of c k)
-          by (message.Ack t m c) h k = (m_of m h.0, subst (IsBetween c) o.coords h.1)
+          by (message.Ack t m c) h k = (m_of m h.0, subst (IsAmong c) o.coords h.1)
 
       module _ (e : Event) (next : Making) (is : (e, next) ≡ next_event w.wire maker) (fields : HasFields e) where
         step_is : (e, next) ≡ next_event here.sent (first_made (start_of o) number place).making

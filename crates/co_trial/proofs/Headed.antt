@@ -36,7 +36,7 @@ use Rattle.co_schedule.specs.View.{IsEventFor}
 use Rattle.co_law_base.proofs.Sending.{send_cases, parts_told}
 use Rattle.co_law_node.proofs.AllowedCommits.{commits_from, unended_up}
 use Rattle.co_law_node.specs.WholeCoords.{IsWholeCoord, FitsRecords, commits_of}
-use Rattle.co_plain.specs.Premises.{IsBetween}
+use Rattle.co_plain.specs.Numbers.{IsAmong}
 use Rattle.co_law_runs.proofs.Fitting.{FitSessions}
 use Rattle.co_law.proofs.NodeRuns.{MayAct, end_acts}
 use Rattle.co_trial.proofs.InHead.{InHead}
@@ -44,7 +44,7 @@ use Rattle.co_trial.proofs.MemberSends.{MemberSends, quiet, sends_prepare, sends
 use Rattle.co_trial.proofs.CoordSends.{CoordSends, AreMembers, members_up, EntryFits, sends_commit, sends_abort, sends_counted, sends_answer, sends_acknowledged, sends_timer, sends_again, sends_restart, sends_checkpoint}
 
 -- participants are members where each of them is
-each_member : (n : ℕ) (ps : List Part) → ((m : ℕ) → has_part ps m ≡ true → IsBetween m n) → AreMembers n (members_of ps)
+each_member : (n : ℕ) (ps : List Part) → ((m : ℕ) → has_part ps m ≡ true → IsAmong m n) → AreMembers n (members_of ps)
 each_member n [] h = tt
 each_member n (p ∷ ps) h =
     (h p.member (or_left (p.member == p.member) (has_part ps p.member) (eq-eqb p.member p.member refl)), each_member n ps (λ m q. h m (or_right (p.member == m) (has_part ps m) q)))
@@ -56,7 +56,7 @@ AreInHead n k s = (note : Message) → was_sent s.sent note ≡ true → InHead 
 -- What a state is, that its steps send to nodes of the head alone.
 pub record IsHeaded (n k : ℕ) (s : Federation) : Type 0 where
   pub sent : AreInHead n k s
-  pub decisions : (t c m : ℕ) (commit : Bool) → was_sent s.sent (message.Decide t c m commit) ≡ true → IsBetween c k
+  pub decisions : (t c m : ℕ) (commit : Bool) → was_sent s.sent (message.Decide t c m commit) ≡ true → IsAmong c k
   pub sessions : FitSessions n k s.sessions
   pub coord : (c : ℕ) → IsWholeCoord n (s.coord c)
 

@@ -20,13 +20,12 @@ use Rattle.co_plain.specs.declared.member_state.MemberState.{MemberState}
 use Rattle.co_plain.specs.declared.member_step.MemberStep.{MemberStep}
 use Rattle.co_plain.specs.declared.outcome.Outcome.{Outcome}
 use Rattle.co_plain.specs.declared.outcome.Outcome.TheVariants.{Completes, StopsAt}
-use Rattle.co_plain.specs.Numbers.{counted, next_generation}
+use Rattle.co_plain.specs.Numbers.{counted, next_generation, IsAmong}
 use Rattle.co_plain.specs.LogWrite.{outcome_of, generation_of}
 use Rattle.co_plain.specs.MemberStep.{says, standing_by, stopped_member, forced_by, force_member}
 use Rattle.co_plain.specs.Member.{most_operations, prepare_record, voted_state, installed_state, unless_blocked, member_op, vote_by, vote_on, with_mark, prepare_by, member_prepare, vote_where_asked, vote_again_by, member_vote, commit_by, abort_by, member_decide, timer_by, member_timer, ask_by, member_ask, coord_of}
 use Rattle.co_plain.specs.MemberLog.{stopped_fill, fill_by, close_by, checkpoint_by, member_checkpoint, restart_by, member_restart}
 use Rattle.co_plain.specs.LocalCommit.{local_coord, local_commit_by, member_local_commit, local_abort_by, member_local_abort}
-use Rattle.co_plain.specs.Premises.{IsBetween}
 use Rattle.co_trial.proofs.InHead.{InHead}
 
 -- what one step of a member sends, if anything
@@ -51,7 +50,7 @@ module _ (n k : ℕ) where
       by Completes = h
       by (StopsAt call leaves) = stopped call (batch_is_stable call leaves)
 
-  votes : (m : ℕ) (x : MemberState) (t coord count : ℕ) → IsBetween m n → MemberSends n k (vote_on m x t coord count)
+  votes : (m : ℕ) (x : MemberState) (t coord count : ℕ) → IsAmong m n → MemberSends n k (vote_on m x t coord count)
   votes m x t coord count own = by (vote_of x.engine t count)
     where
       by : (v : Verdict) → MemberSends n k (vote_by m x t coord count v)
@@ -62,7 +61,7 @@ module _ (n k : ℕ) where
           forced m (voted_state x t coord count) (prepare_record t coord count (sets_of (operations_of x.engine t)) ∷ []) answer.Yes (Some (message.Vote t m coord true))
           (only (message.Vote t m coord true) own)
 
-  module _ (m : ℕ) (own : IsBetween m n) (x : MemberState) where
+  module _ (m : ℕ) (own : IsAmong m n) (x : MemberState) where
     pub sends_prepare : (t coord count : ℕ) → MemberSends n k (member_prepare m x t coord count)
     sends_prepare t coord count = by (holds x.engine.active t) (holds x.engine.voted t) refl (holds x.committed t)
       where
