@@ -8,7 +8,7 @@ use Rattle.co_message.specs.declared.answer.Answer.{Answer}
 use Rattle.co_message.specs.declared.answer.Answer.TheVariants as answer
 use Rattle.co_message.specs.declared.item.ItemKind.TheVariants as item
 use Rattle.co_state.specs.Table.{look, holds}
-use Rattle.co_law_node.specs.WholeMembers.{IsAmong}
+use Rattle.co_plain.specs.Numbers.{IsAmong}
 use Rattle.co_plain.specs.declared.coord_state.CoordState.{CoordState}
 use Rattle.co_plain.specs.declared.member_state.MemberState.{MemberState}
 use Rattle.co_plain.specs.declared.member_step.MemberStep.{MemberStep}
@@ -85,7 +85,7 @@ module _ (s : Federation) (t : ℕ) where
 
 module _ (s : Federation) where
   -- a member commits or aborts alone while it is up
-  pub ends_alone : IsReady s → (m : ℕ) → IsAmong (length s.kinds) m → (how : Ending) (t carried : ℕ) (session : Session) → leave_to_end (look s.sessions t) ≡ Grants session → (s.member m).up ≡ true →
+  pub ends_alone : IsReady s → (m : ℕ) → IsAmong m (length s.kinds) → (how : Ending) (t carried : ℕ) (session : Session) → leave_to_end (look s.sessions t) ≡ Grants session → (s.member m).up ≡ true →
       MemberMay s.coordinators (member_asked how t carried) (s.member m)
   ends_alone ready m own ending.Commit t carried session may up = (
     up,
