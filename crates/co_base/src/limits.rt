@@ -1,4 +1,7 @@
-//! The limits of the files of a directory of logs.
+//! The limits of the files of a directory of logs, and of a run over it.
 
 /// The most bytes that a log file has: 268,435,456.
 pub const MOST_LOG_BYTES: u32 = 268_435_456;
+
+/// The most transactions whose numbers stand in the opened logs or are begun in the run over them: 65,536.
+pub const MOST_TRANSACTIONS: usize = 65_536;

@@ -1,5 +1,6 @@
 -- The logs of all nodes, with what they tell, as a federation may be opened over them.
 use Rattle.std.specs.Prelude.{ℕ, ◌≡◌, ◌<◌, false, Bool, List, length, Option}
+use Rattle.co_base.specs.Limits.{most_transactions}
 use Rattle.co_base.specs.declared.head.Head.{Head}
 use Rattle.co_outside.specs.declared.spot.Spot.{Spot}
 use Rattle.co_outside.specs.Home.{File}
@@ -33,7 +34,7 @@ IsUncounted numbers (Differs spot at kept read) = ⊥
 IsUncounted numbers (InUse spot) = ⊥
 IsUncounted numbers (Bad spot at) = ⊥
 IsUncounted numbers (Full spot) = ⊥
-IsUncounted numbers Count = 65536 < length numbers
+IsUncounted numbers Count = most_transactions < length numbers
 IsUncounted numbers (Old spot) = ⊥
 IsUncounted numbers Memory = Unit {0}
 

@@ -1,6 +1,7 @@
 -- The nodes of a federation that was opened, and why it was not.
 use Rattle.std.specs.Prelude.{ℕ, suc, false, true, Bool, ◌≡◌, ◌≤◌, ◌<◌, ◌⊎◌, ◌++◌, length, slice_get, Option, Some, Result, Ok, Err}
 use Rattle.std.specs.FinMap.{keys}
+use Rattle.co_base.specs.Limits.{most_transactions}
 use Rattle.co_base.specs.declared.head.Head.{Head}
 use Rattle.co_base.specs.declared.head.Kind.{Kind}
 use Rattle.co_outside.specs.declared.spot.Spot.{Spot}
@@ -35,7 +36,7 @@ pub record AreOpened {E : Type 0} (takes : Kind → Type 0) (stands_for : E → 
   pub member : (p : ℕ) (m : Member E) → slice_get n.members.items p ≡ Some m → IsMemberAt takes stands_for head.coords p m (opened_member head.kinds (suc p) (found_member (suc p)))
   pub coord : (p : ℕ) (c : Coord) → slice_get n.coords.items p ≡ Some c → IsCoordAt (length head.kinds) p c (opened_coord (suc p) (found_coord (suc p)))
   pub used : n.used ≡ keys (used_numbers (length head.kinds) head.coords found_member found_coord)
-  pub few : length n.used ≤ 65536
+  pub few : length n.used ≤ most_transactions
   pub marks : n.marks ≡ member_headers (length head.kinds) found_member ++ coord_headers head.coords found_coord
 
 -- the logs were found so, and more numbers stand in them than there may be
@@ -43,7 +44,7 @@ pub record AreTooMany (file : Spot → Option File) (head : Head) : Type 0 where
   pub found_member : ℕ → Found
   pub found_coord : ℕ → Found
   pub found : AreFound file (length head.kinds) head.coords found_member found_coord
-  pub many : 65536 < length (keys (used_numbers (length head.kinds) head.coords found_member found_coord))
+  pub many : most_transactions < length (keys (used_numbers (length head.kinds) head.coords found_member found_coord))
 
 -- Why the federation was not opened, by the files where the directory tells them. A log that is not resumed is refused where it is in use, and for nothing else;
 -- one that is resumed is refused where its files are no log or are too long, then where its records are not allowed, then where a current file is of version 1; and

@@ -1,20 +1,18 @@
 //! The numbers that stand in the logs.
 ghost use Rattle.std.specs.Prelude.{◌≡◌, ◌≤◌, IfOk, IfErr, OnOk, length, map};
 ghost use Rattle.std.specs.FinMap.{keys};
+ghost use Rattle.co_base.specs.Limits.{most_transactions};
 ghost use Rattle.co_plain.specs.MemberView.{with_numbers};
 ghost use Rattle.co_state.specs.Table.{no_entries};
 ghost use Rattle.co_opening.specs.Counted.{with_member, with_members, with_coords};
 ghost use Rattle.co_opening.specs.Judged.{IsUncounted};
 
-use co_base::{Txn, Txns};
+use co_base::{MOST_TRANSACTIONS, Txn, Txns};
 use co_durable::WorldFault;
 use co_pairs::Prepared;
 use co_recover::{CoordPast, MemberPast};
 use co_state::Table;
 use std::alloc::{AllocError, Global};
-
-/// The most transactions of a run.
-const MOST: usize = 65_536;
 
 /// Takes these numbers into a set.
 fn lay_numbers(used: &mut Table<()>, numbers: &[Txn]) -> Result<(), AllocError>
@@ -82,14 +80,14 @@ pub(crate) fn used_numbers(
     coords: &[CoordPast],
 ) -> Result<Txns, WorldFault>
     ensures used { IfOk result (λ used. used ≡ keys (with_coords (with_members no_entries members.now) coords.now)) }
-    ensures few { IfOk result (λ used. length used ≤ 65536) }
+    ensures few { IfOk result (λ used. length used ≤ most_transactions) }
     ensures uncounted { IfErr result (IsUncounted (keys (with_coords (with_members no_entries members.now) coords.now))) }
 {
     let mut used = Table::new(alloc);
     lay_members(&mut used, members)?;
     lay_coords(&mut used, coords)?;
     let numbers = numbers_in(alloc, &used)?;
-    if numbers.as_slice().len() > MOST {
+    if numbers.as_slice().len() > MOST_TRANSACTIONS {
         return Err(WorldFault::Count);
     }
     Ok(numbers)

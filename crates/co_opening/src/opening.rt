@@ -2,6 +2,7 @@
 ghost use Rattle.std.specs.Prelude.{◌≡◌, ◌≤◌, Bool, Option, IfOk, IfErr, IsErrOf, OnOk, length};
 ghost use Rattle.std.specs.FinMap.{keys};
 ghost use Rattle.std.specs.List.{AllByRecursion};
+ghost use Rattle.co_base.specs.Limits.{most_transactions};
 ghost use Rattle.co_base.specs.declared.node.Node.TheVariants as node;
 ghost use Rattle.co_outside.specs.Home.{File, HasFailed, IsClean};
 ghost use Rattle.co_outside.specs.declared.spot.Spot.{Spot};
@@ -38,7 +39,7 @@ fn make_nodes<E: Engine + Drop, H: Home>(
     requires kept_members { AreOwnLogs (H.seen home.old) node.Member 0 logs.members.items }
     requires kept_coords { AreOwnLogs (H.seen home.old) node.Coord 0 logs.coords.items }
     requires used { used ≡ keys (with_coords (with_members no_entries pasts.members.items) pasts.coords.items) }
-    requires few { length used ≤ 65536 }
+    requires few { length used ≤ most_transactions }
     ensures opened { (file : Spot → Option File) (resume : Bool) → AreJudged file resume head.now logs.members.items logs.coords.items pasts.members.items pasts.coords.items →
         IfOk result (AreOpened E.takes E.stands_for file head.now resume) }
     ensures kept { IfOk result (λ n. AreKept (H.seen home.new) n.members.items n.coords.items) }

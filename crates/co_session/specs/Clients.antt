@@ -1,5 +1,6 @@
 -- What the clients did, as plain data.
 use Rattle.std.specs.Prelude.{ℕ, Bool, ◌||◌, ◌+◌, ◌++◌, List, [], ◌∷◌, length, nat_le, Option, None, Some}
+use Rattle.co_base.specs.Limits.{most_transactions}
 use Rattle.co_base.specs.declared.node.Node.{Node}
 use Rattle.co_base.specs.declared.part.Part.{Part}
 use Rattle.co_state.specs.Table.{Table, look, put, holds, no_entries}
@@ -25,7 +26,7 @@ is_used x t = holds x.sessions t || has_number x.used t
 
 -- whether there are as many numbers as there may be
 abbrev pub is_full : Clients → Bool
-is_full x = nat_le 65536 (length x.begun + length x.used)
+is_full x = nat_le most_transactions (length x.begun + length x.used)
 
 -- a transaction is begun at a node
 abbrev pub with_begun : Clients → ℕ → Node → Clients

@@ -6,7 +6,7 @@ ghost use Rattle.co_session.specs.Leaves.{IsLeave, IsLeaveToBegin, leave_in};
 
 use crate::client::Client;
 use crate::fault::SessionFault;
-use co_base::{Node, Parts, Reply, Txn, Txns};
+use co_base::{MOST_TRANSACTIONS, Node, Parts, Reply, Txn, Txns};
 use co_plain::Told;
 use co_serial::Site;
 use indexmap::IndexMap;
@@ -44,9 +44,6 @@ impl Model for Sessions {
 }
 
 impl Sessions {
-    /// The most numbers that are begun in this run or stand in the opened logs.
-    pub const MOST: usize = 65_536;
-
     /// No transaction was begun in this run. `used` has the numbers that stand in the opened logs.
     pub fn attach(alloc: Global, used: Txns) -> Result<Sessions, AllocError>
         ensures { IfOk result (λ sessions. sessions ≡ none_begun used) }
@@ -60,7 +57,7 @@ impl Sessions {
     }
 
     /// Whether a client may begin the transaction: `Used` exactly where it was begun in this run or stands in
-    /// an opened log, else `Count` exactly where `MOST` numbers or more are begun or used.
+    /// an opened log, else `Count` exactly where 65,536 numbers or more are begun or used.
     pub fn may_begin(&self, t: Txn) -> Result<(), SessionFault>
         ensures { IsLeaveToBegin self.now t result }
     {
@@ -88,7 +85,7 @@ impl Sessions {
         ensures { result ≡ is_full self.now }
     {
         let used = self.used.as_slice().len();
-        self.begun.len() + used >= Sessions::MOST
+        self.begun.len() + used >= MOST_TRANSACTIONS
     }
 
     /// A client begins the transaction at the node that is to decide it: a coordinator, or the only member that it visits. `may_begin`

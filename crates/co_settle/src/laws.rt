@@ -1,6 +1,7 @@
 //! How many transactions may be open, and so how many events settling takes.
 ghost use Rattle.std.specs.Prelude.{ℕ, List, true, ◌||◌, ◌≡◌, ◌≤◌, ◌+◌, ◌*◌, length};
 ghost use Rattle.std.specs.FinMap.{keys};
+ghost use Rattle.co_base.specs.Limits.{most_transactions};
 ghost use Rattle.co_base.specs.declared.head.Kind.{Kind};
 ghost use Rattle.co_message.specs.declared.event.Event.{Event};
 ghost use Rattle.co_plain.specs.Federation.{Federation};
@@ -35,5 +36,5 @@ pub fn fresh_runs_leave_few_open()
 pub fn settling_is_short()
     ensures each { (s : Federation) (members most : ℕ) → length s.kinds ≤ members → open_count s ≤ most →
         settling_bound s ≤ 24 + 3 * ((4 * members + 3) * most) }
-    ensures largest { (s : Federation) → IsReached s → open_count s ≤ 65536 → settling_bound s ≤ 13172760 }
+    ensures largest { (s : Federation) → IsReached s → open_count s ≤ most_transactions → settling_bound s ≤ 13172760 }
 {}

@@ -1,5 +1,6 @@
 //! What is open is brought to its end.
 ghost use Rattle.std.specs.Prelude.{IfErr, ◌≡◌, ◌≤◌};
+ghost use Rattle.co_base.specs.Limits.{most_transactions};
 ghost use Rattle.co_plain.specs.Federation.{Federation};
 ghost use Rattle.co_plain.specs.Quiet.{open_count};
 ghost use Rattle.co_world.specs.Standing.{RepresentsWorld, AreHeld};
@@ -40,8 +41,8 @@ pub fn settle<E: Engine + Drop, H: Home>(
     requires number { number ≤ 4000000000 }
     requires count { steps.old.count ≤ 4000000000 }
     requires held { AreHeld (H.seen home.old) world.old }
-    requires stands { (s : Federation) × RepresentsWorld E.takes E.stands_for world.old s × IsReached s × (open_count s ≤ 65536) }
-    ensures settled { (s : Federation) → RepresentsWorld E.takes E.stands_for world.old s → IsReached s → open_count s ≤ 65536 →
+    requires stands { (s : Federation) × RepresentsWorld E.takes E.stands_for world.old s × IsReached s × (open_count s ≤ most_transactions) }
+    ensures settled { (s : Federation) → RepresentsWorld E.takes E.stands_for world.old s → IsReached s → open_count s ≤ most_transactions →
         SettlesAs E.takes E.stands_for s number steps.old.count world.new steps.new.count (H.seen home.new).file result }
     ensures ended { EndsAs world.new (H.seen home.old) (H.seen home.new) result }
     ensures untold { IfErr result (IsUntoldFor H.seen) }

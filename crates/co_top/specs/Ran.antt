@@ -2,6 +2,7 @@
 use Rattle.std.specs.Prelude.{ℕ, Bool, false, ◌≡◌, ◌≤◌, ◌⊎◌, List, [], ◌∷◌, ◌++◌, length, take, map, Option, Some}
 use Rattle.std.specs.FinMap.{keys}
 use Rattle.std.specs.List.{AllByRecursion}
+use Rattle.co_base.specs.Limits.{most_transactions}
 use Rattle.co_base.specs.declared.head.Head.{Head}
 use Rattle.co_message.specs.declared.event.Event.{Event}
 use Rattle.co_outside.specs.declared.spot.Spot.{Spot}
@@ -46,7 +47,7 @@ pub record Ran (resume : Bool) (input : List ℕ) (file : Spot → Option File) 
   pub may : MayRun head.kinds head.coords found_member found_coord
   pub unused : resume ≡ false → AreUnused found_member found_coord
   pub fit : AreFit file head resume
-  pub few : length (keys (used_numbers (length head.kinds) head.coords found_member found_coord)) ≤ 65536
+  pub few : length (keys (used_numbers (length head.kinds) head.coords found_member found_coord)) ≤ most_transactions
 
 -- the federation that was opened, and what the events left of it
 abbrev pub start_of : {resume : Bool} {input : List ℕ} {file : Spot → Option File} → Ran resume input file → Federation

@@ -1,6 +1,7 @@
 -- A federation that was opened over the logs that were found.
 use Rattle.std.specs.Prelude.{ℕ, Bool, false, ◌≡◌, ◌≤◌, length, Option, List}
 use Rattle.std.specs.FinMap.{keys}
+use Rattle.co_base.specs.Limits.{most_transactions}
 use Rattle.co_base.specs.declared.head.Head.{Head}
 use Rattle.co_base.specs.declared.head.Kind.{Kind}
 use Rattle.co_message.specs.declared.item.Item.{Item}
@@ -22,6 +23,6 @@ pub record IsAttachedOver {E : Type 0} (takes : Kind → Type 0) (stands_for : E
   pub may : MayRun head.kinds head.coords found_member found_coord
   pub unused : resume ≡ false → AreUnused found_member found_coord
   pub fit : AreFit file head resume
-  pub few : length (keys (used_numbers (length head.kinds) head.coords found_member found_coord)) ≤ 65536
+  pub few : length (keys (used_numbers (length head.kinds) head.coords found_member found_coord)) ≤ most_transactions
   pub stands : RepresentsWorld takes stands_for w (opened head.kinds head.coords found_member found_coord)
   pub told : items ≡ numbered 1 (opening_items head.kinds head.coords found_member found_coord)
