@@ -1,6 +1,5 @@
 //! A transcript that is checked line by line.
 ghost use Rattle.std.specs.Prelude.{◌≡◌, ◌<◌, ◌≤◌, ◌+◌, ◌^◌, length, IfOk, IsErrOf};
-ghost use Rattle.co_base.specs.Limits.{most_log_bytes};
 ghost use Rattle.co_check.specs.Checked.{IsTakenAs, IsTaken, IsEnd};
 ghost use Rattle.co_check.specs.Kept.{Follows};
 ghost use Rattle.co_check.specs.Shape.{Read, unread};
@@ -51,7 +50,7 @@ impl Checker {
 
     /// Takes one more line, which has this number.
     pub(crate) fn line(self, alloc: Global, number: u32, line: &[u8]) -> Result<Checker, CheckFault>
-        requires long { length line.now ≤ most_log_bytes }
+        requires long { length line.now < 4294967296 }
         requires few { self.ledger.transactions + 1 < 2 ^ 32 }
         ensures taken { (r : Read) → Follows self r → IsTaken r number line.now result }
         ensures never { IsErrOf result CheckFault.Read → ⊥ }

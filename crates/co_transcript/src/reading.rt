@@ -294,7 +294,7 @@ fn read_words(alloc: Global, words: &mut Words<'_>) -> Result<Item, ReadFault>
 /// from the left that is not in the set of its place, the line's length where a word is missing,
 /// and that of the space behind the last word where something stands behind it.
 pub fn read_item(alloc: Global, line: &[u8]) -> Result<Item, ItemFault>
-    requires { length line.now ≤ 268435456 }
+    requires { length line.now < 4294967296 }
     ensures found { IfOk result (λ item. IsItem item × (line.now ≡ item_text item)) }
     ensures only { (item : Item) → IsItem item → line.now ≡ item_text item → MatchResult result (λ found. found ≡ item) (λ fault. fault ≡ ItemFault.Memory) }
     ensures fault { IfErr result (IsTextFault line.now) }
@@ -311,7 +311,7 @@ pub fn read_item(alloc: Global, line: &[u8]) -> Result<Item, ItemFault>
 
 // The place of a mistake, counted from the front of the line.
 fn place_in(line: &[u8], mistake: Mistake) -> u32
-    requires { length line.now ≤ 268435456 }
+    requires { length line.now < 4294967296 }
     ensures { result ≡ place_of line.now mistake }
 {
     let at = line.len().saturating_sub(mistake.left);
