@@ -1,5 +1,5 @@
 //! Lines as items.
-ghost use Rattle.std.specs.Prelude.{◌≡◌, ◌≤◌, ◌+◌, ◌++◌, ◌∷◌, [], length, Ok, Some, None, IfOk, IfErr, OnOk, MatchResult, codes, decimal, option_copied, Option};
+ghost use Rattle.std.specs.Prelude.{◌≡◌, ◌<◌, ◌≤◌, ◌+◌, ◌++◌, ◌∷◌, [], length, Ok, Some, None, IfOk, IfErr, OnOk, MatchResult, codes, decimal, option_copied, Option};
 ghost use Rattle.co_base.specs.RowOrder.{IsInKeyOrder};
 ghost use Rattle.co_message.specs.declared.item.Item.{Item};
 ghost use Rattle.co_schedule.specs.Words.{Word};
