@@ -1,5 +1,5 @@
 pub mod Picking
 pub mod Mapped
 pub mod Pairing
-pub mod Growing
+pub mod Grown
 pub mod Votes
