@@ -9,7 +9,7 @@ use Rattle.co_base.specs.declared.written.Written.{Written}
 use Rattle.co_pairs.specs.declared.side.Side.TheVariants.{Reader, Writer, Lesser, Greater}
 use Rattle.co_pairs.specs.NewPairs.{found_in, pair_of, newly, made, all_made, grown_by, or_nothing, sets_among, AreNew}
 use Rattle.co_pairs.proofs.Pairing.{Grows, not_both, made_new}
-use Rattle.co_pairs.proofs.Grown.{grows_at}
+use Rattle.co_pairs.proofs.OneMore.{grows_at}
 use Rattle.co_state.specs.declared.engine_state.Sets.{Sets}
 use Rattle.co_state.specs.declared.pair.Pair.{Pair}
 use Rattle.co_state.specs.Changes.{put_span, put_change}

@@ -41,7 +41,7 @@ use Rattle.co_index.specs.Undecided.{IsWhole, grown_at}
 use Rattle.co_pairs.proofs.Picking.{ties}
 use Rattle.co_pairs.specs.Votes.{told_of}
 use Rattle.co_pairs.proofs.Votes.{told_voted}
-use Rattle.co_pairs.proofs.Grown.{new_pairs}
+use Rattle.co_pairs.proofs.OneMore.{new_pairs}
 use Rattle.co_pairs.proofs.Mapped.{table-mapped}
 use Rattle.co_mv.specs.Overwritten.{written_within}
 use Rattle.co_mv.specs.Reading.{all_noted}

@@ -37,7 +37,7 @@ use Rattle.co_index.specs.Undecided.{IsWhole, grown_at}
 use Rattle.co_pairs.proofs.Picking.{tied}
 use Rattle.co_pairs.specs.Votes.{told_of}
 use Rattle.co_pairs.proofs.Votes.{told_voted}
-use Rattle.co_pairs.proofs.Grown.{new_pairs}
+use Rattle.co_pairs.proofs.OneMore.{new_pairs}
 use Rattle.co_occ.specs.declared.engine.OccEngine.{OccEngine}
 use Rattle.co_occ.specs.declared.reads.Reads.{Reads}
 use Rattle.co_occ.specs.Kept.{reads_of, or_unread, with_read}

@@ -1,5 +1,5 @@
 pub mod Picking
 pub mod Mapped
 pub mod Pairing
-pub mod Grown
+pub mod OneMore
 pub mod Votes

@@ -24,7 +24,7 @@ use Rattle.co_state.specs.Table.{Table, no_entries, look, put, without, holds, l
 use Rattle.co_state.proofs.Tables.{put-without}
 use Rattle.co_pairs.specs.declared.prepared.Prepared.{Prepared}
 use Rattle.co_pairs.specs.NewPairs.{or_nothing, grown_by, AreNew}
-use Rattle.co_pairs.proofs.Grown.{grows_at, new_pairs}
+use Rattle.co_pairs.proofs.OneMore.{grows_at, new_pairs}
 use Rattle.co_pairs.proofs.Mapped.{sorted-mapped, find-mapped}
 use Rattle.co_pairs.proofs.Pairing.{Grows, made_new}
 use Rattle.co_engine.specs.declared.undecided.Undecided.{Undecided}
