@@ -30,7 +30,7 @@ use Rattle.co_state.specs.ReadRule.{stamp_after, snapshot_of, operation_reply}
 use Rattle.co_state.specs.StaleRead.{stale_key, keys_since}
 use Rattle.co_state.specs.Table.{no_entries, look, put, without, holds}
 use Rattle.co_state.proofs.Tables.{look-put, look-without, put-without}
-use Rattle.co_engine.specs.Calls.{may_operate, is_installed, votes_of, vote_in}
+use Rattle.co_engine.specs.Calls.{may_operate, is_installed, votes_of}
 use Rattle.co_mv.specs.declared.archive.Archive.{Archive}
 use Rattle.co_mv.specs.declared.mv_engine.MvEngine.{MvEngine}
 use Rattle.co_mv.specs.declared.version.Version.{Version}

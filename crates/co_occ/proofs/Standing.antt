@@ -30,7 +30,7 @@ use Rattle.co_state.specs.StaleRead.{stale_key}
 use Rattle.co_state.specs.Table.{Table, no_entries, look, put, without, holds, lesser}
 use Rattle.co_state.proofs.Tables.{look-put, look-without, put-without}
 use Rattle.co_engine.specs.declared.answers.Seen.TheVariants.{Answer}
-use Rattle.co_engine.specs.Calls.{may_operate, is_installed, votes_of, vote_in, seen_by, seen_of, AppendsNewPairs}
+use Rattle.co_engine.specs.Calls.{may_operate, is_installed, votes_of, seen_by, seen_of, AppendsNewPairs}
 use Rattle.co_index.specs.declared.undecided.Undecided.{Undecided}
 use Rattle.co_pairs.specs.NewPairs.{or_nothing, grown_by, sets_among, AreNew}
 use Rattle.co_index.specs.Undecided.{IsWhole, grown_at}
