@@ -1,4 +1,4 @@
-//! The least of some keys.
+//! The lesser of two keys.
 ghost use Rattle.std.specs.Prelude.{◌≡◌, [], ◌∷◌, option_copied};
 ghost use Rattle.co_state.specs.Search.{least_with};
 
