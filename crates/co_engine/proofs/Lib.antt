@@ -1,5 +1,6 @@
 mod Knowing
 mod Playing
+pub mod Answering
 pub mod Joining
 pub mod Keeping
 pub mod Rolling

@@ -1,5 +1,5 @@
 -- What is kept of each transaction, after each call.
-use Rattle.std.proofs.Common.{◌≡◌, ℕ, Bool, true, false, cond, List, ◌∷◌, if◌then◌else◌, Option, None, Some, is_some, IsTrue, not, ◌&&◌, refl, sym, ap, ◌∙◌, true≢false}
+use Rattle.std.proofs.Common.{◌≡◌, ℕ, Bool, true, false, cond, List, ◌∷◌, if◌then◌else◌, Option, None, Some, is_some, IsTrue, refl, sym, ap, ◌∙◌, true≢false}
 use Rattle.std.specs.Option.{option_map}
 use Rattle.std.specs.Ordering.{nat_cmp, eq_by_cmp}
 use Rattle.co_base.specs.declared.op.Op.{Op}
@@ -11,7 +11,7 @@ use Rattle.co_state.specs.Changes.{sets_of, no_sets}
 use Rattle.co_state.specs.EngineState.{operations_in, operations_of, sets_in}
 use Rattle.co_state.specs.Table.{Table, look, put, without, holds}
 use Rattle.co_state.proofs.Tables.{look-put, look-without, put-without}
-use Rattle.co_engine.specs.Calls.{may_operate, is_installed}
+use Rattle.co_engine.proofs.Answering.{cond-same}
 use Rattle.co_engine.specs.declared.undecided.Undecided.{Undecided}
 use Rattle.co_engine.specs.Undecided.{active_with, voted_with, or_new, own, with_vote, vote_in, IsKept, active_sets, voted_sets}
 use Rattle.co_pairs.specs.NewPairs.{grown_by}
@@ -28,19 +28,8 @@ pub kept_cond : (c : Bool) {o o' : Option Undecided} {os os' : Option (List Oper
 kept_cond true f g = f refl
 kept_cond false f g = g refl
 
-pub cond-same : {X : Type 0} (c : Bool) (x : X) → cond c x x ≡ x
-cond-same true x = refl
-cond-same false x = refl
-
 pub nothing_kept : IsKept None None None
 nothing_kept = record { sets_are = refl; votes_are = refl }
-
-none_held : {X : Type 0} (o : Option X) (rest : Bool) → IsTrue (not (is_some o) && rest) → o ≡ None
-none_held None rest h = refl
-none_held (Some x) rest h = absurd (true≢false (sym h))
-
-pub not_voted : (b : EngineState) (t : ℕ) → IsTrue (may_operate b t) → look b.voted t ≡ None
-not_voted b t h = none_held (look b.voted t) (not (is_installed b.installed t)) h
 
 -- ---- what is kept of one transaction
 pub none_mapped : {A B : Type 0} (f : A → B) (o : Option A) → option_map f o ≡ None → o ≡ None

@@ -19,7 +19,7 @@ pub use answers::{Dump, Seen};
 pub use command::{Answers, Command, Played};
 pub use dumping::dump_in_place;
 pub use engine::Engine;
-pub use operations::writing;
+pub use operations::{copy_value, writing};
 pub use pairs::append;
 pub use player::play;
 pub use undecided::{Roll, Undecided};

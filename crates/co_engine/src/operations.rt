@@ -1,4 +1,4 @@
-//! Operations of an engine's calls.
+//! Operations of an engine's calls, and values that they give.
 ghost use Rattle.std.specs.Prelude.{◌≡◌, IfOk, option_copied};
 ghost use Rattle.co_engine.specs.Calls.{writing};
 
@@ -12,5 +12,15 @@ pub fn writing(key: &Key, value: Option<&Value>) -> Result<Op, AllocError>
     match value {
         Some(value) => Ok(Op::Write(key.copy()?, value.copy()?)),
         None => Ok(Op::Erase(key.copy()?)),
+    }
+}
+
+/// An equal value, if there is one.
+pub fn copy_value(value: Option<&Value>) -> Result<Option<Value>, AllocError>
+    ensures { IfOk result (λ copy. copy ≡ option_copied value.entry) }
+{
+    match value {
+        Some(value) => Ok(Some(value.copy()?)),
+        None => Ok(None),
     }
 }

@@ -6,10 +6,12 @@
 
 mod index;
 mod key_map;
+mod lesser;
 mod new_pairs;
 mod touched;
 mod undecided;
 
 pub use index::Index;
 pub use key_map::KeyMap;
+pub use lesser::lesser_key;
 pub use undecided::Undecided;

@@ -28,6 +28,7 @@ use Rattle.co_law_engine.proofs.Keys.{get-change, same_key_sym, same_key_is, sam
 use Rattle.co_law_engine.proofs.SetsMade.{Ascends, ascends-put, writes-put, reads-put, get-put}
 use Rattle.co_lock.specs.LockedState.{LockedState, seen_by, ended}
 use Rattle.co_lock.specs.LockedState as state
+use Rattle.co_engine.proofs.Answering.{records_at-all}
 use Rattle.co_lock.specs.Standing.{Fits}
 use Rattle.co_lock.proofs.Locking.{same_as, one_of, other_than, itself, neither_left, neither_right, left_true, right_true, or_true, and_false}
 
@@ -274,13 +275,6 @@ fits_cast g b next t h base installed sets operations = record {
     fresh_by u false = h.fresh u
 
 -- ---- what is seen
-longer_or_at : (is : List Install) (i : Install) (count : ℕ) (base : Records) → length (i ∷ is) ≤ count → records_at base (i ∷ is) count ≡ records_now base (i ∷ is)
-longer_or_at is i count base h = let t : nat_lt (length is) count ≡ true = grind (arith, nat_tests) in ap (λ b. if b then records_now base (i ∷ is) else records_at base is count) t
-
-records_at-all : (base : Records) (is : List Install) → records_at base is (length is) ≡ records_now base is
-records_at-all base [] = refl
-records_at-all base (i ∷ is) = longer_or_at is i (length (i ∷ is)) base (omega arith)
-
 visible_by : (g : LockedState) (b : EngineState) (t : ℕ) (q : List ℕ) (c : Bool) → Fits g b → look b.voted t ≡ None → g.wrote t q ≡ c
     → get (with_changes (installed_records b) (changes_of (operations_of b t))) q ≡ (if c then g.value t q else get g.installed q)
 visible_by g b t q true h none e =

@@ -15,16 +15,15 @@ use Rattle.co_state.specs.declared.engine_state.Sets.{Sets}
 use Rattle.co_state.specs.declared.engine_state.Vote.{Vote}
 use Rattle.co_state.specs.declared.pair.Pair.{Pair}
 use Rattle.co_state.specs.Changes.{sets_of, spans_of, changes_of, span_read, change_made, with_span, with_written, put_change, no_sets}
-use Rattle.co_state.specs.Conflicts.{AreNewPairs, has_pair}
+use Rattle.co_state.specs.Conflicts.{AreNewPairs}
 use Rattle.co_state.specs.Effects.{with_operation, after_cast, after_install, after_drop, install_vote, undecided_changes}
 use Rattle.co_state.specs.EngineState.{operations_in, operations_of, sets_in, sets_at, installed_records}
 use Rattle.co_state.specs.Keys.{reads_key, writes_key, writes_within, least_key}
 use Rattle.co_state.specs.LockRule.{lock_blocker, lock_holder, blocker_by}
-use Rattle.co_state.specs.ReadRule.{operation_reply}
 use Rattle.co_state.specs.StaleRead.{stale_keys, stale_key}
 use Rattle.co_state.specs.Table.{Table, look, put, without, holds}
 use Rattle.co_state.proofs.Tables.{look-put, look-without}
-use Rattle.co_engine.specs.Calls.{may_operate, seen_by, seen_of}
+use Rattle.co_engine.specs.Calls.{may_operate}
 use Rattle.co_locktab.specs.Locks.{IsLeast}
 use Rattle.co_locktab.proofs.Least.{least_same}
 use Rattle.co_locktab.proofs.Orders.{same_number}
@@ -38,7 +37,8 @@ use Rattle.co_lock.specs.LockedState.{LockedState, IsClear}
 use Rattle.co_lock.specs.Locked.{IsLocked}
 use Rattle.co_engine.specs.Undecided.{changes_kept, own, or_new, IsKept, voted_sets}
 use Rattle.co_engine.proofs.Keeping.{kept_changes}
-use Rattle.co_engine.proofs.Rolling.{not_voted, sets_kept, own_kept, none_mapped}
+use Rattle.co_engine.proofs.Answering.{not_voted}
+use Rattle.co_engine.proofs.Rolling.{sets_kept, own_kept, none_mapped}
 use Rattle.co_pairs.specs.NewPairs.{found_in, pair_of}
 use Rattle.co_pairs.specs.declared.side.Side.TheVariants.{Writer}
 use Rattle.co_lock.specs.Standing.{StandsFor, Fits}
@@ -142,19 +142,6 @@ pairs_of_write p b t op change s may reads writes none next locked =
     unread_by u e is unvoted k free =
         let none : look b.voted u ≡ None = none_mapped (λ v. v.sets) (look b.voted u) (k.votes_are ∙ ap voted_sets is ∙ ap (λ v. if v then Some e.sets else None) unvoted) in
         ap (λ (x : Sets). reads_key x.reads change.key) (sym (own_kept p.roll b u k none ∙ ap (λ o. (or_new o).sets) is)) ∙ sym (s.fits.reads_are u change.key) ∙ free
-
-not_both : (b : Bool) → false ≡ (b && not b)
-not_both true = refl
-not_both false = refl
-
-pub none_new : (b : EngineState) → AreNewPairs b b []
-none_new b = record { exactly = λ p. not_both (has_pair b p); once = tt }
-
-abbrev pub after_seen : EngineState → ℕ → Op → Option ℕ → EngineState
-after_seen b t op o = if is_some o then b else with_operation b t op
-
-pub seen_alike : (b : EngineState) (t : ℕ) (op : Op) (o : Option ℕ) → o ≡ lock_blocker b t op → seen_by o (operation_reply b t op) ≡ seen_of b t op
-seen_alike b t op o e = ap (λ x. seen_by x (operation_reply b t op)) e
 
 -- ---- votes and ends
 cond_if : {A : Type 0} (c b : Bool) (x y : A) → c ≡ b → cond c x y ≡ (if b then x else y)

@@ -29,7 +29,7 @@ ghost use Rattle.co_pairs.specs.declared.side.Side.TheVariants.{Writer};
 use crate::locked_store::LockedStore;
 use crate::pairs::pairs_made;
 use co_base::{Key, Kind, Op, Range, Ranges, Reply, Rows, Txn, Value, Writes, Written};
-use co_engine::{Dump, Engine, Roll, Seen, Undecided, append, dump_in_place, writing};
+use co_engine::{Dump, Engine, Roll, Seen, Undecided, append, copy_value, dump_in_place, writing};
 use co_index::Index;
 use co_pairs::{Pairs, Prepared, Sets};
 use co_state::{RecordMap, put_change, put_range, records_from};
@@ -99,16 +99,6 @@ fn take_out(roll: &mut Roll, readers: &mut Index, t: Txn)
     match roll.take(t) {
         Some(undecided) => readers.forget(&undecided.sets, t),
         None => {}
-    }
-}
-
-/// An equal value, if there is one.
-fn copy_value(value: Option<&Value>) -> Result<Option<Value>, AllocError>
-    ensures { IfOk result (λ copy. copy ≡ option_copied value.entry) }
-{
-    match value {
-        Some(value) => Ok(Some(value.copy()?)),
-        None => Ok(None),
     }
 }
 

@@ -11,6 +11,7 @@ ghost use Rattle.co_lock.specs.Locked.{IsLocked};
 ghost use Rattle.co_lock.specs.LockedState.{LockedState, of_records, with_write, with_read, without_reads, ended, seen_by, IsClear};
 
 use co_base::{Key, Range, Rows, Txn, Value};
+use co_engine::copy_value;
 use co_locktab::LockTable;
 use co_store::Store;
 use std::alloc::{AllocError, Global};
@@ -112,15 +113,5 @@ impl LockedStore {
         ensures { (g : LockedState) → IsLocked self.now g → IfOk result (λ rows. rows ≡ all_rows g.installed) }
     {
         self.store.clean()
-    }
-}
-
-/// An equal value, if there is one.
-fn copy_value(value: Option<&Value>) -> Result<Option<Value>, AllocError>
-    ensures { IfOk result (λ copy. copy ≡ option_copied value.entry) }
-{
-    match value {
-        Some(value) => Ok(Some(value.copy()?)),
-        None => Ok(None),
     }
 }

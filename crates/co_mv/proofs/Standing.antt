@@ -30,7 +30,7 @@ use Rattle.co_state.specs.ReadRule.{stamp_after, snapshot_of, operation_reply}
 use Rattle.co_state.specs.StaleRead.{stale_key, keys_since}
 use Rattle.co_state.specs.Table.{no_entries, look, put, without, holds}
 use Rattle.co_state.proofs.Tables.{look-put, look-without, put-without}
-use Rattle.co_engine.specs.Calls.{may_operate, is_installed, votes_of, vote_in}
+use Rattle.co_engine.specs.Calls.{may_operate, is_installed, votes_of}
 use Rattle.co_mv.specs.declared.archive.Archive.{Archive}
 use Rattle.co_mv.specs.declared.mv_engine.MvEngine.{MvEngine}
 use Rattle.co_mv.specs.declared.version.Version.{Version}
@@ -38,6 +38,7 @@ use Rattle.co_mv.specs.Chains.{chain_of, chain_in}
 use Rattle.co_mv.specs.Kept.{needed, or_now, stamp_of, entered, left, grown, IsNeeded, Keeps, AreStamped, active_sets, voted_sets, IsKept, StandsFor, visible_within}
 use Rattle.co_pairs.specs.NewPairs.{mapped, or_nothing, grown_by, sets_among, AreNew}
 use Rattle.co_index.specs.Undecided.{IsWhole, grown_at}
+use Rattle.co_engine.proofs.Answering.{cond-same, not_voted, records_at-all}
 use Rattle.co_pairs.proofs.Picking.{ties}
 use Rattle.co_pairs.specs.Votes.{told_of}
 use Rattle.co_pairs.proofs.Votes.{told_voted}
@@ -100,23 +101,12 @@ kept_cond : (c : Bool) {st st' : Option ℕ} {x x' : Option Sets} {os os' : Opti
 kept_cond true f g = f refl
 kept_cond false f g = g refl
 
-cond-same : {X : Type 0} (c : Bool) (x : X) → cond c x x ≡ x
-cond-same true x = refl
-cond-same false x = refl
-
 nothing_kept : IsKept None None None None
 nothing_kept = record { stamps_are = tt; sets_are = refl; votes_are = refl }
 
 -- ---- reading a state
 pub sets_alike : (e : MvEngine) (b : EngineState) (t : ℕ) → StandsFor e b → sets_at b t ≡ or_nothing (look e.undecided.sets t)
 sets_alike e b t s = sets_kept (look e.archive.snapshots.stamps t) (look e.undecided.sets t) (look b.active t) (look b.voted t) (s.each t)
-
-none_held : {X : Type 0} (o : Option X) (rest : Bool) → IsTrue (not (is_some o) && rest) → o ≡ None
-none_held None rest h = refl
-none_held (Some x) rest h = absurd (true≢false (sym h))
-
-not_voted : (b : EngineState) (t : ℕ) → IsTrue (may_operate b t) → look b.voted t ≡ None
-not_voted b t h = none_held (look b.voted t) (not (is_installed b.installed t)) h
 
 own_sets : (e : MvEngine) (b : EngineState) (t : ℕ) → StandsFor e b → look b.voted t ≡ None → sets_of (operations_of b t) ≡ or_nothing (look e.undecided.sets t)
 own_sets e b t s none = ap (λ v. sets_in v (operations_of b t)) (sym none) ∙ sets_alike e b t s
@@ -142,13 +132,6 @@ reply_alike e b t op span s h is =
     (laid_at span own (all_noted n empty (filter (λ x. span_has span x.0) (entries e.archive.chains))) past
     (within_at n e.archive.chains past span (λ q. seen_alike e.archive b.base b.installed n q s.keeps (stamp_needed e.archive.snapshots t (look e.archive.snapshots.stamps t) refl))))
     ∙ (λ i. reply_to (with_changes (records_at b.base b.installed (stamp_alike e b t s i)) (sym (own_sets e b t s (not_voted b t h)) i).writes) op)
-
-longer_or_at : (is : List Install) (i : Install) (count : ℕ) (base : Records) → length (i ∷ is) ≤ count → records_at base (i ∷ is) count ≡ records_now base (i ∷ is)
-longer_or_at is i count base h = ap (λ b. if b then records_now base (i ∷ is) else records_at base is count) (lt_true (length is) count h)
-
-records_at-all : (base : Records) (is : List Install) → records_at base is (length is) ≡ records_now base is
-records_at-all base [] = refl
-records_at-all base (i ∷ is) = longer_or_at is i (length (i ∷ is)) base (omega arith)
 
 pub dump_alike : (e : MvEngine) (b : EngineState) → StandsFor e b → all_rows (all_noted e.archive.snapshots.installs empty (entries e.archive.chains)) ≡ dumped_rows b.kind b
 dump_alike e b s =

@@ -1,5 +1,5 @@
 //! The least key that was written after it was read.
-ghost use Rattle.std.specs.Prelude.{◌≡◌, [], ◌∷◌, filter, option_copied};
+ghost use Rattle.std.specs.Prelude.{◌≡◌, filter, option_copied};
 ghost use Rattle.std.specs.FinMap.{entries};
 ghost use Rattle.co_base.specs.Span.{span_has};
 ghost use Rattle.co_mv.specs.Overwritten.{written_keys, written_within};
@@ -8,16 +8,7 @@ ghost use Rattle.co_state.specs.Search.{least_with};
 
 use crate::chains::Chains;
 use co_base::{Key, Range};
-
-/// The lesser of a key and of one that was found before.
-fn lesser_key<'a>(found: Option<&'a Key>, key: &'a Key) -> Option<&'a Key>
-    ensures { option_copied result ≡ least_with (option_copied found.entry) (key.now ∷ []) }
-{
-    match found {
-        None => Some(key),
-        Some(least) => if *key < *least { Some(key) } else { found },
-    }
-}
+use co_index::lesser_key;
 
 /// The least key that was found before, or that was written in the range after the first so many installs.
 fn least_within<'a>(

@@ -30,10 +30,11 @@ use Rattle.co_state.specs.StaleRead.{stale_key}
 use Rattle.co_state.specs.Table.{Table, no_entries, look, put, without, holds, lesser}
 use Rattle.co_state.proofs.Tables.{look-put, look-without, put-without}
 use Rattle.co_engine.specs.declared.answers.Seen.TheVariants.{Answer}
-use Rattle.co_engine.specs.Calls.{may_operate, is_installed, votes_of, vote_in, seen_by, seen_of, AppendsNewPairs}
+use Rattle.co_engine.specs.Calls.{may_operate, is_installed, votes_of, seen_by, seen_of, AppendsNewPairs}
 use Rattle.co_index.specs.declared.undecided.Undecided.{Undecided}
 use Rattle.co_pairs.specs.NewPairs.{or_nothing, grown_by, sets_among, AreNew}
 use Rattle.co_index.specs.Undecided.{IsWhole, grown_at}
+use Rattle.co_engine.proofs.Answering.{cond-same, not_voted, records_at-all}
 use Rattle.co_pairs.proofs.Picking.{tied}
 use Rattle.co_pairs.specs.Votes.{told_of}
 use Rattle.co_pairs.proofs.Votes.{told_voted}
@@ -61,23 +62,8 @@ sets_alike o b t k = sets_kept (look o.reads t) (look o.undecided.sets t) (look 
 reads_alike : (o : OccEngine) (b : EngineState) (t : ℕ) → KeepsState o b → reads_of (operations_of b t) ≡ or_unread (look o.reads t)
 reads_alike o b t k = reads_kept (look o.reads t) (look b.active t) (k.each t).reads_are
 
-none_held : {X : Type 0} (o : Option X) (rest : Bool) → IsTrue (not (is_some o) && rest) → o ≡ None
-none_held None rest h = refl
-none_held (Some x) rest h = absurd (true≢false (sym h))
-
-pub not_voted : (b : EngineState) (t : ℕ) → IsTrue (may_operate b t) → look b.voted t ≡ None
-not_voted b t h = none_held (look b.voted t) (not (is_installed b.installed t)) h
-
 pub own_sets : (o : OccEngine) (b : EngineState) (t : ℕ) → KeepsState o b → look b.voted t ≡ None → sets_of (operations_of b t) ≡ or_nothing (look o.undecided.sets t)
 own_sets o b t k none = ap (λ v. sets_in v (operations_of b t)) (sym none) ∙ sets_alike o b t k
-
-longer_or_at : (is : List Install) (i : Install) (count : ℕ) (base : Records) → length (i ∷ is) ≤ count → records_at base (i ∷ is) count ≡ records_now base (i ∷ is)
-longer_or_at is i count base h = let t : nat_lt (length is) count ≡ true = grind (arith, nat_tests) in ap (λ b. if b then records_now base (i ∷ is) else records_at base is count) t
-
--- as many installs as there are
-records_at-all : (base : Records) (is : List Install) → records_at base is (length is) ≡ records_now base is
-records_at-all base [] = refl
-records_at-all base (i ∷ is) = longer_or_at is i (length (i ∷ is)) base (omega arith)
 
 pub reply_alike : (o : OccEngine) (b : EngineState) (t : ℕ) (op : Op) → StandsFor o b → IsTrue (may_operate b t) → reply_to (own_records o t) op ≡ operation_reply b t op
 reply_alike o b t op s h =
@@ -97,10 +83,6 @@ pub after_alike : (o : OccEngine) (b : EngineState) (t : ℕ) (op : Op) → Stan
 after_alike o b t op s = ap (λ holder. if is_some holder then b else with_operation b t op) (sym (not_blocked o b t op s))
 
 -- ---- an operation is added to its transaction
-cond-same : {X : Type 0} (c : Bool) (x : X) → cond c x x ≡ x
-cond-same true x = refl
-cond-same false x = refl
-
 -- the engine with other undecided transactions
 abbrev pub moved : OccEngine → Table Reads → Undecided → OccEngine
 moved o reads undecided = record o { reads = reads; undecided = undecided }

@@ -14,12 +14,12 @@ ghost use Rattle.co_occ.specs.Stands.{StandsFor, own_writes, own_records, own_re
 use crate::installed::{lay, records_of};
 use crate::lasts::{keep_newest, note};
 use crate::old::OldWrites;
-use crate::reading::{all_records, copy_value, records_within, seen_value};
+use crate::reading::{all_records, records_within, seen_value};
 use crate::reads::Read;
 use crate::register::Register;
 use crate::validation::stale_key;
 use co_base::{Key, Kind, Op, Range, Reply, Rows, Txn, Value, Writes, Written};
-use co_engine::{Dump, Engine, Seen, append, writing};
+use co_engine::{Dump, Engine, Seen, append, copy_value, writing};
 use co_index::{KeyMap, Undecided};
 use co_pairs::{Pairs, Prepared, Sets};
 use co_state::range_read;

@@ -10,16 +10,6 @@ use co_index::KeyMap;
 use co_state::RecordMap;
 use std::alloc::{AllocError, Global};
 
-/// An equal value, if there is one.
-pub fn copy_value(value: Option<&Value>) -> Result<Option<Value>, AllocError>
-    ensures { IfOk result (λ copy. copy ≡ option_copied value.entry) }
-{
-    match value {
-        Some(value) => Ok(Some(value.copy()?)),
-        None => Ok(None),
-    }
-}
-
 /// The value of a change of this key, and else what was seen before.
 fn changed<'a>(seen: Option<&'a Value>, change: &'a Written, key: &Key) -> Option<&'a Value>
     ensures { option_copied result ≡ (if same_key change.now.key key.now then change.now.value else option_copied seen.entry) }

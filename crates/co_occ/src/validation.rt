@@ -1,5 +1,5 @@
 //! Overwritten reads.
-ghost use Rattle.std.specs.Prelude.{◌≡◌, [], ◌∷◌, nat_lt, option_copied, filter, reverse};
+ghost use Rattle.std.specs.Prelude.{◌≡◌, nat_lt, option_copied, filter, reverse};
 ghost use Rattle.std.specs.FinMap.{entries};
 ghost use Rattle.co_base.specs.Span.{span_has};
 ghost use Rattle.co_index.specs.Listed.{keys_that};
@@ -9,17 +9,7 @@ ghost use Rattle.co_occ.specs.Last.{keys_after};
 
 use crate::reads::Read;
 use co_base::Key;
-use co_index::KeyMap;
-
-/// The lesser of a key and of one that was found before.
-fn lesser_key<'a>(found: Option<&'a Key>, key: &'a Key) -> Option<&'a Key>
-    ensures { option_copied result ≡ least_with (option_copied found.entry) (key.now ∷ []) }
-{
-    match found {
-        None => Some(key),
-        Some(least) => if *key < *least { Some(key) } else { found },
-    }
-}
+use co_index::{KeyMap, lesser_key};
 
 /// The least key that was found before, or that was read and written by a later install than the read saw.
 fn least_unseen<'a>(found: Option<&'a Key>, read: &Read, lasts: &'a KeyMap<u64>) -> Option<&'a Key>

@@ -1,7 +1,5 @@
 -- For which states a plain engine stands after each call.
-use Rattle.std.proofs.Common.{◌≡◌, T, ℕ, Bool, true, false, not, ◌&&◌, List, [], ◌∷◌, length, if◌then◌else◌, is_some, Option, None, Some, IsTrue, refl, sym, ap, ◌∙◌, subst, true≢false, arith}
-use Rattle.std.specs.Prelude.{nat_lt, ◌≤◌}
-use Rattle.std.proofs.lemmas.Bool.Decides.{nat_tests}
+use Rattle.std.proofs.Common.{◌≡◌, T, ℕ, Bool, true, false, List, [], ◌∷◌, length, if◌then◌else◌, is_some, Option, None, Some, IsTrue, refl, sym, ap, ◌∙◌, subst, true≢false}
 use Rattle.std.specs.Option.{option_map}
 use Rattle.std.specs.FinMap.{entries, entries_sorted, get-empty}
 use Rattle.std.specs.FinMap.Entries.{find}
@@ -10,12 +8,11 @@ use Rattle.co_base.specs.declared.op.Op.{Op}
 use Rattle.co_serial.specs.Records.{Records, with_changes}
 use Rattle.co_serial.specs.SerialRun.{reply_to}
 use Rattle.co_state.specs.declared.engine_state.EngineState.{EngineState}
-use Rattle.co_state.specs.declared.engine_state.Install.{Install}
 use Rattle.co_state.specs.declared.engine_state.Operation.{Operation}
 use Rattle.co_state.specs.declared.engine_state.Sets.{Sets}
 use Rattle.co_state.specs.declared.engine_state.Vote.{Vote}
 use Rattle.co_state.specs.Changes.{sets_of}
-use Rattle.co_state.specs.Conflicts.{AreNewPairs, has_pair}
+use Rattle.co_state.specs.Conflicts.{AreNewPairs}
 use Rattle.co_state.specs.Effects.{with_operation, after_cast, after_install, after_drop, install_vote, restored, undecided_changes}
 use Rattle.co_state.specs.EngineState.{operations_in, operations_of, sets_at, records_at, records_now, installed_records}
 use Rattle.co_state.specs.LockRule.{lock_blocker, lock_holder, blocker_by}
@@ -28,10 +25,11 @@ use Rattle.co_pairs.proofs.OneMore.{grows_at, new_pairs}
 use Rattle.co_pairs.proofs.Mapped.{sorted-mapped, find-mapped}
 use Rattle.co_pairs.proofs.Pairing.{Grows, made_new}
 use Rattle.co_engine.specs.declared.undecided.Undecided.{Undecided}
-use Rattle.co_engine.specs.Calls.{may_operate, votes_of, vote_in, seen_by, seen_of}
+use Rattle.co_engine.specs.Calls.{may_operate, votes_of, vote_in}
 use Rattle.co_engine.specs.Undecided.{active_with, or_new, with_vote, IsKept, changes_kept}
 use Rattle.co_engine.proofs.Keeping.{kept_changes}
-use Rattle.co_engine.proofs.Rolling.{kept_along, nothing_kept, not_voted, none_mapped, sets_kept, own_kept, each_grown, each_cast, each_gone, each_installed, each_voted}
+use Rattle.co_engine.proofs.Answering.{not_voted}
+use Rattle.co_engine.proofs.Rolling.{kept_along, nothing_kept, none_mapped, sets_kept, own_kept, each_grown, each_cast, each_gone, each_installed, each_voted}
 use Rattle.co_plain_engine.specs.declared.plain.PlainEngine.{PlainEngine}
 use Rattle.co_plain_engine.specs.Plain.{StandsFor, voted_roll, sets_listed, own_operations, own_stamp, own_sets, own_records, own_holder, with_own, own_pairs}
 use Rattle.co_plain_engine.proofs.Blocking.{active_holder, voted_holder}
@@ -162,26 +160,3 @@ records_alike p b s = λ i. records_now (s.base_is i) (s.installed_is i)
 
 pub dump_alike : (p : PlainEngine) (b : EngineState) → StandsFor p b → changes_kept (entries p.undecided) ≡ undecided_changes b
 dump_alike p b s = kept_changes p.undecided b s.each
-
--- ---- blocked operations
-not_both : (b : Bool) → false ≡ (b && not b)
-not_both true = refl
-not_both false = refl
-
-pub nothing_new : (b : EngineState) → AreNewPairs b b []
-nothing_new b = record { exactly = λ p. not_both (has_pair b p); once = tt }
-
-pub seen_alike : (b : EngineState) (t : ℕ) (op : Op) (o : Option ℕ) → o ≡ lock_blocker b t op → seen_by o (operation_reply b t op) ≡ seen_of b t op
-seen_alike b t op o e = ap (λ x. seen_by x (operation_reply b t op)) e
-
-abbrev pub after_seen : EngineState → ℕ → Op → Option ℕ → EngineState
-after_seen b t op o = if is_some o then b else with_operation b t op
-
--- ---- all installs
-longer_or_at : (is : List Install) (i : Install) (count : ℕ) (base : Records) → length (i ∷ is) ≤ count → records_at base (i ∷ is) count ≡ records_now base (i ∷ is)
-longer_or_at is i count base h = let t : nat_lt (length is) count ≡ true = grind (arith, nat_tests) in ap (λ b. if b then records_now base (i ∷ is) else records_at base is count) t
-
--- as many installs as there are
-pub records_at-all : (base : Records) (is : List Install) → records_at base is (length is) ≡ records_now base is
-records_at-all base [] = refl
-records_at-all base (i ∷ is) = longer_or_at is i (length (i ∷ is)) base (omega arith)

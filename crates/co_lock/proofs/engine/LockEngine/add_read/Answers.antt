@@ -10,7 +10,7 @@ use Rattle.co_lock.proofs.Reading.{tells_read}
 use Rattle.co_engine.specs.Undecided.{IsKept}
 use Rattle.co_lock.specs.Standing.{reads_alone}
 use Rattle.co_lock.proofs.Fitting.{fits_read}
-use Rattle.co_engine.proofs.Rolling.{not_voted}
+use Rattle.co_engine.proofs.Answering.{not_voted}
 use Rattle.co_lock.proofs.Rolling.{each_read}
 use Rattle.co_lock.proofs.Standing.{clear_read}
 use Rattle.co_lock.proofs.engine.LockEngine.add_read.Goals as goal

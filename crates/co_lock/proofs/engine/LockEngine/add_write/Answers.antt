@@ -16,7 +16,7 @@ use Rattle.co_engine.specs.Undecided.{IsKept}
 use Rattle.co_lock.specs.Standing.{reads_alone}
 use Rattle.co_lock.proofs.Fitting.{fits_write}
 use Rattle.co_engine.proofs.Joining.{if_ok}
-use Rattle.co_engine.proofs.Rolling.{not_voted}
+use Rattle.co_engine.proofs.Answering.{not_voted}
 use Rattle.co_lock.proofs.Rolling.{each_write}
 use Rattle.co_lock.proofs.Standing.{clear_write, alone_in, pairs_of_write}
 use Rattle.co_lock.proofs.engine.LockEngine.add_write.Goals as goal

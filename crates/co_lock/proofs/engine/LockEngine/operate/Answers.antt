@@ -4,7 +4,7 @@ use Rattle.co_state.specs.Conflicts.{AreNewPairs}
 use Rattle.co_state.specs.LockRule.{lock_blocker}
 use Rattle.co_engine.specs.declared.answers.Seen.TheVariants.{Answer}
 use Rattle.co_lock.specs.Standing.{StandsFor}
-use Rattle.co_lock.proofs.Standing.{seen_alike, after_seen, none_new}
+use Rattle.co_engine.proofs.Answering.{seen_alike, after_seen, nothing_new}
 use Rattle.co_lock.proofs.engine.LockEngine.operate.Goals as goal
 
 pub returns-in-Some-clause-seen : goal.returns-in-Some-clause-seen
@@ -18,7 +18,7 @@ returns-in-Some-clause-state c = λ b s h.
 pub returns-in-Some-clause-pairs : goal.returns-in-Some-clause-pairs
 returns-in-Some-clause-pairs c = λ b s h.
     subst (λ (o : Option _). AreNewPairs b (after_seen b c.args.t c.args.op o) c.new.result) (sym c.in-Some.is ∙ c.in_ok-found.ensures b s)
-    (subst (λ (ps : List Pair). AreNewPairs b b ps) (sym c.new.ensures) (none_new b))
+    (subst (λ (ps : List Pair). AreNewPairs b b ps) (sym c.new.ensures) (nothing_new b))
 
 pub returns-clause-seen : goal.returns-clause-seen
 returns-clause-seen c = λ b s h.

@@ -7,7 +7,7 @@ use Rattle.co_state.specs.LockRule.{lock_blocker}
 use Rattle.co_state.specs.ReadRule.{operation_reply, visible_records}
 use Rattle.co_law_engine.proofs.SeenAlike.{span_own}
 use Rattle.co_lock.proofs.Fitting.{visible_seen}
-use Rattle.co_engine.proofs.Rolling.{not_voted}
+use Rattle.co_engine.proofs.Answering.{not_voted}
 use Rattle.co_lock.proofs.Standing.{clear_read}
 use Rattle.co_lock.proofs.engine.LockEngine.reply.Goals as goal
 

@@ -2,7 +2,7 @@ use Rattle.std.proofs.Common.{◌≡◌, ap, ◌∙◌, subst, IfOk, reverse}
 use Rattle.std.proofs.lemmas.List.{reverse-reverse}
 use Rattle.co_serial.specs.Records.{Records}
 use Rattle.co_state.specs.EngineState.{records_at}
-use Rattle.co_plain_engine.proofs.Standing.{records_at-all}
+use Rattle.co_engine.proofs.Answering.{records_at-all}
 use Rattle.co_plain_engine.proofs.plain.PlainEngine.installed_records.Goals as goal
 
 pub returns : goal.returns

@@ -4,7 +4,8 @@ use Rattle.co_state.specs.Conflicts.{AreNewPairs}
 use Rattle.co_engine.specs.declared.answers.Seen.TheVariants.{Answer}
 use Rattle.co_plain_engine.specs.declared.plain.PlainEngine.{PlainEngine}
 use Rattle.co_plain_engine.specs.Plain.{StandsFor}
-use Rattle.co_plain_engine.proofs.Standing.{blocker_alike, reply_alike, seen_alike, after_seen, stands_with, pairs_alike, nothing_new}
+use Rattle.co_engine.proofs.Answering.{seen_alike, after_seen, nothing_new}
+use Rattle.co_plain_engine.proofs.Standing.{blocker_alike, reply_alike, stands_with, pairs_alike}
 use Rattle.co_plain_engine.proofs.plain.PlainEngine.operate.Goals as goal
 
 pub returns-in-Some-clause-seen : goal.returns-in-Some-clause-seen

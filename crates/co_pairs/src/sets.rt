@@ -1,4 +1,4 @@
-//! One operation more.
+//! What transactions read and wrote.
 ghost use Rattle.std.specs.Prelude.{◌≡◌, IfOk};
 ghost use Rattle.co_pairs.specs.NewPairs.{grown_by};
 
