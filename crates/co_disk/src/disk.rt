@@ -47,8 +47,9 @@ impl Disk {
     ghost use Rattle.co_disk.specs.Laying.{BeginWithin, EndWithin};
     ghost use Rattle.co_disk.specs.Stops.{armed_for, stop_here, after_call, IsLeft, IsStopped};
 
-    /// Reads the file of a spot; all its bytes are stable. `Long` comes where it has more than
-    /// 268,435,456 bytes, `Device` only where the home failed, `Memory` where there was none.
+    /// Reads the file of a spot. All its bytes count as stable: a home settles a file before it gives its
+    /// first bytes. `Long` comes where it has more than 268,435,456 bytes, `Device` only where the home
+    /// failed, `Memory` where there was none.
     pub fn attach<H: Home>(alloc: Global, home: &mut H, spot: Spot) -> Result<Disk, DiskFault>
         ensures { HasAttached (H.gives home.old spot (most_log_bytes + 1)) spot (H.seen home.old) (H.seen home.new) result }
     {

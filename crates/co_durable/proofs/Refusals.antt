@@ -6,7 +6,7 @@ use Rattle.co_outside.specs.Home.{File}
 use Rattle.co_durable.specs.declared.fault.WorldFault.{WorldFault}
 use Rattle.co_durable.specs.declared.fault.WorldFault.TheVariants.{Device, Differs, InUse, Bad, Full, Count, Old, Memory}
 use Rattle.co_durable.specs.Durable.{IsUndurable}
-use Rattle.co_durable.specs.Written.{IsUnreadable}
+use Rattle.co_durable.specs.Directory.{IsUnreadable}
 
 pub undurable_refuses : (file : Spot → Option File) (fault : WorldFault) → IsUndurable file 16 8 fault → IsUnreadable file fault
 undurable_refuses file (Device spot) u = inr u

@@ -6,4 +6,4 @@ pub mod Laying
 pub mod Durable
 pub mod Told
 pub mod Text
-pub mod Written
+pub mod Directory

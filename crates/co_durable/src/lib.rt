@@ -10,12 +10,11 @@ mod reading;
 mod records;
 mod recovering;
 mod text;
-mod writing;
 
 pub use durable::{Durable, DurableRow};
 pub use fault::WorldFault;
 pub use laws::directories_are_read_once;
 pub use laying::durable_rows;
-pub use records::read_durable;
+pub use records::{read_directory, read_durable};
 pub use recovering::{Numbers, numbers_from};
-pub use writing::{RecordsFault, write_records};
+pub use text::put_records;

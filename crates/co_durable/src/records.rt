@@ -1,7 +1,8 @@
 //! The durable records of a directory of logs.
-ghost use Rattle.std.specs.Prelude.{◌≡◌, ◌≤◌, IfOk, IfErr, IsErrOf, length};
+ghost use Rattle.std.specs.Prelude.{◌≡◌, ◌≤◌, Some, OnOk, IfOk, IfErr, IsErrOf, length};
 ghost use Rattle.co_outside.specs.declared.spot.Spot.{Spot};
 ghost use Rattle.co_outside.specs.Home.{HasFailed};
+ghost use Rattle.co_durable.specs.Directory.{IsUnreadable};
 ghost use Rattle.co_durable.specs.Durable.{IsDurable, IsUndurable};
 ghost use Rattle.co_durable.specs.Reading.{OnlyReads};
 
@@ -11,11 +12,17 @@ use crate::laying::durable_rows;
 use crate::reading::{read_coords, read_members};
 use crate::recovering::{recover_coords, recover_members};
 use co_base::Head;
-use co_outside::Home;
+use co_outside::{Home, HomeFault, Spot};
 use std::alloc::Global;
 
+/// How many members a directory of logs may have.
+const MEMBERS: u8 = 16;
+
+/// How many coordinators a directory of logs may have.
+const COORDS: u8 = 8;
+
 /// The durable records of so many members and coordinators, by their logs.
-pub(crate) fn read_rows<H: Home>(
+fn read_rows<H: Home>(
     alloc: Global,
     home: &mut H,
     members: u8,
@@ -57,4 +64,28 @@ pub fn read_durable<H: Home>(
 {
     let members = head.kinds.len() as u8;
     read_rows(alloc, home, members, head.coords)
+}
+
+/// The durable records of all logs in a directory, of 16 members and 8 coordinators. The directory is entered, and made
+/// where it is missing; no file is written.
+///
+/// `Device`, `Bad`, `Full` and `Memory` come as `read_durable` says, and `Device` with `m1.a` where the directory could not be
+/// entered. `Differs`, `InUse`, `Count` and `Old` never come.
+pub fn read_directory<H: Home>(
+    alloc: Global,
+    home: &mut H,
+    dir: &str,
+) -> Result<Durable, WorldFault>
+    ensures durable { IfOk result (IsDurable (H.seen home.old).file 16 8) }
+    ensures refused { IfErr result (IsUnreadable (H.seen home.old).file) }
+    ensures files { (s : Spot) → (H.seen home.new).file s ≡ (H.seen home.old).file s }
+    ensures entered { OnOk result ((H.seen home.new).entered ≡ Some dir.now) }
+    ensures device { (spot : Spot) → IsErrOf result (WorldFault.Device spot) → HasFailed spot (H.seen home.old) (H.seen home.new) }
+    ensures quiet { ((spot : Spot) → IsErrOf result (WorldFault.Device spot) → ⊥) → (H.seen home.new).faults ≡ (H.seen home.old).faults }
+{
+    match home.enter(alloc, dir) {
+        Ok(()) => read_rows(alloc, home, MEMBERS, COORDS),
+        Err(HomeFault::Failed) => Err(WorldFault::Device { spot: Spot::FIRST }),
+        Err(HomeFault::Memory) => Err(WorldFault::Memory),
+    }
 }

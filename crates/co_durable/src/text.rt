@@ -46,11 +46,11 @@ fn put_piece<K: Sink>(alloc: Global, out: &mut K, text: &mut Vec<u8>) -> Result<
     Ok(())
 }
 
-/// Puts the lines of these records, a piece of them at a time.
+/// Puts the lines of these records, `NODE KEY VALUE` each, a piece of them at a time.
 ///
 /// `Failed` comes where the sink failed and its count of faults rose, and only there; `Memory` where there was
 /// none. With either fault the sink took a front of the text.
-pub(crate) fn put_records<K: Sink>(
+pub fn put_records<K: Sink>(
     alloc: Global,
     out: &mut K,
     rows: &[DurableRow],

@@ -1,8 +1,8 @@
 //! Calls of a directory and of a sink that fail.
 use crate::logs::M1_BOTH;
 use crate::telling::{C8_B, M1_A, M1_B};
-use co_durable::{RecordsFault, WorldFault, write_records};
-use co_outside::{FailAt, HomeCall, HomeMemory, SinkMemory, Spot};
+use co_durable::{WorldFault, put_records, read_directory};
+use co_outside::{FailAt, HomeCall, HomeMemory, SinkFault, SinkMemory, Spot};
 use std::alloc::Global;
 use std::test::Fail;
 
@@ -15,9 +15,8 @@ static CALLS: [(Spot, HomeCall); 3] = [
 
 /// The spot of the call that failed; `m0.a` where no call failed.
 fn failed_at(alloc: Global, home: &mut HomeMemory) -> Spot {
-    let mut out = SinkMemory::new(alloc, Vec::new(alloc));
-    match write_records(alloc, home, "logs", &mut out) {
-        Err(RecordsFault::World(WorldFault::Device { spot })) => spot,
+    match read_directory(alloc, home, "logs") {
+        Err(WorldFault::Device { spot }) => spot,
         _ => Spot { node: 0, part: 0 },
     }
 }
@@ -39,8 +38,9 @@ fn a_failed_sink_is_named_and_has_nothing(rt: HostRuntime) -> Result<(), Fail> {
     let mut home = HomeMemory::new(alloc, Vec::new(alloc));
     home.put(M1_A, M1_BOTH.to_vec(alloc)?)?;
     let mut out = SinkMemory::new(alloc, [1].to_vec(alloc)?);
-    let failed = write_records(alloc, &mut home, "logs", &mut out);
-    assert!(rt; matches!(failed, Err(RecordsFault::Write)));
+    let rows = read_directory(alloc, &mut home, "logs")?;
+    let failed = put_records(alloc, &mut out, rows.as_slice());
+    assert!(rt; matches!(failed, Err(SinkFault::Failed)));
     assert!(rt; out.bytes().is_empty());
     Ok(())
 }

@@ -1,5 +1,5 @@
 //! Directories of log files, and what their durable records are to be.
-use co_durable::{RecordsFault, WorldFault, write_records};
+use co_durable::{DurableRow, WorldFault, put_records, read_directory};
 use co_outside::{HomeMemory, SinkMemory, Spot};
 use std::alloc::{AllocError, Global};
 
@@ -61,12 +61,17 @@ fn put_all(
     Ok(())
 }
 
+/// Whether this is the text of these records.
+fn is_text(alloc: Global, rows: &[DurableRow], text: &[u8]) -> bool {
+    let mut out = SinkMemory::new(alloc, Vec::new(alloc));
+    put_records(alloc, &mut out, rows).is_ok() && out.bytes() == text
+}
+
 /// Whether this is written of a directory.
 fn is_told(alloc: Global, home: &mut HomeMemory, told: &Told) -> bool {
-    let mut out = SinkMemory::new(alloc, Vec::new(alloc));
-    match (write_records(alloc, home, "logs", &mut out), told) {
-        (Ok(()), Told::Text(text)) => out.bytes() == *text,
-        (Err(RecordsFault::World(WorldFault::Bad { spot, at })), Told::Bad(file, place)) => {
+    match (read_directory(alloc, home, "logs"), told) {
+        (Ok(rows), Told::Text(text)) => is_text(alloc, rows.as_slice(), *text),
+        (Err(WorldFault::Bad { spot, at }), Told::Bad(file, place)) => {
             spot == *file && at == *place
         }
         _ => false,

@@ -6,15 +6,14 @@ use Rattle.co_schedule.specs.Words.{Word, spaced, words_of}
 use Rattle.co_schedule.specs.Spelling.{event_words, line_text}
 use Rattle.co_schedule.specs.Places.{first_fault}
 use Rattle.co_schedule.specs.Grammar.{event_places}
-use Rattle.co_message.specs.declared.event.Event.TheVariants as event
-use Rattle.co_schedule.specs.View.{HasTexts, IsEventFor, IsViewFor, event_of, view_words}
+use Rattle.co_schedule.specs.View.{IsEventFor, IsLent, IsViewFor, event_of, view_words}
 use Rattle.co_schedule.specs.declared.fault.Mistake.{Mistake}
 use Rattle.co_schedule.specs.declared.view.LineView.{LineView}
 use Rattle.co_schedule.proofs.Cutting.{spaced-words_of}
 use Rattle.co_schedule.proofs.Fitting.{words_of-fit, fits_first_fault}
 use Rattle.co_schedule.proofs.Complete.{event_fits}
 use Rattle.co_schedule.proofs.Unique.{event_back, event_back-words}
-use Rattle.co_schedule.proofs.Views.{view_words-event, IsEventFor-view}
+use Rattle.co_schedule.proofs.Views.{view_words-event, IsEventFor-view, IsLent-view}
 
 -- a line of these words is their text
 pub line_of_words : (line : List ℕ) (words : List Word) → words_of line ≡ words → line ≡ spaced words
@@ -37,30 +36,15 @@ no_fault m c e words mistake p q it h fault =
     let other : None ≡ Some mistake = sym none ∙ ap (first_fault (event_places m c)) (sym h) ∙ fault in
     absurd cc
 
--- the texts of an event in its sets are texts
-pub HasTexts-for : (m c : ℕ) (e : Event) → IsEventFor m c e → HasTexts e
-HasTexts-for m c (event.Read t n key) it = it.2
-HasTexts-for m c (event.Write t n key value) it = (it.2, it.3)
-HasTexts-for m c (event.Erase t n key) it = it.2
-HasTexts-for m c (event.Scan t n range) it = (it.2, it.3, it.4)
-HasTexts-for m c (event.Begin t k) it = tt
-HasTexts-for m c (event.Local t n) it = tt
-HasTexts-for m c (event.Commit t) it = tt
-HasTexts-for m c (event.Abort t) it = tt
-HasTexts-for m c (event.Deliver x) it = tt
-HasTexts-for m c (event.Vote t n) it = tt
-HasTexts-for m c (event.Timer t n) it = tt
-HasTexts-for m c (event.Ask t n) it = tt
-HasTexts-for m c (event.Resend t k) it = tt
-HasTexts-for m c (event.Crash n) it = tt
-HasTexts-for m c (event.Restart n) it = tt
-HasTexts-for m c (event.Arm n k l) it = tt
-HasTexts-for m c (event.Checkpoint n) it = tt
-
 -- what a view was lent from is its event
 pub event_found : {E : Type 0} (m c : ℕ) (r : Result LineView E) (words line : List Word) → words ≡ line → IfOk r (λ view. IsViewFor m c view × (words ≡ view_words view)) → IfOk r (λ view. IsEventFor m c (event_of view) × (line ≡ event_words (event_of view)))
 event_found m c (Ok view) words line e it = (IsEventFor-view m c view it.0, sym e ∙ it.1 ∙ view_words-event m c view it.0)
 event_found m c (Err x) words line e it = tt
+
+-- what it lends is what a view lends
+pub lent_found : {E : Type 0} (m c : ℕ) (r : Result LineView E) (words : List Word) → IfOk r (λ view. IsViewFor m c view × (words ≡ view_words view)) → IfOk r IsLent
+lent_found m c (Ok view) words it = IsLent-view m c view it.0
+lent_found m c (Err x) words it = tt
 
 -- an event that was made of a view
 pub event_made : (m c : ℕ) (v : LineView) (e : Event) (words : List Word) → IsViewFor m c v → words ≡ view_words v → e ≡ event_of v → IsEventFor m c e × (words ≡ event_words e)

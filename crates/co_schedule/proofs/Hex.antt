@@ -1,5 +1,5 @@
 -- Lower-case digits are what is written of their bytes.
-use Rattle.std.proofs.Common.{◌≡◌, ℕ, zero, suc, ◌+◌, ◌-◌, ◌*◌, ◌/◌, ◌%◌, ◌<◌, ◌≤◌, Bool, true, false, List, [], ◌∷◌, length, Some, Result, Ok, refl, sym, ap, ◌∙◌, arith, ◌⊎◌, inl, inr, ◌||◌, ◌&&◌, slice_index, ◌==◌, subst, eq-eqb}
+use Rattle.std.proofs.Common.{◌≡◌, ℕ, zero, suc, ◌+◌, ◌-◌, ◌*◌, ◌/◌, ◌%◌, ◌<◌, ◌≤◌, Bool, true, false, List, [], ◌∷◌, length, Some, Result, Ok, Err, refl, sym, ap, ◌∙◌, arith, ◌⊎◌, inl, inr, ◌||◌, ◌&&◌, slice_index, ◌==◌, subst, eq-eqb}
 use Rattle.std.specs.Prelude.{nat_lt, nat_le, if◌then◌else◌}
 use Rattle.std.specs.List.{list_all}
 use Rattle.std.specs.Result.{result_unwrap_or}
@@ -8,6 +8,7 @@ use Rattle.std.proofs.lemmas.Bool.Decides.{nat_tests}
 use Rattle.hex.specs.Hex.{lower_digits, hex_digit_value, decode_pairs, decode_of, encode_with, encode_lower, pair_value}
 use Rattle.hex.specs.Hex.{IsBytes}
 use Rattle.hex.specs.declared.error.FromHexError.{FromHexError}
+use Rattle.hex.specs.declared.error.FromHexError.TheVariants.{OutOfMemory}
 use Rattle.hex.proofs.HexLemmas.{decode_of-even, decode_of-ok, length-encode_with}
 use Rattle.co_schedule.specs.Places.{is_lower_digit, is_hex}
 use Rattle.co_schedule.specs.View.{decoded}
@@ -94,6 +95,11 @@ pub IsBytes-decoded : (digits : List ℕ) → is_hex digits ≡ true → IsBytes
 IsBytes-decoded digits e =
     let found = decodes digits e in
     subst IsBytes (sym (decoded-ok digits found.0 found.1)) (decode_of-ok digits found.0 found.1).3
+
+-- lower-case digits are decoded where there is memory
+pub decoding_fails : (digits : List ℕ) (e : FromHexError) → is_hex digits ≡ true → (e ≡ OutOfMemory) ⊎ (decode_of digits ≡ Err e) → e ≡ OutOfMemory
+decoding_fails digits e is (inl memory) = memory
+decoding_fails digits e is (inr fault) = absurd (let q : Ok (decodes digits is).0 ≡ Err e = sym (decodes digits is).1 ∙ fault in cc)
 
 lower_at : (k : ℕ) → k < 16 → is_lower_digit (slice_index lower_digits k) ≡ true
 lower_at k small = rw (digit_of k small) (grind (arith, nat_tests))

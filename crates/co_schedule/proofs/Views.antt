@@ -4,7 +4,7 @@ use Rattle.std.specs.Prelude.{decimal, codes, ◌∷◌, []}
 use Rattle.co_base.specs.Letters.{most_key_bytes, most_value_bytes}
 use Rattle.co_schedule.specs.Words.{Word}
 use Rattle.co_schedule.specs.Spelling.{event_words, node_word}
-use Rattle.co_schedule.specs.View.{event_of, view_words, view_word, leaves_of, IsViewFor, IsEventFor, IsSpelledLeaves, IsLeaves}
+use Rattle.co_schedule.specs.View.{event_of, view_words, view_word, leaves_of, IsViewFor, IsEventFor, IsLent, IsSpelledLeaves, IsLeaves}
 use Rattle.co_schedule.specs.declared.view.LineView.{LineView}
 use Rattle.co_schedule.specs.declared.view.LineView.TheVariants as view
 use Rattle.co_schedule.specs.declared.view.LeavesView.{LeavesView}
@@ -62,3 +62,23 @@ IsEventFor-view members coords (view.Resend txn coord) it = it
 IsEventFor-view members coords (view.Crash node) it = it
 IsEventFor-view members coords (view.Restart node) it = it
 IsEventFor-view members coords (view.Checkpoint node) it = it
+
+-- what it lends is what an event can be made of
+pub IsLent-view : (members coords : ℕ) (v : LineView) → IsViewFor members coords v → IsLent v
+IsLent-view members coords (view.Read txn member key) it = IsText-is_text most_key_bytes key.now it.2
+IsLent-view members coords (view.Write txn member key value) it = (IsText-is_text most_key_bytes key.now it.2, IsText-is_text most_value_bytes value.now it.3)
+IsLent-view members coords (view.Erase txn member key) it = IsText-is_text most_key_bytes key.now it.2
+IsLent-view members coords (view.Scan txn member lo hi) it = (IsText-is_text most_key_bytes lo.now it.2, IsText-is_text most_key_bytes hi.now it.3, it.4)
+IsLent-view members coords (view.Arm node call leaves) it = it.2
+IsLent-view members coords (view.Begin txn coord) it = tt
+IsLent-view members coords (view.Local txn member) it = tt
+IsLent-view members coords (view.Commit txn) it = tt
+IsLent-view members coords (view.Abort txn) it = tt
+IsLent-view members coords (view.Deliver message) it = tt
+IsLent-view members coords (view.Vote txn member) it = tt
+IsLent-view members coords (view.Timer txn node) it = tt
+IsLent-view members coords (view.Ask txn member) it = tt
+IsLent-view members coords (view.Resend txn coord) it = tt
+IsLent-view members coords (view.Crash node) it = tt
+IsLent-view members coords (view.Restart node) it = tt
+IsLent-view members coords (view.Checkpoint node) it = tt

@@ -151,10 +151,11 @@ IsViewFor members coords (view.Restart node) = IsNode members coords node
 IsViewFor members coords (view.Arm node call leaves) = IsNode members coords node × IsWithin 1 4 call × IsSpelledLeaves leaves
 IsViewFor members coords (view.Checkpoint node) = IsNode members coords node
 
--- the texts of an event are texts, and its range is none that ends below its start
-abbrev pub HasTexts : Event → Type 0
-HasTexts (event.Read txn member key) = IsKey key
-HasTexts (event.Write txn member key value) = IsKey key × IsText most_value_bytes value
-HasTexts (event.Erase txn member key) = IsKey key
-HasTexts (event.Scan txn member range) = IsKey range.lo × IsKey range.hi × (is_gt (key_cmp range.lo range.hi) ≡ false)
-HasTexts _ = Unit {0}
+-- the texts that a view lends are texts, its range is none that ends below its start, and its digits are those of bytes
+abbrev pub IsLent : LineView → Type 0
+IsLent (view.Read txn member key) = IsKey key.now
+IsLent (view.Write txn member key value) = IsKey key.now × IsText most_value_bytes value.now
+IsLent (view.Erase txn member key) = IsKey key.now
+IsLent (view.Scan txn member lo hi) = IsKey lo.now × IsKey hi.now × (is_gt (key_cmp lo.now hi.now) ≡ false)
+IsLent (view.Arm node call leaves) = IsSpelledLeaves leaves
+IsLent _ = Unit {0}

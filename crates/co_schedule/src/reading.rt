@@ -10,7 +10,7 @@ ghost use Rattle.co_schedule.specs.Faults.{fault_of_kind, fault_in, IsFirstFault
 ghost use Rattle.co_message.specs.declared.event.Event.{Event};
 ghost use Rattle.co_schedule.specs.Places.{number, member, coord, node, key, key_from, value, one_of, leaves, is_text, nothing, place, ◌▸◌, first_fault};
 ghost use Rattle.co_schedule.specs.Grammar.{txn, count, call, answers, decisions, form_word, message_word, message_fields, message_places, event_fields, event_places};
-ghost use Rattle.co_schedule.specs.View.{IsWithin, IsNode, IsTxn, IsCount, IsMessageFor, IsSpelledLeaves, view_word, view_words, event_of, HasTexts, IsEventFor, IsViewFor};
+ghost use Rattle.co_schedule.specs.View.{IsWithin, IsNode, IsTxn, IsCount, IsMessageFor, IsSpelledLeaves, view_word, view_words, event_of, IsLent, IsEventFor, IsViewFor};
 
 use crate::counts::NodeCounts;
 use crate::fault::{LineFault, LineKind, Mistake, ReadFault};
@@ -347,6 +347,7 @@ fn fault_of(kind: LineKind) -> LineFault
 
 fn event_in(line: &[u8], nodes: NodeCounts) -> Result<LineView<'_>, Mistake>
     ensures found { IfOk result (λ view. IsEventFor nodes.members nodes.coords (event_of view) × (words_of line.now ≡ event_words (event_of view))) }
+    ensures lent { IfOk result IsLent }
     ensures fault { IfErr result (λ mistake. first_fault (event_places nodes.members nodes.coords) (words_of line.now) ≡ Some mistake) }
 {
     let mut words = Words::of(line);
@@ -357,7 +358,7 @@ fn read_for(line: &[u8], nodes: NodeCounts) -> Result<LineView<'_>, LineFault>
     requires { (nodes.members ≤ 16) × (nodes.coords ≤ 8) }
     ensures found { IfOk result (λ view. IsEventFor nodes.members nodes.coords (event_of view) × (line.now ≡ line_text (event_of view))) }
     ensures only { (event : Event) → IsEventFor nodes.members nodes.coords event → line.now ≡ line_text event → length line.now ≤ longest_line → IsOkAnd result (λ view. event_of view ≡ event) }
-    ensures texts { IfOk result (λ view. HasTexts (event_of view)) }
+    ensures lent { IfOk result IsLent }
     ensures long { (result ≡ Err LineFault.Long) ↔ (longest_line < length line.now) }
     ensures fault { length line.now ≤ longest_line → IfErr result (λ fault. fault_in (event_places nodes.members nodes.coords) line.now ≡ Some fault) }
 {
@@ -378,7 +379,7 @@ fn read_for(line: &[u8], nodes: NodeCounts) -> Result<LineView<'_>, LineFault>
 pub fn read_line<'a>(line: &'a [u8], head: &Head) -> Result<LineView<'a>, LineFault>
     ensures found { IfOk result (λ view. IsEventFor (length head.now.kinds) head.now.coords (event_of view) × (line.now ≡ line_text (event_of view))) }
     ensures only { (event : Event) → IsEventFor (length head.now.kinds) head.now.coords event → line.now ≡ line_text event → length line.now ≤ longest_line → IsOkAnd result (λ view. event_of view ≡ event) }
-    ensures texts { IfOk result (λ view. HasTexts (event_of view)) }
+    ensures lent { IfOk result IsLent }
     ensures long { (result ≡ Err LineFault.Long) ↔ (longest_line < length line.now) }
     ensures fault { length line.now ≤ longest_line → IfErr result (λ fault. fault_in (event_places (length head.now.kinds) head.now.coords) line.now ≡ Some fault) }
 {

@@ -1,12 +1,14 @@
 //! Lines as they were read, with their texts lent.
-ghost use Rattle.std.specs.Prelude.{◌≡◌, false, IfOk};
+ghost use Rattle.std.specs.Prelude.{◌≡◌, false, true, IfOk};
 ghost use Rattle.std.specs.Ordering.{is_gt};
 ghost use Rattle.co_base.specs.Letters.{IsText, most_key_bytes, most_value_bytes};
 ghost use Rattle.co_base.specs.Order.{key_cmp};
-ghost use Rattle.co_schedule.specs.View.{leaves_of, event_of, HasTexts};
+ghost use Rattle.co_schedule.specs.Places.{is_hex};
+ghost use Rattle.co_schedule.specs.View.{decoded, leaves_of, event_of, IsLent, IsSpelledLeaves};
 
 use co_base::{BaseFault, Bytes, Key, Leaves, Node, Range, Txn, Value};
 use co_message::{Event, Message};
+use hex::FromHexError;
 use std::alloc::{AllocError, Global};
 
 /// The chosen image of an armed stop, with its digits lent.
@@ -142,23 +144,35 @@ fn range_of(alloc: Global, lo: &[u8], hi: &[u8]) -> Result<Range, AllocError>
     }
 }
 
+/// The bytes of these digits.
+fn bytes_of(alloc: Global, digits: &[u8]) -> Result<Bytes, AllocError>
+    requires { is_hex digits.now ≡ true }
+    ensures { IfOk result (λ bytes. bytes ≡ decoded digits.now) }
+{
+    match hex::decode(alloc, digits) {
+        Ok(bytes) => Ok(Bytes::of(bytes)),
+        Err(FromHexError::OutOfMemory) => Err(AllocError),
+        Err(FromHexError::InvalidHexCharacter { .. }) => unreachable!(),
+        Err(FromHexError::OddLength) => unreachable!(),
+        Err(FromHexError::InvalidStringLength) => unreachable!(),
+    }
+}
+
 fn leaves_of_view(alloc: Global, leaves: &LeavesView<'_>) -> Result<Leaves, AllocError>
+    requires { IsSpelledLeaves leaves.now }
     ensures { IfOk result (λ l. l ≡ leaves_of leaves.now) }
 {
     match leaves {
         LeavesView::Old => Ok(Leaves::Old),
         LeavesView::New => Ok(Leaves::New),
-        LeavesView::Digits(digits) => match hex::decode(alloc, *digits) {
-            Ok(bytes) => Ok(Leaves::Filled(Bytes::of(bytes))),
-            Err(_) => Err(AllocError),
-        },
+        LeavesView::Digits(digits) => Ok(Leaves::Filled(bytes_of(alloc, digits)?)),
     }
 }
 
 impl<'a> LineView<'a> {
     /// The event, with texts of its own.
     pub fn event(&self, alloc: Global) -> Result<Event, AllocError>
-        requires { HasTexts (event_of self.now) }
+        requires { IsLent self.now }
         ensures { IfOk result (λ event. event ≡ event_of self.now) }
     {
         Ok(match self {

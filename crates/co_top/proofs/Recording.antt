@@ -1,32 +1,56 @@
--- The status of records, by how they were written.
-use Rattle.std.proofs.Common.{◌≡◌, ◌⊎◌, inl, inr, ℕ, List, refl, Option, Result, Ok, Err}
-use Rattle.std.specs.Prelude.{OnOk, IfErr}
+-- The status of records, by how they were read and put.
+use Rattle.std.proofs.Common.{◌≡◌, ◌⊎◌, inl, inr, ℕ, List, ◌++◌, take, refl, Option, Some, Result, Ok, Err}
+use Rattle.std.specs.Prelude.{OnOk, OnErr}
+use Rattle.co_outside.specs.declared.sink.SinkFault.{SinkFault}
+use Rattle.co_outside.specs.declared.sink.SinkFault.TheVariants as sink
 use Rattle.co_outside.specs.declared.spot.Spot.{Spot}
 use Rattle.co_outside.specs.Home.{File}
-use Rattle.co_durable.specs.declared.writing.RecordsFault.{RecordsFault}
-use Rattle.co_durable.specs.declared.writing.RecordsFault.TheVariants as records
 use Rattle.co_durable.specs.declared.durable.DurableRow.{DurableRow}
+use Rattle.co_durable.specs.declared.fault.WorldFault.{WorldFault}
 use Rattle.co_durable.specs.declared.fault.WorldFault.TheVariants as world
+use Rattle.co_durable.specs.Directory.{IsUnreadable}
 use Rattle.co_durable.specs.Durable.{IsDurable, IsUndurable}
+use Rattle.co_durable.specs.Text.{records_text}
 use Rattle.co_durable.specs.Told.{AreTold}
-use Rattle.co_durable.specs.Written.{HasDurable, IsRefusal}
 use Rattle.co_durable.proofs.ReadOnce.{undurable_once, durable_or_not}
+use Rattle.co_top.specs.Ends.{of_world}
 use Rattle.co_top.specs.declared.status.LimitKind.TheVariants as limit
 use Rattle.co_top.specs.declared.status.Status.{Status}
 use Rattle.co_top.specs.declared.status.Status.TheVariants as status
-use Rattle.co_top.specs.Records.{status_of_records, HasCause, IsExcused, IsExact}
+use Rattle.co_top.specs.Records.{status_of_put, HasCause, HasDurable, HoldsRecords, IsExcused, IsExact}
 
-pub cause_of : (file : Spot → Option File) (written : Result (Unit {0}) RecordsFault) → OnOk written (HasDurable file) → IfErr written (IsRefusal file) → HasCause file (status_of_records written)
-cause_of file (Ok u) read h = read
-cause_of file (Err records.Write) read h = h
-cause_of file (Err (records.World (world.Device spot))) read h = h
-cause_of file (Err (records.World (world.Differs spot at kept got))) read h = absurd h
-cause_of file (Err (records.World (world.InUse spot))) read h = absurd h
-cause_of file (Err (records.World (world.Bad spot at))) read h = h
-cause_of file (Err (records.World (world.Full spot))) read h = h
-cause_of file (Err (records.World world.Count)) read h = absurd h
-cause_of file (Err (records.World (world.Old spot))) read h = absurd h
-cause_of file (Err (records.World world.Memory)) read h = tt
+-- records that were read are put, or the sink fails, or there is no memory
+pub put_cause : (file : Spot → Option File) (put : Result (Unit {0}) SinkFault) → HasDurable file → HasCause file (status_of_put put)
+put_cause file (Ok u) durable = durable
+put_cause file (Err sink.Failed) durable = durable
+put_cause file (Err sink.Memory) durable = tt
+
+pub put_holds : (file : Spot → Option File) (held : List ℕ) (told : Option (List ℕ)) (rows : List DurableRow) (put : Result (Unit {0}) SinkFault) → IsDurable file 16 8 rows →
+    OnOk put (told ≡ Some (held ++ records_text rows)) → OnErr put ((count : ℕ) × (told ≡ Some (held ++ take count (records_text rows)))) → HoldsRecords file held told (status_of_put put)
+put_holds file held told rows (Ok u) durable whole front = (rows, durable, whole)
+put_holds file held told rows (Err sink.Failed) durable whole front = (rows, durable, front)
+put_holds file held told rows (Err sink.Memory) durable whole front = inr (rows, durable, front)
+
+-- logs that were not read are told, and nothing is put
+pub refusal_cause : (file : Spot → Option File) (fault : WorldFault) → IsUnreadable file fault → HasCause file (of_world fault)
+refusal_cause file (world.Device spot) h = h
+refusal_cause file (world.Differs spot at kept got) h = absurd h
+refusal_cause file (world.InUse spot) h = absurd h
+refusal_cause file (world.Bad spot at) h = h
+refusal_cause file (world.Full spot) h = h
+refusal_cause file world.Count h = absurd h
+refusal_cause file (world.Old spot) h = absurd h
+refusal_cause file world.Memory h = tt
+
+pub refusal_holds : (file : Spot → Option File) (held : List ℕ) (told : Option (List ℕ)) (fault : WorldFault) → IsUnreadable file fault → told ≡ Some held → HoldsRecords file held told (of_world fault)
+refusal_holds file held told (world.Device spot) h same = same
+refusal_holds file held told (world.Differs spot at kept got) h same = absurd h
+refusal_holds file held told (world.InUse spot) h same = absurd h
+refusal_holds file held told (world.Bad spot at) h same = same
+refusal_holds file held told (world.Full spot) h same = same
+refusal_holds file held told world.Count h same = absurd h
+refusal_holds file held told (world.Old spot) h same = absurd h
+refusal_holds file held told world.Memory h same = inl same
 
 module _ (file : Spot → Option File) (told : AreTold file 16 8) where
   done_of : (ended : Status) → HasCause file ended → (rows : List DurableRow) → IsDurable file 16 8 rows → (ended ≡ status.Done) ⊎ ((ended ≡ status.Write) ⊎ IsExcused ended)

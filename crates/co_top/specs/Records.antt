@@ -1,24 +1,26 @@
 -- How the writing of durable records ends, and what is written then.
-use Rattle.std.specs.Prelude.{ℕ, ◌≡◌, ◌⊎◌, List, ◌++◌, Option, Some, Result, Ok, Err}
+use Rattle.std.specs.Prelude.{ℕ, ◌≡◌, ◌⊎◌, List, ◌++◌, take, Option, Some, Result, Ok, Err}
 use Rattle.co_outside.specs.declared.spot.Spot.{Spot}
+use Rattle.co_outside.specs.declared.sink.SinkFault.{SinkFault}
+use Rattle.co_outside.specs.declared.sink.SinkFault.TheVariants as sink
 use Rattle.co_outside.specs.Home.{File}
 use Rattle.co_durable.specs.declared.durable.DurableRow.{DurableRow}
 use Rattle.co_durable.specs.declared.fault.WorldFault.TheVariants as world
-use Rattle.co_durable.specs.declared.writing.RecordsFault.{RecordsFault}
-use Rattle.co_durable.specs.declared.writing.RecordsFault.TheVariants as records
 use Rattle.co_durable.specs.Durable.{IsDurable, IsUndurable}
 use Rattle.co_durable.specs.Text.{records_text}
-use Rattle.co_durable.specs.Written.{HasDurable, TookFront}
-use Rattle.co_top.specs.Ends.{of_world}
 use Rattle.co_top.specs.declared.status.LimitKind.TheVariants as limit
 use Rattle.co_top.specs.declared.status.Status.{Status}
 use Rattle.co_top.specs.declared.status.Status.TheVariants as status
 
--- the status that stands for a fault, or for none
-abbrev pub status_of_records : Result (Unit {0}) RecordsFault → Status
-status_of_records (Ok written) = status.Done
-status_of_records (Err records.Write) = status.Write
-status_of_records (Err (records.World fault)) = of_world fault
+-- the status that stands for how the records were put
+abbrev pub status_of_put : Result (Unit {0}) SinkFault → Status
+status_of_put (Ok put) = status.Done
+status_of_put (Err sink.Failed) = status.Write
+status_of_put (Err sink.Memory) = status.Memory
+
+-- there are durable records
+abbrev pub HasDurable : (Spot → Option File) → Type 0
+HasDurable file = (rows : List DurableRow) × IsDurable file 16 8 rows
 
 -- The cause of a status, by the files of 16 members and 8 coordinators where the home tells them. All is read before anything is put, and no
 -- line is read, so no status of lines comes.
@@ -43,6 +45,10 @@ pub record IsExact (file : Spot → Option File) (ended : Status) : Type 0 where
   pub done : (rows : List DurableRow) → IsDurable file 16 8 rows → (ended ≡ status.Done) ⊎ ((ended ≡ status.Write) ⊎ IsExcused ended)
   pub bad : (spot : Spot) (at : ℕ) → IsUndurable file 16 8 (world.Bad spot at) → (ended ≡ status.BadLog spot at) ⊎ IsExcused ended
   pub full : (spot : Spot) → IsUndurable file 16 8 (world.Full spot) → (ended ≡ status.Limit (limit.Log spot)) ⊎ IsExcused ended
+
+-- the sink took a front of the text of the durable records
+abbrev pub TookFront : (Spot → Option File) → List ℕ → Option (List ℕ) → Type 0
+TookFront file held told = (rows : List DurableRow) × IsDurable file 16 8 rows × ((count : ℕ) × (told ≡ Some (held ++ take count (records_text rows))))
 
 -- What a sink holds then that held this before: the text of the durable records, or a front of it, or nothing of it.
 abbrev pub HoldsRecords : (Spot → Option File) → List ℕ → Option (List ℕ) → Status → Type 0

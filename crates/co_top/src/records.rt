@@ -3,21 +3,21 @@ ghost use Rattle.std.specs.Prelude.{◌≡◌, ℕ, List, Some};
 ghost use Rattle.co_outside.specs.declared.spot.Spot.{Spot};
 ghost use Rattle.co_outside.specs.Faults.{HasRisen};
 ghost use Rattle.co_outside.specs.Home.{HasFailed};
-ghost use Rattle.co_top.specs.Records.{status_of_records, HasCause, HoldsRecords};
+ghost use Rattle.co_top.specs.Records.{status_of_put, HasCause, HoldsRecords};
 
 use crate::status::{Status, of_world};
-use co_durable::{RecordsFault, write_records};
-use co_outside::{Home, Sink};
+use co_durable::{put_records, read_directory};
+use co_outside::{Home, Sink, SinkFault};
 use std::alloc::Global;
 
-/// The status that stands for how the records were written.
-fn status_of_records(written: Result<(), RecordsFault>) -> Status
-    ensures { result ≡ status_of_records written }
+/// The status that stands for how the records were put.
+fn status_of_put(put: Result<(), SinkFault>) -> Status
+    ensures { result ≡ status_of_put put }
 {
-    match written {
+    match put {
         Ok(()) => Status::Done,
-        Err(RecordsFault::Write) => Status::Write,
-        Err(RecordsFault::World(fault)) => of_world(fault),
+        Err(SinkFault::Failed) => Status::Write,
+        Err(SinkFault::Memory) => Status::Memory,
     }
 }
 
@@ -37,6 +37,11 @@ pub(crate) fn records<K: Sink, H: Home>(
     ensures files { (s : Spot) → (H.seen home.new).file s ≡ (H.seen home.old).file s }
     ensures entered { result ≡ Status.Done → (H.seen home.new).entered ≡ Some directory.now }
 {
-    let written = write_records(alloc, home, directory, out);
-    status_of_records(written)
+    match read_directory(alloc, home, directory) {
+        Ok(rows) => {
+            let put = put_records(alloc, out, rows.as_slice());
+            status_of_put(put)
+        }
+        Err(fault) => of_world(fault),
+    }
 }

@@ -1,5 +1,5 @@
 //! The top call.
-ghost use Rattle.std.specs.Prelude.{◌≡◌, ◌↔◌, ◌⊎◌, ◌||◌, ℕ, List, Some, true, false};
+ghost use Rattle.std.specs.Prelude.{◌≡◌, ◌≤◌, ◌↔◌, ◌⊎◌, ◌||◌, ℕ, List, Some, true, false};
 ghost use Rattle.co_outside.specs.declared.spot.Spot.{Spot};
 ghost use Rattle.co_outside.specs.Faults.{HasRisen};
 ghost use Rattle.co_outside.specs.Home.{HasFailed, IsClean};
@@ -94,6 +94,7 @@ pub fn run<S: Source, K: Sink, N: Sink, H: Home>(
     ensures clean { is_run words.now ≡ true → result ≡ Status.Done → (s : Spot) → IsClean (H.seen home.old) s → IsClean (H.seen home.new) s }
     ensures entered { (is_run words.now || is_records words.now) ≡ true → result ≡ Status.Done → (H.seen home.new).entered ≡ Some (directory_of words.now) }
     ensures notes { (held : List ℕ) → N.told notes.old ≡ Some held → IsNoted held (note_of result) (N.told notes.new) }
+    ensures counts { N.faults notes.old ≤ N.faults notes.new }
 {
     let status = command(alloc, words, source, out, home);
     tell(alloc, notes, &status);
@@ -143,7 +144,8 @@ fn command<S: Source, K: Sink, H: Home>(
 
 /// Puts the note of a status. A failed note changes nothing.
 fn tell<N: Sink>(alloc: Global, notes: &mut N, status: &Status)
-    ensures { (held : List ℕ) → N.told notes.old ≡ Some held → IsNoted held (note_of status.now) (N.told notes.new) }
+    ensures noted { (held : List ℕ) → N.told notes.old ≡ Some held → IsNoted held (note_of status.now) (N.told notes.new) }
+    ensures counts { N.faults notes.old ≤ N.faults notes.new }
 {
     let mut note = Vec::new(alloc);
     match put_note(alloc, status, &mut note) {
@@ -154,7 +156,8 @@ fn tell<N: Sink>(alloc: Global, notes: &mut N, status: &Status)
 
 /// Puts a piece, or a front of it where the sink fails.
 fn put_front<N: Sink>(alloc: Global, notes: &mut N, piece: &[u8])
-    ensures { (held : List ℕ) → N.told notes.old ≡ Some held → IsNoted held piece.now (N.told notes.new) }
+    ensures noted { (held : List ℕ) → N.told notes.old ≡ Some held → IsNoted held piece.now (N.told notes.new) }
+    ensures counts { N.faults notes.old ≤ N.faults notes.new }
 {
     match put_all(alloc, notes, piece) {
         Ok(()) => {}

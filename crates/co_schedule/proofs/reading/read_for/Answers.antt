@@ -1,5 +1,5 @@
 use Rattle.std.proofs.Common.{◌∙◌, sym, arith}
-use Rattle.co_schedule.proofs.EventLaws.{line_of_words, words_of_line, same_event, no_fault, HasTexts-for}
+use Rattle.co_schedule.proofs.EventLaws.{line_of_words, words_of_line, same_event, no_fault}
 use Rattle.co_schedule.proofs.reading.read_for.Goals as goal
 
 pub returns-in-Ok-clause-found : goal.returns-in-Ok-clause-found
@@ -12,6 +12,3 @@ returns-in-Ok-clause-only c event it h small =
 pub returns-in-Err-clause-only : goal.returns-in-Err-clause-only
 returns-in-Err-clause-only c event it h small =
     no_fault _ _ event _ c.in-Err.mistake (omega arith) (omega arith) it (words_of_line _ _ event c.args.line.now (omega arith) (omega arith) it h) c.in-Err.ensures.fault
-
-pub returns-in-Ok-clause-texts : goal.returns-in-Ok-clause-texts
-returns-in-Ok-clause-texts c = HasTexts-for _ _ _ c.in-Ok.ensures.found.0

@@ -5,7 +5,7 @@ use Rattle.co_outside.specs.Home.{File}
 use Rattle.co_durable.specs.Durable.{IsDurable}
 use Rattle.co_durable.proofs.Readings.{same_files}
 use Rattle.co_durable.proofs.Refusals.{unread_result}
-use Rattle.co_durable.proofs.writing.read_directory.Goals as goal
+use Rattle.co_durable.proofs.records.read_directory.Goals as goal
 
 pub returns-in-Ok-clause-durable : goal.returns-in-Ok-clause-durable
 returns-in-Ok-clause-durable g c =
