@@ -64,11 +64,11 @@ module _ {A : Type 0} (spot : Spot) (did : Result A LogFault → Type 0) (long k
   -- and back
   pub answer_of : (r : Result A LogFault) → (IsDone r → did r) → (IsErrOf r Memory → kept) → HasWriteParts spot long after old new r → IsWriteAnswer spot did long kept after old new r
   answer_of (Ok it) ended wanting p =
-      (ended tt, record { held = p.held tt; clean = p.clean tt; quiet = p.quiet (λ no. cc) }, λ too. elim (p.refused too) [ inl no ↦ cc | inr no ↦ cc ])
+      (ended tt, record { held = p.held tt; clean = p.clean tt; quiet = p.quiet (λ no. cc) }, λ too. elim (p.refused too) [ inl w ↦ cc | inr w ↦ cc ])
   answer_of (Err (Device at)) ended wanting p =
-      (p.faults, p.device (ap (λ (s : Spot). Err (Device s)) p.faults), λ too. elim (p.refused too) [ inl no ↦ cc | inr no ↦ cc ])
+      (p.faults, p.device (ap (λ (s : Spot). Err (Device s)) p.faults), λ too. elim (p.refused too) [ inl w ↦ cc | inr w ↦ cc ])
   answer_of (Err (Stopped call stable marks)) ended wanting p =
-      (ended tt, record { held = p.held tt; clean = p.clean tt; quiet = p.quiet (λ no. cc) }, λ too. elim (p.refused too) [ inl no ↦ cc | inr no ↦ cc ])
+      (ended tt, record { held = p.held tt; clean = p.clean tt; quiet = p.quiet (λ no. cc) }, λ too. elim (p.refused too) [ inl w ↦ cc | inr w ↦ cc ])
   answer_of (Err (Bad at place)) ended wanting p = p.faults
   answer_of (Err (Differs at place kept_byte read)) ended wanting p = p.faults
   answer_of (Err (Full at)) ended wanting p = (p.faults, p.full (ap (λ (s : Spot). Err (Full s)) p.faults), p.quiet (λ no. cc))
