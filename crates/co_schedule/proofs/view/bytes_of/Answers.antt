@@ -3,8 +3,8 @@ use Rattle.hex.specs.declared.error.FromHexError.TheVariants.{OddLength, Invalid
 use Rattle.co_schedule.proofs.Hex.{decoding_fails}
 use Rattle.co_schedule.proofs.view.bytes_of.Goals as goal
 
-pub unreachable-requires-in-Err-InvalidHexCharacter : goal.unreachable-requires-in-Err-InvalidHexCharacter
-unreachable-requires-in-Err-InvalidHexCharacter c =
+pub unreachable-requires : goal.unreachable-requires
+unreachable-requires c =
     let memory = decoding_fails c.args.digits.now _ c.requires c.in-Err-InvalidHexCharacter.ensures.err in
     let other = sym c.in-Err-InvalidHexCharacter.field-0-is ∙ memory in
     absurd cc
