@@ -7,7 +7,8 @@ use Rattle.co_world.proofs.Nodes.{held_left}
 use Rattle.co_top.specs.Telling.{IsToldOf, IsTextPut, HasEnded}
 use Rattle.co_top.specs.declared.status.Status.{Status}
 use Rattle.co_top.specs.declared.status.Status.TheVariants as status
-use Rattle.co_top.proofs.Plays.{told_as, untold, ended_as, not_write}
+use Rattle.co_top.proofs.Ending.{on_any}
+use Rattle.co_top.proofs.Plays.{told_as, untold, ended_as, put_ended, not_write}
 use Rattle.co_top.proofs.playing.tell_event.Goals as goal
 
 pub returns-in-Ok-clause-told : goal.returns-in-Ok-clause-told
@@ -40,3 +41,11 @@ pub returns-in-Err-clause-failed : goal.returns-in-Err-clause-failed
 returns-in-Err-clause-failed g c = λ h.
     let is : c.undone.result ≡ status.Write = (let z : Err c.undone.result ≡ Err status.Write = h in cc) in
     absurd (not_write c.in-Err.fault (sym c.undone.ensures ∙ is))
+
+pub returns-in-Ok-clause-clean : goal.returns-in-Ok-clause-clean
+returns-in-Ok-clause-clean g c = let w = c.requires.stands in on_any _ c.tell.result (c.in-Ok.ensures.answered w.0 w.1 w.2).served.clean
+
+pub returns-in-Ok-clause-ended : goal.returns-in-Ok-clause-ended
+returns-in-Ok-clause-ended g c =
+    let w = c.requires.stands in
+    put_ended _ _ _ (g.H.Home.seen c.args.home.now) (g.H.Home.seen c.step.new.home) c.tell.result (c.in-Ok.ensures.answered w.0 w.1 w.2).served.quiet c.tell.ensures.put

@@ -44,3 +44,9 @@ returns-in-Err-clause-untold g c =
     let w = c.requires.stands in
     subst (IsUntoldFor g.H.Home.seen) (sym c.undone.ensures)
     (untold_for g.H.Home.seen c.in-Err.fault c.args.home.now (g.H.Home.seen c.step.new.home) (c.in-Err.ensures.answered w.0 w.1 w.2).ended)
+
+pub returns-in_ok-note_all-in-Ok-clause-held : goal.returns-in_ok-note_all-in-Ok-clause-held
+returns-in_ok-note_all-in-Ok-clause-held g c = let w = c.requires.stands in (c.in-Ok.ensures.answered w.0 w.1 w.2).served.kept
+
+pub returns-in_ok-note_all-in-Ok-clause-ended : goal.returns-in_ok-note_all-in-Ok-clause-ended
+returns-in_ok-note_all-in-Ok-clause-ended g c = let w = c.requires.stands in (c.in-Ok.ensures.answered w.0 w.1 w.2).served.quiet
