@@ -4,7 +4,7 @@ use Rattle.std.proofs.lemmas.Cmp.{nat_list_cmp_total}
 use Rattle.co_base.specs.Order.{key_cmp}
 use Rattle.co_serial.proofs.MapViews.{view-get, view-insert}
 use Rattle.co_index.specs.Touching.{without_in}
-use Rattle.co_index.proofs.touched.KeyMap.take_away.Goals as goal
+use Rattle.co_index.proofs.touched.KeyMap+Table+unit.take_away.Goals as goal
 
 pub returns-in_default : goal.returns-in_default
 returns-in_default c =
