@@ -7,10 +7,10 @@ use Rattle.co_message.specs.declared.item.ItemKind.TheVariants as item
 use Rattle.co_plain.specs.Runs.{numbered}
 use Rattle.co_plain.specs.Step.{step_line}
 use Rattle.co_law_settle.specs.SettlingTurns.{note_in}
-use Rattle.co_cluster.proofs.Ending.{passed_on}
 use Rattle.co_world.proofs.Nodes.{held_left}
 use Rattle.co_settle.specs.Notes.{wanted_by}
 use Rattle.co_settle.specs.Progress.{IsCutIn, HasEnded, IsUntoldFor}
+use Rattle.co_settle.proofs.GoingOn.{wants_memory}
 use Rattle.co_settle.proofs.Composing.{cut_as, ended_as, untold_for, one_told, told_notes}
 use Rattle.co_settle.proofs.telling.take_step.Goals as goal
 
@@ -61,6 +61,4 @@ returns-in_ok-tell-in-Ok-clause-ended g c = let w = c.requires.stands in (c.in-O
 pub returns-in_err-tell-in-Ok-clause-ended : goal.returns-in_err-tell-in-Ok-clause-ended
 returns-in_err-tell-in-Ok-clause-ended g c =
     let w = c.requires.stands in
-    let old = g.H.Home.seen c.args.home.now in
-    let new = g.H.Home.seen c.step.new.home in
-    passed_on c.from_residual.result world.Memory (λ fault. HasEnded fault old new) c.from_residual.ensures (c.in-Ok.ensures.answered w.0 w.1 w.2).served.quiet
+    wants_memory c.step.new.self c.step.new.self (g.H.Home.seen c.args.home.now) (g.H.Home.seen c.step.new.home) c.from_residual.result c.from_residual.ensures (c.in-Ok.ensures.answered w.0 w.1 w.2).served
