@@ -28,14 +28,7 @@ fn touches_on(side: Side, t: Txn, range: &Range, u: Txn, other: &Sets) -> bool
 }
 
 /// Whether it is so with one of the others, and what the transaction read and wrote before was not.
-fn is_new(
-    others: &Table<Sets>,
-    side: Side,
-    t: Txn,
-    own: &Sets,
-    range: &Range,
-    u: Txn,
-) -> bool
+fn is_new(others: &Table<Sets>, side: Side, t: Txn, own: &Sets, range: &Range, u: Txn) -> bool
     ensures { result ≡ passes (newly_touches side t own.now range.now u) (look others.now u) }
 {
     match others.get(u) {

@@ -7,7 +7,6 @@ use Rattle.co_durable.specs.declared.fault.WorldFault.TheVariants as world
 use Rattle.co_cluster.specs.Served.{IsOfNoFile}
 
 module _ {A : Type 0} where
-
   pub no_limit : (result : Result A WorldFault) → IfErr result (λ fault. fault ≡ world.Memory) → result ≡ Err world.Count → ⊥
   no_limit (Ok a) h e = let w : ◌≡◌ {A = Result A WorldFault} (Ok a) (Err world.Count) = e in absurd (cc)
   no_limit (Err fault) h e = let w : ◌≡◌ {A = Result A WorldFault} (Err fault) (Err world.Count) = e in absurd (cc)

@@ -12,7 +12,6 @@ use Rattle.co_world.proofs.Ends.{errs_as, passed_limit, passed_memory, no_limit}
 use Rattle.co_world.proofs.Nodes.{held_left}
 use Rattle.co_world.proofs.LeftSteps.{begun_left, left_as}
 use Rattle.co_cluster.specs.Left.{coord_disarmed}
-
 -- ---- the number is used, or there are too many
 use Rattle.co_world.proofs.Answering.{refused_alone, wanting, passed_answer, did_at_coord}
 use Rattle.co_world.specs.Answered.{IsEventCut}

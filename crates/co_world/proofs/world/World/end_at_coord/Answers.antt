@@ -115,9 +115,9 @@ returns-clause-answered g c = λ s r session here.
     let flag : not c.is_stopped.result ≡ not (is_stopped step.answer) = ap not c.is_stopped.ensures ∙ ap (λ (a : Answer). not (is_stopped a)) told.answer in
     let marked = marked_asked s c.args.t session (not (is_stopped step.answer)) in
     let first : RepresentsWorld g.E.Engine.takes g.E.Engine.stands_for c.mark_asked.new.self (marked_asked (with_coord s k step.state) c.args.t session (not (is_stopped step.answer))) =
-        subst (λ (b : Bool). RepresentsWorld g.E.Engine.takes g.E.Engine.stands_for c.mark_asked.new.self (marked_asked (with_coord s k step.state) c.args.t session b)) flag (c.mark_asked.ensures.stands (with_coord s k step.state) stood session here) in
+    subst (λ (b : Bool). RepresentsWorld g.E.Engine.takes g.E.Engine.stands_for c.mark_asked.new.self (marked_asked (with_coord s k step.state) c.args.t session b)) flag (c.mark_asked.ensures.stands (with_coord s k step.state) stood session here) in
     let now : RepresentsWorld g.E.Engine.takes g.E.Engine.stands_for c.mark_asked.new.self (with_coord marked k step.state) =
-        subst (RepresentsWorld g.E.Engine.takes g.E.Engine.stands_for c.mark_asked.new.self) (marked_by_coord s c.args.t session (not (is_stopped step.answer)) k step.state) first in
+    subst (RepresentsWorld g.E.Engine.takes g.E.Engine.stands_for c.mark_asked.new.self) (marked_by_coord s c.args.t session (not (is_stopped step.answer)) k step.state) first in
     let kept = c.mark_asked.ensures.held new done.served.kept in
     did_at_coord g.E.Engine.takes g.E.Engine.stands_for c.args.number (λ z. coord_answers z c.args.t session k (z.coord k).up (coord_does k asked (z.coord k))) s c.coord_does.new.self c.tells_of_coord.new.self (g.H.Home.seen c.args.home.now) new c.tells_of_coord.result marked k step c.in_ok-did.did told
     (ap (λ (b : Bool). coord_answers s c.args.t session k b step) (sym up)) done.served (held_left g.E.Engine.takes g.E.Engine.stands_for c.mark_asked.new.self (with_coord marked k step.state) new now kept)

@@ -100,9 +100,9 @@ returns-clause-answered g c = λ s r session here.
     let flag : not c.is_held.result ≡ not (is_held step.answer) = ap not c.is_held.ensures ∙ ap (λ (a : Answer). not (is_held a)) told.answer in
     let marked = marked_asked s c.args.t session (not (is_held step.answer)) in
     let first : RepresentsWorld g.E.Engine.takes g.E.Engine.stands_for c.mark_asked.new.self (marked_asked (with_member s k step.state) c.args.t session (not (is_held step.answer))) =
-        subst (λ (b : Bool). RepresentsWorld g.E.Engine.takes g.E.Engine.stands_for c.mark_asked.new.self (marked_asked (with_member s k step.state) c.args.t session b)) flag (c.mark_asked.ensures.stands (with_member s k step.state) stood session here) in
+    subst (λ (b : Bool). RepresentsWorld g.E.Engine.takes g.E.Engine.stands_for c.mark_asked.new.self (marked_asked (with_member s k step.state) c.args.t session b)) flag (c.mark_asked.ensures.stands (with_member s k step.state) stood session here) in
     let now : RepresentsWorld g.E.Engine.takes g.E.Engine.stands_for c.mark_asked.new.self (with_member marked k step.state) =
-        subst (RepresentsWorld g.E.Engine.takes g.E.Engine.stands_for c.mark_asked.new.self) (marked_by_member s c.args.t session (not (is_held step.answer)) k step.state) first in
+    subst (RepresentsWorld g.E.Engine.takes g.E.Engine.stands_for c.mark_asked.new.self) (marked_by_member s c.args.t session (not (is_held step.answer)) k step.state) first in
     let kept = c.mark_asked.ensures.held new done.served.kept in
     did_at_member g.E.Engine.takes g.E.Engine.stands_for c.args.number (λ z. local_answers z c.args.t session k (z.member k).up (member_does k asked (z.member k))) s c.member_does.new.self c.tells_of_member.new.self (g.H.Home.seen c.args.home.now) new c.tells_of_member.result marked k step c.in_ok-did.did told
     (ap (λ (b : Bool). local_answers s c.args.t session k b step) (sym up)) done.served (held_left g.E.Engine.takes g.E.Engine.stands_for c.mark_asked.new.self (with_member marked k step.state) new now kept)
