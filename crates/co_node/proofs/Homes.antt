@@ -1,5 +1,5 @@
 -- How a log write leaves the directory.
-use Rattle.std.proofs.Common.{◌≡◌, ◌⊎◌, ℕ, Bool, true, List, refl, sym, ap, subst, ◌∙◌, inl, inr}
+use Rattle.std.proofs.Common.{◌≡◌, ◌⊎◌, ℕ, true, List, refl, sym, ap, subst, ◌∙◌, inl, inr}
 use Rattle.std.specs.Prelude.{Option, Some, Result, Ok, Err, IsErr, IsErrOf}
 use Rattle.std.specs.Result.{IsErrAnd}
 use Rattle.co_base.specs.declared.node.Node.{Node}
@@ -12,7 +12,7 @@ use Rattle.co_log.specs.Current.{IsCurrentOf, IsOldCurrent, IsNewCurrent, IsCurr
 use Rattle.co_log.specs.LogFile.{next_items}
 use Rattle.co_base.specs.declared.mark.Mark.{Mark}
 use Rattle.co_log.specs.Forcing.{IsDone}
-use Rattle.co_log.specs.LogView.{LogView, HasSpots, IsHeld, spot_of}
+use Rattle.co_log.specs.LogView.{LogView, HasSpots, spot_of}
 use Rattle.co_log.specs.NodeFiles.{Items, HasRecordsIn}
 use Rattle.co_log.specs.Others.{BothWithin, OtherNodesStay}
 use Rattle.co_log.specs.declared.fault.LogFault.{LogFault}

@@ -1,5 +1,5 @@
 use Rattle.std.proofs.Common.{refl, subst, Option}
-use Rattle.std.specs.Prelude.{IfErr, IfOk}
+use Rattle.std.specs.Prelude.{IfOk}
 use Rattle.co_outside.specs.declared.spot.Spot.{Spot}
 use Rattle.co_outside.specs.Home.{File}
 use Rattle.co_durable.specs.Durable.{IsDurable}
