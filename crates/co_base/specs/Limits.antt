@@ -1,5 +1,13 @@
--- The limits of the files of a directory of logs, and of a run over it.
+-- The limits of a federation, of the files of its directory of logs, and of a run over it.
 use Rattle.std.specs.Prelude.{ℕ}
+
+-- the most members that a federation has
+abbrev pub most_members : ℕ
+most_members = 16
+
+-- the most coordinators that a federation has
+abbrev pub most_coordinators : ℕ
+most_coordinators = 8
 
 -- the most bytes that a log file has
 abbrev pub most_log_bytes : ℕ

@@ -2,11 +2,12 @@
 use Rattle.std.specs.Prelude.{ℕ, ◌≤◌, ◌+◌}
 use Rattle.co_base.specs.declared.node.Node.{Node}
 use Rattle.co_base.specs.declared.node.Node.TheVariants.{Member, Coord}
+use Rattle.co_base.specs.Limits.{most_coordinators, most_members}
 
 -- members are numbered 1 to 16, coordinators 1 to 8
 abbrev pub IsValidNode : Node → Type 0
-IsValidNode (Member number) = (1 ≤ number) × (number ≤ 16)
-IsValidNode (Coord number) = (1 ≤ number) × (number ≤ 8)
+IsValidNode (Member number) = (1 ≤ number) × (number ≤ most_members)
+IsValidNode (Coord number) = (1 ≤ number) × (number ≤ most_coordinators)
 
 -- a member's byte is its number, a coordinator's is 128 and its number
 abbrev pub node_byte : Node → ℕ

@@ -1,5 +1,6 @@
 //! The head of a schedule: which members and coordinators a federation has.
 ghost use Rattle.std.specs.Prelude.{◌≤◌, length};
+ghost use Rattle.co_base.specs.Limits.{most_coordinators, most_members};
 
 use crate::sequence::Sequence;
 
@@ -25,7 +26,7 @@ pub struct Head {
     /// How many coordinators there are: 1 to 8.
     pub coords: u8,
     pub ghost some_member: { 1 ≤ length kinds },
-    pub ghost members: { length kinds ≤ 16 },
+    pub ghost members: { length kinds ≤ most_members },
     pub ghost some_coord: { 1 ≤ coords },
-    pub ghost coordinators: { coords ≤ 8 },
+    pub ghost coordinators: { coords ≤ most_coordinators },
 }

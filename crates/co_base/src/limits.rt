@@ -1,4 +1,10 @@
-//! The limits of the files of a directory of logs, and of a run over it.
+//! The limits of a federation, of the files of its directory of logs, and of a run over it.
+
+/// The most members that a federation has, and a directory of logs: 16.
+pub const MOST_MEMBERS: u8 = 16;
+
+/// The most coordinators that a federation has, and a directory of logs: 8.
+pub const MOST_COORDINATORS: u8 = 8;
 
 /// The most bytes that a log file has: 268,435,456.
 pub const MOST_LOG_BYTES: u32 = 268_435_456;

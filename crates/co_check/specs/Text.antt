@@ -1,5 +1,6 @@
 -- The text of a verdict.
 use Rattle.std.specs.Prelude.{ℕ, List, [], ◌∷◌, ◌++◌, codes, decimal}
+use Rattle.co_base.specs.Limits.{most_members}
 use Rattle.co_durable.specs.Durable.{numbered_rows}
 use Rattle.co_durable.specs.Text.{records_text}
 use Rattle.co_schedule.specs.LineText.{newline}
@@ -8,9 +9,6 @@ use Rattle.co_serial.specs.Family.{family_of}
 use Rattle.co_serial.specs.Records.{Records}
 use Rattle.co_check.specs.declared.verdict.Verdict.{Verdict}
 use Rattle.co_check.specs.declared.verdict.Verdict.TheVariants.{Serial, Differs}
-
-abbrev pub most_members : ℕ
-most_members = 16
 
 -- the first transaction that differs, and the number of the event of its first operation that does
 abbrev pub differs_text : ℕ → ℕ → List ℕ

@@ -1,21 +1,19 @@
 //! The text of a verdict.
 ghost use Rattle.std.specs.Prelude.{◌≡◌, ◌++◌, OnOk, OnErr};
 ghost use Rattle.co_base.specs.Lent.{Begins};
+ghost use Rattle.co_base.specs.Limits.{most_members};
 ghost use Rattle.co_durable.specs.Laying.{member_rows};
 ghost use Rattle.co_durable.specs.Text.{record_line, records_text};
 ghost use Rattle.co_durable.specs.Durable.{numbered_rows};
 ghost use Rattle.co_serial.specs.Family.{family_of};
-ghost use Rattle.co_check.specs.Text.{most_members, serial_text, differs_text, verdict_text};
+ghost use Rattle.co_check.specs.Text.{serial_text, differs_text, verdict_text};
 
 use crate::verdict::Verdict;
-use co_base::Row;
+use co_base::{MOST_MEMBERS, Row};
 use co_schedule::append_number;
 use co_serial::SerialMap;
 use itoa::Buffer;
 use std::alloc::AllocError;
-
-/// The most members of a federation.
-const MEMBERS: u8 = 16;
 
 /// Appends the line of a record: the member, the key and the value.
 fn append_row(into: &mut Vec<u8>, member: u8, row: &Row) -> Result<(), AllocError>
@@ -48,7 +46,7 @@ fn append_map(into: &mut Vec<u8>, map: &SerialMap) -> Result<(), AllocError>
     ensures ok { OnOk result (into.new.items ≡ into.old.items ++ records_text (numbered_rows (family_of map.now) 1 most_members)) }
     ensures err { OnErr result (Begins into.old.items into.new.items) }
 {
-    for member in 1..MEMBERS + 1 {
+    for member in 1..MOST_MEMBERS + 1 {
         let rows = map.rows(member)?;
         append_rows(into, member, rows.as_slice())?;
     }

@@ -4,6 +4,7 @@ use Rattle.std.specs.Prelude.{length}
 use Rattle.co_base.specs.Nodes.{IsValidNode}
 use Rattle.co_base.specs.declared.node.Node.{Node}
 use Rattle.co_base.specs.declared.node.Node.TheVariants as node
+use Rattle.co_base.specs.Limits.{most_coordinators, most_members}
 use Rattle.co_log.specs.LogView.{LogView}
 use Rattle.co_log.specs.Others.{OtherFilesStay}
 use Rattle.co_log.proofs.Spots.{stays_elsewhere}
@@ -21,8 +22,8 @@ other_kept this that log old new one two other owned stay kept = kept_stays that
 
 -- each member of a list has the next number and its own log, and so has each coordinator
 pub record AreNumbered {E : Type 0} (members : List (Member E)) (coords : List Coord) : Type 0 where
-  pub few_members : length members ≤ 16
-  pub few_coords : length coords ≤ 8
+  pub few_members : length members ≤ most_members
+  pub few_coords : length coords ≤ most_coordinators
   pub member : (p : ℕ) (m : Member E) → slice_get members p ≡ Some m → (m.number ≡ suc p) × (m.log.node ≡ node.Member m.number)
   pub coord : (p : ℕ) (c : Coord) → slice_get coords p ≡ Some c → (c.number ≡ suc p) × (c.log.node ≡ node.Coord c.number)
 

@@ -31,7 +31,7 @@ use Rattle.co_cluster.specs.declared.calls.CoordCall.{CoordCall}
 use Rattle.co_cluster.specs.declared.calls.MemberCall.{MemberCall}
 use Rattle.co_plain.specs.declared.coord_state.CoordState.{CoordState}
 use Rattle.co_plain.specs.declared.member_state.MemberState.{MemberState}
-use Rattle.co_base.specs.Limits.{most_log_bytes}
+use Rattle.co_base.specs.Limits.{most_coordinators, most_log_bytes, most_members}
 use Rattle.co_log.specs.Attaching.{IsWithin}
 use Rattle.co_log.proofs.Spots.{stays_elsewhere}
 use Rattle.co_cluster.proofs.Places.{at_other, at_same, within_list}
@@ -144,8 +144,8 @@ no_member e = absurd cc
 
 -- a federation of few nodes
 pub record AreFew (s : Federation) : Type 0 where
-  pub members : length s.kinds ≤ 16
-  pub coords : s.coordinators ≤ 8
+  pub members : length s.kinds ≤ most_members
+  pub coords : s.coordinators ≤ most_coordinators
 
 module _ (s : Federation) (few : AreFew s) (old new : HomeView) (before : AreLeftAs old.file s) where
   -- the member of a number has these records now, and all others what they had

@@ -1,7 +1,7 @@
 -- For which plain nodes the nodes of a federation stand.
 use Rattle.std.specs.Prelude.{ℕ, suc, ◌≡◌, ◌≤◌, length, slice_get, Some}
 use Rattle.co_base.specs.declared.head.Kind.{Kind}
-use Rattle.co_record.specs.Format.{most_members, most_coordinators}
+use Rattle.co_base.specs.Limits.{most_coordinators, most_members}
 use Rattle.co_outside.specs.Home.{HomeView}
 use Rattle.co_plain.specs.Federation.{Federation}
 use Rattle.co_state.specs.declared.engine_state.EngineState.{EngineState}

@@ -1,5 +1,6 @@
 //! What the nodes of a federation tell.
 ghost use Rattle.std.specs.Prelude.{◌≡◌, ◌≤◌, ◌-◌, true, length, MatchOption};
+ghost use Rattle.co_base.specs.Limits.{most_coordinators, most_members};
 ghost use Rattle.co_opening.specs.Nodes.{IsMemberAt, IsCoordAt};
 ghost use Rattle.co_member.specs.Reading.{phase_of};
 ghost use Rattle.co_plain.specs.Federation.{Federation};
@@ -22,7 +23,7 @@ impl<E: Engine + Drop> Cluster<E> {
     pub(crate) fn member_count(&self) -> u8
         requires stands { (s : Federation) × RepresentsCluster E.takes E.stands_for self.now s }
         ensures count { result ≡ length self.now.members.items }
-        ensures few { result ≤ 16 }
+        ensures few { result ≤ most_members }
     {
         self.members.len() as u8
     }
@@ -31,7 +32,7 @@ impl<E: Engine + Drop> Cluster<E> {
     pub(crate) fn coord_count(&self) -> u8
         requires stands { (s : Federation) × RepresentsCluster E.takes E.stands_for self.now s }
         ensures count { result ≡ length self.now.coords.items }
-        ensures few { result ≤ 8 }
+        ensures few { result ≤ most_coordinators }
     {
         self.coords.len() as u8
     }

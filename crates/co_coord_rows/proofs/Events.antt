@@ -3,13 +3,13 @@ use Rattle.std.proofs.Common.{◌≡◌, ℕ, Bool, true, false, List, sym, subs
 use Rattle.std.specs.Prelude.{Ok}
 use Rattle.co_base.specs.declared.node.Node.{Node}
 use Rattle.co_base.specs.declared.part.Part.{Part}
+use Rattle.co_base.specs.Limits.{most_coordinators}
 use Rattle.co_message.specs.declared.message.Message.{Message}
 use Rattle.co_message.specs.declared.message.Message.TheVariants as message
 use Rattle.co_outside.specs.declared.home_memory.HomeMemory.{HomeMemory}
 use Rattle.co_log.specs.LogView.{LogView, IsHeld}
 use Rattle.co_outside.specs.Home.{HomeView}
 use Rattle.co_node.specs.declared.written.Written.TheVariants.{Done}
-use Rattle.co_record.specs.Format.{most_coordinators}
 use Rattle.co_plain.specs.Coordinator.{coord_deliver}
 use Rattle.co_plain.specs.declared.coord_state.CoordState.{CoordState}
 use Rattle.co_plain.specs.declared.coord_step.CoordStep.{CoordStep as PlainStep}

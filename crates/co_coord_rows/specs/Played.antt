@@ -3,10 +3,10 @@ use Rattle.std.specs.Prelude.{ℕ, Bool, true, ◌≡◌, List, []}
 use Rattle.co_base.specs.Order.{IsAscending}
 use Rattle.co_base.specs.declared.node.Node.TheVariants as node
 use Rattle.co_base.specs.declared.part.Part.{Part}
+use Rattle.co_base.specs.Limits.{most_coordinators}
 use Rattle.co_outside.specs.declared.home_memory.HomeMemory.{HomeMemory}
 use Rattle.co_outside.specs.HomeMemory.{memory_seen}
 use Rattle.co_log.specs.LogView.{LogView, IsHeld}
-use Rattle.co_record.specs.Format.{most_coordinators}
 use Rattle.co_node.specs.NodeLog.{RepresentsLog}
 use Rattle.co_plain.specs.CoordStep.{members_of}
 use Rattle.co_plain.specs.CoordView.{all_up_to}

@@ -3,14 +3,15 @@ use Rattle.std.proofs.Common.{◌≡◌, ℕ, zero, suc, ◌+◌, ◌-◌, ◌�
 use Rattle.std.specs.List.{AllByRecursion}
 use Rattle.std.proofs.lemmas.List.{length_push}
 use Rattle.co_base.specs.Nodes.{IsValidNode}
+use Rattle.co_base.specs.Limits.{most_coordinators, most_members}
 use Rattle.co_durable.specs.Nodes.{numbered, member_nodes, coord_nodes}
 use Rattle.co_durable.proofs.Pairs.{all_append}
 
-pub members_valid : (count : ℕ) → count ≤ 16 → AllByRecursion IsValidNode (member_nodes count)
+pub members_valid : (count : ℕ) → count ≤ most_members → AllByRecursion IsValidNode (member_nodes count)
 members_valid zero h = tt
 members_valid (suc count) h = all_append IsValidNode (member_nodes count) _ (members_valid count (omega (arith, h))) ((omega arith, h), tt)
 
-pub coords_valid : (count : ℕ) → count ≤ 8 → AllByRecursion IsValidNode (coord_nodes count)
+pub coords_valid : (count : ℕ) → count ≤ most_coordinators → AllByRecursion IsValidNode (coord_nodes count)
 coords_valid zero h = tt
 coords_valid (suc count) h = all_append IsValidNode (coord_nodes count) _ (coords_valid count (omega (arith, h))) ((omega arith, h), tt)
 

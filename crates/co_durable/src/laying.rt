@@ -1,5 +1,6 @@
 //! The records of members with what their decided votes wrote.
 ghost use Rattle.std.specs.Prelude.{◌≡◌, ◌≤◌, ◌++◌, IfOk, OnOk, length};
+ghost use Rattle.co_base.specs.Limits.{most_members};
 ghost use Rattle.co_serial.specs.Records.{all_rows};
 ghost use Rattle.co_state.specs.Table.{holds};
 ghost use Rattle.co_durable.specs.Laying.{seen_by, with_decided_votes, durable_of_past, member_rows, durable_of_pasts};
@@ -65,7 +66,7 @@ pub fn durable_rows(
     pasts: &[MemberPast],
     seen: &[Numbers],
 ) -> Result<Durable, AllocError>
-    requires { length pasts.now ≤ 16 }
+    requires { length pasts.now ≤ most_members }
     ensures { IfOk result (λ durable. durable ≡ durable_of_pasts seen.now pasts.now) }
 {
     let mut durable = Durable::new(alloc);

@@ -2,6 +2,7 @@
 ghost use Rattle.std.specs.Prelude.{◌≡◌, IfOk, IfErr, IsErrOf, ◌≤◌, true};
 ghost use Rattle.std.specs.List.{AllByRecursion};
 ghost use Rattle.co_base.specs.Nodes.{IsValidNode};
+ghost use Rattle.co_base.specs.Limits.{most_coordinators, most_members};
 ghost use Rattle.co_outside.specs.declared.spot.Spot.{Spot};
 ghost use Rattle.co_outside.specs.Home.{HasFailed};
 ghost use Rattle.co_log.specs.Attaching.{IsOfAttach};
@@ -72,7 +73,7 @@ pub(crate) fn read_members<H: Home>(
     home: &mut H,
     count: u8,
 ) -> Result<Vec<Log>, WorldFault>
-    requires { count ≤ 16 }
+    requires { count ≤ most_members }
     ensures read { IfOk result (λ logs. EachPair (IsLogOf (H.seen home.old).file) (member_nodes count) logs.items) }
     ensures unread { IfErr result (IsFirstUnread (H.seen home.old).file (member_nodes count)) }
     ensures reads { OnlyReads (H.seen home.old) (H.seen home.new) }
@@ -89,7 +90,7 @@ pub(crate) fn read_coords<H: Home>(
     home: &mut H,
     count: u8,
 ) -> Result<Vec<Log>, WorldFault>
-    requires { count ≤ 8 }
+    requires { count ≤ most_coordinators }
     ensures read { IfOk result (λ logs. EachPair (IsLogOf (H.seen home.old).file) (coord_nodes count) logs.items) }
     ensures unread { IfErr result (IsFirstUnread (H.seen home.old).file (coord_nodes count)) }
     ensures reads { OnlyReads (H.seen home.old) (H.seen home.new) }

@@ -1,5 +1,6 @@
 //! The durable records of a directory of logs.
 ghost use Rattle.std.specs.Prelude.{◌≡◌, ◌≤◌, Some, OnOk, IfOk, IfErr, IsErrOf, length};
+ghost use Rattle.co_base.specs.Limits.{most_coordinators, most_members};
 ghost use Rattle.co_outside.specs.declared.spot.Spot.{Spot};
 ghost use Rattle.co_outside.specs.Home.{HasFailed};
 ghost use Rattle.co_durable.specs.Directory.{IsUnreadable};
@@ -11,15 +12,9 @@ use crate::fault::WorldFault;
 use crate::laying::durable_rows;
 use crate::reading::{read_coords, read_members};
 use crate::recovering::{recover_coords, recover_members};
-use co_base::Head;
+use co_base::{Head, MOST_COORDINATORS, MOST_MEMBERS};
 use co_outside::{Home, HomeFault, Spot};
 use std::alloc::Global;
-
-/// How many members a directory of logs may have.
-const MEMBERS: u8 = 16;
-
-/// How many coordinators a directory of logs may have.
-const COORDS: u8 = 8;
 
 /// The durable records of so many members and coordinators, by their logs.
 fn read_rows<H: Home>(
@@ -28,8 +23,8 @@ fn read_rows<H: Home>(
     members: u8,
     coords: u8,
 ) -> Result<Durable, WorldFault>
-    requires members { members ≤ 16 }
-    requires coords { coords ≤ 8 }
+    requires members { members ≤ most_members }
+    requires coords { coords ≤ most_coordinators }
     ensures durable { IfOk result (IsDurable (H.seen home.old).file members coords) }
     ensures undurable { IfErr result (IsUndurable (H.seen home.old).file members coords) }
     ensures reads { OnlyReads (H.seen home.old) (H.seen home.new) }
@@ -76,7 +71,7 @@ pub fn read_directory<H: Home>(
     home: &mut H,
     dir: &str,
 ) -> Result<Durable, WorldFault>
-    ensures durable { IfOk result (IsDurable (H.seen home.old).file 16 8) }
+    ensures durable { IfOk result (IsDurable (H.seen home.old).file most_members most_coordinators) }
     ensures refused { IfErr result (IsUnreadable (H.seen home.old).file) }
     ensures files { (s : Spot) → (H.seen home.new).file s ≡ (H.seen home.old).file s }
     ensures entered { OnOk result ((H.seen home.new).entered ≡ Some dir.now) }
@@ -84,7 +79,7 @@ pub fn read_directory<H: Home>(
     ensures quiet { ((spot : Spot) → IsErrOf result (WorldFault.Device spot) → ⊥) → (H.seen home.new).faults ≡ (H.seen home.old).faults }
 {
     match home.enter(alloc, dir) {
-        Ok(()) => read_rows(alloc, home, MEMBERS, COORDS),
+        Ok(()) => read_rows(alloc, home, MOST_MEMBERS, MOST_COORDINATORS),
         Err(HomeFault::Failed) => Err(WorldFault::Device { spot: Spot::FIRST }),
         Err(HomeFault::Memory) => Err(WorldFault::Memory),
     }

@@ -2,7 +2,7 @@
 use Rattle.std.proofs.Common.{◌≡◌, ℕ, true, ◌≤◌, List, length, reverse, None, sym, ◌∙◌, arith}
 use Rattle.std.specs.List.{AllByRecursion}
 use Rattle.co_base.specs.declared.head.Kind.{Kind}
-use Rattle.co_record.specs.Format.{most_coordinators, most_members}
+use Rattle.co_base.specs.Limits.{most_coordinators, most_members}
 use Rattle.co_record.specs.Spelling.{IsWritable}
 use Rattle.co_plain.specs.declared.coord_state.CoordState.{CoordState}
 use Rattle.co_plain.specs.declared.happening.Happening.{Happening}

@@ -2,7 +2,7 @@
 ghost use Rattle.std.specs.Prelude.{ℕ, List, ◌≡◌, ◌≤◌, length, reverse, None};
 ghost use Rattle.std.specs.List.{AllByRecursion};
 ghost use Rattle.co_base.specs.declared.head.Kind.{Kind};
-ghost use Rattle.co_record.specs.Format.{most_coordinators, most_members};
+ghost use Rattle.co_base.specs.Limits.{most_coordinators, most_members};
 ghost use Rattle.co_record.specs.Spelling.{IsWritable};
 ghost use Rattle.co_plain.specs.declared.happening.Happening.{Happening};
 ghost use Rattle.co_plain.specs.MemberView.{first_refused_at_member};

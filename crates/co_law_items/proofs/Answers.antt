@@ -3,6 +3,7 @@
 use Rattle.std.proofs.Common.{ℕ, ◌≤◌, List, length}
 use Rattle.std.specs.List.{AllByRecursion}
 use Rattle.co_base.specs.declared.mark.Mark.{Mark}
+use Rattle.co_base.specs.Limits.{most_coordinators, most_members}
 use Rattle.co_message.specs.declared.answer.Answer.{Answer}
 use Rattle.co_message.specs.declared.answer.Answer.TheVariants as answer
 use Rattle.co_message.specs.declared.item.ItemKind.{ItemKind}
@@ -24,13 +25,13 @@ module _ (P : List ℕ → Type 0) where
 
   abbrev pub IsKindOf : ItemKind → Type 0
   IsKindOf (item.Head head) = Unit {0}
-  IsKindOf (item.Event event) = IsEventFor 16 8 event × (length (line_text event) ≤ longest_line)
+  IsKindOf (item.Event event) = IsEventFor most_members most_coordinators event × (length (line_text event) ≤ longest_line)
   IsKindOf (item.Log mark) = IsMark mark
-  IsKindOf (item.Sent message) = IsMessageFor 16 8 message
+  IsKindOf (item.Sent message) = IsMessageFor most_members most_coordinators message
   IsKindOf (item.Answered a) = IsAnswerOf a
 
-  pub items_named : (marks : List Mark) (messages : List Message) (a : Answer) → AllByRecursion IsMark marks → AllByRecursion (IsMessageFor 16 8) messages → IsAnswerOf a →
+  pub items_named : (marks : List Mark) (messages : List Message) (a : Answer) → AllByRecursion IsMark marks → AllByRecursion (IsMessageFor most_members most_coordinators) messages → IsAnswerOf a →
       AllByRecursion IsKindOf (items_of marks messages a)
   items_named marks messages a h k n =
       all_append IsKindOf _ _ (all_map IsMark IsKindOf item.Log (λ mark p. p) marks h)
-      (all_append IsKindOf _ _ (all_map (IsMessageFor 16 8) IsKindOf item.Sent (λ message p. p) messages k) (n, tt))
+      (all_append IsKindOf _ _ (all_map (IsMessageFor most_members most_coordinators) IsKindOf item.Sent (λ message p. p) messages k) (n, tt))

@@ -7,6 +7,7 @@ use Rattle.co_base.proofs.Ordered.{sorted_none}
 use Rattle.co_base.specs.declared.leaves.Leaves.{Leaves}
 use Rattle.co_base.specs.declared.node.Node.TheVariants as node
 use Rattle.co_base.specs.declared.part.Part.{Part}
+use Rattle.co_base.specs.Limits.{most_coordinators, most_members}
 use Rattle.co_message.specs.declared.answer.Answer.{Answer}
 use Rattle.co_message.specs.declared.answer.Answer.TheVariants as answer
 use Rattle.co_message.specs.declared.answer.Cause.{Cause}
@@ -48,8 +49,8 @@ module _ (P : List ℕ → Type 0) where
   pub record CoordDid (waiting : ℕ) (did : CoordStep) : Type 0 where
     pub state : IsCoordOf did.state
     pub answer : IsAnswerOf P did.answer
-    pub sent : AllByRecursion (IsMessageFor 16 8) did.sent
-    pub sent_few : length did.sent ≤ 16
+    pub sent : AllByRecursion (IsMessageFor most_members most_coordinators) did.sent
+    pub sent_few : length did.sent ≤ most_members
     pub marks : AllByRecursion IsMark did.marks
     pub few : length did.marks + length did.state.log.waiting ≤ waiting + 1
 
@@ -65,10 +66,10 @@ module _ (P : List ℕ → Type 0) where
   coord_logged : (y : CoordState) → IsCoordOf y → (l : LogState) → IsLogOf P l → IsCoordOf (with_coord_log y l)
   coord_logged y n l h = record { table = n.table; log = h }
 
-  module _ (c : ℕ) (own : IsWithin 1 8 c) where
+  module _ (c : ℕ) (own : IsWithin 1 most_coordinators c) where
     -- however a forced write ends
     coord_forces : (next : CoordState) → IsCoordOf next → (batch : List Record) → AllByRecursion (IsRecordOf P) batch → length batch ≤ 1 →
-        (a : Answer) → IsAnswerOf P a → (sent : List Message) → AllByRecursion (IsMessageFor 16 8) sent → length sent ≤ 16 →
+        (a : Answer) → IsAnswerOf P a → (sent : List Message) → AllByRecursion (IsMessageFor most_members most_coordinators) sent → length sent ≤ most_members →
         CoordDid (length next.log.waiting) (force_coord c next batch a sent)
     coord_forces next n batch h short a said sent goes sent_few = by (outcome_of next.log.armed 4) (outcome_named next.log.armed n.log.armed 4)
       where
@@ -117,7 +118,7 @@ module _ (P : List ℕ → Type 0) where
       coord_stays a said = coord_tells y n (omega arith) a said
 
       coord_goes : (z : CoordState) → IsCoordOf z → length z.log.waiting ≤ length y.log.waiting + 1 → (a : Answer) → IsAnswerOf P a → (sent : List Message) →
-          AllByRecursion (IsMessageFor 16 8) sent → length sent ≤ 16 → Did (coord_sends z a sent)
+          AllByRecursion (IsMessageFor most_members most_coordinators) sent → length sent ≤ most_members → Did (coord_sends z a sent)
       coord_goes z k more a said sent goes few = record { state = k; answer = said; sent = goes; sent_few = few; marks = tt; few = omega (arith, more) }
 
       tabled : (t : ℕ) (e : Entry) → IsEntry t e → IsCoordOf (with_table y (put y.table t e))
@@ -168,7 +169,7 @@ module _ (P : List ℕ → Type 0) where
           decides : (parts : List Part) (yeses : List ℕ) → IsTxn t → AreParts parts → (o : Option ℕ) → first_lacking (members_of parts) yeses ≡ o → Did (decided_by c y t parts yeses o)
           decides parts yeses small h (Some k) e =
               coord_tells (with_table y (put y.table t (entry.Collecting parts yeses))) (tabled t (entry.Collecting parts yeses) (small, h, (k, e))) (omega arith) (answer.Waiting k)
-              (found_in (IsWithin 1 16) (λ i. not (has_number yeses i)) (members_of parts) (parts_members parts h).0 k e)
+              (found_in (IsWithin 1 most_members) (λ i. not (has_number yeses i)) (members_of parts) (parts_members parts h).0 k e)
           decides parts yeses small h None e =
               let named = parts_members parts h in
               coord_forces (with_table y (put y.table t (entry.Committed (members_of parts) []))) (tabled t (entry.Committed (members_of parts) []) (small, named))
@@ -197,7 +198,7 @@ module _ (P : List ℕ → Type 0) where
           by (Some (entry.Collecting parts yeses)) e = counts parts yeses (n.table t (entry.Collecting parts yeses) e) (has_part parts m)
           by (Some (entry.Committed ms acks)) e = coord_stays answer.Decided tt
 
-      pub did_coord_ask : (t m : ℕ) → IsTxn t → IsWithin 1 16 m → Did (coord_ask c y t m)
+      pub did_coord_ask : (t m : ℕ) → IsTxn t → IsWithin 1 most_members m → Did (coord_ask c y t m)
       did_coord_ask t m small near = by (look y.table t) refl
         where
           by : (o : Option Entry) → look y.table t ≡ o → Did (ask_entry c y t m o)
@@ -254,9 +255,9 @@ module _ (P : List ℕ → Type 0) where
               let short = few_members ms k.1 in
               let fewer = few_filtered test ms in
               coord_goes y n (omega arith) answer.Decided tt (decisions_to c t true (numbers_lacking ms acks))
-              (decisions_named c t true own k.0 (numbers_lacking ms acks) (all_filter (IsWithin 1 16) test ms k.1.0)) (decisions_few c t true (numbers_lacking ms acks) (omega (arith, short, fewer)))
+              (decisions_named c t true own k.0 (numbers_lacking ms acks) (all_filter (IsWithin 1 most_members) test ms k.1.0)) (decisions_few c t true (numbers_lacking ms acks) (omega (arith, short, fewer)))
 
-      pub did_coord_deliver : (note : Message) → IsMessageFor 16 8 note → Did (coord_deliver c y note)
+      pub did_coord_deliver : (note : Message) → IsMessageFor most_members most_coordinators note → Did (coord_deliver c y note)
       did_coord_deliver (message.Vote t m coord granted) h = did_coord_vote t m granted
       did_coord_deliver (message.Ask t m coord) h = did_coord_ask t m h.0 h.1
       did_coord_deliver (message.Ack t m coord) h = did_coord_ack t m

@@ -13,6 +13,7 @@ use Rattle.co_base.specs.declared.op.Op.TheVariants.{Read, Write, Erase, Scan}
 use Rattle.co_base.specs.declared.reply.Reply.{Reply}
 use Rattle.co_base.specs.declared.reply.Reply.TheVariants.{Got, Rows, Done}
 use Rattle.co_base.specs.declared.written.Written.{Written}
+use Rattle.co_base.specs.Limits.{most_coordinators}
 use Rattle.co_schedule.specs.View.{IsWithin, IsTxn}
 use Rattle.co_serial.specs.Records.{Records, with_changes}
 use Rattle.co_serial.specs.SerialRun.{reply_to}
@@ -192,7 +193,7 @@ module _ (P : List ℕ → Type 0) where
           voted = n.voted;
         }
 
-    pub cast_named : (t coord count : ℕ) → IsTxn t → IsWithin 1 8 coord → IsEngineOf (after_cast b t coord count)
+    pub cast_named : (t coord count : ℕ) → IsTxn t → IsWithin 1 most_coordinators coord → IsEngineOf (after_cast b t coord count)
     cast_named t coord count small own =
         record {
           base = n.base;

@@ -18,6 +18,7 @@ use Rattle.co_plain.specs.MemberView.{install_in, view_with, recovered_view, eng
 use Rattle.co_plain.specs.Numbers.{next_generation}
 use Rattle.co_plain.specs.declared.log_state.LogState.{LogState}
 use Rattle.co_base.specs.declared.leaves.Stop.{Stop}
+use Rattle.co_base.specs.Limits.{most_coordinators, most_members}
 use Rattle.co_plain.specs.declared.member_view.MemberView.{MemberView}
 use Rattle.co_plain.specs.declared.outcome.Outcome.{Outcome}
 use Rattle.co_plain.specs.declared.outcome.Outcome.TheVariants.{Completes, StopsAt}
@@ -27,7 +28,7 @@ use Rattle.co_law_items.proofs.Engines.{IsEngineOf, restored_named}
 
 -- the members that a commit names
 abbrev pub AreMembers : List ℕ → Type 0
-AreMembers ms = AllByRecursion (IsWithin 1 16) ms × IsAscending ms
+AreMembers ms = AllByRecursion (IsWithin 1 most_members) ms × IsAscending ms
 
 -- an armed stop is in one of the four device calls
 abbrev pub IsStop : Stop → Type 0
@@ -51,7 +52,7 @@ generation_small generation = omega arith
 module _ (P : List ℕ → Type 0) where
   abbrev pub IsRecordOf : Record → Type 0
   IsRecordOf (log.Header owner generation) = generation ≤ 4294967295
-  IsRecordOf (log.Prepare t coord count reads writes) = IsTxn t × IsWithin 1 8 coord × AllByRecursion (IsChangeOf P) writes
+  IsRecordOf (log.Prepare t coord count reads writes) = IsTxn t × IsWithin 1 most_coordinators coord × AllByRecursion (IsChangeOf P) writes
   IsRecordOf (log.Commit t members) = IsTxn t × AreMembers members
   IsRecordOf (log.Abort t) = IsTxn t
   IsRecordOf (log.End t) = IsTxn t
@@ -120,7 +121,7 @@ module _ (P : List ℕ → Type 0) where
 
   -- ---- marks
 
-  mark_named : (at : Node) → IsNode 16 8 at → (r : Record) → IsRecordOf r → IsMark (mark_of at r)
+  mark_named : (at : Node) → IsNode most_members most_coordinators at → (r : Record) → IsRecordOf r → IsMark (mark_of at r)
   mark_named at own (log.Header owner generation) h = (own, h)
   mark_named at own (log.Prepare t coord count reads writes) h = (own, h.0)
   mark_named at own (log.Commit t members) h = (own, h.0)
@@ -128,11 +129,11 @@ module _ (P : List ℕ → Type 0) where
   mark_named at own (log.End t) h = (own, h)
   mark_named at own (log.Checkpoint rows undos committed) h = (own, omega arith)
 
-  pub marks_named : (at : Node) → IsNode 16 8 at → (rs : List Record) → AllByRecursion IsRecordOf rs → AllByRecursion IsMark (marks_of at rs)
+  pub marks_named : (at : Node) → IsNode most_members most_coordinators at → (rs : List Record) → AllByRecursion IsRecordOf rs → AllByRecursion IsMark (marks_of at rs)
   marks_named at own rs h = all_map IsRecordOf IsMark (mark_of at) (mark_named at own) (reverse rs) (all_reverse IsRecordOf rs h)
 
 pub marks_counted : (at : Node) (rs : List Record) → length (marks_of at rs) ≡ length rs
 marks_counted at rs = length-map (reverse rs) (mark_of at) ∙ length-reverse rs
 
-pub checkpoint_named : (at : Node) → IsNode 16 8 at → (generation : ℕ) → AllByRecursion IsMark (checkpoint_marks at (next_generation generation))
+pub checkpoint_named : (at : Node) → IsNode most_members most_coordinators at → (generation : ℕ) → AllByRecursion IsMark (checkpoint_marks at (next_generation generation))
 checkpoint_named at own generation = ((own, generation_small generation), tt)

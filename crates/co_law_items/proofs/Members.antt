@@ -7,6 +7,7 @@ use Rattle.co_base.proofs.Ordered.{sorted_none}
 use Rattle.co_base.specs.declared.leaves.Leaves.{Leaves}
 use Rattle.co_base.specs.declared.node.Node.TheVariants as node
 use Rattle.co_base.specs.declared.op.Op.{Op}
+use Rattle.co_base.specs.Limits.{most_coordinators, most_members}
 use Rattle.co_message.specs.declared.answer.Answer.{Answer}
 use Rattle.co_message.specs.declared.answer.Answer.TheVariants as answer
 use Rattle.co_message.specs.declared.answer.Cause.TheVariants as cause
@@ -47,7 +48,7 @@ use Rattle.co_law_items.proofs.Answers.{IsAnswerOf}
 
 -- what a prepare asked
 abbrev pub IsAsked : ℕ → AskedMark → Type 0
-IsAsked t mark = IsWithin 1 8 mark.coord × IsCount mark.count
+IsAsked t mark = IsWithin 1 most_coordinators mark.coord × IsCount mark.count
 
 counted_small : (n : ℕ) → counted n ≤ 65535
 counted_small n = omega arith
@@ -62,7 +63,7 @@ module _ (P : List ℕ → Type 0) where
   pub record MemberDid (waiting : ℕ) (did : MemberStep) : Type 0 where
     pub state : IsMemberOf did.state
     pub answer : IsAnswerOf P did.answer
-    pub sent : AllByRecursion (IsMessageFor 16 8) (message_list did.sent)
+    pub sent : AllByRecursion (IsMessageFor most_members most_coordinators) (message_list did.sent)
     pub marks : AllByRecursion IsMark did.marks
     pub few : length did.marks + length did.state.log.waiting ≤ waiting + 2
 
@@ -72,10 +73,10 @@ module _ (P : List ℕ → Type 0) where
   logged : (x : MemberState) → IsMemberOf x → (l : LogState) → IsLogOf P l → IsMemberOf (with_log x l)
   logged x n l h = record { engine = n.engine; asked = n.asked; log = h }
 
-  module _ (m : ℕ) (own : IsWithin 1 16 m) where
+  module _ (m : ℕ) (own : IsWithin 1 most_members m) where
     -- however a forced write ends
     forces : (next : MemberState) → IsMemberOf next → (batch : List Record) → AllByRecursion (IsRecordOf P) batch → length batch ≤ 2 →
-        (a : Answer) → IsAnswerOf P a → (sent : Option Message) → AllByRecursion (IsMessageFor 16 8) (message_list sent) →
+        (a : Answer) → IsAnswerOf P a → (sent : Option Message) → AllByRecursion (IsMessageFor most_members most_coordinators) (message_list sent) →
         MemberDid (length next.log.waiting) (force_member m next batch a sent)
     forces next n batch h short a said sent goes = by (outcome_of next.log.armed 4) (outcome_named next.log.armed n.log.armed 4)
       where
@@ -122,7 +123,7 @@ module _ (P : List ℕ → Type 0) where
       stays : (a : Answer) → IsAnswerOf P a → Did (says x a)
       stays a said = tells x n (omega arith) a said
 
-      sends : (z : MemberState) → IsMemberOf z → length z.log.waiting ≤ length x.log.waiting + 1 → (a : Answer) → IsAnswerOf P a → (note : Message) → IsMessageFor 16 8 note →
+      sends : (z : MemberState) → IsMemberOf z → length z.log.waiting ≤ length x.log.waiting + 1 → (a : Answer) → IsAnswerOf P a → (note : Message) → IsMessageFor most_members most_coordinators note →
           Did (record { state = z; answer = a; sent = Some note; marks = [] })
       sends z k more a said note goes = record { state = k; answer = said; sent = (goes, tt); marks = tt; few = omega (arith, more) }
 
@@ -145,14 +146,14 @@ module _ (P : List ℕ → Type 0) where
           by false most = stays _ (counted_small (kept_count x.engine t), counted_small carried)
 
       -- the records of a vote
-      prepared : (t coord count : ℕ) → IsTxn t → IsWithin 1 8 coord → IsRecordOf P (prepare_record t coord count (sets_of (operations_of x.engine t)))
+      prepared : (t coord count : ℕ) → IsTxn t → IsWithin 1 most_coordinators coord → IsRecordOf P (prepare_record t coord count (sets_of (operations_of x.engine t)))
       prepared t coord count small near = (small, near, changes_of_named P (operations_of x.engine t) (operations_named P x.engine n.engine t))
 
-      votes : (t coord count : ℕ) → IsTxn t → IsWithin 1 8 coord → IsMemberOf (voted_state x t coord count)
+      votes : (t coord count : ℕ) → IsTxn t → IsWithin 1 most_coordinators coord → IsMemberOf (voted_state x t coord count)
       votes t coord count small near =
           record { engine = cast_named P x.engine n.engine t coord count small near; asked = holds_without IsAsked x.asked n.asked t; log = n.log }
 
-      pub did_vote_on : (t coord count : ℕ) → IsTxn t → IsWithin 1 8 coord → IsCount count → Did (vote_on m x t coord count)
+      pub did_vote_on : (t coord count : ℕ) → IsTxn t → IsWithin 1 most_coordinators coord → IsCount count → Did (vote_on m x t coord count)
       did_vote_on t coord count small near few = by (vote_of x.engine t count) (verdict_named P x.engine n.engine t count)
         where
           by : (v : Verdict) → IsVerdictOf P v → Did (vote_by m x t coord count v)
@@ -177,8 +178,8 @@ module _ (P : List ℕ → Type 0) where
           by false false false = stays answer.Absent tt
 
       -- the coordinator of who is voted
-      near_in : (t : ℕ) (vote : Vote) → look x.engine.voted t ≡ Some vote → IsWithin 1 8 (coord_of x t)
-      near_in t vote e = subst (λ o. IsWithin 1 8 (coord_in o)) (sym e) (n.engine.voted t vote e).1
+      near_in : (t : ℕ) (vote : Vote) → look x.engine.voted t ≡ Some vote → IsWithin 1 most_coordinators (coord_of x t)
+      near_in t vote e = subst (λ o. IsWithin 1 most_coordinators (coord_in o)) (sym e) (n.engine.voted t vote e).1
 
       pub did_ask : (t : ℕ) → IsTxn t → Did (member_ask m x t)
       did_ask t small = by (holds x.engine.active t) (look x.engine.voted t) (holds x.committed t) refl
@@ -207,7 +208,7 @@ module _ (P : List ℕ → Type 0) where
           by false false true = stays answer.Absent tt
           by false false false = stays answer.Absent tt
 
-      pub did_decide : (t coord : ℕ) (commit : Bool) → IsTxn t → IsWithin 1 8 coord → Did (member_decide m x t coord commit)
+      pub did_decide : (t coord : ℕ) (commit : Bool) → IsTxn t → IsWithin 1 most_coordinators coord → Did (member_decide m x t coord commit)
       did_decide t coord true small near = by (holds x.engine.active t) (holds x.engine.voted t) (holds x.committed t)
         where
           by : (a v c : Bool) → Did (commit_by m x t coord (standing_by a v c))
@@ -230,7 +231,7 @@ module _ (P : List ℕ → Type 0) where
       pub did_local_commit : (t carried : ℕ) → IsTxn t → Did (member_local_commit m x t carried)
       did_local_commit t carried small = by (carried == 0)
         where
-          near : IsWithin 1 8 local_coord
+          near : IsWithin 1 most_coordinators local_coord
           near = (omega arith, omega arith)
 
           grants : (v : Verdict) → IsVerdictOf P v → Did (local_commit_by m x t carried v)
@@ -313,7 +314,7 @@ module _ (P : List ℕ → Type 0) where
           by true = fills (outcome_of x.log.armed 4) (outcome_named x.log.armed n.log.armed 4)
 
     module _ (x : MemberState) (n : IsMemberOf x) where
-      pub did_prepare : (t coord count : ℕ) → IsTxn t → IsWithin 1 8 coord → IsCount count → MemberDid (length x.log.waiting) (member_prepare m x t coord count)
+      pub did_prepare : (t coord count : ℕ) → IsTxn t → IsWithin 1 most_coordinators coord → IsCount count → MemberDid (length x.log.waiting) (member_prepare m x t coord count)
       did_prepare t coord count small near few = by (holds x.engine.active t) (look x.engine.voted t) (holds x.committed t) refl
         where
           marked : IsMemberOf (with_mark x t coord count)
@@ -325,7 +326,7 @@ module _ (P : List ℕ → Type 0) where
           by false None true e = stays x n answer.Already tt
           by false None false e = did_vote_on x n t coord count small near few
 
-      pub did_deliver : (note : Message) → IsMessageFor 16 8 note → MemberDid (length x.log.waiting) (member_deliver m x note)
+      pub did_deliver : (note : Message) → IsMessageFor most_members most_coordinators note → MemberDid (length x.log.waiting) (member_deliver m x note)
       did_deliver (message.Prepare t coord member count) h = did_prepare t coord count h.0 h.1 h.3
       did_deliver (message.Decide t coord member commit) h = did_decide x n t coord commit h.0 h.1
       did_deliver (message.Vote t member coord granted) h = stays x n answer.Absent tt

@@ -17,6 +17,7 @@ use Rattle.co_base.specs.declared.op.Op.{Op}
 use Rattle.co_base.specs.declared.op.Op.TheVariants.{Read, Write, Erase, Scan}
 use Rattle.co_base.specs.declared.row.Row.{Row}
 use Rattle.co_base.specs.declared.written.Written.{Written}
+use Rattle.co_base.specs.Limits.{most_coordinators}
 use Rattle.co_schedule.specs.View.{IsWithin, IsTxn}
 use Rattle.co_serial.specs.Records.{Records, with_change, with_changes, row_of, all_rows, rows_within}
 use Rattle.co_state.specs.Changes.{put_change, with_written, change_made, changes_of}
@@ -247,7 +248,7 @@ module _ (P : List ℕ → Type 0) where
       by (Erase key) p rest = put_named (record { key = key; value = None }) (changes_of os) (p, tt) rest
 
   abbrev pub IsVoteOf : ℕ → Vote → Type 0
-  IsVoteOf t vote = IsTxn t × IsWithin 1 8 vote.coord × AllByRecursion IsChangeOf vote.sets.writes
+  IsVoteOf t vote = IsTxn t × IsWithin 1 most_coordinators vote.coord × AllByRecursion IsChangeOf vote.sets.writes
 
   abbrev pub AreActiveOf : ℕ → List Operation → Type 0
   AreActiveOf t os = IsTxn t × AreOperationsOf os

@@ -5,6 +5,7 @@ use Rattle.std.specs.List.{AllByRecursion}
 use Rattle.co_base.specs.declared.head.Kind.{Kind}
 use Rattle.co_base.specs.declared.node.Node.{Node}
 use Rattle.co_base.specs.declared.node.Node.TheVariants as node
+use Rattle.co_base.specs.Limits.{most_coordinators, most_members}
 use Rattle.co_message.specs.declared.answer.Answer.TheVariants as answer
 use Rattle.co_record.specs.Format.{newest}
 use Rattle.co_record.specs.Spelling.{IsSpelled, IsRowIn, IsChangeIn}
@@ -58,7 +59,7 @@ nothing_waits kinds coords fm fc =
 
 -- ---- the headers that were made
 
-header_named : (owner : Node) → IsNode 16 8 owner → (rs : List Record) → AllByRecursion IsMark (header_mark owner rs)
+header_named : (owner : Node) → IsNode most_members most_coordinators owner → (rs : List Record) → AllByRecursion IsMark (header_mark owner rs)
 header_named owner own [] = ((own, omega arith), tt)
 header_named owner own (r ∷ rs) = tt
 
@@ -66,13 +67,13 @@ header_few : (owner : Node) (rs : List Record) → length (header_mark owner rs)
 header_few owner [] = omega arith
 header_few owner (r ∷ rs) = omega arith
 
-members_headed : (n : ℕ) → n ≤ 16 → (fm : ℕ → Found) → AllByRecursion IsMark (member_headers n fm)
+members_headed : (n : ℕ) → n ≤ most_members → (fm : ℕ → Found) → AllByRecursion IsMark (member_headers n fm)
 members_headed zero l fm = tt
 members_headed (suc n) l fm =
     all_append IsMark (member_headers n fm) (header_mark (node.Member (suc n)) (fm (suc n)).records) (members_headed n (omega (arith, l)) fm)
     (header_named (node.Member (suc n)) (omega arith, l) (fm (suc n)).records)
 
-coords_headed : (n : ℕ) → n ≤ 8 → (fc : ℕ → Found) → AllByRecursion IsMark (coord_headers n fc)
+coords_headed : (n : ℕ) → n ≤ most_coordinators → (fc : ℕ → Found) → AllByRecursion IsMark (coord_headers n fc)
 coords_headed zero l fc = tt
 coords_headed (suc n) l fc =
     all_append IsMark (coord_headers n fc) (header_mark (node.Coord (suc n)) (fc (suc n)).records) (coords_headed n (omega (arith, l)) fc)
@@ -92,7 +93,7 @@ coords_few (suc n) fc =
     let b = coords_few n fc in
     let c = header_few (node.Coord (suc n)) (fc (suc n)).records in omega (arith, a, b, c)
 
-module _ (P : List ℕ → Type 0) (kinds : List Kind) (coords : ℕ) (fm fc : ℕ → Found) (few_members : length kinds ≤ 16) (few_coords : coords ≤ 8) where
+module _ (P : List ℕ → Type 0) (kinds : List Kind) (coords : ℕ) (fm fc : ℕ → Found) (few_members : length kinds ≤ most_members) (few_coords : coords ≤ most_coordinators) where
   pub opening_named : AllByRecursion (IsKindOf P) (opening_items kinds coords fm fc)
   opening_named =
       items_named P (member_headers (length kinds) fm ++ coord_headers coords fc) [] answer.Opened

@@ -8,6 +8,7 @@ use Rattle.std.specs.Ordering.{nat_cmp}
 use Rattle.std.specs.declared.cmp.Ordering.TheVariants.{Less}
 use Rattle.co_base.specs.Order.{IsAscending}
 use Rattle.co_base.specs.declared.part.Part.{Part}
+use Rattle.co_base.specs.Limits.{most_coordinators, most_members}
 use Rattle.co_message.specs.declared.message.Message.TheVariants as message
 use Rattle.co_schedule.specs.View.{IsWithin, IsTxn, IsCount, IsMessageFor}
 use Rattle.co_plain.specs.CoordStep.{members_of}
@@ -19,7 +20,7 @@ use Rattle.co_law_items.proofs.Named.{all_map}
 use Rattle.co_law_items.proofs.Logs.{AreMembers}
 
 abbrev pub IsPart : Part → Type 0
-IsPart p = IsWithin 1 16 p.member × IsCount p.count
+IsPart p = IsWithin 1 most_members p.member × IsCount p.count
 
 abbrev pub AreParts : List Part → Type 0
 AreParts parts = AllByRecursion IsPart parts × IsAscending (members_of parts)
@@ -39,13 +40,13 @@ few_between low high (m ∷ ms) l a h =
     raised [] a h = tt
     raised (k ∷ ks) a h = ((above k a.0, h.0.1), raised ks a.1 h.1)
 
-pub few_members : (ms : List ℕ) → AreMembers ms → length ms ≤ 16
+pub few_members : (ms : List ℕ) → AreMembers ms → length ms ≤ most_members
 few_members ms h = let l = few_between 1 16 ms (omega arith) h.1 h.0 in omega (arith, l)
 
 pub parts_members : (parts : List Part) → AreParts parts → AreMembers (members_of parts)
-parts_members parts h = (all_map IsPart (IsWithin 1 16) (λ p. p.member) (λ p k. k.0) parts h.0, h.1)
+parts_members parts h = (all_map IsPart (IsWithin 1 most_members) (λ p. p.member) (λ p k. k.0) parts h.0, h.1)
 
-pub few_parts : (parts : List Part) → AreParts parts → length parts ≤ 16
+pub few_parts : (parts : List Part) → AreParts parts → length parts ≤ most_members
 few_parts parts h = let l = few_members (members_of parts) (parts_members parts h) in let e = length-map parts (λ p. p.member) in omega (arith, l, e)
 
 pub few_filtered : {A : Type 0} (test : A → Bool) (xs : List A) → length (filter test xs) ≤ length xs
@@ -73,19 +74,19 @@ IsEntry t (entry.Collecting parts yeses) = IsTxn t × AreParts parts × ((m : �
 IsEntry t (entry.Committed ms acks) = IsTxn t × AreMembers ms
 
 pub lacking_named : (parts : List Part) → AreParts parts → (yeses : List ℕ) → ((m : ℕ) × (first_lacking (members_of parts) yeses ≡ Some m)) →
-    IsWithin 1 16 (member_or_none (first_lacking (members_of parts) yeses))
+    IsWithin 1 most_members (member_or_none (first_lacking (members_of parts) yeses))
 lacking_named parts h yeses l =
-    subst (λ o. IsWithin 1 16 (member_or_none o)) (sym l.1)
-    (found_in (IsWithin 1 16) (λ n. not (has_number yeses n)) (members_of parts) (parts_members parts h).0 l.0 l.1)
+    subst (λ o. IsWithin 1 most_members (member_or_none o)) (sym l.1)
+    (found_in (IsWithin 1 most_members) (λ n. not (has_number yeses n)) (members_of parts) (parts_members parts h).0 l.0 l.1)
 
-pub prepares_named : (c t : ℕ) → IsWithin 1 8 c → IsTxn t → (parts : List Part) → AllByRecursion IsPart parts → AllByRecursion (IsMessageFor 16 8) (prepares_to c t parts)
-prepares_named c t own small parts h = all_map IsPart (IsMessageFor 16 8) (λ p. message.Prepare t c p.member p.count) (λ p k. (small, own, k.0, k.1)) parts h
+pub prepares_named : (c t : ℕ) → IsWithin 1 most_coordinators c → IsTxn t → (parts : List Part) → AllByRecursion IsPart parts → AllByRecursion (IsMessageFor most_members most_coordinators) (prepares_to c t parts)
+prepares_named c t own small parts h = all_map IsPart (IsMessageFor most_members most_coordinators) (λ p. message.Prepare t c p.member p.count) (λ p k. (small, own, k.0, k.1)) parts h
 
-pub decisions_named : (c t : ℕ) (commit : Bool) → IsWithin 1 8 c → IsTxn t → (ms : List ℕ) → AllByRecursion (IsWithin 1 16) ms → AllByRecursion (IsMessageFor 16 8) (decisions_to c t commit ms)
-decisions_named c t commit own small ms h = all_map (IsWithin 1 16) (IsMessageFor 16 8) (λ m. message.Decide t c m commit) (λ m k. (small, own, k)) ms h
+pub decisions_named : (c t : ℕ) (commit : Bool) → IsWithin 1 most_coordinators c → IsTxn t → (ms : List ℕ) → AllByRecursion (IsWithin 1 most_members) ms → AllByRecursion (IsMessageFor most_members most_coordinators) (decisions_to c t commit ms)
+decisions_named c t commit own small ms h = all_map (IsWithin 1 most_members) (IsMessageFor most_members most_coordinators) (λ m. message.Decide t c m commit) (λ m k. (small, own, k)) ms h
 
-pub decisions_few : (c t : ℕ) (commit : Bool) (ms : List ℕ) → length ms ≤ 16 → length (decisions_to c t commit ms) ≤ 16
+pub decisions_few : (c t : ℕ) (commit : Bool) (ms : List ℕ) → length ms ≤ most_members → length (decisions_to c t commit ms) ≤ most_members
 decisions_few c t commit ms h = let e = length-map ms (λ m. message.Decide t c m commit) in omega (arith, e, h)
 
-pub prepares_few : (c t : ℕ) (parts : List Part) → length parts ≤ 16 → length (prepares_to c t parts) ≤ 16
+pub prepares_few : (c t : ℕ) (parts : List Part) → length parts ≤ most_members → length (prepares_to c t parts) ≤ most_members
 prepares_few c t parts h = let e = length-map parts (λ p. message.Prepare t c p.member p.count) in omega (arith, e, h)

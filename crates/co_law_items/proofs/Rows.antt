@@ -13,6 +13,7 @@ use Rattle.co_base.specs.declared.head.Head.{Head}
 use Rattle.co_base.specs.declared.reply.Reply.{Reply}
 use Rattle.co_base.specs.declared.reply.Reply.TheVariants as reply
 use Rattle.co_base.specs.declared.row.Row.{Row}
+use Rattle.co_base.specs.Limits.{most_coordinators, most_members}
 use Rattle.co_message.specs.declared.answer.Answer.{Answer}
 use Rattle.co_message.specs.declared.answer.Answer.TheVariants as answer
 use Rattle.co_message.specs.declared.event.Event.{Event}
@@ -88,7 +89,7 @@ module _ (head : Head) (ks : List (List ℕ)) where
   first_is : (key : List ℕ) (more : List (List ℕ)) → list_any (same_key key) (key ∷ more) ≡ true
   first_is key more = ap (λ b. b || list_any (same_key key) more) (same_key_refl key)
 
-  writes : (e : Event) (more : List (List ℕ)) → IsEventFor 16 8 e → Covers (key_written e ++ more) → WritesOf (IsAmongKeys ks) e
+  writes : (e : Event) (more : List (List ℕ)) → IsEventFor most_members most_coordinators e → Covers (key_written e ++ more) → WritesOf (IsAmongKeys ks) e
   writes (event.Write t m key value) more h c = (h.2, c key (first_is key more))
   writes (event.Erase t m key) more h c = (h.2, c key (first_is key more))
   writes (event.Begin t k) more h c = tt
@@ -110,7 +111,7 @@ module _ (head : Head) (ks : List (List ℕ)) where
   events_named : (events : List Event) → AllByRecursion (HasLine head) events → Covers (keys_written events) → AllByRecursion (IsEventOf (IsAmongKeys ks)) events
   events_named [] h c = tt
   events_named (e ∷ es) h c =
-      let own : IsEventFor 16 8 e = event_in (length head.kinds) head.coords head.members head.coordinators e h.0.0 in (
+      let own : IsEventFor most_members most_coordinators e = event_in (length head.kinds) head.coords head.members head.coordinators e h.0.0 in (
         (own, h.0.1, writes e (keys_written es) own c),
         events_named es h.1 (λ q k. c q (any_behind (same_key q) (key_written e) (keys_written es) k)),
       )
@@ -119,9 +120,9 @@ module _ (head : Head) (ks : List (List ℕ)) where
 pub events_texts : (head : Head) (events : List Event) → AllByRecursion (HasLine head) events → AllByRecursion (IsEventOf IsKey) events
 events_texts head [] h = tt
 events_texts head (e ∷ es) h =
-    let own : IsEventFor 16 8 e = event_in (length head.kinds) head.coords head.members head.coordinators e h.0.0 in ((own, h.0.1, texts e own), events_texts head es h.1)
+    let own : IsEventFor most_members most_coordinators e = event_in (length head.kinds) head.coords head.members head.coordinators e h.0.0 in ((own, h.0.1, texts e own), events_texts head es h.1)
   where
-    texts : (f : Event) → IsEventFor 16 8 f → WritesOf IsKey f
+    texts : (f : Event) → IsEventFor most_members most_coordinators f → WritesOf IsKey f
     texts (event.Write t m key value) k = k.2
     texts (event.Erase t m key) k = k.2
     texts (event.Begin t c) k = tt

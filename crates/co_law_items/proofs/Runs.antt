@@ -5,6 +5,7 @@ use Rattle.std.specs.List.{AllByRecursion}
 use Rattle.co_base.specs.declared.head.Head.{Head}
 use Rattle.co_base.specs.declared.node.Node.{Node}
 use Rattle.co_base.specs.declared.node.Node.TheVariants as node
+use Rattle.co_base.specs.Limits.{most_coordinators, most_members}
 use Rattle.co_message.specs.declared.event.Event.{Event}
 use Rattle.co_message.specs.declared.event.Event.TheVariants as event
 use Rattle.co_message.specs.declared.item.Item.{Item}
@@ -30,25 +31,25 @@ use Rattle.co_law_items.proofs.Weights.{weight}
 
 -- ---- an event of a federation is one of the largest federation
 
-module _ (members coords : ℕ) (few : members ≤ 16) (short : coords ≤ 8) where
-  member_in : (m : ℕ) → IsWithin 1 members m → IsWithin 1 16 m
+module _ (members coords : ℕ) (few : members ≤ most_members) (short : coords ≤ most_coordinators) where
+  member_in : (m : ℕ) → IsWithin 1 members m → IsWithin 1 most_members m
   member_in m h = let up = h.1 in (h.0, omega (arith, up, few))
 
-  coord_in : (c : ℕ) → IsWithin 1 coords c → IsWithin 1 8 c
+  coord_in : (c : ℕ) → IsWithin 1 coords c → IsWithin 1 most_coordinators c
   coord_in c h = let up = h.1 in (h.0, omega (arith, up, short))
 
-  node_in : (at : Node) → IsNode members coords at → IsNode 16 8 at
+  node_in : (at : Node) → IsNode members coords at → IsNode most_members most_coordinators at
   node_in (node.Member m) h = member_in m h
   node_in (node.Coord c) h = coord_in c h
 
-  message_in : (note : Message) → IsMessageFor members coords note → IsMessageFor 16 8 note
+  message_in : (note : Message) → IsMessageFor members coords note → IsMessageFor most_members most_coordinators note
   message_in (message.Prepare t c m count) h = (h.0, coord_in c h.1, member_in m h.2, h.3)
   message_in (message.Vote t m c granted) h = (h.0, member_in m h.1, coord_in c h.2)
   message_in (message.Decide t c m commit) h = (h.0, coord_in c h.1, member_in m h.2)
   message_in (message.Ask t m c) h = (h.0, member_in m h.1, coord_in c h.2)
   message_in (message.Ack t m c) h = (h.0, member_in m h.1, coord_in c h.2)
 
-  pub event_in : (e : Event) → IsEventFor members coords e → IsEventFor 16 8 e
+  pub event_in : (e : Event) → IsEventFor members coords e → IsEventFor most_members most_coordinators e
   event_in (event.Begin t c) h = (h.0, coord_in c h.1)
   event_in (event.Local t m) h = (h.0, member_in m h.1)
   event_in (event.Read t m key) h = (h.0, member_in m h.1, h.2)
@@ -73,7 +74,7 @@ module _ (P : List ℕ → Type 0) where
   IsItemOf i = (i.number ≤ 4294967295) × IsKindOf P i.what
 
   abbrev pub IsEventOf : Event → Type 0
-  IsEventOf e = IsEventFor 16 8 e × (length (line_text e) ≤ longest_line) × WritesOf P e
+  IsEventOf e = IsEventFor most_members most_coordinators e × (length (line_text e) ≤ longest_line) × WritesOf P e
 
   numbers_named : (n : ℕ) → n ≤ 4294967295 → (kinds : List ItemKind) → AllByRecursion (IsKindOf P) kinds → AllByRecursion IsItemOf (numbered n kinds)
   numbers_named n small kinds h = all_map (IsKindOf P) IsItemOf (λ what. record { number = n; what = what }) (λ what k. (small, k)) kinds h

@@ -11,6 +11,7 @@ use Rattle.co_base.specs.declared.part.Part.{Part}
 use Rattle.co_schedule.specs.View.{IsWithin, IsNode}
 use Rattle.co_plain.specs.Member.{most_operations}
 use Rattle.co_base.specs.Parts.{with_part}
+use Rattle.co_base.specs.Limits.{most_coordinators, most_members}
 use Rattle.co_plain.specs.Sessions.{count_at, parts_of, with_told}
 use Rattle.co_plain.specs.declared.session.Session.{Session}
 use Rattle.co_plain.specs.declared.session.Told.{Told}
@@ -20,16 +21,16 @@ use Rattle.co_law_items.proofs.Parts.{IsPart, AreParts}
 
 -- the member of an operation
 abbrev pub IsToldAt : Told → Type 0
-IsToldAt o = IsWithin 1 16 o.site.member
+IsToldAt o = IsWithin 1 most_members o.site.member
 
 pub record IsSession (session : Session) : Type 0 where
-  pub by : IsNode 16 8 session.by
+  pub by : IsNode most_members most_coordinators session.by
   pub told : AllByRecursion IsToldAt session.told
   pub few : (m : ℕ) → count_at session.told m ≤ most_operations
 
 -- a participant with a count that was told
 abbrev IsCounted : List Told → Part → Type 0
-IsCounted os p = IsWithin 1 16 p.member × (p.count ≤ count_at os p.member)
+IsCounted os p = IsWithin 1 most_members p.member × (p.count ≤ count_at os p.member)
 
 count_one_more : (o : Told) (os : List Told) (m : ℕ) → count_at os m ≤ count_at (o ∷ os) m
 count_one_more o os m = by (o.site.member == m)

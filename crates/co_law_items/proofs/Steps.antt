@@ -11,6 +11,7 @@ use Rattle.co_base.specs.declared.node.Node.TheVariants as node
 use Rattle.co_base.specs.declared.op.Op.{Op}
 use Rattle.co_base.specs.declared.op.Op.TheVariants as op
 use Rattle.co_base.specs.declared.reply.Reply.{Reply}
+use Rattle.co_base.specs.Limits.{most_coordinators, most_members}
 use Rattle.co_message.specs.declared.answer.Answer.{Answer}
 use Rattle.co_message.specs.declared.answer.Answer.TheVariants as answer
 use Rattle.co_message.specs.declared.event.Event.{Event}
@@ -109,7 +110,7 @@ module _ (P : List ℕ → Type 0) where
     say a h = record { state = n; items = (h, tt); few = omega arith }
 
     -- other sessions, and a step of a member
-    at_m : (sessions : Table Session) → Holds IsSessionAt sessions → (m : ℕ) → IsWithin 1 16 m → (did : MemberStep) → MemberDid P (member_waits (s.member m)) did →
+    at_m : (sessions : Table Session) → Holds IsSessionAt sessions → (m : ℕ) → IsWithin 1 most_members m → (did : MemberStep) → MemberDid P (member_waits (s.member m)) did →
         Goes s (at_member (record s { sessions = sessions }) m did)
     at_m sessions k m own did d =
         record {
@@ -129,7 +130,7 @@ module _ (P : List ℕ → Type 0) where
             let f = d.few in
             let c = sum_changed member_waits s.member m did.state 16 own in omega (arith, i, l, f, c)
 
-    at_c : (sessions : Table Session) → Holds IsSessionAt sessions → (c : ℕ) → IsWithin 1 8 c → (did : CoordStep) → CoordDid P (coord_waits (s.coord c)) did →
+    at_c : (sessions : Table Session) → Holds IsSessionAt sessions → (c : ℕ) → IsWithin 1 most_coordinators c → (did : CoordStep) → CoordDid P (coord_waits (s.coord c)) did →
         Goes s (at_coord (record s { sessions = sessions }) c did)
     at_c sessions k c own did d =
         record {
@@ -146,25 +147,25 @@ module _ (P : List ℕ → Type 0) where
             let w = sum_changed coord_waits s.coord c did.state 8 own in omega (arith, i, l, f, w)
 
     -- where the node is up
-    members_go : (m : ℕ) → IsWithin 1 16 m → (up : Bool) (did : MemberStep) → MemberDid P (member_waits (s.member m)) did → Goes s (up_member s m up did)
+    members_go : (m : ℕ) → IsWithin 1 most_members m → (up : Bool) (did : MemberStep) → MemberDid P (member_waits (s.member m)) did → Goes s (up_member s m up did)
     members_go m own true did d = at_m s.sessions n.sessions m own did d
     members_go m own false did d = say (answer.Down (node.Member m)) own
 
-    coords_go : (c : ℕ) → IsWithin 1 8 c → (up : Bool) (did : CoordStep) → CoordDid P (coord_waits (s.coord c)) did → Goes s (up_coord s c up did)
+    coords_go : (c : ℕ) → IsWithin 1 most_coordinators c → (up : Bool) (did : CoordStep) → CoordDid P (coord_waits (s.coord c)) did → Goes s (up_coord s c up did)
     coords_go c own true did d = at_c s.sessions n.sessions c own did d
     coords_go c own false did d = say (answer.Down (node.Coord c)) own
 
     new_session : (t : ℕ) (session : Session) → IsSession session → Holds IsSessionAt (put s.sessions t session)
     new_session t session h = holds_put IsSessionAt s.sessions n.sessions t session h
 
-    begins : (t c : ℕ) → IsTxn t → IsWithin 1 8 c → (used up : Bool) → Goes s (begin_where s t c used up)
+    begins : (t c : ℕ) → IsTxn t → IsWithin 1 most_coordinators c → (used up : Bool) → Goes s (begin_where s t c used up)
     begins t c small own true up = say answer.Used tt
     begins t c small own false true =
         at_c (put s.sessions t (begun_by (node.Coord c))) (new_session t (begun_by (node.Coord c)) (record { by = own; told = tt; few = λ m. omega arith })) c own
         (coord_begin (s.coord c) t) (did_begin P c own (s.coord c) (n.coords c) t small)
     begins t c small own false false = say (answer.Down (node.Coord c)) own
 
-    begins_local : (t m : ℕ) → IsWithin 1 16 m → (used up : Bool) → Goes s (local_where s t m used up)
+    begins_local : (t m : ℕ) → IsWithin 1 most_members m → (used up : Bool) → Goes s (local_where s t m used up)
     begins_local t m own true up = say answer.Used tt
     begins_local t m own false true =
         record {
@@ -184,7 +185,7 @@ module _ (P : List ℕ → Type 0) where
     -- ---- operations
 
     -- the session with what was told: only where there was room
-    enters : (t m : ℕ) (o : Op) (session : Session) → IsSession session → IsWithin 1 16 m →
+    enters : (t m : ℕ) (o : Op) (session : Session) → IsSession session → IsWithin 1 most_members m →
         Holds IsSessionAt (entered s t session m o (reply_in (member_op (s.member m) t (count_at session.told m) o).answer)).sessions
     enters t m o session k own = by (kept_count (s.member m).engine t == count_at session.told m) (count_at session.told m == most_operations) refl
       where
@@ -209,12 +210,12 @@ module _ (P : List ℕ → Type 0) where
         by true false e = free (lock_blocker (s.member m).engine t o) e
         by false most e = n.sessions
 
-    entered_goes : (t m : ℕ) (o : Op) (session : Session) (reply : Option Reply) → IsWithin 1 16 m → (did : MemberStep) → MemberDid P (member_waits (s.member m)) did →
+    entered_goes : (t m : ℕ) (o : Op) (session : Session) (reply : Option Reply) → IsWithin 1 most_members m → (did : MemberStep) → MemberDid P (member_waits (s.member m)) did →
         Holds IsSessionAt (entered s t session m o reply).sessions → Goes s (at_member (entered s t session m o reply) m did)
     entered_goes t m o session None own did d h = at_m s.sessions h m own did d
     entered_goes t m o session (Some reply) own did d h = at_m _ h m own did d
 
-    operates : (t m : ℕ) (o : Op) → IsTxn t → IsWithin 1 16 m → IsOpOf P o → (leave : Leave) → leave_to_visit (look s.sessions t) m ≡ leave → Goes s (operate_with s t m o leave)
+    operates : (t m : ℕ) (o : Op) → IsTxn t → IsWithin 1 most_members m → IsOpOf P o → (leave : Leave) → leave_to_visit (look s.sessions t) m ≡ leave → Goes s (operate_with s t m o leave)
     operates t m o small own p (Refuses a) e = say a (refusal_visit (look s.sessions t) m a e)
     operates t m o small own p (Grants session) e = by (s.member m).up
       where
@@ -236,27 +237,27 @@ module _ (P : List ℕ → Type 0) where
     asked_session t session k true = new_session t (asked_to_end session) (record { by = k.by; told = k.told; few = k.few })
     asked_session t session k false = n.sessions
 
-    asked_at_c : (t : ℕ) (session : Session) (b : Bool) → Holds IsSessionAt (marked_asked s t session b).sessions → (c : ℕ) → IsWithin 1 8 c → (did : CoordStep) →
+    asked_at_c : (t : ℕ) (session : Session) (b : Bool) → Holds IsSessionAt (marked_asked s t session b).sessions → (c : ℕ) → IsWithin 1 most_coordinators c → (did : CoordStep) →
         CoordDid P (coord_waits (s.coord c)) did → Goes s (at_coord (marked_asked s t session b) c did)
     asked_at_c t session true h c own did d = at_c _ h c own did d
     asked_at_c t session false h c own did d = at_c s.sessions h c own did d
 
-    asked_at_m : (t : ℕ) (session : Session) (b : Bool) → Holds IsSessionAt (marked_asked s t session b).sessions → (m : ℕ) → IsWithin 1 16 m → (did : MemberStep) →
+    asked_at_m : (t : ℕ) (session : Session) (b : Bool) → Holds IsSessionAt (marked_asked s t session b).sessions → (m : ℕ) → IsWithin 1 most_members m → (did : MemberStep) →
         MemberDid P (member_waits (s.member m)) did → Goes s (at_member (marked_asked s t session b) m did)
     asked_at_m t session true h m own did d = at_m _ h m own did d
     asked_at_m t session false h m own did d = at_m s.sessions h m own did d
 
-    coords_answer : (t : ℕ) (session : Session) → IsSession session → (c : ℕ) → IsWithin 1 8 c → (up : Bool) (did : CoordStep) → CoordDid P (coord_waits (s.coord c)) did →
+    coords_answer : (t : ℕ) (session : Session) → IsSession session → (c : ℕ) → IsWithin 1 most_coordinators c → (up : Bool) (did : CoordStep) → CoordDid P (coord_waits (s.coord c)) did →
         Goes s (coord_answers s t session c up did)
     coords_answer t session k c own true did d = asked_at_c t session (not (is_stopped did.answer)) (asked_session t session k (not (is_stopped did.answer))) c own did d
     coords_answer t session k c own false did d = say (answer.Down (node.Coord c)) own
 
-    members_answer : (t : ℕ) (session : Session) → IsSession session → (m : ℕ) → IsWithin 1 16 m → (up : Bool) (did : MemberStep) → MemberDid P (member_waits (s.member m)) did →
+    members_answer : (t : ℕ) (session : Session) → IsSession session → (m : ℕ) → IsWithin 1 most_members m → (up : Bool) (did : MemberStep) → MemberDid P (member_waits (s.member m)) did →
         Goes s (local_answers s t session m up did)
     members_answer t session k m own true did d = asked_at_m t session (not (is_held did.answer)) (asked_session t session k (not (is_held did.answer))) m own did d
     members_answer t session k m own false did d = say (answer.Down (node.Member m)) own
 
-    commits_at : (t : ℕ) → IsTxn t → (session : Session) → IsSession session → (at : Node) → IsNode 16 8 at → Goes s (commit_at s t session at)
+    commits_at : (t : ℕ) → IsTxn t → (session : Session) → IsSession session → (at : Node) → IsNode most_members most_coordinators at → Goes s (commit_at s t session at)
     commits_at t small session k (node.Coord c) own =
         coords_answer t session k c own (s.coord c).up (coord_commit c (s.coord c) t (parts_of session.told)) (did_commit P c own (s.coord c) (n.coords c) t (parts_of session.told) small (session_parts session k))
     commits_at t small session k (node.Member m) own =
@@ -267,7 +268,7 @@ module _ (P : List ℕ → Type 0) where
     commits t small (Refuses a) e = say a (refusal_end (look s.sessions t) a e)
     commits t small (Grants session) e = let k = n.sessions t session (ended (look s.sessions t) session e) in commits_at t small session k session.by k.by
 
-    aborts_at : (t : ℕ) → IsTxn t → (session : Session) → IsSession session → (at : Node) → IsNode 16 8 at → Goes s (abort_at s t session at)
+    aborts_at : (t : ℕ) → IsTxn t → (session : Session) → IsSession session → (at : Node) → IsNode most_members most_coordinators at → Goes s (abort_at s t session at)
     aborts_at t small session k (node.Coord c) own =
         coords_answer t session k c own (s.coord c).up (coord_abort c (s.coord c) t (parts_of session.told)) (did_abort P c own (s.coord c) (n.coords c) t (parts_of session.told) small (session_parts session k))
     aborts_at t small session k (node.Member m) own =
@@ -279,40 +280,40 @@ module _ (P : List ℕ → Type 0) where
 
     -- ---- messages and nodes
 
-    step_m : (m : ℕ) → IsWithin 1 16 m → (did : MemberStep) → MemberDid P (member_waits (s.member m)) did → Goes s (up_member s m (s.member m).up did)
+    step_m : (m : ℕ) → IsWithin 1 most_members m → (did : MemberStep) → MemberDid P (member_waits (s.member m)) did → Goes s (up_member s m (s.member m).up did)
     step_m m own did d = members_go m own (s.member m).up did d
 
-    step_c : (c : ℕ) → IsWithin 1 8 c → (did : CoordStep) → CoordDid P (coord_waits (s.coord c)) did → Goes s (up_coord s c (s.coord c).up did)
+    step_c : (c : ℕ) → IsWithin 1 most_coordinators c → (did : CoordStep) → CoordDid P (coord_waits (s.coord c)) did → Goes s (up_coord s c (s.coord c).up did)
     step_c c own did d = coords_go c own (s.coord c).up did d
 
-    delivered : (note : Message) → IsMessageFor 16 8 note → Goes s (arrives s note)
+    delivered : (note : Message) → IsMessageFor most_members most_coordinators note → Goes s (arrives s note)
     delivered (message.Prepare t c m count) h = step_m m h.2 _ (did_deliver P m h.2 (s.member m) (n.members m) (message.Prepare t c m count) h)
     delivered (message.Decide t c m commit) h = step_m m h.2 _ (did_deliver P m h.2 (s.member m) (n.members m) (message.Decide t c m commit) h)
     delivered (message.Vote t m c granted) h = step_c c h.2 _ (did_coord_deliver P c h.2 (s.coord c) (n.coords c) (message.Vote t m c granted) h)
     delivered (message.Ask t m c) h = step_c c h.2 _ (did_coord_deliver P c h.2 (s.coord c) (n.coords c) (message.Ask t m c) h)
     delivered (message.Ack t m c) h = step_c c h.2 _ (did_coord_deliver P c h.2 (s.coord c) (n.coords c) (message.Ack t m c) h)
 
-    delivers : (note : Message) → IsMessageFor 16 8 note → (b : Bool) → Goes s (if b then arrives s note else answers s answer.Unsent)
+    delivers : (note : Message) → IsMessageFor most_members most_coordinators note → (b : Bool) → Goes s (if b then arrives s note else answers s answer.Unsent)
     delivers note h true = delivered note h
     delivers note h false = say answer.Unsent tt
 
-    timers : (t : ℕ) → IsTxn t → (at : Node) → IsNode 16 8 at → Goes s (timer_at s t at)
+    timers : (t : ℕ) → IsTxn t → (at : Node) → IsNode most_members most_coordinators at → Goes s (timer_at s t at)
     timers t small (node.Member m) own = step_m m own _ (did_timer P m own (s.member m) (n.members m) t)
     timers t small (node.Coord c) own = step_c c own _ (did_coord_timer P c own (s.coord c) (n.coords c) t small)
 
-    crashes : (at : Node) → IsNode 16 8 at → Goes s (crash_at s at)
+    crashes : (at : Node) → IsNode most_members most_coordinators at → Goes s (crash_at s at)
     crashes (node.Member m) own = step_m m own _ (did_crash P m own (s.member m) (n.members m))
     crashes (node.Coord c) own = step_c c own _ (did_coord_crash P c own (s.coord c) (n.coords c))
 
-    restarts : (at : Node) → IsNode 16 8 at → Goes s (restart_at s at)
+    restarts : (at : Node) → IsNode most_members most_coordinators at → Goes s (restart_at s at)
     restarts (node.Member m) own = at_m s.sessions n.sessions m own (member_restart (s.member m)) (did_restart P m own (s.member m) (n.members m))
     restarts (node.Coord c) own = at_c s.sessions n.sessions c own (coord_restart (s.coord c)) (did_coord_restart P c own (s.coord c) (n.coords c))
 
-    arms : (call : ℕ) (leaves : Leaves) → IsWithin 1 4 call → (at : Node) → IsNode 16 8 at → Goes s (arm_at s call leaves at)
+    arms : (call : ℕ) (leaves : Leaves) → IsWithin 1 4 call → (at : Node) → IsNode most_members most_coordinators at → Goes s (arm_at s call leaves at)
     arms call leaves h (node.Member m) own = step_m m own _ (did_arm P m own (s.member m) (n.members m) call leaves h)
     arms call leaves h (node.Coord c) own = step_c c own _ (did_coord_arm P c own (s.coord c) (n.coords c) call leaves h)
 
-    checkpoints : (at : Node) → IsNode 16 8 at → Goes s (checkpoint_at s at)
+    checkpoints : (at : Node) → IsNode most_members most_coordinators at → Goes s (checkpoint_at s at)
     checkpoints (node.Member m) own = step_m m own _ (did_checkpoint P m own (s.member m) (n.members m))
     checkpoints (node.Coord c) own = step_c c own _ (did_coord_checkpoint P c own (s.coord c) (n.coords c))
 
@@ -322,7 +323,7 @@ module _ (P : List ℕ → Type 0) where
   WritesOf (event.Erase t m key) = P key
   WritesOf _ = Unit {0}
 
-  pub goes : (s : Federation) → IsFederationOf s → (e : Event) → IsEventFor 16 8 e → WritesOf e → Goes s (step_line s e)
+  pub goes : (s : Federation) → IsFederationOf s → (e : Event) → IsEventFor most_members most_coordinators e → WritesOf e → Goes s (step_line s e)
   goes s n (event.Begin t c) h w = begins s n t c h.0 h.1 (is_used s t) (s.coord c).up
   goes s n (event.Local t m) h w = begins_local s n t m h.1 (is_used s t) (s.member m).up
   goes s n (event.Read t m key) h w = operates s n t m (op.Read key) h.0 h.1 tt (leave_to_visit (look s.sessions t) m) refl

@@ -11,6 +11,7 @@ use Rattle.co_base.specs.declared.node.Node.TheVariants as node
 use Rattle.co_base.specs.declared.reply.Reply.{Reply}
 use Rattle.co_base.specs.declared.reply.Reply.TheVariants as reply
 use Rattle.co_base.specs.declared.row.Row.{Row}
+use Rattle.co_base.specs.Limits.{most_coordinators, most_members}
 use Rattle.co_message.specs.declared.answer.Answer.{Answer}
 use Rattle.co_message.specs.declared.answer.Answer.TheVariants as answer
 use Rattle.co_message.specs.declared.answer.Cause.{Cause}
@@ -44,14 +45,14 @@ number_short n h = let d = digits n h in omega (arith, d)
 near_short : (high n : ℕ) → high ≤ 255 → IsWithin 1 high n → length (decimal n) ≤ 10
 near_short high n l h = let up = h.1 in digits n (omega (arith, l, up))
 
-node_short : (at : Node) → IsNode 16 8 at → Short (node_word at)
+node_short : (at : Node) → IsNode most_members most_coordinators at → Short (node_word at)
 node_short (node.Member m) h = let d = near_short 16 m (omega arith) h in omega (arith, d)
 node_short (node.Coord c) h = let d = near_short 8 c (omega arith) h in omega (arith, d)
 
-member_short : (m : ℕ) → IsWithin 1 16 m → Short (109 ∷ decimal m)
+member_short : (m : ℕ) → IsWithin 1 most_members m → Short (109 ∷ decimal m)
 member_short m h = node_short (node.Member m) h
 
-coord_short : (c : ℕ) → IsWithin 1 8 c → Short (99 ∷ decimal c)
+coord_short : (c : ℕ) → IsWithin 1 most_coordinators c → Short (99 ∷ decimal c)
 coord_short c h = node_short (node.Coord c) h
 
 count_short : (n : ℕ) → n ≤ 65535 → Short (decimal n)
@@ -82,7 +83,7 @@ cause_short cause.Client = omega arith
 abbrev AreFewWords : List Word → Type 0
 AreFewWords ws = AllByRecursion Short ws × (length ws ≤ 6)
 
-message_short : (note : Message) → IsMessageFor 16 8 note → AreFewWords (message_words note)
+message_short : (note : Message) → IsMessageFor most_members most_coordinators note → AreFewWords (message_words note)
 message_short (message.Prepare t c m count) h =
     ((omega arith, (number_short t h.0, (coord_short c h.1, (member_short m h.2, (count_short count h.3, tt))))), omega arith)
 message_short (message.Vote t m c granted) h = ((omega arith, (number_short t h.0, (member_short m h.1, (coord_short c h.2, (said_short granted, tt))))), omega arith)
@@ -111,7 +112,7 @@ answer_short _ h n = ((omega arith, tt), omega arith)
 
 -- ---- lines
 
-line_of : (n : ℕ) → n ≤ 4294967295 → (form : Word) → length form ≤ 5 → (words : List Word) → length (spaced (decimal n ∷ form ∷ words)) ≤ 16 + length (behind words)
+line_of : (n : ℕ) → n ≤ 4294967295 → (form : Word) → length form ≤ 5 → (words : List Word) → length (spaced (decimal n ∷ form ∷ words)) ≤ most_members + length (behind words)
 line_of n small form l words =
     let d = digits n small in
     let a = length-append (decimal n) (behind (form ∷ words)) in

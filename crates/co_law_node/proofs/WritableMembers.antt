@@ -7,13 +7,13 @@ use Rattle.co_base.proofs.Ordered.{sorted_none}
 use Rattle.co_base.specs.declared.head.Kind.{Kind}
 use Rattle.co_base.specs.declared.node.Node.TheVariants as node
 use Rattle.co_base.specs.declared.op.Op.{Op}
+use Rattle.co_base.specs.Limits.{most_coordinators, most_members}
 use Rattle.co_message.specs.declared.answer.Answer.{Answer}
 use Rattle.co_message.specs.declared.answer.Answer.TheVariants as answer
 use Rattle.co_message.specs.declared.message.Message.{Message}
 use Rattle.co_message.specs.declared.message.Message.TheVariants as message
 use Rattle.co_record.specs.declared.record.Record.{Record}
 use Rattle.co_record.specs.declared.record.Record.TheVariants as log
-use Rattle.co_record.specs.Format.{most_coordinators, most_members}
 use Rattle.co_frame.specs.Gate.{batch_is_stable}
 use Rattle.co_record.specs.Spelling.{IsWritable}
 use Rattle.co_state.proofs.InOrder.{sorted-spans_of, ordered-changes_of, ordered-dumped_undos, length-spans_of, length-changes_of}

@@ -1,7 +1,7 @@
 //! Coordinators are whole.
 ghost use Rattle.std.specs.Prelude.{ℕ, false, ◌≡◌, ◌≤◌, reverse, None};
 ghost use Rattle.std.specs.List.{AllByRecursion};
-ghost use Rattle.co_record.specs.Format.{most_coordinators, most_members};
+ghost use Rattle.co_base.specs.Limits.{most_coordinators, most_members};
 ghost use Rattle.co_record.specs.Spelling.{IsWritable};
 ghost use Rattle.co_plain.specs.declared.coord_state.CoordState.{CoordState};
 ghost use Rattle.co_plain.specs.CoordView.{first_refused_at_coord};

@@ -2,7 +2,7 @@
 ghost use Rattle.std.specs.Prelude.{ℕ, List, ◌≡◌, ◌≤◌, reverse, None};
 ghost use Rattle.std.specs.List.{AllByRecursion};
 ghost use Rattle.co_base.specs.declared.head.Kind.{Kind};
-ghost use Rattle.co_record.specs.Format.{most_coordinators, most_members};
+ghost use Rattle.co_base.specs.Limits.{most_coordinators, most_members};
 ghost use Rattle.co_plain.specs.declared.member_state.MemberState.{MemberState};
 ghost use Rattle.co_plain.specs.MemberView.{first_refused_at_member};
 ghost use Rattle.co_plain.specs.Opening.{Found, opened_member};

@@ -4,6 +4,7 @@ use Rattle.std.proofs.lemmas.Cmp.{nat_list_cmp_total}
 use Rattle.std.specs.FinMap.{same_map, slice_cmp-IsAntisymmetric, nat_cmp-IsAntisymmetric}
 use Rattle.co_base.specs.declared.head.Kind.{Kind}
 use Rattle.co_base.specs.declared.node.Node.{Node}
+use Rattle.co_base.specs.Limits.{most_coordinators, most_members}
 use Rattle.co_message.specs.declared.event.Event.{Event}
 use Rattle.co_message.specs.declared.event.Event.TheVariants as event
 use Rattle.co_message.specs.declared.message.Message.{Message}
@@ -100,7 +101,7 @@ module _ (kinds : List Kind) (coords : ℕ) (fm fc : ℕ → Found) (hs : List H
       turns_done (pairs_in (run hs (opened kinds coords fm fc))) (numbers_in_state (run hs (opened kinds coords fm fc))) turns (disarmed (run hs (opened kinds coords fm fc))) calm
       (counted (disarmed (run hs (opened kinds coords fm fc)))) go
 
-  pub bounded : length kinds ≤ 16 → coords ≤ 8 → (events : List Event) → IsSettling (run hs (opened kinds coords fm fc)) events → length events ≤ settling_bound (run hs (opened kinds coords fm fc))
+  pub bounded : length kinds ≤ most_members → coords ≤ most_coordinators → (events : List Event) → IsSettling (run hs (opened kinds coords fm fc)) events → length events ≤ settling_bound (run hs (opened kinds coords fm fc))
   bounded few some events settling =
       let s = disarmed (run hs (opened kinds coords fm fc)) in
       let a = (so_far settling.turns settling.goes).fewer in

@@ -2,6 +2,7 @@
 ghost use Rattle.std.specs.Prelude.{ℕ, List, ◌∷◌, ◌++◌, ◌≡◌, ◌≤◌, length};
 ghost use Rattle.co_base.specs.declared.head.Kind.{Kind};
 ghost use Rattle.co_base.specs.declared.node.Node.{Node};
+ghost use Rattle.co_base.specs.Limits.{most_coordinators, most_members};
 ghost use Rattle.co_message.specs.declared.event.Event.{Event};
 ghost use Rattle.co_message.specs.declared.event.Event.TheVariants as event;
 ghost use Rattle.co_plain.specs.declared.happening.Happening.{Happening};
@@ -40,7 +41,7 @@ pub fn settling_has_a_next_turn()
 /// federation has at most 16 members and 8 coordinators.
 pub fn settling_is_bounded()
     ensures { (kinds : List Kind) (coords : ℕ) (found_member found_coord : ℕ → Found) (hs : List Happening) (events : List Event) →
-        length kinds ≤ 16 → coords ≤ 8 →
+        length kinds ≤ most_members → coords ≤ most_coordinators →
         AreOpenable kinds coords found_member found_coord →
         AreOwnLogs kinds coords found_member found_coord →
         AreTrueVerdicts hs (opened kinds coords found_member found_coord) →

@@ -7,6 +7,7 @@ use Rattle.std.specs.FinMap.{keys}
 use Rattle.co_base.specs.declared.head.Head.{Head}
 use Rattle.co_base.specs.declared.head.Kind.{Kind}
 use Rattle.co_base.specs.declared.node.Node.TheVariants.{Member, Coord}
+use Rattle.co_base.specs.Limits.{most_coordinators, most_members}
 use Rattle.co_outside.specs.declared.spot.Spot.{Spot}
 use Rattle.co_outside.specs.Home.{HomeView, File, IsClean}
 use Rattle.co_log.specs.LogView.{LogView}
@@ -70,10 +71,10 @@ kept_nodes takes stands_for home head found_member found_coord these those ms cs
 
 -- ---- the logs of one sort, while those of the other are made
 
-pub coords_left : (old new : HomeView) (logs : List LogView) → length logs ≤ 8 → ((c : ℕ) → IsValidNode (Coord c) → NodeStays (Coord c) old new) → AreOwnLogs old Coord 0 logs → AreOwnLogs new Coord 0 logs
+pub coords_left : (old new : HomeView) (logs : List LogView) → length logs ≤ most_coordinators → ((c : ℕ) → IsValidNode (Coord c) → NodeStays (Coord c) old new) → AreOwnLogs old Coord 0 logs → AreOwnLogs new Coord 0 logs
 coords_left old new logs few left kept = own_all_stay Coord 0 old new logs (λ q low high. left (suc q) (omega arith, omega (arith, high, few))) kept
 
-pub own_members_stay : {E : Type 0} (old new : HomeView) (these : List (MemberOn E)) → length these ≤ 16 → ((m : ℕ) → IsValidNode (Member m) → NodeStays (Member m) old new)
+pub own_members_stay : {E : Type 0} (old new : HomeView) (these : List (MemberOn E)) → length these ≤ most_members → ((m : ℕ) → IsValidNode (Member m) → NodeStays (Member m) old new)
     → AreOwnMembers old these → AreOwnMembers new these
 own_members_stay old new these few left kept =
     all_from_map (λ q x. IsOwnLog old (Member (suc q)) x.log) (λ q x. IsOwnLog new (Member (suc q)) x.log) 0 these

@@ -4,6 +4,7 @@ use Rattle.std.specs.Prelude.{Option}
 use Rattle.co_base.specs.Nodes.{IsValidNode}
 use Rattle.co_base.specs.declared.node.Node.{Node}
 use Rattle.co_base.specs.declared.node.Node.TheVariants.{Member, Coord}
+use Rattle.co_base.specs.Limits.{most_members}
 use Rattle.co_outside.specs.Home.{HomeView, File}
 use Rattle.co_outside.specs.declared.spot.Spot.{Spot}
 use Rattle.co_log.specs.LogView.{LogView}
@@ -84,6 +85,6 @@ pub sorts_apart : (c m : ℕ) → Coord c ≢ Member m
 sorts_apart c m e = absurd (let h : Coord c ≡ Member m = e in cc)
 
 -- members are left while the logs of coordinators are attached
-pub members_left : (old new : HomeView) (logs : List LogView) → length logs ≤ 16 → OthersLeft Coords old new → AreOwnLogs old Member 0 logs → AreOwnLogs new Member 0 logs
+pub members_left : (old new : HomeView) (logs : List LogView) → length logs ≤ most_members → OthersLeft Coords old new → AreOwnLogs old Member 0 logs → AreOwnLogs new Member 0 logs
 members_left old new logs few left kept =
     own_all_stay Member 0 old new logs (λ q low high. left (Member (suc q)) (omega arith, omega (arith, high, few)) (λ p. apart_sorts (suc q) p)) kept

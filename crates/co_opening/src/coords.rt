@@ -2,6 +2,7 @@
 ghost use Rattle.std.specs.Prelude.{ℕ, suc, ◌≡◌, ◌≤◌, ◌++◌, length, IfOk, IfErr, IsErrOf, OnOk};
 ghost use Rattle.co_base.specs.Nodes.{IsValidNode};
 ghost use Rattle.co_base.specs.declared.node.Node.TheVariants as node;
+ghost use Rattle.co_base.specs.Limits.{most_coordinators};
 ghost use Rattle.co_outside.specs.declared.spot.Spot.{Spot};
 ghost use Rattle.co_outside.specs.Home.{HasFailed, IsClean};
 ghost use Rattle.co_log.specs.Others.{NodeStays, OtherNodesStay};
@@ -57,7 +58,7 @@ pub(crate) fn open_coords<H: Home>(
     pasts: Vec<CoordPast>,
     marks: &mut Marks,
 ) -> Result<Vec<Coord>, WorldFault>
-    requires few { length logs.items ≤ 8 }
+    requires few { length logs.items ≤ most_coordinators }
     requires found { (found : ℕ → Found) × AreCoordsFound members found 0 logs.items pasts.items }
     requires kept { AreOwnLogs (H.seen home.old) node.Coord 0 logs.items }
     ensures opened { (found : ℕ → Found) → AreCoordsFound members found 0 logs.items pasts.items →

@@ -4,6 +4,7 @@ ghost use Rattle.std.specs.List.{AllByRecursion};
 ghost use Rattle.co_base.specs.declared.head.Kind.{Kind};
 ghost use Rattle.co_base.specs.Nodes.{IsValidNode};
 ghost use Rattle.co_base.specs.declared.node.Node.TheVariants as node;
+ghost use Rattle.co_base.specs.Limits.{most_members};
 ghost use Rattle.co_outside.specs.declared.spot.Spot.{Spot};
 ghost use Rattle.co_outside.specs.Home.{HasFailed, IsClean};
 ghost use Rattle.co_log.specs.Others.{NodeStays, OtherNodesStay};
@@ -64,7 +65,7 @@ pub(crate) fn open_members<E: Engine + Drop, H: Home>(
     marks: &mut Marks,
 ) -> Result<Vec<Member<E>>, WorldFault>
     requires takes { AllByRecursion E.takes kinds.now }
-    requires few { length kinds.now ≤ 16 }
+    requires few { length kinds.now ≤ most_members }
     requires many { length logs.items ≡ length kinds.now }
     requires found { (found : ℕ → Found) × AreMembersFound coords found 0 logs.items pasts.items }
     requires kept { AreOwnLogs (H.seen home.old) node.Member 0 logs.items }

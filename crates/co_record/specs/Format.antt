@@ -23,9 +23,3 @@ most_value version = if version == oldest then 256 else most_value_bytes
 -- operations of a transaction at one member
 abbrev pub most_operations : ℕ
 most_operations = 1024
-
-abbrev pub most_members : ℕ
-most_members = 16
-
-abbrev pub most_coordinators : ℕ
-most_coordinators = 8

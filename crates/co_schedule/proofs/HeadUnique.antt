@@ -5,6 +5,7 @@ use Rattle.std.proofs.Math.Bridge.{le_prop}
 use Rattle.co_base.specs.declared.head.Head.{Head}
 use Rattle.co_base.specs.declared.head.Kind.{Kind}
 use Rattle.co_base.specs.declared.head.Kind.TheVariants.{Lock, Occ, Mv}
+use Rattle.co_base.specs.Limits.{most_coordinators, most_members}
 use Rattle.co_schedule.specs.Words.{Word}
 use Rattle.co_schedule.specs.Spelling.{kind_word, head_words, head_text}
 use Rattle.co_schedule.specs.Grammar.{kind_named}
@@ -42,24 +43,24 @@ coords_back-words (Lock ∷ kinds) n = coords_back-words kinds n
 coords_back-words (Occ ∷ kinds) n = coords_back-words kinds n
 coords_back-words (Mv ∷ kinds) n = coords_back-words kinds n
 
-abbrev made : (kinds : List Kind) (coords : ℕ) → 1 ≤ length kinds → length kinds ≤ 16 → 1 ≤ coords → coords ≤ 8 → Head
+abbrev made : (kinds : List Kind) (coords : ℕ) → 1 ≤ length kinds → length kinds ≤ most_members → 1 ≤ coords → coords ≤ most_coordinators → Head
 made kinds coords p q r s = record { kinds = kinds; coords = coords; some_member = p; members = q; some_coord = r; coordinators = s }
 
-made_same : (kinds : List Kind) (coords : ℕ) (p p' : 1 ≤ length kinds) (q q' : length kinds ≤ 16) (r r' : 1 ≤ coords) (s s' : coords ≤ 8) → made kinds coords p q r s ≡ made kinds coords p' q' r' s'
+made_same : (kinds : List Kind) (coords : ℕ) (p p' : 1 ≤ length kinds) (q q' : length kinds ≤ most_members) (r r' : 1 ≤ coords) (s s' : coords ≤ most_coordinators) → made kinds coords p q r s ≡ made kinds coords p' q' r' s'
 made_same kinds coords p p' q q' r r' s s' =
     ap (λ x. made kinds coords x q r s) (le_prop p p')
     ∙ ap (λ x. made kinds coords p' x r s) (le_prop q q')
     ∙ ap (λ x. made kinds coords p' q' x s) (le_prop r r')
     ∙ ap (λ x. made kinds coords p' q' r' x) (le_prop s s')
 
-coords_made : (kinds : List Kind) (c d : ℕ) (p p' : 1 ≤ length kinds) (q q' : length kinds ≤ 16) (r : 1 ≤ c) (r' : 1 ≤ d) (s : c ≤ 8) (s' : d ≤ 8) → c ≡ d → made kinds c p q r s ≡ made kinds d p' q' r' s'
+coords_made : (kinds : List Kind) (c d : ℕ) (p p' : 1 ≤ length kinds) (q q' : length kinds ≤ most_members) (r : 1 ≤ c) (r' : 1 ≤ d) (s : c ≤ most_coordinators) (s' : d ≤ most_coordinators) → c ≡ d → made kinds c p q r s ≡ made kinds d p' q' r' s'
 coords_made kinds c d p p' q q' r r' s s' e =
-    let P : ℕ → Type 0 = λ x. (u : 1 ≤ x) (v : x ≤ 8) → made kinds c p q r s ≡ made kinds x p' q' u v in
+    let P : ℕ → Type 0 = λ x. (u : 1 ≤ x) (v : x ≤ most_coordinators) → made kinds c p q r s ≡ made kinds x p' q' u v in
     subst P e (λ u v. made_same kinds c p p' q q' r u s v) r' s'
 
-kinds_made : (a b : List Kind) (c d : ℕ) (p : 1 ≤ length a) (p' : 1 ≤ length b) (q : length a ≤ 16) (q' : length b ≤ 16) (r : 1 ≤ c) (r' : 1 ≤ d) (s : c ≤ 8) (s' : d ≤ 8) → a ≡ b → c ≡ d → made a c p q r s ≡ made b d p' q' r' s'
+kinds_made : (a b : List Kind) (c d : ℕ) (p : 1 ≤ length a) (p' : 1 ≤ length b) (q : length a ≤ most_members) (q' : length b ≤ most_members) (r : 1 ≤ c) (r' : 1 ≤ d) (s : c ≤ most_coordinators) (s' : d ≤ most_coordinators) → a ≡ b → c ≡ d → made a c p q r s ≡ made b d p' q' r' s'
 kinds_made a b c d p p' q q' r r' s s' e f =
-    let P : List Kind → Type 0 = λ x. (u : 1 ≤ length x) (v : length x ≤ 16) → made a c p q r s ≡ made x d u v r' s' in
+    let P : List Kind → Type 0 = λ x. (u : 1 ≤ length x) (v : length x ≤ most_members) → made a c p q r s ≡ made x d u v r' s' in
     subst P e (λ u v. coords_made a c d p u q v r r' s s' f) p' q'
 
 -- two heads of the same fields are the same

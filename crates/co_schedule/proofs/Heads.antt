@@ -5,6 +5,7 @@ use Rattle.std.specs.Str.{bytes_eq}
 use Rattle.co_base.specs.declared.head.Head.{Head}
 use Rattle.co_base.specs.declared.head.Kind.{Kind}
 use Rattle.co_base.specs.declared.head.Kind.TheVariants.{Lock, Occ, Mv}
+use Rattle.co_base.specs.Limits.{most_coordinators, most_members}
 use Rattle.co_schedule.specs.Words.{Word, words_of}
 use Rattle.co_schedule.specs.Spelling.{kind_word, head_words, head_text}
 use Rattle.co_schedule.specs.Places.{one_of, step, first_fault, go_on, ◌▸◌}
@@ -37,7 +38,7 @@ more_faults (suc more) kind words rest r some e it =
     let less : suc more - 1 ≡ more = omega arith in
     same_fault words rest (suc more) more r (kind_faults more kind words rest e) (rw less at it)
 
-kinds_fit : (more : ℕ) (kinds : List Kind) (coords : ℕ) → length kinds ≤ more → 1 ≤ coords → coords ≤ 8 → Fits (kinds_places more) (kinds_text kinds (codes "coords" ∷ decimal coords ∷ []))
+kinds_fit : (more : ℕ) (kinds : List Kind) (coords : ℕ) → length kinds ≤ more → 1 ≤ coords → coords ≤ most_coordinators → Fits (kinds_places more) (kinds_text kinds (codes "coords" ∷ decimal coords ∷ []))
 kinds_fit zero [] coords few low high = (record { wanted = refl; whole = refl }, (number_taken 1 8 coords low high (omega arith), tt))
 kinds_fit zero (kind ∷ kinds) coords few low high = absurd (omega arith)
 kinds_fit (suc more) [] coords few low high = (record { wanted = refl; whole = refl }, (number_taken 1 8 coords low high (omega arith), tt))
@@ -45,11 +46,11 @@ kinds_fit (suc more) (Lock ∷ kinds) coords few low high = (record { wanted = r
 kinds_fit (suc more) (Occ ∷ kinds) coords few low high = (record { wanted = refl; whole = refl }, kinds_fit more kinds coords (omega arith) low high)
 kinds_fit (suc more) (Mv ∷ kinds) coords few low high = (record { wanted = refl; whole = refl }, kinds_fit more kinds coords (omega arith) low high)
 
-first_fits : (kinds : List Kind) (coords : ℕ) → 1 ≤ length kinds → length kinds ≤ 16 → 1 ≤ coords → coords ≤ 8 → Fits head_places (codes "members" ∷ kinds_text kinds (codes "coords" ∷ decimal coords ∷ []))
+first_fits : (kinds : List Kind) (coords : ℕ) → 1 ≤ length kinds → length kinds ≤ most_members → 1 ≤ coords → coords ≤ most_coordinators → Fits head_places (codes "members" ∷ kinds_text kinds (codes "coords" ∷ decimal coords ∷ []))
 first_fits [] coords some few low high = absurd (omega arith)
-first_fits (Lock ∷ kinds) coords some few low high = (record { wanted = refl; whole = refl }, (record { wanted = refl; whole = refl }, kinds_fit 15 kinds coords (omega arith) low high))
-first_fits (Occ ∷ kinds) coords some few low high = (record { wanted = refl; whole = refl }, (record { wanted = refl; whole = refl }, kinds_fit 15 kinds coords (omega arith) low high))
-first_fits (Mv ∷ kinds) coords some few low high = (record { wanted = refl; whole = refl }, (record { wanted = refl; whole = refl }, kinds_fit 15 kinds coords (omega arith) low high))
+first_fits (Lock ∷ kinds) coords some few low high = (record { wanted = refl; whole = refl }, (record { wanted = refl; whole = refl }, kinds_fit (most_members - 1) kinds coords (omega arith) low high))
+first_fits (Occ ∷ kinds) coords some few low high = (record { wanted = refl; whole = refl }, (record { wanted = refl; whole = refl }, kinds_fit (most_members - 1) kinds coords (omega arith) low high))
+first_fits (Mv ∷ kinds) coords some few low high = (record { wanted = refl; whole = refl }, (record { wanted = refl; whole = refl }, kinds_fit (most_members - 1) kinds coords (omega arith) low high))
 
 -- the words of each head fit the places of heads
 pub head_fits : (head : Head) → Fits head_places (head_words head)
@@ -62,4 +63,4 @@ head_no_fault head words mistake h fault =
     absurd cc
 
 pub words_of_head : (head : Head) (line : List ℕ) → line ≡ head_text head → words_of line ≡ head_words head
-words_of_head head line h = ap words_of h ∙ words_of-fit (one_of (codes "members" ∷ [])) (λ _. one_of (map kind_word all_kinds) ▸ kinds_places 15) (head_words head) (head_fits head)
+words_of_head head line h = ap words_of h ∙ words_of-fit (one_of (codes "members" ∷ [])) (λ _. one_of (map kind_word all_kinds) ▸ kinds_places (most_members - 1)) (head_words head) (head_fits head)

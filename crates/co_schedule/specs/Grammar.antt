@@ -1,6 +1,7 @@
 -- The places of each line.
-use Rattle.std.specs.Prelude.{ℕ, zero, suc, if◌then◌else◌, List, [], ◌∷◌, map, find, Option, None, Some, codes}
+use Rattle.std.specs.Prelude.{ℕ, zero, suc, ◌-◌, if◌then◌else◌, List, [], ◌∷◌, map, find, Option, None, Some, codes}
 use Rattle.std.specs.Str.{bytes_eq}
+use Rattle.co_base.specs.Limits.{most_coordinators, most_members}
 use Rattle.co_base.specs.declared.head.Kind.{Kind}
 use Rattle.co_base.specs.declared.head.Kind.TheVariants.{Lock, Occ, Mv}
 use Rattle.co_schedule.specs.Words.{Word}
@@ -124,13 +125,13 @@ kind_named word = find (λ k. bytes_eq (kind_word k) word) all_kinds
 
 -- the count of coordinators, and the end
 abbrev pub coords_places : Places
-coords_places = number 1 8 ▸ nothing
+coords_places = number 1 most_coordinators ▸ nothing
 
 -- the kinds of at most so many more members, and then the coordinators
 abbrev pub kinds_places : ℕ → Places
 kinds_places zero = one_of (codes "coords" ∷ []) ▸ coords_places
 kinds_places (suc more) = place (one_of (codes "coords" ∷ map kind_word all_kinds)) (λ word. if bytes_eq (codes "coords") word then coords_places else kinds_places more)
 
--- a head: its first word, and the kinds of 1 to 16 members
+-- a head: its first word, and the kinds of its members
 abbrev pub head_places : Places
-head_places = one_of (codes "members" ∷ []) ▸ one_of (map kind_word all_kinds) ▸ kinds_places 15
+head_places = one_of (codes "members" ∷ []) ▸ one_of (map kind_word all_kinds) ▸ kinds_places (most_members - 1)

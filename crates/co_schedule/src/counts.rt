@@ -1,22 +1,22 @@
 //! How many nodes a line may name.
 ghost use Rattle.std.specs.Prelude.{◌≡◌, length};
 
-use co_base::Head;
+use co_base::{Head, MOST_COORDINATORS, MOST_MEMBERS};
 
 /// How many members and how many coordinators a federation has.
 #[derive(Clone, Copy, PartialEq, Eq)]
 pub struct NodeCounts {
-    /// The count of members, at most 16.
+    /// The count of members, at most `MOST_MEMBERS`.
     pub members: u8,
-    /// The count of coordinators, at most 8.
+    /// The count of coordinators, at most `MOST_COORDINATORS`.
     pub coords: u8,
 }
 
 impl NodeCounts {
     /// The most that a federation has.
     pub const MOST: NodeCounts = NodeCounts {
-        members: 16,
-        coords: 8,
+        members: MOST_MEMBERS,
+        coords: MOST_COORDINATORS,
     };
 
     /// The nodes of this head.

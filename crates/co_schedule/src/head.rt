@@ -1,5 +1,5 @@
 //! The first line of a schedule.
-ghost use Rattle.std.specs.Prelude.{◌≡◌, ◌<◌, ◌≤◌, ◌+◌, ◌++◌, ◌↔◌, ◌⊎◌, [], ◌∷◌, length, map, codes, decimal, is_some, Ok, Err, Some, None, IfOk, IfErr, IfSome, OnOk, IsErrOf, option_map};
+ghost use Rattle.std.specs.Prelude.{◌≡◌, ◌<◌, ◌≤◌, ◌+◌, ◌-◌, ◌++◌, ◌↔◌, ◌⊎◌, [], ◌∷◌, length, map, codes, decimal, is_some, Ok, Err, Some, None, IfOk, IfErr, IfSome, OnOk, IsErrOf, option_map};
 ghost use Rattle.co_schedule.specs.Limits.{longest_line};
 ghost use Rattle.co_schedule.specs.Words.{Word, words_of};
 ghost use Rattle.co_schedule.specs.Spelling.{kind_word, head_words, head_text};
@@ -8,11 +8,12 @@ ghost use Rattle.co_schedule.specs.Grammar.{all_kinds, kind_named, coords_places
 ghost use Rattle.co_schedule.specs.Faults.{IsFirstFault};
 ghost use Rattle.co_schedule.specs.Heads.{kinds_text, kind_or_coords_word};
 ghost use Rattle.co_base.specs.declared.head.Head.{Head};
+ghost use Rattle.co_base.specs.Limits.{most_coordinators, most_members};
 
 use crate::fault::{LineFault, LineKind, Mistake, ReadFault};
 use crate::words::Words;
 use crate::writing::{LONGEST_LINE, kind_text};
-use co_base::{Head, Kind, Kinds};
+use co_base::{Head, Kind, Kinds, MOST_COORDINATORS, MOST_MEMBERS};
 use std::alloc::Global;
 
 const KINDS: [Kind; 3] = [Kind::Lock, Kind::Occ, Kind::Mv];
@@ -76,16 +77,16 @@ impl<'a> Words<'a> {
 }
 
 fn coords_of(words: &mut Words<'_>) -> Result<u8, Mistake>
-    ensures found { IfOk result (λ coords. (1 ≤ coords) × (coords ≤ 8) × (words.old ≡ decimal coords ∷ [])) }
+    ensures found { IfOk result (λ coords. (1 ≤ coords) × (coords ≤ most_coordinators) × (words.old ≡ decimal coords ∷ [])) }
     ensures fault { IfErr result (λ mistake. first_fault coords_places words.old ≡ Some mistake) }
 {
-    let coords = words.number(1, 8)?;
+    let coords = words.number(1, MOST_COORDINATORS as u32)?;
     words.end()?;
     Ok(coords as u8)
 }
 
 fn head_of(words: &mut Words<'_>, kinds: Kinds) -> Result<Head, Mistake>
-    requires { (1 ≤ length kinds) × (length kinds ≤ 16) }
+    requires { (1 ≤ length kinds) × (length kinds ≤ most_members) }
     ensures found { IfOk result (λ head. kinds_text kinds (codes "coords" ∷ words.old) ≡ kinds_text head.kinds (codes "coords" ∷ decimal head.coords ∷ [])) }
     ensures fault { IfErr result (λ mistake. first_fault coords_places words.old ≡ Some mistake) }
 {
@@ -94,7 +95,7 @@ fn head_of(words: &mut Words<'_>, kinds: Kinds) -> Result<Head, Mistake>
 }
 
 fn more_kinds(words: &mut Words<'_>, mut kinds: Kinds, more: u8) -> Result<Head, ReadFault>
-    requires { (1 ≤ length kinds) × (length kinds + more ≤ 16) }
+    requires { (1 ≤ length kinds) × (length kinds + more ≤ most_members) }
     ensures found { IfOk result (λ head. kinds_text kinds words.old ≡ kinds_text head.kinds (codes "coords" ∷ decimal head.coords ∷ [])) }
     ensures fault { IfErr result (IsFirstFault (kinds_places more) words.old) }
 {
@@ -114,11 +115,11 @@ fn more_kinds(words: &mut Words<'_>, mut kinds: Kinds, more: u8) -> Result<Head,
 /// Reads a head behind its first word.
 pub fn read_head_kinds(alloc: Global, words: &mut Words<'_>) -> Result<Head, ReadFault>
     ensures found { IfOk result (λ head. codes "members" ∷ words.old ≡ head_words head) }
-    ensures fault { IfErr result (IsFirstFault (one_of (map kind_word all_kinds) ▸ kinds_places 15) words.old) }
+    ensures fault { IfErr result (IsFirstFault (one_of (map kind_word all_kinds) ▸ kinds_places (most_members - 1)) words.old) }
 {
     let mut kinds = Kinds::new(alloc);
     kinds.push(words.kind()?)?;
-    more_kinds(words, kinds, 15)
+    more_kinds(words, kinds, MOST_MEMBERS - 1)
 }
 
 fn read_head_words(alloc: Global, words: &mut Words<'_>) -> Result<Head, ReadFault>

@@ -3,6 +3,7 @@ ghost use Rattle.std.specs.Prelude.{◌≡◌, ◌<◌, ◌≤◌, ◌↔◌, []
 ghost use Rattle.std.specs.Ordering.{is_gt};
 ghost use Rattle.co_base.specs.Letters.{most_key_bytes, most_value_bytes};
 ghost use Rattle.co_base.specs.Order.{key_cmp};
+ghost use Rattle.co_base.specs.Limits.{most_coordinators, most_members};
 ghost use Rattle.co_schedule.specs.Limits.{longest_line};
 ghost use Rattle.co_schedule.specs.Words.{words_of};
 ghost use Rattle.co_schedule.specs.Spelling.{member_word, coord_word, node_word, message_words, event_words, line_text};
@@ -355,7 +356,7 @@ fn event_in(line: &[u8], nodes: NodeCounts) -> Result<LineView<'_>, Mistake>
 }
 
 fn read_for(line: &[u8], nodes: NodeCounts) -> Result<LineView<'_>, LineFault>
-    requires { (nodes.members ≤ 16) × (nodes.coords ≤ 8) }
+    requires { (nodes.members ≤ most_members) × (nodes.coords ≤ most_coordinators) }
     ensures found { IfOk result (λ view. IsEventFor nodes.members nodes.coords (event_of view) × (line.now ≡ line_text (event_of view))) }
     ensures only { (event : Event) → IsEventFor nodes.members nodes.coords event → line.now ≡ line_text event → length line.now ≤ longest_line → IsOkAnd result (λ view. event_of view ≡ event) }
     ensures lent { IfOk result IsLent }

@@ -1,6 +1,7 @@
 -- The federations that are settled: those that a run over sound logs left.
 use Rattle.std.specs.Prelude.{ℕ, ◌≡◌, ◌≤◌, List, length}
 use Rattle.co_base.specs.declared.head.Kind.{Kind}
+use Rattle.co_base.specs.Limits.{most_coordinators, most_members}
 use Rattle.co_opening.specs.Found.{MayRun}
 use Rattle.co_plain.specs.Federation.{Federation}
 use Rattle.co_plain.specs.Opening.{Found, opened}
@@ -16,9 +17,9 @@ pub record IsReached (s : Federation) : Type 0 where
   pub found_member : ℕ → Found
   pub found_coord : ℕ → Found
   pub happened : List Happening
-  pub few_members : length kinds ≤ 16
+  pub few_members : length kinds ≤ most_members
   pub some_coord : 1 ≤ coords
-  pub few_coords : coords ≤ 8
+  pub few_coords : coords ≤ most_coordinators
   pub openable : AreOpenable kinds coords found_member found_coord
   pub may : MayRun kinds coords found_member found_coord
   pub true_verdicts : AreTrueVerdicts happened (opened kinds coords found_member found_coord)

@@ -1,5 +1,6 @@
 //! The top call.
 ghost use Rattle.std.specs.Prelude.{◌≡◌, ◌≤◌, ◌↔◌, ◌⊎◌, ◌||◌, ℕ, List, Some, true, false};
+ghost use Rattle.co_base.specs.Limits.{most_coordinators, most_members};
 ghost use Rattle.co_outside.specs.declared.spot.Spot.{Spot};
 ghost use Rattle.co_outside.specs.Faults.{HasRisen};
 ghost use Rattle.co_outside.specs.Home.{HasFailed, IsClean};
@@ -82,7 +83,7 @@ pub fn run<S: Source, K: Sink, N: Sink, H: Home>(
         IsUnhindered (resumes words.now) input (H.seen home.old).file (S.faults source.old) (S.faults source.new) (K.faults out.old) (K.faults out.new) (H.seen home.old).faults (H.seen home.new).faults result →
         (result ≡ Status.Done) ⊎ (result ≡ Status.Memory) }
     ensures causes { is_records words.now ≡ true → HasCause (H.seen home.old).file result }
-    ensures exact { is_records words.now ≡ true → AreTold (H.seen home.old).file 16 8 → IsExact (H.seen home.old).file result }
+    ensures exact { is_records words.now ≡ true → AreTold (H.seen home.old).file most_members most_coordinators → IsExact (H.seen home.old).file result }
     ensures durable { (held : List ℕ) → is_records words.now ≡ true → K.told out.old ≡ Some held → HoldsRecords (H.seen home.old).file held (K.told out.new) result }
     ensures files { is_records words.now ≡ true → (s : Spot) → (H.seen home.new).file s ≡ (H.seen home.old).file s }
     ensures checked { (input held : List ℕ) → is_check words.now ≡ true → S.left source.old ≡ Some input → K.told out.old ≡ Some held →

@@ -6,6 +6,7 @@ use Rattle.std.proofs.lemmas.List.{length-map}
 use Rattle.co_base.specs.declared.head.Head.{Head}
 use Rattle.co_base.specs.declared.head.Kind.{Kind}
 use Rattle.co_base.specs.declared.mark.Mark.{Mark}
+use Rattle.co_base.specs.Limits.{most_coordinators, most_members}
 use Rattle.co_law_base.proofs.Lookups.{is_nothing, look_none}
 use Rattle.co_message.specs.declared.answer.Answer.TheVariants as answer
 use Rattle.co_message.specs.declared.item.Item.{Item}
@@ -33,7 +34,7 @@ alone : (used : List ℕ) → length used ≤ 65536 → length (none_begun used)
 alone used few = omega (arith, few)
 
 pub attached_over : {E : Type 0} (takes : Kind → Type 0) (stands_for : E → EngineState → Type 0) (file : Spot → Option File) (head : Head) (resume : Bool) (n : Nodes E) (w : World E) (items : List Item)
-    → length head.kinds ≤ 16 → head.coords ≤ 8 → AreOpened takes stands_for file head resume n → w.cluster.members.items ≡ n.members.items → w.cluster.coords.items ≡ n.coords.items → w.sessions ≡ none_begun n.used → w.wire ≡ []
+    → length head.kinds ≤ most_members → head.coords ≤ most_coordinators → AreOpened takes stands_for file head resume n → w.cluster.members.items ≡ n.members.items → w.cluster.coords.items ≡ n.coords.items → w.sessions ≡ none_begun n.used → w.wire ≡ []
     → items ≡ numbered 1 (items_of n.marks [] answer.Opened) → IsAttachedOver takes stands_for file head resume w items
 attached_over takes stands_for file head resume n w items few_members few_coords opened members coords sessions wire told =
     let used : Numbers = used_numbers (length head.kinds) head.coords opened.found_member opened.found_coord in

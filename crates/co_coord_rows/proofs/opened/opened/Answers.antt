@@ -1,7 +1,7 @@
 use Rattle.std.proofs.Common.{ℕ, [], refl, sym, subst, arith}
 use Rattle.co_base.specs.declared.node.Node.TheVariants as node
+use Rattle.co_base.specs.Limits.{most_coordinators}
 use Rattle.co_log.specs.LogView.{LogView}
-use Rattle.co_record.specs.Format.{most_coordinators}
 use Rattle.co_plain.specs.Opening.{Found, opened_coord, opened_log}
 use Rattle.co_law_node.proofs.CoordEvents.{whole_coord_opened}
 use Rattle.co_law_node.proofs.CoordLaws.{coord_as_told}

@@ -1,6 +1,7 @@
 use Rattle.std.proofs.Common.{◌≡◌, ◌≤◌, List, length, sym, ap, subst, ◌∙◌}
 use Rattle.std.specs.List.{AllByRecursion}
 use Rattle.co_base.specs.declared.node.Node.TheVariants.{Member}
+use Rattle.co_base.specs.Limits.{most_members}
 use Rattle.co_log.specs.LogView.{LogView}
 use Rattle.co_recover.specs.declared.past.MemberPast.{MemberPast}
 use Rattle.co_plain.specs.MemberView.{Numbers}
@@ -64,7 +65,7 @@ durable_rows-requires g c =
     let many : length c.in_ok-pasts.pasts.items ≡ c.args.members =
     pairs_length (IsPastOf c.args.coords) c.as_slice.result.now c.in_ok-pasts.pasts.items c.in_ok-pasts.ensures.pasts ∙ ap (λ (logs : List LogView). length logs) c.as_slice.ensures.value
     ∙ pairs_length (IsLogOf (g.H.Home.seen c.args.home.now).file) (member_nodes c.args.members) c.in_ok-member_logs.member_logs.items c.in_ok-member_logs.ensures.read ∙ so_many Member c.args.members in
-    subst (λ (pasts : List MemberPast). length pasts ≤ 16) (sym c.as_slice-3.ensures.value) (subst (λ n. n ≤ 16) (sym many) c.requires.members)
+    subst (λ (pasts : List MemberPast). length pasts ≤ most_members) (sym c.as_slice-3.ensures.value) (subst (λ n. n ≤ most_members) (sym many) c.requires.members)
 
 pub returns-clause-durable : goal.returns-clause-durable
 returns-clause-durable g c =

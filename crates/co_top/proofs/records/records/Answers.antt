@@ -1,4 +1,5 @@
 use Rattle.std.proofs.Common.{sym, subst}
+use Rattle.co_base.specs.Limits.{most_coordinators, most_members}
 use Rattle.co_durable.specs.Durable.{IsDurable}
 use Rattle.co_top.specs.Records.{HasCause, HoldsRecords}
 use Rattle.co_top.proofs.Recording.{put_cause, put_holds, refusal_cause, refusal_holds}
@@ -13,7 +14,7 @@ pub returns-in-Ok-clause-durable : goal.returns-in-Ok-clause-durable
 returns-in-Ok-clause-durable g c = λ held is.
     let file = (g.H.Home.seen c.args.home.now).file in
     subst (HoldsRecords file held (g.K.Sink.told c.put_records-put.new.out)) (sym c.status_of_put.ensures)
-    (put_holds file held _ c.as_slice.result.now c.put_records-put.result (subst (IsDurable file 16 8) (sym c.as_slice.ensures) c.in-Ok.ensures.durable)
+    (put_holds file held _ c.as_slice.result.now c.put_records-put.result (subst (IsDurable file most_members most_coordinators) (sym c.as_slice.ensures) c.in-Ok.ensures.durable)
     (c.put_records-put.ensures.put held is) (c.put_records-put.ensures.front held is))
 
 pub returns-in-Err-clause-cause : goal.returns-in-Err-clause-cause

@@ -1,6 +1,7 @@
 use Rattle.std.proofs.Common.{◌≡◌, ◌≤◌, ◌<◌, ℕ, length, Option, sym, ap, ◌∙◌, subst, arith}
 use Rattle.std.specs.Prelude.{IfOk, OnOk}
 use Rattle.co_base.specs.declared.node.Node.TheVariants as node
+use Rattle.co_base.specs.Limits.{most_members}
 use Rattle.co_message.specs.declared.answer.Answer.{Answer}
 use Rattle.co_message.specs.declared.answer.Answer.TheVariants as answer
 use Rattle.co_plain.specs.Federation.{Federation, Stepped, answers, with_member}
@@ -59,7 +60,7 @@ enter-requires-clause-in_head g c =
     let s = c.requires.stands.0 in
     let r = c.requires.stands.1 in
     let own : c.args.member ≤ length s.kinds = (own_member g.E.Engine.takes g.E.Engine.stands_for c.args.self.now s r c.args.member c.requires.in_head).1 in
-    let few : length s.kinds ≤ 16 = r.cluster.few_members in
+    let few : length s.kinds ≤ most_members = r.cluster.few_members in
     (c.requires.in_head.0, omega (arith, own, few))
 
 pub enter-requires-clause-begun : goal.enter-requires-clause-begun
