@@ -9,6 +9,10 @@ most_members = 16
 abbrev pub most_coordinators : ℕ
 most_coordinators = 8
 
+-- the most operations of one transaction at one member that are answered
+abbrev pub most_operations : ℕ
+most_operations = 1024
+
 -- the most bytes that a log file has
 abbrev pub most_log_bytes : ℕ
 most_log_bytes = 268435456

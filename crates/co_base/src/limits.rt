@@ -6,6 +6,9 @@ pub const MOST_MEMBERS: u8 = 16;
 /// The most coordinators that a federation has, and a directory of logs: 8.
 pub const MOST_COORDINATORS: u8 = 8;
 
+/// The most operations of one transaction at one member that are answered: 1,024.
+pub const MOST_OPERATIONS: u16 = 1024;
+
 /// The most bytes that a log file has: 268,435,456.
 pub const MOST_LOG_BYTES: u32 = 268_435_456;
 

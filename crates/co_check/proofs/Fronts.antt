@@ -6,7 +6,8 @@ use Rattle.co_transcript.specs.Items.{IsItem}
 use Rattle.co_transcript.specs.Spelling.{item_text}
 use Rattle.co_transcript.proofs.ItemLaws.{one_line}
 use Rattle.co_check.specs.Account.{Account}
-use Rattle.co_check.specs.Checked.{IsCheck, IsJudgedAs, IsBroken, StandsBehind, AtStart, OneMore, fault_of, longest}
+use Rattle.co_schedule.specs.Limits.{most_of_text}
+use Rattle.co_check.specs.Checked.{IsCheck, IsJudgedAs, IsBroken, StandsBehind, AtStart, OneMore, fault_of}
 use Rattle.co_check.specs.Once.{IsOfText, IsSameAnswer}
 use Rattle.co_check.specs.Shape.{Read, unread, next_of, read_from, read, is_whole}
 use Rattle.co_check.specs.declared.fault.CheckFault.{CheckFault}
@@ -19,11 +20,11 @@ use Rattle.co_check.proofs.Splits.{serial_or_not, differs_once}
 -- these items are the lines of a text of which so many were read before, and this is left
 abbrev pub IsFront : ℕ → List ℕ → List Item → List ℕ → Type 0
 IsFront lent text [] left = text ≡ left
-IsFront lent text (it ∷ items) left = IsItem it × (next_line longest longest lent text ≡ Ok (Some (item_text it))) × IsFront (suc lent) (behind_line text) items left
+IsFront lent text (it ∷ items) left = IsItem it × (next_line most_of_text most_of_text lent text ≡ Ok (Some (item_text it))) × IsFront (suc lent) (behind_line text) items left
 
 -- the next line is that of this item
 abbrev pub IsNextItem : ℕ → List ℕ → Item → Type 0
-IsNextItem lent text it = next_line longest longest lent text ≡ Ok (Some (item_text it))
+IsNextItem lent text it = next_line most_of_text most_of_text lent text ≡ Ok (Some (item_text it))
 
 one_more : (lent : ℕ) (text : List ℕ) (items : List Item) (left : List ℕ) (it : Item) → IsFront lent text items left → IsItem it → IsNextItem (lent + length items) left it → IsFront lent text (items ++ it ∷ []) (behind_line left)
 one_more lent text [] left it f i e = (i, subst (λ t. IsNextItem lent t it) (sym f) (subst (λ n. IsNextItem n left it) (let q : lent + 0 ≡ lent = omega arith in q) e), ap behind_line f)
@@ -71,13 +72,13 @@ one_front lent text r (x ∷ xs) left after (y ∷ ys) other other_after f g p q
 -- ---- how a text ends
 
 abbrev pub IsShort : ℕ → List ℕ → Type 0
-IsShort lent left = (byte : ℕ) (bytes : List ℕ) → left ≡ byte ∷ bytes → next_line longest longest lent left ≡ Ok (Some (first_line left))
+IsShort lent left = (byte : ℕ) (bytes : List ℕ) → left ≡ byte ∷ bytes → next_line most_of_text most_of_text lent left ≡ Ok (Some (first_line left))
 
 abbrev pub EndsAs : Read → ℕ → List ℕ → Result Verdict CheckFault → Type 0
 EndsAs r lent left (Ok judged) = (left ≡ []) × (is_whole r.place ≡ true) × IsJudgedAs r.account judged
 EndsAs r lent left (Err (fault.Text line)) = (line ≡ lent + 1) × IsShort lent left × IsBroken (Some r) left
-EndsAs r lent left (Err (fault.Long line)) = fault_of (next_line longest longest lent left) ≡ Some (fault.Long line)
-EndsAs r lent left (Err fault.Many) = fault_of (next_line longest longest lent left) ≡ Some fault.Many
+EndsAs r lent left (Err (fault.Long line)) = fault_of (next_line most_of_text most_of_text lent left) ≡ Some (fault.Long line)
+EndsAs r lent left (Err fault.Many) = fault_of (next_line most_of_text most_of_text lent left) ≡ Some fault.Many
 EndsAs r lent left (Err fault.Read) = ⊥
 EndsAs r lent left (Err fault.Memory) = ⊥
 
@@ -106,13 +107,13 @@ ended text (Err fault.Memory) c k = absurd k
 
 -- at the end there is no line, and a line that is read is no fault
 nothing_next : (lent : ℕ) (left : List ℕ) (it : Item) → left ≡ [] → IsNextItem lent left it → ⊥
-nothing_next lent left it is e = let z : Ok None ≡ Ok (Some (item_text it)) = sym (ap (next_line longest longest lent) is) ∙ e in cc
+nothing_next lent left it is e = let z : Ok None ≡ Ok (Some (item_text it)) = sym (ap (next_line most_of_text most_of_text lent) is) ∙ e in cc
 
-no_fault : (lent : ℕ) (left line : List ℕ) (why : CheckFault) → fault_of (next_line longest longest lent left) ≡ Some why → next_line longest longest lent left ≡ Ok (Some line) → ⊥
+no_fault : (lent : ℕ) (left line : List ℕ) (why : CheckFault) → fault_of (next_line most_of_text most_of_text lent left) ≡ Some why → next_line most_of_text most_of_text lent left ≡ Ok (Some line) → ⊥
 no_fault lent left line why f e = let z : None ≡ Some why = sym (ap fault_of e) ∙ f in cc
 
-nor_at_end : (lent : ℕ) (left : List ℕ) (why : CheckFault) → fault_of (next_line longest longest lent left) ≡ Some why → left ≡ [] → ⊥
-nor_at_end lent left why f is = let z : None ≡ Some why = sym (ap (λ t. fault_of (next_line longest longest lent t)) is) ∙ f in cc
+nor_at_end : (lent : ℕ) (left : List ℕ) (why : CheckFault) → fault_of (next_line most_of_text most_of_text lent left) ≡ Some why → left ≡ [] → ⊥
+nor_at_end lent left why f is = let z : None ≡ Some why = sym (ap (λ t. fault_of (next_line most_of_text most_of_text lent t)) is) ∙ f in cc
 
 stops : (r : Read) (lent : ℕ) (left : List ℕ) (o : Result Verdict CheckFault) → EndsAs r lent left o → IsAtStop (Some r) lent left
 stops r lent left (Ok judged) h it after i e n = nothing_next lent left it h.0 e
@@ -141,7 +142,7 @@ text_at_end : (r : Read) (left : List ℕ) → left ≡ [] → is_whole r.place 
 text_at_end r [] is w b = whole_or_not (is_whole r.place) w b
 text_at_end r (byte ∷ bytes) is w b = let z : byte ∷ bytes ≡ [] = is in cc
 
-text_or_line : (r : Read) (lent : ℕ) (left : List ℕ) (why : CheckFault) → IsShort lent left → fault_of (next_line longest longest lent left) ≡ Some why → ⊥
+text_or_line : (r : Read) (lent : ℕ) (left : List ℕ) (why : CheckFault) → IsShort lent left → fault_of (next_line most_of_text most_of_text lent left) ≡ Some why → ⊥
 text_or_line r lent [] why s f = nor_at_end lent [] why f refl
 text_or_line r lent (byte ∷ bytes) why s f = no_fault lent (byte ∷ bytes) (first_line (byte ∷ bytes)) why f (s byte bytes refl)
 

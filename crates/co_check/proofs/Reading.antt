@@ -15,7 +15,8 @@ use Rattle.co_check.specs.declared.checker.Checker.{Checker}
 use Rattle.co_check.specs.declared.fault.CheckFault.{CheckFault}
 use Rattle.co_check.specs.declared.fault.CheckFault.TheVariants as fault
 use Rattle.co_check.specs.declared.verdict.Verdict.{Verdict}
-use Rattle.co_check.specs.Checked.{IsTakenAs, IsTaken, IsEnd, IsCheck, BreaksShape, IsBroken, StandsBehind, AtStart, OneMore, fault_of, longest}
+use Rattle.co_schedule.specs.Limits.{most_of_text}
+use Rattle.co_check.specs.Checked.{IsTakenAs, IsTaken, IsEnd, IsCheck, BreaksShape, IsBroken, StandsBehind, AtStart, OneMore, fault_of}
 use Rattle.co_check.specs.Kept.{Follows}
 use Rattle.co_check.specs.Shape.{Read, next, next_of, read_from, unread}
 use Rattle.co_check.specs.Taking.{HasTaken, IsStep, told_as, further_of, judged_of}
@@ -42,10 +43,10 @@ first_cut lent first line true false e = let z : Ok (Some first) ≡ Ok (Some li
 first_cut lent first line false long e = absurd (let z : Err lines.Many ≡ Ok (Some line) = e in cc)
 
 -- the next line is the first one
-pub next_is_first : (lent : ℕ) (left line : List ℕ) → next_line longest longest lent left ≡ Ok (Some line) → line ≡ first_line left
+pub next_is_first : (lent : ℕ) (left line : List ℕ) → next_line most_of_text most_of_text lent left ≡ Ok (Some line) → line ≡ first_line left
 next_is_first lent [] line e = absurd (let z : Ok None ≡ Ok (Some line) = e in cc)
 next_is_first lent (byte ∷ bytes) line e =
-    first_cut lent (first_line (byte ∷ bytes)) line (nat_lt lent longest) (nat_lt longest (length (first_line (byte ∷ bytes)))) e
+    first_cut lent (first_line (byte ∷ bytes)) line (nat_lt lent most_of_text) (nat_lt most_of_text (length (first_line (byte ∷ bytes)))) e
 
 none_cut : (lent : ℕ) (first : List ℕ) (few long : Bool) →
     cut lent first few long ≡ Ok None → ⊥
@@ -54,10 +55,10 @@ none_cut lent first true false e = let z : Ok (Some first) ≡ Ok None = e in cc
 none_cut lent first false long e = let z : Err lines.Many ≡ Ok None = e in cc
 
 -- there is no next line at the end alone
-none_left : (lent : ℕ) (left : List ℕ) → next_line longest longest lent left ≡ Ok None → left ≡ []
+none_left : (lent : ℕ) (left : List ℕ) → next_line most_of_text most_of_text lent left ≡ Ok None → left ≡ []
 none_left lent [] e = refl
 none_left lent (byte ∷ bytes) e =
-    absurd (none_cut lent (first_line (byte ∷ bytes)) (nat_lt lent longest) (nat_lt longest (length (first_line (byte ∷ bytes)))) e)
+    absurd (none_cut lent (first_line (byte ∷ bytes)) (nat_lt lent most_of_text) (nat_lt most_of_text (length (first_line (byte ∷ bytes)))) e)
 
 read_more : (r : Option Read) (items : List Item) (it : Item) → read_from r (items ++ it ∷ []) ≡ next_of (read_from r items) it
 read_more r [] it = refl
@@ -65,26 +66,26 @@ read_more r (x ∷ items) it = read_more (next_of r x) items it
 
 -- ---- one more line
 
-broken_here : (r : Read) (lent : ℕ) (left line : List ℕ) → next_line longest longest lent left ≡ Ok (Some line) → BreaksShape (Some r) line → IsBroken (Some r) left
+broken_here : (r : Read) (lent : ℕ) (left line : List ℕ) → next_line most_of_text most_of_text lent left ≡ Ok (Some line) → BreaksShape (Some r) line → IsBroken (Some r) left
 broken_here r lent [] line e b = absurd (let z : Ok None ≡ Ok (Some line) = e in cc)
 broken_here r lent (byte ∷ bytes) line e b = subst (BreaksShape (Some r)) (next_is_first lent (byte ∷ bytes) line e) b
 
 pub line_steps : (text : List ℕ) (old new : Lines) (left_old left_new : Option (List ℕ)) (checker : Checker) (number : ℕ) (line : List ℕ) (o : Result Checker CheckFault) →
-    (h : HasTaken text old left_old checker) → lines_read old + 1 ≡ number → next_line longest longest (lines_read old) h.rest ≡ Ok (Some line) →
+    (h : HasTaken text old left_old checker) → lines_read old + 1 ≡ number → next_line most_of_text most_of_text (lines_read old) h.rest ≡ Ok (Some line) →
     ahead new left_new ≡ Some (behind_line h.rest) → lines_read new ≡ lines_read old + 1 → IsTaken h.shaped number line o → IsStep text new left_new (further_of o)
 line_steps text old new left_old left_new checker number line (Ok after) h n e behind count t =
     record {
       items = h.items ++ t.0 ∷ [];
       rest = behind_line h.rest;
       shaped = t.1;
-      front = OneMore text h.rest h.items t.0 h.front t.2 (ap (λ k. next_line longest longest k h.rest) (sym h.count) ∙ e ∙ ap (λ l. Ok (Some l)) t.3);
+      front = OneMore text h.rest h.items t.0 h.front t.2 (ap (λ k. next_line most_of_text most_of_text k h.rest) (sym h.count) ∙ e ∙ ap (λ l. Ok (Some l)) t.3);
       is_shaped = read_more (Some unread) h.items t.0 ∙ ap (λ r. next_of r t.0) h.is_shaped ∙ t.4;
       follows = t.5;
       is_rest = behind;
       count = count ∙ ap (λ k. k + 1) h.count ∙ sym (length-append h.items (t.0 ∷ []));
     }
 line_steps text old new left_old left_new checker number line (Err (fault.Text at)) h n e behind count t =
-    let here : next_line longest longest (length h.items) h.rest ≡ Ok (Some line) = ap (λ k. next_line longest longest k h.rest) (sym h.count) ∙ e in
+    let here : next_line most_of_text most_of_text (length h.items) h.rest ≡ Ok (Some line) = ap (λ k. next_line most_of_text most_of_text k h.rest) (sym h.count) ∙ e in
     record {
       items = h.items;
       left = h.rest;
@@ -99,7 +100,7 @@ line_steps text old new left_old left_new checker number line (Err (fault.Long a
 line_steps text old new left_old left_new checker number line (Err fault.Many) h n e behind count t = absurd t
 
 pub ends_so : (text : List ℕ) (old new : Lines) (left_old left_new : Option (List ℕ)) (checker : Checker) (number : ℕ) (o : Result Verdict CheckFault) →
-    (h : HasTaken text old left_old checker) → lines_read old + 1 ≡ number → next_line longest longest (lines_read old) h.rest ≡ Ok None → IsEnd h.shaped number o → IsStep text new left_new (judged_of o)
+    (h : HasTaken text old left_old checker) → lines_read old + 1 ≡ number → next_line most_of_text most_of_text (lines_read old) h.rest ≡ Ok None → IsEnd h.shaped number o → IsStep text new left_new (judged_of o)
 ends_so text old new left_old left_new checker number (Ok verdict) h n e t =
     record {
       items = h.items;
@@ -126,7 +127,7 @@ ends_so text old new left_old left_new checker number (Err (fault.Long at)) h n 
 ends_so text old new left_old left_new checker number (Err fault.Many) h n e t = absurd t
 
 pub faults_so : (text : List ℕ) (old : Lines) (left_old : Option (List ℕ)) (checker : Checker) (why : LinesFault) (h : HasTaken text old left_old checker) →
-    IsNextFault (next_line longest longest (lines_read old) h.rest) why → IsCheck text (Err (told_as why))
+    IsNextFault (next_line most_of_text most_of_text (lines_read old) h.rest) why → IsCheck text (Err (told_as why))
 faults_so text old left_old checker (lines.Long line) h e =
     record {
       items = h.items;
@@ -134,7 +135,7 @@ faults_so text old left_old checker (lines.Long line) h e =
       front = h.front;
       shaped = h.shaped;
       is_shaped = h.is_shaped;
-      cause = ap (λ k. fault_of (next_line longest longest k h.rest)) (sym h.count) ∙ ap fault_of e;
+      cause = ap (λ k. fault_of (next_line most_of_text most_of_text k h.rest)) (sym h.count) ∙ ap fault_of e;
     }
 faults_so text old left_old checker lines.Many h e =
     record {
@@ -143,7 +144,7 @@ faults_so text old left_old checker lines.Many h e =
       front = h.front;
       shaped = h.shaped;
       is_shaped = h.is_shaped;
-      cause = ap (λ k. fault_of (next_line longest longest k h.rest)) (sym h.count) ∙ ap fault_of e;
+      cause = ap (λ k. fault_of (next_line most_of_text most_of_text k h.rest)) (sym h.count) ∙ ap fault_of e;
     }
 faults_so text old left_old checker lines.Read h e = tt
 faults_so text old left_old checker lines.Memory h e = tt

@@ -1,6 +1,7 @@
 -- What checking a text answers.
 use Rattle.std.specs.Prelude.{ℕ, true, false, ◌≡◌, ◌+◌, List, [], ◌∷◌, ◌++◌, length, map, Option, None, Some, Result, Ok, Err}
 use Rattle.co_message.specs.declared.item.Item.{Item}
+use Rattle.co_schedule.specs.Limits.{most_of_text}
 use Rattle.co_schedule.specs.LineText.{first_line, behind_line, next_line}
 use Rattle.co_schedule.specs.declared.fault.LinesFault.{LinesFault}
 use Rattle.co_schedule.specs.declared.fault.LinesFault.TheVariants as lines
@@ -18,15 +19,11 @@ use Rattle.co_check.specs.declared.verdict.Verdict.TheVariants.{Serial, Differs}
 use Rattle.co_check.specs.declared.fault.CheckFault.{CheckFault}
 use Rattle.co_check.specs.declared.fault.CheckFault.TheVariants as fault
 
--- the most bytes of a line, and the most lines
-abbrev pub longest : ℕ
-longest = 16777216
-
 -- What lies behind these items, each of which is a line of the text: every line before it is whole, within its length, and the text of an item.
 pub data StandsBehind : List ℕ → List Item → List ℕ → Type 0 where
   AtStart : (text : List ℕ) → StandsBehind text [] text
   OneMore : (text left : List ℕ) (items : List Item) (it : Item) → StandsBehind text items left → IsItem it →
-      next_line longest longest (length items) left ≡ Ok (Some (item_text it)) → StandsBehind text (items ++ it ∷ []) (behind_line left)
+      next_line most_of_text most_of_text (length items) left ≡ Ok (Some (item_text it)) → StandsBehind text (items ++ it ∷ []) (behind_line left)
 
 -- the line is the text of no item, or of one that breaks the shape
 abbrev pub BreaksShape : Option Read → List ℕ → Type 0
@@ -84,7 +81,7 @@ pub record IsTextFault (text : List ℕ) (line : ℕ) : Type 0 where
   pub left : List ℕ
   pub front : StandsBehind text items left
   pub number : line ≡ length items + 1
-  pub short : (byte : ℕ) (bytes : List ℕ) → left ≡ byte ∷ bytes → next_line longest longest (length items) left ≡ Ok (Some (first_line left))
+  pub short : (byte : ℕ) (bytes : List ℕ) → left ≡ byte ∷ bytes → next_line most_of_text most_of_text (length items) left ≡ Ok (Some (first_line left))
   pub broken : IsBroken (read items) left
 
 -- what a reader of lines says where it gives none
@@ -102,7 +99,7 @@ pub record IsLineFault (text : List ℕ) (why : CheckFault) : Type 0 where
   pub front : StandsBehind text items left
   pub shaped : Read
   pub is_shaped : read items ≡ Some shaped
-  pub cause : fault_of (next_line longest longest (length items) left) ≡ Some why
+  pub cause : fault_of (next_line most_of_text most_of_text (length items) left) ≡ Some why
 
 -- Checking a text answers its verdict, or the first fault in the order of the text; the source and the memory fail by themselves.
 abbrev pub IsCheck : List ℕ → Result Verdict CheckFault → Type 0

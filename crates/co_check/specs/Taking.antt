@@ -11,14 +11,15 @@ use Rattle.co_check.specs.declared.fault.CheckFault.TheVariants as fault
 use Rattle.co_check.specs.declared.lines.Step.{Step}
 use Rattle.co_check.specs.declared.lines.Step.TheVariants.{Further, Judged}
 use Rattle.co_check.specs.declared.verdict.Verdict.{Verdict}
-use Rattle.co_check.specs.Checked.{IsCheck, StandsBehind, longest}
+use Rattle.co_schedule.specs.Limits.{most_of_text}
+use Rattle.co_check.specs.Checked.{IsCheck, StandsBehind}
 use Rattle.co_check.specs.Kept.{Follows}
 use Rattle.co_check.specs.Shape.{Read, read}
 
 -- the reader has the limits of a transcript, and its next line has this number
 pub record IsWithin (number : ℕ) (lines : Lines) : Type 0 where
-  pub bytes : most_bytes lines ≡ longest
-  pub most : most_lines lines ≡ longest
+  pub bytes : most_bytes lines ≡ most_of_text
+  pub most : most_lines lines ≡ most_of_text
   pub is_number : lines_read lines + 1 ≡ number
 
 -- all lines that were read are items, and well shaped; the checker stands where they lead

@@ -8,11 +8,8 @@ use crate::checker::Checker;
 use crate::fault::CheckFault;
 use crate::verdict::Verdict;
 use co_outside::Source;
-use co_schedule::{Lines, LinesFault};
+use co_schedule::{Lines, LinesFault, MOST_OF_TEXT};
 use std::alloc::Global;
-
-/// The most bytes of a line, and the most lines.
-const MOST: u32 = 16_777_216;
 
 /// The fault of a reader of lines that gave none.
 fn of_lines(fault: LinesFault) -> CheckFault
@@ -84,9 +81,9 @@ pub fn check_items<S: Source>(alloc: Global, source: &mut S) -> Result<Verdict, 
     ensures read { IsErrOf result CheckFault.Read → HasRisen (S.faults source.old) (S.faults source.new) }
     ensures quiet { (IsErrOf result CheckFault.Read → ⊥) → S.faults source.new ≡ S.faults source.old }
 {
-    let mut lines = Lines::new(alloc, MOST, MOST)?;
+    let mut lines = Lines::new(alloc, MOST_OF_TEXT, MOST_OF_TEXT)?;
     let mut checker = Checker::new(alloc);
-    for number in 1..MOST + 2 {
+    for number in 1..MOST_OF_TEXT + 2 {
         match take_line(alloc, &mut lines, source, checker, number)? {
             Step::Further(after) => checker = after,
             Step::Judged(verdict) => return Ok(verdict),

@@ -6,6 +6,7 @@ use Rattle.std.specs.List.{AllByRecursion}
 use Rattle.std.proofs.lemmas.Bool.{eqb-false}
 use Rattle.co_base.specs.declared.op.Op.{Op}
 use Rattle.co_base.specs.declared.reply.Reply.{Reply}
+use Rattle.co_base.specs.Limits.{most_operations}
 use Rattle.co_message.specs.declared.answer.Answer.TheVariants as answer
 use Rattle.co_message.specs.declared.message.Message.{Message}
 use Rattle.co_message.specs.declared.message.Message.TheVariants as message
@@ -20,7 +21,7 @@ use Rattle.co_plain.specs.declared.member_state.MemberState.{MemberState}
 use Rattle.co_plain.specs.declared.member_step.MemberStep.{MemberStep}
 use Rattle.co_plain.specs.Federation.{Federation}
 use Rattle.co_plain.specs.Invariants.{Memory, Stable, view, stands}
-use Rattle.co_plain.specs.Member.{most_operations, prepare_record, unless_blocked, member_op}
+use Rattle.co_plain.specs.Member.{prepare_record, unless_blocked, member_op}
 use Rattle.co_plain.specs.MemberLog.{prepares_onto, member_spare}
 use Rattle.co_plain.specs.MemberStep.{says}
 use Rattle.co_plain.specs.Numbers.{counted, IsAmong}
@@ -96,10 +97,10 @@ module _ (x : MemberState) (t carried : ℕ) (op : Op) where
   op_quiet = op_quiet_where (kept_count x.engine t == carried) (carried == most_operations) (lock_blocker x.engine t op)
 
   -- and one that was replied to is none too many
-  pub replied_few : (reply : Reply) → carried ≤ most_operations → reply_in (member_op x t carried op).answer ≡ Some reply → carried < 1024
+  pub replied_few : (reply : Reply) → carried ≤ most_operations → reply_in (member_op x t carried op).answer ≡ Some reply → carried < most_operations
   replied_few reply few is = by (kept_count x.engine t == carried) (carried == most_operations) refl is
     where
-      by : (kept most : Bool) → (carried == most_operations) ≡ most → reply_in (op_where kept most (lock_blocker x.engine t op)).answer ≡ Some reply → carried < 1024
+      by : (kept most : Bool) → (carried == most_operations) ≡ most → reply_in (op_where kept most (lock_blocker x.engine t op)).answer ≡ Some reply → carried < most_operations
       by false most e h = is_nothing h
       by true true e h = is_nothing h
       by true false e h = let other : carried ≢ most_operations = eqb-false carried most_operations e in omega (arith, other, few)

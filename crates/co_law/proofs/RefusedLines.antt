@@ -5,6 +5,7 @@ use Rattle.co_base.specs.declared.node.Node.{Node}
 use Rattle.co_base.specs.declared.node.Node.TheVariants as node
 use Rattle.co_base.specs.declared.op.Op.{Op}
 use Rattle.co_base.specs.declared.op.Op.TheVariants as op
+use Rattle.co_base.specs.Limits.{most_operations}
 use Rattle.co_message.specs.declared.answer.Answer.{Answer}
 use Rattle.co_message.specs.declared.answer.Answer.TheVariants as answer
 use Rattle.co_message.specs.declared.event.Event.{Event}
@@ -24,7 +25,7 @@ use Rattle.co_plain.specs.Numbers.{counted}
 use Rattle.co_plain.specs.Sessions.{Refuses, Grants, leave_to_visit, leave_to_end, may_visit, count_at, parts_of, begun_by}
 use Rattle.co_plain.specs.Wire.{was_sent}
 use Rattle.co_plain.specs.MemberStep.{says}
-use Rattle.co_plain.specs.Member.{most_operations, unless_blocked, coord_of, member_op, member_deliver, member_decide, member_vote, member_timer, member_ask}
+use Rattle.co_plain.specs.Member.{unless_blocked, coord_of, member_op, member_deliver, member_decide, member_vote, member_timer, member_ask}
 use Rattle.co_plain.specs.MemberLog.{member_checkpoint, member_crash, member_restart, member_arm}
 use Rattle.co_plain.specs.LocalCommit.{member_local_commit, member_local_abort}
 use Rattle.co_plain.specs.Coordinator.{coord_begin, coord_commit, coord_abort, coord_deliver, coord_timer, coord_resend}

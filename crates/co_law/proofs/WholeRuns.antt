@@ -1,10 +1,10 @@
 -- Every state of a run has whole nodes, over any opened logs that their grammars allow, and whatever verdicts are handed.
 use Rattle.std.proofs.Common.{◌≡◌, ℕ, true, ◌≤◌, List, length, reverse, Option, None, Some, refl, sym, ◌∙◌, arith}
 use Rattle.co_base.specs.declared.head.Kind.{Kind}
+use Rattle.co_base.specs.Limits.{most_operations}
 use Rattle.co_plain.specs.declared.happening.Happening.{Happening}
 use Rattle.co_plain.specs.declared.session.Session.{Session}
 use Rattle.co_plain.specs.Decisions.{told_in}
-use Rattle.co_plain.specs.Member.{most_operations}
 use Rattle.co_plain.specs.Sessions.{count_at}
 use Rattle.co_plain.specs.MemberView.{first_refused_at_member}
 use Rattle.co_plain.specs.CoordView.{all_up_to, first_refused_at_coord}

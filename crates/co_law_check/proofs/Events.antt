@@ -7,6 +7,7 @@ use Rattle.co_base.specs.declared.node.Node.TheVariants as node
 use Rattle.co_base.specs.declared.op.Op.{Op}
 use Rattle.co_base.specs.declared.op.Op.TheVariants as op
 use Rattle.co_base.specs.declared.reply.Reply.{Reply}
+use Rattle.co_base.specs.Limits.{most_operations}
 use Rattle.co_message.specs.declared.answer.Answer.{Answer}
 use Rattle.co_message.specs.declared.answer.Answer.TheVariants as answer
 use Rattle.co_message.specs.declared.event.Event.{Event}
@@ -22,7 +23,7 @@ use Rattle.co_plain.specs.Federation.{Federation, Stepped, items_of, answers, me
 use Rattle.co_plain.specs.LocalCommit.{member_local_commit, member_local_abort}
 use Rattle.co_plain.specs.Coordinator.{coord_commit, coord_abort, coord_deliver, coord_timer, coord_resend}
 use Rattle.co_plain.specs.CoordLog.{coord_checkpoint, coord_crash, coord_restart, coord_arm}
-use Rattle.co_plain.specs.Member.{most_operations, member_op, unless_blocked, member_deliver, member_vote, member_timer, member_ask}
+use Rattle.co_plain.specs.Member.{member_op, unless_blocked, member_deliver, member_vote, member_timer, member_ask}
 use Rattle.co_plain.specs.MemberLog.{member_checkpoint, member_crash, member_restart, member_arm}
 use Rattle.co_plain.specs.MemberStep.{says}
 use Rattle.co_plain.specs.Numbers.{counted}

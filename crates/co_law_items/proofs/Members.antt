@@ -7,7 +7,7 @@ use Rattle.co_base.proofs.Ordered.{sorted_none}
 use Rattle.co_base.specs.declared.leaves.Leaves.{Leaves}
 use Rattle.co_base.specs.declared.node.Node.TheVariants as node
 use Rattle.co_base.specs.declared.op.Op.{Op}
-use Rattle.co_base.specs.Limits.{most_coordinators, most_members}
+use Rattle.co_base.specs.Limits.{most_coordinators, most_members, most_operations}
 use Rattle.co_message.specs.declared.answer.Answer.{Answer}
 use Rattle.co_message.specs.declared.answer.Answer.TheVariants as answer
 use Rattle.co_message.specs.declared.answer.Cause.TheVariants as cause
@@ -29,7 +29,7 @@ use Rattle.co_state.specs.declared.verdict.Verdict.TheVariants.{LostOperations, 
 use Rattle.co_plain.specs.Federation.{message_list}
 use Rattle.co_plain.specs.LocalCommit.{local_coord, local_commit_by, member_local_commit, local_abort_by, member_local_abort}
 use Rattle.co_plain.specs.LogWrite.{outcome_of, with_batch, with_filled_spare, with_spare, with_stop, with_waiting, generation_of, marks_of, checkpoint_marks}
-use Rattle.co_plain.specs.Member.{most_operations, unless_blocked, member_op, prepare_record, voted_state, vote_by, vote_on, coord_of, coord_in, with_mark, prepare_by, member_prepare, vote_where_asked, vote_again_by, member_vote, installed_state, commit_by, abort_by, member_decide, timer_by, member_timer, ask_by, member_ask, member_deliver}
+use Rattle.co_plain.specs.Member.{unless_blocked, member_op, prepare_record, voted_state, vote_by, vote_on, coord_of, coord_in, with_mark, prepare_by, member_prepare, vote_where_asked, vote_again_by, member_vote, installed_state, commit_by, abort_by, member_decide, timer_by, member_timer, ask_by, member_ask, member_deliver}
 use Rattle.co_plain.specs.MemberLog.{prepares_onto, member_spare, stopped_fill, fill_by, close_by, checkpoint_by, member_checkpoint, member_crash, restart_by, member_restart, member_arm}
 use Rattle.co_plain.specs.MemberStep.{says, standing_by, member_down, with_engine, with_log, dropped, stopped_member, forced_by, force_member}
 use Rattle.co_plain.specs.Numbers.{counted, next_generation}

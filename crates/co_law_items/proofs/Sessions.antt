@@ -9,9 +9,8 @@ use Rattle.std.specs.declared.cmp.Ordering.{Ordering}
 use Rattle.std.specs.declared.cmp.Ordering.TheVariants.{Less, Equal, Greater}
 use Rattle.co_base.specs.declared.part.Part.{Part}
 use Rattle.co_schedule.specs.View.{IsWithin, IsNode}
-use Rattle.co_plain.specs.Member.{most_operations}
 use Rattle.co_base.specs.Parts.{with_part}
-use Rattle.co_base.specs.Limits.{most_coordinators, most_members}
+use Rattle.co_base.specs.Limits.{most_coordinators, most_members, most_operations}
 use Rattle.co_plain.specs.Sessions.{count_at, parts_of, with_told}
 use Rattle.co_plain.specs.declared.session.Session.{Session}
 use Rattle.co_plain.specs.declared.session.Told.{Told}

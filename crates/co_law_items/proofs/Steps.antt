@@ -11,7 +11,7 @@ use Rattle.co_base.specs.declared.node.Node.TheVariants as node
 use Rattle.co_base.specs.declared.op.Op.{Op}
 use Rattle.co_base.specs.declared.op.Op.TheVariants as op
 use Rattle.co_base.specs.declared.reply.Reply.{Reply}
-use Rattle.co_base.specs.Limits.{most_coordinators, most_members}
+use Rattle.co_base.specs.Limits.{most_coordinators, most_members, most_operations}
 use Rattle.co_message.specs.declared.answer.Answer.{Answer}
 use Rattle.co_message.specs.declared.answer.Answer.TheVariants as answer
 use Rattle.co_message.specs.declared.event.Event.{Event}
@@ -28,7 +28,7 @@ use Rattle.co_plain.specs.CoordLog.{coord_restart}
 use Rattle.co_plain.specs.Coordinator.{coord_begin, coord_commit, coord_abort}
 use Rattle.co_plain.specs.Federation.{Federation, Stepped, items_of, answers, with_member, with_coord, with_session, at_member, at_coord, message_list}
 use Rattle.co_plain.specs.LocalCommit.{member_local_commit, member_local_abort}
-use Rattle.co_plain.specs.Member.{most_operations, unless_blocked, member_op}
+use Rattle.co_plain.specs.Member.{unless_blocked, member_op}
 use Rattle.co_plain.specs.MemberLog.{member_restart}
 use Rattle.co_plain.specs.MemberStep.{says}
 use Rattle.co_plain.specs.Numbers.{counted}

@@ -4,6 +4,7 @@ use Rattle.std.proofs.lemmas.Bool.{eqb-true, eqb-false, or_left, eq-eqb}
 use Rattle.co_base.specs.declared.node.Node.TheVariants as node
 use Rattle.co_base.specs.declared.op.Op.{Op}
 use Rattle.co_base.specs.declared.part.Part.{Part}
+use Rattle.co_base.specs.Limits.{most_operations}
 use Rattle.co_message.specs.declared.answer.Answer.TheVariants as answer
 use Rattle.co_message.specs.declared.answer.Cause.TheVariants as cause
 use Rattle.co_record.specs.declared.record.Record.TheVariants as log
@@ -20,7 +21,7 @@ use Rattle.co_plain.specs.LogWrite.{outcome_of, with_batch}
 use Rattle.co_frame.specs.Gate.{batch_is_stable}
 use Rattle.co_plain.specs.Numbers.{counted}
 use Rattle.co_plain.specs.MemberStep.{says, with_engine}
-use Rattle.co_plain.specs.Member.{most_operations, unless_blocked, member_op}
+use Rattle.co_plain.specs.Member.{unless_blocked, member_op}
 use Rattle.co_plain.specs.CoordStep.{with_table, with_coord_log, stopped_coord, coord_forced_by}
 use Rattle.co_plain.specs.Coordinator.{prepares_to, ask_commit, commit_entry, abort_entry}
 use Rattle.co_plain.specs.Sessions.{parts_of, count_at, asked_to_end, same_node}

@@ -5,6 +5,7 @@ use Rattle.co_base.specs.declared.node.Node.{Node}
 use Rattle.co_base.specs.declared.node.Node.TheVariants as node
 use Rattle.co_base.specs.declared.op.Op.{Op}
 use Rattle.co_base.specs.declared.op.Op.TheVariants as op
+use Rattle.co_base.specs.Limits.{most_operations}
 use Rattle.co_message.specs.declared.answer.Answer.TheVariants as answer
 use Rattle.co_message.specs.declared.event.Event.{Event}
 use Rattle.co_message.specs.declared.event.Event.TheVariants as event
@@ -32,7 +33,7 @@ use Rattle.co_message.specs.declared.item.ItemKind.{ItemKind}
 use Rattle.co_message.specs.declared.item.ItemKind.TheVariants as item
 use Rattle.co_message.specs.declared.answer.Answer.{Answer}
 use Rattle.co_plain.specs.MemberStep.{says}
-use Rattle.co_plain.specs.Member.{most_operations, unless_blocked, member_op}
+use Rattle.co_plain.specs.Member.{unless_blocked, member_op}
 use Rattle.co_plain.specs.Numbers.{counted}
 use Rattle.co_state.specs.LockRule.{lock_blocker}
 use Rattle.co_state.specs.ReadRule.{operation_reply}

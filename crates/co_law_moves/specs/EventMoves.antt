@@ -7,6 +7,7 @@ use Rattle.co_base.specs.declared.node.Node.TheVariants as node
 use Rattle.co_base.specs.declared.op.Op.{Op}
 use Rattle.co_base.specs.declared.op.Op.TheVariants as op
 use Rattle.co_base.specs.declared.part.Part.{Part}
+use Rattle.co_base.specs.Limits.{most_operations}
 use Rattle.co_message.specs.declared.event.Event.{Event}
 use Rattle.co_message.specs.declared.event.Event.TheVariants as event
 use Rattle.co_message.specs.declared.message.Message.{Message}
@@ -32,7 +33,7 @@ use Rattle.co_plain.specs.declared.standing.Standing.TheVariants.{IsActive, IsVo
 use Rattle.co_plain.specs.Numbers.{first_lacking, has_number, numbers_lacking}
 use Rattle.co_plain.specs.LogWrite.{outcome_of}
 use Rattle.co_plain.specs.MemberStep.{standing_of}
-use Rattle.co_plain.specs.Member.{most_operations, coord_of}
+use Rattle.co_plain.specs.Member.{coord_of}
 use Rattle.co_plain.specs.CoordStep.{has_part, members_of}
 use Rattle.co_plain.specs.Coordinator.{prepares_to, decisions_to, parts_lacking}
 use Rattle.co_plain.specs.Sessions.{Leave, Refuses, Grants, leave_to_visit, leave_to_end, count_at, parts_of}

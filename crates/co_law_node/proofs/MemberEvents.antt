@@ -6,6 +6,7 @@ use Rattle.co_base.specs.declared.head.Kind.{Kind}
 use Rattle.co_base.specs.declared.leaves.Leaves.{Leaves}
 use Rattle.co_base.specs.declared.node.Node.TheVariants as node
 use Rattle.co_base.specs.declared.op.Op.{Op}
+use Rattle.co_base.specs.Limits.{most_operations}
 use Rattle.co_message.specs.declared.answer.Answer.TheVariants as answer
 use Rattle.co_message.specs.declared.message.Message.TheVariants as message
 use Rattle.co_record.specs.declared.record.Record.{Record}
@@ -22,7 +23,7 @@ use Rattle.co_plain.specs.Numbers.{counted, IsAmong}
 use Rattle.co_plain.specs.LogWrite.{with_stop}
 use Rattle.co_plain.specs.MemberView.{recovered_view, first_refused_at_member}
 use Rattle.co_plain.specs.MemberStep.{says, standing_by, with_log}
-use Rattle.co_plain.specs.Member.{most_operations, unless_blocked, member_op, vote_by, vote_on, with_mark, prepare_by, member_prepare, vote_where_asked, vote_again_by, member_vote, commit_by, abort_by, member_decide, timer_by, member_timer, ask_by, member_ask}
+use Rattle.co_plain.specs.Member.{unless_blocked, member_op, vote_by, vote_on, with_mark, prepare_by, member_prepare, vote_where_asked, vote_again_by, member_vote, commit_by, abort_by, member_decide, timer_by, member_timer, ask_by, member_ask}
 use Rattle.co_plain.specs.MemberLog.{restart_by, member_restart, member_crash, member_arm}
 use Rattle.co_plain.specs.LocalCommit.{local_coord, local_commit_by, member_local_commit, local_abort_by, member_local_abort}
 use Rattle.co_plain.specs.Opening.{Found, made, opened_member}

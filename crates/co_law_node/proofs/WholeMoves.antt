@@ -11,6 +11,7 @@ use Rattle.co_state.specs.declared.engine_state.Operation.{Operation}
 use Rattle.co_state.specs.Table.{look, holds, without}
 use Rattle.co_plain.specs.declared.log_state.LogState.{LogState}
 use Rattle.co_base.specs.declared.leaves.Stop.{Stop}
+use Rattle.co_base.specs.Limits.{most_operations}
 use Rattle.co_plain.specs.declared.member_state.AskedMark.{AskedMark}
 use Rattle.co_plain.specs.declared.member_state.MemberState.{MemberState}
 use Rattle.co_plain.specs.declared.outcome.Outcome.{Outcome}
@@ -18,7 +19,7 @@ use Rattle.co_plain.specs.declared.outcome.Outcome.TheVariants.{Completes, Stops
 use Rattle.co_plain.specs.LogWrite.{outcome_of, with_batch, with_waiting}
 use Rattle.co_plain.specs.MemberView.{recovered_view, forget_in}
 use Rattle.co_plain.specs.MemberStep.{with_log, dropped, member_down, member_down_with, stopped_member, forced_by, force_member}
-use Rattle.co_plain.specs.Member.{with_mark, most_operations}
+use Rattle.co_plain.specs.Member.{with_mark}
 use Rattle.co_plain.specs.Invariants.{Memory, view, stands}
 use Rattle.co_law_base.proofs.Lookups.{is_nothing, look_none, put_cases, without_cases}
 use Rattle.co_law_base.proofs.ViewMoves.{neither_stands, still_holds, forget_leaves}

@@ -3,6 +3,7 @@ use Rattle.std.proofs.Common.{◌≡◌, ◌≢◌, ◌⊎◌, inl, inr, ℕ, tr
 use Rattle.std.specs.Option.{is_some}
 use Rattle.std.proofs.lemmas.Bool.{or_cases, eqb-true}
 use Rattle.co_base.specs.declared.op.Op.{Op}
+use Rattle.co_base.specs.Limits.{most_operations}
 use Rattle.co_message.specs.declared.answer.Answer.{Answer}
 use Rattle.co_message.specs.declared.message.Message.{Message}
 use Rattle.co_record.specs.declared.record.Record.TheVariants as log
@@ -19,7 +20,7 @@ use Rattle.co_state.specs.VotingRule.{vote_of}
 use Rattle.co_plain.specs.declared.member_state.MemberState.{MemberState}
 use Rattle.co_plain.specs.MemberView.{member_allows, recovered_view, cast_in, install_in, with_number, Numbers}
 use Rattle.co_plain.specs.MemberStep.{force_member, with_engine}
-use Rattle.co_plain.specs.Member.{most_operations, prepare_record, voted_state, installed_state}
+use Rattle.co_plain.specs.Member.{prepare_record, voted_state, installed_state}
 use Rattle.co_plain.specs.Invariants.{Memory, view, stands}
 use Rattle.co_law_engine.proofs.YesTells.{yes_parts, yes_apart}
 use Rattle.co_law_base.proofs.Lookups.{put_cases, put_here, without_cases, found_holds}

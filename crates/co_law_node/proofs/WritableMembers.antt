@@ -7,7 +7,7 @@ use Rattle.co_base.proofs.Ordered.{sorted_none}
 use Rattle.co_base.specs.declared.head.Kind.{Kind}
 use Rattle.co_base.specs.declared.node.Node.TheVariants as node
 use Rattle.co_base.specs.declared.op.Op.{Op}
-use Rattle.co_base.specs.Limits.{most_coordinators, most_members}
+use Rattle.co_base.specs.Limits.{most_coordinators, most_members, most_operations}
 use Rattle.co_message.specs.declared.answer.Answer.{Answer}
 use Rattle.co_message.specs.declared.answer.Answer.TheVariants as answer
 use Rattle.co_message.specs.declared.message.Message.{Message}
@@ -34,7 +34,7 @@ use Rattle.co_plain.specs.Numbers.{counted, next_generation, IsAmong}
 use Rattle.co_plain.specs.LogWrite.{outcome_of, generation_of}
 use Rattle.co_plain.specs.MemberView.{recovered_view, install_in, first_refused_at_member}
 use Rattle.co_plain.specs.MemberStep.{says, standing_by, stopped_member, forced_by, force_member}
-use Rattle.co_plain.specs.Member.{most_operations, prepare_record, voted_state, installed_state, unless_blocked, member_op, vote_by, vote_on, with_mark, prepare_by, member_prepare, vote_where_asked, vote_again_by, member_vote, commit_by, abort_by, member_decide, timer_by, member_timer, ask_by, member_ask}
+use Rattle.co_plain.specs.Member.{prepare_record, voted_state, installed_state, unless_blocked, member_op, vote_by, vote_on, with_mark, prepare_by, member_prepare, vote_where_asked, vote_again_by, member_vote, commit_by, abort_by, member_decide, timer_by, member_timer, ask_by, member_ask}
 use Rattle.co_plain.specs.MemberLog.{prepares_onto, member_spare, stopped_fill, fill_by, close_by, checkpoint_by, member_checkpoint, restart_by, member_restart}
 use Rattle.co_plain.specs.LocalCommit.{local_coord, local_commit_by, member_local_commit, local_abort_by, member_local_abort}
 use Rattle.co_plain.specs.Opening.{Found, made, opened_member}
@@ -140,7 +140,7 @@ module _ (coords m : ℕ) (few : coords ≤ most_coordinators) (own : IsAmong m 
   yes_writable t coord count among some granted =
       let os = operations_of x.engine t in
       let kept : length (operations_of x.engine t) ≡ count = (yes_parts x.engine t count granted).count in
-      let most : length (operations_of x.engine t) ≤ 1024 = few_kept coords x w t in
+      let most : length (operations_of x.engine t) ≤ most_operations = few_kept coords x w t in
       let reads : length (spans_of (operations_of x.engine t)) ≤ length (operations_of x.engine t) = length-spans_of os in
       let writes : length (changes_of (operations_of x.engine t)) ≤ length (operations_of x.engine t) = length-changes_of os in (
         (among.0, (let among' = among.1 in omega (arith, among', few))),
@@ -155,19 +155,19 @@ module _ (coords m : ℕ) (few : coords ≤ most_coordinators) (own : IsAmong m 
   alone_may : (t carried : ℕ) → 1 ≤ carried → vote_of x.engine t carried ≡ VoteYes → IsWritable (prepare_record t local_coord (counted carried) (sets_of (operations_of x.engine t)))
   alone_may t carried some granted =
       let kept : length (operations_of x.engine t) ≡ carried = (yes_parts x.engine t carried granted).count in
-      let most : length (operations_of x.engine t) ≤ 1024 = few_kept coords x w t in
-      let small : carried ≤ 1024 = omega (arith, kept, most) in
+      let most : length (operations_of x.engine t) ≤ most_operations = few_kept coords x w t in
+      let small : carried ≤ most_operations = omega (arith, kept, most) in
       subst (λ n. IsWritable (prepare_record t local_coord n (sets_of (operations_of x.engine t)))) (sym (as_counted carried small))
       (yes_fits t carried some granted)
     where
-      as_counted : (n : ℕ) → n ≤ 1024 → counted n ≡ n
+      as_counted : (n : ℕ) → n ≤ most_operations → counted n ≡ n
       as_counted n l = omega (arith, l)
 
       yes_fits : (t carried : ℕ) → 1 ≤ carried → vote_of x.engine t carried ≡ VoteYes → IsWritable (prepare_record t local_coord carried (sets_of (operations_of x.engine t)))
       yes_fits t carried some granted =
           let os = operations_of x.engine t in
           let kept : length (operations_of x.engine t) ≡ carried = (yes_parts x.engine t carried granted).count in
-          let most : length (operations_of x.engine t) ≤ 1024 = few_kept coords x w t in
+          let most : length (operations_of x.engine t) ≤ most_operations = few_kept coords x w t in
           let reads : length (spans_of (operations_of x.engine t)) ≤ length (operations_of x.engine t) = length-spans_of os in
           let writes : length (changes_of (operations_of x.engine t)) ≤ length (operations_of x.engine t) = length-changes_of os in (
             (omega arith, omega arith),

@@ -3,6 +3,7 @@
 use Rattle.std.specs.Prelude.{ℕ, Bool, true, false, ◌==◌, ◌||◌, ◌≡◌, ◌≢◌, ◌≤◌, List, [], ◌∷◌, ◌++◌, length, reverse, None, Some}
 use Rattle.co_base.specs.declared.leaves.Leaves.{Leaves}
 use Rattle.co_base.specs.declared.op.Op.{Op}
+use Rattle.co_base.specs.Limits.{most_operations}
 use Rattle.co_record.specs.declared.record.Record.{Record}
 use Rattle.co_record.specs.declared.record.Record.TheVariants as log
 use Rattle.co_state.specs.declared.engine_state.Install.{Install}
@@ -15,7 +16,7 @@ use Rattle.co_plain.specs.Numbers.{IsAmong}
 use Rattle.co_plain.specs.MemberView.{recovered_view, first_refused_at_member}
 use Rattle.co_plain.specs.LogWrite.{with_stop}
 use Rattle.co_plain.specs.MemberStep.{member_down, with_log}
-use Rattle.co_plain.specs.Member.{most_operations, member_op, member_prepare, member_decide, member_vote, member_timer, member_ask}
+use Rattle.co_plain.specs.Member.{member_op, member_prepare, member_decide, member_vote, member_timer, member_ask}
 use Rattle.co_plain.specs.MemberLog.{member_checkpoint, member_crash, member_restart, member_arm}
 use Rattle.co_plain.specs.LocalCommit.{member_local_commit, member_local_abort}
 use Rattle.co_plain.specs.Invariants.{Side, Memory, Stable, view, stands, VotedAreConflictFree}

@@ -1,13 +1,13 @@
 -- A federation of whole nodes, in which who may still act has neither voted nor been installed anywhere, and each prepare that was sent names a
 -- coordinator of the federation and is about some operations.
 use Rattle.std.specs.Prelude.{ℕ, true, false, ◌≡◌, ◌≤◌, Some}
+use Rattle.co_base.specs.Limits.{most_operations}
 use Rattle.co_message.specs.declared.message.Message.TheVariants as message
 use Rattle.co_state.specs.Table.{look}
 use Rattle.co_plain.specs.declared.session.Session.{Session}
 use Rattle.co_plain.specs.Sessions.{Grants, leave_to_visit, leave_to_end, count_at}
 use Rattle.co_plain.specs.Decisions.{told_of}
 use Rattle.co_plain.specs.Federation.{Federation}
-use Rattle.co_plain.specs.Member.{most_operations}
 use Rattle.co_plain.specs.Premises.{IsOwnSession}
 use Rattle.co_plain.specs.Wire.{was_sent}
 use Rattle.co_plain.specs.Invariants.{Memory, view, stands}

@@ -8,6 +8,7 @@ use Rattle.co_base.specs.declared.node.Node.TheVariants as node
 use Rattle.co_base.specs.declared.op.Op.{Op}
 use Rattle.co_base.specs.declared.op.Op.TheVariants as op
 use Rattle.co_base.specs.declared.reply.Reply.{Reply}
+use Rattle.co_base.specs.Limits.{most_operations}
 use Rattle.co_message.specs.declared.answer.Answer.TheVariants as answer
 use Rattle.co_message.specs.declared.event.Event.{Event}
 use Rattle.co_message.specs.declared.event.Event.TheVariants as event
@@ -25,7 +26,7 @@ use Rattle.co_plain.specs.declared.session.Told.{Told}
 use Rattle.co_plain.specs.declared.session.Session.{Session}
 use Rattle.co_plain.specs.Numbers.{counted, IsAmong}
 use Rattle.co_plain.specs.MemberStep.{says}
-use Rattle.co_plain.specs.Member.{most_operations, unless_blocked, coord_of, member_deliver, member_vote, member_timer, member_ask, member_decide, member_op}
+use Rattle.co_plain.specs.Member.{unless_blocked, coord_of, member_deliver, member_vote, member_timer, member_ask, member_decide, member_op}
 use Rattle.co_plain.specs.MemberLog.{member_checkpoint, member_crash, member_restart, member_arm}
 use Rattle.co_plain.specs.LocalCommit.{member_local_commit, member_local_abort}
 use Rattle.co_plain.specs.Coordinator.{coord_begin, coord_commit, coord_abort, coord_deliver, coord_timer, coord_resend}

@@ -4,6 +4,7 @@ use Rattle.std.specs.Cmp.{nat_cmp_total}
 use Rattle.std.specs.FinMap.{nat_cmp-IsAntisymmetric}
 use Rattle.co_base.specs.declared.leaves.Leaves.{Leaves}
 use Rattle.co_base.specs.declared.op.Op.{Op}
+use Rattle.co_base.specs.Limits.{most_operations}
 use Rattle.co_message.specs.declared.answer.Answer.{Answer}
 use Rattle.co_message.specs.declared.answer.Answer.TheVariants as answer
 use Rattle.co_message.specs.declared.message.Message.{Message}
@@ -27,7 +28,7 @@ use Rattle.co_plain.specs.Numbers.{counted}
 use Rattle.co_plain.specs.LogWrite.{with_stop, with_waiting}
 use Rattle.co_plain.specs.MemberView.{recovered_view, cast_in}
 use Rattle.co_plain.specs.MemberStep.{says, standing_by, with_log, dropped, force_member}
-use Rattle.co_plain.specs.Member.{most_operations, prepare_record, voted_state, installed_state, unless_blocked, member_op, vote_by, vote_on, with_mark, prepare_by, member_prepare, vote_where_asked, vote_again_by, member_vote, commit_by, abort_by, member_decide, timer_by, member_timer, ask_by, member_ask, member_deliver}
+use Rattle.co_plain.specs.Member.{prepare_record, voted_state, installed_state, unless_blocked, member_op, vote_by, vote_on, with_mark, prepare_by, member_prepare, vote_where_asked, vote_again_by, member_vote, commit_by, abort_by, member_decide, timer_by, member_timer, ask_by, member_ask, member_deliver}
 use Rattle.co_plain.specs.MemberLog.{member_checkpoint, member_crash, restart_by, member_restart, member_arm}
 use Rattle.co_plain.specs.LocalCommit.{local_coord, local_commit_by, member_local_commit, local_abort_by, member_local_abort}
 use Rattle.co_plain.specs.Invariants.{Memory, view}

@@ -3,12 +3,13 @@ use Rattle.std.proofs.Common.{◌≡◌, ℕ, Bool, true, false, ◌==◌, Optio
 use Rattle.std.specs.Prelude.{if◌then◌else◌}
 use Rattle.std.proofs.lemmas.Bool.Decides.{nat_tests}
 use Rattle.co_base.specs.declared.op.Op.{Op}
+use Rattle.co_base.specs.Limits.{most_operations}
 use Rattle.co_engine.specs.Calls.{seen_by}
 use Rattle.co_engine.specs.declared.answers.Seen.{Seen}
 use Rattle.co_engine.specs.declared.answers.Seen.TheVariants.{Answer, Blocked}
 use Rattle.co_message.specs.declared.answer.Answer.{Answer as Told}
 use Rattle.co_message.specs.declared.answer.Answer.TheVariants as answer
-use Rattle.co_plain.specs.Member.{member_op, most_operations, unless_blocked}
+use Rattle.co_plain.specs.Member.{member_op, unless_blocked}
 use Rattle.co_plain.specs.MemberStep.{says}
 use Rattle.co_plain.specs.Numbers.{counted}
 use Rattle.co_plain.specs.declared.member_state.MemberState.{MemberState}

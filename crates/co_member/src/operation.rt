@@ -1,9 +1,10 @@
 //! Operations.
 ghost use Rattle.std.specs.Prelude.{◌≡◌, ◌≤◌, true, IsTrue, IfOk, IfErr, OnOk};
 ghost use Rattle.co_base.specs.declared.head.Kind.{Kind};
+ghost use Rattle.co_base.specs.Limits.{most_operations};
 ghost use Rattle.co_engine.specs.Calls.{may_operate};
 ghost use Rattle.co_log.specs.declared.fault.NodeFault.TheVariants.{Memory};
-ghost use Rattle.co_plain.specs.Member.{member_op, most_operations, unless_blocked};
+ghost use Rattle.co_plain.specs.Member.{member_op, unless_blocked};
 ghost use Rattle.co_plain.specs.declared.member_state.MemberState.{MemberState};
 ghost use Rattle.co_state.specs.LockRule.{lock_blocker};
 ghost use Rattle.co_state.specs.VotingRule.{kept_count};
@@ -12,14 +13,11 @@ ghost use Rattle.co_member.specs.Standing.{is_up, RepresentsMember, RepresentsRu
 
 use crate::member::Member;
 use crate::running::Running;
-use co_base::{Op, Txn};
+use co_base::{MOST_OPERATIONS, Op, Txn};
 use co_engine::{Engine, Seen};
 use co_log::NodeFault;
 use co_message::Answer;
 use std::alloc::AllocError;
-
-/// The most operations of one transaction that a member answers.
-const MOST_OPERATIONS: u16 = 1024;
 
 impl<E: Engine> Running<E> {
     /// An operation of a transaction whose client carries as many as are kept.

@@ -1,6 +1,7 @@
 -- What a member does with an operation, with a message, with a timer and with a question: one definition
 -- for each event, by where the transaction stands there. Every one is for a member that is up.
 use Rattle.std.specs.Prelude.{ℕ, Bool, true, false, ◌==◌, [], ◌∷◌, if◌then◌else◌, Option, None, Some}
+use Rattle.co_base.specs.Limits.{most_operations}
 use Rattle.co_base.specs.declared.op.Op.{Op}
 use Rattle.co_message.specs.declared.answer.Answer.TheVariants as answer
 use Rattle.co_message.specs.declared.message.Message.{Message}
@@ -27,10 +28,6 @@ use Rattle.co_plain.specs.declared.standing.Standing.{Standing}
 use Rattle.co_plain.specs.declared.standing.Standing.TheVariants.{IsActive, IsVoted, IsInstalled, IsAbsent}
 use Rattle.co_plain.specs.Numbers.{TxnNumber, MemberNumber, CoordNumber, Count, counted}
 use Rattle.co_plain.specs.MemberStep.{says, says_and_sends, standing_of, with_log, with_engine, dropped, force_member}
-
--- the most operations of one transaction that a member answers
-abbrev pub most_operations : Count
-most_operations = 1024
 
 -- An operation, with how many the client saw answered here. Refused where operations were lost, where
 -- there are too many, and where a lock is in the way.

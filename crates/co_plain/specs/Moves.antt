@@ -19,12 +19,13 @@ use Rattle.co_plain.specs.declared.coord_state.CoordState.{CoordState}
 use Rattle.co_plain.specs.declared.coord_state.Entry.{Entry}
 use Rattle.co_plain.specs.declared.coord_state.Entry.TheVariants as entry
 use Rattle.co_base.specs.declared.leaves.Stop.{Stop}
+use Rattle.co_base.specs.Limits.{most_operations}
 use Rattle.co_plain.specs.declared.member_state.MemberState.{MemberState}
 use Rattle.co_plain.specs.declared.session.Session.{Session}
 use Rattle.co_plain.specs.Numbers.{TxnNumber, MemberNumber, CoordNumber, Count, counted, first_lacking, has_number, next_generation}
 use Rattle.co_plain.specs.LogWrite.{with_batch, with_filled_spare, with_spare, with_stop, with_waiting, generation_of}
 use Rattle.co_plain.specs.MemberStep.{with_log, with_engine, dropped, member_down}
-use Rattle.co_plain.specs.Member.{most_operations, prepare_record, voted_state, installed_state, with_mark, coord_of}
+use Rattle.co_plain.specs.Member.{prepare_record, voted_state, installed_state, with_mark, coord_of}
 use Rattle.co_plain.specs.MemberLog.{member_spare}
 use Rattle.co_plain.specs.LocalCommit.{local_coord}
 use Rattle.co_plain.specs.CoordStep.{with_table, with_coord_log, coord_down, has_part, members_of}

@@ -4,6 +4,7 @@ use Rattle.std.specs.Prelude.{ℕ, true, false, ◌≡◌, ◌≤◌, List, [], 
 use Rattle.co_base.specs.declared.head.Kind.{Kind}
 use Rattle.co_base.specs.declared.node.Node.{Node}
 use Rattle.co_base.specs.declared.node.Node.TheVariants as node
+use Rattle.co_base.specs.Limits.{most_operations}
 use Rattle.co_message.specs.declared.event.Event.{Event}
 use Rattle.co_message.specs.declared.event.Event.TheVariants as event
 use Rattle.co_state.specs.Table.{look, holds}
@@ -11,7 +12,6 @@ use Rattle.co_plain.specs.declared.happening.Happening.{Happening}
 use Rattle.co_plain.specs.declared.happening.Happening.TheVariants as happening
 use Rattle.co_plain.specs.declared.session.Session.{Session}
 use Rattle.co_plain.specs.Numbers.{IsAmong}
-use Rattle.co_plain.specs.Member.{most_operations}
 use Rattle.co_plain.specs.MemberView.{recovered_view, first_refused_at_member}
 use Rattle.co_plain.specs.Sessions.{count_at}
 use Rattle.co_plain.specs.CoordView.{has_commit_of, first_refused_at_coord}

@@ -22,10 +22,10 @@ use Rattle.co_base.specs.declared.node.Node.{Node}
 use Rattle.co_base.specs.declared.node.Node.TheVariants.{Member, Coord}
 use Rattle.co_base.specs.declared.row.Row.{Row}
 use Rattle.co_base.specs.declared.written.Written.{Written}
-use Rattle.co_base.specs.Limits.{most_members}
+use Rattle.co_base.specs.Limits.{most_members, most_operations}
 use Rattle.co_record.specs.declared.miss.Miss.{Miss}
 use Rattle.co_record.specs.declared.miss.Miss.TheVariants.{Outside}
-use Rattle.co_record.specs.Format.{oldest, most_key, most_value, most_operations}
+use Rattle.co_record.specs.Format.{oldest, most_key, most_value}
 use Rattle.co_record.specs.Spelling.{key_text, value_text, held_text, change_text, range_text, row_text, txn_text, listed, IsKey, IsValueIn, IsRange, IsRowIn, IsChangeIn, IsTxn, IsMember, AreInKeyOrder}
 use Rattle.co_record.specs.Reading.{◌>>=◌, Reader, then_at, where_at, counted_at, byte_at, number_at, within, byte_within, number_within, letters_at, key_at, value_at, bounds_at, entry_at, span_of, row_of, written_of, range_at, row_at, held_at, change_at, member_at, txn_at, follows, items_at, row_cmp, change_cmp, ranges_at, writes_at, members_at, rows_at, undos_at, txns_at, is_node_byte, node_of, node_at}
 use Rattle.co_record.proofs.Codec.{IsBytes, IsBytes-rest, IsCodec, Takes, Takes-then, bind_ok, ok_is, one_byte, as_takes, as_again, codec-then, codec-as, codec-where, codec-fits, codec-counted, codec-byte, codec-byte_within, codec-number, codec-number_within, codec-letters, codec-items, wide16, wide32, within_is, is_within, Ascends}

@@ -12,13 +12,13 @@ use Rattle.co_base.specs.Span.{Span, span_cmp}
 use Rattle.co_base.specs.declared.node.Node.{Node}
 use Rattle.co_base.specs.declared.row.Row.{Row}
 use Rattle.co_base.specs.declared.written.Written.{Written}
-use Rattle.co_base.specs.Limits.{most_coordinators, most_members}
+use Rattle.co_base.specs.Limits.{most_coordinators, most_members, most_operations}
 use Rattle.std.specs.List.Sorted.{IsStrictlySortedBy}
 use Rattle.co_record.specs.declared.miss.Miss.{Miss}
 use Rattle.co_record.specs.declared.record.Record.{Record}
 use Rattle.co_record.specs.declared.record.Record.TheVariants.{Header, Prepare, Commit, Abort, End, Checkpoint}
 use Rattle.co_record.specs.Lent.{StandsAt, placed, reading}
-use Rattle.co_record.specs.Format.{IsVersion, newest, oldest, most_operations}
+use Rattle.co_record.specs.Format.{IsVersion, newest, oldest}
 use Rattle.co_record.specs.Spelling.{spelling, IsSpelledIn, IsSpelled, listed, range_text, change_text, row_text, txn_text, IsValue, IsValueIn, IsRange, IsChange, IsChangeIn, IsRow, IsRowIn, IsTxn, IsMember, AreInKeyOrder}
 use Rattle.co_record.specs.Reading.{Reader, then_at, byte_within, number_within, number_at, txn_at, ranges_at, writes_at, members_at, rows_at, undos_at, txns_at, node_at, header_at, prepare_at, commit_at, abort_at, end_at, checkpoint_at, record_at}
 use Rattle.co_record.proofs.Codec.{ok_is, IsBytes, IsBytes-rest, IsCodec, Takes, one_byte, as_takes, as_again, codec-then, codec-byte_within, codec-number, codec-number_within, wide16, wide32}

@@ -19,7 +19,3 @@ most_key = most_key_bytes
 
 abbrev pub most_value : ℕ → ℕ
 most_value version = if version == oldest then 256 else most_value_bytes
-
--- operations of a transaction at one member
-abbrev pub most_operations : ℕ
-most_operations = 1024

@@ -10,14 +10,14 @@ use Rattle.co_base.specs.declared.node.Node.{Node}
 use Rattle.co_base.specs.declared.node.Node.TheVariants.{Member, Coord}
 use Rattle.co_base.specs.declared.row.Row.{Row}
 use Rattle.co_base.specs.declared.written.Written.{Written}
-use Rattle.co_base.specs.Limits.{most_coordinators, most_members}
+use Rattle.co_base.specs.Limits.{most_coordinators, most_members, most_operations}
 use Rattle.co_record.specs.declared.element.PairKind.{PairKind}
 use Rattle.co_record.specs.declared.element.PairKind.TheVariants.{Bounds, Entry}
 use Rattle.co_record.specs.declared.miss.Miss.{Miss}
 use Rattle.co_record.specs.declared.miss.Miss.TheVariants.{Short, Kind, Outside}
 use Rattle.co_record.specs.declared.record.Record.{Record}
 use Rattle.co_record.specs.declared.record.Record.TheVariants.{Header, Prepare, Commit, Abort, End, Checkpoint}
-use Rattle.co_record.specs.Format.{most_key, most_value, most_operations}
+use Rattle.co_record.specs.Format.{most_key, most_value}
 
 infixl 10 ◌>>=◌
 abbrev pub ◌>>=◌ : {A B : Type 0} → Result A Miss → (A → Result B Miss) → Result B Miss

@@ -13,10 +13,10 @@ pub use Rattle.co_base.specs.RowOrder.{AreInKeyOrder}
 use Rattle.co_base.specs.Span.{Span, span_cmp}
 use Rattle.co_base.specs.declared.row.Row.{Row}
 use Rattle.co_base.specs.declared.written.Written.{Written}
-use Rattle.co_base.specs.Limits.{most_coordinators, most_members}
+use Rattle.co_base.specs.Limits.{most_coordinators, most_members, most_operations}
 use Rattle.co_record.specs.declared.record.Record.{Record}
 use Rattle.co_record.specs.declared.record.Record.TheVariants.{Header, Prepare, Commit, Abort, End, Checkpoint}
-use Rattle.co_record.specs.Format.{newest, most_key, most_value, most_operations}
+use Rattle.co_record.specs.Format.{newest, most_key, most_value}
 
 -- one byte of length, and its letters
 abbrev pub key_text : List ℕ → List ℕ

@@ -3,9 +3,9 @@ ghost use Rattle.std.specs.Prelude.{◌≡◌, option_copied};
 ghost use Rattle.co_record.specs.Reading.{Gives, bounds_at, entry_at, held_at, change_at, member_at, pair_at};
 
 use crate::field::{read_byte_within, read_key, read_value};
-use crate::format::MOST_MEMBERS;
 use crate::miss::Miss;
 use crate::order::is_key_above;
+use co_base::MOST_MEMBERS;
 
 /// The two bounds of a range, or the key and the value of a row.
 pub type Pair<'a> = (&'a [u8], &'a [u8]);

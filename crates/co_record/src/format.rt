@@ -13,15 +13,6 @@ pub const NEWEST_VERSION: u8 = 2;
 /// The most letters of a key.
 pub const MOST_KEY: u8 = Key::MOST as u8;
 
-/// The most operations of a transaction at one member.
-pub const MOST_OPERATIONS: u16 = 1024;
-
-/// The most members of a federation.
-pub const MOST_MEMBERS: u8 = 16;
-
-/// The most coordinators of a federation.
-pub const MOST_COORDINATORS: u8 = 8;
-
 /// The most letters of a value in a version.
 pub fn most_value(version: u8) -> u16
     ensures { result ≡ most_value version }

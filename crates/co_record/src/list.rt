@@ -6,10 +6,10 @@ ghost use Rattle.co_record.specs.Reading.{Gives, next_at, items_end, range_at, r
 
 use crate::element::{Change, Pair, PairKind, read_bounds, read_change, read_entry, read_member};
 use crate::field::{read_byte_within, read_u16_within, read_u32};
-use crate::format::{MOST_MEMBERS, MOST_OPERATIONS};
 use crate::miss::Miss;
 use crate::order::{is_key_below, is_range_below};
 use crate::walk::{ChangeWalk, MemberWalk, PairWalk, TxnWalk};
+use co_base::{MOST_MEMBERS, MOST_OPERATIONS};
 
 /// The next of a list of ranges, each above the one before it: by the lower bound, then by the upper one.
 fn next_range<'a>(before: Option<Pair<'a>>, bytes: &'a [u8]) -> Result<(Pair<'a>, &'a [u8]), Miss>

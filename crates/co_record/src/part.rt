@@ -4,11 +4,10 @@ ghost use Rattle.co_record.specs.Lent.{record_of};
 ghost use Rattle.co_record.specs.Reading.{Gives, node_at, header_at, prepare_at, commit_at, abort_at, end_at, checkpoint_at, record_at};
 
 use crate::field::{read_byte, read_byte_within, read_u16_within, read_u32};
-use crate::format::{MOST_COORDINATORS, MOST_OPERATIONS};
 use crate::list::{read_members, read_ranges, read_rows, read_txns, read_undos, read_writes};
 use crate::miss::Miss;
 use crate::view::RecordView;
-use co_base::{Node, Txn};
+use co_base::{MOST_COORDINATORS, MOST_OPERATIONS, Node, Txn};
 
 /// A node, by its byte.
 #[tactic(auto, unfolding(crate::specs::Reading::node_at))]

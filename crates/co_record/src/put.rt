@@ -6,8 +6,8 @@ ghost use Rattle.co_base.specs.Nodes.{IsValidNode};
 ghost use Rattle.co_base.specs.Order.{IsAscending};
 ghost use Rattle.co_base.specs.RowOrder.{IsInKeyOrder};
 ghost use Rattle.co_base.specs.Lent.{Begins};
-ghost use Rattle.co_base.specs.Limits.{most_members};
-ghost use Rattle.co_record.specs.Format.{newest, most_operations};
+ghost use Rattle.co_base.specs.Limits.{most_members, most_operations};
+ghost use Rattle.co_record.specs.Format.{newest};
 ghost use Rattle.co_record.specs.Spelling.{spelling, IsWritable, IsSpelled, HasParts, key_text, value_text, held_text, change_text, range_text, row_text, txn_text, listed, IsKey, IsValue, IsRange, IsRow, IsChange, IsTxn};
 
 use crate::format::NEWEST_VERSION;

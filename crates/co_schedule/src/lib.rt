@@ -23,7 +23,7 @@ pub use fault::{LineFault, LineKind, LinesFault, Mistake, ReadFault};
 pub use form::{Form, MessageForm, form_of, message_form_of};
 pub use head::{read_head, read_head_kinds};
 pub use laws::one_line;
-pub use lines::Lines;
+pub use lines::{Lines, MOST_OF_TEXT};
 pub use reading::{read_event, read_event_fields, read_line, read_message};
 pub use view::{LeavesView, LineView, key_of, value_of};
 pub use word::long_number_within;

@@ -1,6 +1,7 @@
 //! The lines of a source, one at a time.
 ghost use Rattle.std.specs.Prelude.{◌≡◌, ◌<◌, ◌≤◌, ◌+◌, ◌++◌, [], List, ℕ, Some, None, length, position, Ok, OnOk, OnErr, IfOk, IfErr, IsErrOf, IfSome, IfNone, ◌≢◌, MatchResult, MatchBool, false, option_copied};
 ghost use Rattle.std.specs.Option.{ForSome};
+ghost use Rattle.co_schedule.specs.Limits.{most_of_text};
 ghost use Rattle.co_schedule.specs.LineText.{is_newline, behind_line, next_line, IsNextFault};
 
 use crate::fault::LinesFault;
@@ -10,6 +11,9 @@ use std::alloc::{AllocError, Global};
 /// The most bytes that are asked of the source at once, also where the buffer has more room: what is left of a piece moves to the front with
 /// each line.
 const PIECE: u32 = 4096;
+
+/// The most bytes of a line, and the most lines, of any text that is read line by line: 16,777,216, those of a transcript.
+pub const MOST_OF_TEXT: u32 = 16_777_216;
 
 /// What the buffer holds at its front.
 enum Held {
@@ -35,8 +39,8 @@ pub struct Lines {
     ghost shown_used: { ForSome shown (λ size. size ≤ used) },
     ghost used_held: { used ≤ length buffer.items },
     ghost held_room: { length buffer.items ≤ line + 1 },
-    ghost line_most: { line ≤ 16777216 },
-    ghost lines_most: { lines ≤ 16777216 },
+    ghost line_most: { line ≤ most_of_text },
+    ghost lines_most: { lines ≤ most_of_text },
     ghost lent_most: { lent ≤ lines },
 }
 
@@ -56,8 +60,8 @@ impl Lines {
     /// A reader of lines of at most `line` bytes without their newline, at most `lines` of them. Takes
     /// a buffer of `line + 1` bytes.
     pub fn new(alloc: Global, line: u32, lines: u32) -> Result<Lines, AllocError>
-        requires line { (1 ≤ line) × (line ≤ 16777216) }
-        requires lines { (1 ≤ lines) × (lines ≤ 16777216) }
+        requires line { (1 ≤ line) × (line ≤ most_of_text) }
+        requires lines { (1 ≤ lines) × (lines ≤ most_of_text) }
         ensures nothing { IfOk result (λ reader. unread reader ≡ []) }
         ensures limits { IfOk result (λ reader. (most_bytes reader ≡ line) × (most_lines reader ≡ lines) × (lines_read reader ≡ 0)) }
     {

@@ -1,6 +1,6 @@
 //! The sessions of this run.
 ghost use Rattle.std.specs.Prelude.{◌≡◌, ◌<◌, ◌≤◌, true, false, length, reverse, OnOk, OnErr, IfOk};
-ghost use Rattle.co_base.specs.Limits.{most_members};
+ghost use Rattle.co_base.specs.Limits.{most_members, most_operations};
 ghost use Rattle.co_state.specs.Table.{holds};
 ghost use Rattle.co_session.specs.Clients.{is_used, is_full, none_begun, with_begun, with_answered, with_asked, carried_in, decider_in, parts_in, told_in};
 ghost use Rattle.co_session.specs.Leaves.{IsLeave, IsLeaveToBegin, leave_in};
@@ -156,7 +156,7 @@ impl Sessions {
     pub fn answered(&mut self, t: Txn, site: Site, reply: Reply) -> Result<(), AllocError>
         requires begun { holds self.old.sessions t ≡ true }
         requires member { (1 ≤ site.member) × (site.member ≤ most_members) }
-        requires count { carried_in self.old t site.member < 1024 }
+        requires count { carried_in self.old t site.member < most_operations }
         ensures ok { OnOk result (self.new ≡ with_answered self.old t (record { site = site; reply = reply })) }
         ensures err { OnErr result (self.new ≡ self.old) }
     {

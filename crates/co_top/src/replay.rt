@@ -23,13 +23,10 @@ use co_engine::Engine;
 use co_message::{Item, ItemKind, Items};
 use co_outside::{Home, HomeFault, Sink, Source, Spot};
 use co_replay::put_items;
-use co_schedule::Lines;
+use co_schedule::{LONGEST_LINE, Lines};
 use co_transcript::put_item;
 use co_world::World;
 use std::alloc::{AllocError, Global};
-
-/// The most bytes of a line without its newline.
-const LINE: u32 = 8_192;
 
 /// The most lines, the head among them.
 pub(crate) const LINES: u32 = 262_144;
@@ -169,7 +166,7 @@ fn replayed<E: Engine + Drop, S: Source, K: Sink, H: Home>(
     ensures quiet_home { ((spot : Spot) → IsErrOf result (Status.Device spot) → ⊥) → (H.seen home.new).faults ≡ (H.seen home.old).faults }
     ensures clean { OnOk result ((s : Spot) → IsClean (H.seen home.old) s → IsClean (H.seen home.new) s) }
 {
-    let mut lines = Lines::new(alloc, LINE, LINES)?;
+    let mut lines = Lines::new(alloc, LONGEST_LINE as u32, LINES)?;
     let head = head_of(alloc, &mut lines, source)?;
     let (mut world, items) = open::<E, H>(alloc, home, directory, &head, resume)?;
     let head = tell_opening(alloc, out, head, items.as_slice())?;

@@ -1,6 +1,7 @@
 -- What a member of the head sends is from it, and an acknowledgement is for the coordinator of the decision.
 use Rattle.std.proofs.Common.{◌≡◌, ℕ, Bool, true, false, ◌==◌, if◌then◌else◌, List, [], ◌∷◌, Option, None, Some, refl, sym, ◌∙◌, subst}
 use Rattle.co_base.specs.declared.op.Op.{Op}
+use Rattle.co_base.specs.Limits.{most_operations}
 use Rattle.co_message.specs.declared.answer.Answer.{Answer}
 use Rattle.co_message.specs.declared.answer.Answer.TheVariants as answer
 use Rattle.co_message.specs.declared.message.Message.{Message}
@@ -23,7 +24,7 @@ use Rattle.co_plain.specs.declared.outcome.Outcome.TheVariants.{Completes, Stops
 use Rattle.co_plain.specs.Numbers.{counted, next_generation, IsAmong}
 use Rattle.co_plain.specs.LogWrite.{outcome_of, generation_of}
 use Rattle.co_plain.specs.MemberStep.{says, standing_by, stopped_member, forced_by, force_member}
-use Rattle.co_plain.specs.Member.{most_operations, prepare_record, voted_state, installed_state, unless_blocked, member_op, vote_by, vote_on, with_mark, prepare_by, member_prepare, vote_where_asked, vote_again_by, member_vote, commit_by, abort_by, member_decide, timer_by, member_timer, ask_by, member_ask, coord_of}
+use Rattle.co_plain.specs.Member.{prepare_record, voted_state, installed_state, unless_blocked, member_op, vote_by, vote_on, with_mark, prepare_by, member_prepare, vote_where_asked, vote_again_by, member_vote, commit_by, abort_by, member_decide, timer_by, member_timer, ask_by, member_ask, coord_of}
 use Rattle.co_plain.specs.MemberLog.{stopped_fill, fill_by, close_by, checkpoint_by, member_checkpoint, restart_by, member_restart}
 use Rattle.co_plain.specs.LocalCommit.{local_coord, local_commit_by, member_local_commit, local_abort_by, member_local_abort}
 use Rattle.co_trial.proofs.InHead.{InHead}

@@ -1,7 +1,7 @@
 //! What clients ask: to begin, to operate and to end.
 ghost use Rattle.std.specs.Prelude.{◌≡◌, ◌≤◌, ◌<◌, Option, true, false, Some, length, IfOk, IfErr, IsErrOf, OnOk, ◌↔◌};
 ghost use Rattle.co_base.specs.declared.reply.Reply.{Reply};
-ghost use Rattle.co_base.specs.Limits.{most_members};
+ghost use Rattle.co_base.specs.Limits.{most_members, most_operations};
 ghost use Rattle.co_durable.specs.declared.fault.WorldFault.TheVariants as world;
 ghost use Rattle.co_message.specs.declared.answer.Answer.{Answer};
 ghost use Rattle.co_message.specs.declared.event.Event.TheVariants as event;
@@ -227,7 +227,7 @@ impl<E: Engine + Drop> World<E> {
     fn enter(&mut self, t: Txn, member: u8, op: Op, answer: &Answer) -> Result<(), WorldFault>
         requires in_head { (1 ≤ member) × (member ≤ most_members) }
         requires begun { holds self.old.sessions.sessions t ≡ true }
-        requires count { (reply : Reply) → reply_in answer.now ≡ Some reply → carried_in self.old.sessions t member < 1024 }
+        requires count { (reply : Reply) → reply_in answer.now ≡ Some reply → carried_in self.old.sessions t member < most_operations }
         ensures memory { IfErr result (λ fault. fault ≡ world.Memory) }
         ensures stands { (s : Federation) → RepresentsWorld E.takes E.stands_for self.old s → (session : Session) → look s.sessions t ≡ Some session →
             OnOk result (RepresentsWorld E.takes E.stands_for self.new (entered s t session member op (reply_in answer.now))) }

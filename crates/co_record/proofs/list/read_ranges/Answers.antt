@@ -1,7 +1,7 @@
 use Rattle.std.proofs.Common.{List, map, Ok, sym, ap, ◌∙◌}
 use Rattle.std.specs.Int.{w16}
 use Rattle.co_base.specs.Span.{Span, span_cmp}
-use Rattle.co_record.specs.Format.{most_operations}
+use Rattle.co_base.specs.Limits.{most_operations}
 use Rattle.co_record.specs.Reading.{ranges_at, number_within, range_at, bounds_at, span_of}
 use Rattle.co_record.proofs.Elements.{elements_as, list_read}
 use Rattle.co_record.proofs.list.read_ranges.Goals as goal

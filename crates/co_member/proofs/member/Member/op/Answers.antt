@@ -1,7 +1,8 @@
 use Rattle.std.proofs.Common.{◌≤◌, ℕ, Some, refl, sym, subst}
 use Rattle.co_base.specs.declared.node.Node.TheVariants as node
+use Rattle.co_base.specs.Limits.{most_operations}
 use Rattle.co_node.specs.NodeLog.{RepresentsLog}
-use Rattle.co_plain.specs.Member.{member_op, most_operations}
+use Rattle.co_plain.specs.Member.{member_op}
 use Rattle.co_member.proofs.Carrying.{stands_on}
 use Rattle.co_member.proofs.Operating.{op_log}
 use Rattle.co_member.proofs.Standings.{kept_is}
