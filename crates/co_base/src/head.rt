@@ -5,7 +5,7 @@ ghost use Rattle.co_base.specs.Limits.{most_coordinators, most_members};
 use crate::sequence::Sequence;
 
 /// The kinds of engines that a member may have.
-#[derive(Clone, Copy, PartialEq, Eq)]
+#[derive(Clone, Copy)]
 pub enum Kind {
     /// Strict locking.
     Lock,

@@ -5,7 +5,7 @@ use crate::sequence::Sequence;
 pub type Bytes = Sequence<u8>;
 
 /// The choice of one of the images that a disk may have after a crash.
-#[derive(Drop, PartialEq)]
+#[derive(Drop)]
 pub enum Leaves {
     /// The stable bytes alone.
     Old,

@@ -3,7 +3,7 @@ use crate::node::Node;
 use crate::sequence::Sequence;
 
 /// The kinds of log records.
-#[derive(Clone, Copy, Debug, PartialEq, Eq)]
+#[derive(Clone, Copy, Debug)]
 pub enum MarkKind {
     /// The first record of a file.
     Header,
@@ -20,7 +20,7 @@ pub enum MarkKind {
 }
 
 /// A record that became stable in the log of a node.
-#[derive(Clone, Copy, Debug, PartialEq, Eq)]
+#[derive(Clone, Copy, Debug)]
 pub struct Mark {
     /// Whose log it is.
     pub node: Node,

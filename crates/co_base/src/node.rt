@@ -6,7 +6,7 @@ ghost use Rattle.co_base.specs.Nodes.{IsValidNode, node_byte};
 /// A member, numbered 1 to 16, or a coordinator, numbered 1 to 8.
 ///
 /// Members stand before coordinators, and each by its number.
-#[derive(Clone, Copy, Debug, PartialEq, Eq, PartialOrd, Ord)]
+#[derive(Clone, Copy, Debug, PartialEq, Eq)]
 pub enum Node {
     /// The member of this number.
     Member(u8),

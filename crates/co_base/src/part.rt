@@ -6,7 +6,7 @@ use crate::sequence::Sequence;
 use std::alloc::AllocError;
 
 /// A participant, with how many operations it answered.
-#[derive(Clone, Copy, PartialEq, Eq)]
+#[derive(Clone, Copy)]
 pub struct Part {
     /// The number of the member.
     pub member: u8,

@@ -4,7 +4,7 @@ use crate::sequence::Sequence;
 use crate::value::Value;
 
 /// What an operation answers.
-#[derive(Drop, PartialEq)]
+#[derive(Drop)]
 pub enum Reply {
     /// To a read: the value of the record, or none where there is no such record.
     Got(Option<Value>),

@@ -11,7 +11,7 @@ use std::hash::{Hash, Hasher};
 use std::marker::Model;
 
 /// The number of a transaction. Every `u32` is one, and a contract sees the number.
-#[derive(Clone, Copy, Debug)]
+#[derive(Clone, Copy)]
 pub struct Txn(pub u32);
 
 impl Model for Txn {

@@ -7,7 +7,7 @@ use crate::value::Value;
 use std::alloc::AllocError;
 
 /// One change of a record. A missing value is an erased or absent record.
-#[derive(Drop, PartialEq)]
+#[derive(Drop)]
 pub struct Written {
     /// The name of the record.
     pub key: Key,

@@ -2,7 +2,7 @@
 use co_base::{Reply, Rows, Txn, Writes};
 
 /// What an operation of a transaction comes to.
-#[derive(Drop, PartialEq)]
+#[derive(Drop)]
 pub enum Seen {
     /// It was done, and this is its reply.
     Answer(Reply),

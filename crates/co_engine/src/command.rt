@@ -38,7 +38,7 @@ pub enum Command {
 }
 
 /// What a command comes to.
-#[derive(Drop, PartialEq)]
+#[derive(Drop)]
 pub enum Played {
     /// What an operation came to, with the pairs that are new.
     Seen(Seen, Pairs),

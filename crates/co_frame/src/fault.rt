@@ -2,7 +2,7 @@
 use thiserror::Error;
 
 /// What is wrong with a text.
-#[derive(Clone, Copy, Debug, PartialEq, Eq, Error)]
+#[derive(Clone, Copy, Debug, Error)]
 pub enum FrameFault {
     /// Behind the open gate at the place `at` stands no whole batch with a gate behind it: its length is
     /// 0, or the text ends before the batch or before that gate.

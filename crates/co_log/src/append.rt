@@ -23,7 +23,7 @@ use co_record::{LentPrepare, Record, put_prepare, put_record};
 use std::alloc::{AllocError, Global};
 
 /// How a log write that met no fault ended.
-#[derive(Clone, Copy, PartialEq, Eq)]
+#[derive(Clone, Copy)]
 pub(crate) enum Ending {
     /// All its device calls were done, and the next gate stands at this place.
     Whole { next: u32 },

@@ -78,7 +78,7 @@ impl<T: Drop> From<AllocFailed<T>> for LogFault {
 }
 
 /// A log write that was stopped at its armed device call.
-#[derive(Debug, Drop)]
+#[derive(Drop)]
 pub struct StoppedWrite {
     /// The number of the device call within its log write, counted from 1.
     pub call: u8,

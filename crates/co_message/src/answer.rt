@@ -2,7 +2,7 @@
 use co_base::{Key, Node, Reply, Txn};
 
 /// Why a transaction left the table of its coordinator without a commit.
-#[derive(Clone, Copy, PartialEq, Eq)]
+#[derive(Clone, Copy)]
 pub enum Cause {
     /// A participant voted no.
     Vote,
@@ -13,7 +13,7 @@ pub enum Cause {
 }
 
 /// What an event answers.
-#[derive(Drop, PartialEq)]
+#[derive(Drop)]
 pub enum Answer {
     /// The federation is open.
     Opened,

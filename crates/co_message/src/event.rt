@@ -3,7 +3,7 @@ use crate::message::Message;
 use co_base::{Key, Leaves, Node, Range, Txn, Value};
 
 /// What one line of a schedule lets happen.
-#[derive(Drop, PartialEq)]
+#[derive(Drop)]
 pub enum Event {
     /// A client begins the transaction at a coordinator.
     Begin {

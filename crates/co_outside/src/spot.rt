@@ -5,7 +5,7 @@ use std::fmt;
 ///
 /// `node` is the node's byte: 1 to 16 for a member, 129 to 136 for a coordinator. `part` is 0 for
 /// part `a` and 1 for part `b`. It is shown as the file's name, such as `m1.a` or `c2.b`.
-#[derive(Clone, Copy, Debug, PartialEq, Eq, PartialOrd, Ord)]
+#[derive(Clone, Copy, Debug, PartialEq, Eq)]
 pub struct Spot {
     /// The byte of the node.
     pub node: u8,

@@ -3,7 +3,7 @@ use crate::log_state::LogState;
 use co_state::{EngineState, Table};
 
 /// What a prepare asked a member for that could not vote at once.
-#[derive(Clone, Copy, PartialEq, Eq)]
+#[derive(Clone, Copy)]
 pub struct AskedMark {
     /// The coordinator that asked.
     pub coord: u8,

@@ -1,7 +1,7 @@
 //! Where a transaction stands at a member.
 
 /// Where a transaction stands at a member.
-#[derive(Clone, Copy, PartialEq, Eq)]
+#[derive(Clone, Copy)]
 pub enum Standing {
     /// It has operations there and has not voted.
     IsActive,

@@ -14,7 +14,7 @@ pub type Pair<'a> = (&'a [u8], &'a [u8]);
 pub type Change<'a> = (&'a [u8], Option<&'a [u8]>);
 
 /// What a pair is.
-#[derive(Clone, Copy, PartialEq, Eq)]
+#[derive(Clone, Copy)]
 pub enum PairKind {
     /// The bounds of a range.
     Bounds,

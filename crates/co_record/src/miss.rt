@@ -1,7 +1,7 @@
 //! Where reading ends before its field does.
 
 /// Why a field could not be read.
-#[derive(Clone, Copy, PartialEq, Eq)]
+#[derive(Clone, Copy)]
 pub enum Miss {
     /// The bytes end before the field does.
     Short,

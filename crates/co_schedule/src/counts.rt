@@ -4,7 +4,7 @@ ghost use Rattle.std.specs.Prelude.{◌≡◌, length};
 use co_base::{Head, MOST_COORDINATORS, MOST_MEMBERS};
 
 /// How many members and how many coordinators a federation has.
-#[derive(Clone, Copy, PartialEq, Eq)]
+#[derive(Clone, Copy)]
 pub struct NodeCounts {
     /// The count of members, at most `MOST_MEMBERS`.
     pub members: u8,

@@ -5,7 +5,7 @@ use std::alloc::{AllocError, AllocFailed};
 use thiserror::Error;
 
 /// What is wrong with a line that is outside the grammar.
-#[derive(Clone, Copy, PartialEq, Eq)]
+#[derive(Clone, Copy)]
 pub enum LineKind {
     /// A form or a fixed word is none of those that may stand there, a word is empty, or a word is
     /// missing.
@@ -95,7 +95,7 @@ impl From<AllocError> for LinesFault {
 }
 
 /// What is wrong with a line, and how many bytes of the line there are from that place on.
-#[derive(Clone, Copy, PartialEq, Eq)]
+#[derive(Clone, Copy)]
 pub struct Mistake {
     /// What is wrong.
     pub kind: LineKind,

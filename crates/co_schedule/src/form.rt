@@ -4,7 +4,7 @@ ghost use Rattle.co_schedule.specs.Places.{is_in, one_of};
 ghost use Rattle.co_schedule.specs.Grammar.{form_word, form_named, all_forms, message_word, message_named, all_messages};
 
 /// The forms of events.
-#[derive(Clone, Copy, PartialEq, Eq)]
+#[derive(Clone, Copy)]
 pub enum Form {
     Begin,
     Local,
@@ -84,7 +84,7 @@ pub fn form_of(word: &[u8]) -> Option<Form>
 }
 
 /// The kinds of messages.
-#[derive(Clone, Copy, PartialEq, Eq)]
+#[derive(Clone, Copy)]
 pub enum MessageForm {
     Prepare,
     Vote,

@@ -12,7 +12,7 @@ use hex::FromHexError;
 use std::alloc::{AllocError, Global};
 
 /// The chosen image of an armed stop, with its digits lent.
-#[derive(Clone, Copy, PartialEq, Eq)]
+#[derive(Clone, Copy)]
 pub enum LeavesView<'a> {
     /// The stable bytes alone.
     Old,
@@ -23,7 +23,7 @@ pub enum LeavesView<'a> {
 }
 
 /// An event whose keys, values and digits are lent from its line.
-#[derive(Clone, Copy, PartialEq, Eq)]
+#[derive(Clone, Copy)]
 pub enum LineView<'a> {
     /// A client begins the transaction at a coordinator.
     Begin {

@@ -2,7 +2,7 @@
 use co_base::{Op, Sequence};
 
 /// One operation of a transaction.
-#[derive(Drop, PartialEq)]
+#[derive(Drop)]
 pub struct Site {
     /// The number of the member.
     pub member: u8,

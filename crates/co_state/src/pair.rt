@@ -2,7 +2,7 @@
 use co_base::{Sequence, Txn};
 
 /// How two transactions are in conflict.
-#[derive(Clone, Copy, PartialEq, Eq)]
+#[derive(Clone, Copy)]
 pub enum PairKind {
     /// The first one read a key that the second one wrote.
     Reads,
@@ -11,7 +11,7 @@ pub enum PairKind {
 }
 
 /// Two undecided transactions of one member that are in conflict.
-#[derive(Clone, Copy, PartialEq, Eq)]
+#[derive(Clone, Copy)]
 pub struct Pair {
     /// How they are in conflict.
     pub by: PairKind,

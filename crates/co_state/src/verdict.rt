@@ -2,7 +2,7 @@
 use co_base::{Key, Txn};
 
 /// What the voting rule says of a transaction at a member.
-#[derive(Drop, PartialEq)]
+#[derive(Drop)]
 pub enum Verdict {
     /// No: operations were lost here.
     LostOperations,

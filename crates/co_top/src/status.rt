@@ -11,7 +11,7 @@ use co_schedule::{LineFault, LineKind, LinesFault, append_number};
 use std::alloc::{AllocError, AllocFailed, Global};
 
 /// A limit that ended a command.
-#[derive(Clone, Copy, PartialEq, Eq)]
+#[derive(Clone, Copy)]
 pub enum LimitKind {
     /// The line is long: one of a schedule has more than 8,192 bytes, one of a transcript that is judged more than 16,777,216.
     Line {
@@ -30,7 +30,7 @@ pub enum LimitKind {
 }
 
 /// How a command ended.
-#[derive(Clone, Copy, PartialEq, Eq)]
+#[derive(Clone, Copy)]
 pub enum Status {
     /// The schedule was read to its end, and every line was done; or the text of the command was written whole, and tells of nothing that is not as it
     /// should be.

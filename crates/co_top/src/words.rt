@@ -8,7 +8,7 @@ use co_schedule::long_number_within;
 const MOST_EVENTS: u64 = 60_000;
 
 /// What the words of the command line ask for.
-#[derive(Clone, Copy, PartialEq, Eq)]
+#[derive(Clone, Copy)]
 pub(crate) enum Command<'a> {
     /// A schedule is replayed over the logs of a directory: over fresh ones, or over those that a run left.
     Run {

@@ -9,7 +9,7 @@ use co_base::MarkKind;
 use co_message::Cause;
 
 /// The first words of answers.
-#[derive(Clone, Copy, PartialEq, Eq)]
+#[derive(Clone, Copy)]
 pub enum AnswerForm {
     Opened,
     Begun,
@@ -206,7 +206,7 @@ pub fn cause_of(word: &[u8]) -> Option<Cause>
 }
 
 /// What an item tells, by the word behind its number.
-#[derive(Clone, Copy, PartialEq, Eq)]
+#[derive(Clone, Copy)]
 pub enum ToldForm {
     Event,
     Log,

@@ -8,7 +8,7 @@ use serde_json::{Value, json};
 use std::alloc::{AllocError, Global};
 
 /// The summary of a trial.
-#[derive(Debug, Drop)]
+#[derive(Drop)]
 pub struct Summary {
     /// How many transactions were begun.
     pub begun: u64,
