@@ -15,5 +15,3 @@ one_sorted c k = (tt, tt)
 pub two_sorted : {K : Type 0} (c : K → K → Ordering) (j k : K) → c j k ≡ Less → IsStrictlySortedBy c (j ∷ k ∷ [])
 unfolding IsStrictlySortedBy
 two_sorted c j k less = ((less, tt), (tt, tt))
-
-pub ruleset short_lists = (none_sorted, one_sorted, two_sorted)
