@@ -17,7 +17,7 @@ use Rattle.co_plain.specs.Federation.{Federation, Stepped, answers, with_member,
 use Rattle.co_plain.specs.Member.{member_op}
 use Rattle.co_plain.specs.Sessions.{Refuses, Grants, leave_to_visit, leave_to_end, count_at, parts_of}
 use Rattle.co_plain.specs.Step.{reply_in, entered, operated, operate_with, operate, marked_asked, coord_answers, local_answers, commit_at, commit_with, abort_at, abort_with}
-use Rattle.co_world.specs.Calls.{coord_asked, member_asked, ended}
+use Rattle.co_world.specs.Calls.{coord_call, member_call, ended}
 use Rattle.co_cluster.specs.Calls.{coord_does, member_does, CoordMay, MemberMay}
 use Rattle.co_world.specs.declared.clients.Ending.{Ending}
 use Rattle.co_world.specs.declared.clients.Ending.TheVariants as ending
@@ -62,13 +62,13 @@ module _ (s : Federation) (t : ℕ) where
 
   -- its coordinator is asked
   pub ended_by_coord : (how : Ending) (session : Session) (c : ℕ) → leave_to_end (look s.sessions t) ≡ Grants session → node.Coord c ≡ session.by →
-      ended s t how ≡ coord_answers s t session c (s.coord c).up (coord_does c (coord_asked how t (parts_of session.told)) (s.coord c))
+      ended s t how ≡ coord_answers s t session c (s.coord c).up (coord_does c (coord_call how t (parts_of session.told)) (s.coord c))
   ended_by_coord ending.Commit session c may home = ap (commit_with s t) may ∙ ap (commit_at s t session) (sym home)
   ended_by_coord ending.Abort session c may home = ap (abort_with s t) may ∙ ap (abort_at s t session) (sym home)
 
   -- its member is asked
   pub ended_by_member : (how : Ending) (session : Session) (m : ℕ) → leave_to_end (look s.sessions t) ≡ Grants session → node.Member m ≡ session.by →
-      ended s t how ≡ local_answers s t session m (s.member m).up (member_does m (member_asked how t (count_at session.told m)) (s.member m))
+      ended s t how ≡ local_answers s t session m (s.member m).up (member_does m (member_call how t (count_at session.told m)) (s.member m))
   ended_by_member ending.Commit session m may home = ap (commit_with s t) may ∙ ap (commit_at s t session) (sym home)
   ended_by_member ending.Abort session m may home = ap (abort_with s t) may ∙ ap (abort_at s t session) (sym home)
 
@@ -86,7 +86,7 @@ module _ (s : Federation) (t : ℕ) where
 module _ (s : Federation) where
   -- a member commits or aborts alone while it is up
   pub ends_alone : IsReady s → (m : ℕ) → IsAmong m (length s.kinds) → (how : Ending) (t carried : ℕ) (session : Session) → leave_to_end (look s.sessions t) ≡ Grants session → (s.member m).up ≡ true →
-      MemberMay s.coordinators (member_asked how t carried) (s.member m)
+      MemberMay s.coordinators (member_call how t carried) (s.member m)
   ends_alone ready m own ending.Commit t carried session may up = (
     up,
     (neither (holds (s.member m).engine.voted t) (holds (s.member m).committed t) (ready.whole.ended t m session may)).0,
@@ -95,6 +95,6 @@ module _ (s : Federation) where
   ends_alone ready m own ending.Abort t carried session may up = up
 
   -- so is a coordinator asked
-  pub ends_at_coord : (c : ℕ) (how : Ending) (t : ℕ) (parts : List Part) → (s.coord c).up ≡ true → CoordMay (length s.kinds) c (coord_asked how t parts) (s.coord c)
+  pub ends_at_coord : (c : ℕ) (how : Ending) (t : ℕ) (parts : List Part) → (s.coord c).up ≡ true → CoordMay (length s.kinds) c (coord_call how t parts) (s.coord c)
   ends_at_coord c ending.Commit t parts up = up
   ends_at_coord c ending.Abort t parts up = up

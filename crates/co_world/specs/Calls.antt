@@ -16,13 +16,13 @@ use Rattle.co_world.specs.declared.clients.Ending.{Ending}
 use Rattle.co_world.specs.declared.clients.Ending.TheVariants as ending
 
 -- what the deciding node is asked where a client ends a transaction
-abbrev pub coord_asked : Ending → ℕ → List Part → CoordCall
-coord_asked ending.Commit t parts = coord.Commit t parts
-coord_asked ending.Abort t parts = coord.Abort t parts
+abbrev pub coord_call : Ending → ℕ → List Part → CoordCall
+coord_call ending.Commit t parts = coord.Commit t parts
+coord_call ending.Abort t parts = coord.Abort t parts
 
-abbrev pub member_asked : Ending → ℕ → ℕ → MemberCall
-member_asked ending.Commit t carried = member.LocalCommit t carried
-member_asked ending.Abort t carried = member.LocalAbort t
+abbrev pub member_call : Ending → ℕ → ℕ → MemberCall
+member_call ending.Commit t carried = member.LocalCommit t carried
+member_call ending.Abort t carried = member.LocalAbort t
 
 -- a client ends a transaction, by a commit or an abort
 abbrev pub ended : Federation → ℕ → Ending → Stepped

@@ -15,7 +15,7 @@ ghost use Rattle.co_plain.specs.declared.session.Session.{Session};
 ghost use Rattle.co_session.specs.Clients.{is_used, is_full, carried_in};
 ghost use Rattle.co_session.specs.Leaves.{refusal_of};
 ghost use Rattle.co_state.specs.Table.{look, holds};
-ghost use Rattle.co_world.specs.Calls.{coord_asked, member_asked, ended};
+ghost use Rattle.co_world.specs.Calls.{coord_call, member_call, ended};
 ghost use Rattle.co_cluster.specs.Calls.{coord_does, member_does};
 ghost use Rattle.co_cluster.specs.Conditions.{IsReady};
 ghost use Rattle.co_world.specs.Counting.{IsOneMore};
@@ -43,7 +43,7 @@ pub(crate) enum Ending {
 
 /// What a coordinator is asked for where a client ends a transaction.
 fn coord_call(ending: Ending, txn: Txn, parts: Parts) -> CoordCall
-    ensures { result ≡ coord_asked ending txn parts }
+    ensures { result ≡ coord_call ending txn parts }
 {
     match ending {
         Ending::Commit => CoordCall::Commit { txn, parts },
@@ -53,7 +53,7 @@ fn coord_call(ending: Ending, txn: Txn, parts: Parts) -> CoordCall
 
 /// What a member is asked for where a client ends a local transaction.
 fn member_call(ending: Ending, txn: Txn, carried: u16) -> MemberCall
-    ensures { result ≡ member_asked ending txn carried }
+    ensures { result ≡ member_call ending txn carried }
 {
     match ending {
         Ending::Commit => MemberCall::LocalCommit { txn, carried },
@@ -287,7 +287,7 @@ impl<E: Engine + Drop> World<E> {
         requires stands { (s : Federation) × (session : Session) × RepresentsWorld E.takes E.stands_for self.old s × (look s.sessions t ≡ Some session) }
         ensures count { IsErrOf result WorldFault.Count → ⊥ }
         ensures answered { (s : Federation) → RepresentsWorld E.takes E.stands_for self.old s → (session : Session) → look s.sessions t ≡ Some session →
-            AnswersEvent E.takes E.stands_for number (λ z. coord_answers z t session coord (z.coord coord).up (coord_does coord (coord_asked ending t (parts_of session.told)) (z.coord coord))) s self.new (H.seen home.old) (H.seen home.new) result }
+            AnswersEvent E.takes E.stands_for number (λ z. coord_answers z t session coord (z.coord coord).up (coord_does coord (coord_call ending t (parts_of session.told)) (z.coord coord))) s self.new (H.seen home.old) (H.seen home.new) result }
         ensures entered { (H.seen home.new).entered ≡ (H.seen home.old).entered }
     {
         if !self.coord_up(coord) {
@@ -313,7 +313,7 @@ impl<E: Engine + Drop> World<E> {
         requires stands { (s : Federation) × (session : Session) × RepresentsWorld E.takes E.stands_for self.old s × IsReady s × (look s.sessions t ≡ Some session) × (session.asked ≡ false) }
         ensures count { IsErrOf result WorldFault.Count → ⊥ }
         ensures answered { (s : Federation) → RepresentsWorld E.takes E.stands_for self.old s → (session : Session) → look s.sessions t ≡ Some session →
-            AnswersEvent E.takes E.stands_for number (λ z. local_answers z t session member (z.member member).up (member_does member (member_asked ending t (count_at session.told member)) (z.member member))) s self.new (H.seen home.old) (H.seen home.new) result }
+            AnswersEvent E.takes E.stands_for number (λ z. local_answers z t session member (z.member member).up (member_does member (member_call ending t (count_at session.told member)) (z.member member))) s self.new (H.seen home.old) (H.seen home.new) result }
         ensures entered { (H.seen home.new).entered ≡ (H.seen home.old).entered }
     {
         if !self.member_up(member) {

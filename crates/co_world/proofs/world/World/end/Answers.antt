@@ -4,7 +4,7 @@ use Rattle.co_plain.specs.Federation.{answers}
 use Rattle.co_session.specs.Leaves.{IsLeave, leave_in}
 use Rattle.co_base.specs.declared.node.Node.{Node}
 use Rattle.co_state.specs.Table.{look}
-use Rattle.co_world.specs.Calls.{ended, coord_asked, member_asked}
+use Rattle.co_world.specs.Calls.{ended, coord_call, member_call}
 use Rattle.co_world.proofs.Acting.{some_is, granted, refused, leave_alike, end_granted, home_coord, home_member}
 use Rattle.co_world.proofs.ClientSteps.{ended_refused, ended_by_coord, ended_by_member}
 use Rattle.co_world.proofs.Ends.{no_limit}
@@ -62,7 +62,7 @@ returns-in-Ok-Coord-clause-answered g c = λ s r ready.
     let l = granted (leave_in c.args.self.now.sessions c.args.t None) (node.Coord k) (subst (λ (n : Node). IsLeave (leave_in c.args.self.now.sessions c.args.t None) (Ok n)) c.in-Ok-Coord.field-0-is c.in-Ok-Coord.ensures.leave) in
     let may = sym (leave_alike g.E.Engine.takes g.E.Engine.stands_for c.args.self.now s r c.args.t None) ∙ l.is in
     let here = (end_granted (look s.sessions c.args.t) l.session may).0 in
-    answered_as g.E.Engine.takes g.E.Engine.stands_for c.args.number (λ z. coord_answers z c.args.t l.session k (z.coord k).up (coord_does k (coord_asked c.args.ending c.args.t (parts_of l.session.told)) (z.coord k))) (λ z. ended z c.args.t c.args.ending) s c.end_at_coord.new.self (g.H.Home.seen c.args.home.now)
+    answered_as g.E.Engine.takes g.E.Engine.stands_for c.args.number (λ z. coord_answers z c.args.t l.session k (z.coord k).up (coord_does k (coord_call c.args.ending c.args.t (parts_of l.session.told)) (z.coord k))) (λ z. ended z c.args.t c.args.ending) s c.end_at_coord.new.self (g.H.Home.seen c.args.home.now)
     (g.H.Home.seen c.end_at_coord.new.home) c.end_at_coord.result (sym (ended_by_coord s c.args.t c.args.ending l.session k may l.home)) (sym (ended_by_coord (disarmed s) c.args.t c.args.ending l.session k may l.home))
     (c.end_at_coord.ensures.answered s r l.session here)
 
@@ -72,7 +72,7 @@ returns-in-Ok-Member-clause-answered g c = λ s r ready.
     let l = granted (leave_in c.args.self.now.sessions c.args.t None) (node.Member k) (subst (λ (n : Node). IsLeave (leave_in c.args.self.now.sessions c.args.t None) (Ok n)) c.in-Ok-Member.field-0-is c.in-Ok-Member.ensures.leave) in
     let may = sym (leave_alike g.E.Engine.takes g.E.Engine.stands_for c.args.self.now s r c.args.t None) ∙ l.is in
     let here = (end_granted (look s.sessions c.args.t) l.session may).0 in
-    answered_as g.E.Engine.takes g.E.Engine.stands_for c.args.number (λ z. local_answers z c.args.t l.session k (z.member k).up (member_does k (member_asked c.args.ending c.args.t (count_at l.session.told k)) (z.member k))) (λ z. ended z c.args.t c.args.ending) s c.end_at_member.new.self (g.H.Home.seen c.args.home.now)
+    answered_as g.E.Engine.takes g.E.Engine.stands_for c.args.number (λ z. local_answers z c.args.t l.session k (z.member k).up (member_does k (member_call c.args.ending c.args.t (count_at l.session.told k)) (z.member k))) (λ z. ended z c.args.t c.args.ending) s c.end_at_member.new.self (g.H.Home.seen c.args.home.now)
     (g.H.Home.seen c.end_at_member.new.home) c.end_at_member.result (sym (ended_by_member s c.args.t c.args.ending l.session k may l.home)) (sym (ended_by_member (disarmed s) c.args.t c.args.ending l.session k may l.home))
     (c.end_at_member.ensures.answered s r l.session here)
 

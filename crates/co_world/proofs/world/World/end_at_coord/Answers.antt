@@ -10,7 +10,7 @@ use Rattle.co_plain.specs.Step.{is_stopped, marked_asked, coord_answers, disarme
 use Rattle.co_plain.specs.declared.session.Session.{Session}
 use Rattle.co_session.specs.Clients.{parts_at}
 use Rattle.co_state.specs.Table.{Table, look}
-use Rattle.co_world.specs.Calls.{coord_asked}
+use Rattle.co_world.specs.Calls.{coord_call}
 use Rattle.co_cluster.specs.Calls.{coord_does, CoordMay}
 use Rattle.co_world.specs.Standing.{RepresentsWorld}
 use Rattle.co_world.proofs.Acting.{begun_here}
@@ -59,15 +59,15 @@ mark_asked-requires g c =
     let r = c.requires.stands.2 in
     let here = c.requires.stands.3 in
     let parts : c.in_ok-parts.parts ≡ parts_of session.told = c.in_ok-parts.ensures ∙ ap (λ (table : Table Session). parts_at (look table c.args.t)) r.sessions ∙ ap parts_at here in
-    let asks : c.coord_call.result ≡ coord_asked c.args.ending c.args.t (parts_of session.told) = c.coord_call.ensures ∙ ap (coord_asked c.args.ending c.args.t) parts in
-    let step = coord_does c.args.coord (coord_asked c.args.ending c.args.t (parts_of session.told)) (s.coord c.args.coord) in
+    let asks : c.coord_call.result ≡ coord_call c.args.ending c.args.t (parts_of session.told) = c.coord_call.ensures ∙ ap (coord_call c.args.ending c.args.t) parts in
+    let step = coord_does c.args.coord (coord_call c.args.ending c.args.t (parts_of session.told)) (s.coord c.args.coord) in
     let stood : RepresentsWorld g.E.Engine.takes g.E.Engine.stands_for c.coord_does.new.self (with_coord s c.args.coord step.state) = subst (λ (k : CoordCall). RepresentsWorld g.E.Engine.takes g.E.Engine.stands_for c.coord_does.new.self (with_coord s c.args.coord (coord_does c.args.coord k (s.coord c.args.coord)).state)) asks (c.in_ok-did.ensures.stands s r) in
     record { begun = begun_here g.E.Engine.takes g.E.Engine.stands_for c.coord_does.new.self (with_coord s c.args.coord step.state) stood c.args.t session here }
 
 pub returns-then-not-coord_up-clause-answered : goal.returns-then-not-coord_up-clause-answered
 returns-then-not-coord_up-clause-answered g c = λ s r session here.
     let k = c.args.coord in
-    let asked = coord_asked c.args.ending c.args.t (parts_of session.told) in
+    let asked = coord_call c.args.ending c.args.t (parts_of session.told) in
     let step = coord_does k asked (s.coord k) in
     let down = sym (c.coord_up.ensures s r) ∙ c.if-not-coord_up.true in
     refused_alone g.E.Engine.takes g.E.Engine.stands_for c.args.number (λ z. coord_answers z c.args.t session k (z.coord k).up (coord_does k asked (z.coord k))) s (answer.Down (node.Coord k)) c.args.self.now (g.H.Home.seen c.args.home.now) c.answers.result (ap (λ (b : Bool). coord_answers s c.args.t session k b step) (sym down)) r c.requires.held
@@ -76,15 +76,15 @@ returns-then-not-coord_up-clause-answered g c = λ s r session here.
 pub returns-in_err-parts-clause-answered : goal.returns-in_err-parts-clause-answered
 returns-in_err-parts-clause-answered g c = λ s r session here.
     let k = c.args.coord in
-    let asked = coord_asked c.args.ending c.args.t (parts_of session.told) in
+    let asked = coord_call c.args.ending c.args.t (parts_of session.told) in
     wanting g.E.Engine.takes g.E.Engine.stands_for c.args.number (λ z. coord_answers z c.args.t session k (z.coord k).up (coord_does k asked (z.coord k))) s c.args.self.now c.args.self.now (g.H.Home.seen c.args.home.now) c.from_residual.result r c.requires.held c.from_residual.ensures
 
 pub returns-in_err-did-clause-answered : goal.returns-in_err-did-clause-answered
 returns-in_err-did-clause-answered g c = λ s r session here.
     let parts : c.in_ok-parts.parts ≡ parts_of session.told = c.in_ok-parts.ensures ∙ ap (λ (table : Table Session). parts_at (look table c.args.t)) r.sessions ∙ ap parts_at here in
-    let asks : c.coord_call.result ≡ coord_asked c.args.ending c.args.t (parts_of session.told) = c.coord_call.ensures ∙ ap (coord_asked c.args.ending c.args.t) parts in
+    let asks : c.coord_call.result ≡ coord_call c.args.ending c.args.t (parts_of session.told) = c.coord_call.ensures ∙ ap (coord_call c.args.ending c.args.t) parts in
     let k = c.args.coord in
-    let asked = coord_asked c.args.ending c.args.t (parts_of session.told) in
+    let asked = coord_call c.args.ending c.args.t (parts_of session.told) in
     let step = coord_does k asked (s.coord k) in
     let whole = coord_does k asked (coord_disarmed (s.coord k)) in
     let up : (s.coord k).up ≡ true = sym (c.coord_up.ensures s r) ∙ c.if-not-coord_up.false in
@@ -103,9 +103,9 @@ returns-in_err-did-clause-answered g c = λ s r session here.
 pub returns-clause-answered : goal.returns-clause-answered
 returns-clause-answered g c = λ s r session here.
     let parts : c.in_ok-parts.parts ≡ parts_of session.told = c.in_ok-parts.ensures ∙ ap (λ (table : Table Session). parts_at (look table c.args.t)) r.sessions ∙ ap parts_at here in
-    let asks : c.coord_call.result ≡ coord_asked c.args.ending c.args.t (parts_of session.told) = c.coord_call.ensures ∙ ap (coord_asked c.args.ending c.args.t) parts in
+    let asks : c.coord_call.result ≡ coord_call c.args.ending c.args.t (parts_of session.told) = c.coord_call.ensures ∙ ap (coord_call c.args.ending c.args.t) parts in
     let k = c.args.coord in
-    let asked = coord_asked c.args.ending c.args.t (parts_of session.told) in
+    let asked = coord_call c.args.ending c.args.t (parts_of session.told) in
     let step = coord_does k asked (s.coord k) in
     let up : (s.coord k).up ≡ true = sym (c.coord_up.ensures s r) ∙ c.if-not-coord_up.false in
     let new = g.H.Home.seen c.coord_does.new.home in

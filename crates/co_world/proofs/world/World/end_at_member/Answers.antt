@@ -10,7 +10,7 @@ use Rattle.co_plain.specs.Step.{is_held, marked_asked, local_answers, disarmed}
 use Rattle.co_plain.specs.declared.session.Session.{Session}
 use Rattle.co_session.specs.Clients.{carried_of}
 use Rattle.co_state.specs.Table.{Table, look}
-use Rattle.co_world.specs.Calls.{member_asked}
+use Rattle.co_world.specs.Calls.{member_call}
 use Rattle.co_cluster.specs.Calls.{member_does, MemberMay}
 use Rattle.co_world.specs.Standing.{RepresentsWorld}
 use Rattle.co_world.proofs.Acting.{begun_here, may_end, own_member}
@@ -50,15 +50,15 @@ mark_asked-requires g c =
     let ready = c.requires.stands.3 in
     let here = c.requires.stands.4 in
     let carried : c.carried-carried.result ≡ count_at session.told c.args.member = c.carried-carried.ensures ∙ ap (λ (table : Table Session). carried_of (look table c.args.t) c.args.member) r.sessions ∙ ap (λ (o : Option Session). carried_of o c.args.member) here in
-    let asks : c.member_call.result ≡ member_asked c.args.ending c.args.t (count_at session.told c.args.member) = c.member_call.ensures ∙ ap (member_asked c.args.ending c.args.t) carried in
-    let step = member_does c.args.member (member_asked c.args.ending c.args.t (count_at session.told c.args.member)) (s.member c.args.member) in
+    let asks : c.member_call.result ≡ member_call c.args.ending c.args.t (count_at session.told c.args.member) = c.member_call.ensures ∙ ap (member_call c.args.ending c.args.t) carried in
+    let step = member_does c.args.member (member_call c.args.ending c.args.t (count_at session.told c.args.member)) (s.member c.args.member) in
     let stood : RepresentsWorld g.E.Engine.takes g.E.Engine.stands_for c.member_does.new.self (with_member s c.args.member step.state) = subst (λ (k : MemberCall). RepresentsWorld g.E.Engine.takes g.E.Engine.stands_for c.member_does.new.self (with_member s c.args.member (member_does c.args.member k (s.member c.args.member)).state)) asks (c.in_ok-did.ensures.stands s r) in
     record { begun = begun_here g.E.Engine.takes g.E.Engine.stands_for c.member_does.new.self (with_member s c.args.member step.state) stood c.args.t session here }
 
 pub returns-then-not-member_up-clause-answered : goal.returns-then-not-member_up-clause-answered
 returns-then-not-member_up-clause-answered g c = λ s r session here.
     let k = c.args.member in
-    let asked = member_asked c.args.ending c.args.t (count_at session.told k) in
+    let asked = member_call c.args.ending c.args.t (count_at session.told k) in
     let step = member_does k asked (s.member k) in
     let down = sym (c.member_up.ensures s r) ∙ c.if-not-member_up.true in
     refused_alone g.E.Engine.takes g.E.Engine.stands_for c.args.number (λ z. local_answers z c.args.t session k (z.member k).up (member_does k asked (z.member k))) s (answer.Down (node.Member k)) c.args.self.now (g.H.Home.seen c.args.home.now) c.answers.result (ap (λ (b : Bool). local_answers s c.args.t session k b step) (sym down)) r c.requires.held
@@ -67,9 +67,9 @@ returns-then-not-member_up-clause-answered g c = λ s r session here.
 pub returns-in_err-did-clause-answered : goal.returns-in_err-did-clause-answered
 returns-in_err-did-clause-answered g c = λ s r session here.
     let carried : c.carried-carried.result ≡ count_at session.told c.args.member = c.carried-carried.ensures ∙ ap (λ (table : Table Session). carried_of (look table c.args.t) c.args.member) r.sessions ∙ ap (λ (o : Option Session). carried_of o c.args.member) here in
-    let asks : c.member_call.result ≡ member_asked c.args.ending c.args.t (count_at session.told c.args.member) = c.member_call.ensures ∙ ap (member_asked c.args.ending c.args.t) carried in
+    let asks : c.member_call.result ≡ member_call c.args.ending c.args.t (count_at session.told c.args.member) = c.member_call.ensures ∙ ap (member_call c.args.ending c.args.t) carried in
     let k = c.args.member in
-    let asked = member_asked c.args.ending c.args.t (count_at session.told k) in
+    let asked = member_call c.args.ending c.args.t (count_at session.told k) in
     let step = member_does k asked (s.member k) in
     let whole = member_does k asked (member_disarmed (s.member k)) in
     let up : (s.member k).up ≡ true = sym (c.member_up.ensures s r) ∙ c.if-not-member_up.false in
@@ -88,9 +88,9 @@ returns-in_err-did-clause-answered g c = λ s r session here.
 pub returns-clause-answered : goal.returns-clause-answered
 returns-clause-answered g c = λ s r session here.
     let carried : c.carried-carried.result ≡ count_at session.told c.args.member = c.carried-carried.ensures ∙ ap (λ (table : Table Session). carried_of (look table c.args.t) c.args.member) r.sessions ∙ ap (λ (o : Option Session). carried_of o c.args.member) here in
-    let asks : c.member_call.result ≡ member_asked c.args.ending c.args.t (count_at session.told c.args.member) = c.member_call.ensures ∙ ap (member_asked c.args.ending c.args.t) carried in
+    let asks : c.member_call.result ≡ member_call c.args.ending c.args.t (count_at session.told c.args.member) = c.member_call.ensures ∙ ap (member_call c.args.ending c.args.t) carried in
     let k = c.args.member in
-    let asked = member_asked c.args.ending c.args.t (count_at session.told k) in
+    let asked = member_call c.args.ending c.args.t (count_at session.told k) in
     let step = member_does k asked (s.member k) in
     let up : (s.member k).up ≡ true = sym (c.member_up.ensures s r) ∙ c.if-not-member_up.false in
     let new = g.H.Home.seen c.member_does.new.home in
