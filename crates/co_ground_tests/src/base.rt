@@ -217,7 +217,6 @@ fn nodes_have_their_bytes(rt: HostRuntime) {
     node_is(&rt, 0x81, "coord", 1);
     node_is(&rt, 0x83, "coord", 3);
     node_is(&rt, 0x88, "coord", 8);
-    holds(&rt, Node::Member(16) < Node::Coord(1));
 }
 
 #[test]
