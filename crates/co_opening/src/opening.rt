@@ -70,12 +70,14 @@ fn make_nodes<E: Engine + Drop, H: Home>(
     })
 }
 
-/// Opens the logs of all nodes of a federation in the directory that was entered: over fresh logs, or, where it is resumed, over those that a run left.
+/// Opens the logs of all nodes of a federation in the directory that was entered: over fresh logs, or, where it is resumed, over those that a run
+/// left.
 ///
-/// The logs of all nodes are read, members before coordinators; then their records are told, in the same order; then their versions and the
-/// numbers in them are looked at; then the fresh ones are made. `InUse` comes exactly where a file has more than one byte and the run is not resumed. Where it is resumed, `Bad` and `Full` come as
-/// `read_durable` says, `Old` where all records are allowed and a current file is of version 1, and then `Count` where more than 65,536 numbers stand in the logs; with these
-/// nothing is written. `Device` comes where the directory failed, and only there. `Differs` never comes.
+/// The logs of all nodes are read, members before coordinators; then their records are told, in the same order; then their versions and the numbers
+/// in them are looked at; then the fresh ones are made. `InUse` comes exactly where a file has more than one byte and the run is not resumed. Where
+/// it is resumed, `Bad` and `Full` come as `read_durable` says, `Old` where all records are allowed and a current file is of version 1, and then
+/// `Count` where more than 65,536 numbers stand in the logs; with these nothing is written. `Device` comes where the directory failed, and only
+/// there. `Differs` never comes.
 pub fn open_nodes<E: Engine + Drop, H: Home>(
     alloc: Global,
     home: &mut H,

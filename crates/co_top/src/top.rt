@@ -24,36 +24,37 @@ use co_any::AnyEngine;
 use co_outside::{Home, Sink, Source, put_all};
 use std::alloc::Global;
 
-/// Runs a command: its words, without the name of the program, the source of a schedule or a transcript, the sink of what the command writes, the sink
-/// of notes and the directory of logs.
+/// Runs a command: its words, without the name of the program, the source of a schedule or a transcript, the sink of what the command writes, the
+/// sink of notes and the directory of logs.
 ///
-/// `run DIR` replays the schedule of the source over fresh logs in the directory, `run --resume DIR` and `run DIR --resume` over logs that a run
-/// left there, and writes the transcript. Over a source, a sink and a directory that tell what they have, `run` says of every status what was done
-/// and told then: each line in its turn, up to the end or to the line that ended the run; and of what was done, that committed
-/// transactions read what they read when run whole, one by one, in the order of their decisions (commitment ordering: Raz, VLDB 1992), that each
-/// acknowledged one is decided, and once, that no two members decide one differently, and that the logs alone give the records of that serial run.
-/// `Schedule` comes at the first line outside the grammar, `Limit` at a long line, at line 262,145, at 65,536 transactions and where a log would be
-/// too long; `InUse`, `BadLog` and `OldLog` where the logs cannot be opened, and exactly there, over files that are told and unless the source or the directory failed or there was no memory; `Read`, `Write` and `Device` only where the source, the sink or the
-/// directory failed. Where the head or the logs are refused, no file is changed. After a fault within an event the files have what the lines before it left, or
-/// with them what it leaves.
+/// `run DIR` replays the schedule of the source over fresh logs in the directory, `run --resume DIR` and `run DIR --resume` over logs that a run left
+/// there, and writes the transcript. Over a source, a sink and a directory that tell what they have, `run` says of every status what was done and
+/// told then: each line in its turn, up to the end or to the line that ended the run; and of what was done, that committed transactions read what
+/// they read when run whole, one by one, in the order of their decisions (commitment ordering: Raz, VLDB 1992), that each acknowledged one is
+/// decided, and once, that no two members decide one differently, and that the logs alone give the records of that serial run. `Schedule` comes at
+/// the first line outside the grammar, `Limit` at a long line, at line 262,145, at 65,536 transactions and where a log would be too long; `InUse`,
+/// `BadLog` and `OldLog` where the logs cannot be opened, and exactly there, over files that are told and unless the source or the directory failed
+/// or there was no memory; `Read`, `Write` and `Device` only where the source, the sink or the directory failed. Where the head or the logs are
+/// refused, no file is changed. After a fault within an event the files have what the lines before it left, or with them what it leaves.
 ///
 /// `records DIR` enters the directory, and makes it where it is missing, and writes the durable records that the logs of 16 members and 8
 /// coordinators alone give: a line `NODE KEY VALUE` for each, members ascending and the keys of each member ascending. It reads no schedule and
 /// writes no file. `Device` comes only where the home failed, `Limit` where a file is too long and `BadLog` where the files of a node are no
 /// log, or a record stands where it may not, each at the first such file; `Write` only where the sink of the records failed.
 ///
-/// `check` reads a transcript from the source, and trusts nothing that wrote it. Where its lines are items, and well shaped, as those of a run over fresh logs are, it
-/// judges the committed transactions: each has to have been answered, before its decision, as when run whole behind the earlier decisions. Where all were, it
-/// writes `serial N` and then the records of that serial run, N the number of decisions; else `not serial T LINE`, and `NotSerial` tells the first transaction in the order of decisions that was
-/// not, and the number of the event of its first such operation. `Transcript` comes at the first line that is no item or breaks the shape, and at the line past the end where the
-/// last event has no reply; `Limit` at a line of more than 16,777,216 bytes and behind as many lines; `Read` and `Write` only where the source or the sink failed. The
-/// directory is not touched.
+/// `check` reads a transcript from the source, and trusts nothing that wrote it. Where its lines are items, and well shaped, as those of a run over
+/// fresh logs are, it judges the committed transactions: each has to have been answered, before its decision, as when run whole behind the earlier
+/// decisions. Where all were, it writes `serial N` and then the records of that serial run, N the number of decisions; else `not serial T LINE`, and
+/// `NotSerial` tells the first transaction in the order of decisions that was not, and the number of the event of its first such operation.
+/// `Transcript` comes at the first line that is no item or breaks the shape, and at the line past the end where the last event has no reply; `Limit`
+/// at a line of more than 16,777,216 bytes and behind as many lines; `Read` and `Write` only where the source or the sink failed. The directory is
+/// not touched.
 ///
-/// `trial NUMBER EVENTS` makes a federation of a member of each kind and two coordinators, and a schedule of so many events from the number, runs it over a directory in
-/// memory, settles what is open then, and writes one line of JSON: how many transactions were begun and committed, the SHA-256 of the transcript, whether the durable records
-/// are those of the serial run (they are), the two numbers, how many transactions are open (none), and how many events settling took. NUMBER is 0 to
-/// 18,446,744,073,709,551,615 and EVENTS 1 to 60,000, in decimal digits. It reads nothing, and the directory is not touched; `Limit` comes where a log would be too long, `Write` only where the
-/// sink failed.
+/// `trial NUMBER EVENTS` makes a federation of a member of each kind and two coordinators, and a schedule of so many events from the number, runs it
+/// over a directory in memory, settles what is open then, and writes one line of JSON: how many transactions were begun and committed, the SHA-256 of
+/// the transcript, whether the durable records are those of the serial run (they are), the two numbers, how many transactions are open (none), and
+/// how many events settling took. NUMBER is 0 to 18,446,744,073,709,551,615 and EVENTS 1 to 60,000, in decimal digits. It reads nothing, and the
+/// directory is not touched; `Limit` comes where a log would be too long, `Write` only where the sink failed.
 ///
 /// Every other list of words is `Usage`, and changes nothing but the sink of notes.
 pub fn run<S: Source, K: Sink, N: Sink, H: Home>(

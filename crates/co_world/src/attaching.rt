@@ -21,12 +21,13 @@ use co_session::Sessions;
 use std::alloc::Global;
 
 impl<E: Engine + Drop> World<E> {
-    /// Opens the federation of a head over the logs in the directory that was entered: over fresh ones, or, where it is resumed, over those that a run left. Gives the
-    /// headers that were made, and the answer `open`, as items of the first line.
+    /// Opens the federation of a head over the logs in the directory that was entered: over fresh ones, or, where it is resumed, over those that a
+    /// run left. Gives the headers that were made, and the answer `open`, as items of the first line.
     ///
-    /// `InUse` comes exactly where a file has more than one byte and the run is not resumed. Where it is resumed, `Bad` and `Full` come as `read_durable`
-    /// says, `Old` where a current file is of version 1, and `Count` where more than 65,536 numbers stand in the logs; with these nothing is
-    /// written. Over a directory that tells its files each comes where its cause is, unless `Device` or `Memory` does. `Device` comes where the directory failed, and only there. `Differs` never comes.
+    /// `InUse` comes exactly where a file has more than one byte and the run is not resumed. Where it is resumed, `Bad` and `Full` come as
+    /// `read_durable` says, `Old` where a current file is of version 1, and `Count` where more than 65,536 numbers stand in the logs; with these
+    /// nothing is written. Over a directory that tells its files each comes where its cause is, unless `Device` or `Memory` does. `Device` comes
+    /// where the directory failed, and only there. `Differs` never comes.
     pub fn attach<H: Home>(
         alloc: Global,
         home: &mut H,

@@ -247,9 +247,9 @@ impl<E: Engine + Drop> World<E> {
     /// Does the event of the line of this number, whose nodes are in the head, and whose device call, where it arms a stop, is 1 to 4.
     ///
     /// The items are what became stable, what was sent and exactly one answer; the event's own item is not among them. `Count` comes exactly where a
-    /// transaction is begun whose number is neither begun nor used, and 65,536 are; `Device`, `Differs`, `Full` and `Memory` as the node says. `InUse`, `Bad` and `Old`
-    /// never come. A fault leaves in the files the stable records of before the event, or those that the event leaves, or those that it leaves
-    /// where no stop is armed.
+    /// transaction is begun whose number is neither begun nor used, and 65,536 are; `Device`, `Differs`, `Full` and `Memory` as the node says.
+    /// `InUse`, `Bad` and `Old` never come. A fault leaves in the files the stable records of before the event, or those that the event leaves, or
+    /// those that it leaves where no stop is armed.
     pub fn step<H: Home>(
         &mut self,
         home: &mut H,
