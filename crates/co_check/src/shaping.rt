@@ -29,7 +29,8 @@ fn with_header(seen: Sequence<Node>, mark: Mark) -> Result<Sequence<Node>, Alloc
     ensures { IfOk result (λ after. after ≡ with_header seen mark) }
 {
     let mut seen = seen;
-    if mark.kind == MarkKind::Header && mark.number == 1 && !has_node(seen.as_slice(), mark.node) {
+    let is_first = matches!(mark.kind, MarkKind::Header) && mark.number == 1;
+    if is_first && !has_node(seen.as_slice(), mark.node) {
         seen.push(mark.node)?;
     }
     Ok(seen)

@@ -181,6 +181,60 @@ pub fn append_message(out: &mut Vec<u8>, message: &Message) -> Result<(), AllocE
     }
 }
 
+fn append_with_word(
+    out: &mut Vec<u8>,
+    form: &[u8],
+    txn: Txn,
+    member: u8,
+    word: &[u8],
+) -> Result<(), AllocError>
+    ensures ok { OnOk result (out.new.items ≡ out.old.items ++ spaced (form.now ∷ decimal txn ∷ member_word member ∷ word.now ∷ [])) }
+    ensures err { OnErr result (Begins out.old.items out.new.items) }
+{
+    append_at_member(out, form, txn, member)?;
+    append_word(out, word)
+}
+
+fn append_with_words(
+    out: &mut Vec<u8>,
+    form: &[u8],
+    txn: Txn,
+    member: u8,
+    first: &[u8],
+    second: &[u8],
+) -> Result<(), AllocError>
+    ensures ok { OnOk result (out.new.items ≡ out.old.items ++ spaced (form.now ∷ decimal txn ∷ member_word member ∷ first.now ∷ second.now ∷ [])) }
+    ensures err { OnErr result (Begins out.old.items out.new.items) }
+{
+    append_with_word(out, form, txn, member, first)?;
+    append_word(out, second)
+}
+
+fn append_delivery(out: &mut Vec<u8>, message: &Message) -> Result<(), AllocError>
+    ensures ok { OnOk result (out.new.items ≡ out.old.items ++ spaced (codes "deliver" ∷ message_words message.now)) }
+    ensures err { OnErr result (Begins out.old.items out.new.items) }
+{
+    out.extend_from_slice(b"deliver")?;
+    append_message(out, message)
+}
+
+fn append_timer(out: &mut Vec<u8>, txn: Txn, at: Node) -> Result<(), AllocError>
+    ensures ok { OnOk result (out.new.items ≡ out.old.items ++ spaced (codes "timer" ∷ decimal txn ∷ node_word at ∷ [])) }
+    ensures err { OnErr result (Begins out.old.items out.new.items) }
+{
+    append_of_txn(out, b"timer", txn)?;
+    append_node(out, at)
+}
+
+fn append_arm(out: &mut Vec<u8>, node: Node, call: u8, leaves: &Leaves) -> Result<(), AllocError>
+    ensures ok { OnOk result (out.new.items ≡ out.old.items ++ spaced (codes "arm" ∷ node_word node ∷ decimal call ∷ leaves_word leaves.now ∷ [])) }
+    ensures err { OnErr result (Begins out.old.items out.new.items) }
+{
+    append_of_node(out, b"arm", node)?;
+    append_number(out, u64::from(call))?;
+    append_leaves(out, leaves)
+}
+
 /// Appends the line of the event, however long it is. After want of memory the list begins with what it held.
 pub fn append_event(out: &mut Vec<u8>, event: &Event) -> Result<(), AllocError>
     ensures ok { OnOk result (out.new.items ≡ out.old.items ++ line_text event.now) }
@@ -190,48 +244,31 @@ pub fn append_event(out: &mut Vec<u8>, event: &Event) -> Result<(), AllocError>
         Event::Begin { txn, coord } => append_at_coord(out, b"begin", *txn, *coord),
         Event::Local { txn, member } => append_at_member(out, b"local", *txn, *member),
         Event::Read { txn, member, key } => {
-            append_at_member(out, b"read", *txn, *member)?;
-            append_word(out, key.text())
+            append_with_word(out, b"read", *txn, *member, key.text())
         }
         Event::Write {
             txn,
             member,
             key,
             value,
-        } => {
-            append_at_member(out, b"write", *txn, *member)?;
-            append_word(out, key.text())?;
-            append_word(out, value.text())
-        }
+        } => append_with_words(out, b"write", *txn, *member, key.text(), value.text()),
         Event::Erase { txn, member, key } => {
-            append_at_member(out, b"erase", *txn, *member)?;
-            append_word(out, key.text())
+            append_with_word(out, b"erase", *txn, *member, key.text())
         }
         Event::Scan { txn, member, range } => {
-            append_at_member(out, b"scan", *txn, *member)?;
-            append_word(out, range.lo().text())?;
-            append_word(out, range.hi().text())
+            let (low, high) = (range.lo().text(), range.hi().text());
+            append_with_words(out, b"scan", *txn, *member, low, high)
         }
         Event::Commit { txn } => append_of_txn(out, b"commit", *txn),
         Event::Abort { txn } => append_of_txn(out, b"abort", *txn),
-        Event::Deliver(message) => {
-            out.extend_from_slice(b"deliver")?;
-            append_message(out, message)
-        }
+        Event::Deliver(message) => append_delivery(out, message),
         Event::Vote { txn, member } => append_at_member(out, b"vote", *txn, *member),
-        Event::Timer { txn, node } => {
-            append_of_txn(out, b"timer", *txn)?;
-            append_node(out, *node)
-        }
+        Event::Timer { txn, node } => append_timer(out, *txn, *node),
         Event::Ask { txn, member } => append_at_member(out, b"ask", *txn, *member),
         Event::Resend { txn, coord } => append_at_coord(out, b"resend", *txn, *coord),
         Event::Crash(node) => append_of_node(out, b"crash", *node),
         Event::Restart(node) => append_of_node(out, b"restart", *node),
-        Event::Arm { node, call, leaves } => {
-            append_of_node(out, b"arm", *node)?;
-            append_number(out, u64::from(*call))?;
-            append_leaves(out, leaves)
-        }
+        Event::Arm { node, call, leaves } => append_arm(out, *node, *call, leaves),
         Event::Checkpoint(node) => append_of_node(out, b"checkpoint", *node),
     }
 }
