@@ -7,13 +7,11 @@
 #![tactic(auto)]
 
 mod locks;
-mod many_keys;
-mod many_ranges;
+mod many;
 mod rows;
 mod stores;
 
-use crate::many_keys::put_many_keys;
-use crate::many_ranges::{put_in_one_another, put_side_by_side};
+use crate::many::put_many;
 use crate::rows::cut;
 use co_base::BaseFault;
 use co_locktab::LockTable;
@@ -41,17 +39,6 @@ fn fresh(alloc: Global) -> Result<Trial, BaseFault> {
     })
 }
 
-/// Appends what many transactions show.
-fn put_many(alloc: Global, what: &[u8], out: &mut Vec<u8>) -> Result<(), BaseFault> {
-    if what == b"keys".as_slice() {
-        return put_many_keys(alloc, out);
-    }
-    if what == b"ranges side by side".as_slice() {
-        return put_side_by_side(alloc, out);
-    }
-    put_in_one_another(alloc, out)
-}
-
 /// Appends what a row tells.
 fn put_told(
     alloc: Global,
@@ -72,18 +59,6 @@ fn put_told(
     Ok(())
 }
 
-/// Appends a row, and what it tells where it tells something.
-fn put_row(
-    alloc: Global,
-    trial: &mut Trial,
-    row: &[u8],
-    out: &mut Vec<u8>,
-) -> Result<(), BaseFault> {
-    let mut told = Vec::new(alloc);
-    put_told(alloc, trial, row, &mut told)?;
-    Ok(put_line(row, &told, out)?)
-}
-
 /// Appends a row, and what it told.
 fn put_line(row: &[u8], told: &[u8], out: &mut Vec<u8>) -> Result<(), AllocError> {
     out.extend_from_slice(row)?;
@@ -94,44 +69,41 @@ fn put_line(row: &[u8], told: &[u8], out: &mut Vec<u8>) -> Result<(), AllocError
     out.extend_from_slice(b"\n")
 }
 
-/// Appends the rows of a block, its title first, and what each comes to.
+/// Appends a row, and what it tells where it tells something. At a title the trial begins anew.
+fn put_row(
+    alloc: Global,
+    trial: &mut Trial,
+    row: &[u8],
+    out: &mut Vec<u8>,
+) -> Result<(), BaseFault> {
+    if row.starts_with(b"#") {
+        *trial = fresh(alloc)?;
+    }
+    let mut told = Vec::new(alloc);
+    put_told(alloc, trial, row, &mut told)?;
+    Ok(put_line(row, &told, out)?)
+}
+
+/// Appends the rows of a text, and what each comes to.
 fn put_rows(
     alloc: Global,
     trial: &mut Trial,
-    rows: &[&[u8]],
+    text: &[u8],
     out: &mut Vec<u8>,
 ) -> Result<(), BaseFault> {
-    for row in rows {
-        put_row(alloc, trial, row, out)?;
+    for row in text.split(|b| *b == b'\n') {
+        if !row.is_empty() {
+            put_row(alloc, trial, row, out)?;
+        }
     }
     Ok(())
 }
 
-/// The same on a trial of its own.
-fn put_block(alloc: Global, rows: &[&[u8]], out: &mut Vec<u8>) -> Result<(), BaseFault> {
-    let mut trial = fresh(alloc)?;
-    put_rows(alloc, &mut trial, rows, out)
-}
-
-/// Appends the blocks of a text, and what their rows come to.
-fn put_blocks(alloc: Global, text: &[u8], out: &mut Vec<u8>) -> Result<(), BaseFault> {
-    let mut block = Vec::new(alloc);
-    for row in text.split(|b| *b == b'\n') {
-        if row.starts_with(b"#") {
-            put_block(alloc, &block, out)?;
-            block.clear();
-        }
-        if !row.is_empty() {
-            block.extend_from_slice(&[row])?;
-        }
-    }
-    put_block(alloc, &block, out)
-}
-
 /// What the rows of a text come to.
 fn played(alloc: Global, text: &[u8]) -> Result<Vec<u8>, BaseFault> {
+    let mut trial = fresh(alloc)?;
     let mut out = Vec::new(alloc);
-    put_blocks(alloc, text, &mut out)?;
+    put_rows(alloc, &mut trial, text, &mut out)?;
     Ok(out)
 }
 

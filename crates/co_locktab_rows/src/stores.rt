@@ -1,6 +1,6 @@
 //! Calls of a store of which the key `a` holds `0` at first.
 use crate::rows::{cut, number_of};
-use co_base::{BaseFault, Key, Range, Row, Rows, Txn, Value};
+use co_base::{BaseFault, Key, Range, Row, Rows, Txn, Value, Written};
 use co_serial::RecordMap;
 use co_store::{Dump, Store};
 use std::alloc::{AllocError, Global};
@@ -35,23 +35,37 @@ fn erase(alloc: Global, store: &mut Store, t: u32) -> Result<(), BaseFault> {
     Ok(store.put(Txn(t), key, None)?)
 }
 
+/// The text of a value, or that there is none.
+fn text_of(value: Option<&Value>) -> &[u8] {
+    match value {
+        Some(value) => value.text(),
+        None => b"missing",
+    }
+}
+
 /// Appends the value at the key, or that there is none.
 fn put_value(alloc: Global, store: &Store, into: &mut Vec<u8>) -> Result<(), BaseFault> {
     let key = Key::new(alloc, b"a")?;
-    match store.get(&key) {
-        Some(value) => Ok(into.extend_from_slice(value.text())?),
-        None => Ok(into.extend_from_slice(b"missing")?),
-    }
+    Ok(into.extend_from_slice(text_of(store.get(&key)))?)
+}
+
+/// Appends a space and a word.
+fn put_word(word: &[u8], into: &mut Vec<u8>) -> Result<(), AllocError> {
+    into.extend_from_slice(b" ")?;
+    into.extend_from_slice(word)
+}
+
+/// Appends the key and the value of a record.
+fn put_record(row: &Row, into: &mut Vec<u8>) -> Result<(), AllocError> {
+    put_word(row.key.text(), into)?;
+    put_word(row.value.text(), into)
 }
 
 /// Appends records: the key and the value of each.
 fn put_rows(rows: &[Row], into: &mut Vec<u8>) -> Result<(), AllocError> {
     into.extend_from_slice(b"rows")?;
     for row in rows {
-        into.extend_from_slice(b" ")?;
-        into.extend_from_slice(row.key.text())?;
-        into.extend_from_slice(b" ")?;
-        into.extend_from_slice(row.value.text())?;
+        put_record(row, into)?;
     }
     Ok(())
 }
@@ -69,14 +83,19 @@ fn put_range(alloc: Global, store: &Store, into: &mut Vec<u8>) -> Result<(), Bas
     Ok(put_rows(rows.as_slice(), into)?)
 }
 
+/// How many changes lead back, in words.
+fn count_of_undos(undos: &[Written]) -> &'static [u8] {
+    match undos {
+        [] => b", no undo",
+        [_] => b", one undo",
+        _ => b", undos",
+    }
+}
+
 /// Appends records as they are, and how many changes lead back.
 fn put_dumped(dump: &Dump, into: &mut Vec<u8>) -> Result<(), AllocError> {
     put_rows(dump.rows.as_slice(), into)?;
-    match dump.undos.len() {
-        0 => into.extend_from_slice(b", no undo"),
-        1 => into.extend_from_slice(b", one undo"),
-        _ => into.extend_from_slice(b", undos"),
-    }
+    into.extend_from_slice(count_of_undos(dump.undos.as_slice()))
 }
 
 /// Appends the records as they are, and how many changes lead back.
