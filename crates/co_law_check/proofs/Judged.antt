@@ -17,7 +17,8 @@ use Rattle.co_replay.specs.Schedule.{HasLine}
 use Rattle.co_replay.specs.Transcript.{items_text, run_items}
 use Rattle.co_check.proofs.Fronts.{judged_at_end}
 use Rattle.co_check.proofs.Splits.{serial_or_not}
-use Rattle.co_check.specs.Checked.{IsCheck, IsJudgedAs, longest}
+use Rattle.co_check.specs.Checked.{IsCheck, IsJudgedAs}
+use Rattle.co_schedule.specs.Limits.{most_of_text}
 use Rattle.co_check.specs.Once.{IsOfText}
 use Rattle.co_check.specs.declared.fault.CheckFault.{CheckFault}
 use Rattle.co_check.specs.declared.verdict.Verdict.{Verdict}
@@ -37,7 +38,7 @@ found items s z t answer (verdict.Differs txn line told serial) is j = absurd (s
 
 -- items that a checker reads are judged as the run that they tell of
 judged_serial : (head : Head) (fm fc : ℕ → Found) (events : List Event) (answer : Result Verdict CheckFault) → ((m : ℕ) → (fm m).records ≡ []) → ((c : ℕ) → (fc c).records ≡ []) → AllByRecursion (HasLine head) events →
-    AllByRecursion IsShortItem (run_items head fm fc events) → length (run_items head fm fc events) ≤ longest → IsCheck (items_text (run_items head fm fc events)) answer → IsOfText answer →
+    AllByRecursion IsShortItem (run_items head fm fc events) → length (run_items head fm fc events) ≤ most_of_text → IsCheck (items_text (run_items head fm fc events)) answer → IsOfText answer →
     IsFoundSerial answer (opened head.kinds head.coords fm fc) (run (lines events) (opened head.kinds head.coords fm fc))
 judged_serial head fm fc events answer fresh_members fresh_coords valid each few check own =
     let items = run_items head fm fc events in
@@ -64,9 +65,9 @@ events_fewer (e ∷ es) n s =
     let a = length-append (numbered n (item.Event e ∷ z.items)) (transcript (suc n) es z.state) in
     let rest = events_fewer es (suc n) z.state in omega (arith, a, rest)
 
-short_items : (items : List Item) → AllByRecursion IsItem items → AllByRecursion (HasShortScan longest) items → AllByRecursion IsShortItem items
+short_items : (items : List Item) → AllByRecursion IsItem items → AllByRecursion (HasShortScan most_of_text) items → AllByRecursion IsShortItem items
 short_items [] each short = tt
-short_items (i ∷ is) each short = ((each.0, short_item longest i (omega arith) each.0 short.0), short_items is each.1 short.1)
+short_items (i ∷ is) each short = ((each.0, short_item most_of_text i (omega arith) each.0 short.0), short_items is each.1 short.1)
 
 module _ (head : Head) (fm fc : ℕ → Found) (events : List Event) (answer : Result Verdict CheckFault) (fresh_members : (m : ℕ) → (fm m).records ≡ []) (fresh_coords : (c : ℕ) → (fc c).records ≡ []) (valid : AllByRecursion (HasLine head) events) where
   abbrev items : List Item
@@ -75,7 +76,7 @@ module _ (head : Head) (fm fc : ℕ → Found) (events : List Event) (answer : R
   abbrev s0 : Federation
   s0 = opened head.kinds head.coords fm fc
 
-  pub found_serial : AllByRecursion (HasShortScan longest) items → length items ≤ longest → IsCheck (items_text items) answer → IsOfText answer → IsFoundSerial answer s0 (run (lines events) s0)
+  pub found_serial : AllByRecursion (HasShortScan most_of_text) items → length items ≤ most_of_text → IsCheck (items_text items) answer → IsOfText answer → IsFoundSerial answer s0 (run (lines events) s0)
   found_serial short few check own =
       let first = numbered 1 (item.Head head ∷ opening_items head.kinds head.coords fm fc) in
       let a = length-append first (transcript 2 events s0) in
@@ -83,10 +84,10 @@ module _ (head : Head) (fm fc : ℕ → Found) (events : List Event) (answer : R
       judged_serial head fm fc events answer fresh_members fresh_coords valid
       (short_items items (fresh_items head fm fc events fresh_members fresh_coords valid (omega (arith, a, b, few))) short) few check own
 
-  pub schedule_serial : length events ≤ most_events → AllByRecursion (HasShortScan longest) items → IsCheck (items_text items) answer → IsOfText answer → IsFoundSerial answer s0 (run (lines events) s0)
+  pub schedule_serial : length events ≤ most_events → AllByRecursion (HasShortScan most_of_text) items → IsCheck (items_text items) answer → IsOfText answer → IsFoundSerial answer s0 (run (lines events) s0)
   schedule_serial few short = found_serial short (let l = found_few head fm fc events (nothing_spelled fm fresh_members) (nothing_spelled fc fresh_coords) valid in omega (arith, l, few))
 
   pub few_serial : length events ≤ most_events → length (keys_written events) ≤ most_writes → IsCheck (items_text items) answer → IsOfText answer → IsFoundSerial answer s0 (run (lines events) s0)
   few_serial few writes =
       schedule_serial few
-      (wider_scans (32 + 4130 * length (keys_written events)) longest (omega (arith, writes)) items (fresh_scans head fm fc events fresh_members fresh_coords valid (omega (arith, few))))
+      (wider_scans (32 + 4130 * length (keys_written events)) most_of_text (omega (arith, writes)) items (fresh_scans head fm fc events fresh_members fresh_coords valid (omega (arith, few))))

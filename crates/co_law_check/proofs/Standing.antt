@@ -11,7 +11,8 @@ use Rattle.co_transcript.specs.Spelling.{item_words, item_text}
 use Rattle.co_transcript.proofs.ItemFits.{item_fits}
 use Rattle.co_replay.specs.Transcript.{items_text}
 use Rattle.co_check.proofs.Fronts.{IsFront}
-use Rattle.co_check.specs.Checked.{StandsBehind, AtStart, OneMore, longest}
+use Rattle.co_check.specs.Checked.{StandsBehind, AtStart, OneMore}
+use Rattle.co_schedule.specs.Limits.{most_of_text}
 use Rattle.co_law_check.specs.Told.{IsShortItem}
 use Rattle.co_law_check.proofs.Cutting.{newline_at, text_of_clean}
 use Rattle.co_law_check.proofs.Places.{items_clean}
@@ -19,15 +20,15 @@ use Rattle.co_law_check.proofs.Places.{items_clean}
 nothing_behind : (text : List ℕ) → drop (length text + 1) (text ++ newline ∷ []) ≡ []
 nothing_behind text = drop-append-add text (newline ∷ []) 1
 
-front : (lent : ℕ) (items : List Item) → AllByRecursion IsShortItem items → lent + length items ≤ longest → IsFront lent (items_text items) items []
+front : (lent : ℕ) (items : List Item) → AllByRecursion IsShortItem items → lent + length items ≤ most_of_text → IsFront lent (items_text items) items []
 front lent [] each few = refl
 front lent (it ∷ items) each few =
     let text = item_text it in
     let at = newline_at text (text_of_clean item_places (item_words it) items_clean (item_fits it each.0.0)) in
-    let room : lent < longest = omega (arith, few) in
-    let fits : length (text ++ newline ∷ []) ≤ longest + 1 = omega (arith, each.0.1, length-append text (newline ∷ [])) in (
+    let room : lent < most_of_text = omega (arith, few) in
+    let fits : length (text ++ newline ∷ []) ≤ most_of_text + 1 = omega (arith, each.0.1, length-append text (newline ∷ [])) in (
       each.0.0,
-      next_held longest longest lent (text ++ newline ∷ []) (items_text items) (length text) room fits at ∙ ap (λ t. Ok (Some t)) (take-append_seam text (newline ∷ [])),
+      next_held most_of_text most_of_text lent (text ++ newline ∷ []) (items_text items) (length text) room fits at ∙ ap (λ t. Ok (Some t)) (take-append_seam text (newline ∷ [])),
       subst (λ t. IsFront (suc lent) t items []) (ap (λ t. t ++ items_text items) (sym (nothing_behind text)) ∙ behind_line_held (text ++ newline ∷ []) (items_text items) (length text) at)
           (front (suc lent) items each.1 (omega (arith, few))),
     )
@@ -43,5 +44,5 @@ stands_on text done left (it ∷ items) rest s f =
     (stands_on text (done ++ it ∷ []) (behind_line left) items rest (OneMore text left done it s f.0 f.1)
     (subst (λ n. IsFront n (behind_line left) items rest) (let q : suc (length done) ≡ length (done ++ it ∷ []) = omega (arith, length-append done (it ∷ [])) in q) f.2))
 
-pub items_stand : (items : List Item) → AllByRecursion IsShortItem items → length items ≤ longest → StandsBehind (items_text items) items []
-items_stand items each few = stands_on (items_text items) [] (items_text items) items [] (AtStart (items_text items)) (front 0 items each (let q : 0 + length items ≤ longest = omega (arith, few) in q))
+pub items_stand : (items : List Item) → AllByRecursion IsShortItem items → length items ≤ most_of_text → StandsBehind (items_text items) items []
+items_stand items each few = stands_on (items_text items) [] (items_text items) items [] (AtStart (items_text items)) (front 0 items each (let q : 0 + length items ≤ most_of_text = omega (arith, few) in q))

@@ -13,7 +13,7 @@ use Rattle.co_plain.specs.declared.session.Session.{Session}
 use Rattle.co_plain.specs.declared.session.Told.{Told}
 use Rattle.co_transcript.specs.Items.{IsItem}
 use Rattle.co_transcript.specs.Spelling.{item_text}
-use Rattle.co_check.specs.Checked.{longest}
+use Rattle.co_schedule.specs.Limits.{most_of_text}
 use Rattle.co_check.specs.Account.{Account, Committed, client_of}
 use Rattle.co_check.specs.Runs.{sites, replies}
 use Rattle.co_check.specs.Serial.{IsSerial, serial_after}
@@ -68,7 +68,7 @@ pub record IsFoundSerial (answer : Result Verdict CheckFault) (s z : Federation)
 
 -- an item whose fields are in the sets of its kind, and whose line a checker may read
 abbrev pub IsShortItem : Item → Type 0
-IsShortItem it = IsItem it × (length (item_text it) ≤ longest)
+IsShortItem it = IsItem it × (length (item_text it) ≤ most_of_text)
 
 -- so many events have no more items than a checker reads lines
 abbrev pub most_events : ℕ

@@ -8,7 +8,8 @@ ghost use Rattle.co_plain.specs.Opening.{Found, opened};
 ghost use Rattle.co_plain.specs.Runs.{run, lines};
 ghost use Rattle.co_replay.specs.Schedule.{HasLine};
 ghost use Rattle.co_replay.specs.Transcript.{items_text, run_items};
-ghost use Rattle.co_check.specs.Checked.{IsCheck, StandsBehind, longest};
+ghost use Rattle.co_check.specs.Checked.{IsCheck, StandsBehind};
+ghost use Rattle.co_schedule.specs.Limits.{most_of_text};
 ghost use Rattle.co_check.specs.Once.{IsOfText};
 ghost use Rattle.co_check.specs.declared.fault.CheckFault.{CheckFault};
 ghost use Rattle.co_check.specs.declared.verdict.Verdict.{Verdict};
@@ -34,8 +35,8 @@ pub fn transcripts_are_found_serial()
         ((m : ℕ) → (found_member m).records ≡ []) →
         ((c : ℕ) → (found_coord c).records ≡ []) →
         AllByRecursion (HasLine head) events →
-        AllByRecursion (HasShortScan longest) (run_items head found_member found_coord events) →
-        length (run_items head found_member found_coord events) ≤ longest →
+        AllByRecursion (HasShortScan most_of_text) (run_items head found_member found_coord events) →
+        length (run_items head found_member found_coord events) ≤ most_of_text →
         IsCheck (items_text (run_items head found_member found_coord events)) answer →
         IsOfText answer →
         IsFoundSerial answer (opened head.kinds head.coords found_member found_coord) (run (lines events) (opened head.kinds head.coords found_member found_coord)) }
@@ -48,7 +49,7 @@ pub fn schedules_are_found_serial()
         ((m : ℕ) → (found_member m).records ≡ []) →
         ((c : ℕ) → (found_coord c).records ≡ []) →
         AllByRecursion (HasLine head) events → length events ≤ most_events →
-        AllByRecursion (HasShortScan longest) (run_items head found_member found_coord events) →
+        AllByRecursion (HasShortScan most_of_text) (run_items head found_member found_coord events) →
         IsCheck (items_text (run_items head found_member found_coord events)) answer →
         IsOfText answer →
         IsFoundSerial answer (opened head.kinds head.coords found_member found_coord) (run (lines events) (opened head.kinds head.coords found_member found_coord)) }
@@ -67,5 +68,5 @@ pub fn few_writes_are_found_serial()
 
 /// The text of items that have such lines is cut back into them: each stands on a line of its own, behind those before it.
 pub fn items_stand_in_their_text()
-    ensures { (items : List Item) → AllByRecursion IsShortItem items → length items ≤ longest → StandsBehind (items_text items) items [] }
+    ensures { (items : List Item) → AllByRecursion IsShortItem items → length items ≤ most_of_text → StandsBehind (items_text items) items [] }
 {}
