@@ -6,7 +6,7 @@ use Rattle.std.specs.String.{string_bytes}
 use Rattle.std.specs.declared.string.String.{String}
 use Rattle.co_schedule.proofs.Numbers.{both, is_number-true}
 use Rattle.co_schedule.specs.Places.{is_number}
-use Rattle.co_trial.specs.Trials.{IsTrial, most_events}
+use Rattle.co_trial.specs.Trials.{IsTrial, most_trial_events}
 use Rattle.co_trial.specs.declared.summary.Summary.{Summary}
 use Rattle.co_top.specs.Command.{is_word, is_trial, trial_events}
 use Rattle.co_top.specs.Replayed.{status_of}
@@ -66,14 +66,14 @@ write_of (Ok u) e = absurd (let z : status.Done ≡ status.Write = e in cc)
 write_of (Err why) e = let z : why ≡ status.Write = e in cc
 
 -- the number of events of a trial is within its bounds
-pub trial_within : {A : Type 0} (words : List (String A)) → is_trial words ≡ true → (1 ≤ trial_events words) × (trial_events words ≤ most_events)
+pub trial_within : {A : Type 0} (words : List (String A)) → is_trial words ≡ true → (1 ≤ trial_events words) × (trial_events words ≤ most_trial_events)
 trial_within [] e = absurd cc
 trial_within (word ∷ []) e = absurd cc
 trial_within (word ∷ number ∷ []) e = absurd cc
 trial_within (word ∷ number ∷ events ∷ []) e =
-    let a = both (is_word (codes "trial") word) (is_number 0 18446744073709551615 (string_bytes number) && is_number 1 most_events (string_bytes events)) e in
-    let b = both (is_number 0 18446744073709551615 (string_bytes number)) (is_number 1 most_events (string_bytes events)) a.1 in
-    let c = is_number-true 1 most_events (string_bytes events) b.1 in
+    let a = both (is_word (codes "trial") word) (is_number 0 18446744073709551615 (string_bytes number) && is_number 1 most_trial_events (string_bytes events)) e in
+    let b = both (is_number 0 18446744073709551615 (string_bytes number)) (is_number 1 most_trial_events (string_bytes events)) a.1 in
+    let c = is_number-true 1 most_trial_events (string_bytes events) b.1 in
     (c.0, c.1)
 trial_within (word ∷ number ∷ events ∷ other ∷ words) e = absurd cc
 

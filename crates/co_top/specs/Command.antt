@@ -5,7 +5,7 @@ use Rattle.std.specs.declared.string.String.{String}
 use Rattle.std.specs.Str.Parse.{digits_value}
 use Rattle.std.specs.String.{string_bytes}
 use Rattle.co_schedule.specs.Places.{is_number}
-use Rattle.co_trial.specs.Trials.{most_events}
+use Rattle.co_trial.specs.Trials.{most_trial_events}
 use Rattle.co_top.specs.declared.words.Command.{Command}
 use Rattle.co_top.specs.declared.words.Command.TheVariants.{Run, Records, Check, Trial, Unknown}
 
@@ -45,7 +45,7 @@ is_check _ = false
 -- `trial`, a number of 64 bits, and how many events
 abbrev pub is_trial : {A : Type 0} → List (String A) → Bool
 is_trial (word ∷ number ∷ events ∷ []) =
-    is_word (codes "trial") word && (is_number 0 18446744073709551615 (string_bytes number) && is_number 1 most_events (string_bytes events))
+    is_word (codes "trial") word && (is_number 0 18446744073709551615 (string_bytes number) && is_number 1 most_trial_events (string_bytes events))
 is_trial _ = false
 
 -- what its digits are worth
@@ -84,7 +84,7 @@ IsCommand words Unknown = IsOne words false false false false
 
 -- these two words are the number and the events of a trial, or not
 abbrev pub IsTrialOf : {A : Type 0} → String A → String A → Option Command → Type 0
-IsTrialOf number events None = (is_number 0 18446744073709551615 (string_bytes number) && is_number 1 most_events (string_bytes events)) ≡ false
+IsTrialOf number events None = (is_number 0 18446744073709551615 (string_bytes number) && is_number 1 most_trial_events (string_bytes events)) ≡ false
 IsTrialOf number events (Some (Trial n many)) =
-    ((is_number 0 18446744073709551615 (string_bytes number) && is_number 1 most_events (string_bytes events)) ≡ true) × (n ≡ digits_value 10 (string_bytes number)) × (many ≡ digits_value 10 (string_bytes events))
+    ((is_number 0 18446744073709551615 (string_bytes number) && is_number 1 most_trial_events (string_bytes events)) ≡ true) × (n ≡ digits_value 10 (string_bytes number)) × (many ≡ digits_value 10 (string_bytes events))
 IsTrialOf number events (Some _) = ⊥

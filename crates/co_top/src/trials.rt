@@ -1,7 +1,7 @@
 //! A trial, and the line that it comes to.
 ghost use Rattle.std.specs.Prelude.{◌≡◌, ◌≤◌, ℕ, List, Some, IfErr, IsErrOf, OnOk};
 ghost use Rattle.co_outside.specs.Faults.{HasRisen};
-ghost use Rattle.co_trial.specs.Trials.{IsTrial, most_events};
+ghost use Rattle.co_trial.specs.Trials.{IsTrial, most_trial_events};
 ghost use Rattle.co_top.specs.Replayed.{status_of};
 ghost use Rattle.co_top.specs.Trials.{IsSummaryTold, IsOfTrial, IsTrialEnd};
 
@@ -34,7 +34,7 @@ fn ended(told: Result<(), Status>) -> Status
 
 /// Runs the trial with this number and so many events, and puts the line of its summary.
 pub(crate) fn trial<K: Sink>(alloc: Global, number: u64, events: u32, out: &mut K) -> Status
-    requires { (1 ≤ events) × (events ≤ most_events) }
+    requires { (1 ≤ events) × (events ≤ most_trial_events) }
     ensures end { (held : List ℕ) → K.told out.old ≡ Some held → IsTrialEnd number events held (K.told out.new) result }
     ensures own { IsOfTrial result }
     ensures write { result ≡ Status.Write → HasRisen (K.faults out.old) (K.faults out.new) }

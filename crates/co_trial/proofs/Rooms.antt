@@ -30,7 +30,7 @@ use Rattle.co_cluster.specs.Left.{HasOverlong, OverlongMember, OverlongCoord}
 use Rattle.co_world.specs.declared.world.World.{World}
 use Rattle.co_trial.specs.Making.{IsShort, first_events}
 use Rattle.co_trial.specs.Playing.{HasRoom, HasGone}
-use Rattle.co_trial.specs.Trials.{Opened, most_events, start_of, played_to}
+use Rattle.co_trial.specs.Trials.{Opened, most_trial_events, start_of, played_to}
 use Rattle.co_trial.specs.declared.deciding.Decisions.{Decisions}
 use Rattle.co_trial.specs.declared.tally.Told.{Told}
 use Rattle.co_trial.proofs.Done.{at_end, few_open}
@@ -97,7 +97,7 @@ module _ (o : Opened) where
       (next_within o.head.kinds o.head.coords o.found_member o.found_coord hs e o.unused.members o.unused.coords)
       (omega (arith, bytes, few)) (omega (arith, generations, few))
 
-  pub line_has_room : (es : List Event) (e : Event) → AllByRecursion IsShort es → IsShort e → length es ≤ most_events → HasRoom (run (lines es) (start_of o)) e
+  pub line_has_room : (es : List Event) (e : Event) → AllByRecursion IsShort es → IsShort e → length es ≤ most_trial_events → HasRoom (run (lines es) (start_of o)) e
   line_has_room es e all short few = next_has_room (lines es) e (brief_lines es all) short (omega (arith, few, as_long es))
 
   -- so has each event of settling
@@ -109,7 +109,7 @@ module _ (o : Opened) where
       never_full (hs ++ Line e ∷ []) es file spot (both_brief hs (Line e ∷ []) brief (settling_short e all.0, tt)) all.1 (omega (arith, few, length_push hs (Line e)))
       (subst (λ s. IsCutIn es s file (world.Full spot)) (sym (run_more hs (Line e ∷ []) (start_of o))) later)
 
-  module _ {E : Type 0} (takes : Kind → Type 0) (stands_for : E → EngineState → Type 0) (number count : ℕ) (before after : Told) (d : Decisions) (w : World E) (p : HasGone takes stands_for o number count before after d w) (few : count ≤ most_events) where
+  module _ {E : Type 0} (takes : Kind → Type 0) (stands_for : E → EngineState → Type 0) (number count : ℕ) (before after : Told) (d : Decisions) (w : World E) (p : HasGone takes stands_for o number count before after d w) (few : count ≤ most_trial_events) where
     settling_few : (settling : List Event) → IsSettling (played_to o number count) settling → length settling ≤ 2949144
     settling_few settling i =
         let s = played_to o number count in

@@ -24,8 +24,8 @@ use Rattle.co_trial.specs.Making.{first_events}
 use Rattle.co_trial.specs.declared.summary.Summary.{Summary}
 
 -- the most events of a trial
-abbrev pub most_events : ℕ
-most_events = 60000
+abbrev pub most_trial_events : ℕ
+most_trial_events = 60000
 
 -- The federation of a trial: a member of each kind and two coordinators, opened over logs without records, as they are found in empty files.
 pub record Opened : Type 0 where

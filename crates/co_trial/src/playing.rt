@@ -9,7 +9,7 @@ ghost use Rattle.co_trial.specs.Decisions.{AreRun};
 ghost use Rattle.co_settle.specs.Progress.{IsUntoldFor};
 ghost use Rattle.co_trial.specs.Ended.{Ended};
 ghost use Rattle.co_trial.specs.Playing.{HasRoom, HasPlayed, HasGone};
-ghost use Rattle.co_trial.specs.Trials.{Opened, most_events, start_of};
+ghost use Rattle.co_trial.specs.Trials.{Opened, most_trial_events, start_of};
 ghost use Rattle.std.specs.Prelude.{ℕ, List, [], ◌++◌};
 ghost use Rattle.sha2.specs.Hashers.{Holds256};
 ghost use Rattle.co_message.specs.declared.item.ItemKind.TheVariants as item;
@@ -80,7 +80,7 @@ pub(crate) fn play_all<E: Engine + Drop, H: Home>(
     told: &mut Told,
     decisions: &mut Decisions,
 ) -> Result<(), WorldFault>
-    requires events { events ≤ most_events }
+    requires events { events ≤ most_trial_events }
     requires held { AreHeld (H.seen home.old) world.old }
     requires stands { (o : Opened) × RepresentsWorld E.takes E.stands_for world.old (start_of o) × AreRun (start_of o) decisions.old (start_of o).decided }
     ensures gone { (o : Opened) → RepresentsWorld E.takes E.stands_for world.old (start_of o) → AreRun (start_of o) decisions.old (start_of o).decided →

@@ -13,7 +13,7 @@ ghost use Rattle.co_trial.specs.Decisions.{AreRun};
 ghost use Rattle.co_settle.specs.Progress.{IsUntoldFor};
 ghost use Rattle.co_trial.specs.Ended.{Ended};
 ghost use Rattle.co_trial.specs.Playing.{IsDone};
-ghost use Rattle.co_trial.specs.Trials.{IsTrial, Opened, most_events, start_of, opening_told};
+ghost use Rattle.co_trial.specs.Trials.{IsTrial, Opened, most_trial_events, start_of, opening_told};
 
 use crate::calm::CalmHome;
 use crate::deciding::Decisions;
@@ -39,7 +39,7 @@ fn run_events<E: Engine + Drop, H: Home>(
     told: &mut Told,
     decisions: &mut Decisions,
 ) -> Result<u64, WorldFault>
-    requires events { events ≤ most_events }
+    requires events { events ≤ most_trial_events }
     requires held { AreHeld (H.seen home.old) world.old }
     requires stands { (o : Opened) × RepresentsWorld E.takes E.stands_for world.old (start_of o) × AreRun (start_of o) decisions.old (start_of o).decided × Holds256 told.old.hasher (items_text (opening_told o)) }
     ensures done { IfOk result (λ settled. (o : Opened) × IsDone E.takes E.stands_for o number events told.new decisions.new world.new settled) }
@@ -125,7 +125,7 @@ fn trial_in<E: Engine + Drop, H: Home>(
     events: u32,
 ) -> Result<Summary, WorldFault>
     requires kinds { (kind : Kind) → E.takes kind }
-    requires few { events ≤ most_events }
+    requires few { events ≤ most_trial_events }
     requires empty { (s : Spot) → s.part < 2 → (H.seen home.old).file s ≡ Some empty_file }
     ensures trial { IfOk result (IsTrial number events) }
     ensures ended { Ended (H.seen home.old).faults (H.seen home.new).faults result }
@@ -154,7 +154,7 @@ fn trial_in<E: Engine + Drop, H: Home>(
 /// There is an error only where there was no memory.
 pub fn trial(alloc: Global, number: u64, events: u32) -> Result<Summary, AllocError>
     requires some { 1 ≤ events }
-    requires few { events ≤ most_events }
+    requires few { events ≤ most_trial_events }
     ensures trial { IfOk result (IsTrial number events) }
 {
     let mut home = CalmHome::new(alloc);
