@@ -5,7 +5,7 @@ ghost use Rattle.co_top.specs.Command.{IsCommand, IsTrialOf, is_directory, is_wo
 use co_schedule::long_number_within;
 
 /// The most events of a trial.
-const MOST_EVENTS: u64 = 60_000;
+const MOST_TRIAL_EVENTS: u64 = 60_000;
 
 /// What the words of the command line ask for.
 #[derive(Clone, Copy)]
@@ -88,7 +88,7 @@ fn trial_of<'a>(number: &String, events: &String) -> Option<Command<'a>>
     ensures { IsTrialOf number.now events.now result }
 {
     let number = long_number_within(number.as_bytes(), 0, u64::MAX)?;
-    let events = long_number_within(events.as_bytes(), 1, MOST_EVENTS)?;
+    let events = long_number_within(events.as_bytes(), 1, MOST_TRIAL_EVENTS)?;
     Some(Command::Trial {
         number,
         events: events as u32,
