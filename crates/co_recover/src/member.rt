@@ -27,6 +27,7 @@ use co_serial::RecordMap;
 use co_state::{Table, records_from};
 use std::alloc::{AllocError, Global};
 use std::marker::Model;
+use std::mem::replace;
 
 /// What the records up to a place tell. The votes are lent from their prepare records.
 #[derive(Drop)]
@@ -83,50 +84,38 @@ fn checkpoint_view<'a>(
     })
 }
 
-/// The view of a checkpoint behind so many records, or none where it is not the second one.
-fn checkpoint_behind<'a>(
+/// The view of a checkpoint takes the place of this one; whether it stands behind one record.
+fn checkpoint_in<'a>(
     alloc: Global,
     place: u32,
+    view: &mut LentView<'a>,
     rows: PairWalk<'a>,
     undos: ChangeWalk<'a>,
     committed: TxnWalk<'a>,
-) -> Result<Option<LentView<'a>>, AllocError>
+) -> Result<bool, AllocError>
     requires rows { AllByRecursion IsRow (map row_of rows) }
     requires undos { AllByRecursion IsChange undos }
-    ensures { (coords : ℕ) (view : MemberView) → IfOk result (λ next. next ≡ member_next coords place view (Checkpoint (map row_of rows.entry) undos.entry committed.entry)) }
+    ensures { (coords : ℕ) → IfOk result (λ is_second. (if is_second then Some view.new else None) ≡ member_next coords place view.old (Checkpoint (map row_of rows.entry) undos.entry committed.entry)) }
 {
     if place != 1 {
-        return Ok(None);
+        return Ok(false);
     }
-    match checkpoint_view(alloc, rows, undos, committed) {
-        Ok(after) => Ok(Some(after)),
-        Err(fault) => Err(fault),
-    }
+    let after = checkpoint_view(alloc, rows, undos, committed)?;
+    drop(replace(view, after));
+    Ok(true)
 }
 
-/// A transaction voted that has no vote, or none where a vote that stands is in conflict with it.
+/// A transaction voted that has no vote; whether no vote that stands is in conflict with it.
 fn cast_in<'a>(
     alloc: Global,
-    view: LentView<'a>,
+    view: &mut LentView<'a>,
     t: Txn,
     vote: LentVote<'a>,
-) -> Result<Option<LentView<'a>>, AllocError>
-    requires { holds view.voted t ≡ false }
-    ensures { IfOk result (λ after. after ≡ cast view.entry t vote.entry) }
+) -> Result<bool, AllocError>
+    requires { holds view.old.voted t ≡ false }
+    ensures { IfOk result (λ was_cast. (if was_cast then Some view.new else None) ≡ cast view.old t vote.entry) }
 {
-    let LentView {
-        records,
-        voted,
-        committed,
-    } = view;
-    let Some(voted) = voted.cast(alloc, t, vote)? else {
-        return Ok(None);
-    };
-    Ok(Some(LentView {
-        records,
-        voted,
-        committed,
-    }))
+    view.voted.cast(alloc, t, vote)
 }
 
 /// A voted transaction was aborted; whether it was voted.
@@ -161,34 +150,27 @@ fn may_vote(coords: u8, place: u32, view: &LentView<'_>, t: Txn, coord: u8) -> b
         && coord <= coords
 }
 
-/// The view itself, or none.
-fn if_allowed<'a>(view: LentView<'a>, is_allowed: bool) -> Option<LentView<'a>>
-    ensures { result ≡ (if is_allowed then Some view.entry else None) }
-{
-    if is_allowed { Some(view) } else { None }
-}
-
-/// The view after one more record, or none where it is not allowed behind so many others.
+/// The view after one more record; whether it is allowed behind so many others.
 fn next_view<'a>(
     alloc: Global,
     coords: u8,
     place: u32,
-    view: LentView<'a>,
+    view: &mut LentView<'a>,
     item: RecordView<'a>,
-) -> Result<Option<LentView<'a>>, AllocError>
+) -> Result<bool, AllocError>
     requires { IsSpelled (record_of item) }
-    ensures { IfOk result (λ next. next ≡ member_next coords place view.entry (record_of item.entry)) }
+    ensures { IfOk result (λ is_allowed. (if is_allowed then Some view.new else None) ≡ member_next coords place view.old (record_of item.entry)) }
 {
     match item {
         RecordView::Header {
             node: _,
             generation: _,
-        } => Ok(if_allowed(view, place == 0)),
+        } => Ok(place == 0),
         RecordView::Checkpoint {
             rows,
             undos,
             committed,
-        } => checkpoint_behind(alloc, place, rows, undos, committed),
+        } => checkpoint_in(alloc, place, view, rows, undos, committed),
         RecordView::Prepare {
             txn,
             coord,
@@ -196,44 +178,31 @@ fn next_view<'a>(
             reads,
             writes,
         } => {
-            if !may_vote(coords, place, &view, txn, coord) {
-                return Ok(None);
+            if !may_vote(coords, place, view, txn, coord) {
+                return Ok(false);
             }
             let sets = LentSets { reads, writes };
             cast_in(alloc, view, txn, LentVote { coord, count, sets })
         }
         RecordView::Commit { txn, members } => commit_in(alloc, view, txn, members),
-        RecordView::Abort { txn } => Ok(abort_in(view, txn)),
-        RecordView::End { txn: _ } => Ok(None),
+        RecordView::Abort { txn } => Ok(forget_in(view, txn)),
+        RecordView::End { txn: _ } => Ok(false),
     }
 }
 
-/// The view after a commit, or none where the transaction is not voted, or members are named.
-fn commit_in<'a>(
+/// The view after a commit; whether the transaction was voted, and no members are named.
+fn commit_in(
     alloc: Global,
-    view: LentView<'a>,
+    view: &mut LentView<'_>,
     t: Txn,
     mut members: MemberWalk<'_>,
-) -> Result<Option<LentView<'a>>, AllocError>
-    ensures { (coords place : ℕ) → IfOk result (λ next. next ≡ member_next coords place view.entry (Commit t members.entry)) }
+) -> Result<bool, AllocError>
+    ensures { (coords place : ℕ) → IfOk result (λ is_allowed. (if is_allowed then Some view.new else None) ≡ member_next coords place view.old (Commit t members.entry)) }
 {
     if members.next().is_some() {
-        return Ok(None);
+        return Ok(false);
     }
-    let mut view = view;
-    match install_in(alloc, &mut view, t) {
-        Ok(was_voted) => Ok(if_allowed(view, was_voted)),
-        Err(fault) => Err(fault),
-    }
-}
-
-/// The view after an abort, or none where the transaction is not voted.
-fn abort_in<'a>(view: LentView<'a>, t: Txn) -> Option<LentView<'a>>
-    ensures { result ≡ forgotten view.entry t }
-{
-    let mut view = view;
-    let was_voted = forget_in(&mut view, t);
-    if_allowed(view, was_voted)
+    install_in(alloc, view, t)
 }
 
 /// The votes of a table, ascending, copied to be kept.
@@ -263,6 +232,34 @@ fn past_of(alloc: Global, view: &LentView<'_>) -> Result<MemberPast, AllocError>
     })
 }
 
+/// What the records tell that were not lent yet, laid into a view of nothing.
+fn past_in<'a>(
+    alloc: Global,
+    mut views: Views<'a>,
+    coords: u8,
+    view: &mut LentView<'a>,
+) -> Result<MemberPast, RecoverFault>
+    requires { view.old ≡ nothing_known }
+    ensures { (items : List (ℕ × Record)) → HasLeft views.entry items → IsMemberRecovery coords items result }
+{
+    let mut place = 0;
+    'records: loop {
+        match views.next() {
+            None => {
+                let past = past_of(alloc, view)?;
+                return Ok(past);
+            }
+            Some((at, item)) => {
+                let is_allowed = next_view(alloc, coords, place, view, item)?;
+                if !is_allowed {
+                    return Err(RecoverFault::Inconsistent { at });
+                }
+                place += 1;
+            }
+        }
+    }
+}
+
 /// What the records of a member's log tell, in a federation of so many coordinators: the installed records, the voted
 /// transactions with all that they read and wrote, and the transactions that are committed here.
 ///
@@ -271,7 +268,7 @@ fn past_of(alloc: Global, view: &LentView<'_>) -> Result<MemberPast, AllocError>
 /// that stand are kept beside them, so a prepare record costs what it reads and writes, however many votes stand.
 pub fn recover_member(
     alloc: Global,
-    mut views: Views<'_>,
+    views: Views<'_>,
     coords: u8,
 ) -> Result<MemberPast, RecoverFault>
     ensures { (items : List (ℕ × Record)) → HasLeft views.entry items → IsMemberRecovery coords items result }
@@ -281,23 +278,5 @@ pub fn recover_member(
         voted: LockedVotes::new(alloc),
         committed: Table::new(alloc),
     };
-    let mut place = 0;
-    'records: loop {
-        match views.next() {
-            None => {
-                let past = past_of(alloc, &view)?;
-                return Ok(past);
-            }
-            Some((at, item)) => match next_view(alloc, coords, place, view, item) {
-                Err(_) => return Err(RecoverFault::Memory),
-                Ok(next) => match next {
-                    None => return Err(RecoverFault::Inconsistent { at }),
-                    Some(after) => {
-                        view = after;
-                        place += 1;
-                    }
-                },
-            },
-        }
-    }
+    past_in(alloc, views, coords, &mut view)
 }

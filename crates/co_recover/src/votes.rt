@@ -1,5 +1,5 @@
 //! The votes that stand, with their locks.
-ghost use Rattle.std.specs.Prelude.{◌≡◌, IfOk, false};
+ghost use Rattle.std.specs.Prelude.{◌≡◌, IfOk, Some, None, if◌then◌else◌, false};
 ghost use Rattle.co_state.specs.Table.{no_entries, look, put, without, holds};
 ghost use Rattle.co_recover.specs.Locked.{with_vote, without_values};
 
@@ -11,6 +11,7 @@ use co_locktab::LockTable;
 use co_state::{Sets, Table};
 use std::alloc::{AllocError, Global};
 use std::marker::Model;
+use std::mem::replace;
 
 /// The votes that stand, lent from their prepare records, and a lock table in which each vote holds what it read for
 /// reading and what it wrote for writing.
@@ -62,24 +63,25 @@ impl<'a> LockedVotes<'a> {
         self.voted.contains(t)
     }
 
-    /// One vote more, of a transaction that has none; or none where a vote that stands is in conflict with it.
+    /// One vote more, of a transaction that has none; whether no vote that stands is in conflict with it. After want of memory there are
+    /// no votes.
     pub(crate) fn cast(
-        self,
+        &mut self,
         alloc: Global,
         t: Txn,
         vote: LentVote<'a>,
-    ) -> Result<Option<LockedVotes<'a>>, AllocError>
-        requires { holds self t ≡ false }
-        ensures { IfOk result (λ after. after ≡ with_vote self.entry t vote.entry) }
+    ) -> Result<bool, AllocError>
+        requires { holds self.old t ≡ false }
+        ensures { IfOk result (λ was_cast. (if was_cast then Some self.new else None) ≡ with_vote self.old t vote.entry) }
     {
         let sets = touched_of(alloc, &vote.sets)?;
         if vote_against(&self.locks, t, &sets).is_some() {
-            return Ok(None);
+            return Ok(false);
         }
-        match self.add(t, vote, &sets) {
-            Ok(after) => Ok(Some(after)),
-            Err(fault) => Err(fault),
-        }
+        let votes = replace(self, LockedVotes::new(alloc));
+        let after = votes.add(t, vote, &sets)?;
+        drop(replace(self, after));
+        Ok(true)
     }
 
     /// One vote more, of a transaction that has none, which read and wrote what these sets say.

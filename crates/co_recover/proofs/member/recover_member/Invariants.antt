@@ -3,7 +3,7 @@ use Rattle.co_record.specs.declared.record.Record.{Record}
 use Rattle.co_record.specs.Stored.{HasLeft, unread}
 use Rattle.co_plain.specs.MemberView.{first_refused_from, recovered_view}
 use Rattle.co_recover.proofs.Folds.{Reached}
-use Rattle.co_recover.proofs.member.recover_member.Given as goal
+use Rattle.co_recover.proofs.member.past_in.Given as goal
 
 abbrev pub invariant-records : goal.invariant-records
 invariant-records l = record {
