@@ -112,6 +112,23 @@ answer_places form.Not = one_of (codes "begun" ∷ []) ▸ nothing
 answer_places form.Down = node 16 8 ▸ nothing
 answer_places _ = nothing
 
+-- the forms of answers that have more words than the first one
+abbrev pub HasFields : AnswerForm → Type 0
+HasFields form.Got = Unit {0}
+HasFields form.Rows = Unit {0}
+HasFields form.Gone = Unit {0}
+HasFields form.No = Unit {0}
+HasFields form.Waiting = Unit {0}
+HasFields form.Aborted = Unit {0}
+HasFields form.Filled = Unit {0}
+HasFields form.Stopped = Unit {0}
+HasFields form.Down = Unit {0}
+HasFields form.Blocked = Unit {0}
+HasFields form.Held = Unit {0}
+HasFields form.Too = Unit {0}
+HasFields form.Not = Unit {0}
+HasFields _ = ⊥
+
 abbrev pub answer_chosen : Option AnswerForm → Places
 answer_chosen None = nothing
 answer_chosen (Some chosen) = answer_places chosen

@@ -1,5 +1,5 @@
 //! Lines as items.
-ghost use Rattle.std.specs.Prelude.{◌≡◌, ◌<◌, ◌≤◌, ◌+◌, ◌++◌, ◌∷◌, [], length, Ok, Some, None, IfOk, IfErr, OnOk, MatchResult, codes, decimal, option_copied, Option};
+ghost use Rattle.std.specs.Prelude.{◌≡◌, ◌<◌, ◌≤◌, ◌+◌, ◌++◌, ◌∷◌, [], length, Ok, Some, None, IfOk, IfErr, IfSome, IfNone, OnOk, MatchResult, codes, decimal, option_copied, Option};
 ghost use Rattle.co_base.specs.RowOrder.{IsInKeyOrder};
 ghost use Rattle.co_message.specs.declared.item.Item.{Item};
 ghost use Rattle.co_schedule.specs.Words.{Word};
@@ -7,7 +7,7 @@ ghost use Rattle.co_schedule.specs.Places.{Places, first_fault, nothing, one_of,
 ghost use Rattle.co_schedule.specs.Grammar as line;
 ghost use Rattle.co_schedule.specs.Faults.{IsFirstFault};
 ghost use Rattle.co_transcript.specs.Spelling.{row_words, answer_words, mark_words, kind_words, item_words, item_text};
-ghost use Rattle.co_transcript.specs.Grammar.{form_word, answer_places, rows_places, row_places, reply_places, log_places, line_places, told_word, told_places, item_places};
+ghost use Rattle.co_transcript.specs.Grammar.{form_word, HasFields, answer_places, rows_places, row_places, reply_places, log_places, line_places, told_word, told_places, item_places};
 ghost use Rattle.co_transcript.specs.Items.{IsAnswer, IsMark, IsTold, IsItem, AreRows};
 ghost use Rattle.co_transcript.specs.Rows.{last_key};
 ghost use Rattle.co_transcript.specs.Faults.{IsTextFault, place_of};
@@ -183,8 +183,62 @@ fn down(words: &mut Words<'_>) -> Result<Answer, ReadFault>
     Ok(Answer::Down(node))
 }
 
-// Reads an answer behind its first word.
-fn answer_of(alloc: Global, words: &mut Words<'_>, form: AnswerForm) -> Result<Answer, ReadFault>
+// The answer of which nothing but its first word is told.
+fn plain_answer(form: AnswerForm) -> Option<Answer>
+    ensures found { IfSome result (λ answer. IsAnswer answer × (answer_words answer ≡ form_word form ∷ []) × (answer_places form ≡ nothing)) }
+    ensures none { IfNone result (HasFields form) }
+{
+    match form {
+        AnswerForm::Opened => Some(Answer::Opened),
+        AnswerForm::Begun => Some(Answer::Begun),
+        AnswerForm::Done => Some(Answer::Replied(Reply::Done)),
+        AnswerForm::Missing => Some(Answer::Replied(Reply::Got(None))),
+        AnswerForm::Committed => Some(Answer::Committed),
+        AnswerForm::Decided => Some(Answer::Decided),
+        AnswerForm::Ended => Some(Answer::Ended),
+        AnswerForm::Idle => Some(Answer::Idle),
+        AnswerForm::Unknown => Some(Answer::Unknown),
+        AnswerForm::Yes => Some(Answer::Yes),
+        AnswerForm::Voted => Some(Answer::Voted),
+        AnswerForm::Unasked => Some(Answer::Unasked),
+        AnswerForm::Unvoted => Some(Answer::Unvoted),
+        AnswerForm::Already => Some(Answer::Already),
+        AnswerForm::Absent => Some(Answer::Absent),
+        AnswerForm::Installed => Some(Answer::Installed),
+        AnswerForm::Dropped => Some(Answer::Dropped),
+        AnswerForm::Kept => Some(Answer::Kept),
+        AnswerForm::Asking => Some(Answer::Asking),
+        AnswerForm::Crashed => Some(Answer::Crashed),
+        AnswerForm::Up => Some(Answer::Up),
+        AnswerForm::Running => Some(Answer::Running),
+        AnswerForm::Armed => Some(Answer::Armed),
+        AnswerForm::Closed => Some(Answer::Closed),
+        AnswerForm::Used => Some(Answer::Used),
+        AnswerForm::Asked => Some(Answer::Asked),
+        AnswerForm::Unsent => Some(Answer::Unsent),
+        AnswerForm::Got
+        | AnswerForm::Rows
+        | AnswerForm::Gone
+        | AnswerForm::No
+        | AnswerForm::Waiting
+        | AnswerForm::Aborted
+        | AnswerForm::Filled
+        | AnswerForm::Stopped
+        | AnswerForm::Down
+        | AnswerForm::Blocked
+        | AnswerForm::Held
+        | AnswerForm::Too
+        | AnswerForm::Not => None,
+    }
+}
+
+// Reads an answer that has more words than its first one, behind that.
+fn answer_with_fields(
+    alloc: Global,
+    words: &mut Words<'_>,
+    form: AnswerForm,
+) -> Result<Answer, ReadFault>
+    requires { HasFields form }
     ensures found { IfOk result (λ answer. IsAnswer answer × (form_word form ∷ words.old ≡ answer_words answer)) }
     ensures fault { IfErr result (IsFirstFault (answer_places form) words.old) }
 {
@@ -205,33 +259,44 @@ fn answer_of(alloc: Global, words: &mut Words<'_>, form: AnswerForm) -> Result<A
         AnswerForm::Held => Ok(Answer::Held(txn_alone(words)?)),
         AnswerForm::Too => second(words, b"many", Answer::TooMany),
         AnswerForm::Not => second(words, b"begun", Answer::NotBegun),
-        AnswerForm::Opened => alone(words, Answer::Opened),
-        AnswerForm::Begun => alone(words, Answer::Begun),
-        AnswerForm::Done => alone(words, Answer::Replied(Reply::Done)),
-        AnswerForm::Missing => alone(words, Answer::Replied(Reply::Got(None))),
-        AnswerForm::Committed => alone(words, Answer::Committed),
-        AnswerForm::Decided => alone(words, Answer::Decided),
-        AnswerForm::Ended => alone(words, Answer::Ended),
-        AnswerForm::Idle => alone(words, Answer::Idle),
-        AnswerForm::Unknown => alone(words, Answer::Unknown),
-        AnswerForm::Yes => alone(words, Answer::Yes),
-        AnswerForm::Voted => alone(words, Answer::Voted),
-        AnswerForm::Unasked => alone(words, Answer::Unasked),
-        AnswerForm::Unvoted => alone(words, Answer::Unvoted),
-        AnswerForm::Already => alone(words, Answer::Already),
-        AnswerForm::Absent => alone(words, Answer::Absent),
-        AnswerForm::Installed => alone(words, Answer::Installed),
-        AnswerForm::Dropped => alone(words, Answer::Dropped),
-        AnswerForm::Kept => alone(words, Answer::Kept),
-        AnswerForm::Asking => alone(words, Answer::Asking),
-        AnswerForm::Crashed => alone(words, Answer::Crashed),
-        AnswerForm::Up => alone(words, Answer::Up),
-        AnswerForm::Running => alone(words, Answer::Running),
-        AnswerForm::Armed => alone(words, Answer::Armed),
-        AnswerForm::Closed => alone(words, Answer::Closed),
-        AnswerForm::Used => alone(words, Answer::Used),
-        AnswerForm::Asked => alone(words, Answer::Asked),
-        AnswerForm::Unsent => alone(words, Answer::Unsent),
+        AnswerForm::Opened
+        | AnswerForm::Begun
+        | AnswerForm::Done
+        | AnswerForm::Missing
+        | AnswerForm::Committed
+        | AnswerForm::Decided
+        | AnswerForm::Ended
+        | AnswerForm::Idle
+        | AnswerForm::Unknown
+        | AnswerForm::Yes
+        | AnswerForm::Voted
+        | AnswerForm::Unasked
+        | AnswerForm::Unvoted
+        | AnswerForm::Already
+        | AnswerForm::Absent
+        | AnswerForm::Installed
+        | AnswerForm::Dropped
+        | AnswerForm::Kept
+        | AnswerForm::Asking
+        | AnswerForm::Crashed
+        | AnswerForm::Up
+        | AnswerForm::Running
+        | AnswerForm::Armed
+        | AnswerForm::Closed
+        | AnswerForm::Used
+        | AnswerForm::Asked
+        | AnswerForm::Unsent => unreachable!(),
+    }
+}
+
+// Reads an answer behind its first word.
+fn answer_of(alloc: Global, words: &mut Words<'_>, form: AnswerForm) -> Result<Answer, ReadFault>
+    ensures found { IfOk result (λ answer. IsAnswer answer × (form_word form ∷ words.old ≡ answer_words answer)) }
+    ensures fault { IfErr result (IsFirstFault (answer_places form) words.old) }
+{
+    match plain_answer(form) {
+        Some(answer) => alone(words, answer),
+        None => answer_with_fields(alloc, words, form),
     }
 }
 
