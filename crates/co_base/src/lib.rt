@@ -32,7 +32,9 @@ pub use fault::BaseFault;
 pub use head::{Head, Kind, Kinds};
 pub use key::Key;
 pub use leaves::{Bytes, Leaves, Stop};
-pub use limits::{MOST_COORDINATORS, MOST_LOG_BYTES, MOST_MEMBERS, MOST_OPERATIONS, MOST_TRANSACTIONS};
+pub use limits::{
+    MOST_COORDINATORS, MOST_LOG_BYTES, MOST_MEMBERS, MOST_OPERATIONS, MOST_TRANSACTIONS,
+};
 pub use mark::{Mark, MarkKind, Marks};
 pub use node::Node;
 pub use op::Op;
