@@ -90,3 +90,9 @@ new_among all t op =
     let own = or_nothing (look all t) in
     let g : Grows rest t own (grown_by op own) (sets_among all) (sets_among (grown_at all t op)) = grows_at or_nothing all t (grown_by op own) rest (entries_sorted (without all t)) (λ e. e) (λ u. refl) in
     subst (AreNew (sets_among all) (sets_among (grown_at all t op))) (sym (made_alike rest t own op)) (made_new g)
+
+-- so do those that are made of what the others and t read and wrote
+pub made_among : (all : Table Sets) (t : ℕ) (op : Op) (others : Table Sets) (own : Sets) (pairs : List Pair) → others ≡ without all t → own ≡ or_nothing (look all t)
+    → pairs ≡ pairs_made (entries others) t own op → AreNew (sets_among all) (sets_among (grown_at all t op)) pairs
+made_among all t op others own pairs e f is =
+    subst (λ (ps : List Pair). AreNew (sets_among all) (sets_among (grown_at all t op)) ps) (sym (is ∙ (λ i. pairs_made (entries (e i)) t (f i) op))) (new_among all t op)

@@ -5,6 +5,8 @@ pub mod Finding
 pub mod Touching
 pub mod Indexing
 mod Passing
+mod Telling
+mod There
 pub mod Growing
 pub mod Listed
 pub mod Least

@@ -1,4 +1,5 @@
 pub mod Touching
 pub mod NewPairs
+pub mod Told
 pub mod Undecided
 pub mod Listed

@@ -8,6 +8,7 @@ mod index;
 mod key_map;
 mod lesser;
 mod new_pairs;
+mod told;
 mod touched;
 mod undecided;
 

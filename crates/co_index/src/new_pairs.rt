@@ -1,7 +1,8 @@
 //! The pairs that an operation makes.
 ghost use Rattle.std.specs.Prelude.{◌≡◌, ◌++◌, map, IfOk, OnOk};
 ghost use Rattle.std.specs.FinMap.{entries};
-ghost use Rattle.co_index.specs.NewPairs.{touches_on, newly_touches, pairs_by_read, pairs_by_write, pairs_made};
+ghost use Rattle.co_index.specs.NewPairs.{touches_on, pairs_by_read, pairs_by_write, pairs_made};
+ghost use Rattle.co_index.specs.Told.{newly_told, Knows};
 ghost use Rattle.co_index.specs.Touching.{IsIndexed};
 ghost use Rattle.co_pairs.specs.NewPairs.{passes, found_at, pair_of};
 ghost use Rattle.co_pairs.specs.declared.side.Side.TheVariants.{Writer, Lesser, Greater};
@@ -9,6 +10,7 @@ ghost use Rattle.co_state.specs.Changes.{span_read, change_made};
 ghost use Rattle.co_state.specs.Table.{look};
 
 use crate::index::Index;
+use crate::told::Told;
 use co_base::{Op, Range, Txn};
 use co_pairs::{Pairs, Sets, Side, meets_on, pair_of};
 use co_state::{Table, change_made, range_read, reads_key, writes_key, writes_within};
@@ -27,12 +29,25 @@ fn touches_on(side: Side, t: Txn, range: &Range, u: Txn, other: &Sets) -> bool
     }
 }
 
-/// Whether it is so with one of the others, and what the transaction read and wrote before was not.
-fn is_new(others: &Table<Sets>, side: Side, t: Txn, own: &Sets, range: &Range, u: Txn) -> bool
-    ensures { result ≡ passes (newly_touches side t own.now range.now u) (look others.now u) }
+/// Whether it is so with one of the others, and what the transaction read and wrote before was not. A pair that was
+/// told is not new, and is not looked for.
+fn is_new(
+    told: &Told,
+    others: &Table<Sets>,
+    side: Side,
+    t: Txn,
+    own: &Sets,
+    range: &Range,
+    u: Txn,
+) -> bool
+    ensures { result ≡ passes (newly_told told.now side t own.now range.now u) (look others.now u) }
 {
     match others.get(u) {
-        Some(other) => touches_on(side, t, range, u, other) && !meets_on(side, t, own, u, other),
+        Some(other) => {
+            !told.has(pair_of(side, t, u))
+                && touches_on(side, t, range, u, other)
+                && !meets_on(side, t, own, u, other)
+        }
         None => false,
     }
 }
@@ -42,15 +57,16 @@ fn add_on(
     pairs: &mut Pairs,
     side: Side,
     found: &Table<()>,
+    told: &Told,
     others: &Table<Sets>,
     t: Txn,
     own: &Sets,
     range: &Range,
 ) -> Result<(), AllocError>
-    ensures { OnOk result (pairs.new ≡ pairs.old ++ map (pair_of side t) (found_at (newly_touches side t own.now range.now) others.now (entries found.now))) }
+    ensures { OnOk result (pairs.new ≡ pairs.old ++ map (pair_of side t) (found_at (newly_told told.now side t own.now range.now) others.now (entries found.now))) }
 {
     for (u, _) in found.iter() {
-        if is_new(others, side, t, own, range, *u) {
+        if is_new(told, others, side, t, own, range, *u) {
             pairs.push(pair_of(side, t, *u))?;
         }
     }
@@ -62,16 +78,17 @@ fn add_by_key(
     pairs: &mut Pairs,
     readers: &Table<()>,
     writers: &Table<()>,
+    told: &Told,
     others: &Table<Sets>,
     t: Txn,
     own: &Sets,
     range: &Range,
 ) -> Result<(), AllocError>
-    ensures { OnOk result (pairs.new ≡ ((pairs.old ++ map (pair_of Writer t) (found_at (newly_touches Writer t own.now range.now) others.now (entries readers.now))) ++ map (pair_of Lesser t) (found_at (newly_touches Lesser t own.now range.now) others.now (entries writers.now))) ++ map (pair_of Greater t) (found_at (newly_touches Greater t own.now range.now) others.now (entries writers.now))) }
+    ensures { OnOk result (pairs.new ≡ ((pairs.old ++ map (pair_of Writer t) (found_at (newly_told told.now Writer t own.now range.now) others.now (entries readers.now))) ++ map (pair_of Lesser t) (found_at (newly_told told.now Lesser t own.now range.now) others.now (entries writers.now))) ++ map (pair_of Greater t) (found_at (newly_told told.now Greater t own.now range.now) others.now (entries writers.now))) }
 {
-    add_on(pairs, Side::Writer, readers, others, t, own, range)?;
-    add_on(pairs, Side::Lesser, writers, others, t, own, range)?;
-    add_on(pairs, Side::Greater, writers, others, t, own, range)
+    add_on(pairs, Side::Writer, readers, told, others, t, own, range)?;
+    add_on(pairs, Side::Lesser, writers, told, others, t, own, range)?;
+    add_on(pairs, Side::Greater, writers, told, others, t, own, range)
 }
 
 /// Adds the pairs that the range of an operation makes, if it reads one.
@@ -79,17 +96,18 @@ fn add_by_read(
     alloc: Global,
     pairs: &mut Pairs,
     index: &Index,
+    told: &Told,
     others: &Table<Sets>,
     t: Txn,
     own: &Sets,
     op: &Op,
 ) -> Result<(), AllocError>
-    ensures { IsIndexed index.now others.now → OnOk result (pairs.new ≡ pairs.old ++ pairs_by_read (entries others.now) t own.now (span_read op.now)) }
+    ensures { IsIndexed index.now others.now → Knows told.now others.now t own.now → OnOk result (pairs.new ≡ pairs.old ++ pairs_by_read (entries others.now) t own.now (span_read op.now)) }
 {
     match range_read(op)? {
         Some(range) => {
             let writers = index.may_write(alloc, &range)?;
-            add_on(pairs, Side::Reader, &writers, others, t, own, &range)
+            add_on(pairs, Side::Reader, &writers, told, others, t, own, &range)
         }
         None => Ok(()),
     }
@@ -100,12 +118,13 @@ fn add_by_write(
     alloc: Global,
     pairs: &mut Pairs,
     index: &Index,
+    told: &Told,
     others: &Table<Sets>,
     t: Txn,
     own: &Sets,
     op: &Op,
 ) -> Result<(), AllocError>
-    ensures { IsIndexed index.now others.now → OnOk result (pairs.new ≡ pairs.old ++ pairs_by_write (entries others.now) t own.now (change_made op.now)) }
+    ensures { IsIndexed index.now others.now → Knows told.now others.now t own.now → OnOk result (pairs.new ≡ pairs.old ++ pairs_by_write (entries others.now) t own.now (change_made op.now)) }
 {
     match change_made(op)? {
         Some(change) => {
@@ -113,7 +132,7 @@ fn add_by_write(
             let range = Range::of_key(key)?;
             let readers = index.may_read(alloc, key)?;
             let writers = index.may_write(alloc, &range)?;
-            add_by_key(pairs, &readers, &writers, others, t, own, &range)
+            add_by_key(pairs, &readers, &writers, told, others, t, own, &range)
         }
         None => Ok(()),
     }
@@ -124,15 +143,16 @@ fn add_by_write(
 pub fn pairs_made(
     alloc: Global,
     index: &Index,
+    told: &Told,
     others: &Table<Sets>,
     t: Txn,
     own: &Sets,
     op: &Op,
 ) -> Result<Pairs, AllocError>
-    ensures { IsIndexed index.now others.now → IfOk result (λ pairs. pairs ≡ pairs_made (entries others.now) t own.now op.now) }
+    ensures { IsIndexed index.now others.now → Knows told.now others.now t own.now → IfOk result (λ pairs. pairs ≡ pairs_made (entries others.now) t own.now op.now) }
 {
     let mut pairs = Pairs::new(alloc);
-    add_by_read(alloc, &mut pairs, index, others, t, own, op)?;
-    add_by_write(alloc, &mut pairs, index, others, t, own, op)?;
+    add_by_read(alloc, &mut pairs, index, told, others, t, own, op)?;
+    add_by_write(alloc, &mut pairs, index, told, others, t, own, op)?;
     Ok(pairs)
 }

@@ -7,19 +7,22 @@ ghost use Rattle.co_state.specs.Table.{look, without};
 
 use crate::index::Index;
 use crate::new_pairs::pairs_made;
+use crate::told::Told;
 use co_base::{Op, Txn};
 use co_pairs::{Pairs, Prepared, Sets, grown};
 use co_state::Table;
 use std::alloc::{AllocError, Global};
 
-/// What each undecided transaction read and wrote, and an index of who touched which key.
+/// What each undecided transaction read and wrote, an index of who touched which key, and the pairs that were
+/// told.
 ///
-/// The index tells all that stands in the table. Each call keeps it so; after want of memory this is only
-/// dropped.
+/// The index tells all that stands in the table, and each pair that was told is there. Each call keeps it so;
+/// after want of memory this is only dropped.
 #[derive(Drop)]
 pub struct Undecided {
     sets: Table<Sets>,
     index: Index,
+    told: Told,
 }
 
 /// Takes what a transaction read and wrote out of a table; nothing where it is absent.
@@ -54,10 +57,9 @@ impl Undecided {
         ensures whole { IfOk result IsWhole }
     {
         let sets = prepared_sets(alloc, prepared)?;
-        Ok(Undecided {
-            index: Index::of_sets(alloc, &sets)?,
-            sets,
-        })
+        let index = Index::of_sets(alloc, &sets)?;
+        let told = Told::new(alloc);
+        Ok(Undecided { sets, index, told })
     }
 
     /// What a transaction read and wrote, if it is there. Takes no memory.
@@ -74,8 +76,9 @@ impl Undecided {
         ensures pairs { IsWhole self.old → IfOk result (AreNew (sets_among self.old.sets) (sets_among (grown_at self.old.sets t op.now))) }
     {
         let own = take(alloc, &mut self.sets, t);
-        let pairs = pairs_made(alloc, &self.index, &self.sets, t, &own, op)?;
+        let pairs = pairs_made(alloc, &self.index, &self.told, &self.sets, t, &own, op)?;
         self.index.note(alloc, op, t)?;
+        self.told.tell_all(alloc, pairs.as_slice())?;
         let sets = grown(own, op)?;
         self.sets.insert(t, sets)?;
         Ok(pairs)
@@ -87,6 +90,7 @@ impl Undecided {
         ensures rest { self.new.sets ≡ without self.old.sets t }
         ensures whole { IsWhole self.old → IsWhole self.new }
     {
+        self.told.forget(t);
         match self.sets.remove(t) {
             Some(sets) => {
                 self.index.forget(&sets, t);

@@ -23,11 +23,12 @@ use Rattle.co_locktab.specs.declared.place.Place.{Place}
 use Rattle.co_locktab.specs.Forks.{fork_of, fork_at, byte_at, IsOnPath}
 use Rattle.co_locktab.specs.Holding.{is_held, holder_in, is_left, changed, left, left_at, held_by, with_holder, without_holder, joined, one_holder}
 use Rattle.co_locktab.specs.Locks.{IsLeast, same_span}
-use Rattle.co_locktab.specs.Places.{fork_cmp, same_fork, by_lower, by_upper, lower_place, upper_place, is_placed, spanned, IsIndexed}
+use Rattle.co_locktab.specs.Places.{fork_cmp, same_fork, by_lower, by_upper, lower_place, upper_place, is_placed, spanned, has_behind, IsIndexed}
 use Rattle.co_locktab.specs.Weighed.{Weighs, holds_over, covers}
 use Rattle.co_locktab.proofs.Orders.{spans_total, spans_apart, tied, ties-itself}
 use Rattle.co_locktab.proofs.Placing.{forks_total, forks_apart}
 use Rattle.co_locktab.proofs.Least.{left_true, right_true, and_false}
+use Rattle.co_locktab.proofs.Behind.{stands}
 
 -- ---- places tie where their ranges and their forks do
 both_eq : (r s : Ordering) → is_eq (ordering_then r s) ≡ (is_eq r && is_eq s)
@@ -210,6 +211,17 @@ weighs_upper m forks key t fork before after x w = record {
 
 pub weighs_nothing : (m : FinMap span_cmp Holders) (key : List ℕ) (t : ℕ) (least : Option ℕ) (Seen : Span → Type 0) → ((s : Span) → Seen s → ⊥) → Weighs m key t least least Seen
 weighs_nothing m key t least Seen none = record { keeps = λ u e. e; right = λ u e. inl e; full = λ s seen has u h n. absurd (none s seen) }
+
+-- behind bytes where no range stands, there is nothing to look at
+pub weighs_bare : (m : FinMap span_cmp Holders) (forks : ForkIndex) (key : List ℕ) (t : ℕ) (before : Option ℕ) (prefix : List ℕ) (byte : ℕ) → IsIndexed m forks
+    → has_behind forks.lower (fork_at prefix 0 byte) ≡ false → Weighs m key t before before (λ s. (height : ℕ) × (height < 8) × (fork_of s ≡ fork_at prefix height byte))
+weighs_bare m forks key t before prefix byte x none = record {
+  keeps = λ u e. e;
+  right = λ u e. inl e;
+  full = λ s seen has u h n.
+      let fork = fork_at prefix seen.0 byte in
+      absurd (true≢false (sym (stands (fork_at prefix 0 byte) fork s refl forks.lower (x.by_lower_is (record { fork = fork; range = Some s }) ∙ placed m s fork u seen.2 h)) ∙ none));
+}
 
 -- one step after others
 pub weighs_more : (m : FinMap span_cmp Holders) (key : List ℕ) (t : ℕ) (before between after : Option ℕ) (First Second Seen : Span → Type 0)

@@ -7,4 +7,5 @@ pub mod Showing
 pub mod Forking
 pub mod Placing
 pub mod Walking
+pub mod Behind
 pub mod Indexing

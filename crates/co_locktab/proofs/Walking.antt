@@ -42,11 +42,11 @@ pub covered : (test : ℕ → Bool) (found : Option ℕ) → IsLeast test found 
 covered test None h u e = absurd (true≢false (sym e ∙ h u))
 covered test (Some t) h u e = let l : t ≤ u = h.1 u e in grind (arith, nat_tests)
 
-or_left : (a b : Bool) → a ≡ true → (a || b) ≡ true
+pub or_left : (a b : Bool) → a ≡ true → (a || b) ≡ true
 or_left true b e = refl
 or_left false b e = absurd (true≢false (sym e))
 
-or_right : (a b : Bool) → b ≡ true → (a || b) ≡ true
+pub or_right : (a b : Bool) → b ≡ true → (a || b) ≡ true
 or_right true b e = refl
 or_right false b e = e
 
@@ -64,7 +64,7 @@ t_true : (b : Bool) → T b → b ≡ true
 t_true true h = refl
 t_true false h = absurd h
 
-less : (r : Ordering) → T (is_lt r) → r ≡ Less
+pub less : (r : Ordering) → T (is_lt r) → r ≡ Less
 less Less p = refl
 less Equal p = absurd p
 less Greater p = absurd p
@@ -248,7 +248,7 @@ module _ {K : Type 0} (R : K → K → Ordering) where
   all_of true b h k = k
   all_of false b h k = h
 
-  sorted_keys : (ks : List K) → IsStrictlySortedBy R ks → T (keys_sorted R ks)
+  pub sorted_keys : (ks : List K) → IsStrictlySortedBy R ks → T (keys_sorted R ks)
   unfolding IsStrictlySortedBy
   sorted_keys [] h = tt
   sorted_keys (k ∷ ks) h = all_of (keys_below R k ks) (keys_sorted R ks) (sorted_below k ks h.0) (sorted_keys ks h.1)
@@ -262,7 +262,7 @@ module _ {K : Type 0} (R : K → K → Ordering) where
         by true l m = all_of (is_lt (R k q)) (keys_below R k (filter f qs)) l m
         by false l m = m
 
-    sorted_part : (ks : List K) → T (keys_sorted R ks) → T (keys_sorted R (filter f ks))
+    pub sorted_part : (ks : List K) → T (keys_sorted R ks) → T (keys_sorted R (filter f ks))
     sorted_part [] h = tt
     sorted_part (k ∷ ks) h = by (f k) (below_part k ks (first (keys_below R k ks) (keys_sorted R ks) h)) (sorted_part ks (second (keys_below R k ks) (keys_sorted R ks) h))
       where
@@ -270,7 +270,7 @@ module _ {K : Type 0} (R : K → K → Ordering) where
         by true l m = all_of (keys_below R k (filter f ks)) (keys_sorted R (filter f ks)) l m
         by false l m = m
 
-  behind : (begin : K) (ks : List K) → T (keys_below R begin (filter (λ k. is_lt (R begin k) && true) ks))
+  pub behind : (begin : K) (ks : List K) → T (keys_below R begin (filter (λ k. is_lt (R begin k) && true) ks))
   behind begin [] = tt
   behind begin (k ∷ ks) = by (is_lt (R begin k)) refl (behind begin ks)
     where
@@ -280,7 +280,7 @@ module _ {K : Type 0} (R : K → K → Ordering) where
       by false e h = h
 
 module _ {K : Type 0} {R : K → K → Ordering} (o : IsTotalOrder R) (same : IsAntisymmetric R) (f : K → Bool) where
-  in_part : (q : K) (ks : List K) → f q ≡ true → list_any (eq_by_cmp R q) ks ≡ true → list_any (eq_by_cmp R q) (filter f ks) ≡ true
+  pub in_part : (q : K) (ks : List K) → f q ≡ true → list_any (eq_by_cmp R q) ks ≡ true → list_any (eq_by_cmp R q) (filter f ks) ≡ true
   in_part q [] p e = e
   in_part q (k ∷ ks) p e = by (first_or_later o same q k ks e) (λ g. in_part q ks p g)
     where

@@ -31,6 +31,10 @@ shared_height (suc n) a b = if one_block n a b then shared_height n a b else suc
 abbrev pub fork_at : List ℕ → ℕ → ℕ → Fork
 fork_at prefix height byte = record { prefix = prefix ++ drop (length prefix) (replicate 32 0); middle = middle_of height byte }
 
+-- no fork behind the same bytes is below it
+abbrev pub first_behind : Fork → Fork
+first_behind fork = record fork { middle = 0 }
+
 -- where the bounds part, behind the bytes that they share
 abbrev pub fork_behind : ℕ → Span → Fork
 fork_behind shared span = fork_at (take shared span.lo) (shared_height 7 (byte_at span.lo shared) (byte_at span.hi shared)) (byte_at span.lo shared)

@@ -1,9 +1,10 @@
 -- Ranges at their forks, in the orders in which they are kept.
-use Rattle.std.specs.Prelude.{ℕ, List, Bool, false, ◌&&◌, ◌≡◌, true, Option, None, Some, is_some}
-use Rattle.std.specs.Ordering.{on, then_cmp, nat_cmp, eq_by_cmp}
+use Rattle.std.specs.Prelude.{ℕ, List, Bool, false, ◌&&◌, ◌≡◌, true, Option, None, Some, is_some, filter}
+use Rattle.std.specs.List.{list_any}
+use Rattle.std.specs.Ordering.{on, then_cmp, nat_cmp, eq_by_cmp, is_lt}
 use Rattle.std.specs.Option.{option_cmp}
 use Rattle.std.specs.declared.cmp.Ordering.{Ordering}
-use Rattle.std.specs.BTreeSet.{contains}
+use Rattle.std.specs.BTreeSet.{BTreeSet, contains}
 use Rattle.std.specs.FinMap.{FinMap, get}
 use Rattle.co_base.specs.Order.{key_cmp}
 use Rattle.co_base.specs.Span.{Span, span_cmp, span_has}
@@ -12,7 +13,7 @@ use Rattle.co_locktab.specs.declared.place.ByUpper.{ByUpper}
 use Rattle.co_locktab.specs.declared.place.Place.{Place}
 use Rattle.co_locktab.specs.declared.fork_index.ForkIndex.{ForkIndex}
 use Rattle.co_locktab.specs.declared.holders.Holders.{Holders}
-use Rattle.co_locktab.specs.Forks.{fork_of, IsOnPath}
+use Rattle.co_locktab.specs.Forks.{fork_of, first_behind, IsOnPath}
 use Rattle.co_locktab.specs.Upper.{upper_cmp}
 
 abbrev pub fork_cmp : Fork → Fork → Ordering
@@ -30,6 +31,18 @@ by_lower = place_cmp span_cmp
 
 abbrev pub by_upper : Place ByUpper → Place ByUpper → Ordering
 by_upper = place_cmp upper_cmp
+
+-- whether two forks stand behind the same bytes
+abbrev pub are_beside : Fork → Fork → Bool
+are_beside f g = eq_by_cmp key_cmp f.prefix g.prefix
+
+-- the place before all ranges of the forks behind the same bytes
+abbrev pub start_behind : Fork → Place Span
+start_behind fork = record { fork = first_behind fork; range = None }
+
+-- whether a range stands at a fork behind the same bytes
+abbrev pub has_behind : BTreeSet (Place Span) → Fork → Bool
+has_behind set fork = list_any (λ p. are_beside fork p.fork) (filter (λ p. is_lt (by_lower (start_behind fork) p) && true) set.keys)
 
 -- a range at its fork
 abbrev pub lower_place : Span → Place Span

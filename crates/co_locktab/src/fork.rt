@@ -1,7 +1,8 @@
 //! Where the two bounds of a range part.
 ghost use Rattle.std.specs.Prelude.{◌≡◌, ℕ, ◌+◌, ◌*◌, ◌/◌, ◌^◌, ◌<◌, ◌≤◌, true, length, slice_index};
 ghost use Rattle.co_base.specs.Span.{span_has};
-ghost use Rattle.co_locktab.specs.Forks.{byte_at, common_length, shared_height, middle_of, fork_at, fork_of, IsOnPath};
+ghost use Rattle.co_locktab.specs.Forks.{byte_at, common_length, shared_height, middle_of, fork_at, fork_of, first_behind, IsOnPath};
+ghost use Rattle.co_locktab.specs.Places.{are_beside};
 
 use co_base::Range;
 
@@ -68,6 +69,23 @@ impl Fork {
             prefix: padded,
             middle: middle_of(height, byte),
         }
+    }
+
+    /// No fork behind the same bytes is below this one.
+    pub fn first_behind(&self) -> Fork
+        ensures { result ≡ first_behind self.now }
+    {
+        Fork {
+            prefix: self.prefix,
+            middle: 0,
+        }
+    }
+
+    /// Whether two forks stand behind the same bytes.
+    pub fn is_beside(&self, other: &Fork) -> bool
+        ensures { result ≡ are_beside self.now other.now }
+    {
+        self.prefix.cmp(&other.prefix).is_eq()
     }
 
     /// Where the bounds of a range part. Each key of the range has it on its path.

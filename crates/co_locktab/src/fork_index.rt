@@ -4,7 +4,7 @@ ghost use Rattle.std.specs.BTreeSet.{contains};
 ghost use Rattle.std.specs.Ordering.{eq_by_cmp};
 ghost use Rattle.co_base.specs.Span.{span_has};
 ghost use Rattle.co_locktab.specs.Forks.{fork_of, IsOnPath};
-ghost use Rattle.co_locktab.specs.Places.{by_lower, by_upper, lower_place, upper_place};
+ghost use Rattle.co_locktab.specs.Places.{by_lower, by_upper, lower_place, upper_place, has_behind};
 ghost use Rattle.co_locktab.specs.Weighed.{Weighs};
 
 use crate::fork::Fork;
@@ -73,6 +73,21 @@ impl ForkIndex {
             range: lower.range.map(|range| ByUpper { range }),
         };
         let _ = self.upper.remove(&upper);
+    }
+
+    /// Whether a range stands at a fork behind the same bytes as this one.
+    pub fn has_behind(&self, fork: Fork) -> bool
+        ensures { result ≡ has_behind self.now.lower fork }
+    {
+        let start = Place::before(fork.first_behind());
+        let next = self
+            .lower
+            .range((Bound::Excluded(&start), Bound::Unbounded))
+            .next();
+        match next {
+            Some(place) => fork.is_beside(&place.fork),
+            None => false,
+        }
     }
 
     /// The least other holder of the ranges at a fork that have a key which is below all their upper bounds.

@@ -65,6 +65,9 @@ impl RangeIndex {
         ensures { IsIndexed self.now.held self.now.forks
             → Weighs self.now.held key.now t before result (λ s. (height : ℕ) × (height < 8) × (fork_of s ≡ fork_at prefix.now height byte)) }
     {
+        if !self.forks.has_behind(Fork::at(prefix, 0, byte)) {
+            return before;
+        }
         let mut least = before;
         for height in 0..8 {
             let fork = Fork::at(prefix, height, byte);

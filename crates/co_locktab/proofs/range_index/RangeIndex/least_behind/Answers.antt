@@ -1,9 +1,17 @@
-use Rattle.std.proofs.Common.{◌≡◌, ℕ, ◌+◌, subst, arith}
+use Rattle.std.proofs.Common.{◌≡◌, ℕ, ◌+◌, false, sym, ap, ◌∙◌, subst, rules, arith}
 use Rattle.co_locktab.specs.declared.fork.Fork.{Fork}
 use Rattle.co_locktab.specs.Forks.{fork_at, fork_of}
+use Rattle.co_locktab.specs.Places.{has_behind}
 use Rattle.co_locktab.specs.Weighed.{Weighs}
-use Rattle.co_locktab.proofs.Indexing.{SeenBehind, weighs_nothing, none_behind, weighs_more, more_behind}
+use Rattle.co_locktab.proofs.Indexing.{SeenBehind, weighs_nothing, weighs_bare, none_behind, weighs_more, more_behind}
 use Rattle.co_locktab.proofs.range_index.RangeIndex.least_behind.Goals as goal
+
+pub returns-then-not-has_behind : goal.returns-then-not-has_behind
+returns-then-not-has_behind c = λ x.
+    let forks = c.args.self.now.forks in
+    let none : c.has_behind.result ≡ false = search rules in
+    weighs_bare c.args.self.now.held forks c.args.key.now c.args.t c.args.before c.args.prefix.now c.args.byte x
+    (sym (c.has_behind.ensures ∙ ap (has_behind forks.lower) c.at.ensures) ∙ none)
 
 pub loop-height-init : goal.loop-height-init
 loop-height-init c = λ x.
