@@ -2,55 +2,56 @@
 ghost use Rattle.std.specs.Prelude.{IsTrue};
 ghost use Rattle.co_pairs.specs.Free.{are_free};
 
-use crate::acts::{Act, act_of, command};
+use crate::commands::command;
 use crate::kept::Keeps;
-use crate::rows::{RowFault, cut, number_of, txn_of};
-use crate::setups::is_setup;
-use crate::texts::{put_dumped, put_key, put_number, put_played};
-use co_base::{Kind, Rows, Txn};
-use co_engine::{Command, Engine, Played, Seen};
+use crate::rows::{RowFault, cut, number_of, record_of, txn_of};
+use crate::setups::{is_setup, rows_of};
+use crate::texts::{put_dumped, put_key, put_number, put_seen};
+use co_base::{Key, Kind, Txn, Value};
+use co_engine::{Command, Engine, Seen};
 use co_pairs::{Pairs, Prepared, Sets};
 use std::alloc::{AllocError, Global};
 
 /// Makes the call of a command. Gives what an operation came to.
-fn seen<E: Engine>(
+pub fn call<E: Engine>(
     alloc: Global,
     engine: &mut E,
     command: &Command,
     pairs: &mut Pairs,
 ) -> Result<Option<Seen>, AllocError> {
-    match command {
-        Command::Read { txn, key } => Ok(Some(engine.read(alloc, *txn, key, pairs)?)),
-        Command::Scan { txn, range } => Ok(Some(engine.scan(alloc, *txn, range, pairs)?)),
+    let seen = match command {
+        Command::Read { txn, key } => engine.read(alloc, *txn, key, pairs)?,
+        Command::Scan { txn, range } => engine.scan(alloc, *txn, range, pairs)?,
         Command::Write { txn, key, value } => {
-            Ok(Some(engine.write(alloc, *txn, key, value.as_ref(), pairs)?))
+            engine.write(alloc, *txn, key, value.as_ref(), pairs)?
         }
         Command::Cast(txn) => {
             engine.cast(*txn);
-            Ok(None)
+            return Ok(None);
         }
         Command::Install(txn) => {
             engine.install(alloc, *txn)?;
-            Ok(None)
+            return Ok(None);
         }
         Command::Drop(txn) => {
             engine.drop_txn(*txn);
-            Ok(None)
+            return Ok(None);
         }
-    }
+    };
+    Ok(Some(seen))
 }
 
-/// Makes the call of a command.
-pub fn call<E: Engine>(
+/// Makes the call of a command and appends what it came to.
+fn put_called<E: Engine>(
     alloc: Global,
     engine: &mut E,
     command: &Command,
-) -> Result<Played, AllocError> {
+    into: &mut Vec<u8>,
+) -> Result<(), AllocError> {
     let mut pairs = Pairs::new(alloc);
-    match seen(alloc, engine, command, &mut pairs) {
-        Ok(Some(seen)) => Ok(Played::Seen(seen, pairs)),
-        Ok(None) => Ok(Played::Done),
-        Err(fault) => Err(fault),
+    match call(alloc, engine, command, &mut pairs)? {
+        Some(seen) => put_seen(&seen, pairs.as_slice(), into),
+        None => into.extend_from_slice(b"done"),
     }
 }
 
@@ -61,47 +62,43 @@ fn put_call<E: Engine>(
     row: &[u8],
     into: &mut Vec<u8>,
 ) -> Result<(), RowFault> {
-    let command = command(alloc, act_of(row)?)?;
-    let played = call(alloc, engine, &command)?;
-    Ok(put_played(&played, into)?)
+    let command = command(alloc, row)?;
+    Ok(put_called(alloc, engine, &command, into)?)
 }
 
-/// Whether an operation was answered.
-fn is_answered(played: &Played) -> bool {
-    matches!(played, Played::Seen(Seen::Answer(_), _))
-}
-
-/// Whether a transaction wrote `x` with this value. It is installed.
+/// Whether a transaction wrote a record. It is installed.
 fn commits<E: Engine>(
     alloc: Global,
     engine: &mut E,
-    t: u32,
-    value: &[u8],
-) -> Result<bool, RowFault> {
-    let write = command(alloc, Act::Write(t, b"x", value))?;
-    let is_answered = is_answered(&call(alloc, engine, &write)?);
-    engine.cast(Txn(t));
-    engine.install(alloc, Txn(t))?;
-    Ok(is_answered)
+    t: Txn,
+    key: &Key,
+    value: &Value,
+) -> Result<bool, AllocError> {
+    let mut pairs = Pairs::new(alloc);
+    let seen = engine.write(alloc, t, key, Some(value), &mut pairs)?;
+    engine.cast(t);
+    engine.install(alloc, t)?;
+    Ok(matches!(seen, Seen::Answer(_)))
 }
 
-/// How many of a thousand transactions wrote `x` with this value. They are installed.
+/// How many of a thousand transactions wrote a record. They are installed.
 fn thousand<E: Engine>(
     alloc: Global,
     engine: &mut E,
     first: u32,
-    value: &[u8],
-) -> Result<usize, RowFault> {
-    let mut count: usize = 0;
+    key: &Key,
+    value: &Value,
+) -> Result<u64, AllocError> {
+    let mut count: u64 = 0;
     for t in first..first.saturating_add(1000) {
-        if commits(alloc, engine, t, value)? {
+        if commits(alloc, engine, Txn(t), key, value)? {
             count = count.saturating_add(1);
         }
     }
     Ok(count)
 }
 
-/// Appends how many of a thousand transactions wrote.
+/// Appends how many of a thousand transactions wrote `x`.
 fn put_thousand<E: Engine>(
     alloc: Global,
     engine: &mut E,
@@ -109,7 +106,8 @@ fn put_thousand<E: Engine>(
     into: &mut Vec<u8>,
 ) -> Result<(), RowFault> {
     let (first, value) = cut(words);
-    let count = thousand(alloc, engine, number_of(first), value)?;
+    let (key, value) = record_of(alloc, b"x", value)?;
+    let count = thousand(alloc, engine, number_of(first), &key, &value)?;
     into.extend_from_slice(b"written")?;
     Ok(put_number(count, into)?)
 }
@@ -117,14 +115,19 @@ fn put_thousand<E: Engine>(
 /// Appends how many ranges were read, and how many keys were written.
 fn put_sets(sets: &Sets, into: &mut Vec<u8>) -> Result<(), AllocError> {
     into.extend_from_slice(b"reads")?;
-    put_number(sets.reads().len(), into)?;
+    put_number(sets.reads().len() as u64, into)?;
     into.extend_from_slice(b" writes")?;
-    put_number(sets.writes().len(), into)
+    put_number(sets.writes().len() as u64, into)
 }
 
-fn put_dump<E: Engine>(alloc: Global, engine: &E, into: &mut Vec<u8>) -> Result<(), RowFault> {
+/// Appends the records as an engine keeps them, and what leads back.
+pub fn put_dump<E: Engine>(
+    alloc: Global,
+    engine: &E,
+    into: &mut Vec<u8>,
+) -> Result<(), AllocError> {
     let dump = engine.dump(alloc)?;
-    Ok(put_dumped(&dump, into)?)
+    put_dumped(&dump, into)
 }
 
 /// Appends what a row tells. It is a call, or one of these questions: `stale NUMBER` asks for the least key that was overwritten
@@ -138,22 +141,14 @@ fn put_told<E: Engine + Keeps>(
     into: &mut Vec<u8>,
 ) -> Result<(), RowFault> {
     let (word, rest) = cut(row);
-    if word == b"stale".as_slice() {
-        return Ok(put_key(engine.stale(txn_of(rest)), into)?);
+    match word {
+        b"stale" => Ok(put_key(engine.stale(txn_of(rest)), into)?),
+        b"sets" => Ok(put_sets(engine.sets(txn_of(rest)), into)?),
+        b"dump" => Ok(put_dump(alloc, engine, into)?),
+        b"kept" => Ok(engine.put_kept(alloc, rest, into)?),
+        b"thousand" => put_thousand(alloc, engine, rest, into),
+        _ => put_call(alloc, engine, row, into),
     }
-    if word == b"sets".as_slice() {
-        return Ok(put_sets(engine.sets(txn_of(rest)), into)?);
-    }
-    if word == b"dump".as_slice() {
-        return put_dump(alloc, engine, into);
-    }
-    if word == b"kept".as_slice() {
-        return Ok(engine.put_kept(alloc, rest, into)?);
-    }
-    if word == b"thousand".as_slice() {
-        return put_thousand(alloc, engine, rest, into);
-    }
-    put_call(alloc, engine, row, into)
 }
 
 /// Appends what calls and questions tell, a line each.
@@ -164,7 +159,7 @@ fn put_lines<E: Engine + Keeps>(
     into: &mut Vec<u8>,
 ) -> Result<(), RowFault> {
     for line in lines {
-        if !line.is_empty() && !is_setup(line) {
+        if !is_setup(line) {
             put_told(alloc, engine, line, into)?;
             into.push(b'\n')?;
         }
@@ -176,7 +171,6 @@ fn put_lines<E: Engine + Keeps>(
 pub fn put_told_by_asks<E: Engine + Keeps + Drop>(
     alloc: Global,
     kind: Kind,
-    rows: Rows,
     voted: &[Prepared],
     lines: &[&[u8]],
     into: &mut Vec<u8>,
@@ -184,6 +178,6 @@ pub fn put_told_by_asks<E: Engine + Keeps + Drop>(
     requires taken { E.takes kind }
     requires free { IsTrue (are_free voted.now) }
 {
-    let mut engine = E::restore(alloc, kind, rows, voted)?;
+    let mut engine = E::restore(alloc, kind, rows_of(alloc, lines)?, voted)?;
     put_lines(alloc, &mut engine, lines, into)
 }

@@ -38,7 +38,7 @@ impl Keeps for OccEngine {
     /// How many write sets of installs, of any key.
     fn put_kept(&self, _alloc: Global, _key: &[u8], into: &mut Vec<u8>) -> Result<(), BaseFault> {
         into.extend_from_slice(b"write sets")?;
-        Ok(put_number(self.old_len(), into)?)
+        Ok(put_number(self.old_len() as u64, into)?)
     }
 }
 

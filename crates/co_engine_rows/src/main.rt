@@ -11,14 +11,12 @@
 //! The stored input has the worked rows, and the stored output what is to come of them.
 #![tactic(auto)]
 
-mod acts;
 mod asks;
 mod blocks;
+mod commands;
 mod kept;
-mod numbers;
 mod plays;
 mod random;
-mod random_commands;
 mod rows;
 mod setups;
 mod texts;
@@ -41,7 +39,9 @@ fn put_told(alloc: Global, text: &[u8], out: &mut Vec<u8>) -> Result<(), RowFaul
             put_block(alloc, &block, out)?;
             block.clear();
         }
-        block.push(line)?;
+        if !line.is_empty() {
+            block.push(line)?;
+        }
     }
     put_block(alloc, &block, out)
 }

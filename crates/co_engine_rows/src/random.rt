@@ -1,160 +1,178 @@
-//! Lists of commands that look random, which come to the same on an engine and on the plain one of its kind.
-ghost use Rattle.std.specs.Prelude.{IsTrue};
-ghost use Rattle.co_pairs.specs.Free.{are_free};
+//! Rows that look random.
+use crate::rows::number_of;
+use crate::texts::put_digits;
+use co_base::Kind;
+use std::alloc::{AllocError, Global};
 
-use crate::asks::call;
-use crate::random_commands::{locking_commands, multiversion_commands, validating_commands};
-use crate::rows::{RowFault, number_of};
-use crate::setups::{rows_of, voted_of};
-use crate::texts::{put_all_played, put_dumped};
-use co_base::{BaseFault, Kind, Rows, Sequence};
-use co_engine::{Answers, Command, Engine, Played, play};
-use co_lock::LockEngine;
-use co_mv::MvEngine;
-use co_occ::OccEngine;
-use co_pairs::{Prepared, are_free};
-use co_plain_engine::PlainEngine;
-use std::alloc::Global;
+/// Numbers that look random, by a linear congruential rule (Knuth, The Art of Computer Programming, volume 2,
+/// 1997, the constants of MMIX).
+#[derive(Drop)]
+struct Picks {
+    state: u64,
+}
 
-/// Makes the calls of those commands that were not refused.
-fn drive<E: Engine>(
-    alloc: Global,
-    engine: &mut E,
-    commands: &[Command],
-    answers: &Answers,
-) -> Result<(), RowFault> {
-    for (command, answer) in commands.iter().zip(answers.as_slice()) {
-        if !matches!(answer, Played::Refused) {
-            let _ = call(alloc, engine, command)?;
+impl Picks {
+    /// A number below a bound; 0 where the bound is 0.
+    fn below(&mut self, bound: u64) -> u64 {
+        let state = self.state.wrapping_mul(6364136223846793005);
+        self.state = state.wrapping_add(1442695040888963407);
+        (self.state >> 33) % bound.max(1)
+    }
+
+    /// One of some bytes.
+    fn byte_of(&mut self, bytes: &[u8]) -> u8 {
+        let place = self.below(bytes.len() as u64);
+        bytes.get(place as usize).copied().unwrap_or(b'a')
+    }
+
+    /// One of some rows.
+    fn row_of(&mut self, rows: &[&'static [u8]]) -> &'static [u8] {
+        let place = self.below(rows.len() as u64);
+        rows.get(place as usize).copied().unwrap_or(b"")
+    }
+}
+
+/// Rows of a transaction `#` and of keys `?` for an engine that validates.
+const VALIDATING: [&[u8]; 12] = [
+    b"scan # a c",
+    b"scan # b e",
+    b"erase # ?",
+    b"write # ? 1",
+    b"write # ? 2",
+    b"write # ? 3",
+    b"cast #",
+    b"cast #",
+    b"install #",
+    b"drop #",
+    b"read # ?",
+    b"read # ?",
+];
+
+/// The same for an engine that locks.
+const LOCKING: [&[u8]; 14] = [
+    b"scan # a c",
+    b"scan # f h",
+    b"erase # ?",
+    b"write # ? 1",
+    b"write # ? 2",
+    b"write # ? 3",
+    b"cast #",
+    b"install #",
+    b"install #",
+    b"drop #",
+    b"read # ?",
+    b"read # ?",
+    b"read # ?",
+    b"read # ?",
+];
+
+/// The same for an engine that keeps versions.
+const MULTIVERSION: [&[u8]; 12] = [
+    b"read # ?",
+    b"read # ?",
+    b"scan # b d",
+    b"write # ? 1",
+    b"write # ? 2",
+    b"erase # ?",
+    b"drop #",
+    b"cast #",
+    b"cast #",
+    b"install #",
+    b"install #",
+    b"install #",
+];
+
+/// How rows are made.
+#[derive(Clone, Copy)]
+struct Shape {
+    /// What they are made of.
+    rows: &'static [&'static [u8]],
+    /// The keys.
+    keys: &'static [u8],
+    /// How many rounds there are. Each has one more transaction, which is the last then.
+    rounds: u64,
+    /// How many rows a round has.
+    each: u64,
+    /// How many transactions there are at a time.
+    together: u64,
+    /// After how many of the rounds the oldest transaction is dropped.
+    drops: u64,
+}
+
+/// How rows for engines of a kind are made.
+fn shape_of(kind: Kind) -> Shape {
+    match kind {
+        Kind::Lock => Shape {
+            rows: &LOCKING,
+            keys: b"abcdefgh",
+            rounds: 25,
+            each: 16,
+            together: 5,
+            drops: 20,
+        },
+        Kind::Occ => Shape {
+            rows: &VALIDATING,
+            keys: b"abcde",
+            rounds: 20,
+            each: 20,
+            together: 6,
+            drops: 0,
+        },
+        Kind::Mv => Shape {
+            rows: &MULTIVERSION,
+            keys: b"abcde",
+            rounds: 30,
+            each: 10,
+            together: 6,
+            drops: 0,
+        },
+    }
+}
+
+/// Appends a row of a transaction and of keys that are picked.
+fn put_row(
+    picks: &mut Picks,
+    row: &[u8],
+    t: u64,
+    keys: &[u8],
+    into: &mut Vec<u8>,
+) -> Result<(), AllocError> {
+    for byte in row {
+        match *byte {
+            b'#' => put_digits(t, into)?,
+            b'?' => into.push(picks.byte_of(keys))?,
+            byte => into.push(byte)?,
         }
     }
+    Ok(into.push(b'\n')?)
+}
+
+/// Appends the rows of a round.
+fn put_round(
+    picks: &mut Picks,
+    shape: &Shape,
+    round: u64,
+    into: &mut Vec<u8>,
+) -> Result<(), AllocError> {
+    for _ in 0..shape.each {
+        let t = round.saturating_add(picks.below(shape.together));
+        let row = picks.row_of(shape.rows);
+        put_row(picks, row, t, shape.keys, into)?;
+    }
+    if round < shape.drops {
+        put_row(picks, b"drop #", round, b"", into)?;
+    }
     Ok(())
 }
 
-/// Appends what an engine dumps after those commands that were not refused.
-fn put_driven<E: Engine>(
-    alloc: Global,
-    engine: &mut E,
-    commands: &[Command],
-    answers: &Answers,
-    into: &mut Vec<u8>,
-) -> Result<(), RowFault> {
-    drive(alloc, engine, commands, answers)?;
-    let dump = engine.dump(alloc)?;
-    Ok(put_dumped(&dump, into)?)
-}
-
-/// Appends what commands came to and what an engine that begins so dumps after those that were not refused.
-fn put_played_and_driven<E: Engine + Drop>(
-    alloc: Global,
-    kind: Kind,
-    rows: Rows,
-    voted: &[Prepared],
-    commands: &[Command],
-    answers: &Answers,
-    into: &mut Vec<u8>,
-) -> Result<(), RowFault>
-    requires taken { E.takes kind }
-    requires free { IsTrue (are_free voted.now) }
-{
-    put_all_played(answers.as_slice(), into)?;
-    let mut engine = E::restore(alloc, kind, rows, voted)?;
-    put_driven(alloc, &mut engine, commands, answers, into)
-}
-
-/// Appends what commands come to on an engine, and at last what it dumps.
-fn put_told<E: Engine + Drop>(
-    alloc: Global,
-    kind: Kind,
-    lines: &[&[u8]],
-    voted: &[Prepared],
-    commands: &[Command],
-    into: &mut Vec<u8>,
-) -> Result<(), RowFault>
-    requires taken { E.takes kind }
-    requires free { IsTrue (are_free voted.now) }
-{
-    let rows = rows_of(alloc, lines)?;
-    let answers = play::<E>(alloc, kind, rows, voted, commands)?;
-    let rows = rows_of(alloc, lines)?;
-    put_played_and_driven::<E>(alloc, kind, rows, voted, commands, &answers, into)
-}
-
-/// What commands come to on an engine, and at last what it dumps.
-fn told<E: Engine + Drop>(
-    alloc: Global,
-    kind: Kind,
-    lines: &[&[u8]],
-    commands: &[Command],
-) -> Result<Vec<u8>, RowFault>
-    requires { E.takes kind }
-{
-    let voted = voted_of(alloc, lines)?;
-    if !are_free(voted.as_slice()) {
-        return Err(RowFault::Word);
+/// Appends rows for engines of a kind, and at last a scan of every key.
+pub fn put_random_rows(kind: Kind, seed: &[u8], into: &mut Vec<u8>) -> Result<(), AllocError> {
+    let shape = shape_of(kind);
+    let mut picks = Picks {
+        state: u64::from(number_of(seed)),
+    };
+    for round in 0..shape.rounds {
+        put_round(&mut picks, &shape, round, into)?;
     }
-    let mut text = Vec::new(alloc);
-    put_told::<E>(alloc, kind, lines, voted.as_slice(), commands, &mut text)?;
-    Ok(text)
-}
-
-/// Commands for engines of a kind.
-fn commands_of(alloc: Global, kind: Kind, seed: u32) -> Result<Sequence<Command>, BaseFault> {
-    match kind {
-        Kind::Lock => locking_commands(alloc, u64::from(seed)),
-        Kind::Occ => validating_commands(alloc, u64::from(seed)),
-        Kind::Mv => multiversion_commands(alloc, seed),
-    }
-}
-
-/// What commands come to on the engine of a kind.
-fn told_by_kind(
-    alloc: Global,
-    kind: Kind,
-    lines: &[&[u8]],
-    commands: &[Command],
-) -> Result<Vec<u8>, RowFault> {
-    match kind {
-        Kind::Lock => told::<LockEngine>(alloc, Kind::Lock, lines, commands),
-        Kind::Occ => told::<OccEngine>(alloc, Kind::Occ, lines, commands),
-        Kind::Mv => told::<MvEngine>(alloc, Kind::Mv, lines, commands),
-    }
-}
-
-/// Whether commands come to the same on the engine of a kind and on the plain one.
-fn are_same(
-    alloc: Global,
-    kind: Kind,
-    lines: &[&[u8]],
-    commands: &[Command],
-) -> Result<bool, RowFault> {
-    let here = told_by_kind(alloc, kind, lines, commands)?;
-    let plainly = told::<PlainEngine>(alloc, kind, lines, commands)?;
-    Ok(here.as_slice() == plainly.as_slice())
-}
-
-/// The same of the commands of a seed.
-fn is_same(alloc: Global, kind: Kind, seed: u32, lines: &[&[u8]]) -> Result<bool, RowFault> {
-    let commands = commands_of(alloc, kind, seed)?;
-    are_same(alloc, kind, lines, commands.as_slice())
-}
-
-/// Appends each seed, and whether its commands come to the same.
-pub fn put_random(
-    alloc: Global,
-    kind: Kind,
-    seeds: &[u8],
-    lines: &[&[u8]],
-    out: &mut Vec<u8>,
-) -> Result<(), RowFault> {
-    for seed in seeds.split(|b| *b == b' ') {
-        out.extend_from_slice(seed)?;
-        let told: &[u8] = if is_same(alloc, kind, number_of(seed), lines)? {
-            b" => the same\n"
-        } else {
-            b" => not the same\n"
-        };
-        out.extend_from_slice(told)?;
-    }
-    Ok(())
+    into.extend_from_slice(b"scan 99 a h")
 }

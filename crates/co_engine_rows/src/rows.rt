@@ -54,22 +54,16 @@ pub fn txn_of(word: &[u8]) -> Txn {
 
 /// The kind that a word names.
 pub fn kind_of(word: &[u8]) -> Result<Kind, RowFault> {
-    if word == b"locking".as_slice() {
-        return Ok(Kind::Lock);
+    match word {
+        b"locking" => Ok(Kind::Lock),
+        b"validating" => Ok(Kind::Occ),
+        b"multiversion" => Ok(Kind::Mv),
+        _ => Err(RowFault::Word),
     }
-    if word == b"validating".as_slice() {
-        return Ok(Kind::Occ);
-    }
-    if word == b"multiversion".as_slice() {
-        return Ok(Kind::Mv);
-    }
-    Err(RowFault::Word)
 }
 
 /// The key and the value of two words.
-pub fn record_of(alloc: Global, words: &[u8]) -> Result<(Key, Value), RowFault> {
-    let (key, value) = cut(words);
+pub fn record_of(alloc: Global, key: &[u8], value: &[u8]) -> Result<(Key, Value), BaseFault> {
     let key = Key::new(alloc, key)?;
-    let value = Value::new(alloc, value)?;
-    Ok((key, value))
+    Ok((key, Value::new(alloc, value)?))
 }

@@ -1,6 +1,6 @@
 //! What an engine begins with.
-use crate::rows::{RowFault, cut, record_of, txn_of};
-use co_base::{Key, Range, Rows, Written};
+use crate::rows::{cut, record_of, txn_of};
+use co_base::{BaseFault, Key, Range, Rows, Written};
 use co_pairs::{Prepared, PreparedList, Sets};
 use co_state::RecordMap;
 use std::alloc::Global;
@@ -11,38 +11,27 @@ pub fn is_setup(line: &[u8]) -> bool {
     line.starts_with(b"record ") || line.starts_with(b"voted ")
 }
 
-/// Sets the records that the lines say.
-fn set_records(alloc: Global, lines: &[&[u8]], records: &mut RecordMap) -> Result<(), RowFault> {
-    for line in lines {
-        if let Some(words) = line.strip_prefix(b"record ") {
-            let (key, value) = record_of(alloc, words)?;
-            records.set(key, value)?;
-        }
-    }
-    Ok(())
+/// Sets the record of two words.
+fn set_record(alloc: Global, words: &[u8], records: &mut RecordMap) -> Result<(), BaseFault> {
+    let (key, value) = cut(words);
+    let (key, value) = record_of(alloc, key, value)?;
+    Ok(records.set(key, value)?)
 }
 
 /// The records that an engine begins with, as the lines say.
-pub fn rows_of(alloc: Global, lines: &[&[u8]]) -> Result<Rows, RowFault> {
+pub fn rows_of(alloc: Global, lines: &[&[u8]]) -> Result<Rows, BaseFault> {
     let mut records = RecordMap::new(alloc);
-    set_records(alloc, lines, &mut records)?;
+    for line in lines {
+        if let Some(words) = line.strip_prefix(b"record ") {
+            set_record(alloc, words, &mut records)?;
+        }
+    }
     Ok(records.rows(alloc)?)
 }
 
-/// The prepared transactions that an engine begins with, as the lines say.
-pub fn voted_of(alloc: Global, lines: &[&[u8]]) -> Result<PreparedList, RowFault> {
-    let mut voted = PreparedList::new(alloc);
-    for line in lines {
-        if let Some(words) = line.strip_prefix(b"voted ") {
-            voted.push(prepared(alloc, words)?)?;
-        }
-    }
-    Ok(voted)
-}
-
-/// The range of a key that was read; none for `-`.
-fn add_read(alloc: Global, key: &[u8], sets: &mut Sets) -> Result<(), RowFault> {
-    if *key == *b"-".as_slice() {
+/// Adds the range of a key that was read; none for `-`.
+fn add_read(alloc: Global, key: &[u8], sets: &mut Sets) -> Result<(), BaseFault> {
+    if key == b"-".as_slice() {
         return Ok(());
     }
     let key = Key::new(alloc, key)?;
@@ -50,28 +39,35 @@ fn add_read(alloc: Global, key: &[u8], sets: &mut Sets) -> Result<(), RowFault> 
 }
 
 /// Adds a record that was written.
-fn add_write(alloc: Global, words: &[u8], sets: &mut Sets) -> Result<(), RowFault> {
-    let (key, value) = record_of(alloc, words)?;
+fn add_write(alloc: Global, words: &[u8], sets: &mut Sets) -> Result<(), BaseFault> {
+    let (key, value) = cut(words);
+    let (key, value) = record_of(alloc, key, value)?;
     let value = Some(value);
     Ok(sets.writes.push(Written { key, value })?)
 }
 
-/// What a transaction read and wrote.
-fn sets_of(alloc: Global, read: &[u8], change: &[u8]) -> Result<Sets, RowFault> {
+/// A prepared transaction.
+fn prepared(alloc: Global, words: &[u8]) -> Result<Prepared, BaseFault> {
+    let (t, rest) = cut(words);
+    let (read, change) = cut(rest);
     let mut sets = Sets::new(alloc);
     add_read(alloc, read, &mut sets)?;
     add_write(alloc, change, &mut sets)?;
-    Ok(sets)
-}
-
-/// A prepared transaction.
-fn prepared(alloc: Global, words: &[u8]) -> Result<Prepared, RowFault> {
-    let (t, rest) = cut(words);
-    let (read, change) = cut(rest);
     Ok(Prepared {
         txn: txn_of(t),
         coord: 1,
         count: 1,
-        sets: sets_of(alloc, read, change)?,
+        sets,
     })
+}
+
+/// The prepared transactions that an engine begins with, as the lines say.
+pub fn voted_of(alloc: Global, lines: &[&[u8]]) -> Result<PreparedList, BaseFault> {
+    let mut voted = PreparedList::new(alloc);
+    for line in lines {
+        if let Some(words) = line.strip_prefix(b"voted ") {
+            voted.push(prepared(alloc, words)?)?;
+        }
+    }
+    Ok(voted)
 }

@@ -1,20 +1,19 @@
 //! Answers as text: what a command came to, and behind it the pairs of transactions that are new.
-use co_base::{Key, Reply, Row, Txn, Value, Written};
+use co_base::{Key, Reply, Row, Value, Written};
 use co_engine::{Dump, Played, Seen};
 use co_pairs::{Pair, PairKind};
 use itoa::Buffer;
 use std::alloc::AllocError;
 
-/// Appends a space and a number.
-pub fn put_number(number: usize, into: &mut Vec<u8>) -> Result<(), AllocError> {
-    into.push(b' ')?;
+/// Appends a number.
+pub fn put_digits(number: u64, into: &mut Vec<u8>) -> Result<(), AllocError> {
     into.extend_from_slice(Buffer::new().format(number).as_bytes())
 }
 
-/// Appends a space and the number of a transaction.
-fn put_txn(t: Txn, into: &mut Vec<u8>) -> Result<(), AllocError> {
+/// Appends a space and a number.
+pub fn put_number(number: u64, into: &mut Vec<u8>) -> Result<(), AllocError> {
     into.push(b' ')?;
-    into.extend_from_slice(Buffer::new().format(t.0).as_bytes())
+    put_digits(number, into)
 }
 
 /// Appends a space and a key or a value.
@@ -63,28 +62,31 @@ fn put_reply(reply: &Reply, into: &mut Vec<u8>) -> Result<(), AllocError> {
     }
 }
 
-/// Appends what an operation came to.
-fn put_seen(seen: &Seen, into: &mut Vec<u8>) -> Result<(), AllocError> {
+/// Appends an answer, or who is in the way.
+fn put_answer(seen: &Seen, into: &mut Vec<u8>) -> Result<(), AllocError> {
     match seen {
         Seen::Answer(reply) => put_reply(reply, into),
         Seen::Blocked(t) => {
             into.extend_from_slice(b"blocked")?;
-            put_txn(*t, into)
+            put_number(u64::from(t.0), into)
         }
     }
 }
 
 /// Appends how two transactions are in conflict, and their numbers.
 fn put_pair(pair: &Pair, into: &mut Vec<u8>) -> Result<(), AllocError> {
-    match pair.by {
-        PairKind::Reads => into.extend_from_slice(b", reads")?,
-        PairKind::Writes => into.extend_from_slice(b", writes")?,
-    }
-    put_txn(pair.first, into)?;
-    put_txn(pair.second, into)
+    let by: &[u8] = match pair.by {
+        PairKind::Reads => b", reads",
+        PairKind::Writes => b", writes",
+    };
+    into.extend_from_slice(by)?;
+    put_number(u64::from(pair.first.0), into)?;
+    put_number(u64::from(pair.second.0), into)
 }
 
-fn put_pairs(pairs: &[Pair], into: &mut Vec<u8>) -> Result<(), AllocError> {
+/// Appends what an operation came to, and the pairs that are new.
+pub fn put_seen(seen: &Seen, pairs: &[Pair], into: &mut Vec<u8>) -> Result<(), AllocError> {
+    put_answer(seen, into)?;
     for pair in pairs {
         put_pair(pair, into)?;
     }
@@ -92,12 +94,9 @@ fn put_pairs(pairs: &[Pair], into: &mut Vec<u8>) -> Result<(), AllocError> {
 }
 
 /// Appends what a command came to.
-pub fn put_played(played: &Played, into: &mut Vec<u8>) -> Result<(), AllocError> {
+fn put_played(played: &Played, into: &mut Vec<u8>) -> Result<(), AllocError> {
     match played {
-        Played::Seen(seen, pairs) => {
-            put_seen(seen, into)?;
-            put_pairs(pairs.as_slice(), into)
-        }
+        Played::Seen(seen, pairs) => put_seen(seen, pairs.as_slice(), into),
         Played::Done => into.extend_from_slice(b"done"),
         Played::Refused => into.extend_from_slice(b"refused"),
     }
@@ -107,7 +106,7 @@ pub fn put_played(played: &Played, into: &mut Vec<u8>) -> Result<(), AllocError>
 pub fn put_all_played(answers: &[Played], into: &mut Vec<u8>) -> Result<(), AllocError> {
     for played in answers {
         put_played(played, into)?;
-        into.extend_from_slice(b"\n")?;
+        into.push(b'\n')?;
     }
     Ok(())
 }
@@ -126,6 +125,6 @@ fn put_undos(undos: &[Written], into: &mut Vec<u8>) -> Result<(), AllocError> {
 /// Appends what an engine dumps.
 pub fn put_dumped(dump: &Dump, into: &mut Vec<u8>) -> Result<(), AllocError> {
     put_rows(dump.rows.as_slice(), into)?;
-    into.extend_from_slice(b" ")?;
+    into.push(b' ')?;
     put_undos(dump.undos.as_slice(), into)
 }
