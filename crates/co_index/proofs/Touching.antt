@@ -15,9 +15,9 @@ use Rattle.co_state.specs.declared.engine_state.Sets.{Sets}
 use Rattle.co_state.specs.Changes.{put_span, put_change, no_sets}
 use Rattle.co_state.specs.Keys.{same_key, reads_key, writes_key, writes_within}
 use Rattle.co_state.specs.Table.{Table, no_entries, look, put, without, holds}
-use Rattle.co_state.proofs.Tables.{look-put, look-without}
+use Rattle.co_state.proofs.Tables.{look-put, look-without, put-without}
 use Rattle.co_index.specs.declared.index.Index.{Index}
-use Rattle.co_index.specs.Touching.{Touches, or_nobody, touches, with_touch, without_in, without_touch, is_nobody, settled, read_at, with_read, with_write, with_reads, with_writes, with_sets, with_all, forgotten_at, without_read, without_write, without_reads, without_writes, without_sets, joined, joined_all, readers_in, may_write, may_read, Covers}
+use Rattle.co_index.specs.Touching.{Touches, or_nobody, touches, with_touch, without_in, without_touch, is_nobody, settled, read_at, with_read, with_write, with_reads, with_writes, with_sets, with_all, forgotten_at, without_read, without_write, without_reads, without_writes, without_sets, joined, joined_all, readers_in, joined_scanners, may_write, may_read, spans_in, scans, with_scan, Covers}
 use Rattle.co_pairs.proofs.Picking.{tied, ties}
 use Rattle.co_index.proofs.Keys as key
 use Rattle.co_index.proofs.Putting.{reads_key-put, writes_key-put}
@@ -92,6 +92,37 @@ settled_at m k u q h true e =
 pub forgotten_still : (m : Touches) (k : List ℕ) (t u : ℕ) (q : List ℕ) → (t == u) ≡ false → touches m q u ≡ true → touches (settled (without_touch m k t) k) q u ≡ true
 forgotten_still m k t u q e h = settled_at (without_touch m k t) k u q (left_still m k t u q e h) (is_nobody (get (without_touch m k t) k)) refl
 
+or_left : (a b : Bool) → a ≡ true → (a || b) ≡ true
+or_left a b e = ap (λ x. x || b) e
+
+or_right : (a b : Bool) → b ≡ true → (a || b) ≡ true
+or_right true b e = refl
+or_right false b e = e
+
+-- ---- wide ranges
+scan_at : (m : Table (List Span)) (span : Span) (t u : ℕ) → look (with_scan m span t) u ≡ cond (eq_by_cmp nat_cmp u t) (Some (put_span span (spans_in (look m t)))) (look m u)
+scan_at m span t u =
+    ap (λ (n : Table (List Span)). look n u) (put-without m t (put_span span (spans_in (look m t)))) ∙ look-put m t (put_span span (spans_in (look m t))) u
+
+scan_still : (m : Table (List Span)) (span : Span) (t u : ℕ) (k : List ℕ) → scans m k u ≡ true → scans (with_scan m span t) k u ≡ true
+scan_still m span t u k h = ap (λ (o : Option (List Span)). reads_key (spans_in o) k) (scan_at m span t u) ∙ by (eq_by_cmp nat_cmp u t) refl
+  where
+    by : (b : Bool) → eq_by_cmp nat_cmp u t ≡ b → reads_key (spans_in (cond b (Some (put_span span (spans_in (look m t)))) (look m u))) k ≡ true
+    by true e =
+        reads_key-put span (spans_in (look m t)) k
+        ∙ or_right (span_has span k) (reads_key (spans_in (look m t)) k) (ap (λ n. reads_key (spans_in (look m n)) k) (sym (tied u t e)) ∙ h)
+    by false e = h
+
+scan_own : (m : Table (List Span)) (span : Span) (t : ℕ) (k : List ℕ) → span_has span k ≡ true → scans (with_scan m span t) k t ≡ true
+scan_own m span t k has =
+    ap (λ (o : Option (List Span)). reads_key (spans_in o) k)
+    (scan_at m span t t ∙ ap (λ (c : Bool). cond c (Some (put_span span (spans_in (look m t)))) (look m t)) ((eq_by_cmp_equiv nat_cmp_total).refl t))
+    ∙ reads_key-put span (spans_in (look m t)) k ∙ or_left (span_has span k) (reads_key (spans_in (look m t)) k) has
+
+scan_without : (m : Table (List Span)) (t u : ℕ) (k : List ℕ) → (t == u) ≡ false → scans m k u ≡ true → scans (without m t) k u ≡ true
+scan_without m t u k e h =
+    ap (λ (o : Option (List Span)). reads_key (spans_in o) k) (look-without m t u ∙ ap (λ (c : Bool). cond c None (look m u)) (ties u t ∙ e)) ∙ h
+
 -- ---- what a transaction read and wrote stays there
 or_either : (a b a' b' : Bool) → (a ≡ true → a' ≡ true) → (b ≡ true → b' ≡ true) → (a || b) ≡ true → (a' || b') ≡ true
 or_either true b a' b' f g h = ap (λ x. x || b') (f refl)
@@ -104,11 +135,11 @@ or_either false b a' b' f g h = or_true a' b' (g h)
 read_still : (b : Bool) (x : Index) (span : Span) (t u : ℕ) (sets : Sets) → Covers x u sets → Covers (read_at b x span t) u sets
 read_still true x span t u sets c = record {
   writes_are = c.writes_are;
-  reads_are = λ k h. or_either (touches x.readers k u) (holds x.scanners u) _ _ (touched_still x.readers span.lo t u k) (λ e. e) (c.reads_are k h);
+  reads_are = λ k h. or_either (touches x.readers k u) (scans x.scanners k u) _ _ (touched_still x.readers span.lo t u k) (λ e. e) (c.reads_are k h);
 }
 read_still false x span t u sets c = record {
   writes_are = c.writes_are;
-  reads_are = λ k h. or_either (touches x.readers k u) (holds x.scanners u) _ _ (λ e. e) (held-put x.scanners t u) (c.reads_are k h);
+  reads_are = λ k h. or_either (touches x.readers k u) (scans x.scanners k u) _ _ (λ e. e) (scan_still x.scanners span t u k) (c.reads_are k h);
 }
 
 pub covers_read : (x : Index) (span : Span) (t u : ℕ) (sets : Sets) → Covers x u sets → Covers (with_read x span t) u sets
@@ -123,13 +154,6 @@ covers_write x k t u sets c = record {
 either : (a b : Bool) {P : Type 0} → (a || b) ≡ true → (a ≡ true → P) → (b ≡ true → P) → P
 either true b h f g = f refl
 either false b h f g = g h
-
-or_left : (a b : Bool) → a ≡ true → (a || b) ≡ true
-or_left a b e = ap (λ x. x || b) e
-
-or_right : (a b : Bool) → b ≡ true → (a || b) ≡ true
-or_right true b e = refl
-or_right false b e = e
 
 -- one key alone
 alone_at : (r : Ordering) → not (is_gt r) ≡ true → not (is_gt (ordering_reverse r)) ≡ true → r ≡ Equal
@@ -150,9 +174,9 @@ alone_in : (span : Span) (k : List ℕ) → same_key span.lo span.hi ≡ true �
 alone_in span k same h = alone span.lo k (ap (λ hi. span_has (record { lo = span.lo; hi = hi }) k) (key.tied span.lo span.hi same) ∙ h)
 
 own_read : (b : Bool) (x : Index) (span : Span) (t : ℕ) (k : List ℕ) → same_key span.lo span.hi ≡ b → span_has span k ≡ true
-    → (touches (read_at b x span t).readers k t || holds (read_at b x span t).scanners t) ≡ true
+    → (touches (read_at b x span t).readers k t || scans (read_at b x span t).scanners k t) ≡ true
 own_read true x span t k same h = or_left _ _ (ap (λ j. touches (with_touch x.readers span.lo t) j t) (sym (alone_in span k same h)) ∙ touched_own x.readers span.lo t)
-own_read false x span t k same h = or_right (touches x.readers k t) _ (held-own x.scanners t)
+own_read false x span t k same h = or_right (touches x.readers k t) _ (scan_own x.scanners span t k h)
 
 pub covers_own_read : (x : Index) (span : Span) (t : ℕ) (sets : Sets) → Covers x t sets → Covers (with_read x span t) t (record { reads = put_span span sets.reads; writes = sets.writes })
 covers_own_read x span t sets c = record {
@@ -179,11 +203,11 @@ covers_nothing x t = record { writes_are = λ k h. absurd (true≢false (sym h))
 gone_read : (b : Bool) (x : Index) (span : Span) (t u : ℕ) (sets : Sets) → (t == u) ≡ false → Covers x u sets → Covers (forgotten_at b x span t) u sets
 gone_read true x span t u sets e c = record {
   writes_are = c.writes_are;
-  reads_are = λ k h. or_either (touches x.readers k u) (holds x.scanners u) _ _ (forgotten_still x.readers span.lo t u k e) (λ y. y) (c.reads_are k h);
+  reads_are = λ k h. or_either (touches x.readers k u) (scans x.scanners k u) _ _ (forgotten_still x.readers span.lo t u k e) (λ y. y) (c.reads_are k h);
 }
 gone_read false x span t u sets e c = record {
   writes_are = c.writes_are;
-  reads_are = λ k h. or_either (touches x.readers k u) (holds x.scanners u) _ _ (λ y. y) (held-without x.scanners t u e) (c.reads_are k h);
+  reads_are = λ k h. or_either (touches x.readers k u) (scans x.scanners k u) _ _ (λ y. y) (scan_without x.scanners t u k e) (c.reads_are k h);
 }
 
 gone_reads : (x : Index) (spans : List Span) (t u : ℕ) (sets : Sets) → (t == u) ≡ false → Covers x u sets → Covers (without_reads x spans t) u sets
@@ -212,7 +236,7 @@ covers_writes x (w ∷ ws) t u sets c = covers_writes (with_write x w.key t) ws 
 pub covers_sets : (x : Index) (own : Sets) (t u : ℕ) (sets : Sets) → Covers x u sets → Covers (with_sets x own t) u sets
 covers_sets x own t u sets c = covers_writes (with_reads x own.reads t) own.writes t u sets (covers_reads x own.reads t u sets c)
 
-reads_there : (x : Index) (spans : List Span) (t : ℕ) (k : List ℕ) → reads_key spans k ≡ true → (touches (with_reads x spans t).readers k t || holds (with_reads x spans t).scanners t) ≡ true
+reads_there : (x : Index) (spans : List Span) (t : ℕ) (k : List ℕ) → reads_key spans k ≡ true → (touches (with_reads x spans t).readers k t || scans (with_reads x spans t).scanners k t) ≡ true
 reads_there x [] t k h = absurd (true≢false (sym h))
 reads_there x (span ∷ spans) t k h =
     either (span_has span k) (reads_key spans k) h
@@ -316,8 +340,28 @@ reader_alone : (o : Option (Table (Unit {0}))) (u : ℕ) → holds (or_nobody o)
 reader_alone None u h = h
 reader_alone (Some tab) u h = joined_table no_entries tab u h
 
+scanners_still : (k : List ℕ) (found : Table (Unit {0})) (es : List (ℕ × List Span)) (u : ℕ) → holds found u ≡ true → holds (joined_scanners k found es) u ≡ true
+scanners_still k found [] u h = h
+scanners_still k found (e ∷ es) u h = scanners_still k (if reads_key e.1 k then put found e.0 tt else found) es u (by (reads_key e.1 k))
+  where
+    by : (b : Bool) → holds (if b then put found e.0 tt else found) u ≡ true
+    by true = held-put found e.0 u h
+    by false = h
+
+scanners_own : (k : List ℕ) (found : Table (Unit {0})) (es : List (ℕ × List Span)) (u : ℕ) → reads_key (spans_in (find nat_cmp u es)) k ≡ true → holds (joined_scanners k found es) u ≡ true
+scanners_own k found [] u h = absurd (true≢false (sym h))
+scanners_own k found (e ∷ es) u h = by (scanners_own k (if reads_key e.1 k then put found e.0 tt else found) es u) (eq_by_cmp nat_cmp u e.0) refl
+  where
+    by : (reads_key (spans_in (find nat_cmp u es)) k ≡ true → holds (joined_scanners k (if reads_key e.1 k then put found e.0 tt else found) es) u ≡ true)
+        → (b : Bool) → eq_by_cmp nat_cmp u e.0 ≡ b → holds (joined_scanners k (if reads_key e.1 k then put found e.0 tt else found) es) u ≡ true
+    by next true t =
+        let reads : reads_key e.1 k ≡ true = ap (λ (c : Bool). reads_key (spans_in (cond c (Some e.1) (find nat_cmp u es))) k) (sym t) ∙ h in
+        scanners_still k (if reads_key e.1 k then put found e.0 tt else found) es u
+        (ap (λ (b : Bool). holds (if b then put found e.0 tt else found) u) reads ∙ ap (λ j. holds (put found e.0 tt) j) (tied u e.0 t) ∙ held-own found e.0)
+    by next false t = next (ap (λ (c : Bool). reads_key (spans_in (cond c (Some e.1) (find nat_cmp u es))) k) (sym t) ∙ h)
+
 pub readers_found : (x : Index) (u : ℕ) (sets : Sets) (k : List ℕ) → Covers x u sets → reads_key sets.reads k ≡ true → holds (may_read x k) u ≡ true
 readers_found x u sets k c h =
-    either (touches x.readers k u) (holds x.scanners u) (c.reads_are k h)
-    (λ e. joined_still (readers_in (get x.readers k)) (entries x.scanners) u (reader_alone (get x.readers k) u e))
-    (λ e. joined_table (readers_in (get x.readers k)) x.scanners u e)
+    either (touches x.readers k u) (scans x.scanners k u) (c.reads_are k h)
+    (λ e. scanners_still k (readers_in (get x.readers k)) (entries x.scanners) u (reader_alone (get x.readers k) u e))
+    (λ e. scanners_own k (readers_in (get x.readers k)) (entries x.scanners) u (ap (λ (o : Option (List Span)). reads_key (spans_in o) k) (sym (get-entries x.scanners u)) ∙ e))

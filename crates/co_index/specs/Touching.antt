@@ -6,6 +6,7 @@ use Rattle.co_base.specs.Order.{key_cmp}
 use Rattle.co_base.specs.Span.{Span, span_has}
 use Rattle.co_base.specs.declared.written.Written.{Written}
 use Rattle.co_state.specs.declared.engine_state.Sets.{Sets}
+use Rattle.co_state.specs.Changes.{put_span}
 use Rattle.co_state.specs.Keys.{same_key, reads_key, writes_key}
 use Rattle.co_index.specs.declared.index.Index.{Index}
 use Rattle.co_state.specs.Table.{Table, no_entries, look, put, without, holds}
@@ -38,13 +39,24 @@ is_nobody (Some txns) = length (entries txns) == 0
 abbrev pub settled : Touches → List ℕ → Touches
 settled m key = if is_nobody (get m key) then remove m key else m
 
+-- ---- the wide ranges of each transaction
+abbrev pub spans_in : Option (List Span) → List Span
+spans_in None = []
+spans_in (Some spans) = spans
+
+abbrev pub scans : Table (List Span) → List ℕ → ℕ → Bool
+scans m key t = reads_key (spans_in (look m t)) key
+
+abbrev pub with_scan : Table (List Span) → Span → ℕ → Table (List Span)
+with_scan m span t = put (without m t) t (put_span span (spans_in (look m t)))
+
 -- ---- all that undecided transactions touched
 abbrev pub no_index : Index
 no_index = record { writers = empty; readers = empty; scanners = no_entries }
 
 abbrev pub read_at : Bool → Index → Span → ℕ → Index
 read_at true x span t = record x { readers = with_touch x.readers span.lo t }
-read_at false x span t = record x { scanners = put x.scanners t tt }
+read_at false x span t = record x { scanners = with_scan x.scanners span t }
 
 -- a read of one key is kept by the key
 abbrev pub with_read : Index → Span → ℕ → Index
@@ -105,13 +117,17 @@ abbrev pub readers_in : Option (Table (Unit {0})) → Table (Unit {0})
 readers_in None = no_entries
 readers_in (Some txns) = joined no_entries (entries txns)
 
+abbrev pub joined_scanners : List ℕ → Table (Unit {0}) → List (ℕ × List Span) → Table (Unit {0})
+joined_scanners key found [] = found
+joined_scanners key found (e ∷ es) = joined_scanners key (if reads_key e.1 key then put found e.0 tt else found) es
+
 abbrev pub may_read : Index → List ℕ → Table (Unit {0})
-may_read x key = joined (readers_in (get x.readers key)) (entries x.scanners)
+may_read x key = joined_scanners key (readers_in (get x.readers key)) (entries x.scanners)
 
 -- what a transaction read and wrote is there
 pub record Covers (x : Index) (t : ℕ) (sets : Sets) : Type 0 where
   pub writes_are : (key : List ℕ) → writes_key sets.writes key ≡ true → touches x.writers key t ≡ true
-  pub reads_are : (key : List ℕ) → reads_key sets.reads key ≡ true → (touches x.readers key t || holds x.scanners t) ≡ true
+  pub reads_are : (key : List ℕ) → reads_key sets.reads key ≡ true → (touches x.readers key t || scans x.scanners key t) ≡ true
 
 -- the index tells all that the transactions of a table read and wrote, given what an entry says that they did
 abbrev pub Tells : {X : Type 0} → (X → Sets) → Index → Table X → Type 0

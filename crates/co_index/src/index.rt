@@ -3,23 +3,23 @@ ghost use Rattle.std.specs.Prelude.{◌≡◌, filter, OnOk, IfOk};
 ghost use Rattle.co_base.specs.Span.{span_has};
 ghost use Rattle.std.specs.FinMap as map;
 ghost use Rattle.std.specs.FinMap.{entries};
-ghost use Rattle.co_index.specs.Touching.{no_index, with_read, with_write, with_reads, with_writes, with_sets, without_read, without_write, without_reads, without_writes, without_sets, joined, joined_all, readers_in, may_write, may_read, read_noted, change_noted, IsIndexed};
+ghost use Rattle.co_index.specs.Touching.{no_index, with_read, with_write, with_scan, spans_in, joined_scanners, with_reads, with_writes, with_sets, without_read, without_write, without_reads, without_writes, without_sets, joined, joined_all, readers_in, may_write, may_read, read_noted, change_noted, IsIndexed};
 ghost use Rattle.co_state.specs.Changes.{span_read, change_made};
-ghost use Rattle.co_state.specs.Table.{no_entries};
+ghost use Rattle.co_state.specs.Table.{no_entries, look, without};
 
 use crate::touched::Touched;
-use co_base::{Key, Op, Range, Txn, Written};
+use co_base::{Key, Op, Range, Ranges, Txn, Written};
 use co_pairs::Sets;
-use co_state::{Table, change_made, range_read};
+use co_state::{Table, change_made, put_range, range_read, reads_key};
 use std::alloc::{AllocError, Global};
 
 /// The undecided transactions by what they touched: those that wrote each key, those that read each key
-/// alone, and those that read a wider range.
+/// alone, and the wider ranges that each of them read.
 #[derive(Drop)]
 pub struct Index {
     writers: Touched,
     readers: Touched,
-    scanners: Table<()>,
+    scanners: Table<Ranges>,
 }
 
 /// Adds transactions to others.
@@ -30,6 +30,48 @@ fn join(found: &mut Table<()>, txns: &Table<()>) -> Result<(), AllocError>
         found.insert(*t, ())?;
     }
     Ok(())
+}
+
+/// Adds the transactions of which a range has a key.
+fn join_scanners(
+    found: &mut Table<()>,
+    scanners: &Table<Ranges>,
+    key: &Key,
+) -> Result<(), AllocError>
+    ensures { OnOk result (found.new ≡ joined_scanners key.now found.old (entries scanners.now)) }
+{
+    for (t, ranges) in scanners.iter() {
+        if reads_key(ranges.as_slice(), key) {
+            found.insert(*t, ())?;
+        }
+    }
+    Ok(())
+}
+
+/// Takes the wide ranges of a transaction out of a table; none where it is absent.
+fn take_ranges(alloc: Global, scanners: &mut Table<Ranges>, t: Txn) -> Ranges
+    ensures value { result ≡ spans_in (look scanners.old t) }
+    ensures rest { scanners.new ≡ without scanners.old t }
+{
+    match scanners.remove(t) {
+        Some(ranges) => ranges,
+        None => Ranges::new(alloc),
+    }
+}
+
+/// A transaction reads a wide range.
+fn add_scan(
+    alloc: Global,
+    scanners: &mut Table<Ranges>,
+    range: &Range,
+    t: Txn,
+) -> Result<(), AllocError>
+    ensures { OnOk result (scanners.new ≡ with_scan scanners.old range.now t) }
+{
+    let taken = take_ranges(alloc, scanners, t);
+    let mut ranges = taken.into_vec();
+    put_range(&mut ranges, range.copy()?)?;
+    scanners.insert(t, Ranges::of(ranges))
 }
 
 /// The transactions that touched a key of a range.
@@ -73,7 +115,7 @@ impl Index {
         if range.lo().cmp(range.hi()).is_eq() {
             self.readers.add(alloc, range.lo(), t)
         } else {
-            self.scanners.insert(t, ())
+            add_scan(alloc, &mut self.scanners, range, t)
         }
     }
 
@@ -183,12 +225,12 @@ impl Index {
         }
     }
 
-    /// Every transaction that read a key, and others that read wider ranges.
+    /// Every transaction that read a key, alone or in a wider range.
     pub fn may_read(&self, alloc: Global, key: &Key) -> Result<Table<()>, AllocError>
         ensures { IfOk result (λ found. found ≡ may_read self.now key.now) }
     {
         let mut found = self.readers_alone(alloc, key)?;
-        join(&mut found, &self.scanners)?;
+        join_scanners(&mut found, &self.scanners, key)?;
         Ok(found)
     }
 }

@@ -112,8 +112,10 @@ impl Told {
     pub fn has(&self, pair: Pair) -> bool
         ensures { result ≡ is_told self.now pair }
     {
-        let stored = stored_in(pair.by, pair.second, self.rows.get(pair.first));
-        agree(stored, birth_in(self.rows.get(pair.second)))
+        match stored_in(pair.by, pair.second, self.rows.get(pair.first)) {
+            Some(birth) => agree(Some(birth), birth_in(self.rows.get(pair.second))),
+            None => false,
+        }
     }
 
     /// A transaction is born, where it is not yet there. Births are counted in 64 bits, and one past them is want
