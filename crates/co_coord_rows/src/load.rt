@@ -64,23 +64,52 @@ fn carry(
     Ok(ended)
 }
 
+/// Lets these events of transactions happen, from one on and up to another: how many ended.
+fn carry_all(
+    alloc: Global,
+    home: &mut HomeMemory,
+    coord: &mut Coord,
+    steps: [u8; 2],
+    first: u32,
+    end: u32,
+) -> Result<u32>
+    requires { IsPlayed home.old coord.old }
+    ensures { OnOk result (IsPlayed home.new coord.new) }
+{
+    let mut ended: u32 = 0;
+    for t in first..end {
+        if carry(alloc, home, coord, steps, Txn(t))? {
+            ended = ended.saturating_add(1);
+        }
+    }
+    Ok(ended)
+}
+
+/// Lets all events of a load happen.
+fn loaded(
+    alloc: Global,
+    home: &mut HomeMemory,
+    coord: &mut Coord,
+    count: u32,
+    end: u32,
+) -> Result<u32>
+    requires { IsPlayed home.old coord.old }
+{
+    carry_all(alloc, home, coord, [0, 1], 0, end)?;
+    carry_all(alloc, home, coord, [1, 2], 0, count)?;
+    carry_all(alloc, home, coord, [1, 6], count, end)
+}
+
 /// Transactions are begun in a directory of their own. So many of them are asked for their commit and stay open, and so many others are carried
 /// to their end beside them: how many ended. All are begun first, since each begin looks through the log.
 pub fn load(alloc: Global, count: u32, rounds: u32) -> Result<u32> {
     let mut home = HomeMemory::new(alloc, Vec::new(alloc));
     let mut coord = opened(alloc, &mut home)?;
-    let end = count.saturating_add(rounds);
-    for t in 0..end {
-        carry(alloc, &mut home, &mut coord, [0, 1], Txn(t))?;
-    }
-    for t in 0..count {
-        carry(alloc, &mut home, &mut coord, [1, 2], Txn(t))?;
-    }
-    let mut ended: u32 = 0;
-    for t in count..end {
-        if carry(alloc, &mut home, &mut coord, [1, 6], Txn(t))? {
-            ended = ended.saturating_add(1);
-        }
-    }
-    Ok(ended)
+    loaded(
+        alloc,
+        &mut home,
+        &mut coord,
+        count,
+        count.saturating_add(rounds),
+    )
 }

@@ -33,22 +33,25 @@ use std::alloc::Global;
 /// The most bytes of the rows.
 const MOST_BYTES: u32 = 0x10_0000;
 
-/// What the rows of a text come to.
-fn told(alloc: Global, text: &[u8]) -> Result<Vec<u8>> {
-    let mut out = Vec::new(alloc);
+/// Appends what the rows of a text come to.
+fn put_told(alloc: Global, text: &[u8], out: &mut Vec<u8>) -> Result<()> {
     let mut rows = Vec::new(alloc);
     for line in text.split(|b| *b == b'\n') {
         if line.starts_with(b"#") {
-            if !rows.is_empty() {
-                put_block(alloc, &rows, &mut out)?;
-                rows = Vec::new(alloc);
-            }
-            put_line(line, &mut out)?;
+            put_block(alloc, &rows, out)?;
+            rows.clear();
+            put_line(line, out)?;
         } else if !line.is_empty() {
             rows.push(line)?;
         }
     }
-    put_block(alloc, &rows, &mut out)?;
+    put_block(alloc, &rows, out)
+}
+
+/// What the rows of a text come to.
+fn told(alloc: Global, text: &[u8]) -> Result<Vec<u8>> {
+    let mut out = Vec::new(alloc);
+    put_told(alloc, text, &mut out)?;
     Ok(out)
 }
 

@@ -1,4 +1,3 @@
-use Rattle.std.proofs.Common.{length}
 use Rattle.co_outside.specs.HomeMemory.{memory_seen}
 use Rattle.co_plain.specs.CoordLog.{coord_arm}
 use Rattle.co_coord_rows.proofs.Events.{whole_laws, writable_laws, plain_up, played}
