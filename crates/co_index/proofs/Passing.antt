@@ -12,11 +12,12 @@ use Rattle.co_index.proofs.Touching.{writers_found, key_writers_found, readers_f
 use Rattle.co_pairs.specs.declared.side.Side.TheVariants.{Reader, Writer, Lesser, Greater}
 use Rattle.co_pairs.specs.NewPairs.{found_in, found_at}
 
-both_first : (a b : Bool) → (a && b) ≡ true → a ≡ true
+-- both halves of a test that holds
+pub both_first : (a b : Bool) → (a && b) ≡ true → a ≡ true
 both_first true b h = refl
 both_first false b h = absurd (true≢false (sym h))
 
-both_second : (a b : Bool) → (a && b) ≡ true → b ≡ true
+pub both_second : (a b : Bool) → (a && b) ≡ true → b ≡ true
 both_second true b h = h
 both_second false b h = absurd (true≢false (sym h))
 

@@ -22,16 +22,9 @@ use Rattle.co_index.specs.declared.told.Told.{Told}
 use Rattle.co_index.specs.NewPairs.{touches_on, newly_touches}
 use Rattle.co_index.specs.Told.{no_told, is_told, told_all, gone, AreFresh, AreThere, Knows, newly_told}
 use Rattle.co_index.specs.Undecided.{grown_at}
+use Rattle.co_index.proofs.Passing.{both_first, both_second}
 use Rattle.co_index.proofs.Putting.{reads_meet-put, reads_meet-change, writes_meet-change, change-writes_meet}
 use Rattle.co_index.proofs.Telling.{nothing_told, Remains, gone_tells, all_tell}
-
-both_first : (a b : Bool) → (a && b) ≡ true → a ≡ true
-both_first true b h = refl
-both_first false b h = absurd (true≢false (sym h))
-
-both_second : (a b : Bool) → (a && b) ≡ true → b ≡ true
-both_second true b h = h
-both_second false b h = absurd (true≢false (sym h))
 
 or_right : (a b : Bool) → b ≡ true → (a || b) ≡ true
 or_right true b e = refl
