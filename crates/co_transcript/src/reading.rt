@@ -216,19 +216,7 @@ fn plain_answer(form: AnswerForm) -> Option<Answer>
         AnswerForm::Used => Some(Answer::Used),
         AnswerForm::Asked => Some(Answer::Asked),
         AnswerForm::Unsent => Some(Answer::Unsent),
-        AnswerForm::Got
-        | AnswerForm::Rows
-        | AnswerForm::Gone
-        | AnswerForm::No
-        | AnswerForm::Waiting
-        | AnswerForm::Aborted
-        | AnswerForm::Filled
-        | AnswerForm::Stopped
-        | AnswerForm::Down
-        | AnswerForm::Blocked
-        | AnswerForm::Held
-        | AnswerForm::Too
-        | AnswerForm::Not => None,
+        _ => None,
     }
 }
 
@@ -259,33 +247,7 @@ fn answer_with_fields(
         AnswerForm::Held => Ok(Answer::Held(txn_alone(words)?)),
         AnswerForm::Too => second(words, b"many", Answer::TooMany),
         AnswerForm::Not => second(words, b"begun", Answer::NotBegun),
-        AnswerForm::Opened
-        | AnswerForm::Begun
-        | AnswerForm::Done
-        | AnswerForm::Missing
-        | AnswerForm::Committed
-        | AnswerForm::Decided
-        | AnswerForm::Ended
-        | AnswerForm::Idle
-        | AnswerForm::Unknown
-        | AnswerForm::Yes
-        | AnswerForm::Voted
-        | AnswerForm::Unasked
-        | AnswerForm::Unvoted
-        | AnswerForm::Already
-        | AnswerForm::Absent
-        | AnswerForm::Installed
-        | AnswerForm::Dropped
-        | AnswerForm::Kept
-        | AnswerForm::Asking
-        | AnswerForm::Crashed
-        | AnswerForm::Up
-        | AnswerForm::Running
-        | AnswerForm::Armed
-        | AnswerForm::Closed
-        | AnswerForm::Used
-        | AnswerForm::Asked
-        | AnswerForm::Unsent => unreachable!(),
+        _ => unreachable!(),
     }
 }
 
