@@ -17,6 +17,7 @@ use Rattle.co_base.specs.declared.reply.Reply.TheVariants as reply
 use Rattle.co_base.specs.declared.mark.Mark.{Mark}
 use Rattle.co_base.specs.declared.mark.MarkKind.{MarkKind}
 use Rattle.co_base.specs.declared.mark.MarkKind.TheVariants as mark
+use Rattle.co_base.specs.Limits.{most_coordinators, most_members}
 use Rattle.co_message.specs.declared.answer.Cause.{Cause}
 use Rattle.co_message.specs.declared.answer.Cause.TheVariants as cause
 use Rattle.co_message.specs.declared.answer.Answer.{Answer}
@@ -58,7 +59,7 @@ cause_taken cause.Timer = record { wanted = refl; whole = refl }
 cause_taken cause.Client = record { wanted = refl; whole = refl }
 
 mark_fits : (m : Mark) → IsMark m → Fits log_places (mark_words m)
-mark_fits m it = (node_taken 16 8 m.node it.0 (omega arith) (omega arith), (mark_taken m.kind, (number_fits m.number it.1, tt)))
+mark_fits m it = (node_taken most_members most_coordinators m.node it.0 (omega arith) (omega arith), (mark_taken m.kind, (number_fits m.number it.1, tt)))
 
 key_above_taken : (before text : Word) → IsKey text → key_cmp before text ≡ Less → Taken (key_above before) text
 key_above_taken before text it above =
@@ -97,7 +98,7 @@ answer_fits (answer.Held txn) it = (word_taken refl refl, (txn_taken txn it, tt)
 answer_fits (answer.Filled generation) it = (word_taken refl refl, (number_fits generation it, tt))
 answer_fits (answer.Stopped call) it = (word_taken refl refl, (number_taken 1 4 call it.0 it.1 (omega arith), tt))
 answer_fits answer.NotBegun it = (word_taken refl refl, (word_taken refl refl, tt))
-answer_fits (answer.Down node) it = (word_taken refl refl, (node_taken 16 8 node it (omega arith) (omega arith), tt))
+answer_fits (answer.Down node) it = (word_taken refl refl, (node_taken most_members most_coordinators node it (omega arith) (omega arith), tt))
 answer_fits _ it = (word_taken refl refl, tt)
 
 kinds_short : (kinds : List Kind) (words : List Word) → length (behind (map kind_word kinds ++ words)) ≤ 5 * length kinds + length (behind words)
@@ -112,15 +113,15 @@ head_short head =
     let digits : length (decimal head.coords) ≤ 9 = omega (arith, length-decimal-le_succ head.coords (omega (arith, head.coordinators)), head.coordinators) in
     omega (arith, kinds_short head.kinds (codes "coords" ∷ decimal head.coords ∷ []), head.members, digits, length-append (decimal head.coords) [])
 
-line_fits : (e : Event) → IsEventFor 16 8 e → length (line_text e) ≤ longest_line → Fits line_places (event_words e)
-line_fits (event.Begin t k) it short = (short, (word_taken refl refl, (event_fits 16 8 (event.Begin t k) (omega arith) (omega arith) it).1))
-line_fits e it short = (short, (word_taken refl refl, (event_fits 16 8 e (omega arith) (omega arith) it).1))
+line_fits : (e : Event) → IsEventFor most_members most_coordinators e → length (line_text e) ≤ longest_line → Fits line_places (event_words e)
+line_fits (event.Begin t k) it short = (short, (word_taken refl refl, (event_fits most_members most_coordinators (event.Begin t k) (omega arith) (omega arith) it).1))
+line_fits e it short = (short, (word_taken refl refl, (event_fits most_members most_coordinators e (omega arith) (omega arith) it).1))
 
 told_fits : (what : ItemKind) → IsTold what → (number : ℕ) → number ≤ 4294967295 → Fits item_places (decimal number ∷ kind_words what)
 told_fits (item.Head head) it n small = (number_fits n small, (word_taken refl refl, (head_short head, (word_taken refl refl, (head_fits head).1))))
 told_fits (item.Event e) it n small = (number_fits n small, (word_taken refl refl, line_fits e it.0 it.1))
 told_fits (item.Log m) it n small = (number_fits n small, (word_taken refl refl, mark_fits m it))
-told_fits (item.Sent m) it n small = (number_fits n small, (word_taken refl refl, message_fits 16 8 m (omega arith) (omega arith) it))
+told_fits (item.Sent m) it n small = (number_fits n small, (word_taken refl refl, message_fits most_members most_coordinators m (omega arith) (omega arith) it))
 told_fits (item.Answered a) it n small = (number_fits n small, (word_taken refl refl, answer_fits a it))
 
 pub item_fits : (i : Item) → IsItem i → Fits item_places (item_words i)

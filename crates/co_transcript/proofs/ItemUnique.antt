@@ -8,6 +8,7 @@ use Rattle.co_base.specs.declared.reply.Reply.TheVariants as reply
 use Rattle.co_base.specs.declared.mark.Mark.{Mark}
 use Rattle.co_base.specs.declared.mark.MarkKind.{MarkKind}
 use Rattle.co_base.specs.declared.mark.MarkKind.TheVariants as mark
+use Rattle.co_base.specs.Limits.{most_coordinators, most_members}
 use Rattle.co_message.specs.declared.answer.Cause.{Cause}
 use Rattle.co_message.specs.declared.answer.Cause.TheVariants as cause
 use Rattle.co_message.specs.declared.answer.Answer.{Answer}
@@ -106,7 +107,7 @@ answer_back-words (answer.NoLost kept carried) it = rw (value_of-decimal kept (o
 answer_back-words (answer.Held txn) it = rw (value_of-decimal txn (omega (arith, it))) refl
 answer_back-words (answer.Filled generation) it = rw (value_of-decimal generation (omega (arith, it))) refl
 answer_back-words (answer.Stopped call) it = rw (value_of-decimal call (omega (arith, it.1))) refl
-answer_back-words (answer.Down node) it = ap (λ n. Some (answer.Down n)) (node_same 16 8 node (omega arith) (omega arith) it)
+answer_back-words (answer.Down node) it = ap (λ n. Some (answer.Down n)) (node_same most_members most_coordinators node (omega arith) (omega arith) it)
 answer_back-words (answer.Replied (reply.Got (Some value))) it = refl
 answer_back-words (answer.Replied (reply.Got None)) it = refl
 answer_back-words (answer.Replied reply.Done) it = refl
@@ -135,7 +136,7 @@ mark_named-word mark.Checkpoint = refl
 mark_back-words : (m : Mark) → IsMark m → mark_back (mark_words m) ≡ Some m
 mark_back-words m it =
     ap (λ k. mark_from k (mark_words m)) (mark_named-word m.kind)
-    ∙ ap (λ n. Some (record { node = n; kind = m.kind; number = amount (decimal m.number) })) (node_same 16 8 m.node (omega arith) (omega arith) it.0)
+    ∙ ap (λ n. Some (record { node = n; kind = m.kind; number = amount (decimal m.number) })) (node_same most_members most_coordinators m.node (omega arith) (omega arith) it.0)
     ∙ ap (λ n. Some (record { node = m.node; kind = m.kind; number = n })) (value_of-decimal m.number (omega (arith, it.1)))
 
 mark_same : (a b : Mark) → IsMark a → IsMark b → mark_words a ≡ mark_words b → a ≡ b
@@ -143,9 +144,9 @@ mark_same a b p q e =
     let both : Some a ≡ Some b = sym (mark_back-words a p) ∙ ap mark_back e ∙ mark_back-words b q in
     cc
 
-message_same : (a b : Message) → IsMessageFor 16 8 a → IsMessageFor 16 8 b → message_words a ≡ message_words b → a ≡ b
+message_same : (a b : Message) → IsMessageFor most_members most_coordinators a → IsMessageFor most_members most_coordinators b → message_words a ≡ message_words b → a ≡ b
 message_same a b p q e =
-    let both : Some a ≡ Some b = sym (message_back-words 16 8 a (omega arith) (omega arith) p) ∙ ap message_back e ∙ message_back-words 16 8 b (omega arith) (omega arith) q in
+    let both : Some a ≡ Some b = sym (message_back-words most_members most_coordinators a (omega arith) (omega arith) p) ∙ ap message_back e ∙ message_back-words most_members most_coordinators b (omega arith) (omega arith) q in
     cc
 
 abbrev is_head : List Word → Bool
@@ -182,7 +183,7 @@ told_alike : (a b : ItemKind) → Some (told_form a) ≡ Some (told_form b) → 
 told_alike (item.Head a) (item.Head b) t p q e = ap item.Head (head_same a b e)
 told_alike (item.Head a) (item.Event b) t p q e = absurd (no_head a b e)
 told_alike (item.Event a) (item.Head b) t p q e = absurd (no_head b a (sym e))
-told_alike (item.Event a) (item.Event b) t p q e = ap item.Event (same_event 16 8 a b (omega arith) (omega arith) p.0 q.0 e)
+told_alike (item.Event a) (item.Event b) t p q e = ap item.Event (same_event most_members most_coordinators a b (omega arith) (omega arith) p.0 q.0 e)
 told_alike (item.Log a) (item.Log b) t p q e = ap item.Log (mark_same a b p q e)
 told_alike (item.Sent a) (item.Sent b) t p q e = ap item.Sent (message_same a b p q e)
 told_alike (item.Answered a) (item.Answered b) t p q e = ap item.Answered (answer_same a b p q e)

@@ -4,6 +4,7 @@ use Rattle.std.specs.Str.{bytes_eq}
 use Rattle.std.specs.Str.Parse.{digits_value}
 use Rattle.co_base.specs.declared.mark.MarkKind.{MarkKind}
 use Rattle.co_base.specs.declared.mark.MarkKind.TheVariants as mark
+use Rattle.co_base.specs.Limits.{most_coordinators, most_members}
 use Rattle.co_message.specs.declared.answer.Cause.{Cause}
 use Rattle.co_message.specs.declared.answer.Cause.TheVariants as cause
 use Rattle.co_schedule.specs.Limits.{longest_line}
@@ -102,14 +103,14 @@ answer_places form.Rows = place (number 0 4294967295) (λ count. rows_places (di
 answer_places form.Blocked = line.txn ▸ nothing
 answer_places form.Gone = line.count ▸ line.count ▸ nothing
 answer_places form.Too = one_of (codes "many" ∷ []) ▸ nothing
-answer_places form.Waiting = member 16 ▸ nothing
+answer_places form.Waiting = member most_members ▸ nothing
 answer_places form.Aborted = one_of (map cause_word all_causes) ▸ nothing
 answer_places form.No = lost_or_stale
 answer_places form.Held = line.txn ▸ nothing
 answer_places form.Filled = number 0 4294967295 ▸ nothing
 answer_places form.Stopped = line.call ▸ nothing
 answer_places form.Not = one_of (codes "begun" ∷ []) ▸ nothing
-answer_places form.Down = node 16 8 ▸ nothing
+answer_places form.Down = node most_members most_coordinators ▸ nothing
 answer_places _ = nothing
 
 -- the forms of answers that have more words than the first one
@@ -139,14 +140,14 @@ reply_places = place (one_of (map form_word all_forms)) (λ word. answer_chosen 
 
 -- a record that became stable
 abbrev pub log_places : Places
-log_places = node 16 8 ▸ one_of (map mark_word all_marks) ▸ number 0 4294967295 ▸ nothing
+log_places = node most_members most_coordinators ▸ one_of (map mark_word all_marks) ▸ number 0 4294967295 ▸ nothing
 
 -- a head behind its first word
 abbrev pub kinds_of_head : Places
 kinds_of_head = one_of (map kind_word line.all_kinds) ▸ line.kinds_places 15
 
 abbrev pub line_chosen : Word → Places
-line_chosen word = if bytes_eq (codes "members") word then kinds_of_head else line.event_chosen 16 8 (line.form_named word)
+line_chosen word = if bytes_eq (codes "members") word then kinds_of_head else line.event_chosen most_members most_coordinators (line.form_named word)
 
 -- a head or an event, of at most as many bytes as a line
 abbrev pub line_places : Places
@@ -168,7 +169,7 @@ told_named word = find (λ f. bytes_eq (told_word f) word) all_told
 abbrev pub told_places : ToldForm → Places
 told_places told.Event = line_places
 told_places told.Log = log_places
-told_places told.Send = line.message_places 16 8
+told_places told.Send = line.message_places most_members most_coordinators
 told_places told.Reply = reply_places
 
 abbrev pub told_chosen : Option ToldForm → Places

@@ -6,6 +6,7 @@ use Rattle.co_base.specs.declared.row.Row.{Row}
 use Rattle.co_base.specs.declared.reply.Reply.{Reply}
 use Rattle.co_base.specs.declared.reply.Reply.TheVariants as reply
 use Rattle.co_base.specs.declared.mark.Mark.{Mark}
+use Rattle.co_base.specs.Limits.{most_coordinators, most_members}
 use Rattle.co_message.specs.declared.answer.Answer.{Answer}
 use Rattle.co_message.specs.declared.answer.Answer.TheVariants as answer
 use Rattle.co_message.specs.declared.item.Item.{Item}
@@ -31,24 +32,24 @@ abbrev pub IsAnswer : Answer → Type 0
 IsAnswer (answer.Replied reply) = IsReply reply
 IsAnswer (answer.Blocked txn) = IsTxn txn
 IsAnswer (answer.Gone kept carried) = IsCount kept × IsCount carried
-IsAnswer (answer.Waiting member) = IsWithin 1 16 member
+IsAnswer (answer.Waiting member) = IsWithin 1 most_members member
 IsAnswer (answer.NoLost kept carried) = IsCount kept × IsCount carried
 IsAnswer (answer.NoStale key) = IsKey key
 IsAnswer (answer.Held txn) = IsTxn txn
 IsAnswer (answer.Filled generation) = generation ≤ 4294967295
 IsAnswer (answer.Stopped call) = IsWithin 1 4 call
-IsAnswer (answer.Down node) = IsNode 16 8 node
+IsAnswer (answer.Down node) = IsNode most_members most_coordinators node
 IsAnswer _ = Unit {0}
 
 abbrev pub IsMark : Mark → Type 0
-IsMark mark = IsNode 16 8 mark.node × (mark.number ≤ 4294967295)
+IsMark mark = IsNode most_members most_coordinators mark.node × (mark.number ≤ 4294967295)
 
 -- what an item tells is in its sets; an event has a line of at most 8,192 bytes
 abbrev pub IsTold : ItemKind → Type 0
 IsTold (item.Head head) = Unit {0}
-IsTold (item.Event event) = IsEventFor 16 8 event × (length (line_text event) ≤ longest_line)
+IsTold (item.Event event) = IsEventFor most_members most_coordinators event × (length (line_text event) ≤ longest_line)
 IsTold (item.Log mark) = IsMark mark
-IsTold (item.Sent message) = IsMessageFor 16 8 message
+IsTold (item.Sent message) = IsMessageFor most_members most_coordinators message
 IsTold (item.Answered answer) = IsAnswer answer
 
 abbrev pub IsItem : Item → Type 0

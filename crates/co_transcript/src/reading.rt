@@ -15,7 +15,7 @@ ghost use Rattle.co_transcript.specs.Faults.{IsTextFault, place_of};
 use crate::fault::ItemFault;
 use crate::fields::{answer_form, cause, mark_kind, own_key, own_value, row_name, told_form};
 use crate::form::{AnswerForm, ToldForm};
-use co_base::{Mark, Reply, Row, Rows, Txn};
+use co_base::{MOST_COORDINATORS, MOST_MEMBERS, Mark, Reply, Row, Rows, Txn};
 use co_message::{Answer, Item, ItemKind};
 use co_schedule::{
     LONGEST_LINE, LineKind, Mistake, NodeCounts, ReadFault, Words, key_of, read_event_fields,
@@ -142,7 +142,7 @@ fn waiting(words: &mut Words<'_>) -> Result<Answer, ReadFault>
     ensures found { IfOk result (λ answer. IsAnswer answer × (form_word AnswerForm.Waiting ∷ words.old ≡ answer_words answer)) }
     ensures fault { IfErr result (IsFirstFault (answer_places AnswerForm.Waiting) words.old) }
 {
-    let member = words.member(16)?;
+    let member = words.member(MOST_MEMBERS)?;
     words.end()?;
     Ok(Answer::Waiting(member))
 }
@@ -178,7 +178,7 @@ fn down(words: &mut Words<'_>) -> Result<Answer, ReadFault>
     ensures found { IfOk result (λ answer. IsAnswer answer × (form_word AnswerForm.Down ∷ words.old ≡ answer_words answer)) }
     ensures fault { IfErr result (IsFirstFault (answer_places AnswerForm.Down) words.old) }
 {
-    let node = words.node(16, 8)?;
+    let node = words.node(MOST_MEMBERS, MOST_COORDINATORS)?;
     words.end()?;
     Ok(Answer::Down(node))
 }
@@ -274,7 +274,7 @@ fn read_mark(words: &mut Words<'_>) -> Result<Mark, ReadFault>
     ensures found { IfOk result (λ mark. IsMark mark × (words.old ≡ mark_words mark)) }
     ensures fault { IfErr result (IsFirstFault log_places words.old) }
 {
-    let node = words.node(16, 8)?;
+    let node = words.node(MOST_MEMBERS, MOST_COORDINATORS)?;
     let kind = mark_kind(words)?;
     let number = words.number(0, u32::MAX)?;
     words.end()?;
