@@ -1,13 +1,12 @@
-//! Three plain engines over std's collections, and the loads of `co_bench`: what the proved engines are measured against. No contracts, no faults, no bounds on memory.
+//! Three plain engines over std's collections, and the loads of `co_engine_rows`: what the proved engines are measured against. No contracts, no faults, no bounds on memory.
 //!
-//!     rustc -O bench/engines.rs && ./engines lock|occ|mv OPERATIONS TRANSACTIONS KEYS SPAN [TOGETHER]
+//!     rustc -O bench/engines.rs && ./engines locking|validating|multiversion turns|ballots|dumps|staggered OPERATIONS TRANSACTIONS KEYS SPAN TOGETHER
 //!
-//! It prints what `co_bench` prints; the digest covers every reply, row, blocker and pair.
+//! It prints what `co_engine_rows` prints of a load; the digest covers every reply, row, blocker and pair.
 
 use std::cmp::{max, min};
 use std::collections::{BTreeMap, BTreeSet, HashMap, HashSet};
 use std::ops::Bound::{Excluded, Unbounded};
-use std::time::Instant;
 
 type Key = Vec<u8>;
 type Value = Vec<u8>;
@@ -26,6 +25,10 @@ enum Command {
     Write(Txn, Key, Value),
     Cast(Txn),
     Install(Txn),
+    /// Whether a read of the transaction was overwritten.
+    Ballot(Txn),
+    /// The records as they are kept, and what leads back.
+    Dump,
 }
 
 enum Played {
@@ -34,6 +37,8 @@ enum Played {
     Written(Vec<Pair>),
     Blocked(Txn),
     Done,
+    Stale(Option<Key>),
+    Dumped(Vec<(Key, Value)>, Vec<(Key, Option<Value>)>),
 }
 
 #[derive(Clone, Copy, PartialEq, Eq, Hash)]
@@ -47,7 +52,8 @@ struct Pair {
 struct Undecided {
     voted: bool,
     snapshot: u64,
-    reads: Vec<(Key, Key)>,
+    /// The ranges that were read, and how many installs each read saw.
+    reads: Vec<(Key, Key, u64)>,
     writes: BTreeMap<Key, Option<Value>>,
     /// What stood in the store before a write in place.
     undos: BTreeMap<Key, Option<Value>>,
@@ -65,6 +71,8 @@ struct Engine {
     wide: BTreeSet<(Key, Key, Txn)>,
     told: HashSet<Pair>,
     snapshots: BTreeMap<u64, usize>,
+    /// The last install of each key that was written.
+    lasts: BTreeMap<Key, u64>,
 }
 
 impl Engine {
@@ -88,6 +96,7 @@ impl Engine {
             wide: BTreeSet::new(),
             told: HashSet::new(),
             snapshots: BTreeMap::new(),
+            lasts: BTreeMap::new(),
         }
     }
 
@@ -141,8 +150,9 @@ impl Engine {
 
     /// Notes a read of a range, and tells the new pairs with those that wrote in it.
     fn note_read(&mut self, t: Txn, lo: &Key, hi: &Key) -> Vec<Pair> {
+        let installs = self.installs;
         let own = self.undecided.get_mut(&t).unwrap();
-        own.reads.push((lo.clone(), hi.clone()));
+        own.reads.push((lo.clone(), hi.clone(), installs));
         if lo == hi {
             let by = self.readers.entry(lo.clone()).or_default();
             if !by.contains(&t) {
@@ -249,7 +259,7 @@ impl Engine {
     }
 
     fn leave(&mut self, t: Txn, own: &Undecided) {
-        for (lo, hi) in &own.reads {
+        for (lo, hi, _) in &own.reads {
             if lo != hi {
                 self.wide.remove(&(lo.clone(), hi.clone(), t));
             } else if let Some(by) = self.readers.get_mut(lo) {
@@ -285,6 +295,9 @@ impl Engine {
         self.installs += 1;
         let oldest = self.snapshots.keys().next().copied().unwrap_or(self.installs);
         for (key, value) in own.writes {
+            if self.kind != Kind::Lock {
+                self.lasts.insert(key.clone(), self.installs);
+            }
             match self.kind {
                 Kind::Lock => (),
                 Kind::Occ => match value {
@@ -302,8 +315,33 @@ impl Engine {
         Played::Done
     }
 
+    /// The least key that was written after an active transaction read it.
+    fn ballot(&self, t: Txn) -> Played {
+        let mut least: Option<&Key> = None;
+        for (lo, hi, seen) in &self.undecided[&t].reads {
+            let written = self.lasts.range(lo.clone()..=hi.clone());
+            if let Some((key, _)) = written.filter(|(_, last)| *last > seen).next() {
+                least = Some(least.map_or(key, |it| min(it, key)));
+            }
+        }
+        Played::Stale(least.cloned())
+    }
+
+    fn dump(&self) -> Played {
+        let rows = if self.kind == Kind::Mv {
+            let kept = self.chains.iter();
+            kept.filter_map(|(key, chain)| Some((key.clone(), chain.last()?.1.clone()?))).collect()
+        } else {
+            self.store.iter().map(|(key, value)| (key.clone(), value.clone())).collect()
+        };
+        let undos: BTreeMap<&Key, &Option<Value>> = self.undecided.values().flat_map(|it| &it.undos).collect();
+        Played::Dumped(rows, undos.into_iter().map(|(key, value)| (key.clone(), value.clone())).collect())
+    }
+
     fn play(&mut self, command: Command) -> Played {
         match command {
+            Command::Ballot(t) => self.ballot(t),
+            Command::Dump => self.dump(),
             Command::Read(t, key) => self.read(t, key),
             Command::Scan(t, lo, hi) => self.scan(t, lo, hi),
             Command::Write(t, key, value) => self.write(t, key, value),
@@ -313,7 +351,7 @@ impl Engine {
     }
 }
 
-/// The numbers that `co_bench` picks.
+/// The numbers that `co_engine_rows` picks.
 struct Picks(u64);
 
 impl Picks {
@@ -340,80 +378,77 @@ fn operation(picks: &mut Picks, keys: u32, span: u32, t: Txn) -> Command {
     }
 }
 
-fn commands(operations: u32, transactions: u32, keys: u32, span: u32, together: u32) -> Vec<Command> {
+/// The commands of a load: operations of a group in turn, or reads of the first key with a write and an install of another transaction behind each.
+fn commands(shape: &str, [operations, transactions, keys, span, together]: [u32; 5]) -> Vec<Command> {
     let (mut picks, mut made) = (Picks(1), Vec::new());
     for group in 0..transactions.div_ceil(together) {
         let (first, end) = (group * together, min((group + 1) * together, transactions));
-        for _ in 0..operations / transactions {
+        if shape == "staggered" {
             for t in first..end {
-                made.push(operation(&mut picks, keys, span, t));
+                made.extend([Command::Read(t, key(0)), Command::Write(transactions + t, key(0), value(t))]);
+                made.extend([Command::Cast(transactions + t), Command::Install(transactions + t)]);
+            }
+        } else {
+            for _ in 0..operations / transactions {
+                made.extend((first..end).map(|t| operation(&mut picks, keys, span, t)));
             }
         }
+        match shape {
+            "ballots" => made.extend((first..end).map(Command::Ballot)),
+            "dumps" => made.push(Command::Dump),
+            _ => (),
+        }
         for t in first..end {
-            made.push(Command::Cast(t));
-            made.push(Command::Install(t));
+            made.extend([Command::Cast(t), Command::Install(t)]);
         }
     }
     made
 }
 
-/// The digest of bytes, byte by byte (Fowler, Noll and Vo, FNV-1a of 64 bits).
-struct Digest(u64);
+/// The digest of bytes behind those of another one, byte by byte (Fowler, Noll and Vo, FNV-1a of 64 bits).
+fn digest(bytes: &[u8], before: u64) -> u64 {
+    bytes.iter().fold(before, |hash, byte| (hash ^ u64::from(*byte)).wrapping_mul(0x100_0000_01b3))
+}
 
-impl Digest {
-    fn new() -> Digest {
-        Digest(0xcbf2_9ce4_8422_2325)
-    }
+/// The digest of nothing.
+const NOTHING: u64 = 0xcbf2_9ce4_8422_2325;
 
-    fn take(&mut self, bytes: &[u8]) {
-        for byte in bytes {
-            self.0 = (self.0 ^ u64::from(*byte)).wrapping_mul(0x100_0000_01b3);
-        }
-    }
+fn text(bytes: &[u8]) -> &str {
+    std::str::from_utf8(bytes).unwrap()
+}
 
-    /// The pairs of one command, in whatever order they stand.
-    fn take_pairs(&mut self, pairs: &[Pair]) {
-        let mut all = 0u64;
-        for pair in pairs {
-            let mut one = Digest::new();
-            one.take(&[u8::from(pair.writes)]);
-            one.take(&pair.first.to_be_bytes());
-            one.take(&pair.second.to_be_bytes());
-            all = all.wrapping_add(one.0);
-        }
-        self.take(&all.to_be_bytes());
-    }
+fn rows_told(rows: &[(Key, Value)]) -> String {
+    rows.iter().fold("rows".to_string(), |told, (key, value)| told + " " + text(key) + " " + text(value))
+}
 
-    fn take_played(&mut self, played: &Played) {
-        match played {
-            Played::Got(Some(value), pairs) => {
-                self.take(&[1]);
-                self.take(value);
-                self.take_pairs(pairs);
-            }
-            Played::Got(None, pairs) => {
-                self.take(&[2]);
-                self.take_pairs(pairs);
-            }
-            Played::Rows(rows, pairs) => {
-                self.take(&[3]);
-                for (key, value) in rows {
-                    self.take(key);
-                    self.take(value);
-                }
-                self.take_pairs(pairs);
-            }
-            Played::Written(pairs) => {
-                self.take(&[4]);
-                self.take_pairs(pairs);
-            }
-            Played::Blocked(t) => {
-                self.take(&[5]);
-                self.take(&t.to_be_bytes());
-            }
-            Played::Done => self.take(&[6]),
-        }
+/// What a command came to, but for the pairs.
+fn told(played: &Played) -> String {
+    match played {
+        Played::Got(Some(value), _) => format!("got {}", text(value)),
+        Played::Got(None, _) => "missing".into(),
+        Played::Rows(rows, _) => rows_told(rows),
+        Played::Written(_) => "written".into(),
+        Played::Blocked(t) => format!("blocked {t}"),
+        Played::Done => "done".into(),
+        Played::Stale(Some(key)) => format!("stale {}", text(key)),
+        Played::Stale(None) => "not stale".into(),
+        Played::Dumped(rows, undos) => undos.iter().fold(rows_told(rows) + " undos", |told, (key, value)| {
+            told + " " + text(key) + " " + &value.as_ref().map_or("missing".into(), |it| format!("got {}", text(it)))
+        }),
     }
+}
+
+/// The pairs that are new, where a command is a call.
+fn pairs(played: &Played) -> Option<&[Pair]> {
+    match played {
+        Played::Got(_, pairs) | Played::Rows(_, pairs) | Played::Written(pairs) => Some(pairs),
+        Played::Blocked(_) | Played::Done => Some(&[]),
+        Played::Stale(_) | Played::Dumped(..) => None,
+    }
+}
+
+fn pair_told(pair: &Pair) -> String {
+    format!(", {} {} {}", if pair.writes { "writes" } else { "reads" }, pair.first, pair.second)
 }
 
 #[inline(never)]
@@ -425,26 +460,23 @@ fn played(kind: Kind, rows: Vec<(Key, Value)>, commands: Vec<Command>) -> Vec<Pl
 fn main() {
     let words: Vec<String> = std::env::args().skip(1).collect();
     let kind = match words[0].as_str() {
-        "lock" => Kind::Lock,
-        "occ" => Kind::Occ,
+        "locking" => Kind::Lock,
+        "validating" => Kind::Occ,
         _ => Kind::Mv,
     };
-    let numbers: Vec<u32> = words[1..].iter().map(|it| it.parse().unwrap()).collect();
-    let (operations, transactions, keys, span) = (numbers[0], numbers[1], numbers[2], numbers[3]);
-    let commands = commands(operations, transactions, keys, span, numbers.get(4).copied().unwrap_or(10));
-    let rows = (0..keys).map(|it| (key(it), value(0))).collect();
-    let start = Instant::now();
+    let numbers: Vec<u32> = words[2..].iter().map(|it| it.parse().unwrap()).collect();
+    let numbers: [u32; 5] = numbers.try_into().unwrap();
+    let commands = commands(&words[1], numbers);
+    let rows = (0..numbers[2]).map(|it| (key(it), value(0))).collect();
     let all = played(kind, rows, commands);
-    let took = start.elapsed().as_millis();
-    let (mut answered, mut blocked, mut scanned, mut pairs, mut done, mut digest) = (0, 0, 0, 0, 0, Digest::new());
+    let (mut many, mut hash) = (0, NOTHING);
     for it in &all {
-        digest.take_played(it);
-        match it {
-            Played::Got(_, made) | Played::Written(made) => (answered, pairs) = (answered + 1, pairs + made.len()),
-            Played::Rows(rows, made) => (answered, pairs, scanned) = (answered + 1, pairs + made.len(), scanned + rows.len()),
-            Played::Blocked(_) => blocked += 1,
-            Played::Done => done += 1,
+        hash = digest(told(it).as_bytes(), hash);
+        if let Some(made) = pairs(it) {
+            many += made.len();
+            let each = made.iter().map(|it| digest(pair_told(it).as_bytes(), NOTHING));
+            hash = digest(&each.fold(0u64, u64::wrapping_add).to_be_bytes(), hash);
         }
     }
-    println!("answered {answered} blocked {blocked} rows {scanned} pairs {pairs} done {done} refused 0 digest {:016x} millis {took}", digest.0);
+    println!("steps {} pairs {many} digest {hash}", all.len());
 }

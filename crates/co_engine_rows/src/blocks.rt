@@ -3,6 +3,7 @@ ghost use Rattle.std.specs.Prelude.{IsTrue};
 
 use crate::asks::put_told_by_asks;
 use crate::kept::Keeps;
+use crate::played::put_load;
 use crate::plays::put_told_by_play;
 use crate::random::put_random_rows;
 use crate::rows::{RowFault, cut, kind_of};
@@ -34,10 +35,11 @@ pub fn put_block(alloc: Global, block: &[&[u8]], out: &mut Vec<u8>) -> Result<()
     put_line(title, out)?;
     put_line(head, out)?;
     let (mode, rest) = cut(head);
-    let (kind, seeds) = cut(rest);
+    let (kind, words) = cut(rest);
     let kind = kind_of(kind)?;
     match mode {
-        b"random" => put_random(alloc, kind, seeds, lines, out),
+        b"random" => put_random(alloc, kind, words, lines, out),
+        b"load" => put_load(alloc, kind, words, out),
         b"play" => put_played(alloc, Mode::Play, kind, lines, out),
         _ => put_played(alloc, Mode::Ask, kind, lines, out),
     }

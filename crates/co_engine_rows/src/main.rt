@@ -5,6 +5,10 @@
 //! with questions between them, and `random multiversion 1 2` makes lists that look random from these seeds. Then come the records and
 //! the prepared transactions that the engine begins with, and then the rows.
 //!
+//! `load locking SHAPE OPERATIONS TRANSACTIONS KEYS SPAN TOGETHER` has no rows: it makes so many calls over so many records, as its
+//! shape says (`turns`, `ballots`, `dumps` or `staggered`), and what it comes to is told by numbers and a digest. Loads of any size are
+//! measured outside the gate.
+//!
 //! Each row is written as it stands, with what it comes to at the engine of the kind. The plain engine and the engine of
 //! any kind are played the same rows, and a line is written for each that answers otherwise.
 //!
@@ -15,6 +19,9 @@ mod asks;
 mod blocks;
 mod commands;
 mod kept;
+mod loads;
+mod picks;
+mod played;
 mod plays;
 mod random;
 mod rows;

@@ -1,36 +1,9 @@
 //! Rows that look random.
+use crate::picks::Picks;
 use crate::rows::number_of;
 use crate::texts::put_digits;
 use co_base::Kind;
 use std::alloc::{AllocError, Global};
-
-/// Numbers that look random, by a linear congruential rule (Knuth, The Art of Computer Programming, volume 2,
-/// 1997, the constants of MMIX).
-#[derive(Drop)]
-struct Picks {
-    state: u64,
-}
-
-impl Picks {
-    /// A number below a bound; 0 where the bound is 0.
-    fn below(&mut self, bound: u64) -> u64 {
-        let state = self.state.wrapping_mul(6364136223846793005);
-        self.state = state.wrapping_add(1442695040888963407);
-        (self.state >> 33) % bound.max(1)
-    }
-
-    /// One of some bytes.
-    fn byte_of(&mut self, bytes: &[u8]) -> u8 {
-        let place = self.below(bytes.len() as u64);
-        bytes.get(place as usize).copied().unwrap_or(b'a')
-    }
-
-    /// One of some rows.
-    fn row_of(&mut self, rows: &[&'static [u8]]) -> &'static [u8] {
-        let place = self.below(rows.len() as u64);
-        rows.get(place as usize).copied().unwrap_or(b"")
-    }
-}
 
 /// Rows of a transaction `#` and of keys `?` for an engine that validates.
 const VALIDATING: [&[u8]; 12] = [

@@ -63,7 +63,7 @@ fn put_reply(reply: &Reply, into: &mut Vec<u8>) -> Result<(), AllocError> {
 }
 
 /// Appends an answer, or who is in the way.
-fn put_answer(seen: &Seen, into: &mut Vec<u8>) -> Result<(), AllocError> {
+pub fn put_answer(seen: &Seen, into: &mut Vec<u8>) -> Result<(), AllocError> {
     match seen {
         Seen::Answer(reply) => put_reply(reply, into),
         Seen::Blocked(t) => {
@@ -74,7 +74,7 @@ fn put_answer(seen: &Seen, into: &mut Vec<u8>) -> Result<(), AllocError> {
 }
 
 /// Appends how two transactions are in conflict, and their numbers.
-fn put_pair(pair: &Pair, into: &mut Vec<u8>) -> Result<(), AllocError> {
+pub fn put_pair(pair: &Pair, into: &mut Vec<u8>) -> Result<(), AllocError> {
     let by: &[u8] = match pair.by {
         PairKind::Reads => b", reads",
         PairKind::Writes => b", writes",

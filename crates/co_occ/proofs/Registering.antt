@@ -1,11 +1,14 @@
 -- The oldest read, by the numbers in order.
 use Rattle.std.proofs.Common.{◌≡◌, ◌⊎◌, inl, inr, T, ℕ, ◌<◌, ◌≤◌, Bool, true, false, cond, List, [], ◌∷◌, min, nat_le, Option, None, Some, refl, sym, ap, ◌∙◌, eq-eqb, arith}
+use Rattle.std.proofs.Math.Dec.{eqb}
+use Rattle.std.proofs.lemmas.Bool.{eqb-true}
 use Rattle.std.proofs.lemmas.Bool.Decides.{nat_tests}
+use Rattle.std.specs.Option.{option_eq}
 use Rattle.std.specs.Ordering.{nat_cmp, eq_by_cmp}
 use Rattle.std.specs.FinMap.{entries, entries_sorted, get-entries, get-empty}
 use Rattle.std.specs.FinMap.Entries.{find, below_all, is_sorted}
 use Rattle.co_state.specs.Table.{Table, no_entries, look, put, without, lesser}
-use Rattle.co_state.proofs.Tables.{look-put, look-without}
+use Rattle.co_state.proofs.Tables.{look-put, look-without, same_table}
 use Rattle.co_stamps.specs.Stamped.{IsLeastFrom}
 use Rattle.co_occ.specs.declared.reads.Reads.{Reads}
 use Rattle.co_occ.specs.Kept.{oldest_kept}
@@ -45,23 +48,47 @@ knows_put oldest after reads laid t e o k none is f g = record { each = λ u. ap
     by u None h = unread u (eq_by_cmp nat_cmp u t) refl h
     by u (Some stamp) h = look-put oldest t stamp u ∙ at u stamp (eq_by_cmp nat_cmp u t) h
 
-pub knows_still : (oldest after : Table ℕ) (reads : Table Reads) (t : ℕ) → KnowsOldest oldest reads → look reads t ≡ None → after ≡ without oldest t → KnowsOldest after reads
-knows_still oldest after reads t k none f = record { each = λ u. ap (λ m. look m u) f ∙ look-without oldest t u ∙ by u (eq_by_cmp nat_cmp u t) refl }
-  where
-    by : (u : ℕ) (b : Bool) → eq_by_cmp nat_cmp u t ≡ b → cond b None (look oldest u) ≡ oldest_at (look reads u)
-    by u true y = sym (ap oldest_at (ap (look reads) (tied u t y) ∙ none))
-    by u false y = k.each u
-
-pub knows_undone : (oldest more after : Table ℕ) (reads : Table Reads) (t : ℕ) (o : Option ℕ) → KnowsOldest oldest reads → look reads t ≡ None → more ≡ with_oldest oldest t o → after ≡ without more t → KnowsOldest after reads
-knows_undone oldest more after reads t o k none f g = record { each = λ u. ap (λ m. look m u) g ∙ look-without more t u ∙ by u (eq_by_cmp nat_cmp u t) refl o f }
-  where
-    by : (u : ℕ) (b : Bool) → eq_by_cmp nat_cmp u t ≡ b → (o : Option ℕ) → more ≡ with_oldest oldest t o → cond b None (look more u) ≡ oldest_at (look reads u)
-    by u true y o f = sym (ap oldest_at (ap (look reads) (tied u t y) ∙ none))
-    by u false y None f = ap (λ m. look m u) f ∙ k.each u
-    by u false y (Some stamp) f = ap (λ m. look m u) f ∙ look-put oldest t stamp u ∙ ap (λ b. cond b (Some stamp) (look oldest u)) y ∙ k.each u
-
 pub taken_out : (reads after : Table Reads) (t : ℕ) → after ≡ without reads t → look after t ≡ None
 taken_out reads after t e = ap (λ m. look m t) e ∙ look-without reads t t ∙ ap (λ b. cond b None (look reads t)) (ties t t ∙ eq-eqb t t refl)
+
+-- ---- a number that is laid in again where it stands changes nothing
+pub same_stamp : (a b : Option ℕ) → option_eq eqb a b ≡ true → a ≡ b
+same_stamp None None h = refl
+same_stamp None (Some n) h = absurd (let g : false ≡ true = h in cc)
+same_stamp (Some m) None h = absurd (let g : false ≡ true = h in cc)
+same_stamp (Some m) (Some n) h = ap Some (eqb-true m n h)
+
+pub renumbered : (stamps : Table ℕ) (t : ℕ) (o : Option ℕ) → look stamps t ≡ o → stamps ≡ with_oldest (without stamps t) t o
+renumbered stamps t o h = same_table _ _ (λ u. by u o h (eq_by_cmp nat_cmp u t) refl)
+  where
+    left : (u : ℕ) (b : Bool) → eq_by_cmp nat_cmp u t ≡ b → look (without stamps t) u ≡ cond b None (look stamps u)
+    left u b y = look-without stamps t u ∙ ap (λ b. cond b None (look stamps u)) y
+
+    by : (u : ℕ) (o : Option ℕ) → look stamps t ≡ o → (b : Bool) → eq_by_cmp nat_cmp u t ≡ b → look stamps u ≡ look (with_oldest (without stamps t) t o) u
+    by u None h true y = ap (look stamps) (tied u t y) ∙ h ∙ sym (left u true y)
+    by u None h false y = sym (left u false y)
+    by u (Some stamp) h true y = ap (look stamps) (tied u t y) ∙ h ∙ sym (look-put (without stamps t) t stamp u ∙ ap (λ b. cond b (Some stamp) (look (without stamps t) u)) y)
+    by u (Some stamp) h false y = sym (look-put (without stamps t) t stamp u ∙ ap (λ b. cond b (Some stamp) (look (without stamps t) u)) y ∙ left u false y)
+
+-- a transaction reads once more
+pub knows_read : (oldest after : Table ℕ) (reads laid : Table Reads) (t : ℕ) (e : Reads) (o : Option ℕ) → KnowsOldest oldest reads → o ≡ e.oldest
+    → after ≡ with_oldest (without oldest t) t o → laid ≡ put (without reads t) t e → KnowsOldest after laid
+knows_read oldest after reads laid t e o k is f g =
+    knows_put (without oldest t) after (without reads t) laid t e o (knows_taken oldest (without oldest t) reads (without reads t) t k refl refl)
+    (taken_out reads (without reads t) t refl) is f g
+
+-- what it read is taken out again
+pub knows_lost : (oldest after : Table ℕ) (reads laid left : Table Reads) (t : ℕ) (e : Reads) → KnowsOldest oldest reads
+    → after ≡ without oldest t → laid ≡ put (without reads t) t e → left ≡ without laid t → KnowsOldest after left
+knows_lost oldest after reads laid left t e k f g h = record {
+  each = λ u. ap (λ m. look m u) f ∙ look-without oldest t u ∙ by u (eq_by_cmp nat_cmp u t) refl
+      ∙ sym (ap (λ m. oldest_at (look m u)) h ∙ ap oldest_at (look-without laid t u));
+}
+  where
+    by : (u : ℕ) (b : Bool) → eq_by_cmp nat_cmp u t ≡ b → cond b None (look oldest u) ≡ oldest_at (cond b None (look laid u))
+    by u true y = refl
+    by u false y = k.each u ∙ sym (ap oldest_at (ap (λ m. look m u) g ∙ look-put (without reads t) t e u ∙ ap (λ b. cond b (Some e) (look (without reads t) u)) y
+        ∙ look-without reads t u ∙ ap (λ b. cond b None (look reads u)) y))
 
 -- ---- the least of them
 found_case : (f : ℕ × Reads) (fs : List (ℕ × Reads)) (t : ℕ) (e : Reads) → find nat_cmp t (f ∷ fs) ≡ Some e → (f.1 ≡ e) ⊎ (find nat_cmp t fs ≡ Some e)

@@ -1,5 +1,5 @@
 //! The active transactions by what they read, and the oldest read of all.
-ghost use Rattle.std.specs.Prelude.{◌≡◌, OnOk, OnErr, option_copied};
+ghost use Rattle.std.specs.Prelude.{◌≡◌, IfOk, OnOk, OnErr, option_copied};
 ghost use Rattle.std.specs.FinMap.{entries};
 ghost use Rattle.co_state.specs.Table.{no_entries, look, put, without};
 ghost use Rattle.co_occ.specs.Kept.{oldest_kept, or_unread, with_read};
@@ -37,20 +37,45 @@ impl Model for Register {
     ghost invariant = { λ r. KnowsOldest r.oldest r.reads };
 }
 
-/// A transaction gets the number of its oldest read, if it has one, where it had none. After want of memory it
-/// has none.
-fn note_oldest(
+/// A transaction does an operation that sees so many installs, and reads a range or none. Gives its oldest read.
+/// After want of memory it is absent.
+fn note_read(
+    alloc: Global,
+    reads: &mut Table<Reads>,
+    t: Txn,
+    range: Option<Range>,
+    stamp: u64,
+) -> Result<Option<u64>, AllocError>
+    ensures reads { OnOk result (reads.new ≡ put (without reads.old t) t (with_read range stamp (or_unread (look reads.old t)))) }
+    ensures oldest { IfOk result (λ oldest. oldest ≡ (with_read range stamp (or_unread (look reads.old t))).oldest) }
+    ensures err { OnErr result (reads.new ≡ without reads.old t) }
+{
+    let more = or_unread(alloc, reads.remove(t)).reading(range, stamp)?;
+    let oldest = more.oldest;
+    reads.insert(t, more)?;
+    Ok(oldest)
+}
+
+/// A transaction gets the number of its oldest read, if it has one, in place of the number that it had. After want
+/// of memory it has none.
+fn renumber(
     alloc: Global,
     stamps: &mut Stamps,
     t: Txn,
     oldest: Option<u64>,
 ) -> Result<(), AllocError>
-    ensures ok { OnOk result (stamps.new ≡ with_oldest stamps.old t oldest) }
+    ensures ok { OnOk result (stamps.new ≡ with_oldest (without stamps.old t) t oldest) }
     ensures err { OnErr result (stamps.new ≡ without stamps.old t) }
 {
+    if stamps.get(t) == oldest {
+        return Ok(());
+    }
     match oldest {
         Some(stamp) => stamps.insert(alloc, t, stamp),
-        None => Ok(()),
+        None => {
+            let _ = stamps.remove(t);
+            Ok(())
+        }
     }
 }
 
@@ -88,24 +113,8 @@ impl Register {
         self.reads.remove(t)
     }
 
-    /// Lays in what a transaction read, in place of what stood there. After want of memory it is absent.
-    fn put(&mut self, alloc: Global, t: Txn, reads: Reads) -> Result<(), AllocError>
-        ensures { OnOk result (self.new ≡ put self.old t reads) }
-    {
-        let oldest = reads.oldest;
-        let _ = self.take(t);
-        note_oldest(alloc, &mut self.oldest, t, oldest)?;
-        match self.reads.insert(t, reads) {
-            Ok(()) => Ok(()),
-            Err(error) => {
-                let _ = self.oldest.remove(t);
-                Err(error)
-            }
-        }
-    }
-
     /// An active transaction does an operation that sees so many installs, and reads a range or none. After want
-    /// of memory the transaction may be absent.
+    /// of memory the transaction is absent.
     pub fn add(
         &mut self,
         alloc: Global,
@@ -115,8 +124,19 @@ impl Register {
     ) -> Result<(), AllocError>
         ensures { OnOk result (self.new ≡ put (without self.old t) t (with_read range stamp (or_unread (look self.old t)))) }
     {
-        let reads = or_unread(alloc, self.take(t));
-        let reads = reads.reading(range, stamp)?;
-        self.put(alloc, t, reads)
+        let oldest = match note_read(alloc, &mut self.reads, t, range, stamp) {
+            Ok(oldest) => oldest,
+            Err(error) => {
+                let _ = self.oldest.remove(t);
+                return Err(error);
+            }
+        };
+        match renumber(alloc, &mut self.oldest, t, oldest) {
+            Ok(()) => Ok(()),
+            Err(error) => {
+                let _ = self.reads.remove(t);
+                Err(error)
+            }
+        }
     }
 }

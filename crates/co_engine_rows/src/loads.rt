@@ -1,0 +1,245 @@
+//! Loads: calls of any number on records of any number, to be counted and measured.
+use crate::picks::Picks;
+use crate::rows::{RowFault, cut, number_of};
+use co_base::{BaseFault, Key, Range, Rows, Sequence, Txn, Value};
+use co_engine::Command;
+use co_state::RecordMap;
+use std::alloc::Global;
+
+/// In which order the calls of a load come, and what is asked between them.
+#[derive(Clone, Copy)]
+pub enum Shape {
+    /// Operations of the transactions of a group in turn, and then their votes and installs.
+    Turns,
+    /// The same, and a ballot on each of them before they vote.
+    Ballots,
+    /// The same, and a dump before they vote.
+    Dumps,
+    /// Each transaction of a group reads the first key, and behind it another one writes that key and is installed;
+    /// then they vote and are installed.
+    Staggered,
+}
+
+/// How much is to be done.
+#[derive(Clone, Copy)]
+pub struct Load {
+    /// In which order.
+    pub shape: Shape,
+    /// How many reads, scans and writes, where they come in turn.
+    pub operations: u32,
+    /// By how many transactions.
+    pub transactions: u32,
+    /// Over how many keys, each with a record.
+    pub keys: u32,
+    /// How many keys a scan reads.
+    pub span: u32,
+    /// How many transactions a group has, which are active at a time.
+    pub together: u32,
+}
+
+/// A call, or a question between calls.
+#[derive(Drop)]
+pub enum Step {
+    /// A call of an engine.
+    Call(Command),
+    /// Whether a read of a transaction was overwritten.
+    Ballot(Txn),
+    /// The records as they are kept.
+    Dump,
+}
+
+/// The shape that a word names.
+fn shape_of(word: &[u8]) -> Result<Shape, RowFault> {
+    match word {
+        b"turns" => Ok(Shape::Turns),
+        b"ballots" => Ok(Shape::Ballots),
+        b"dumps" => Ok(Shape::Dumps),
+        b"staggered" => Ok(Shape::Staggered),
+        _ => Err(RowFault::Word),
+    }
+}
+
+/// The load that words name: `SHAPE OPERATIONS TRANSACTIONS KEYS SPAN TOGETHER`.
+pub fn load_of(words: &[u8]) -> Result<Load, RowFault> {
+    let (shape, words) = cut(words);
+    let (operations, words) = cut(words);
+    let (transactions, words) = cut(words);
+    let (keys, words) = cut(words);
+    let (span, together) = cut(words);
+    Ok(Load {
+        shape: shape_of(shape)?,
+        operations: number_of(operations),
+        transactions: number_of(transactions),
+        keys: number_of(keys),
+        span: number_of(span),
+        together: number_of(together),
+    })
+}
+
+/// The digit of a number at a place, as a letter.
+fn digit(number: u32, place: u32) -> u8 {
+    b'0' + (number / place.max(1) % 10) as u8
+}
+
+/// The key of a number below ten millions. Greater numbers have greater keys.
+fn key(alloc: Global, number: u32) -> Result<Key, BaseFault> {
+    let text = [
+        b'k',
+        digit(number, 1_000_000),
+        digit(number, 100_000),
+        digit(number, 10_000),
+        digit(number, 1_000),
+        digit(number, 100),
+        digit(number, 10),
+        digit(number, 1),
+    ];
+    Key::new(alloc, &text)
+}
+
+fn value(alloc: Global, number: u32) -> Result<Value, BaseFault> {
+    Value::new(alloc, &[b'v', digit(number, 10), digit(number, 1)])
+}
+
+/// A read of the key of a number.
+fn read(alloc: Global, txn: Txn, place: u32) -> Result<Command, BaseFault> {
+    let key = key(alloc, place)?;
+    Ok(Command::Read { txn, key })
+}
+
+/// A write of the key of a number.
+fn write(alloc: Global, txn: Txn, place: u32, number: u32) -> Result<Command, BaseFault> {
+    let key = key(alloc, place)?;
+    let value = Some(value(alloc, number)?);
+    Ok(Command::Write { txn, key, value })
+}
+
+/// A scan from the key of a number on.
+fn scan(alloc: Global, load: &Load, txn: Txn, place: u32) -> Result<Command, BaseFault> {
+    let last = load.keys.saturating_sub(1);
+    let end = place.saturating_add(load.span.saturating_sub(1)).min(last);
+    let lo = key(alloc, place)?;
+    let range = Range::new(lo, key(alloc, end)?)?;
+    Ok(Command::Scan { txn, range })
+}
+
+/// Of ten operations of a transaction five are reads, one is a scan and four are writes.
+fn operation(
+    alloc: Global,
+    picks: &mut Picks,
+    load: &Load,
+    txn: Txn,
+) -> Result<Command, BaseFault> {
+    let place = picks.below(u64::from(load.keys)) as u32;
+    match picks.below(10) {
+        0 => scan(alloc, load, txn, place),
+        1..=5 => read(alloc, txn, place),
+        _ => write(alloc, txn, place, picks.below(100) as u32),
+    }
+}
+
+/// Sets the record of the key of a number.
+fn set(alloc: Global, number: u32, records: &mut RecordMap) -> Result<(), BaseFault> {
+    let key = key(alloc, number)?;
+    let value = value(alloc, 0)?;
+    Ok(records.set(key, value)?)
+}
+
+/// A record for each key.
+pub fn rows(alloc: Global, keys: u32) -> Result<Rows, BaseFault> {
+    let mut records = RecordMap::new(alloc);
+    for number in 0..keys {
+        set(alloc, number, &mut records)?;
+    }
+    Ok(records.rows(alloc)?)
+}
+
+/// A transaction votes and is installed.
+fn end(t: u32, steps: &mut Sequence<Step>) -> Result<(), BaseFault> {
+    steps.push(Step::Call(Command::Cast(Txn(t))))?;
+    Ok(steps.push(Step::Call(Command::Install(Txn(t))))?)
+}
+
+/// Operations of the transactions of a group in turn.
+fn add_operations(
+    alloc: Global,
+    picks: &mut Picks,
+    load: &Load,
+    first: u32,
+    end: u32,
+    steps: &mut Sequence<Step>,
+) -> Result<(), BaseFault> {
+    for _ in 0..load.operations / load.transactions.max(1) {
+        for t in first..end {
+            steps.push(Step::Call(operation(alloc, picks, load, Txn(t))?))?;
+        }
+    }
+    Ok(())
+}
+
+/// Each transaction of a group reads the first key, and another one writes it and is installed.
+fn add_staggered(
+    alloc: Global,
+    load: &Load,
+    first: u32,
+    last: u32,
+    steps: &mut Sequence<Step>,
+) -> Result<(), BaseFault> {
+    for t in first..last {
+        let writer = load.transactions.saturating_add(t);
+        steps.push(Step::Call(read(alloc, Txn(t), 0)?))?;
+        steps.push(Step::Call(write(alloc, Txn(writer), 0, t)?))?;
+        end(writer, steps)?;
+    }
+    Ok(())
+}
+
+/// What is asked before the transactions of a group vote.
+fn add_questions(
+    shape: Shape,
+    first: u32,
+    end: u32,
+    steps: &mut Sequence<Step>,
+) -> Result<(), BaseFault> {
+    match shape {
+        Shape::Ballots => {
+            for t in first..end {
+                steps.push(Step::Ballot(Txn(t)))?;
+            }
+        }
+        Shape::Dumps => steps.push(Step::Dump)?,
+        Shape::Turns | Shape::Staggered => {}
+    }
+    Ok(())
+}
+
+/// The steps of a group.
+fn add_group(
+    alloc: Global,
+    picks: &mut Picks,
+    load: &Load,
+    first: u32,
+    last: u32,
+    steps: &mut Sequence<Step>,
+) -> Result<(), BaseFault> {
+    match load.shape {
+        Shape::Staggered => add_staggered(alloc, load, first, last, steps)?,
+        _ => add_operations(alloc, picks, load, first, last, steps)?,
+    }
+    add_questions(load.shape, first, last, steps)?;
+    for t in first..last {
+        end(t, steps)?;
+    }
+    Ok(())
+}
+
+/// The steps of a load.
+pub fn steps(alloc: Global, load: &Load) -> Result<Sequence<Step>, BaseFault> {
+    let mut picks = Picks { state: 1 };
+    let mut steps = Sequence::new(alloc);
+    for group in 0..load.transactions.div_ceil(load.together.max(1)) {
+        let first = group.saturating_mul(load.together);
+        let last = first.saturating_add(load.together).min(load.transactions);
+        add_group(alloc, &mut picks, load, first, last, &mut steps)?;
+    }
+    Ok(steps)
+}
