@@ -4,10 +4,17 @@
 //! read under the one before them. A row is written as it stands, with `ok` where its text is read and written again as it was, else with
 //! the fault of the line, or the place of the item's.
 //!
+//! A row `sent TEXT` is the delivery of a message that was sent before a trial, and behind `made NUMBER COUNT` come the first so many
+//! events of the trial of that number. Those of the stored output are of another program, written apart from this one.
+//!
 //! The stored input has the worked rows, and the stored output what is to come of them.
 #![tactic(auto)]
 
+mod making;
+
+use crate::making::{put_made, send};
 use co_base::Head;
+use co_message::Wire;
 use co_outside::{SinkStd, SourceStd, put_all, read_all};
 use co_schedule::{LineFault, append_head, put_line, read_head, read_line};
 use co_transcript::{ItemFault, put_item, read_item};
@@ -108,28 +115,68 @@ fn put_item_row(alloc: Global, text: &[u8], out: &mut Vec<u8>) -> Result<(), All
     }
 }
 
+/// What rows are judged by: the head before them, and the messages that were sent.
+#[derive(Drop)]
+struct Before<'a> {
+    head: &'a [u8],
+    sent: Wire,
+}
+
+/// Appends how a text is judged, by the word before it.
+fn put_text<'a>(
+    alloc: Global,
+    before: &mut Before<'a>,
+    word: &[u8],
+    text: &'a [u8],
+    out: &mut Vec<u8>,
+) -> Result<(), AllocError> {
+    match word {
+        b"head" => {
+            before.head = text;
+            put_head(alloc, text, out)
+        }
+        b"line" => put_line_under(alloc, before.head, text, out),
+        b"item" => put_item_row(alloc, text, out),
+        b"sent" => send(alloc, text, &mut before.sent),
+        _ => put_made(alloc, text, &before.sent, out),
+    }
+}
+
+/// Appends a row, and how it is judged where it is no title.
+fn put_row<'a>(
+    alloc: Global,
+    before: &mut Before<'a>,
+    row: &'a [u8],
+    out: &mut Vec<u8>,
+) -> Result<(), AllocError> {
+    out.extend_from_slice(row)?;
+    let end = row.iter().position(|b| *b == b' ').unwrap_or(row.len());
+    let (word, rest) = row.split_at(end);
+    if matches!(word, b"head" | b"line" | b"item" | b"sent" | b"made") {
+        out.extend_from_slice(b" => ")?;
+        put_text(
+            alloc,
+            before,
+            word,
+            rest.strip_prefix(b" ").unwrap_or(rest),
+            out,
+        )?;
+    }
+    Ok(())
+}
+
 /// How the rows of a text are judged.
 fn judged(alloc: Global, rows: &[u8]) -> Result<Vec<u8>, AllocError> {
     let mut out = Vec::new(alloc);
-    let mut head = FIRST_HEAD;
+    let mut before = Before {
+        head: FIRST_HEAD,
+        sent: Wire::new(alloc),
+    };
     for row in rows.split(|b| *b == b'\n') {
         if row.is_empty() {
             continue;
         }
-        out.extend_from_slice(row)?;
-        if let Some(text) = row.strip_prefix(b"head ") {
-            head = text;
-            out.extend_from_slice(b" => ")?;
-            put_head(alloc, text, &mut out)?;
-        }
-        if let Some(text) = row.strip_prefix(b"line ") {
-            out.extend_from_slice(b" => ")?;
-            put_line_under(alloc, head, text, &mut out)?;
-        }
-        if let Some(text) = row.strip_prefix(b"item ") {
-            out.extend_from_slice(b" => ")?;
-            put_item_row(alloc, text, &mut out)?;
-        }
+        put_row(alloc, &mut before, row, &mut out)?;
         out.push(b'\n')?;
     }
     Ok(out)
