@@ -1,6 +1,6 @@
 -- What operations read and wrote is in strict order, and no longer than the list of operations; changes that are
 -- joined, and the undos of a dump, are in order of their keys.
-use Rattle.std.proofs.Common.{◌≡◌, ℕ, ◌+◌, ◌≤◌, List, [], ◌∷◌, length, map, Option, None, Some, refl, sym, ap, ◌∙◌, subst, suc, arith}
+use Rattle.std.proofs.Common.{◌≡◌, ℕ, ◌≤◌, List, [], ◌∷◌, length, map, Option, None, Some, refl, sym, ap, ◌∙◌, subst, suc, arith}
 use Rattle.std.proofs.lemmas.Cmp.{nat_list_cmp_total}
 use Rattle.std.specs.Cmp.{IsTotalOrder}
 use Rattle.std.specs.FinMap.{entries, slice_cmp-IsAntisymmetric, nat_cmp-IsAntisymmetric}
@@ -10,7 +10,7 @@ use Rattle.std.specs.List.Sorted.{IsStrictlySortedBy}
 use Rattle.std.specs.Ordering.{ordering_reverse}
 use Rattle.std.specs.declared.cmp.Ordering.{Ordering}
 use Rattle.std.specs.declared.cmp.Ordering.TheVariants.{Less, Equal, Greater}
-use Rattle.co_base.proofs.Ordered.{sorted_none, sorted_one, span_total}
+use Rattle.co_base.proofs.Ordered.{sorted_none, span_total}
 use Rattle.co_base.specs.Order.{key_cmp}
 use Rattle.co_base.specs.RowOrder.{AreInKeyOrder}
 use Rattle.co_base.specs.Span.{Span, span_cmp}
@@ -20,7 +20,6 @@ use Rattle.co_base.specs.declared.written.Written.{Written}
 use Rattle.co_serial.specs.Records.{Records}
 use Rattle.co_state.specs.declared.engine_state.EngineState.{EngineState}
 use Rattle.co_state.specs.declared.engine_state.Operation.{Operation}
-use Rattle.co_state.specs.declared.engine_state.Vote.{Vote}
 use Rattle.co_state.specs.Changes.{span_read, change_made, put_span, put_change, with_span, with_written, spans_of, changes_of}
 use Rattle.co_state.specs.Effects.{joined, active_changes, voted_changes, undecided_changes, undo_of, dumped_undos}
 use Rattle.co_state.specs.EngineState.{installed_records}

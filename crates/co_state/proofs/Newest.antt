@@ -1,5 +1,5 @@
 -- A list that is walked from its oldest element on, read newest first.
-use Rattle.std.proofs.Common.{◌≡◌, ℕ, ◌+◌, ◌<◌, List, [], ◌∷◌, ◌++◌, length, take, get_or, reverse, sym, ap, ◌∙◌}
+use Rattle.std.proofs.Common.{◌≡◌, ℕ, ◌+◌, ◌<◌, List, [], ◌∷◌, length, take, get_or, reverse, sym, ap, ◌∙◌}
 use Rattle.std.proofs.lemmas.List.{take_more, reverse-append}
 
 -- the next element is the newest so far

@@ -1,11 +1,11 @@
 -- Records that are laid in row by row, from the last row on.
-use Rattle.std.proofs.Common.{◌≡◌, ℕ, ◌-◌, ◌<◌, ◌≤◌, nat_lt, List, [], ◌∷◌, ◌++◌, length, take, drop, reverse, map, refl, sym, ap, ◌∙◌, if◌then◌else◌, arith, suc, Bool, true, false, length-drop}
+use Rattle.std.proofs.Common.{◌≡◌, ℕ, ◌-◌, nat_lt, List, [], ◌∷◌, ◌++◌, length, take, drop, reverse, map, refl, sym, ap, ◌∙◌, if◌then◌else◌, arith, suc, true, false, length-drop}
 use Rattle.std.proofs.lemmas.Bool.Decides.{nat_tests}
-use Rattle.std.specs.FinMap.{FinMap, empty, entries, get, insert, from_entries, get-entries, get-from_entries, same_map, slice_cmp-IsAntisymmetric, nat_cmp-IsAntisymmetric}
+use Rattle.std.specs.FinMap.{empty, entries, insert, from_entries, get-entries, get-from_entries, same_map, slice_cmp-IsAntisymmetric, nat_cmp-IsAntisymmetric}
 use Rattle.std.proofs.lemmas.Cmp.{nat_list_cmp_total}
 use Rattle.std.proofs.lemmas.List.{drop_at, drop_all, reverse-append, length-reverse, take-append-drop}
 use Rattle.co_base.specs.declared.row.Row.{Row}
-use Rattle.co_serial.specs.Records.{Records, row_of, all_rows, with_changes}
+use Rattle.co_serial.specs.Records.{Records, row_of, all_rows}
 use Rattle.co_state.specs.declared.engine_state.Install.{Install}
 use Rattle.co_state.specs.Effects.{records_from}
 use Rattle.co_state.specs.EngineState.{records_now, records_at}

@@ -1,6 +1,6 @@
 -- What operations read and wrote: the ranges in ascending order, each once, and the changes by key, the
 -- last one at each key.
-use Rattle.std.specs.Prelude.{ℕ, List, [], ◌∷◌, Option, None, Some}
+use Rattle.std.specs.Prelude.{List, [], ◌∷◌, Option, None, Some}
 use Rattle.std.specs.FinMap.Entries.{by_order}
 use Rattle.co_base.specs.Order.{key_cmp}
 use Rattle.co_base.specs.Span.{Span, span_cmp, span_of_key}

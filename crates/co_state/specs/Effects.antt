@@ -1,5 +1,5 @@
 -- What calls leave of the state of an engine.
-use Rattle.std.specs.Prelude.{ℕ, Bool, List, [], ◌∷◌, map, if◌then◌else◌, is_some, Option, None, Some}
+use Rattle.std.specs.Prelude.{ℕ, List, [], ◌∷◌, map, if◌then◌else◌, is_some, Option, None, Some}
 use Rattle.std.specs.FinMap.{empty, get, entries}
 use Rattle.co_base.specs.declared.head.Kind.{Kind}
 use Rattle.co_base.specs.declared.head.Kind.TheVariants.{Lock, Occ, Mv}
@@ -8,7 +8,6 @@ use Rattle.co_base.specs.declared.row.Row.{Row}
 use Rattle.co_base.specs.declared.written.Written.{Written}
 use Rattle.co_serial.specs.Records.{Records, with_change, with_changes, all_rows}
 use Rattle.co_state.specs.declared.engine_state.EngineState.{EngineState}
-use Rattle.co_state.specs.declared.engine_state.Install.{Install}
 use Rattle.co_state.specs.declared.engine_state.Operation.{Operation}
 use Rattle.co_state.specs.declared.engine_state.Vote.{Vote}
 use Rattle.co_state.specs.Table.{Table, no_entries, look, put, without}

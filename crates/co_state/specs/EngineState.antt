@@ -8,7 +8,7 @@ use Rattle.co_state.specs.declared.engine_state.Operation.{Operation}
 use Rattle.co_state.specs.declared.engine_state.Sets.{Sets}
 use Rattle.co_state.specs.declared.engine_state.Vote.{Vote}
 use Rattle.co_state.specs.Table.{look, holds}
-use Rattle.co_state.specs.Changes.{sets_of, no_sets}
+use Rattle.co_state.specs.Changes.{sets_of}
 
 -- every install laid over the base; the newest stands first in the list
 abbrev pub records_now : Records → List Install → Records

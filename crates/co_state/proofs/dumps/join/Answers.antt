@@ -1,4 +1,4 @@
-use Rattle.std.proofs.Common.{◌≡◌, ◌<◌, ◌+◌, ◌-◌, ap, sym, ◌∙◌, take, length, arith}
+use Rattle.std.proofs.Common.{◌-◌, ap, ◌∙◌, take, arith}
 use Rattle.co_state.specs.Changes.{put_change}
 use Rattle.co_state.specs.Effects.{joined}
 use Rattle.co_state.proofs.Joining.{joined_more}

@@ -1,6 +1,5 @@
-use Rattle.std.proofs.Common.{◌≡◌, ◌<◌, ◌+◌, ◌-◌, ap, sym, ◌∙◌, drop, length, arith}
+use Rattle.std.proofs.Common.{◌-◌, ap, ◌∙◌, arith}
 use Rattle.co_state.specs.Effects.{joined}
-use Rattle.co_state.specs.Joined.{joined_all}
 use Rattle.co_state.proofs.Joining.{lists_more}
 use Rattle.co_state.proofs.dumps.join_all.Goals as goal
 

@@ -1,4 +1,4 @@
-use Rattle.std.proofs.Common.{◌≡◌, ap, sym, ◌∙◌}
+use Rattle.std.proofs.Common.{ap, ◌∙◌}
 use Rattle.std.specs.FinMap.{entries}
 use Rattle.co_state.specs.Effects.{joined}
 use Rattle.co_state.specs.Joined.{joined_all}

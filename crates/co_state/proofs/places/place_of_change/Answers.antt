@@ -1,4 +1,4 @@
-use Rattle.std.proofs.Common.{◌≡◌, sym, ◌∙◌}
+use Rattle.std.proofs.Common.{sym, ◌∙◌}
 use Rattle.co_state.proofs.Placing.{change_stands}
 use Rattle.co_state.proofs.places.place_of_change.Goals as goal
 

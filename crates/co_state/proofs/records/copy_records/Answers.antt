@@ -1,4 +1,4 @@
-use Rattle.std.proofs.Common.{◌≡◌, ap, sym, ◌∙◌, subst, IfOk}
+use Rattle.std.proofs.Common.{◌≡◌, ap, ◌∙◌, subst, IfOk}
 use Rattle.co_serial.specs.Records.{Records}
 use Rattle.co_state.specs.Effects.{records_from}
 use Rattle.co_state.proofs.Rows.{records_from-rows}

@@ -1,5 +1,4 @@
-use Rattle.std.proofs.Common.{◌≡◌, ap, sym, ◌∙◌}
-use Rattle.std.specs.FinMap.{empty}
+use Rattle.std.proofs.Common.{ap, sym, ◌∙◌}
 use Rattle.co_state.proofs.Rows.{laid_under, laid_under-push, laid_under-empty}
 use Rattle.co_state.proofs.records.records_from.Goals as goal
 

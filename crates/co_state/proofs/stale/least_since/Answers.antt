@@ -1,4 +1,4 @@
-use Rattle.std.proofs.Common.{◌≡◌, ◌≤◌, ◌<◌, ◌+◌, ◌-◌, ap, sym, ◌∙◌, take, reverse, length, arith, option_copied, map, filter}
+use Rattle.std.proofs.Common.{◌-◌, ap, sym, ◌∙◌, take, reverse, arith, option_copied, map, filter}
 use Rattle.co_base.specs.declared.written.Written.{Written}
 use Rattle.co_state.specs.declared.engine_state.Install.{Install}
 use Rattle.co_state.specs.Changes.{span_read}

@@ -1,4 +1,4 @@
-use Rattle.std.proofs.Common.{◌≡◌, ◌≤◌, ◌<◌, ◌+◌, ◌-◌, ap, sym, ◌∙◌, take, reverse, length, arith, option_copied}
+use Rattle.std.proofs.Common.{◌-◌, ap, ◌∙◌, take, reverse, arith, option_copied}
 use Rattle.co_state.specs.Search.{least_with}
 use Rattle.co_state.specs.StaleRead.{stale_keys}
 use Rattle.co_state.proofs.Staleness.{stale_more}

@@ -1,4 +1,4 @@
-use Rattle.std.proofs.Common.{◌≡◌, ap, sym, ◌∙◌, subst, IfOk, reverse}
+use Rattle.std.proofs.Common.{◌≡◌, ap, ◌∙◌, subst, IfOk, reverse}
 use Rattle.std.proofs.lemmas.List.{reverse-reverse}
 use Rattle.co_serial.specs.Records.{Records}
 use Rattle.co_state.specs.EngineState.{records_at}

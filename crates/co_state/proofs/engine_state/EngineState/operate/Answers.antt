@@ -1,8 +1,6 @@
-use Rattle.std.proofs.Common.{◌≡◌, List, ◌∷◌, ap, sym, ◌∙◌, OnOk}
-use Rattle.co_state.specs.declared.engine_state.EngineState.{EngineState}
+use Rattle.std.proofs.Common.{◌∷◌, ap, ◌∙◌}
 use Rattle.co_state.specs.declared.engine_state.Operation.{Operation}
-use Rattle.co_state.specs.Table.{Table, look, put, without}
-use Rattle.co_state.specs.EngineState.{operations_of}
+use Rattle.co_state.specs.Table.{put}
 use Rattle.co_state.proofs.Tables.{put-without, on_ok}
 use Rattle.co_state.proofs.engine_state.EngineState.operate.Goals as goal
 
