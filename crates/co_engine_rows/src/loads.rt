@@ -122,6 +122,11 @@ fn scan(alloc: Global, load: &Load, txn: Txn, place: u32) -> Result<Command, Bas
     Ok(Command::Scan { txn, range })
 }
 
+/// A number below a bound; 0 where the bound is 0.
+fn pick(picks: &mut Picks, bound: u32) -> u32 {
+    u32::try_from(picks.below(u64::from(bound))).unwrap_or(0)
+}
+
 /// Of ten operations of a transaction five are reads, one is a scan and four are writes.
 fn operation(
     alloc: Global,
@@ -129,11 +134,11 @@ fn operation(
     load: &Load,
     txn: Txn,
 ) -> Result<Command, BaseFault> {
-    let place = picks.below(u64::from(load.keys)) as u32;
+    let place = pick(picks, load.keys);
     match picks.below(10) {
         0 => scan(alloc, load, txn, place),
         1..=5 => read(alloc, txn, place),
-        _ => write(alloc, txn, place, picks.below(100) as u32),
+        _ => write(alloc, txn, place, pick(picks, 100)),
     }
 }
 
