@@ -4,7 +4,7 @@ ghost use Rattle.std.specs.BTreeSet.{contains};
 ghost use Rattle.std.specs.Ordering.{eq_by_cmp};
 ghost use Rattle.co_base.specs.Span.{span_has};
 ghost use Rattle.co_locktab.specs.Forks.{fork_of, IsOnPath};
-ghost use Rattle.co_locktab.specs.Places.{by_lower, by_upper, lower_place, upper_place, has_behind};
+ghost use Rattle.co_locktab.specs.Places.{by_lower, by_upper, lower_place, upper_place, IsFirstFrom, IsLastTo};
 ghost use Rattle.co_locktab.specs.Weighed.{Weighs};
 
 use crate::fork::Fork;
@@ -75,19 +75,28 @@ impl ForkIndex {
         let _ = self.upper.remove(&upper);
     }
 
-    /// Whether a range stands at a fork behind the same bytes as this one.
-    pub fn has_behind(&self, fork: Fork) -> bool
-        ensures { result ≡ has_behind self.now.lower fork }
+    /// The first fork at which a range stands, of those behind the same bytes as a fork, or behind greater ones.
+    pub fn first_from(&self, fork: &Fork) -> Option<Fork>
+        ensures { IsFirstFrom self.now.lower fork.now result }
     {
-        let start = Place::before(fork.first_behind());
-        let next = self
+        let start = Place::before(fork.with_middle(0));
+        let first = self
             .lower
             .range((Bound::Excluded(&start), Bound::Unbounded))
-            .next();
-        match next {
-            Some(place) => fork.is_beside(&place.fork),
-            None => false,
-        }
+            .next()?;
+        Some(first.fork)
+    }
+
+    /// The last fork at which a range stands, of those behind the same bytes as a fork, or behind lesser ones.
+    pub fn last_to(&self, fork: &Fork) -> Option<Fork>
+        ensures { IsLastTo self.now.lower fork.now result }
+    {
+        let end = Place::before(fork.with_middle(Fork::END));
+        let last = self
+            .lower
+            .range((Bound::Unbounded, Bound::Excluded(&end)))
+            .next_back()?;
+        Some(last.fork)
     }
 
     /// The least other holder of the ranges at a fork that have a key which is below all their upper bounds.
