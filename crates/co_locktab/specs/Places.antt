@@ -13,7 +13,7 @@ use Rattle.co_locktab.specs.declared.place.ByUpper.{ByUpper}
 use Rattle.co_locktab.specs.declared.place.Place.{Place}
 use Rattle.co_locktab.specs.declared.fork_index.ForkIndex.{ForkIndex}
 use Rattle.co_locktab.specs.declared.holders.Holders.{Holders}
-use Rattle.co_locktab.specs.Forks.{fork_of, with_middle, IsOnPath}
+use Rattle.co_locktab.specs.Forks.{fork_of, IsOnPath}
 use Rattle.co_locktab.specs.Upper.{upper_cmp}
 
 abbrev pub fork_cmp : Fork → Fork → Ordering
@@ -36,27 +36,19 @@ by_upper = place_cmp upper_cmp
 abbrev pub are_beside : Fork → Fork → Bool
 are_beside f g = eq_by_cmp key_cmp f.prefix g.prefix
 
--- the place before all ranges of the forks behind the same bytes
-abbrev pub start_behind : Fork → Place Span
-start_behind fork = record { fork = with_middle fork 0; range = None }
-
--- and the one after them: the middles of all blocks are bytes
-abbrev pub end_behind : Fork → Place Span
-end_behind fork = record { fork = with_middle fork 256; range = None }
-
--- the first fork of those places that lie behind the start
+-- the first fork of the places that is not below a fork
 abbrev pub IsFirstFrom : BTreeSet (Place Span) → Fork → Option Fork → Type 0
-IsFirstFrom set fork None = (p : Place Span) → by_lower (start_behind fork) p ≡ Less → contains by_lower set p ≡ false
+IsFirstFrom set fork None = (p : Place Span) → is_gt (fork_cmp fork p.fork) ≡ false → contains by_lower set p ≡ false
 IsFirstFrom set fork (Some first) =
-    ((p : Place Span) × (p.fork ≡ first) × (by_lower (start_behind fork) p ≡ Less) × (contains by_lower set p ≡ true))
-    × ((p : Place Span) → by_lower (start_behind fork) p ≡ Less → contains by_lower set p ≡ true → is_gt (fork_cmp first p.fork) ≡ false)
+    ((p : Place Span) × (p.fork ≡ first) × (is_gt (fork_cmp fork p.fork) ≡ false) × (contains by_lower set p ≡ true))
+    × ((p : Place Span) → is_gt (fork_cmp fork p.fork) ≡ false → contains by_lower set p ≡ true → is_gt (fork_cmp first p.fork) ≡ false)
 
--- the last fork of those places that lie before the end
-abbrev pub IsLastTo : BTreeSet (Place Span) → Fork → Option Fork → Type 0
-IsLastTo set fork None = (p : Place Span) → by_lower p (end_behind fork) ≡ Less → contains by_lower set p ≡ false
-IsLastTo set fork (Some last) =
-    ((p : Place Span) × (p.fork ≡ last) × (by_lower p (end_behind fork) ≡ Less) × (contains by_lower set p ≡ true))
-    × ((p : Place Span) → by_lower p (end_behind fork) ≡ Less → contains by_lower set p ≡ true → is_lt (fork_cmp last p.fork) ≡ false)
+-- the last fork of the places that is below a fork
+abbrev pub IsLastBelow : BTreeSet (Place Span) → Fork → Option Fork → Type 0
+IsLastBelow set fork None = (p : Place Span) → fork_cmp p.fork fork ≡ Less → contains by_lower set p ≡ false
+IsLastBelow set fork (Some last) =
+    ((p : Place Span) × (p.fork ≡ last) × (fork_cmp p.fork fork ≡ Less) × (contains by_lower set p ≡ true))
+    × ((p : Place Span) → fork_cmp p.fork fork ≡ Less → contains by_lower set p ≡ true → is_lt (fork_cmp last p.fork) ≡ false)
 
 -- a range at its fork
 abbrev pub lower_place : Span → Place Span

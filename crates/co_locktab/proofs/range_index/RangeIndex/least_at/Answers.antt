@@ -1,4 +1,4 @@
-use Rattle.co_locktab.proofs.Indexing.{weighs_lower, weighs_upper}
+use Rattle.co_locktab.proofs.Looking.{weighs_lower, weighs_upper}
 use Rattle.co_locktab.proofs.range_index.RangeIndex.least_at.Goals as goal
 
 pub returns-then-from-fork : goal.returns-then-from-fork

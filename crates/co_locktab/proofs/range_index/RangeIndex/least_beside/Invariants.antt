@@ -1,6 +1,6 @@
 use Rattle.co_locktab.specs.Places.{IsIndexed}
 use Rattle.co_locktab.specs.Weighed.{Weighs}
-use Rattle.co_locktab.proofs.Indexing.{SeenFrom}
+use Rattle.co_locktab.proofs.Looking.{SeenFrom}
 use Rattle.co_locktab.proofs.range_index.RangeIndex.least_beside.Given as goal
 
 abbrev pub invariant-loop-height : goal.invariant-loop-height
