@@ -1,5 +1,5 @@
 -- Where the bounds of a range part is on the path of each of its keys.
-use Rattle.std.proofs.Common.{◌≡◌, T, ℕ, zero, suc, Bool, true, false, cond, not, ◌≤◌, ◌<◌, ◌+◌, ◌-◌, ◌*◌, ◌/◌, ◌%◌, ◌^◌, List, [], ◌∷◌, ◌++◌, length, take, drop, if◌then◌else◌, refl, sym, ap, ◌∙◌, subst, true≢false, eqb→eq, eq-eqb, arith}
+use Rattle.std.proofs.Common.{◌≡◌, T, ℕ, zero, suc, Bool, true, false, cond, not, ◌≤◌, ◌<◌, ◌+◌, ◌-◌, ◌*◌, ◌/◌, ◌^◌, List, [], ◌∷◌, ◌++◌, length, take, drop, if◌then◌else◌, refl, sym, ap, ◌∙◌, subst, true≢false, eqb→eq, eq-eqb, arith}
 use Rattle.std.specs.Prelude.{◌==◌, replicate}
 use Rattle.std.specs.List.{take_while, zip}
 use Rattle.std.specs.Ordering.{nat_cmp, is_gt, ordering_then}
@@ -18,7 +18,7 @@ use Rattle.co_locktab.proofs.Least.{left_true, right_true}
 use Rattle.co_locktab.specs.Forks.{byte_at, common_length, one_block, middle_of, shared_height, fork_behind, fork_of, IsOnPath}
 
 -- the middle of a block is a byte
-pub middle_fits : (h b : ℕ) → h < 8 → b < 256 → middle_of h b % 256 ≡ middle_of h b
+pub middle_fits : (h b : ℕ) → h < 8 → b < 256 → middle_of h b < 256
 middle_fits zero b k l = omega arith
 middle_fits (suc zero) b k l = omega arith
 middle_fits (suc (suc zero)) b k l = omega arith

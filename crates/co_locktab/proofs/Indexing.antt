@@ -1,15 +1,10 @@
--- The index of ranges after one more and one less, and what it finds.
-use Rattle.std.proofs.Common.{◌≡◌, ◌⊎◌, inl, inr, ℕ, Bool, true, false, cond, not, ◌&&◌, ◌||◌, ◌≤◌, ◌<◌, ◌+◌, List, if◌then◌else◌, Option, None, Some, is_some, length, take, refl, sym, ap, ◌∙◌, subst, true≢false, arith}
-use Rattle.std.specs.Prelude.{◌==◌, nat_le, nat_lt, filter}
-use Rattle.std.specs.List.{list_any}
-use Rattle.co_locktab.proofs.Holding.{passed}
-use Rattle.co_state.specs.Table.{holds}
+-- The index of ranges after one more and one less.
+use Rattle.std.proofs.Common.{◌≡◌, ℕ, Bool, true, false, cond, not, ◌&&◌, ◌||◌, List, if◌then◌else◌, Option, None, Some, is_some, refl, sym, ap, ◌∙◌, subst, true≢false}
 use Rattle.std.specs.BTreeSet.{contains}
 use Rattle.std.specs.Ordering.{eq_by_cmp, is_eq, ordering_then, ordering_reverse}
 use Rattle.std.specs.Option.{option_cmp}
 use Rattle.std.specs.Cmp.{IsTotalOrder}
-use Rattle.std.specs.FinMap.{FinMap, get, remove, empty, get-insert, get-remove, get-empty, get-entries, entries, entries_sorted}
-use Rattle.std.proofs.lemmas.Bool.Decides.{nat_tests}
+use Rattle.std.specs.FinMap.{FinMap, get, remove, empty, get-insert, get-remove, get-empty}
 use Rattle.std.specs.declared.cmp.Ordering.{Ordering}
 use Rattle.std.specs.declared.cmp.Ordering.TheVariants.{Less, Equal, Greater}
 use Rattle.co_base.specs.Order.{key_cmp}
@@ -20,15 +15,13 @@ use Rattle.co_locktab.specs.declared.fork_index.ForkIndex.{ForkIndex}
 use Rattle.co_locktab.specs.declared.holders.Holders.{Holders}
 use Rattle.co_locktab.specs.declared.place.ByUpper.{ByUpper}
 use Rattle.co_locktab.specs.declared.place.Place.{Place}
-use Rattle.co_locktab.specs.Forks.{fork_of, fork_at, byte_at, IsOnPath}
-use Rattle.co_locktab.specs.Holding.{is_held, holder_in, is_left, changed, left, left_at, held_by, with_holder, without_holder, joined, one_holder}
-use Rattle.co_locktab.specs.Locks.{IsLeast, same_span}
-use Rattle.co_locktab.specs.Places.{fork_cmp, same_fork, by_lower, by_upper, lower_place, upper_place, is_placed, spanned, has_behind, IsIndexed}
-use Rattle.co_locktab.specs.Weighed.{Weighs, holds_over, covers}
-use Rattle.co_locktab.proofs.Orders.{spans_total, spans_apart, tied, ties-itself}
-use Rattle.co_locktab.proofs.Placing.{forks_total, forks_apart}
-use Rattle.co_locktab.proofs.Least.{left_true, right_true, and_false}
-use Rattle.co_locktab.proofs.Behind.{stands}
+use Rattle.co_locktab.specs.Forks.{fork_of, IsOnPath}
+use Rattle.co_locktab.specs.Holding.{is_left, changed, left, left_at, held_by, with_holder, without_holder, joined, one_holder}
+use Rattle.co_locktab.specs.Locks.{same_span}
+use Rattle.co_locktab.specs.Places.{fork_cmp, same_fork, by_lower, by_upper, lower_place, upper_place, is_placed, spanned, IsIndexed}
+use Rattle.co_locktab.proofs.Orders.{spans_total, spans_apart, tied}
+use Rattle.co_locktab.proofs.Placing.{forks_total}
+use Rattle.co_locktab.proofs.Least.{right_true, and_false}
 
 -- ---- places tie where their ranges and their forks do
 both_eq : (r s : Ordering) → is_eq (ordering_then r s) ≡ (is_eq r && is_eq s)
@@ -181,65 +174,6 @@ indexed_without m old new span t e l u x = subst (λ (b : Bool). IsIndexed (if b
   on_path = λ s f. x.on_path s (right_true (not (same_span s span)) (is_some (get m s)) (sym (there_gone m span t s) ∙ f));
 })
 
--- ---- what is looked at
-there_held : (m : FinMap span_cmp Holders) (s : Span) (u : ℕ) → is_held m s u ≡ true → is_some (get m s) ≡ true
-there_held m s u = by (get m s)
-  where
-    by : (o : Option Holders) → holder_in o u ≡ true → is_some o ≡ true
-    by None e = absurd (true≢false (sym e))
-    by (Some h) e = refl
-
-placed : (m : FinMap span_cmp Holders) (s : Span) (fork : Fork) (u : ℕ) → fork_of s ≡ fork → is_held m s u ≡ true → is_placed m fork (Some s) ≡ true
-placed m s fork u e h = λ i. (ap (same_fork fork) e ∙ ties-itself forks_total forks_apart fork) i && there_held m s u h i
-
--- the ranges of a fork were seen, in either order
-pub weighs_lower : (m : FinMap span_cmp Holders) (forks : ForkIndex) (key : List ℕ) (t : ℕ) (fork : Fork) (before after : Option ℕ) → IsIndexed m forks
-    → Weighs m key t before after (λ s. contains by_lower forks.lower (record { fork = fork; range = Some s }) ≡ true) → Weighs m key t before after (λ s. fork_of s ≡ fork)
-weighs_lower m forks key t fork before after x w = record {
-  keeps = w.keeps;
-  right = w.right;
-  full = λ s seen has u h n. w.full s (x.by_lower_is (record { fork = fork; range = Some s }) ∙ placed m s fork u seen h) has u h n;
-}
-
-pub weighs_upper : (m : FinMap span_cmp Holders) (forks : ForkIndex) (key : List ℕ) (t : ℕ) (fork : Fork) (before after : Option ℕ) → IsIndexed m forks
-    → Weighs m key t before after (λ s. contains by_upper forks.upper (record { fork = fork; range = Some (record { range = s }) }) ≡ true) → Weighs m key t before after (λ s. fork_of s ≡ fork)
-weighs_upper m forks key t fork before after x w = record {
-  keeps = w.keeps;
-  right = w.right;
-  full = λ s seen has u h n. w.full s (x.by_upper_is (record { fork = fork; range = Some (record { range = s }) }) ∙ placed m s fork u seen h) has u h n;
-}
-
-pub weighs_nothing : (m : FinMap span_cmp Holders) (key : List ℕ) (t : ℕ) (least : Option ℕ) (Seen : Span → Type 0) → ((s : Span) → Seen s → ⊥) → Weighs m key t least least Seen
-weighs_nothing m key t least Seen none = record { keeps = λ u e. e; right = λ u e. inl e; full = λ s seen has u h n. absurd (none s seen) }
-
--- behind bytes where no range stands, there is nothing to look at
-pub weighs_bare : (m : FinMap span_cmp Holders) (forks : ForkIndex) (key : List ℕ) (t : ℕ) (before : Option ℕ) (prefix : List ℕ) (byte : ℕ) → IsIndexed m forks
-    → has_behind forks.lower (fork_at prefix 0 byte) ≡ false → Weighs m key t before before (λ s. (height : ℕ) × (height < 8) × (fork_of s ≡ fork_at prefix height byte))
-weighs_bare m forks key t before prefix byte x none = record {
-  keeps = λ u e. e;
-  right = λ u e. inl e;
-  full = λ s seen has u h n.
-      let fork = fork_at prefix seen.0 byte in
-      absurd (true≢false (sym (stands (fork_at prefix 0 byte) fork s refl forks.lower (x.by_lower_is (record { fork = fork; range = Some s }) ∙ placed m s fork u seen.2 h)) ∙ none));
-}
-
--- one step after others
-pub weighs_more : (m : FinMap span_cmp Holders) (key : List ℕ) (t : ℕ) (before between after : Option ℕ) (First Second Seen : Span → Type 0)
-    → Weighs m key t before between First → Weighs m key t between after Second → ((s : Span) → Seen s → First s ⊎ Second s) → Weighs m key t before after Seen
-weighs_more m key t before between after First Second Seen v w split = record {
-  keeps = λ u e. w.keeps u (v.keeps u e);
-  right = λ u e. by u (w.right u e);
-  full = λ s seen has u h n. of s has u h n (split s seen);
-}
-  where
-    by : (u : ℕ) → (between ≡ Some u) ⊎ (holds_over m key t u ≡ true) → (before ≡ Some u) ⊎ (holds_over m key t u ≡ true)
-    by u (inl e) = v.right u e
-    by u (inr e) = inr e
-
-    of : (s : Span) → span_has s key ≡ true → (u : ℕ) → is_held m s u ≡ true → not (u == t) ≡ true → First s ⊎ Second s → covers after u ≡ true
-    of s has u h n (inl f) = w.keeps u (v.full s f has u h n)
-    of s has u h n (inr f) = w.full s f has u h n
-
 -- what came back is the range, where the lock was left by all
 pub ended_is : (b : Bool) (r s : Span) → Some r ≡ (if b then Some s else None) → (b ≡ true) × (r ≡ s)
 ended_is true r s e = (refl, cc)
@@ -248,67 +182,3 @@ ended_is false r s e = absurd (cc)
 pub not_ended : (b : Bool) (s : Span) → None ≡ (if b then Some s else None) → b ≡ false
 not_ended true s e = absurd (cc)
 not_ended false s e = refl
-
--- ---- the forks behind a key's first bytes
-abbrev pub SeenBehind : List ℕ → ℕ → ℕ → Span → Type 0
-SeenBehind prefix byte heights s = (height : ℕ) × (height < heights) × (fork_of s ≡ fork_at prefix height byte)
-
-pub none_behind : (prefix : List ℕ) (byte : ℕ) (s : Span) → SeenBehind prefix byte 0 s → ⊥
-none_behind prefix byte s h = omega (arith, h.1)
-
-pub more_behind : (prefix : List ℕ) (byte heights : ℕ) (s : Span) → SeenBehind prefix byte (heights + 1) s → SeenBehind prefix byte heights s ⊎ (fork_of s ≡ fork_at prefix heights byte)
-more_behind prefix byte heights s h = by (nat_lt h.0 heights) refl
-  where
-    by : (b : Bool) → nat_lt h.0 heights ≡ b → SeenBehind prefix byte heights s ⊎ (fork_of s ≡ fork_at prefix heights byte)
-    by true e = inl (h.0, (let l : h.0 < heights = grind (arith, nat_tests) in l), h.2)
-    by false e =
-        let k : h.0 < heights + 1 = h.1 in
-        let m : h.0 ≡ heights = grind (arith, nat_tests) in
-        inr (h.2 ∙ ap (λ n. fork_at prefix n byte) m)
-
--- ---- all forks of a key
-abbrev pub SeenUpTo : List ℕ → ℕ → Span → Type 0
-SeenUpTo key places s = (place : ℕ) × (place < places) × SeenBehind (take place key) (byte_at key place) 8 s
-
-pub none_up_to : (key : List ℕ) (s : Span) → SeenUpTo key 0 s → ⊥
-none_up_to key s h = omega (arith, h.1)
-
-pub more_up_to : (key : List ℕ) (places : ℕ) (s : Span) → SeenUpTo key (places + 1) s → SeenUpTo key places s ⊎ SeenBehind (take places key) (byte_at key places) 8 s
-more_up_to key places s h = by (nat_lt h.0 places) refl
-  where
-    by : (b : Bool) → nat_lt h.0 places ≡ b → SeenUpTo key places s ⊎ SeenBehind (take places key) (byte_at key places) 8 s
-    by true e = inl (h.0, (let l : h.0 < places = grind (arith, nat_tests) in l), h.2)
-    by false e =
-        let k : h.0 < places + 1 = h.1 in
-        let m : h.0 ≡ places = grind (arith, nat_tests) in
-        inr (subst (λ n. SeenBehind (take n key) (byte_at key n) 8 s) m h.2)
-
--- ---- the least of all
-module _ (m : FinMap span_cmp Holders) (forks : ForkIndex) (key : List ℕ) (t : ℕ) (x : IsIndexed m forks) where
-  seen : (s : Span) → is_some (get m s) ≡ true → span_has s key ≡ true → SeenUpTo key (length key + 1) s
-  seen s e has =
-      let p = x.on_path s e key has in
-      let w : p.place ≤ length key = p.within in
-      (p.place, omega arith, (p.height, p.bound, p.is))
-
-  all_covered : (after : Option ℕ) → Weighs m key t None after (SeenUpTo key (length key + 1)) → (u : ℕ) → holds_over m key t u ≡ true → covers after u ≡ true
-  all_covered after w u e =
-      let other : not (u == t) ≡ true = left_true (not (u == t)) (list_any (λ e. holds e.1.txns u) (filter (λ e. span_has e.0 key) (entries m))) e in
-      let p = passed spans_total spans_apart (λ s. span_has s key) u (entries m) (entries_sorted m) (right_true (not (u == t)) (list_any (λ e. holds e.1.txns u) (filter (λ e. span_has e.0 key) (entries m))) e) in
-      let held : is_held m p.key u ≡ true = ap (λ (o : Option Holders). holder_in o u) (get-entries m p.key) ∙ p.held in
-      w.full p.key (seen p.key (there_held m p.key u held) p.passes) p.passes u held other
-
-  pub weighs_least : (after : Option ℕ) → Weighs m key t None after (SeenUpTo key (length key + 1)) → IsLeast (holds_over m key t) after
-  weighs_least None w = λ u. by u (holds_over m key t u) refl
-    where
-      by : (u : ℕ) (b : Bool) → holds_over m key t u ≡ b → b ≡ false
-      by u true e = sym (all_covered None w u e)
-      by u false e = refl
-  weighs_least (Some v) w = (
-    by (w.right v refl),
-    λ u e. let l : nat_le v u ≡ true = all_covered (Some v) w u e in grind (arith, nat_tests),
-  )
-    where
-      by : (None ≡ Some v) ⊎ (holds_over m key t v ≡ true) → holds_over m key t v ≡ true
-      by (inl e) = absurd (cc)
-      by (inr e) = e

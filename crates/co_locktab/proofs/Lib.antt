@@ -8,4 +8,6 @@ pub mod Forking
 pub mod Placing
 pub mod Walking
 pub mod Behind
+pub mod Starting
 pub mod Indexing
+pub mod Looking

@@ -27,13 +27,17 @@ abbrev pub shared_height : ℕ → ℕ → ℕ → ℕ
 shared_height zero a b = zero
 shared_height (suc n) a b = if one_block n a b then shared_height n a b else suc n
 
+-- behind these bytes, at the block with this middle
+abbrev pub fork_with : List ℕ → ℕ → Fork
+fork_with prefix middle = record { prefix = prefix ++ drop (length prefix) (replicate 32 0); middle = middle }
+
 -- behind these bytes, at the block that has the next byte
 abbrev pub fork_at : List ℕ → ℕ → ℕ → Fork
-fork_at prefix height byte = record { prefix = prefix ++ drop (length prefix) (replicate 32 0); middle = middle_of height byte }
+fork_at prefix height byte = fork_with prefix (middle_of height byte)
 
--- no fork behind the same bytes is below it
-abbrev pub first_behind : Fork → Fork
-first_behind fork = record fork { middle = 0 }
+-- behind the same bytes, at the block with this middle
+abbrev pub with_middle : Fork → ℕ → Fork
+with_middle fork middle = record fork { middle = middle }
 
 -- where the bounds part, behind the bytes that they share
 abbrev pub fork_behind : ℕ → Span → Fork

@@ -1,9 +1,9 @@
 -- Ranges at their forks, in the orders in which they are kept.
-use Rattle.std.specs.Prelude.{ℕ, List, Bool, false, ◌&&◌, ◌≡◌, true, Option, None, Some, is_some, filter}
-use Rattle.std.specs.List.{list_any}
-use Rattle.std.specs.Ordering.{on, then_cmp, nat_cmp, eq_by_cmp, is_lt}
+use Rattle.std.specs.Prelude.{ℕ, List, Bool, false, ◌&&◌, ◌≡◌, true, Option, None, Some, is_some}
+use Rattle.std.specs.Ordering.{on, then_cmp, nat_cmp, eq_by_cmp, is_lt, is_gt}
 use Rattle.std.specs.Option.{option_cmp}
 use Rattle.std.specs.declared.cmp.Ordering.{Ordering}
+use Rattle.std.specs.declared.cmp.Ordering.TheVariants.{Less}
 use Rattle.std.specs.BTreeSet.{BTreeSet, contains}
 use Rattle.std.specs.FinMap.{FinMap, get}
 use Rattle.co_base.specs.Order.{key_cmp}
@@ -13,7 +13,7 @@ use Rattle.co_locktab.specs.declared.place.ByUpper.{ByUpper}
 use Rattle.co_locktab.specs.declared.place.Place.{Place}
 use Rattle.co_locktab.specs.declared.fork_index.ForkIndex.{ForkIndex}
 use Rattle.co_locktab.specs.declared.holders.Holders.{Holders}
-use Rattle.co_locktab.specs.Forks.{fork_of, first_behind, IsOnPath}
+use Rattle.co_locktab.specs.Forks.{fork_of, IsOnPath}
 use Rattle.co_locktab.specs.Upper.{upper_cmp}
 
 abbrev pub fork_cmp : Fork → Fork → Ordering
@@ -36,13 +36,19 @@ by_upper = place_cmp upper_cmp
 abbrev pub are_beside : Fork → Fork → Bool
 are_beside f g = eq_by_cmp key_cmp f.prefix g.prefix
 
--- the place before all ranges of the forks behind the same bytes
-abbrev pub start_behind : Fork → Place Span
-start_behind fork = record { fork = first_behind fork; range = None }
+-- the first fork of the places that is not below a fork
+abbrev pub IsFirstFrom : BTreeSet (Place Span) → Fork → Option Fork → Type 0
+IsFirstFrom set fork None = (p : Place Span) → is_gt (fork_cmp fork p.fork) ≡ false → contains by_lower set p ≡ false
+IsFirstFrom set fork (Some first) =
+    ((p : Place Span) × (p.fork ≡ first) × (is_gt (fork_cmp fork p.fork) ≡ false) × (contains by_lower set p ≡ true))
+    × ((p : Place Span) → is_gt (fork_cmp fork p.fork) ≡ false → contains by_lower set p ≡ true → is_gt (fork_cmp first p.fork) ≡ false)
 
--- whether a range stands at a fork behind the same bytes
-abbrev pub has_behind : BTreeSet (Place Span) → Fork → Bool
-has_behind set fork = list_any (λ p. are_beside fork p.fork) (filter (λ p. is_lt (by_lower (start_behind fork) p) && true) set.keys)
+-- the last fork of the places that is below a fork
+abbrev pub IsLastBelow : BTreeSet (Place Span) → Fork → Option Fork → Type 0
+IsLastBelow set fork None = (p : Place Span) → fork_cmp p.fork fork ≡ Less → contains by_lower set p ≡ false
+IsLastBelow set fork (Some last) =
+    ((p : Place Span) × (p.fork ≡ last) × (fork_cmp p.fork fork ≡ Less) × (contains by_lower set p ≡ true))
+    × ((p : Place Span) → fork_cmp p.fork fork ≡ Less → contains by_lower set p ≡ true → is_lt (fork_cmp last p.fork) ≡ false)
 
 -- a range at its fork
 abbrev pub lower_place : Span → Place Span

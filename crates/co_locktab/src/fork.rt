@@ -1,7 +1,7 @@
 //! Where the two bounds of a range part.
 ghost use Rattle.std.specs.Prelude.{◌≡◌, ℕ, ◌+◌, ◌*◌, ◌/◌, ◌^◌, ◌<◌, ◌≤◌, true, length, slice_index};
 ghost use Rattle.co_base.specs.Span.{span_has};
-ghost use Rattle.co_locktab.specs.Forks.{byte_at, common_length, shared_height, middle_of, fork_at, fork_of, first_behind, IsOnPath};
+ghost use Rattle.co_locktab.specs.Forks.{byte_at, common_length, shared_height, middle_of, fork_with, with_middle, fork_of, IsOnPath};
 ghost use Rattle.co_locktab.specs.Places.{are_beside};
 
 use co_base::Range;
@@ -15,7 +15,7 @@ pub struct Fork {
     /// The shared bytes, and 0 behind them.
     prefix: [u8; 32],
     /// The middle of the block.
-    pub middle: u8,
+    pub middle: u16,
 }
 
 /// The byte at a place, or 0 behind the last one.
@@ -26,11 +26,11 @@ pub fn byte_at(text: &[u8], place: usize) -> u8
 }
 
 /// The middle of the block of a height that has a byte.
-fn middle_of(height: u8, byte: u8) -> u8
+pub fn middle_of(height: u8, byte: u8) -> u16
     requires { height < 8 }
     ensures { result ≡ middle_of height byte }
 {
-    ((byte >> height) / 2 * 2 + 1) << height
+    ((u16::from(byte) >> height) / 2 * 2 + 1) << height
 }
 
 /// How many first bytes two texts share.
@@ -57,27 +57,29 @@ fn shared_height(one: u8, other: u8) -> u8
 }
 
 impl Fork {
-    /// Where texts part that share these bytes, at the block of a height that has the next byte of each.
-    pub fn at(prefix: &[u8], height: u8, byte: u8) -> Fork
-        requires prefix { length prefix.now ≤ 32 }
-        requires height { height < 8 }
-        ensures { result ≡ fork_at prefix.now height byte }
+    /// Above the middles of all blocks.
+    pub const END: u16 = 256;
+
+    /// Where texts part that share these bytes, at the block with a middle.
+    pub fn at(prefix: &[u8], middle: u16) -> Fork
+        requires { length prefix.now ≤ 32 }
+        ensures { result ≡ fork_with prefix.now middle }
     {
         let mut padded = [0; 32];
         padded[..prefix.len()].copy_from_slice(prefix);
         Fork {
             prefix: padded,
-            middle: middle_of(height, byte),
+            middle,
         }
     }
 
-    /// No fork behind the same bytes is below this one.
-    pub fn first_behind(&self) -> Fork
-        ensures { result ≡ first_behind self.now }
+    /// Where texts part that share the same bytes, at the block with another middle.
+    pub fn with_middle(&self, middle: u16) -> Fork
+        ensures { result ≡ with_middle self.now middle }
     {
         Fork {
             prefix: self.prefix,
-            middle: 0,
+            middle,
         }
     }
 
@@ -98,6 +100,6 @@ impl Fork {
         let shared = common_length(lo, hi);
         let byte = byte_at(lo, shared);
         let height = shared_height(byte, byte_at(hi, shared));
-        Fork::at(&lo[..shared], height, byte)
+        Fork::at(&lo[..shared], middle_of(height, byte))
     }
 }

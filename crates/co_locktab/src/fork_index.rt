@@ -1,10 +1,10 @@
 //! Ranges by their forks.
 ghost use Rattle.std.specs.Prelude.{◌≡◌, ◌||◌, ◌&&◌, not, true, false, Some, OnOk};
 ghost use Rattle.std.specs.BTreeSet.{contains};
-ghost use Rattle.std.specs.Ordering.{eq_by_cmp};
+ghost use Rattle.std.specs.Ordering.{eq_by_cmp, is_gt};
 ghost use Rattle.co_base.specs.Span.{span_has};
 ghost use Rattle.co_locktab.specs.Forks.{fork_of, IsOnPath};
-ghost use Rattle.co_locktab.specs.Places.{by_lower, by_upper, lower_place, upper_place, has_behind};
+ghost use Rattle.co_locktab.specs.Places.{by_lower, by_upper, lower_place, upper_place, fork_cmp, IsFirstFrom, IsLastBelow};
 ghost use Rattle.co_locktab.specs.Weighed.{Weighs};
 
 use crate::fork::Fork;
@@ -75,19 +75,40 @@ impl ForkIndex {
         let _ = self.upper.remove(&upper);
     }
 
-    /// Whether a range stands at a fork behind the same bytes as this one.
-    pub fn has_behind(&self, fork: Fork) -> bool
-        ensures { result ≡ has_behind self.now.lower fork }
+    /// The first fork at which a range stands that is not below a fork.
+    pub fn first_from(&self, fork: &Fork) -> Option<Fork>
+        ensures { IsFirstFrom self.now.lower fork.now result }
     {
-        let start = Place::before(fork.first_behind());
-        let next = self
+        let start = Place::before(*fork);
+        let first = self
             .lower
-            .range((Bound::Excluded(&start), Bound::Unbounded))
-            .next();
-        match next {
-            Some(place) => fork.is_beside(&place.fork),
-            None => false,
+            .range((Bound::Included(&start), Bound::Unbounded))
+            .next()?;
+        Some(first.fork)
+    }
+
+    /// The first fork at which a range stands that is not below a fork, where the first that is not below an earlier
+    /// one is known.
+    pub fn next_from(&self, known: Option<Fork>, fork: &Fork) -> Option<Fork>
+        ensures { (earlier : _) → is_gt (fork_cmp earlier fork.now) ≡ false → IsFirstFrom self.now.lower earlier known → IsFirstFrom self.now.lower fork.now result }
+    {
+        let first = known?;
+        if first.cmp(fork).is_lt() {
+            return self.first_from(fork);
         }
+        Some(first)
+    }
+
+    /// The last fork at which a range stands that is below a fork.
+    pub fn last_below(&self, fork: &Fork) -> Option<Fork>
+        ensures { IsLastBelow self.now.lower fork.now result }
+    {
+        let end = Place::before(*fork);
+        let last = self
+            .lower
+            .range((Bound::Unbounded, Bound::Excluded(&end)))
+            .next_back()?;
+        Some(last.fork)
     }
 
     /// The least other holder of the ranges at a fork that have a key which is below all their upper bounds.

@@ -1,13 +1,13 @@
 //! Locks of ranges.
-ghost use Rattle.std.specs.Prelude.{◌≡◌, ◌<◌, ◌≤◌, ℕ, length, OnOk};
+ghost use Rattle.std.specs.Prelude.{◌≡◌, ◌<◌, ◌≤◌, ℕ, OnOk};
 ghost use Rattle.std.specs.FinMap as map;
-ghost use Rattle.co_locktab.specs.Forks.{fork_at, fork_of};
+ghost use Rattle.co_locktab.specs.Forks.{fork_of, middle_of, with_middle};
 ghost use Rattle.co_locktab.specs.Holding.{is_held, with_holder, without_holder};
 ghost use Rattle.co_locktab.specs.Locks.{IsLeast};
-ghost use Rattle.co_locktab.specs.Places.{IsIndexed};
+ghost use Rattle.co_locktab.specs.Places.{IsFirstFrom, IsIndexed};
 ghost use Rattle.co_locktab.specs.Weighed.{Weighs, holds_over};
 
-use crate::fork::{Fork, byte_at};
+use crate::fork::{Fork, byte_at, middle_of};
 use crate::fork_index::ForkIndex;
 use crate::range_holders::RangeHolders;
 use co_base::{Key, Range, Txn};
@@ -45,33 +45,60 @@ impl RangeIndex {
     {
         let text = key.text();
         let mut least = None;
+        let mut first = self.forks.first_from(&Fork::at(&[], 0));
         for shared in 0..text.len() + 1 {
-            least = self.least_behind(&text[..shared], byte_at(text, shared), key, t, least);
+            let start = Fork::at(&text[..shared], 0);
+            first = self.forks.next_from(first, &start);
+            least = self.least_behind(first, &start, byte_at(text, shared), key, t, least);
         }
         least
     }
 
-    /// The least other holder of the ranges with a key whose bounds part behind its first bytes, at a block that
-    /// has its next byte.
+    /// The least other holder of the ranges with a key whose bounds part behind the same bytes as at a fork, at a
+    /// block that has the next byte of the key, where the first fork from there on is known.
     fn least_behind(
         &self,
-        prefix: &[u8],
+        first: Option<Fork>,
+        start: &Fork,
         byte: u8,
         key: &Key,
         t: Txn,
         before: Option<Txn>,
     ) -> Option<Txn>
-        requires { length prefix.now ≤ 32 }
-        ensures { IsIndexed self.now.held self.now.forks
-            → Weighs self.now.held key.now t before result (λ s. (height : ℕ) × (height < 8) × (fork_of s ≡ fork_at prefix.now height byte)) }
+        ensures { IsIndexed self.now.held self.now.forks → IsFirstFrom self.now.forks.lower (with_middle start.now 0) first
+            → Weighs self.now.held key.now t before result (λ s. (height : ℕ) × (height < 8) × (fork_of s ≡ with_middle start.now (middle_of height byte))) }
     {
-        if !self.forks.has_behind(Fork::at(prefix, 0, byte)) {
+        let Some(first) = first else {
             return before;
+        };
+        if first.is_beside(start) {
+            return self.least_beside(first, byte, key, t, before);
         }
+        before
+    }
+
+    /// The least other holder of the ranges with a key whose bounds part behind the same bytes as at a fork, at a
+    /// block that has the next byte of the key and whose middle is not below that of the fork.
+    fn least_beside(
+        &self,
+        first: Fork,
+        byte: u8,
+        key: &Key,
+        t: Txn,
+        before: Option<Txn>,
+    ) -> Option<Txn>
+        ensures { IsIndexed self.now.held self.now.forks
+            → Weighs self.now.held key.now t before result (λ s. (height : ℕ) × (height < 8) × (first.middle ≤ middle_of height byte) × (fork_of s ≡ with_middle first (middle_of height byte))) }
+    {
+        let Some(last) = self.forks.last_below(&first.with_middle(Fork::END)) else {
+            return before;
+        };
         let mut least = before;
         for height in 0..8 {
-            let fork = Fork::at(prefix, height, byte);
-            least = self.least_at(fork, byte, key, t, least);
+            let middle = middle_of(height, byte);
+            if first.middle <= middle && middle <= last.middle {
+                least = self.least_at(first.with_middle(middle), byte, key, t, least);
+            }
         }
         least
     }
@@ -81,7 +108,7 @@ impl RangeIndex {
     fn least_at(&self, fork: Fork, byte: u8, key: &Key, t: Txn, before: Option<Txn>) -> Option<Txn>
         ensures { IsIndexed self.now.held self.now.forks → Weighs self.now.held key.now t before result (λ s. fork_of s ≡ fork) }
     {
-        if byte < fork.middle {
+        if u16::from(byte) < fork.middle {
             self.forks
                 .least_from_below(&self.held, fork, key, t, before)
         } else {

@@ -1,24 +1,43 @@
-use Rattle.std.proofs.Common.{◌≡◌, ℕ, List, ◌+◌, ◌≤◌, None, length, take, ap, subst, arith}
-use Rattle.co_locktab.specs.Forks.{byte_at}
+use Rattle.std.proofs.Common.{◌≡◌, ℕ, List, ◌+◌, ◌-◌, ◌≤◌, None, length, take, ap, ◌∙◌, subst, arith, false}
+use Rattle.std.specs.Ordering.{is_gt}
+use Rattle.co_locktab.specs.declared.fork.Fork.{Fork}
+use Rattle.co_locktab.specs.Forks.{byte_at, fork_with, with_middle}
+use Rattle.co_locktab.specs.Places.{fork_cmp, IsFirstFrom}
 use Rattle.co_locktab.specs.Weighed.{Weighs}
-use Rattle.co_locktab.proofs.Indexing.{SeenBehind, SeenUpTo, weighs_nothing, none_up_to, weighs_more, more_up_to, weighs_least}
+use Rattle.co_locktab.proofs.Looking.{SeenBehind, SeenOfKey, SeenUpTo, weighs_nothing, none_up_to, weighs_more, more_up_to, weighs_least}
+use Rattle.co_locktab.proofs.Starting.{start_of, starts_ascend}
 use Rattle.co_locktab.proofs.range_index.RangeIndex.least_over.Goals as goal
 
 pub loop-shared-init : goal.loop-shared-init
-loop-shared-init c = λ x. weighs_nothing c.args.self.now.held c.args.key.now c.args.t None (SeenUpTo c.args.key.now 0) (none_up_to c.args.key.now)
+loop-shared-init c = record {
+  weighed = λ x. weighs_nothing c.args.self.now.held c.args.key.now c.args.t None (SeenUpTo c.args.key.now 0) (none_up_to c.args.key.now);
+  known = subst (λ (f : Fork). IsFirstFrom c.args.self.now.forks.lower f c.first_from-first.result) c.at.ensures c.first_from-first.ensures;
+}
 
 pub loop-shared-preserved : goal.loop-shared-preserved
-loop-shared-preserved c = λ x.
+loop-shared-preserved c =
     let held = c.args.self.now.held in
+    let set = c.args.self.now.forks.lower in
     let key = c.args.key.now in
     let shared = c.loop-shared.shared in
     let least = c.loop-shared.least in
     let result = c.least_behind-least.result in
-    let w : Weighs held key c.args.t least result (SeenBehind (take shared c.text-text.result.now) (byte_at c.text-text.result.now shared) 8) =
-    subst (λ (b : ℕ). Weighs held key c.args.t least result (SeenBehind (take shared c.text-text.result.now) b 8)) c.byte_at.ensures (c.least_behind-least.ensures x) in
-    let v : Weighs held key c.args.t least result (SeenBehind (take shared key) (byte_at key shared) 8) =
-    subst (λ (text : List ℕ). Weighs held key c.args.t least result (SeenBehind (take shared text) (byte_at text shared) 8)) c.text-text.ensures.value w in
-    weighs_more held key c.args.t None least result (SeenUpTo key shared) (SeenBehind (take shared key) (byte_at key shared) 8) (SeenUpTo key (shared + 1)) (c.loop-shared.invariant x) v (more_up_to key shared)
+    let first = c.next_from-first.result in
+    let is : c.at-start.result ≡ start_of key shared = c.at-start.ensures ∙ ap (λ (text : List ℕ). fork_with (take shared text) 0) c.text-text.ensures.value in
+    let next : c.byte_at.result ≡ byte_at key shared = c.byte_at.ensures ∙ ap (λ (text : List ℕ). byte_at text shared) c.text-text.ensures.value in
+    let later : is_gt (fork_cmp (start_of key (shared - 1)) c.at-start.result) ≡ false = ap (λ (f : Fork). is_gt (fork_cmp (start_of key (shared - 1)) f)) is ∙ starts_ascend key shared in
+    let known : IsFirstFrom set (start_of key shared) first =
+    subst (λ (f : Fork). IsFirstFrom set f first) is (c.next_from-first.ensures (start_of key (shared - 1)) later c.loop-shared.invariant.known) in
+    let back : shared ≡ shared + 1 - 1 = omega arith in
+    record {
+      weighed = λ x.
+          let w : IsFirstFrom set (with_middle (start_of key shared) 0) first → Weighs held key c.args.t least result (SeenBehind (start_of key shared) c.byte_at.result 8) =
+          subst (λ (f : Fork). IsFirstFrom set (with_middle f 0) first → Weighs held key c.args.t least result (SeenBehind f c.byte_at.result 8)) is (c.least_behind-least.ensures x) in
+          let v : Weighs held key c.args.t least result (SeenOfKey key shared) =
+          subst (λ (b : ℕ). Weighs held key c.args.t least result (SeenBehind (start_of key shared) b 8)) next (w known) in
+          weighs_more held key c.args.t None least result (SeenUpTo key shared) (SeenOfKey key shared) (SeenUpTo key (shared + 1)) (c.loop-shared.invariant.weighed x) v (more_up_to key shared);
+      known = subst (λ (n : ℕ). IsFirstFrom set (start_of key n) first) back known;
+    }
 
 pub returns : goal.returns
 returns c = λ x.
@@ -28,4 +47,4 @@ returns c = λ x.
     let end : c.loop-shared.shared ≤ length c.text-text.result.now + 1 = c.loop-shared.auto.shared-end in
     let all : c.loop-shared.shared ≡ length key + 1 = omega arith in
     weighs_least held c.args.self.now.forks key c.args.t x c.loop-shared.least
-    (subst (λ (n : ℕ). Weighs held key c.args.t None c.loop-shared.least (SeenUpTo key n)) all (c.loop-shared.invariant x))
+    (subst (λ (n : ℕ). Weighs held key c.args.t None c.loop-shared.least (SeenUpTo key n)) all (c.loop-shared.invariant.weighed x))
