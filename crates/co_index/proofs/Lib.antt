@@ -1,6 +1,7 @@
 pub mod Ranging
 pub mod Keys
 pub mod Putting
+mod Ascending
 pub mod Finding
 pub mod Touching
 pub mod Indexing
