@@ -122,12 +122,10 @@ module _ (key value : List ℕ) where
   put_gap [] zero h = refl
   put_gap [] (suc i) h = refl
   put_gap (r ∷ rs) zero h =
-      sym (ap (λ o. by_order o ((key, value) ∷ (r.key, r.value) ∷ entries_in rs) ((r.key, value) ∷ entries_in rs) ((r.key, r.value) ∷ put key_cmp key value (entries_in rs)))
-      (turned r.key key Greater (h.1 0 r (omega arith) (omega arith))))
+      sym (put_first r rs Greater (h.1 0 r (omega arith) (omega arith)))
   put_gap (r ∷ rs) (suc i) h =
       ap (λ es. (r.key, r.value) ∷ es) (put_gap rs i (λ k d a b. h.0 (suc k) d (omega arith) (omega arith), λ k d a b. h.1 (suc k) d (omega arith) (omega arith)))
-      ∙ sym (ap (λ o. by_order o ((key, value) ∷ (r.key, r.value) ∷ entries_in rs) ((r.key, value) ∷ entries_in rs) ((r.key, r.value) ∷ put key_cmp key value (entries_in rs)))
-      (turned r.key key Less (h.0 0 r (omega arith) (omega arith))))
+      ∙ sym (put_first r rs Less (h.0 0 r (omega arith) (omega arith)))
 
   put_found : (rows : List Row) (i : ℕ) → IsInKeyOrder rows → i < length rows → HoldsAt (λ r. key_cmp r.key key ≡ Equal) rows i
       → entries_in (set rows i (record { key = key; value = value })) ≡ put key_cmp key value (entries_in rows)
@@ -135,13 +133,11 @@ module _ (key value : List ℕ) where
   put_found [] i h l e = absurd (omega arith)
   put_found (r ∷ rs) zero h l e =
       ap (λ k. (k, value) ∷ entries_in rs) (sym (same r.key key (e r)))
-      ∙ sym (ap (λ o. by_order o ((key, value) ∷ (r.key, r.value) ∷ entries_in rs) ((r.key, value) ∷ entries_in rs) ((r.key, r.value) ∷ put key_cmp key value (entries_in rs)))
-      (turned r.key key Equal (e r)))
+      ∙ sym (put_first r rs Equal (e r))
   put_found (r ∷ rs) (suc i) h l e =
       let below : key_cmp r.key key ≡ Less = subst (λ k. key_cmp r.key k ≡ Less) (same _ key (e r)) (above_first r.key rs i r h.0 (omega arith)) in
       ap (λ es. (r.key, r.value) ∷ es) (put_found rs i h.1 (omega arith) e)
-      ∙ sym (ap (λ o. by_order o ((key, value) ∷ (r.key, r.value) ∷ entries_in rs) ((r.key, value) ∷ entries_in rs) ((r.key, r.value) ∷ put key_cmp key value (entries_in rs)))
-      (turned r.key key Less below))
+      ∙ sym (put_first r rs Less below)
 
   order-put : (rows new : List Row) → IsInKeyOrder rows → entries_in new ≡ put key_cmp key value (entries_in rows) → IsInKeyOrder new
   order-put rows new h e = rows_ascend new (subst (λ es. T (is_sorted key_cmp es)) (sym e) (is_sorted-put key_cmp nat_list_cmp_total key value (entries_in rows) (entries_ascend rows h)))
