@@ -6,8 +6,7 @@ ghost use Rattle.co_state.specs.Keys.{same_key};
 ghost use Rattle.co_occ.specs.Seen.{laid_within};
 
 use co_base::{Key, Range, Value, Written};
-use co_index::KeyMap;
-use co_state::RecordMap;
+use co_index::{KeyMap, RowList};
 use std::alloc::{AllocError, Global};
 
 /// The value of a change of this key, and else what was seen before.
@@ -37,7 +36,7 @@ pub fn seen_value<'a>(
 }
 
 /// Lays changes of keys of a range over the records of that range.
-fn lay_within(records: &mut RecordMap, changes: &[Written], range: &Range) -> Result<(), AllocError>
+fn lay_within(records: &mut RowList, changes: &[Written], range: &Range) -> Result<(), AllocError>
     ensures { OnOk result (records.new ≡ laid_within records.old changes.now range.now) }
 {
     for change in changes {
@@ -55,10 +54,10 @@ pub fn records_within(
     installed: &KeyMap<Value>,
     changes: &[Written],
     range: &Range,
-) -> Result<RecordMap, AllocError>
+) -> Result<RowList, AllocError>
     ensures { IfOk result (λ records. all_rows records ≡ rows_within (with_changes installed.now changes.now) range.now) }
 {
-    let mut records = RecordMap::new(alloc);
+    let mut records = RowList::new(alloc);
     for (key, value) in installed.within(range) {
         records.set(key.copy()?, value.copy()?)?;
     }
@@ -67,10 +66,10 @@ pub fn records_within(
 }
 
 /// All records.
-pub fn all_records(alloc: Global, installed: &KeyMap<Value>) -> Result<RecordMap, AllocError>
+pub fn all_records(alloc: Global, installed: &KeyMap<Value>) -> Result<RowList, AllocError>
     ensures { IfOk result (λ records. records ≡ installed.now) }
 {
-    let mut records = RecordMap::new(alloc);
+    let mut records = RowList::new(alloc);
     for (key, value) in installed.iter() {
         records.set(key.copy()?, value.copy()?)?;
     }
