@@ -18,5 +18,5 @@ mod undecided;
 pub use index::Index;
 pub use key_map::KeyMap;
 pub use lesser::lesser_key;
-pub use row_list::RowList;
+pub use row_list::{RowList, value_after};
 pub use undecided::Undecided;
