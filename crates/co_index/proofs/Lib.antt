@@ -2,7 +2,7 @@ pub mod Ranging
 pub mod Keys
 pub mod Putting
 mod Ascending
-mod Laying
+pub mod Laying
 pub mod Finding
 pub mod Touching
 pub mod Indexing
