@@ -1,24 +1,12 @@
 //! What a transaction sees: the installed records with its own changes laid over.
-ghost use Rattle.std.specs.Prelude.{◌≡◌, if◌then◌else◌, IfOk, OnOk, option_copied};
+ghost use Rattle.std.specs.Prelude.{◌≡◌, IfOk, OnOk, option_copied};
 ghost use Rattle.std.specs.FinMap as map;
 ghost use Rattle.co_serial.specs.Records.{all_rows, rows_within, with_changes};
-ghost use Rattle.co_state.specs.Keys.{same_key};
 ghost use Rattle.co_occ.specs.Seen.{laid_within};
 
 use co_base::{Key, Range, Value, Written};
-use co_index::{KeyMap, RowList};
+use co_index::{KeyMap, RowList, value_after};
 use std::alloc::{AllocError, Global};
-
-/// The value of a change of this key, and else what was seen before.
-fn changed<'a>(seen: Option<&'a Value>, change: &'a Written, key: &Key) -> Option<&'a Value>
-    ensures { option_copied result ≡ (if same_key change.now.key key.now then change.now.value else option_copied seen.entry) }
-{
-    if change.key.cmp(key).is_eq() {
-        change.value.as_ref()
-    } else {
-        seen
-    }
-}
 
 /// The value at a key, once changes are laid over the records.
 pub fn seen_value<'a>(
@@ -28,11 +16,7 @@ pub fn seen_value<'a>(
 ) -> Option<&'a Value>
     ensures { option_copied result ≡ map.get (with_changes records.now changes.now) key.now }
 {
-    let mut seen = records.get(key);
-    for change in changes {
-        seen = changed(seen, change, key);
-    }
-    seen
+    value_after(records.get(key), changes, key)
 }
 
 /// Lays changes of keys of a range over the records of that range.
