@@ -1,6 +1,8 @@
 pub mod Ranging
 pub mod Keys
 pub mod Putting
+mod Ascending
+pub mod Laying
 pub mod Finding
 pub mod Touching
 pub mod Indexing

@@ -2,12 +2,15 @@
 //!
 //! An index finds those that may be in conflict with an operation by the keys that they touched, so that no
 //! operation looks at the others. After want of memory an index is only dropped.
+//!
+//! What all engines lay by key stands here too: tables, and lists of records.
 #![tactic(auto)]
 
 mod index;
 mod key_map;
 mod lesser;
 mod new_pairs;
+mod row_list;
 mod told;
 mod touched;
 mod undecided;
@@ -15,4 +18,5 @@ mod undecided;
 pub use index::Index;
 pub use key_map::KeyMap;
 pub use lesser::lesser_key;
+pub use row_list::{RowList, value_after};
 pub use undecided::Undecided;

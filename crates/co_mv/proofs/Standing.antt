@@ -1,18 +1,17 @@
 -- For which states the engine stands after each call.
-use Rattle.std.proofs.Common.{◌≡◌, inl, inr, T, ℕ, ◌<◌, ◌≤◌, Bool, true, false, cond, not, ◌&&◌, List, [], ◌∷◌, map, filter, length, reverse, if◌then◌else◌, is_some, Option, None, Some, IsTrue, refl, sym, ap, ◌∙◌, subst, true≢false, eqb→eq, eq-eqb, arith}
+use Rattle.std.proofs.Common.{◌≡◌, inl, inr, T, ℕ, ◌<◌, ◌≤◌, Bool, true, false, cond, ◌&&◌, List, [], ◌∷◌, map, filter, length, reverse, is_some, Option, None, Some, IsTrue, refl, sym, ap, ◌∙◌, subst, true≢false, eqb→eq, eq-eqb, arith}
 use Rattle.std.specs.Prelude.{◌==◌}
 use Rattle.std.specs.List.{list_all}
 use Rattle.std.specs.Option.{option_map}
-use Rattle.std.specs.Ordering.{nat_cmp, eq_by_cmp, is_lt}
-use Rattle.std.specs.Cmp.{nat_cmp_total}
-use Rattle.std.specs.FinMap.{empty, entries, entries_sorted, get, get-entries, get-empty, nat_cmp-IsAntisymmetric}
-use Rattle.std.specs.FinMap.Entries.{find, below_all, is_sorted, same_entries}
+use Rattle.std.specs.Ordering.{nat_cmp, eq_by_cmp}
+use Rattle.std.specs.FinMap.{empty, entries, entries_sorted, get, get-entries, get-empty}
 use Rattle.co_base.specs.Span.{Span, span_has}
 use Rattle.co_base.specs.declared.head.Kind.{Kind}
 use Rattle.co_base.specs.declared.head.Kind.TheVariants.{Mv}
 use Rattle.co_base.specs.declared.op.Op.{Op}
-use Rattle.co_serial.specs.Records.{Records, with_changes, all_rows}
-use Rattle.co_serial.specs.SerialRun.{reply_to}
+use Rattle.co_base.specs.declared.op.Op.TheVariants.{Read, Scan}
+use Rattle.co_base.specs.declared.reply.Reply.TheVariants.{Got, Rows}
+use Rattle.co_serial.specs.Records.{Records, with_changes, all_rows, rows_within}
 use Rattle.co_pairs.specs.declared.prepared.Prepared.{Prepared}
 use Rattle.co_state.specs.declared.engine_state.EngineState.{EngineState}
 use Rattle.co_state.specs.declared.engine_state.Install.{Install}
@@ -20,26 +19,25 @@ use Rattle.co_state.specs.declared.engine_state.Operation.{Operation}
 use Rattle.co_state.specs.declared.engine_state.Sets.{Sets}
 use Rattle.co_state.specs.declared.engine_state.Vote.{Vote}
 use Rattle.co_state.specs.declared.pair.Pair.{Pair}
-use Rattle.co_state.specs.Changes.{sets_of, span_read}
+use Rattle.co_state.specs.Changes.{sets_of}
 use Rattle.co_state.specs.Conflicts.{AreNewPairs}
 use Rattle.co_state.specs.Effects.{with_operation, after_cast, after_install, after_drop, install_vote, restored, dumped_rows}
-use Rattle.co_state.specs.EngineState.{operations_in, operations_of, sets_in, sets_at, records_at, records_now}
+use Rattle.co_state.specs.EngineState.{operations_in, operations_of, sets_in, sets_at, records_at}
 use Rattle.co_state.specs.Keys.{least_key, reads_key}
 use Rattle.co_state.specs.LockRule.{lock_blocker, lock_holder, blocker_by}
-use Rattle.co_state.specs.ReadRule.{stamp_after, snapshot_of, operation_reply}
+use Rattle.co_state.specs.ReadRule.{stamp_after, snapshot_of, visible_records, operation_reply}
 use Rattle.co_state.specs.StaleRead.{stale_key, keys_since}
-use Rattle.co_state.specs.Table.{no_entries, look, put, without, holds}
+use Rattle.co_state.specs.Table.{no_entries, look, without, holds}
 use Rattle.co_state.proofs.Tables.{look-put, look-without, put-without}
-use Rattle.co_engine.specs.Calls.{may_operate, is_installed, votes_of}
+use Rattle.co_engine.specs.Calls.{may_operate, votes_of}
 use Rattle.co_mv.specs.declared.archive.Archive.{Archive}
 use Rattle.co_mv.specs.declared.mv_engine.MvEngine.{MvEngine}
 use Rattle.co_mv.specs.declared.version.Version.{Version}
 use Rattle.co_mv.specs.Chains.{chain_of, chain_in}
-use Rattle.co_mv.specs.Kept.{needed, or_now, stamp_of, entered, left, grown, IsNeeded, Keeps, AreStamped, active_sets, voted_sets, IsKept, StandsFor, visible_within}
+use Rattle.co_mv.specs.Kept.{needed, or_now, stamp_of, entered, left, grown, IsNeeded, Keeps, AreStamped, active_sets, voted_sets, IsKept, StandsFor, own_writes, visible_within}
 use Rattle.co_pairs.specs.NewPairs.{mapped, or_nothing, grown_by, sets_among, AreNew}
 use Rattle.co_index.specs.Undecided.{IsWhole, grown_at}
 use Rattle.co_engine.proofs.Answering.{cond-same, not_voted, records_at-all}
-use Rattle.co_pairs.proofs.Picking.{ties}
 use Rattle.co_pairs.specs.Votes.{told_of}
 use Rattle.co_pairs.proofs.Votes.{told_voted}
 use Rattle.co_pairs.proofs.OneMore.{new_pairs}
@@ -52,8 +50,8 @@ use Rattle.co_mv.proofs.Archiving.{stamp_needed}
 use Rattle.co_index.proofs.Least.{least_same}
 use Rattle.co_mv.proofs.Needing.{tied, kept_for_all, not_kept, sees_open}
 use Rattle.co_mv.proofs.Overwriting.{has-stale, has-within, since-versions, since-kept}
-use Rattle.co_mv.proofs.Visible.{noted_records, within_at, laid_at, reply_same}
-use Rattle.co_mv.proofs.Versioning.{IsLink, linked, seen_kept, seen_at, written_bound, lt_true, and_first, and_second}
+use Rattle.co_mv.proofs.Visible.{noted_records, within_at, laid_at, rows_same}
+use Rattle.co_mv.proofs.Versioning.{IsLink, linked, seen_kept, seen_at, written_bound, and_first, and_second}
 
 -- ---- what is kept of one transaction
 pub sets_kept : (st : Option ℕ) (x : Option Sets) (os : Option (List Operation)) (vote : Option Vote) → IsKept st x os vote → sets_in vote (operations_in os) ≡ or_nothing x
@@ -123,15 +121,29 @@ seen_alike a base is n q k h = sym
     ∙ seen_kept is q (is_kept (needed a.snapshots)) n None (versions_of base is q) (linked base is q) (λ v e f. not_kept a.snapshots v n h e f)
     ∙ seen_at base is q n)
 
-pub reply_alike : (e : MvEngine) (b : EngineState) (t : ℕ) (op : Op) (span : Span) → StandsFor e b → IsTrue (may_operate b t) → span_read op ≡ Some span → reply_to (visible_within e t span) op ≡ operation_reply b t op
-reply_alike e b t op span s h is =
+seen_at_stamp : (e : MvEngine) (b : EngineState) (t : ℕ) (q : List ℕ) → StandsFor e b
+    → get (records_at b.base b.installed (stamp_of e.archive.snapshots t)) q ≡ seen_value (stamp_of e.archive.snapshots t) (chain_of e.archive.chains q)
+seen_at_stamp e b t q s = seen_alike e.archive b.base b.installed (stamp_of e.archive.snapshots t) q s.keeps (stamp_needed e.archive.snapshots t (look e.archive.snapshots.stamps t) refl)
+
+-- the records at the snapshot of a transaction, with its own writes laid over, are what it sees
+visible_alike : (e : MvEngine) (b : EngineState) (t : ℕ) → StandsFor e b → IsTrue (may_operate b t)
+    → with_changes (records_at b.base b.installed (stamp_of e.archive.snapshots t)) (own_writes e t) ≡ visible_records b t
+visible_alike e b t s h = λ i. with_changes (records_at b.base b.installed (stamp_alike e b t s i)) (sym (own_sets e b t s (not_voted b t h)) i).writes
+
+pub read_alike : (e : MvEngine) (b : EngineState) (t : ℕ) (key : List ℕ) (value : Option (List ℕ)) → StandsFor e b → IsTrue (may_operate b t)
+    → ((past : Records) → get past key ≡ seen_value (stamp_of e.archive.snapshots t) (chain_of e.archive.chains key) → value ≡ get (with_changes past (own_writes e t)) key)
+    → Got value ≡ operation_reply b t (Read key)
+read_alike e b t key value s h is =
+    ap Got (is (records_at b.base b.installed (stamp_of e.archive.snapshots t)) (seen_at_stamp e b t key s) ∙ ap (λ m. get m key) (visible_alike e b t s h))
+
+pub scan_alike : (e : MvEngine) (b : EngineState) (t : ℕ) (span : Span) → StandsFor e b → IsTrue (may_operate b t) → Rows (all_rows (visible_within e t span)) ≡ operation_reply b t (Scan span)
+scan_alike e b t span s h =
     let n = stamp_of e.archive.snapshots t in
-    let own = (or_nothing (look e.undecided.sets t)).writes in
     let past = records_at b.base b.installed n in
-    reply_same op span (visible_within e t span) (with_changes past own) is
-    (laid_at span own (all_noted n empty (filter (λ x. span_has span x.0) (entries e.archive.chains))) past
-    (within_at n e.archive.chains past span (λ q. seen_alike e.archive b.base b.installed n q s.keeps (stamp_needed e.archive.snapshots t (look e.archive.snapshots.stamps t) refl))))
-    ∙ (λ i. reply_to (with_changes (records_at b.base b.installed (stamp_alike e b t s i)) (sym (own_sets e b t s (not_voted b t h)) i).writes) op)
+    ap Rows
+    (rows_same span (visible_within e t span) (with_changes past (own_writes e t))
+    (laid_at span (own_writes e t) (all_noted n empty (filter (λ x. span_has span x.0) (entries e.archive.chains))) past (within_at n e.archive.chains past span (λ q. seen_at_stamp e b t q s)))
+    ∙ ap (λ m. rows_within m span) (visible_alike e b t s h))
 
 pub dump_alike : (e : MvEngine) (b : EngineState) → StandsFor e b → all_rows (all_noted e.archive.snapshots.installs empty (entries e.archive.chains)) ≡ dumped_rows b.kind b
 dump_alike e b s =

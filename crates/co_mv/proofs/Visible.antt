@@ -1,20 +1,12 @@
 -- Records that are read from versions.
-use Rattle.std.proofs.Common.{◌≡◌, T, ℕ, Bool, true, false, cond, not, ◌&&◌, List, [], ◌∷◌, map, filter, if◌then◌else◌, Option, None, Some, refl, sym, ap, ◌∙◌, true≢false}
+use Rattle.std.proofs.Common.{◌≡◌, T, ℕ, Bool, true, false, cond, List, [], ◌∷◌, map, filter, if◌then◌else◌, Option, None, Some, refl, sym, ap, ◌∙◌, true≢false}
 use Rattle.std.proofs.lemmas.Cmp.{nat_list_cmp_total}
-use Rattle.std.specs.Ordering.{is_eq, is_lt, is_gt}
-use Rattle.std.specs.declared.cmp.Ordering.{Ordering}
-use Rattle.std.specs.declared.cmp.Ordering.TheVariants.{Less, Equal, Greater}
 use Rattle.std.specs.FinMap.{empty, entries, entries_sorted, get, get-entries, get-empty, same_map, slice_cmp-IsAntisymmetric, nat_cmp-IsAntisymmetric}
-use Rattle.std.specs.FinMap.Entries.{find, below_all, is_sorted, same_entries, find-where_key, is_sorted-where_key}
+use Rattle.std.specs.FinMap.Entries.{find, is_sorted, same_entries}
 use Rattle.co_base.specs.Order.{key_cmp}
-use Rattle.co_base.specs.Span.{Span, span_has, span_of_key}
-use Rattle.co_base.specs.declared.op.Op.{Op}
-use Rattle.co_base.specs.declared.op.Op.TheVariants.{Read, Write, Erase, Scan}
-use Rattle.co_base.specs.declared.reply.Reply.TheVariants.{Got, Rows}
+use Rattle.co_base.specs.Span.{Span, span_has}
 use Rattle.co_base.specs.declared.written.Written.{Written}
-use Rattle.co_serial.specs.Records.{Records, row_of, rows_within, with_change, with_changes}
-use Rattle.co_serial.specs.SerialRun.{reply_to}
-use Rattle.co_state.specs.Changes.{span_read}
+use Rattle.co_serial.specs.Records.{Records, row_of, all_rows, rows_within, with_change, with_changes}
 use Rattle.co_state.specs.Keys.{same_key}
 use Rattle.co_mv.specs.declared.version.Version.{Version}
 use Rattle.co_mv.specs.Chains.{Chains, chain_in, chain_of}
@@ -22,7 +14,7 @@ use Rattle.co_mv.specs.Reading.{noted, all_noted, changed_within, laid_within}
 use Rattle.co_mv.specs.Versions.{seen_value}
 use Rattle.co_pairs.proofs.Picking.{first, second}
 use Rattle.co_index.proofs.Listed.{key-below, find-within, sorted-within}
-use Rattle.co_mv.proofs.Chaining.{same_keys, key_itself}
+use Rattle.co_mv.proofs.Chaining.{same_keys}
 use Rattle.co_mv.proofs.Versioning.{get-with_change}
 
 -- a value that is there, and else what was there before
@@ -98,33 +90,9 @@ laid_at span (w ∷ ws) r now same q =
     laid_at span ws (changed_within span r w) (with_change now w.key w.value)
     (λ k. change_step span r now w k (span_has span w.key) (same_key k w.key) (span_has span k) refl refl refl (same k) ∙ ap (in_span span k) (sym (get-with_change now w.key w.value k))) q
 
--- ---- replies
-key_equal : (r : Ordering) → is_eq r ≡ true → not (is_gt r) ≡ true
-key_equal Less e = refl
-key_equal Equal e = refl
-key_equal Greater e = absurd (true≢false (sym e))
-
-has_itself : (key : List ℕ) → span_has (span_of_key key) key ≡ true
-has_itself key = (λ i. key_equal (key_cmp key key) (key_itself key) i && key_equal (key_cmp key key) (key_itself key) i)
-
-twice : {X : Type 0} (b : Bool) (o : Option X) → cond b (cond b o None) None ≡ cond b o None
-twice true o = refl
-twice false o = refl
-
-rows_same : (span : Span) (r now : Records) → ((q : List ℕ) → get r q ≡ in_span span q (get now q)) → rows_within r span ≡ rows_within now span
+-- all rows of the records of a range
+pub rows_same : (span : Span) (r now : Records) → ((q : List ℕ) → get r q ≡ in_span span q (get now q)) → all_rows r ≡ rows_within now span
 rows_same span r now same =
     ap (map row_of)
-    (same_entries key_cmp nat_list_cmp_total (slice_cmp-IsAntisymmetric nat_cmp-IsAntisymmetric) _ _
-    (sorted-within span (entries r) (entries_sorted r)) (sorted-within span (entries now) (entries_sorted now))
-    (λ q. find-within span q (entries r) ∙ ap (λ o. cond (span_has span q) o None) (sym (get-entries r q) ∙ same q)
-    ∙ twice (span_has span q) (get now q) ∙ ap (λ o. cond (span_has span q) o None) (get-entries now q) ∙ sym (find-within span q (entries now))))
-
-pub reply_same : (op : Op) (span : Span) (r now : Records) → span_read op ≡ Some span → ((q : List ℕ) → get r q ≡ in_span span q (get now q)) → reply_to r op ≡ reply_to now op
-reply_same (Read key) span r now e same =
-    let x : span_of_key key ≡ span = (let f : Some (span_of_key key) ≡ Some span = e in cc) in
-    ap Got (same key ∙ ap (λ b. cond b (get now key) None) (ap (λ s. span_has s key) (sym x) ∙ has_itself key))
-reply_same (Scan s) span r now e same =
-    let x : s ≡ span = (let f : Some s ≡ Some span = e in cc) in
-    ap Rows (ap (rows_within r) x ∙ rows_same span r now same ∙ ap (rows_within now) (sym x))
-reply_same (Write key value) span r now e same = absurd (let f : None ≡ Some span = e in cc)
-reply_same (Erase key) span r now e same = absurd (let f : None ≡ Some span = e in cc)
+    (same_entries key_cmp nat_list_cmp_total (slice_cmp-IsAntisymmetric nat_cmp-IsAntisymmetric) _ _ (entries_sorted r) (sorted-within span (entries now) (entries_sorted now))
+    (λ q. sym (get-entries r q) ∙ same q ∙ ap (λ o. cond (span_has span q) o None) (get-entries now q) ∙ sym (find-within span q (entries now))))

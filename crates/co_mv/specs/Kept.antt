@@ -1,5 +1,5 @@
 -- What a multiversion engine keeps, and for which states it stands.
-use Rattle.std.specs.Prelude.{ℕ, suc, Bool, true, false, ◌≡◌, ◌⊎◌, ◌<◌, ◌≤◌, ◌&&◌, ◌||◌, ◌==◌, nat_le, nat_lt, List, [], ◌∷◌, map, filter, length, if◌then◌else◌, Option, None, Some}
+use Rattle.std.specs.Prelude.{ℕ, suc, Bool, true, false, ◌≡◌, ◌⊎◌, ◌<◌, ◌≤◌, ◌&&◌, ◌||◌, ◌==◌, List, [], ◌∷◌, map, filter, length, Option, None, Some}
 use Rattle.std.specs.List.{list_all}
 use Rattle.std.specs.Option.{option_map}
 use Rattle.std.specs.FinMap.{empty, entries}
@@ -14,6 +14,7 @@ use Rattle.co_index.specs.Undecided.{IsWhole}
 use Rattle.co_mv.specs.Reading.{all_noted, laid_within}
 use Rattle.co_mv.specs.Recents.{Recents, keys_at, has_key}
 use Rattle.co_base.specs.Span.{Span, span_has}
+use Rattle.co_base.specs.declared.written.Written.{Written}
 use Rattle.co_mv.specs.Versions.{is_kept, versions_of}
 use Rattle.co_serial.specs.Records.{Records}
 use Rattle.co_state.specs.declared.engine_state.EngineState.{EngineState}
@@ -123,7 +124,11 @@ pub record StandsFor (e : MvEngine) (b : EngineState) : Type 0 where
   pub each : (t : ℕ) → IsKept (look e.archive.snapshots.stamps t) (look e.undecided.sets t) (look b.active t) (look b.voted t)
   pub whole : IsWhole e.undecided
 
+-- what an undecided transaction wrote; nothing of an absent one
+abbrev pub own_writes : MvEngine → ℕ → List Written
+own_writes e t = (or_nothing (look e.undecided.sets t)).writes
+
 -- the records of a range that the next operation of a transaction sees
 abbrev pub visible_within : MvEngine → ℕ → Span → Records
 visible_within e t span =
-    laid_within span (all_noted (stamp_of e.archive.snapshots t) empty (filter (λ x. span_has span x.0) (entries e.archive.chains))) (or_nothing (look e.undecided.sets t)).writes
+    laid_within span (all_noted (stamp_of e.archive.snapshots t) empty (filter (λ x. span_has span x.0) (entries e.archive.chains))) (own_writes e t)

@@ -1,23 +1,24 @@
 //! The engine.
 ghost use Rattle.std.specs.Prelude.{◌≡◌, ◌<◌, length, map, reverse, slice_get, Some, IsTrue, IfOk, OnOk, OnErr, option_copied};
+ghost use Rattle.std.specs.FinMap.{get};
 ghost use Rattle.co_base.specs.declared.head.Kind.TheVariants.{Mv};
 ghost use Rattle.co_engine.specs.Calls.{may_operate, seen_of, Appends, AppendsNewPairs};
 ghost use Rattle.co_mv.specs.Chains.{chain_of};
-ghost use Rattle.co_mv.specs.Kept.{StandsFor, visible_within};
-ghost use Rattle.co_mv.specs.Versions.{kept_versions};
+ghost use Rattle.co_mv.specs.Kept.{StandsFor, stamp_of, own_writes, visible_within};
+ghost use Rattle.co_mv.specs.Versions.{kept_versions, seen_value};
+ghost use Rattle.co_serial.specs.Records.{Records, all_rows, with_changes};
 ghost use Rattle.co_state.specs.declared.engine_state.EngineState.{EngineState};
 ghost use Rattle.co_state.specs.Effects.{after_operation, with_operation};
 ghost use Rattle.co_state.specs.Conflicts.{AreNewPairs};
 ghost use Rattle.co_state.specs.ReadRule.{operation_reply};
 
 use crate::archive::Archive;
-use crate::reading::{all_records, lay_within, records_within};
+use crate::reading::{all_records, lay_within, records_within, seen_value};
 use crate::stale::least_written;
-use co_base::{Key, Kind, Op, Range, Reply, Rows, Txn, Value, Writes};
-use co_engine::{Dump, Engine, Seen, append, writing};
-use co_index::Undecided;
+use co_base::{Key, Kind, Op, Range, Reply, Rows, Txn, Value, Writes, Written};
+use co_engine::{Dump, Engine, Seen, append, copy_value, writing};
+use co_index::{Undecided, value_after};
 use co_pairs::{Pairs, Prepared, Sets};
-use co_state::{RecordMap, range_read};
 use std::alloc::{AllocError, Global};
 
 /// An engine that keeps versions. Each transaction reads the records as they were at its first operation, with
@@ -56,28 +57,44 @@ impl MvEngine {
         self.archive.chains.value_at(key, place)
     }
 
+    /// What an undecided transaction wrote; nothing of an absent one.
+    fn own_writes(&self, t: Txn) -> &[Written]
+        ensures { result.now ≡ own_writes self.now t }
+    {
+        match self.undecided.get(t) {
+            Some(sets) => sets.writes(),
+            None => &[],
+        }
+    }
+
+    /// The value of a key that the next operation of a transaction sees. Takes no memory.
+    fn value(&self, t: Txn, key: &Key) -> Option<&Value>
+        ensures { (past : Records) → get past key.now ≡ seen_value (stamp_of self.now.archive.snapshots t) (chain_of self.now.archive.chains key.now) → option_copied result ≡ get (with_changes past (own_writes self.now t)) key.now }
+    {
+        let stamp = self.archive.snapshots.stamp_of(t);
+        let found = seen_value(&self.archive.chains, key, stamp);
+        value_after(found, self.own_writes(t), key)
+    }
+
     /// The records of a range that the next operation of a transaction sees.
-    fn visible(&self, alloc: Global, t: Txn, range: &Range) -> Result<RecordMap, AllocError>
-        ensures { IfOk result (λ records. records ≡ visible_within self.now t range.now) }
+    fn rows(&self, alloc: Global, t: Txn, range: &Range) -> Result<Rows, AllocError>
+        ensures { IfOk result (λ rows. rows ≡ all_rows (visible_within self.now t range.now)) }
     {
         let stamp = self.archive.snapshots.stamp_of(t);
         let mut records = records_within(alloc, &self.archive.chains, range, stamp)?;
-        if let Some(own) = self.undecided.get(t) {
-            lay_within(&mut records, own.writes(), range)?;
-        }
-        Ok(records)
+        lay_within(&mut records, self.own_writes(t), range)?;
+        Ok(records.into_rows())
     }
 
     /// What an operation answers.
     fn reply(&self, alloc: Global, t: Txn, op: &Op) -> Result<Reply, AllocError>
         ensures { (b : EngineState) → StandsFor self.now b → IsTrue (may_operate b t) → IfOk result (λ reply. reply ≡ operation_reply b t op.now) }
     {
-        match range_read(op)? {
-            Some(range) => {
-                let mut records = self.visible(alloc, t, &range)?;
-                records.apply(alloc, op)
-            }
-            None => Ok(Reply::Done),
+        match op {
+            Op::Read(key) => Ok(Reply::Got(copy_value(self.value(t, key))?)),
+            Op::Scan(range) => Ok(Reply::Rows(self.rows(alloc, t, range)?)),
+            Op::Write(_, _) => Ok(Reply::Done),
+            Op::Erase(_) => Ok(Reply::Done),
         }
     }
 
@@ -214,7 +231,7 @@ impl Engine for MvEngine {
     fn dump(&self, alloc: Global) -> Result<Dump, AllocError> {
         let records = all_records(alloc, &self.archive.chains, self.archive.snapshots.installs)?;
         Ok(Dump {
-            rows: records.rows(alloc)?,
+            rows: records.into_rows(),
             undos: Writes::new(alloc),
         })
     }

@@ -1,19 +1,30 @@
 //! Records, read from versions.
-ghost use Rattle.std.specs.Prelude.{◌≡◌, filter, IfOk, OnOk};
+ghost use Rattle.std.specs.Prelude.{◌≡◌, filter, IfOk, OnOk, option_copied};
 ghost use Rattle.std.specs.FinMap as map;
 ghost use Rattle.std.specs.FinMap.{entries};
 ghost use Rattle.co_base.specs.Span.{span_has};
+ghost use Rattle.co_mv.specs.Chains.{chain_of};
 ghost use Rattle.co_mv.specs.Reading.{noted, all_noted, changed_within, laid_within};
 ghost use Rattle.co_mv.specs.Versions.{seen_value};
 
 use crate::chain::Chain;
 use crate::chains::Chains;
-use co_base::{Key, Range, Written};
-use co_state::RecordMap;
+use co_base::{Key, Range, Value, Written};
+use co_index::RowList;
 use std::alloc::{AllocError, Global};
 
+/// The value of a key at a number of installs. Takes no memory.
+pub fn seen_value<'a>(chains: &'a Chains, key: &Key, installs: u64) -> Option<&'a Value>
+    ensures { option_copied result ≡ seen_value installs (chain_of chains.now key.now) }
+{
+    match chains.get(key) {
+        Some(chain) => chain.value_at(installs),
+        None => None,
+    }
+}
+
 /// Notes the record that a key has at a number of installs, if it has one.
-fn note(records: &mut RecordMap, key: &Key, chain: &Chain, installs: u64) -> Result<(), AllocError>
+fn note(records: &mut RowList, key: &Key, chain: &Chain, installs: u64) -> Result<(), AllocError>
     ensures { OnOk result (records.new ≡ noted records.old key.now (seen_value installs chain.now)) }
 {
     match chain.value_at(installs) {
@@ -23,10 +34,10 @@ fn note(records: &mut RecordMap, key: &Key, chain: &Chain, installs: u64) -> Res
 }
 
 /// Every record at a number of installs.
-pub fn all_records(alloc: Global, chains: &Chains, installs: u64) -> Result<RecordMap, AllocError>
+pub fn all_records(alloc: Global, chains: &Chains, installs: u64) -> Result<RowList, AllocError>
     ensures { IfOk result (λ records. records ≡ all_noted installs map.empty (entries chains.now)) }
 {
-    let mut records = RecordMap::new(alloc);
+    let mut records = RowList::new(alloc);
     for (key, chain) in chains.iter() {
         note(&mut records, key, chain, installs)?;
     }
@@ -39,10 +50,10 @@ pub fn records_within(
     chains: &Chains,
     range: &Range,
     installs: u64,
-) -> Result<RecordMap, AllocError>
+) -> Result<RowList, AllocError>
     ensures { IfOk result (λ records. records ≡ all_noted installs map.empty (filter (λ e. span_has range.now e.0) (entries chains.now))) }
 {
-    let mut records = RecordMap::new(alloc);
+    let mut records = RowList::new(alloc);
     for (key, chain) in chains.within(range) {
         note(&mut records, key, chain, installs)?;
     }
@@ -50,7 +61,7 @@ pub fn records_within(
 }
 
 /// Makes one change, if it is in the range.
-fn change_within(records: &mut RecordMap, change: &Written, range: &Range) -> Result<(), AllocError>
+fn change_within(records: &mut RowList, change: &Written, range: &Range) -> Result<(), AllocError>
     ensures { OnOk result (records.new ≡ changed_within range.now records.old change.now) }
 {
     if !range.has(&change.key) {
@@ -62,7 +73,7 @@ fn change_within(records: &mut RecordMap, change: &Written, range: &Range) -> Re
 
 /// Makes those changes that are in the range, the first one first.
 pub fn lay_within(
-    records: &mut RecordMap,
+    records: &mut RowList,
     changes: &[Written],
     range: &Range,
 ) -> Result<(), AllocError>

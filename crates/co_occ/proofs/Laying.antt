@@ -1,11 +1,10 @@
 -- Changes laid over records, and the records of a range.
-use Rattle.std.proofs.Common.{◌≡◌, T, ℕ, Bool, true, false, cond, ◌&&◌, List, [], ◌∷◌, ◌++◌, map, filter, if◌then◌else◌, Option, None, Some, Result, Ok, Err, OnErr, refl, sym, ap, ◌∙◌, subst}
+use Rattle.std.proofs.Common.{◌≡◌, T, ℕ, Bool, true, false, cond, ◌&&◌, List, [], ◌∷◌, ◌++◌, map, filter, Option, None, Some, Result, Ok, Err, OnErr, refl, sym, ap, ◌∙◌, subst}
 use Rattle.std.specs.Ordering.{eq_by_cmp, is_eq, is_lt}
 use Rattle.std.specs.declared.cmp.Ordering.{Ordering}
 use Rattle.std.specs.declared.cmp.Ordering.TheVariants.{Less, Equal, Greater}
-use Rattle.std.specs.Cmp.{eq_by_cmp_equiv}
 use Rattle.std.proofs.lemmas.Cmp.{nat_list_cmp_total}
-use Rattle.std.specs.FinMap.{empty, entries, entries_sorted, get, insert, get-entries, get-empty, get-insert, get-remove, same_map, slice_cmp-IsAntisymmetric, nat_cmp-IsAntisymmetric}
+use Rattle.std.specs.FinMap.{empty, entries, entries_sorted, get, insert, get-entries, get-empty, get-insert, same_map, slice_cmp-IsAntisymmetric, nat_cmp-IsAntisymmetric}
 use Rattle.std.specs.FinMap.Entries.{find, below_all, is_sorted, where_key, same_entries, find-where_key, is_sorted-where_key}
 use Rattle.co_base.specs.Order.{key_cmp}
 use Rattle.co_base.specs.Span.{Span, span_has}
@@ -13,7 +12,7 @@ use Rattle.co_base.specs.declared.row.Row.{Row}
 use Rattle.co_base.specs.declared.written.Written.{Written}
 use Rattle.co_serial.specs.Records.{Records, row_of, all_rows, rows_within, with_change, with_changes}
 use Rattle.co_state.specs.Effects.{records_from}
-use Rattle.co_state.specs.Keys.{same_key}
+use Rattle.co_index.proofs.Laying.{get-with_change}
 use Rattle.co_occ.specs.Seen.{laid_within}
 
 pub on_err : {X E : Type 0} (r : Result X E) {A : Type 0} → A → OnErr r A
@@ -45,9 +44,6 @@ tie Greater e = absurd (subst T (sym e) tt)
 pub tied : (q k : List ℕ) → ties q k ≡ true → q ≡ k
 tied q k e = slice_cmp-IsAntisymmetric nat_cmp-IsAntisymmetric q k (tie (key_cmp q k) e)
 
-pub ties-swap : (q k : List ℕ) → ties q k ≡ ties k q
-ties-swap q k = (eq_by_cmp_equiv nat_list_cmp_total).symm q k
-
 first : (a b : Bool) → T (a && b) → T a
 first true b p = tt
 first false b p = p
@@ -64,25 +60,6 @@ less Greater p = absurd p
 find-below : (q : List ℕ) (es : List (List ℕ × List ℕ)) → T (below_all key_cmp q es) → find key_cmp q es ≡ None
 find-below q [] h = refl
 find-below q (e ∷ es) h = ap (λ r. cond (is_eq r) (Some e.1) (find key_cmp q es)) (less _ (first _ _ h)) ∙ find-below q es (second _ _ h)
-
-pub get-with_change : (records : Records) (k : List ℕ) (v : Option (List ℕ)) (q : List ℕ) → get (with_change records k v) q ≡ cond (ties q k) v (get records q)
-get-with_change records k None q = get-remove nat_list_cmp_total records k q
-get-with_change records k (Some v) q = get-insert nat_list_cmp_total records k v q
-
--- ---- the value at one key
-abbrev pub value_after : Option (List ℕ) → List Written → List ℕ → Option (List ℕ)
-value_after found [] key = found
-value_after found (w ∷ ws) key = value_after (if same_key w.key key then w.value else found) ws key
-
-as_if : (b : Bool) {A : Type 0} (x y : A) → cond b x y ≡ (if b then x else y)
-as_if true x y = refl
-as_if false x y = refl
-
-pub get-with_changes : (records : Records) (ws : List Written) (q : List ℕ) → get (with_changes records ws) q ≡ value_after (get records q) ws q
-get-with_changes records [] q = refl
-get-with_changes records (w ∷ ws) q =
-    get-with_changes (with_change records w.key w.value) ws q
-    ∙ ap (λ v. value_after v ws q) (get-with_change records w.key w.value q ∙ as_if (ties q w.key) w.value (get records q) ∙ ap (λ b. if b then w.value else get records q) (ties-swap q w.key))
 
 -- ---- entries laid over records
 abbrev pub laid_over : Records → List (List ℕ × List ℕ) → Records

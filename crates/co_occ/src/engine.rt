@@ -92,7 +92,7 @@ impl OccEngine {
         ensures { IfOk result (λ rows. rows ≡ rows_within (own_records self.now t) range.now) }
     {
         let records = records_within(alloc, &self.records, self.own_writes(t), range)?;
-        records.rows(alloc)
+        Ok(records.into_rows())
     }
 
     /// The reads of an active transaction, oldest first; none of another one.
@@ -239,7 +239,7 @@ impl Engine for OccEngine {
     fn dump(&self, alloc: Global) -> Result<Dump, AllocError> {
         let records = all_records(alloc, &self.records)?;
         Ok(Dump {
-            rows: records.rows(alloc)?,
+            rows: records.into_rows(),
             undos: Writes::new(alloc),
         })
     }

@@ -1,25 +1,12 @@
 //! What a transaction sees: the installed records with its own changes laid over.
-ghost use Rattle.std.specs.Prelude.{◌≡◌, if◌then◌else◌, IfOk, OnOk, option_copied};
+ghost use Rattle.std.specs.Prelude.{◌≡◌, IfOk, OnOk, option_copied};
 ghost use Rattle.std.specs.FinMap as map;
 ghost use Rattle.co_serial.specs.Records.{all_rows, rows_within, with_changes};
-ghost use Rattle.co_state.specs.Keys.{same_key};
 ghost use Rattle.co_occ.specs.Seen.{laid_within};
 
 use co_base::{Key, Range, Value, Written};
-use co_index::KeyMap;
-use co_state::RecordMap;
+use co_index::{KeyMap, RowList, value_after};
 use std::alloc::{AllocError, Global};
-
-/// The value of a change of this key, and else what was seen before.
-fn changed<'a>(seen: Option<&'a Value>, change: &'a Written, key: &Key) -> Option<&'a Value>
-    ensures { option_copied result ≡ (if same_key change.now.key key.now then change.now.value else option_copied seen.entry) }
-{
-    if change.key.cmp(key).is_eq() {
-        change.value.as_ref()
-    } else {
-        seen
-    }
-}
 
 /// The value at a key, once changes are laid over the records.
 pub fn seen_value<'a>(
@@ -29,15 +16,11 @@ pub fn seen_value<'a>(
 ) -> Option<&'a Value>
     ensures { option_copied result ≡ map.get (with_changes records.now changes.now) key.now }
 {
-    let mut seen = records.get(key);
-    for change in changes {
-        seen = changed(seen, change, key);
-    }
-    seen
+    value_after(records.get(key), changes, key)
 }
 
 /// Lays changes of keys of a range over the records of that range.
-fn lay_within(records: &mut RecordMap, changes: &[Written], range: &Range) -> Result<(), AllocError>
+fn lay_within(records: &mut RowList, changes: &[Written], range: &Range) -> Result<(), AllocError>
     ensures { OnOk result (records.new ≡ laid_within records.old changes.now range.now) }
 {
     for change in changes {
@@ -55,10 +38,10 @@ pub fn records_within(
     installed: &KeyMap<Value>,
     changes: &[Written],
     range: &Range,
-) -> Result<RecordMap, AllocError>
+) -> Result<RowList, AllocError>
     ensures { IfOk result (λ records. all_rows records ≡ rows_within (with_changes installed.now changes.now) range.now) }
 {
-    let mut records = RecordMap::new(alloc);
+    let mut records = RowList::new(alloc);
     for (key, value) in installed.within(range) {
         records.set(key.copy()?, value.copy()?)?;
     }
@@ -67,10 +50,10 @@ pub fn records_within(
 }
 
 /// All records.
-pub fn all_records(alloc: Global, installed: &KeyMap<Value>) -> Result<RecordMap, AllocError>
+pub fn all_records(alloc: Global, installed: &KeyMap<Value>) -> Result<RowList, AllocError>
     ensures { IfOk result (λ records. records ≡ installed.now) }
 {
-    let mut records = RecordMap::new(alloc);
+    let mut records = RowList::new(alloc);
     for (key, value) in installed.iter() {
         records.set(key.copy()?, value.copy()?)?;
     }

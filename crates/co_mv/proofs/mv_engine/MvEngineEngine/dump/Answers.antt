@@ -4,4 +4,4 @@ use Rattle.co_mv.proofs.Standing.{dump_alike}
 use Rattle.co_mv.proofs.mv_engine.MvEngineEngine.dump.Goals as goal
 
 pub returns-clause-rows : goal.returns-clause-rows
-returns-clause-rows c = λ b s. c.in_ok-rows.ensures ∙ ap all_rows c.in_ok-records.ensures ∙ dump_alike c.args.self.now b s
+returns-clause-rows c = λ b s. c.into_rows.ensures ∙ ap all_rows c.in_ok-records.ensures ∙ dump_alike c.args.self.now b s
