@@ -19,7 +19,7 @@ use Rattle.co_graph.specs.PlainGraph.{PlainGraph, voted_in, has_voted, reads_fro
 use Rattle.co_graph.specs.Ties.{no_bond, or_none, vote_in, has_vote}
 use Rattle.co_graph.specs.Shown.{AreShown, near_at, bond_at}
 use Rattle.co_graph.specs.Walks.{meets, met_along, walk_before}
-use Rattle.co_graph.proofs.Numbers.{ties, tied, ties-eq, find-below, first, second, less, and-false}
+use Rattle.co_graph.proofs.Numbers.{ties, tied, ties-eq, nothing_below, first, second, less, and-false}
 
 vote_shown : (o : Option Node) → vote_in o ≡ voted_in (option_map (λ n. n.voted) o)
 vote_shown None = refl
@@ -52,7 +52,7 @@ pub met_exactly : (nodes : Table Node) (walk : Walk) (u : ℕ) (es : List (ℕ �
 met_exactly nodes walk u [] h = sym (nobody nodes walk u)
 met_exactly nodes walk u (e ∷ es) h =
     met_by_flag nodes walk u e.0 e.1 (met_along nodes walk es) (find nat_cmp u es) (meets nodes walk e.0 e.1) refl (ties u e.0) refl
-    (λ t. find-below u es (subst (λ k. T (below_all nat_cmp k es)) (sym (tied u e.0 t)) (first _ _ h)))
+    (λ t. nothing_below nat_cmp u es (subst (λ k. T (below_all nat_cmp k es)) (sym (tied u e.0 t)) (first _ _ h)))
     (met_exactly nodes walk u es (second _ _ h))
 
 below_with : (k j : ℕ) (met : List ℕ) (m : Bool) → nat_cmp k j ≡ Less → AllByRecursion (λ y. nat_cmp k y ≡ Less) met → AllByRecursion (λ y. nat_cmp k y ≡ Less) (if m then j ∷ met else met)

@@ -19,6 +19,7 @@ use Rattle.co_serial.proofs.MapViews.{view-entries}
 use Rattle.co_state.specs.Effects.{records_from}
 use Rattle.co_pairs.proofs.Picking.{first, second}
 use Rattle.co_index.proofs.Keys.{ties, swapped}
+use Rattle.co_state.proofs.Ties.{both, less}
 
 abbrev entries_in : List Row → List (List ℕ × List ℕ)
 entries_in rows = map (λ r. (r.key, r.value)) rows
@@ -46,15 +47,6 @@ all_rows-from rows h =
     ∙ rows-in rows
 
 -- ---- the order of rows, as that of their entries
-both : (a b : Bool) → T a → T b → T (a && b)
-both true b p q = q
-both false b p q = p
-
-less : (r : Ordering) → T (is_lt r) → r ≡ Less
-less Less p = refl
-less Equal p = absurd p
-less Greater p = absurd p
-
 below_rows : (k : List ℕ) (rows : List Row) → AllByRecursion (λ q. key_cmp k q ≡ Less) (map (λ r. r.key) rows) → T (below_all key_cmp k (entries_in rows))
 below_rows k [] h = tt
 below_rows k (r ∷ rs) h = both _ _ (subst (λ o. T (is_lt o)) (sym h.0) tt) (below_rows k rs h.1)

@@ -7,14 +7,10 @@ use Rattle.std.specs.Cmp.{eq_by_cmp_equiv}
 use Rattle.std.proofs.lemmas.Cmp.{nat_list_cmp_total}
 use Rattle.std.specs.FinMap.{slice_cmp-IsAntisymmetric, nat_cmp-IsAntisymmetric}
 use Rattle.co_base.specs.Order.{key_cmp}
+use Rattle.co_state.proofs.Ties.{tie}
 
 abbrev pub ties : List ℕ → List ℕ → Bool
 ties = eq_by_cmp key_cmp
-
-tie : (r : Ordering) → is_eq r ≡ true → r ≡ Equal
-tie Less e = absurd (true≢false (sym e))
-tie Equal e = refl
-tie Greater e = absurd (true≢false (sym e))
 
 pub tied : (q k : List ℕ) → ties q k ≡ true → q ≡ k
 tied q k e = slice_cmp-IsAntisymmetric nat_cmp-IsAntisymmetric q k (tie (key_cmp q k) e)

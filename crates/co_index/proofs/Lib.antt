@@ -1,4 +1,3 @@
-pub mod Ranging
 pub mod Keys
 pub mod Putting
 mod Ascending

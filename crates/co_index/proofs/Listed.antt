@@ -12,6 +12,7 @@ use Rattle.co_index.specs.Listed.{has_key, keys_that}
 use Rattle.co_pairs.specs.NewPairs.{passes}
 use Rattle.co_pairs.proofs.Picking.{first, second}
 use Rattle.co_index.proofs.Keys.{tied, swapped}
+use Rattle.co_state.proofs.Ties.{less}
 
 and-false : (b : Bool) → (b && false) ≡ false
 and-false true = refl
@@ -44,11 +45,6 @@ has-filter span [] k = sym (and-false (span_has span k))
 has-filter span (x ∷ xs) k = filter_step span x k (has_key xs k) (filter (span_has span) xs) (span_has span x) (same_key x k) refl refl (has-filter span xs k)
 
 -- ---- the entries of a range
-less : (r : Ordering) → T (is_lt r) → r ≡ Less
-less Less p = refl
-less Equal p = absurd p
-less Greater p = absurd p
-
 pub key-below : {X : Type 0} (q : List ℕ) (es : List (List ℕ × X)) → T (below_all key_cmp q es) → find key_cmp q es ≡ None
 key-below q [] h = refl
 key-below q (e ∷ es) h = ap (λ r. cond (is_eq r) (Some e.1) (find key_cmp q es)) (less _ (first _ _ h)) ∙ key-below q es (second _ _ h)

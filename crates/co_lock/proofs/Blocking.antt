@@ -25,8 +25,8 @@ use Rattle.co_engine.specs.declared.undecided.Undecided.{Undecided}
 use Rattle.co_engine.specs.Undecided.{IsKept}
 use Rattle.co_engine.proofs.Rolling.{none_mapped}
 use Rattle.co_pairs.specs.NewPairs.{passes}
-use Rattle.co_pairs.proofs.Picking.{find-below}
 use Rattle.co_lock.proofs.Locking.{and_false, or_false}
+use Rattle.co_state.proofs.Ties.{nothing_below}
 
 passes_some : {X : Type 0} (test : X → Bool) (o : Option X) → passes test o ≡ true → is_some o ≡ true
 passes_some test None e = e
@@ -47,7 +47,7 @@ module _ {X : Type 0} (test : ℕ → X → Bool) where
   first_by e es false is h k = least_same _ _ (first_in test es) (λ u. by u (same_number u e.0) refl) k
     where
       by : (u : ℕ) (b : Bool) → same_number u e.0 ≡ b → passes (test u) (find nat_cmp u es) ≡ passes (test u) (cond b (Some e.1) (find nat_cmp u es))
-      by u true s = ap (passes (test u)) (find-below u es (subst (λ j. T (below_all nat_cmp j es)) (sym (one_number u e.0 s)) h)) ∙ sym (ap (λ j. test j e.1) (one_number u e.0 s) ∙ is)
+      by u true s = ap (passes (test u)) (nothing_below nat_cmp u es (subst (λ j. T (below_all nat_cmp j es)) (sym (one_number u e.0 s)) h)) ∙ sym (ap (λ j. test j e.1) (one_number u e.0 s) ∙ is)
       by u false s = refl
 
   least_first_in : (es : List (ℕ × X)) → T (is_sorted nat_cmp es) → IsLeast (λ u. passes (test u) (find nat_cmp u es)) (first_in test es)

@@ -24,27 +24,13 @@ use Rattle.co_locktab.proofs.Orders.{keys_total, keys_apart, spans_total, spans_
 use Rattle.co_law_engine.proofs.Keys.{get-change, same_key_sym, same_key_is, same_key_refl}
 use Rattle.co_lock.specs.LockedState.{LockedState, seen_by, IsClear}
 use Rattle.co_lock.specs.LockedState as state
+pub use Rattle.co_state.proofs.Ties.{left_true, right_true, and_false, or_true}
+use Rattle.co_state.proofs.Ties.{first, second, less, nothing_below}
 
 -- ---- truth tables
-pub left_true : (a b : Bool) → (a && b) ≡ true → a ≡ true
-left_true true b e = refl
-left_true false b e = e
-
-pub right_true : (a b : Bool) → (a && b) ≡ true → b ≡ true
-right_true true b e = e
-right_true false b e = absurd (true≢false (sym e))
-
-pub or_true : (b : Bool) → (b || true) ≡ true
-or_true true = refl
-or_true false = refl
-
 pub or_false : (b : Bool) → (b || false) ≡ b
 or_false true = refl
 or_false false = refl
-
-pub and_false : (b : Bool) → (b && false) ≡ false
-and_false true = refl
-and_false false = refl
 
 pub neither_left : (a b : Bool) → (a || b) ≡ false → a ≡ false
 neither_left true b e = e
@@ -183,23 +169,6 @@ abbrev pub slot_value : Option Slot → Option (List ℕ) → Option (List ℕ)
 slot_value None v = v
 slot_value (Some s) v = s.value
 
-less : (r : Ordering) → T (is_lt r) → r ≡ Less
-less Less h = refl
-less Equal h = absurd h
-less Greater h = absurd h
-
-first : (a b : Bool) → T (a && b) → T a
-first true b p = tt
-first false b p = p
-
-second : (a b : Bool) → T (a && b) → T b
-second true b p = p
-second false b p = absurd p
-
-find_below : (q : List ℕ) (es : List (List ℕ × Slot)) → T (below_all key_cmp q es) → find key_cmp q es ≡ None
-find_below q [] h = refl
-find_below q (e ∷ es) h = ap (λ r. cond (is_eq r) (Some e.1) (find key_cmp q es)) (less _ (first _ _ h)) ∙ find_below q es (second _ _ h)
-
 laid_step : (b : Bool) (s : Slot) (o : Option Slot) (v : Option (List ℕ)) → (b ≡ true → o ≡ None) → slot_value o (if b then s.value else v) ≡ slot_value (cond b (Some s) o) v
 laid_step true s o v none = ap (λ p. slot_value p s.value) (none refl)
 laid_step false s o v none = refl
@@ -210,7 +179,7 @@ get-laid_back m (e ∷ es) q h =
     get-laid_back (with_change m e.0 e.1.value) es q (second _ _ h)
     ∙ ap (slot_value (find key_cmp q es)) (get-change m e.0 e.1.value q)
     ∙ laid_step (same_key q e.0) e.1 (find key_cmp q es) (get m q)
-    (λ t. ap (λ k. find key_cmp k es) (same_key_is q e.0 t) ∙ find_below e.0 es (first _ _ h))
+    (λ t. ap (λ k. find key_cmp k es) (same_key_is q e.0 t) ∙ nothing_below key_cmp e.0 es (first _ _ h))
 
 pub get-undone : (m : Records) (images : Images) (q : List ℕ) → get (laid_back m (entries images)) q ≡ slot_value (get images q) (get m q)
 get-undone m images q = get-laid_back m (entries images) q (entries_sorted images) ∙ ap (λ o. slot_value o (get m q)) (sym (get-entries images q))

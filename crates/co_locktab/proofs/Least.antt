@@ -13,34 +13,12 @@ use Rattle.co_locktab.specs.declared.holders.Holders.{Holders}
 use Rattle.co_locktab.specs.Holding.{other_in, least_along}
 use Rattle.co_locktab.specs.Locks.{IsLeast}
 use Rattle.co_locktab.proofs.Orders.{same_number, one_number, number_itself}
-
-pub first : (a b : Bool) → T (a && b) → T a
-first true b p = tt
-first false b p = p
-
-pub second : (a b : Bool) → T (a && b) → T b
-second true b p = p
-second false b p = absurd p
-
-pub left_true : (a b : Bool) → (a && b) ≡ true → a ≡ true
-left_true true b e = refl
-left_true false b e = e
-
-pub right_true : (a b : Bool) → (a && b) ≡ true → b ≡ true
-right_true true b e = e
-right_true false b e = absurd (true≢false (sym e))
-
-pub and_false : (b : Bool) → (b && false) ≡ false
-and_false true = refl
-and_false false = refl
+pub use Rattle.co_state.proofs.Ties.{first, second, left_true, right_true, and_false, or_true}
+use Rattle.co_state.proofs.Ties.{less}
 
 pub or_false : (b : Bool) → (b || false) ≡ b
 or_false true = refl
 or_false false = refl
-
-pub or_true : (b : Bool) → (b || true) ≡ true
-or_true true = refl
-or_true false = refl
 
 -- the same least number where the tests agree
 pub least_same : (p q : ℕ → Bool) (found : Option ℕ) → ((u : ℕ) → p u ≡ q u) → IsLeast p found → IsLeast q found
@@ -84,11 +62,6 @@ least_lesser p q None (Some u) h k = (ap (λ b. p u || b) k.0 ∙ or_true (p u),
 least_lesser p q (Some t) None h k = (ap (λ b. b || q t) h.0, λ v e. either (p v) (q v) e (h.1 v) (λ f. absurd (true≢false (sym f ∙ k v))))
 least_lesser p q (Some t) (Some u) h k =
     (min_test p q t u h.0 k.0, λ v e. either (p v) (q v) e (λ f. le_trans (min t u) t v (min_left t u) (h.1 v f)) (λ f. le_trans (min t u) u v (min_right t u) (k.1 v f)))
-
-less : (r : Ordering) → T (is_lt r) → r ≡ Less
-less Less p = refl
-less Equal p = absurd p
-less Greater p = absurd p
 
 below : (k v : ℕ) → nat_cmp k v ≡ Less → k ≤ v
 below k v e = grind (arith, nat_tests)

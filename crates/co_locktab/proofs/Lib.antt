@@ -2,7 +2,6 @@ pub mod Orders
 pub mod Least
 pub mod Holding
 pub mod Locking
-pub mod Ranging
 pub mod Showing
 pub mod Forking
 pub mod Placing

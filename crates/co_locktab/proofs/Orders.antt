@@ -9,6 +9,7 @@ use Rattle.std.specs.FinMap.{IsAntisymmetric, nat_cmp-IsAntisymmetric, slice_cmp
 use Rattle.std.proofs.lemmas.Cmp.{nat_list_cmp_total}
 use Rattle.co_base.specs.Order.{key_cmp}
 use Rattle.co_base.specs.Span.{span_cmp}
+pub use Rattle.co_state.proofs.Ties.{tie}
 
 pub keys_total : IsTotalOrder key_cmp
 keys_total = nat_list_cmp_total
@@ -32,11 +33,6 @@ spans_apart x y e =
     let l = then_left (key_cmp x.lo y.lo) (key_cmp x.hi y.hi) e in
     let h = then_right (key_cmp x.lo y.lo) (key_cmp x.hi y.hi) l e in
     λ i. record { lo = keys_apart x.lo y.lo l i; hi = keys_apart x.hi y.hi h i }
-
-pub tie : (r : Ordering) → is_eq r ≡ true → r ≡ Equal
-tie Less e = absurd (true≢false (sym e))
-tie Equal e = refl
-tie Greater e = absurd (true≢false (sym e))
 
 module _ {K : Type 0} {R : K → K → Ordering} (o : IsTotalOrder R) (same : IsAntisymmetric R) where
   -- what ties is equal

@@ -27,6 +27,7 @@ use Rattle.co_locktab.proofs.Holding.{least_in_lock, passes_with}
 use Rattle.co_locktab.proofs.Least.{first, second, left_true, right_true}
 use Rattle.co_locktab.proofs.Orders.{keys_total, keys_apart, spans_total, spans_apart, ties-itself, tied, tie}
 use Rattle.co_locktab.proofs.Placing.{forks_total, forks_apart, places_total, places_apart}
+pub use Rattle.co_state.proofs.Ties.{less}
 
 -- ---- what the lesser of two covers
 covers_lesser : (a b : Option ℕ) (u : ℕ) → covers (lesser a b) u ≡ (covers a u || covers b u)
@@ -63,11 +64,6 @@ one_of (Some t) (Some v) u e = by (nat_le t v) refl
 t_true : (b : Bool) → T b → b ≡ true
 t_true true h = refl
 t_true false h = absurd h
-
-pub less : (r : Ordering) → T (is_lt r) → r ≡ Less
-less Less p = refl
-less Equal p = absurd p
-less Greater p = absurd p
 
 module _ {K : Type 0} {R : K → K → Ordering} (o : IsTotalOrder R) (same : IsAntisymmetric R) where
   pub first_or_later : (q p : K) (ps : List K) → list_any (eq_by_cmp R q) (p ∷ ps) ≡ true → (q ≡ p) ⊎ (list_any (eq_by_cmp R q) ps ≡ true)

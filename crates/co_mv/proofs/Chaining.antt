@@ -17,11 +17,7 @@ use Rattle.co_mv.specs.Recents.{Recents, keys_at, has_key}
 use Rattle.co_mv.specs.Versions.{later, last_change, closed}
 use Rattle.co_mv.proofs.Needing.{Each, filter-within}
 use Rattle.co_mv.proofs.Versioning.{key_symm}
-
-tie : (r : Ordering) → is_eq r ≡ true → r ≡ Equal
-tie Less e = absurd (true≢false (sym e))
-tie Equal e = refl
-tie Greater e = absurd (true≢false (sym e))
+use Rattle.co_state.proofs.Ties.{tie}
 
 pub same_keys : (q k : List ℕ) → same_key q k ≡ true → q ≡ k
 same_keys q k e = slice_cmp-IsAntisymmetric nat_cmp-IsAntisymmetric q k (tie (key_cmp q k) e)

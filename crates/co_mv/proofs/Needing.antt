@@ -14,34 +14,8 @@ use Rattle.co_mv.specs.declared.version.Version.{Version}
 use Rattle.co_mv.specs.Kept.{needed, grown, IsNeeded}
 use Rattle.co_mv.specs.Versions.{closed_by, closed, is_before, sees, is_gone, is_kept}
 use Rattle.co_mv.proofs.Versioning.{le_true, true_le, true_lt, and_first, and_second, and-false, IsLink, Linked, written_bound}
-
-tie : (r : Ordering) → is_eq r ≡ true → r ≡ Equal
-tie Less e = absurd (subst T (sym e) tt)
-tie Equal e = refl
-tie Greater e = absurd (subst T (sym e) tt)
-
-pub tied : (q k : ℕ) → eq_by_cmp nat_cmp q k ≡ true → q ≡ k
-tied q k e = nat_cmp-IsAntisymmetric q k (tie (nat_cmp q k) e)
-
-pub ties-itself : (q : ℕ) → eq_by_cmp nat_cmp q q ≡ true
-ties-itself q = (eq_by_cmp_equiv nat_cmp_total).refl q
-
-pub first : (a b : Bool) → T (a && b) → T a
-first true b p = tt
-first false b p = p
-
-pub second : (a b : Bool) → T (a && b) → T b
-second true b p = p
-second false b p = absurd p
-
-less : (r : Ordering) → T (is_lt r) → r ≡ Less
-less Less p = refl
-less Equal p = absurd p
-less Greater p = absurd p
-
-pub find-below : {X : Type 0} (q : ℕ) (es : List (ℕ × X)) → T (below_all nat_cmp q es) → find nat_cmp q es ≡ None
-find-below q [] h = refl
-find-below q (e ∷ es) h = ap (λ r. cond (is_eq r) (Some e.1) (find nat_cmp q es)) (less _ (first _ _ h)) ∙ find-below q es (second _ _ h)
+pub use Rattle.co_state.proofs.Ties.{first, second, tied, ties-itself}
+use Rattle.co_state.proofs.Ties.{less, tie, nothing_below}
 
 -- ---- one of the needed numbers passes a test
 pub some_same : (x y : ℕ) → Some x ≡ Some y → x ≡ y
@@ -64,7 +38,7 @@ any-found p (f ∷ es) t n e h = found_step p f.1 n (list_any p (map (λ e. e.1)
 
 -- what is found behind the first entry is found
 pub find-later : {X : Type 0} (f : ℕ × X) (es : List (ℕ × X)) (t : ℕ) (x : X) (b : Bool) → T (below_all nat_cmp f.0 es) → eq_by_cmp nat_cmp t f.0 ≡ b → find nat_cmp t es ≡ Some x → cond b (Some f.1) (find nat_cmp t es) ≡ Some x
-find-later f es t x true s y is = absurd (let g : None ≡ Some x = sym (ap (λ k. find nat_cmp k es) (tied t f.0 y) ∙ find-below f.0 es s) ∙ is in cc)
+find-later f es t x true s y is = absurd (let g : None ≡ Some x = sym (ap (λ k. find nat_cmp k es) (tied t f.0 y) ∙ nothing_below nat_cmp f.0 es s) ∙ is in cc)
 find-later f es t x false s y is = is
 
 pub find-first : {X : Type 0} (f : ℕ × X) (es : List (ℕ × X)) → find nat_cmp f.0 (f ∷ es) ≡ Some f.1

@@ -14,6 +14,7 @@ use Rattle.co_serial.specs.Records.{Records, row_of, all_rows, rows_within, with
 use Rattle.co_state.specs.Effects.{records_from}
 use Rattle.co_index.proofs.Laying.{get-with_change}
 use Rattle.co_occ.specs.Seen.{laid_within}
+use Rattle.co_state.proofs.Ties.{first, second, less, tie, nothing_below}
 
 pub on_err : {X E : Type 0} (r : Result X E) {A : Type 0} → A → OnErr r A
 on_err (Ok x) h = tt
@@ -36,30 +37,8 @@ laid_under-empty (r ∷ rs) = ap (λ m. insert m r.key r.value) (laid_under-empt
 abbrev pub ties : List ℕ → List ℕ → Bool
 ties = eq_by_cmp key_cmp
 
-tie : (r : Ordering) → is_eq r ≡ true → r ≡ Equal
-tie Less e = absurd (subst T (sym e) tt)
-tie Equal e = refl
-tie Greater e = absurd (subst T (sym e) tt)
-
 pub tied : (q k : List ℕ) → ties q k ≡ true → q ≡ k
 tied q k e = slice_cmp-IsAntisymmetric nat_cmp-IsAntisymmetric q k (tie (key_cmp q k) e)
-
-first : (a b : Bool) → T (a && b) → T a
-first true b p = tt
-first false b p = p
-
-second : (a b : Bool) → T (a && b) → T b
-second true b p = p
-second false b p = absurd p
-
-less : (r : Ordering) → T (is_lt r) → r ≡ Less
-less Less p = refl
-less Equal p = absurd p
-less Greater p = absurd p
-
-find-below : (q : List ℕ) (es : List (List ℕ × List ℕ)) → T (below_all key_cmp q es) → find key_cmp q es ≡ None
-find-below q [] h = refl
-find-below q (e ∷ es) h = ap (λ r. cond (is_eq r) (Some e.1) (find key_cmp q es)) (less _ (first _ _ h)) ∙ find-below q es (second _ _ h)
 
 -- ---- entries laid over records
 abbrev pub laid_over : Records → List (List ℕ × List ℕ) → Records
@@ -83,7 +62,7 @@ laid_at records [] q h = refl
 laid_at records (e ∷ es) q h =
     laid_at (insert records e.0 e.1) es q (second _ _ h)
     ∙ ap (or_else (find key_cmp q es)) (get-insert nat_list_cmp_total records e.0 e.1 q)
-    ∙ step (ties q e.0) e.1 (find key_cmp q es) (get records q) (λ t. ap (λ k. find key_cmp k es) (tied q e.0 t) ∙ find-below e.0 es (first _ _ h))
+    ∙ step (ties q e.0) e.1 (find key_cmp q es) (get records q) (λ t. ap (λ k. find key_cmp k es) (tied q e.0 t) ∙ nothing_below key_cmp e.0 es (first _ _ h))
 
 laid_alone : (es : List (List ℕ × List ℕ)) (q : List ℕ) → T (is_sorted key_cmp es) → get (laid_over empty es) q ≡ find key_cmp q es
 laid_alone es q h = laid_at empty es q h ∙ ap (or_else (find key_cmp q es)) (get-empty key_cmp q) ∙ or_none (find key_cmp q es)

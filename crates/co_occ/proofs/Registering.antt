@@ -13,7 +13,8 @@ use Rattle.co_stamps.specs.Stamped.{IsLeastFrom}
 use Rattle.co_occ.specs.declared.reads.Reads.{Reads}
 use Rattle.co_occ.specs.Kept.{oldest_kept}
 use Rattle.co_occ.specs.Reading.{oldest_at, KnowsOldest, with_oldest}
-use Rattle.co_pairs.proofs.Picking.{first, second, tied, ties, find-below}
+use Rattle.co_pairs.proofs.Picking.{first, second, tied, ties}
+use Rattle.co_state.proofs.Ties.{nothing_below}
 
 -- ---- after each call
 pub knows_none : (oldest : Table ℕ) (reads : Table Reads) → oldest ≡ no_entries → reads ≡ no_entries → KnowsOldest oldest reads
@@ -105,7 +106,7 @@ found_later : (f : ℕ × Reads) (fs : List (ℕ × Reads)) (t : ℕ) (e : Reads
 found_later f fs t e s h = by (eq_by_cmp nat_cmp t f.0) refl
   where
     by : (b : Bool) → eq_by_cmp nat_cmp t f.0 ≡ b → cond b (Some f.1) (find nat_cmp t fs) ≡ Some e
-    by true y = absurd (let g : None ≡ Some e = sym (ap (λ k. find nat_cmp k fs) (tied t f.0 y) ∙ find-below f.0 fs s) ∙ h in cc)
+    by true y = absurd (let g : None ≡ Some e = sym (ap (λ k. find nat_cmp k fs) (tied t f.0 y) ∙ nothing_below nat_cmp f.0 fs s) ∙ h in cc)
     by false y = h
 
 abbrev IsLow : List (ℕ × Reads) → Option ℕ → Type 0

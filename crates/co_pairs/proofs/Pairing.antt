@@ -15,7 +15,8 @@ use Rattle.co_state.specs.Keys.{reads_meet, writes_meet}
 use Rattle.co_pairs.specs.declared.side.Side.{Side}
 use Rattle.co_pairs.specs.declared.side.Side.TheVariants.{Reader, Writer, Lesser, Greater}
 use Rattle.co_pairs.specs.NewPairs.{found_in, passes, meets_on, newly, made, all_made, or_nothing, pair_among, AreNew}
-use Rattle.co_pairs.proofs.Picking.{first, second, tied, ties, find-below}
+use Rattle.co_pairs.proofs.Picking.{first, second, tied, ties}
+use Rattle.co_state.proofs.Ties.{nothing_below}
 
 and-false : (b : Bool) → (b && false) ≡ false
 and-false true = refl
@@ -57,7 +58,7 @@ pub among-found_in : {X : Type 0} (test : ℕ → X → Bool) (u : ℕ) (es : Li
 among-found_in test u [] h = refl
 among-found_in test u (e ∷ es) h =
     among-with test u e.0 e.1 (found_in test es) (find nat_cmp u es) (test e.0 e.1) refl (eq_by_cmp nat_cmp u e.0) refl
-    (λ t. find-below u es (subst (λ k. T (below_all nat_cmp k es)) (sym (tied u e.0 t)) (first _ _ h)))
+    (λ t. nothing_below nat_cmp u es (subst (λ k. T (below_all nat_cmp k es)) (sym (tied u e.0 t)) (first _ _ h)))
     (among-found_in test u es (second _ _ h))
 
 distinct-with : (k : ℕ) (vs : List ℕ) (b : Bool) → among vs k ≡ false → AreDistinct vs → AreDistinct (if b then k ∷ vs else vs)
@@ -68,7 +69,7 @@ pub distinct-found_in : {X : Type 0} (test : ℕ → X → Bool) (es : List (ℕ
 distinct-found_in test [] h = tt
 distinct-found_in test (e ∷ es) h =
     distinct-with e.0 (found_in test es) (test e.0 e.1)
-    (among-found_in test e.0 es (second _ _ h) ∙ ap (passed test e.0) (find-below e.0 es (first _ _ h)))
+    (among-found_in test e.0 es (second _ _ h) ∙ ap (passed test e.0) (nothing_below nat_cmp e.0 es (first _ _ h)))
     (distinct-found_in test es (second _ _ h))
 
 -- ---- pairs of one transaction with others

@@ -9,33 +9,10 @@ use Rattle.std.specs.FinMap.{nat_cmp-IsAntisymmetric}
 use Rattle.std.specs.FinMap.Entries.{find, below_all, is_sorted, same_entries}
 use Rattle.co_state.specs.Table.{first_in}
 use Rattle.co_pairs.specs.NewPairs.{passes}
-
-pub both : (a b : Bool) → T a → T b → T (a && b)
-both true b p q = q
-both false b p q = p
-
-pub first : (a b : Bool) → T (a && b) → T a
-first true b p = tt
-first false b p = p
-
-pub second : (a b : Bool) → T (a && b) → T b
-second true b p = p
-second false b p = absurd p
-
-less : (r : Ordering) → T (is_lt r) → r ≡ Less
-less Less p = refl
-less Equal p = absurd p
-less Greater p = absurd p
-
-tie : (r : Ordering) → is_eq r ≡ true → r ≡ Equal
-tie Less e = absurd (subst T (sym e) tt)
-tie Equal e = refl
-tie Greater e = absurd (subst T (sym e) tt)
+pub use Rattle.co_state.proofs.Ties.{both, first, second, tied}
+use Rattle.co_state.proofs.Ties.{less, tie, nothing_below}
 
 -- numbers that tie are equal
-pub tied : (q k : ℕ) → eq_by_cmp nat_cmp q k ≡ true → q ≡ k
-tied q k e = nat_cmp-IsAntisymmetric q k (tie (nat_cmp q k) e)
-
 pub ties : (u t : ℕ) → eq_by_cmp nat_cmp u t ≡ (t == u)
 ties u t = both_ways _ _
     (λ e. eq-eqb t u (sym (tied u t e)))
@@ -48,10 +25,6 @@ pub itself : (t : ℕ) → eq_by_cmp nat_cmp t t ≡ true
 itself t = ties t t ∙ eq-eqb t t refl
 
 -- a number below all others is not found among them
-pub find-below : {X : Type 0} (q : ℕ) (es : List (ℕ × X)) → T (below_all nat_cmp q es) → find nat_cmp q es ≡ None
-find-below q [] h = refl
-find-below q (e ∷ es) h = ap (λ r. cond (is_eq r) (Some e.1) (find nat_cmp q es)) (less _ (first _ _ h)) ∙ find-below q es (second _ _ h)
-
 abbrev pub pick_in : {X Y : Type 0} → (ℕ → X → Option Y) → ℕ → Option X → Option Y
 pick_in pick q None = None
 pick_in pick q (Some x) = pick q x
@@ -92,7 +65,7 @@ find-picked : {X Y : Type 0} (pick : ℕ → X → Option Y) (q : ℕ) (es : Lis
 find-picked pick q [] h = refl
 find-picked pick q (e ∷ es) h =
     find-with pick q e.0 e.1 (find nat_cmp q es) (picked pick es) (eq_by_cmp nat_cmp q e.0) refl
-    (λ t. find-below q es (subst (λ k. T (below_all nat_cmp k es)) (sym (tied q e.0 t)) (first _ _ h)))
+    (λ t. nothing_below nat_cmp q es (subst (λ k. T (below_all nat_cmp k es)) (sym (tied q e.0 t)) (first _ _ h)))
     (find-picked pick q es (second _ _ h)) (pick e.0 e.1) refl
 
 first-with : {Y : Type 0} (test : ℕ → Y → Bool) (k : ℕ) (o : Option Y) (found : Option ℕ) (ys : List (ℕ × Y)) → found ≡ first_in test ys

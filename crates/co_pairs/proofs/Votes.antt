@@ -11,11 +11,11 @@ use Rattle.std.specs.Ordering.{nat_cmp, eq_by_cmp, is_lt, is_eq}
 use Rattle.co_pairs.specs.declared.prepared.Prepared.{Prepared}
 use Rattle.co_pairs.specs.Free.{clash, clashes_with, are_free}
 use Rattle.co_pairs.specs.Votes.{vote_in, votes_of, told_of, prepared_of, voted_of}
-use Rattle.co_pairs.proofs.Picking.{find-below}
 use Rattle.co_state.specs.declared.engine_state.Vote.{Vote}
 use Rattle.co_state.specs.Conflicts.{sets_conflict}
 use Rattle.co_state.specs.Table.{Table, look, put}
 use Rattle.co_state.proofs.Tables.{look-put}
+use Rattle.co_state.proofs.Ties.{nothing_below}
 
 from_votes : (es : List (ℕ × Vote)) → votes_of (map prepared_of es) ≡ from_entries es
 from_votes [] = refl
@@ -50,7 +50,7 @@ found_later {X} e es u x below f = by (eq_by_cmp nat_cmp u e.0) refl
     by false g = ap (λ c. cond c (Some e.1) (find nat_cmp u es)) g ∙ f
     by true g =
         let same : u ≡ e.0 = grind (arith, nat_tests, g) in
-        absurd (let q : None ≡ Some x = sym (find-below e.0 es below) ∙ ap (λ k. find nat_cmp k es) (sym same) ∙ f in cc)
+        absurd (let q : None ≡ Some x = sym (nothing_below nat_cmp e.0 es below) ∙ ap (λ k. find nat_cmp k es) (sym same) ∙ f in cc)
 
 both_T : (a b : Bool) → T (a && b) → T a × T b
 both_T true b h = (tt, h)
@@ -86,7 +86,7 @@ list_free [] sorted apart = refl
 list_free (e ∷ es) sorted apart =
     let s = both_T _ (is_sorted nat_cmp es) sorted in
     both_free (clashes_with (prepared_of e) (map prepared_of es)) (are_free (map prepared_of es))
-    (clashes_not e es (λ u b f. apart e.0 u e.1 b (λ q. absurd (let z : None ≡ Some b = sym (find-below e.0 es s.0) ∙ ap (λ k. find nat_cmp k es) q ∙ f in cc)) (found_first e es) (found_later e es u b s.0 f)) s.0 s.1)
+    (clashes_not e es (λ u b f. apart e.0 u e.1 b (λ q. absurd (let z : None ≡ Some b = sym (nothing_below nat_cmp e.0 es s.0) ∙ ap (λ k. find nat_cmp k es) q ∙ f in cc)) (found_first e es) (found_later e es u b s.0 f)) s.0 s.1)
     (list_free es s.1 (λ t u a b n f g. apart t u a b n (found_later e es t a s.0 f) (found_later e es u b s.0 g)))
 
 -- votes of which no two are in conflict are free of each other as a list

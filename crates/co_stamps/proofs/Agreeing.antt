@@ -10,17 +10,8 @@ use Rattle.std.specs.FinMap.Entries.{find}
 use Rattle.co_state.specs.Table.{Table, no_entries, look, put, without, holds}
 use Rattle.co_state.proofs.Tables.{look-put, look-without, same_table}
 use Rattle.co_stamps.specs.Bearing.{Bearers, or_nobody, bears, with_bearer, without_in, without_bearer, is_nobody, settled, is_number, Agree}
-
-tie : (r : Ordering) → is_eq r ≡ true → r ≡ Equal
-tie Less e = absurd (true≢false (sym e))
-tie Equal e = refl
-tie Greater e = absurd (true≢false (sym e))
-
-pub tied : (q k : ℕ) → eq_by_cmp nat_cmp q k ≡ true → q ≡ k
-tied q k e = nat_cmp-IsAntisymmetric q k (tie (nat_cmp q k) e)
-
-pub ties-itself : (q : ℕ) → eq_by_cmp nat_cmp q q ≡ true
-ties-itself q = (eq_by_cmp_equiv nat_cmp_total).refl q
+pub use Rattle.co_state.proofs.Ties.{tied, ties-itself}
+use Rattle.co_state.proofs.Ties.{tie}
 
 ties-symm : (q k : ℕ) → eq_by_cmp nat_cmp q k ≡ eq_by_cmp nat_cmp k q
 ties-symm q k = (eq_by_cmp_equiv nat_cmp_total).symm q k

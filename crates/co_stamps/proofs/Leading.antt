@@ -13,19 +13,7 @@ use Rattle.co_state.specs.Table.{Table, look, holds, first_of}
 use Rattle.co_stamps.specs.Bearing.{Bearers, or_nobody, bears, is_nobody, is_number, number_or, last_of, Agree}
 use Rattle.co_stamps.specs.Stamped.{IsStamp, IsLeast, IsLeastFrom, IsGreatest, IsGreatestBelow}
 use Rattle.co_stamps.proofs.Agreeing.{tied, ties-itself}
-
-first : (a b : Bool) → T (a && b) → T a
-first true b p = tt
-first false b p = p
-
-second : (a b : Bool) → T (a && b) → T b
-second true b p = p
-second false b p = absurd p
-
-less : (r : Ordering) → T (is_lt r) → r ≡ Less
-less Less p = refl
-less Equal p = absurd p
-less Greater p = absurd p
+use Rattle.co_state.proofs.Ties.{first, second, less}
 
 above_of : (k j : ℕ) → nat_cmp k j ≡ Less → k < j
 above_of k j e = by (cases_order k j)

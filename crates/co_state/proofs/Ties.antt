@@ -67,6 +67,6 @@ pub key_ties-swap : (q k : List ℕ) → eq_by_cmp key_cmp q k ≡ eq_by_cmp key
 key_ties-swap q k = (eq_by_cmp_equiv nat_list_cmp_total).symm q k
 
 -- ---- what is below all entries is in none
-pub find-below : {K X : Type 0} (cmp : K → K → Ordering) (q : K) (es : List (K × X)) → T (below_all cmp q es) → find cmp q es ≡ None
-find-below cmp q [] h = refl
-find-below cmp q (e ∷ es) h = ap (λ r. cond (is_eq r) (Some e.1) (find cmp q es)) (less _ (first _ _ h)) ∙ find-below cmp q es (second _ _ h)
+pub nothing_below : {K X : Type 0} (cmp : K → K → Ordering) (q : K) (es : List (K × X)) → T (below_all cmp q es) → find cmp q es ≡ None
+nothing_below cmp q [] h = refl
+nothing_below cmp q (e ∷ es) h = ap (λ r. cond (is_eq r) (Some e.1) (find cmp q es)) (less _ (first _ _ h)) ∙ nothing_below cmp q es (second _ _ h)

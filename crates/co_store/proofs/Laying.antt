@@ -13,38 +13,18 @@ use Rattle.co_serial.specs.Records.{Records, with_change}
 use Rattle.co_store.specs.declared.slots.Slot.{Slot}
 use Rattle.co_store.specs.Images.{Images, value_in, slot_of, restored, restored_all, settled, settled_all, slots_from}
 use Rattle.co_store.specs.StoreState.{laid_back}
+pub use Rattle.co_state.proofs.Ties.{first, second}
+use Rattle.co_state.proofs.Ties.{less, tie, nothing_below}
 
 -- ---- keys that tie
 abbrev pub ties : List ℕ → List ℕ → Bool
 ties = eq_by_cmp key_cmp
-
-tie : (r : Ordering) → is_eq r ≡ true → r ≡ Equal
-tie Less e = absurd (subst T (sym e) tt)
-tie Equal e = refl
-tie Greater e = absurd (subst T (sym e) tt)
 
 pub tied : (q k : List ℕ) → ties q k ≡ true → q ≡ k
 tied q k e = slice_cmp-IsAntisymmetric nat_cmp-IsAntisymmetric q k (tie (key_cmp q k) e)
 
 pub ties-itself : (q : List ℕ) → ties q q ≡ true
 ties-itself q = (eq_by_cmp_equiv nat_list_cmp_total).refl q
-
-pub first : (a b : Bool) → T (a && b) → T a
-first true b p = tt
-first false b p = p
-
-pub second : (a b : Bool) → T (a && b) → T b
-second true b p = p
-second false b p = absurd p
-
-less : (r : Ordering) → T (is_lt r) → r ≡ Less
-less Less p = refl
-less Equal p = absurd p
-less Greater p = absurd p
-
-pub find-below : (q : List ℕ) (es : List (List ℕ × Slot)) → T (below_all key_cmp q es) → find key_cmp q es ≡ None
-find-below q [] h = refl
-find-below q (e ∷ es) h = ap (λ r. cond (is_eq r) (Some e.1) (find key_cmp q es)) (less _ (first _ _ h)) ∙ find-below q es (second _ _ h)
 
 -- ---- one key
 value-cond : (b : Bool) (v : Option (List ℕ)) (o : Option Slot) → value_in (cond b (Some (slot_of v)) o) ≡ cond b v (value_in o)
@@ -106,7 +86,7 @@ contains-restored_all m (f ∷ es) q e =
     ∙ contains-restored m f.0 f.1.value q (found_apart (ties q f.0) f.1 (find key_cmp q es) e)
 
 not_first : (q k : List ℕ) (es : List (List ℕ × Slot)) (b : Bool) → ties q k ≡ b → T (below_all key_cmp k es) → is_some (find key_cmp q es) ≡ true → b ≡ false
-not_first q k es true t h there = absurd (true≢false (sym there ∙ ap is_some (ap (λ j. find key_cmp j es) (tied q k t) ∙ find-below k es h)))
+not_first q k es true t h there = absurd (true≢false (sym there ∙ ap is_some (ap (λ j. find key_cmp j es) (tied q k t) ∙ nothing_below key_cmp k es h)))
 not_first q k es false t h there = refl
 
 rest_there : (b : Bool) (s : Slot) (o : Option Slot) → is_some o ≡ true → is_some (cond b (Some s) o) ≡ true

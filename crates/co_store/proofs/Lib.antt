@@ -1,4 +1,3 @@
 mod Laying
 mod Showing
 mod Reading
-mod Ranging

@@ -10,7 +10,8 @@ use Rattle.co_serial.specs.Records.{Records, row_of, all_rows, rows_within}
 use Rattle.co_store.specs.declared.slots.Slot.{Slot}
 use Rattle.co_store.specs.Images.{Images, value_in}
 use Rattle.co_store.specs.StoreState.{noted, all_noted}
-use Rattle.co_store.proofs.Laying.{ties, tied, get-with_change, first, second, find-below}
+use Rattle.co_store.proofs.Laying.{ties, tied, get-with_change, first, second}
+use Rattle.co_state.proofs.Ties.{nothing_below}
 
 -- a value that is there, and else what was there before
 abbrev pub or_else : Option (List ℕ) → Option (List ℕ) → Option (List ℕ)
@@ -34,7 +35,7 @@ noted_all records [] q h = refl
 noted_all records (e ∷ es) q h =
     noted_all (noted records e.0 e.1.value) es q (second _ _ h)
     ∙ ap (or_else (value_in (find key_cmp q es))) (noted_value records e.0 e.1.value q)
-    ∙ step (ties q e.0) e.1 (find key_cmp q es) (get records q) (λ t. ap (λ k. find key_cmp k es) (tied q e.0 t) ∙ find-below e.0 es (first _ _ h))
+    ∙ step (ties q e.0) e.1 (find key_cmp q es) (get records q) (λ t. ap (λ k. find key_cmp k es) (tied q e.0 t) ∙ nothing_below key_cmp e.0 es (first _ _ h))
 
 or_none : (o : Option (List ℕ)) → or_else o None ≡ o
 or_none None = refl
