@@ -3,7 +3,7 @@
 //! An index finds those that may be in conflict with an operation by the keys that they touched, so that no
 //! operation looks at the others. After want of memory an index is only dropped.
 //!
-//! What all engines lay by key stands here too: tables, and lists of records.
+//! Tables and lists of records by key, which the engines share, stand here too.
 #![tactic(auto)]
 
 mod index;

@@ -74,7 +74,7 @@ impl RowList {
     }
 
     /// Takes the record of a key away, where there is one. Takes no memory.
-    pub fn remove(&mut self, key: &Key)
+    fn remove(&mut self, key: &Key)
         ensures { self.new ≡ map.remove self.old key.now }
     {
         match place_of(self.rows.as_slice(), key) {

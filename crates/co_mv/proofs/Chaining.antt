@@ -3,7 +3,6 @@ use Rattle.std.proofs.Common.{◌≡◌, ◌⊎◌, inl, inr, ℕ, ◌+◌, ◌<
 use Rattle.std.specs.Prelude.{◌==◌}
 use Rattle.std.specs.FinMap.{get, insert, remove, get-insert, get-remove, slice_cmp-IsAntisymmetric, nat_cmp-IsAntisymmetric}
 use Rattle.std.specs.Ordering.{is_eq}
-use Rattle.std.specs.Cmp.{eq_by_cmp_equiv}
 use Rattle.std.specs.declared.cmp.Ordering.{Ordering}
 use Rattle.std.specs.declared.cmp.Ordering.TheVariants.{Less, Equal, Greater}
 use Rattle.std.proofs.lemmas.Cmp.{nat_list_cmp_total}
@@ -21,9 +20,6 @@ use Rattle.co_state.proofs.Ties.{tie}
 
 pub same_keys : (q k : List ℕ) → same_key q k ≡ true → q ≡ k
 same_keys q k e = slice_cmp-IsAntisymmetric nat_cmp-IsAntisymmetric q k (tie (key_cmp q k) e)
-
-pub key_itself : (q : List ℕ) → same_key q q ≡ true
-key_itself q = (eq_by_cmp_equiv nat_list_cmp_total).refl q
 
 chain-cond : (b : Bool) (o p : Option (List Version)) → chain_in (cond b o p) ≡ cond b (chain_in o) (chain_in p)
 chain-cond true o p = refl
