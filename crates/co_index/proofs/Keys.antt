@@ -1,22 +1,15 @@
 -- Keys that tie.
-use Rattle.std.proofs.Common.{◌≡◌, ℕ, Bool, true, List, refl, sym, true≢false}
-use Rattle.std.specs.Ordering.{eq_by_cmp, is_eq}
-use Rattle.std.specs.declared.cmp.Ordering.{Ordering}
-use Rattle.std.specs.declared.cmp.Ordering.TheVariants.{Less, Equal, Greater}
-use Rattle.std.specs.Cmp.{eq_by_cmp_equiv}
-use Rattle.std.proofs.lemmas.Cmp.{nat_list_cmp_total}
-use Rattle.std.specs.FinMap.{slice_cmp-IsAntisymmetric, nat_cmp-IsAntisymmetric}
-use Rattle.co_base.specs.Order.{key_cmp}
-use Rattle.co_state.proofs.Ties.{tie}
+use Rattle.std.proofs.Common.{◌≡◌, ℕ, Bool, true, List}
+use Rattle.co_state.proofs.Ties.{key_ties, tied_keys, key_ties-itself, key_ties-swap}
 
 abbrev pub ties : List ℕ → List ℕ → Bool
-ties = eq_by_cmp key_cmp
+ties = key_ties
 
 pub tied : (q k : List ℕ) → ties q k ≡ true → q ≡ k
-tied q k e = slice_cmp-IsAntisymmetric nat_cmp-IsAntisymmetric q k (tie (key_cmp q k) e)
+tied = tied_keys
 
 pub itself : (q : List ℕ) → ties q q ≡ true
-itself q = (eq_by_cmp_equiv nat_list_cmp_total).refl q
+itself = key_ties-itself
 
 pub swapped : (q k : List ℕ) → ties q k ≡ ties k q
-swapped q k = (eq_by_cmp_equiv nat_list_cmp_total).symm q k
+swapped = key_ties-swap

@@ -1,6 +1,5 @@
 pub mod Keys
 pub mod Putting
-mod Ascending
 pub mod Laying
 pub mod Finding
 pub mod Touching

@@ -3,20 +3,20 @@
 //! An index finds those that may be in conflict with an operation by the keys that they touched, so that no
 //! operation looks at the others. After want of memory an index is only dropped.
 //!
-//! Tables and lists of records by key, which the engines share, stand here too.
+//! Tables by key, which the engines share, stand here too.
 #![tactic(auto)]
 
 mod index;
 mod key_map;
+mod laying;
 mod lesser;
 mod new_pairs;
-mod row_list;
 mod told;
 mod touched;
 mod undecided;
 
 pub use index::Index;
 pub use key_map::KeyMap;
+pub use laying::value_after;
 pub use lesser::lesser_key;
-pub use row_list::{RowList, value_after};
 pub use undecided::Undecided;

@@ -10,7 +10,7 @@ ghost use Rattle.co_mv.specs.Versions.{seen_value};
 use crate::chain::Chain;
 use crate::chains::Chains;
 use co_base::{Key, Range, Value, Written};
-use co_index::RowList;
+use co_state::RowList;
 use std::alloc::{AllocError, Global};
 
 /// The value of a key at a number of installs. Takes no memory.

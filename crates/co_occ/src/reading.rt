@@ -5,7 +5,8 @@ ghost use Rattle.co_serial.specs.Records.{all_rows, rows_within, with_changes};
 ghost use Rattle.co_occ.specs.Seen.{laid_within};
 
 use co_base::{Key, Range, Value, Written};
-use co_index::{KeyMap, RowList, value_after};
+use co_index::{KeyMap, value_after};
+use co_state::RowList;
 use std::alloc::{AllocError, Global};
 
 /// The value at a key, once changes are laid over the records.

@@ -8,3 +8,4 @@ mod Joining
 pub mod InOrder
 pub mod Between
 pub mod Ties
+mod Ascending

@@ -57,13 +57,16 @@ pub ties-itself : (q : ℕ) → eq_by_cmp nat_cmp q q ≡ true
 ties-itself q = (eq_by_cmp_equiv nat_cmp_total).refl q
 
 -- ---- keys
-pub tied_keys : (q k : List ℕ) → eq_by_cmp key_cmp q k ≡ true → q ≡ k
+abbrev pub key_ties : List ℕ → List ℕ → Bool
+key_ties = eq_by_cmp key_cmp
+
+pub tied_keys : (q k : List ℕ) → key_ties q k ≡ true → q ≡ k
 tied_keys q k e = slice_cmp-IsAntisymmetric nat_cmp-IsAntisymmetric q k (tie (key_cmp q k) e)
 
-pub key_ties-itself : (q : List ℕ) → eq_by_cmp key_cmp q q ≡ true
+pub key_ties-itself : (q : List ℕ) → key_ties q q ≡ true
 key_ties-itself q = (eq_by_cmp_equiv nat_list_cmp_total).refl q
 
-pub key_ties-swap : (q k : List ℕ) → eq_by_cmp key_cmp q k ≡ eq_by_cmp key_cmp k q
+pub key_ties-swap : (q k : List ℕ) → key_ties q k ≡ key_ties k q
 key_ties-swap q k = (eq_by_cmp_equiv nat_list_cmp_total).symm q k
 
 -- ---- what is below all entries is in none

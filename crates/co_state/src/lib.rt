@@ -16,6 +16,7 @@ mod meeting;
 mod pair;
 mod places;
 mod records;
+mod row_list;
 mod rules;
 mod sets;
 mod stale;
@@ -34,6 +35,7 @@ pub use meeting::{reads_key, reads_meet, writes_key, writes_meet, writes_within}
 pub use pair::{Pair, PairKind, Pairs};
 pub use places::{put_change, put_range};
 pub use records::{copy_records, records_at, records_from};
+pub use row_list::RowList;
 pub use stale::{reads, stale_key};
 pub use table::Table;
 pub use verdict::Verdict;

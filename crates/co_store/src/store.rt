@@ -12,8 +12,7 @@ ghost use Rattle.co_state.specs.Table.{look, put, without};
 use crate::dump::Dump;
 use crate::slots::{Slot, Slots};
 use co_base::{Key, Range, Row, Rows, Txn, Value, Writes, Written};
-use co_serial::RecordMap;
-use co_state::Table;
+use co_state::{RowList, Table};
 use std::alloc::{AllocError, Global};
 
 /// Records in place, and for each unfinished transaction what the keys that it wrote held before.
@@ -93,7 +92,7 @@ fn copy_value(value: &Option<Value>) -> Result<Option<Value>, AllocError>
 }
 
 /// Notes the record of a slot, if it has a value.
-fn note(records: &mut RecordMap, key: &Key, slot: &Slot) -> Result<(), AllocError>
+fn note(records: &mut RowList, key: &Key, slot: &Slot) -> Result<(), AllocError>
     ensures { OnOk result (records.new ≡ noted records.old key.now slot.now.value) }
 {
     match &slot.value {
@@ -103,10 +102,10 @@ fn note(records: &mut RecordMap, key: &Key, slot: &Slot) -> Result<(), AllocErro
 }
 
 /// The records of slots.
-fn all_records(alloc: Global, slots: &Slots) -> Result<RecordMap, AllocError>
+fn all_records(alloc: Global, slots: &Slots) -> Result<RowList, AllocError>
     ensures { IfOk result (λ records. records ≡ all_noted map.empty (entries slots.now)) }
 {
-    let mut records = RecordMap::new(alloc);
+    let mut records = RowList::new(alloc);
     for (key, slot) in slots.iter() {
         note(&mut records, key, slot)?;
     }
@@ -114,10 +113,10 @@ fn all_records(alloc: Global, slots: &Slots) -> Result<RecordMap, AllocError>
 }
 
 /// The records of those slots that stand in a range.
-fn records_within(alloc: Global, slots: &Slots, range: &Range) -> Result<RecordMap, AllocError>
+fn records_within(alloc: Global, slots: &Slots, range: &Range) -> Result<RowList, AllocError>
     ensures { IfOk result (λ records. records ≡ all_noted map.empty (filter (λ e. span_has range.now e.0) (entries slots.now))) }
 {
-    let mut records = RecordMap::new(alloc);
+    let mut records = RowList::new(alloc);
     for (key, slot) in slots.within(range) {
         note(&mut records, key, slot)?;
     }
@@ -125,7 +124,7 @@ fn records_within(alloc: Global, slots: &Slots, range: &Range) -> Result<RecordM
 }
 
 /// Lays images back over records.
-fn lay(records: &mut RecordMap, images: &Slots) -> Result<(), AllocError>
+fn lay(records: &mut RowList, images: &Slots) -> Result<(), AllocError>
     ensures { OnOk result (records.new ≡ laid_back records.old (entries images.now)) }
 {
     for (key, slot) in images.iter() {
@@ -135,7 +134,7 @@ fn lay(records: &mut RecordMap, images: &Slots) -> Result<(), AllocError>
 }
 
 /// Lays the images of all transactions back over records.
-fn lay_all(records: &mut RecordMap, undos: &Table<Slots>) -> Result<(), AllocError>
+fn lay_all(records: &mut RowList, undos: &Table<Slots>) -> Result<(), AllocError>
     ensures { OnOk result (records.new ≡ all_laid_back records.old (entries undos.now)) }
 {
     for (_, images) in undos.iter() {
@@ -230,11 +229,11 @@ impl Store {
         ensures { (s : StoreState) → Shows self.now s → IfOk result (λ rows. rows ≡ rows_within s.now range.now) }
     {
         let records = records_within(self.alloc, &self.slots, range)?;
-        records.rows(self.alloc)
+        Ok(records.into_rows())
     }
 
     /// The records as they are.
-    fn records(&self) -> Result<RecordMap, AllocError>
+    fn records(&self) -> Result<RowList, AllocError>
         ensures { (s : StoreState) → Shows self.now s → IfOk result (λ records. records ≡ s.now) }
     {
         all_records(self.alloc, &self.slots)
@@ -246,7 +245,7 @@ impl Store {
     {
         let mut records = self.records()?;
         lay_all(&mut records, &self.undos)?;
-        records.rows(self.alloc)
+        Ok(records.into_rows())
     }
 
     /// The records as they are, and for each key that an unfinished transaction wrote what leads back, in the
@@ -256,7 +255,7 @@ impl Store {
         ensures undos { (s : StoreState) → Shows self.now s → IfOk result (λ dump. dump.undos ≡ undo_changes s) }
     {
         let records = self.records()?;
-        let rows = records.rows(self.alloc)?;
+        let rows = records.into_rows();
         let images = all_images(self.alloc, &self.undos)?;
         let undos = changes_of(self.alloc, &images)?;
         Ok(Dump { rows, undos })

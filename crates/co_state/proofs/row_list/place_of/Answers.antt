@@ -1,8 +1,8 @@
 use Rattle.std.proofs.Common.{rules}
 use Rattle.std.proofs.lemmas.Fn.{always_returns_same}
 use Rattle.co_base.specs.Order.{key_cmp}
-use Rattle.co_index.proofs.Ascending.{end_found}
-use Rattle.co_index.proofs.row_list.place_of.Goals as goal
+use Rattle.co_state.proofs.Ascending.{end_found}
+use Rattle.co_state.proofs.row_list.place_of.Goals as goal
 
 pub returns-then-lt-clause-position : goal.returns-then-lt-clause-position
 returns-then-lt-clause-position c =

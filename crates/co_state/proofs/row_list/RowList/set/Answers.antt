@@ -1,7 +1,7 @@
 use Rattle.std.proofs.Common.{ap, ◌∙◌}
 use Rattle.std.specs.FinMap.{insert}
-use Rattle.co_index.proofs.Ascending.{laid_found, laid_gap}
-use Rattle.co_index.proofs.row_list.RowList.set.Goals as goal
+use Rattle.co_state.proofs.Ascending.{laid_found, laid_gap}
+use Rattle.co_state.proofs.row_list.RowList.set.Goals as goal
 
 pub invariant_of-self : goal.invariant_of-self
 invariant_of-self c = (laid_found c.args.key _ _ c.as_slice.ensures.value c.self.invariant c.in-Ok.place c.args.value c.in-Ok.ensures.bound c.in-Ok.ensures.position).in_order

@@ -17,9 +17,7 @@ use Rattle.co_base.specs.declared.row.Row.{Row}
 use Rattle.co_serial.specs.Records.{Records, row_of, all_rows}
 use Rattle.co_serial.proofs.MapViews.{view-entries}
 use Rattle.co_state.specs.Effects.{records_from}
-use Rattle.co_pairs.proofs.Picking.{first, second}
-use Rattle.co_index.proofs.Keys.{ties, swapped}
-use Rattle.co_state.proofs.Ties.{both, less}
+use Rattle.co_state.proofs.Ties.{both, first, second, less, key_ties, key_ties-swap}
 
 abbrev entries_in : List Row → List (List ℕ × List ℕ)
 entries_in rows = map (λ r. (r.key, r.value)) rows
@@ -139,12 +137,12 @@ module _ (key value : List ℕ) where
       from-rows new ∙ ap from_entries e
       ∙ same_map nat_list_cmp_total same _ _
       (λ q. get-from_entries nat_list_cmp_total (put key_cmp key value (entries_in rows)) q ∙ find-put key_cmp nat_list_cmp_total q key value (entries_in rows)
-      ∙ sym (get-insert nat_list_cmp_total (from_entries (entries_in rows)) key value q ∙ ap (cond (ties q key) (Some value)) (get-from_entries nat_list_cmp_total (entries_in rows) q)))
+      ∙ sym (get-insert nat_list_cmp_total (from_entries (entries_in rows)) key value q ∙ ap (cond (key_ties q key) (Some value)) (get-from_entries nat_list_cmp_total (entries_in rows) q)))
       ∙ ap (λ m. insert m key value) (sym (from-rows rows))
 
 -- ---- a record taken away
 abbrev other : List ℕ → List ℕ → Bool
-other key k = not (ties key k)
+other key k = not (key_ties key k)
 
 -- what is left of entries without those of a key
 abbrev left : List ℕ → List (List ℕ × List ℕ) → List (List ℕ × List ℕ)
@@ -155,7 +153,7 @@ module _ (key : List ℕ) where
       → left key (entries_in (r ∷ rs)) ≡ cond (not (is_eq (ordering_reverse o))) ((r.key, r.value) ∷ left key (entries_in rs)) (left key (entries_in rs))
   left_first r rs o e = ap (λ o. cond (not (is_eq o)) ((r.key, r.value) ∷ left key (entries_in rs)) (left key (entries_in rs))) (turned r.key key o e)
 
-  left_alone : (rows : List Row) → ((i : ℕ) (d : Row) → i < length rows → ties key (get_or rows i d).key ≡ false) → left key (entries_in rows) ≡ entries_in rows
+  left_alone : (rows : List Row) → ((i : ℕ) (d : Row) → i < length rows → key_ties key (get_or rows i d).key ≡ false) → left key (entries_in rows) ≡ entries_in rows
   left_alone [] h = refl
   left_alone (r ∷ rs) h =
       ap (λ b. cond (not b) ((r.key, r.value) ∷ left key (entries_in rs)) (left key (entries_in rs))) (h 0 r (omega arith))
@@ -177,10 +175,10 @@ module _ (key : List ℕ) where
   left_gap rows i h =
       sym (left_alone rows each)
     where
-      each : (j : ℕ) (d : Row) → j < length rows → ties key (get_or rows j d).key ≡ false
+      each : (j : ℕ) (d : Row) → j < length rows → key_ties key (get_or rows j d).key ≡ false
       each j d l = by (cases_lt j i)
         where
-          by : (j < i) ⊎ (i ≤ j) → ties key (get_or rows j d).key ≡ false
+          by : (j < i) ⊎ (i ≤ j) → key_ties key (get_or rows j d).key ≡ false
           by (inl a) = ap is_eq (turned _ key Less (h.0 j d (omega arith) a))
           by (inr a) = ap is_eq (turned _ key Greater (h.1 j d a l))
 
@@ -197,8 +195,8 @@ module _ (key : List ℕ) where
       ∙ same_map nat_list_cmp_total same _ _
       (λ q. get-from_entries nat_list_cmp_total (left key (entries_in rows)) q
       ∙ find-where_key key_cmp (other key) q (λ x t. ap (λ k. other key k) (sym (same q x t))) (entries_in rows)
-      ∙ turned_cond (ties key q) _ _ ∙ ap (λ b. cond b None (find key_cmp q (entries_in rows))) (swapped key q)
-      ∙ sym (get-remove nat_list_cmp_total (from_entries (entries_in rows)) key q ∙ ap (cond (ties q key) None) (get-from_entries nat_list_cmp_total (entries_in rows) q)))
+      ∙ turned_cond (key_ties key q) _ _ ∙ ap (λ b. cond b None (find key_cmp q (entries_in rows))) (key_ties-swap key q)
+      ∙ sym (get-remove nat_list_cmp_total (from_entries (entries_in rows)) key q ∙ ap (cond (key_ties q key) None) (get-from_entries nat_list_cmp_total (entries_in rows) q)))
       ∙ ap (λ m. remove m key) (sym (from-rows rows))
 
 -- ---- rows that were changed, found by a search

@@ -1,12 +1,11 @@
-//! Records with changes laid over: lists of them, and the value at one key.
-ghost use Rattle.std.specs.Prelude.{◌≡◌, if◌then◌else◌, length, OnOk, OnErr, option_copied};
+//! Lists of records.
+ghost use Rattle.std.specs.Prelude.{◌≡◌, length, OnOk, OnErr};
 ghost use Rattle.std.specs.FinMap as map;
 ghost use Rattle.std.specs.List.Sorted.{IsSearchInRange, IsBinarySearchResult};
 ghost use Rattle.co_base.specs.Order.{key_cmp};
-ghost use Rattle.co_serial.specs.Records.{Records, all_rows, with_change, with_changes};
-ghost use Rattle.co_state.specs.Keys.{same_key};
+ghost use Rattle.co_serial.specs.Records.{all_rows, with_change};
 
-use co_base::{Key, Row, Rows, Value, Written};
+use co_base::{Key, Row, Rows, Value};
 use std::alloc::{AllocError, Global};
 use std::marker::Model;
 
@@ -104,33 +103,8 @@ impl RowList {
     pub fn into_rows(self) -> Rows
         ensures { result ≡ all_rows self }
     {
+        // What stands there is looked at whole, so that its order is known.
         let _ = &self.rows;
         Rows::of(self.rows)
     }
-}
-
-/// The value of a change of this key, and else what was found before.
-fn changed<'a>(found: Option<&'a Value>, change: &'a Written, key: &Key) -> Option<&'a Value>
-    ensures { option_copied result ≡ (if same_key change.now.key key.now then change.now.value else option_copied found.entry) }
-{
-    if change.key.cmp(key).is_eq() {
-        change.value.as_ref()
-    } else {
-        found
-    }
-}
-
-/// The value at a key, once changes are laid over what was found there. Takes no memory.
-pub fn value_after<'a>(
-    found: Option<&'a Value>,
-    changes: &'a [Written],
-    key: &Key,
-) -> Option<&'a Value>
-    ensures { (records : Records) → map.get records key.now ≡ option_copied found.entry → option_copied result ≡ map.get (with_changes records changes.now) key.now }
-{
-    let mut seen = found;
-    for change in changes {
-        seen = changed(seen, change, key);
-    }
-    seen
 }
