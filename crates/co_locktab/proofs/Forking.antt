@@ -1,6 +1,6 @@
 -- Where the bounds of a range part is on the path of each of its keys.
-use Rattle.std.proofs.Common.{◌≡◌, T, ℕ, zero, suc, Bool, true, false, cond, not, ◌≤◌, ◌<◌, ◌+◌, ◌-◌, ◌*◌, ◌/◌, ◌^◌, List, [], ◌∷◌, ◌++◌, length, take, drop, if◌then◌else◌, refl, sym, ap, ◌∙◌, subst, true≢false, eqb→eq, eq-eqb, arith}
-use Rattle.std.specs.Prelude.{◌==◌, replicate}
+use Rattle.std.proofs.Common.{◌≡◌, T, ℕ, zero, suc, Bool, true, false, cond, not, ◌≤◌, ◌<◌, ◌+◌, ◌-◌, ◌*◌, ◌/◌, ◌^◌, List, [], ◌∷◌, length, take, if◌then◌else◌, refl, sym, ap, ◌∙◌, subst, true≢false, eqb→eq, eq-eqb, arith}
+use Rattle.std.specs.Prelude.{◌==◌}
 use Rattle.std.specs.List.{take_while, zip}
 use Rattle.std.specs.Ordering.{nat_cmp, is_gt, ordering_then}
 use Rattle.std.specs.declared.cmp.Ordering.{Ordering}
@@ -15,7 +15,7 @@ use Rattle.co_base.specs.Order.{key_cmp}
 use Rattle.co_base.specs.Span.{Span, span_has}
 use Rattle.co_locktab.proofs.Orders.{tie, number_itself}
 use Rattle.co_locktab.proofs.Least.{left_true, right_true}
-use Rattle.co_locktab.specs.Forks.{byte_at, common_length, one_block, middle_of, shared_height, fork_behind, fork_of, IsOnPath}
+use Rattle.co_locktab.specs.Forks.{byte_at, common_length, one_block, middle_of, shared_height, padded, words, fork_behind, fork_of, IsOnPath}
 
 -- the middle of a block is a byte
 pub middle_fits : (h b : ℕ) → h < 8 → b < 256 → middle_of h b < 256
@@ -148,7 +148,7 @@ on_path span key n b k l =
       within = b.within;
       bound = omega arith;
       is = λ i. record {
-        prefix = b.shares i ++ drop (length (b.shares i)) (replicate 32 0);
+        prefix = words (padded (b.shares i));
         middle = same_middle h a (byte_at key n) (between h a (byte_at key n) c b.from b.to one) i;
       };
     }

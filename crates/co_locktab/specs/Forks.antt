@@ -1,8 +1,9 @@
 -- Where the two bounds of a range part, and on which such places a key can lie: the virtual backbone of Kriegel,
 -- Poetke and Seidl ("Managing intervals efficiently in object-relational databases", 2000), over keys in place of
 -- numbers.
-use Rattle.std.specs.Prelude.{ℕ, zero, suc, ◌+◌, ◌*◌, ◌/◌, ◌^◌, ◌<◌, ◌≤◌, ◌≡◌, Bool, ◌==◌, List, ◌++◌, length, take, drop, replicate, slice_index, if◌then◌else◌}
+use Rattle.std.specs.Prelude.{ℕ, zero, suc, ◌+◌, ◌*◌, ◌/◌, ◌^◌, ◌<◌, ◌≤◌, ◌≡◌, Bool, ◌==◌, List, [], ◌∷◌, ◌++◌, length, take, drop, replicate, slice_index, if◌then◌else◌}
 use Rattle.std.specs.List.{take_while, zip}
+use Rattle.std.specs.Int.Digits.{number_from_digits}
 use Rattle.co_base.specs.Span.{Span}
 use Rattle.co_locktab.specs.declared.fork.Fork.{Fork}
 
@@ -27,9 +28,20 @@ abbrev pub shared_height : ℕ → ℕ → ℕ → ℕ
 shared_height zero a b = zero
 shared_height (suc n) a b = if one_block n a b then shared_height n a b else suc n
 
+-- the bytes, and zeros behind them
+abbrev pub padded : List ℕ → List ℕ
+padded bytes = bytes ++ drop (length bytes) (replicate 32 0)
+
+-- the eight bytes from a place on as a number, the first the highest
+abbrev pub word : List ℕ → ℕ → ℕ
+word bytes at = number_from_digits 256 (take 8 (drop at bytes))
+
+abbrev pub words : List ℕ → List ℕ
+words bytes = word bytes 0 ∷ word bytes 8 ∷ word bytes 16 ∷ word bytes 24 ∷ []
+
 -- behind these bytes, at the block with this middle
 abbrev pub fork_with : List ℕ → ℕ → Fork
-fork_with prefix middle = record { prefix = prefix ++ drop (length prefix) (replicate 32 0); middle = middle }
+fork_with prefix middle = record { prefix = words (padded prefix); middle = middle }
 
 -- behind these bytes, at the block that has the next byte
 abbrev pub fork_at : List ℕ → ℕ → ℕ → Fork

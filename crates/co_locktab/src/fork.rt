@@ -1,7 +1,7 @@
 //! Where the two bounds of a range part.
 ghost use Rattle.std.specs.Prelude.{◌≡◌, ℕ, ◌+◌, ◌*◌, ◌/◌, ◌^◌, ◌<◌, ◌≤◌, true, length, slice_index};
 ghost use Rattle.co_base.specs.Span.{span_has};
-ghost use Rattle.co_locktab.specs.Forks.{byte_at, common_length, shared_height, middle_of, fork_with, with_middle, fork_of, IsOnPath};
+ghost use Rattle.co_locktab.specs.Forks.{byte_at, common_length, shared_height, middle_of, word, fork_with, with_middle, fork_of, IsOnPath};
 ghost use Rattle.co_locktab.specs.Places.{are_beside};
 
 use co_base::Range;
@@ -12,8 +12,8 @@ use co_base::Range;
 /// The blocks of height `h` are the runs of `2^(h + 1)` bytes from 0 on. A bound that ends counts as byte 0 there.
 #[derive(Clone, Copy, PartialEq, Eq, PartialOrd, Ord, Drop)]
 pub struct Fork {
-    /// The shared bytes, and 0 behind them.
-    prefix: [u8; 32],
+    /// The shared bytes, and 0 behind them: eight in a word, the first the highest.
+    prefix: [u64; 4],
     /// The middle of the block.
     pub middle: u16,
 }
@@ -23,6 +23,23 @@ pub fn byte_at(text: &[u8], place: usize) -> u8
     ensures { result ≡ byte_at text.now place }
 {
     text.get(place).copied().unwrap_or(0)
+}
+
+/// The eight bytes from a place on, the first the highest.
+fn word(bytes: &[u8; 32], at: usize) -> u64
+    requires { at + 8 ≤ 32 }
+    ensures { result ≡ word bytes.now at }
+{
+    u64::from_be_bytes([
+        bytes[at],
+        bytes[at + 1],
+        bytes[at + 2],
+        bytes[at + 3],
+        bytes[at + 4],
+        bytes[at + 5],
+        bytes[at + 6],
+        bytes[at + 7],
+    ])
 }
 
 /// The middle of the block of a height that has a byte.
@@ -68,7 +85,12 @@ impl Fork {
         let mut padded = [0; 32];
         padded[..prefix.len()].copy_from_slice(prefix);
         Fork {
-            prefix: padded,
+            prefix: [
+                word(&padded, 0),
+                word(&padded, 8),
+                word(&padded, 16),
+                word(&padded, 24),
+            ],
             middle,
         }
     }

@@ -1,5 +1,6 @@
 use Rattle.std.proofs.Common.{◌≡◌, ℕ, List, ◌+◌, ◌-◌, ◌≤◌, None, length, take, ap, ◌∙◌, subst, arith, false}
 use Rattle.std.specs.Ordering.{is_gt}
+use Rattle.co_base.specs.Letters.{IsText}
 use Rattle.co_locktab.specs.declared.fork.Fork.{Fork}
 use Rattle.co_locktab.specs.Forks.{byte_at, fork_with, with_middle}
 use Rattle.co_locktab.specs.Places.{fork_cmp, IsFirstFrom}
@@ -23,9 +24,10 @@ loop-shared-preserved c =
     let least = c.loop-shared.least in
     let result = c.least_behind-least.result in
     let first = c.next_from-first.result in
+    let text : IsText 32 key = subst (IsText 32) c.text-text.ensures.value c.text-text.ensures.valid in
     let is : c.at-start.result ≡ start_of key shared = c.at-start.ensures ∙ ap (λ (text : List ℕ). fork_with (take shared text) 0) c.text-text.ensures.value in
     let next : c.byte_at.result ≡ byte_at key shared = c.byte_at.ensures ∙ ap (λ (text : List ℕ). byte_at text shared) c.text-text.ensures.value in
-    let later : is_gt (fork_cmp (start_of key (shared - 1)) c.at-start.result) ≡ false = ap (λ (f : Fork). is_gt (fork_cmp (start_of key (shared - 1)) f)) is ∙ starts_ascend key shared in
+    let later : is_gt (fork_cmp (start_of key (shared - 1)) c.at-start.result) ≡ false = ap (λ (f : Fork). is_gt (fork_cmp (start_of key (shared - 1)) f)) is ∙ starts_ascend key text shared in
     let known : IsFirstFrom set (start_of key shared) first =
     subst (λ (f : Fork). IsFirstFrom set f first) is (c.next_from-first.ensures (start_of key (shared - 1)) later c.loop-shared.invariant.known) in
     let back : shared ≡ shared + 1 - 1 = omega arith in
