@@ -8,15 +8,15 @@
 
 mod index;
 mod key_map;
-mod laying;
 mod lesser;
 mod new_pairs;
+mod overlay;
 mod told;
 mod touched;
 mod undecided;
 
 pub use index::Index;
 pub use key_map::KeyMap;
-pub use laying::value_after;
 pub use lesser::lesser_key;
+pub use overlay::value_after;
 pub use undecided::Undecided;

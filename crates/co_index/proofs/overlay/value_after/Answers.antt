@@ -1,7 +1,7 @@
 use Rattle.std.proofs.Common.{◌+◌, ◌∷◌, drop, ap, sym, ◌∙◌, option_copied}
 use Rattle.std.proofs.lemmas.List.{drop_more, drop_all}
 use Rattle.co_index.proofs.Laying.{value_after, get-with_changes}
-use Rattle.co_index.proofs.laying.value_after.Goals as goal
+use Rattle.co_index.proofs.overlay.value_after.Goals as goal
 
 pub loop-change-preserved : goal.loop-change-preserved
 loop-change-preserved c =
