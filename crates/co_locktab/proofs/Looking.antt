@@ -1,5 +1,5 @@
 -- What the index of ranges finds.
-use Rattle.std.proofs.Common.{◌≡◌, ◌⊎◌, inl, inr, ℕ, Bool, true, false, not, ◌&&◌, ◌≤◌, ◌<◌, ◌+◌, List, Option, None, Some, is_some, length, refl, sym, ap, ◌∙◌, subst, true≢false, arith}
+use Rattle.std.proofs.Common.{◌≡◌, ◌⊎◌, inl, inr, ℕ, Bool, true, false, not, ◌&&◌, ◌≤◌, ◌<◌, ◌+◌, ◌-◌, List, Option, None, Some, is_some, length, refl, sym, ap, ◌∙◌, subst, true≢false, arith}
 use Rattle.std.specs.Prelude.{◌==◌, nat_le, nat_lt, filter}
 use Rattle.std.specs.List.{list_any}
 use Rattle.co_locktab.proofs.Holding.{passed}
@@ -8,6 +8,7 @@ use Rattle.std.specs.BTreeSet.{contains}
 use Rattle.std.specs.FinMap.{FinMap, get, get-entries, entries, entries_sorted}
 use Rattle.std.proofs.lemmas.Bool.{cases_order}
 use Rattle.std.proofs.lemmas.Bool.Decides.{nat_tests}
+use Rattle.co_base.specs.Letters.{IsText}
 use Rattle.co_base.specs.Span.{Span, span_cmp, span_has}
 use Rattle.co_locktab.specs.declared.fork.Fork.{Fork}
 use Rattle.co_locktab.specs.declared.fork_index.ForkIndex.{ForkIndex}
@@ -21,7 +22,7 @@ use Rattle.co_locktab.proofs.Orders.{keys_apart, spans_total, spans_apart, ties-
 use Rattle.co_locktab.proofs.Placing.{forks_total, forks_apart}
 use Rattle.co_locktab.proofs.Least.{left_true, right_true}
 use Rattle.co_locktab.proofs.Behind.{place_at, none_from, none_below, none_beside, none_before, none_after}
-use Rattle.co_locktab.proofs.Starting.{start_of}
+use Rattle.co_locktab.proofs.Starting.{start_of, none_later}
 
 -- ---- what is looked at
 there_held : (m : FinMap span_cmp Holders) (s : Span) (u : ℕ) → is_held m s u ≡ true → is_some (get m s) ≡ true
@@ -173,6 +174,26 @@ more_up_to key places s h = by (nat_lt h.0 places) refl
         let k : h.0 < places + 1 = h.1 in
         let m : h.0 ≡ places = grind (arith, nat_tests) in
         inr (subst (λ n. SeenOfKey key n s) m h.2)
+
+-- where no range stands from one of the starts on, all that are left were seen
+pub weighs_rest : (m : FinMap span_cmp Holders) (forks : ForkIndex) (key : List ℕ) (t : ℕ) (least : Option ℕ) (shared places : ℕ) → IsIndexed m forks → IsText 32 key
+    → IsFirstFrom forks.lower (start_of key (shared - 1)) None → Weighs m key t None least (SeenUpTo key shared) → Weighs m key t None least (SeenUpTo key places)
+weighs_rest m forks key t least shared places x text is w = record {
+  keeps = w.keeps;
+  right = w.right;
+  full = λ s seen has u h n. by s seen has u h n (cases_order seen.0 shared);
+}
+  where
+    bare : (s : Span) (place : ℕ) → shared ≤ place → SeenOfKey key place s → (u : ℕ) → is_held m s u ≡ true → ⊥
+    bare s place l seen u h =
+        let from : IsFirstFrom forks.lower (start_of key place) None = none_later key text forks.lower (shared - 1) place (omega (arith, l)) is in
+        true≢false (sym (stands m forks (start_of key place) (middle_of seen.0 (byte_at key place)) s u x seen.2 h) ∙ none_from forks.lower (start_of key place) (middle_of seen.0 (byte_at key place)) s from)
+
+    by : (s : Span) (seen : SeenUpTo key places s) → span_has s key ≡ true → (u : ℕ) → is_held m s u ≡ true → not (u == t) ≡ true
+        → (seen.0 ≡ shared) ⊎ ((seen.0 < shared) ⊎ (shared < seen.0)) → covers least u ≡ true
+    by s seen has u h n (inl e) = absurd (bare s seen.0 (omega (arith, e)) seen.2 u h)
+    by s seen has u h n (inr (inl l)) = w.full s (seen.0, l, seen.2) has u h n
+    by s seen has u h n (inr (inr l)) = absurd (bare s seen.0 (omega (arith, l)) seen.2 u h)
 
 -- ---- the least of all
 module _ (m : FinMap span_cmp Holders) (forks : ForkIndex) (key : List ℕ) (t : ℕ) (x : IsIndexed m forks) where

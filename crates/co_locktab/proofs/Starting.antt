@@ -1,7 +1,8 @@
 -- The forks before all those behind the first bytes of a key ascend with the number of the bytes: words lie as their
 -- bytes do.
-use Rattle.std.proofs.Common.{◌≡◌, ◌⊎◌, inl, inr, ℕ, zero, suc, ◌<◌, ◌≤◌, ◌-◌, List, [], ◌∷◌, ◌++◌, length, take, drop, refl, sym, ap, ◌∙◌, subst, length-append, length-drop, length-take, arith}
+use Rattle.std.proofs.Common.{◌≡◌, ◌⊎◌, inl, inr, ℕ, zero, suc, ◌<◌, ◌≤◌, ◌-◌, List, [], ◌∷◌, ◌++◌, length, take, drop, None, refl, sym, ap, ◌∙◌, subst, length-append, length-drop, length-take, arith}
 use Rattle.std.specs.Prelude.{replicate, false}
+use Rattle.std.specs.BTreeSet.{BTreeSet}
 use Rattle.std.specs.Cmp.{nat_cmp_is}
 use Rattle.std.specs.Ordering.{nat_cmp, is_gt, ordering_then}
 use Rattle.std.specs.declared.cmp.Ordering.{Ordering}
@@ -13,9 +14,12 @@ use Rattle.std.proofs.lemmas.List.Elements.{All-append, All-drop, All-take, All-
 use Rattle.co_base.specs.Letters.{IsLetter, IsText}
 use Rattle.co_base.proofs.Numbers.{AreBytes, next_word}
 use Rattle.co_base.specs.Order.{key_cmp}
+use Rattle.co_base.specs.Span.{Span}
 use Rattle.co_locktab.specs.declared.fork.Fork.{Fork}
+use Rattle.co_locktab.specs.declared.place.Place.{Place}
 use Rattle.co_locktab.specs.Forks.{padded, word, words, fork_with}
-use Rattle.co_locktab.specs.Places.{fork_cmp}
+use Rattle.co_locktab.specs.Places.{fork_cmp, IsFirstFrom}
+use Rattle.co_locktab.proofs.Behind.{still_none}
 use Rattle.co_locktab.proofs.Orders.{keys_total, keys_apart, ties-itself, tie}
 
 -- the fork before all those behind the first bytes of a key
@@ -99,11 +103,22 @@ module _ (key : List ℕ) (text : IsText 32 key) where
       (padded_bytes (take n key) (small n)) (padded_bytes (take (suc n) key) (small (suc n)))))
       ∙ one_more 32 n key
 
+  pub next_ascends : (n : ℕ) → is_gt (fork_cmp (start_of key n) (start_of key (suc n))) ≡ false
+  next_ascends n = no_later (key_cmp (words (padded (take n key))) (words (padded (take (suc n) key)))) (words_ascend n)
+
   abbrev ascends : ℕ → ℕ → Type 0
   ascends m n = is_gt (fork_cmp (start_of key m) (start_of key n)) ≡ false
 
   pub starts_ascend : (n : ℕ) → is_gt (fork_cmp (start_of key (n - 1)) (start_of key n)) ≡ false
   starts_ascend zero = no_later (key_cmp (words (padded [])) (words (padded []))) (same_bytes (words (padded [])))
-  starts_ascend (suc n) =
-      let m : n ≡ suc n - 1 = omega arith in
-      subst (λ (k : ℕ). ascends k (suc n)) m (no_later (key_cmp (words (padded (take n key))) (words (padded (take (suc n) key)))) (words_ascend n))
+  starts_ascend (suc n) = let m : n ≡ suc n - 1 = omega arith in subst (λ (k : ℕ). ascends k (suc n)) m (next_ascends n)
+
+  -- where no range stands from one of them on, none does from a later one on
+  pub none_later : (set : BTreeSet (Place Span)) (m n : ℕ) → m ≤ n → IsFirstFrom set (start_of key m) None → IsFirstFrom set (start_of key n) None
+  none_later set m zero l is = let e : m ≡ 0 = omega arith in subst (λ (k : ℕ). IsFirstFrom set (start_of key k) None) e is
+  none_later set m (suc n) l is = by (cases_order m (suc n)) (λ k. none_later set m n k is)
+    where
+      by : (m ≡ suc n) ⊎ ((m < suc n) ⊎ (suc n < m)) → (m ≤ n → IsFirstFrom set (start_of key n) None) → IsFirstFrom set (start_of key (suc n)) None
+      by (inl e) rest = subst (λ (k : ℕ). IsFirstFrom set (start_of key k) None) e is
+      by (inr (inl k)) rest = still_none set (start_of key n) (start_of key (suc n)) (next_ascends n) (rest (omega (arith, k)))
+      by (inr (inr k)) rest = absurd (omega (arith, k, l))

@@ -89,14 +89,13 @@ impl ForkIndex {
 
     /// The first fork at which a range stands that is not below a fork, where the first that is not below an earlier
     /// one is known.
-    pub fn next_from(&self, known: Option<Fork>, fork: &Fork) -> Option<Fork>
-        ensures { (earlier : _) → is_gt (fork_cmp earlier fork.now) ≡ false → IsFirstFrom self.now.lower earlier known → IsFirstFrom self.now.lower fork.now result }
+    pub fn next_from(&self, known: Fork, fork: &Fork) -> Option<Fork>
+        ensures { (earlier : _) → is_gt (fork_cmp earlier fork.now) ≡ false → IsFirstFrom self.now.lower earlier (Some known) → IsFirstFrom self.now.lower fork.now result }
     {
-        let first = known?;
-        if first.cmp(fork).is_lt() {
+        if known.cmp(fork).is_lt() {
             return self.first_from(fork);
         }
-        Some(first)
+        Some(known)
     }
 
     /// The last fork at which a range stands that is below a fork.

@@ -45,11 +45,14 @@ impl RangeIndex {
     {
         let text = key.text();
         let mut least = None;
-        let mut first = self.forks.first_from(&Fork::at(&[], 0));
+        let mut next = self.forks.first_from(&Fork::at(&[], 0));
         for shared in 0..text.len() + 1 {
+            let Some(known) = next else {
+                return least;
+            };
             let start = Fork::at(&text[..shared], 0);
-            first = self.forks.next_from(first, &start);
-            least = self.least_behind(first, &start, byte_at(text, shared), key, t, least);
+            next = self.forks.next_from(known, &start);
+            least = self.least_behind(next, &start, byte_at(text, shared), key, t, least);
         }
         least
     }

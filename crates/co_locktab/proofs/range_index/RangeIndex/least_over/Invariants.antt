@@ -8,5 +8,5 @@ use Rattle.co_locktab.proofs.range_index.RangeIndex.least_over.Given as goal
 abbrev pub invariant-loop-shared : goal.invariant-loop-shared
 invariant-loop-shared l = record {
   weighed : IsIndexed l.self.held l.self.forks → Weighs l.self.held l.key l.t None l.least (SeenUpTo l.key l.shared);
-  known : IsFirstFrom l.self.forks.lower (start_of l.key (l.shared - 1)) l.first;
+  known : IsFirstFrom l.self.forks.lower (start_of l.key (l.shared - 1)) l.next;
 }
