@@ -351,13 +351,29 @@ impl Engine {
     }
 }
 
-/// The numbers that `co_engine_rows` picks.
-struct Picks(u64);
+/// The numbers that `co_engine_rows` picks: PCG32, as its reference code has it.
+struct Picks {
+    state: u64,
+    increment: u64,
+}
 
 impl Picks {
+    fn new(seed: u64) -> Picks {
+        let increment = 54 << 1 | 1;
+        let mut picks = Picks { state: seed.wrapping_add(increment), increment };
+        picks.step();
+        picks
+    }
+
+    fn step(&mut self) {
+        self.state = self.state.wrapping_mul(6364136223846793005).wrapping_add(self.increment);
+    }
+
     fn below(&mut self, bound: u32) -> u32 {
-        self.0 = self.0.wrapping_mul(6364136223846793005).wrapping_add(1442695040888963407);
-        ((self.0 >> 33) % u64::from(bound.max(1))) as u32
+        let word = ((self.state >> 18 ^ self.state) >> 27) as u32;
+        let word = word.rotate_right((self.state >> 59) as u32);
+        self.step();
+        word % bound.max(1)
     }
 }
 
@@ -380,7 +396,7 @@ fn operation(picks: &mut Picks, keys: u32, span: u32, t: Txn) -> Command {
 
 /// The commands of a load: operations of a group in turn, or reads of the first key with a write and an install of another transaction behind each.
 fn commands(shape: &str, [operations, transactions, keys, span, together]: [u32; 5]) -> Vec<Command> {
-    let (mut picks, mut made) = (Picks(1), Vec::new());
+    let (mut picks, mut made) = (Picks::new(1), Vec::new());
     for group in 0..transactions.div_ceil(together) {
         let (first, end) = (group * together, min((group + 1) * together, transactions));
         if shape == "staggered" {

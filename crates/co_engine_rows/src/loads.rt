@@ -239,7 +239,7 @@ fn add_group(
 
 /// The steps of a load.
 pub fn steps(alloc: Global, load: &Load) -> Result<Sequence<Step>, BaseFault> {
-    let mut picks = Picks { state: 1 };
+    let mut picks = Picks::new(1);
     let mut steps = Sequence::new(alloc);
     for group in 0..load.transactions.div_ceil(load.together.max(1)) {
         let first = group.saturating_mul(load.together);

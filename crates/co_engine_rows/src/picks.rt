@@ -1,19 +1,26 @@
 //! Numbers that look random.
+use rand_core::utils::NextWord;
+use rand_pcg::Lcg64Xsh32;
 
-/// Numbers that look random, by a linear congruential rule (Knuth, The Art of Computer Programming, volume 2,
-/// 1997, the constants of MMIX).
+/// Numbers that look random, by a permuted congruential generator (O'Neill, *PCG: a family of simple fast
+/// space-efficient statistically good algorithms for random number generation*, 2014).
 #[derive(Drop)]
 pub struct Picks {
-    /// Where the rule stands.
-    pub state: u64,
+    generator: Lcg64Xsh32,
 }
 
 impl Picks {
+    /// Numbers from a seed on.
+    pub fn new(seed: u64) -> Picks {
+        Picks {
+            generator: Lcg64Xsh32::new(seed, 54),
+        }
+    }
+
     /// A number below a bound; 0 where the bound is 0.
     pub fn below(&mut self, bound: u64) -> u64 {
-        let state = self.state.wrapping_mul(6364136223846793005);
-        self.state = state.wrapping_add(1442695040888963407);
-        (self.state >> 33) % bound.max(1)
+        let word: u32 = self.generator.next_word();
+        u64::from(word) % bound.max(1)
     }
 
     /// One of some bytes.
