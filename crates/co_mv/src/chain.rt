@@ -1,5 +1,5 @@
 //! The versions of one key.
-ghost use Rattle.std.specs.Prelude.{◌≡◌, ◌==◌, ◌<◌, [], ◌∷◌, Some, map, reverse, filter, length, slice_get, OnOk, option_copied};
+ghost use Rattle.std.specs.Prelude.{◌≡◌, ◌==◌, ◌<◌, [], ◌∷◌, Some, map, reverse, filter, length, slice_get, IfOk, OnOk, option_copied};
 ghost use Rattle.std.specs.List.{list_any};
 ghost use Rattle.co_mv.specs.Versions.{seen_value, closed, is_kept, base_versions, written_since};
 ghost use Rattle.co_mv.specs.Kept.{needed};
@@ -33,6 +33,19 @@ impl Chain {
         Chain {
             versions: Vec::new(alloc),
         }
+    }
+
+    /// One version, which was there before all installs. It takes the memory of one, since most keys have no other.
+    pub fn of_value(alloc: Global, value: Value) -> Result<Chain, AllocError>
+        ensures { IfOk result (λ chain. chain ≡ base_versions (Some value)) }
+    {
+        let mut versions = Vec::with_capacity(alloc, 1)?;
+        versions.push(Version {
+            written: 0,
+            overwritten: None,
+            value: Some(value),
+        })?;
+        Ok(Chain { versions })
     }
 
     /// How many versions there are.
@@ -80,19 +93,6 @@ impl Chain {
             }
         }
         false
-    }
-
-    /// Adds a version that was there before all installs.
-    pub fn begin(&mut self, value: Value) -> Result<(), AllocError>
-        requires { self.now ≡ [] }
-        ensures { OnOk result (self.new ≡ base_versions (Some value)) }
-    {
-        self.versions.push(Version {
-            written: 0,
-            overwritten: None,
-            value: Some(value),
-        })?;
-        Ok(())
     }
 
     /// The newest version is overwritten by an install.

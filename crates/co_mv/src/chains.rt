@@ -121,8 +121,7 @@ impl Chains {
     fn begin(&mut self, alloc: Global, key: Key, value: Value) -> Result<(), AllocError>
         ensures { OnOk result (self.new ≡ finite.insert self.old key (base_versions (Some value))) }
     {
-        let mut chain = Chain::new(alloc);
-        chain.begin(value)?;
+        let chain = Chain::of_value(alloc, value)?;
         self.lay(key, chain)
     }
 
