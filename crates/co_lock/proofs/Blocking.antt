@@ -2,9 +2,7 @@
 use Rattle.std.proofs.Common.{◌≡◌, ◌⊎◌, inl, inr, T, ℕ, Bool, true, false, cond, not, ◌&&◌, ◌||◌, ◌≤◌, List, [], ◌∷◌, if◌then◌else◌, Option, None, Some, is_some, refl, sym, ap, ◌∙◌, subst, true≢false, arith}
 use Rattle.std.specs.Prelude.{◌==◌}
 use Rattle.std.specs.Option.{option_map}
-use Rattle.std.specs.Ordering.{nat_cmp, is_eq, is_lt}
-use Rattle.std.specs.declared.cmp.Ordering.{Ordering}
-use Rattle.std.specs.declared.cmp.Ordering.TheVariants.{Less, Equal, Greater}
+use Rattle.std.specs.Ordering.{nat_cmp}
 use Rattle.std.specs.FinMap.{entries, entries_sorted, get-entries}
 use Rattle.std.specs.FinMap.Entries.{find, below_all, is_sorted}
 use Rattle.co_base.specs.declared.op.Op.{Op}
@@ -17,7 +15,7 @@ use Rattle.co_state.specs.Changes.{sets_of, spans_of}
 use Rattle.co_state.specs.EngineState.{operations_in, sets_in}
 use Rattle.co_state.specs.Keys.{reads_key, writes_key, writes_within}
 use Rattle.co_state.specs.LockRule.{writes_block, active_blocks, lock_holder}
-use Rattle.co_state.specs.Table.{Table, look, first_in, least_where, lesser}
+use Rattle.co_state.specs.Table.{Table, look, first_in, least_where}
 use Rattle.co_locktab.specs.Locks.{IsLeast}
 use Rattle.co_locktab.proofs.Least.{first, second, least_same, least_lesser, found_above}
 use Rattle.co_locktab.proofs.Orders.{same_number, one_number, number_itself}

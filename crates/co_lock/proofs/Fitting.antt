@@ -1,28 +1,25 @@
 -- What is in place fits the state that a call leaves.
-use Rattle.std.proofs.Common.{◌≡◌, ◌≢◌, ◌+◌, T, ℕ, suc, Bool, true, false, cond, not, ◌&&◌, ◌||◌, List, [], ◌∷◌, ◌++◌, map, filter, length, if◌then◌else◌, Option, None, Some, is_some, refl, sym, ap, ◌∙◌, subst, true≢false, arith}
-use Rattle.std.specs.Prelude.{◌==◌, nat_le, nat_lt, ◌≤◌}
+use Rattle.std.proofs.Common.{◌≡◌, ◌≢◌, ◌+◌, ℕ, suc, Bool, true, false, cond, not, ◌&&◌, ◌||◌, List, [], ◌∷◌, ◌++◌, map, filter, length, if◌then◌else◌, Option, None, Some, refl, sym, ap, ◌∙◌, subst, true≢false, arith}
+use Rattle.std.specs.Prelude.{◌==◌, nat_le}
 use Rattle.std.proofs.lemmas.Bool.Decides.{nat_tests}
 use Rattle.std.specs.FinMap.{empty, get}
-use Rattle.co_base.specs.declared.head.Kind.{Kind}
 use Rattle.co_base.specs.declared.head.Kind.TheVariants.{Lock}
 use Rattle.co_base.specs.declared.op.Op.{Op}
 use Rattle.co_base.specs.declared.written.Written.{Written}
 use Rattle.co_base.specs.Span.{Span, span_has}
-use Rattle.co_serial.specs.Records.{Records, with_change, with_changes}
+use Rattle.co_serial.specs.Records.{Records, with_changes}
 use Rattle.co_state.specs.declared.engine_state.EngineState.{EngineState}
 use Rattle.co_state.specs.declared.engine_state.Install.{Install}
 use Rattle.co_state.specs.declared.engine_state.Operation.{Operation}
-use Rattle.co_state.specs.declared.engine_state.Sets.{Sets}
-use Rattle.co_state.specs.declared.engine_state.Vote.{Vote}
-use Rattle.co_state.specs.Changes.{sets_of, spans_of, changes_of, span_read, change_made, with_span, with_written, put_span, put_change, no_sets}
-use Rattle.co_state.specs.Effects.{with_operation, after_cast, install_vote, after_drop}
+use Rattle.co_state.specs.Changes.{sets_of, spans_of, changes_of, span_read, change_made, with_span, with_written, put_change, no_sets}
+use Rattle.co_state.specs.Effects.{with_operation}
 use Rattle.co_state.specs.EngineState.{operations_in, operations_of, sets_in, sets_at, records_at, records_now, installed_records}
 use Rattle.co_state.specs.Keys.{same_key, reads_key, writes_key}
 use Rattle.co_state.specs.ReadRule.{stamp_after, snapshot_of, visible_records}
 use Rattle.co_state.specs.Search.{range_has}
 use Rattle.co_state.specs.StaleRead.{keys_since, overwritten, stale_keys}
-use Rattle.co_state.specs.Table.{Table, look, put, without}
-use Rattle.co_state.proofs.Tables.{look-put, look-without}
+use Rattle.co_state.specs.Table.{look}
+use Rattle.co_state.proofs.Tables.{look-put}
 use Rattle.co_locktab.proofs.Orders.{same_number}
 use Rattle.co_law_engine.proofs.Keys.{get-change, same_key_sym, same_key_is, same_key_refl, unchanged, overlaid}
 use Rattle.co_law_engine.proofs.SetsMade.{Ascends, ascends-put, writes-put, reads-put, get-put}
@@ -30,7 +27,7 @@ use Rattle.co_lock.specs.LockedState.{LockedState, seen_by, ended}
 use Rattle.co_lock.specs.LockedState as state
 use Rattle.co_engine.proofs.Answering.{records_at-all}
 use Rattle.co_lock.specs.Standing.{Fits}
-use Rattle.co_lock.proofs.Locking.{same_as, one_of, other_than, itself, neither_left, neither_right, left_true, right_true, or_true, and_false}
+use Rattle.co_lock.proofs.Locking.{same_as, one_of, other_than, itself, neither_left, neither_right, right_true, or_true, and_false}
 
 -- ---- histories
 append_left : {A : Type 0} (xs ys : List A) → xs ++ ys ≡ [] → xs ≡ []

@@ -2,28 +2,23 @@
 use Rattle.std.proofs.Common.{◌≡◌, ◌≢◌, ◌⊎◌, inl, inr, T, ℕ, Bool, true, false, cond, not, ◌&&◌, ◌||◌, List, [], ◌∷◌, ◌++◌, if◌then◌else◌, Option, None, Some, is_some, refl, sym, ap, ◌∙◌, subst, true≢false, eqb→eq, eq-eqb}
 use Rattle.std.specs.Prelude.{◌==◌}
 use Rattle.std.specs.List.{list_any}
-use Rattle.std.specs.Ordering.{nat_cmp, eq_by_cmp, is_eq, is_lt}
-use Rattle.std.specs.declared.cmp.Ordering.{Ordering}
-use Rattle.std.specs.declared.cmp.Ordering.TheVariants.{Less, Equal, Greater}
+use Rattle.std.specs.Ordering.{nat_cmp, is_eq}
 use Rattle.std.specs.Cmp.{both_ways}
-use Rattle.std.specs.FinMap.{empty, get, entries, entries_sorted, get-empty, get-entries, get-insert, contains_key, insert, same_map}
+use Rattle.std.specs.FinMap.{get, entries, entries_sorted, get-empty, get-entries, contains_key, same_map}
 use Rattle.std.specs.FinMap.Entries.{find, below_all, is_sorted}
 use Rattle.co_base.specs.Order.{key_cmp}
 use Rattle.co_base.specs.Span.{Span, span_has}
 use Rattle.co_base.specs.declared.written.Written.{Written}
 use Rattle.co_serial.specs.Records.{Records, with_change}
 use Rattle.co_state.specs.Keys.{same_key, reads_key, writes_key, writes_within}
-use Rattle.co_state.specs.Table.{Table, no_entries, look, put, without}
-use Rattle.co_state.proofs.Tables.{look-put, look-without}
+use Rattle.co_state.specs.Table.{Table, look, put, without}
 use Rattle.co_store.specs.declared.slots.Slot.{Slot}
-use Rattle.co_store.specs.Images.{Images, slot_of, or_nothing, with_image}
-use Rattle.co_store.specs.StoreState.{StoreState, images_of, laid_back, all_laid_back, clean_records, with_put, with_undone, with_kept, IsFree}
+use Rattle.co_store.specs.Images.{Images, slot_of, or_nothing}
+use Rattle.co_store.specs.StoreState.{StoreState, images_of, laid_back, all_laid_back, clean_records}
 use Rattle.co_locktab.specs.Locks.{Locks, or_none, read_by, written_by, with_read, with_write, same_span}
-use Rattle.co_locktab.proofs.Locking.{any_more, any_gone, any_none}
-use Rattle.co_locktab.proofs.Orders.{keys_total, keys_apart, spans_total, spans_apart, tied, ties-itself, same_number, one_number, number_itself}
+use Rattle.co_locktab.proofs.Locking.{any_more, any_gone}
+use Rattle.co_locktab.proofs.Orders.{keys_total, keys_apart, spans_total, spans_apart, tied, same_number, one_number, number_itself}
 use Rattle.co_law_engine.proofs.Keys.{get-change, same_key_sym, same_key_is, same_key_refl}
-use Rattle.co_lock.specs.LockedState.{LockedState, seen_by, IsClear}
-use Rattle.co_lock.specs.LockedState as state
 pub use Rattle.co_state.proofs.Ties.{left_true, right_true, and_false, or_true}
 use Rattle.co_state.proofs.Ties.{first, second, less, nothing_below}
 

@@ -7,7 +7,6 @@ use Rattle.co_base.specs.declared.written.Written.{Written}
 use Rattle.co_base.specs.Span.{Span}
 use Rattle.co_state.specs.declared.engine_state.EngineState.{EngineState}
 use Rattle.co_state.specs.declared.engine_state.Sets.{Sets}
-use Rattle.co_state.specs.declared.pair.Pair.{Pair}
 use Rattle.co_state.specs.declared.pair.PairKind.{PairKind}
 use Rattle.co_state.specs.declared.pair.PairKind.TheVariants.{Reads, Writes}
 use Rattle.co_state.specs.Changes.{put_change}

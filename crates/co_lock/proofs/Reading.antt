@@ -1,18 +1,17 @@
 -- The index of the readers tells what the undecided transactions read, after each call.
-use Rattle.std.proofs.Common.{◌≡◌, ℕ, Bool, true, false, not, ◌&&◌, List, [], ◌∷◌, if◌then◌else◌, Option, None, Some, refl, sym, ap, ◌∙◌, true≢false}
-use Rattle.std.specs.Option.{option_map}
+use Rattle.std.proofs.Common.{◌≡◌, ℕ, true, not, ◌&&◌, List, Option, None, Some, refl, sym, true≢false}
 use Rattle.std.specs.FinMap.{entries}
 use Rattle.co_base.specs.Span.{Span}
 use Rattle.co_base.specs.declared.written.Written.{Written}
 use Rattle.co_state.specs.declared.engine_state.Sets.{Sets}
 use Rattle.co_state.specs.Changes.{put_span}
 use Rattle.co_state.specs.Keys.{reads_key, reads_meet}
-use Rattle.co_state.specs.Table.{Table, look, put, without}
+use Rattle.co_state.specs.Table.{Table, look, put}
 use Rattle.co_state.proofs.Tables.{put-without}
 use Rattle.co_index.specs.declared.index.Index.{Index}
-use Rattle.co_index.specs.Touching.{Covers, with_read, with_sets, may_read, gone_from}
+use Rattle.co_index.specs.Touching.{Covers, with_read, with_sets, may_read}
 use Rattle.co_index.proofs.Finding.{found_alike}
-use Rattle.co_index.proofs.Indexing.{tells_laid, tells_along, tells_gone}
+use Rattle.co_index.proofs.Indexing.{tells_laid, tells_along}
 use Rattle.co_index.proofs.Touching.{covers_nothing, covers_read, covers_own_read, covers_sets, sets_there, readers_found}
 use Rattle.co_engine.specs.declared.undecided.Undecided.{Undecided}
 use Rattle.co_engine.specs.Undecided.{own, or_new, vote_in, with_vote, active_with, voted_with}

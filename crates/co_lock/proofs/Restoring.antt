@@ -1,33 +1,31 @@
 -- Prepared transactions are laid in as voted ones.
-use Rattle.std.proofs.Common.{◌≡◌, ◌≢◌, T, ℕ, zero, suc, ◌+◌, ◌<◌, Bool, true, false, cond, not, ◌&&◌, ◌||◌, List, [], ◌∷◌, ◌++◌, length, map, take, drop, get_or, if◌then◌else◌, Option, None, Some, is_some, IsTrue, refl, sym, ap, ◌∙◌, subst, true≢false, eq-eqb, arith}
+use Rattle.std.proofs.Common.{◌≡◌, ℕ, zero, suc, ◌+◌, ◌<◌, Bool, true, false, cond, not, ◌&&◌, ◌||◌, List, [], ◌∷◌, ◌++◌, length, take, drop, get_or, if◌then◌else◌, Option, None, Some, refl, sym, ap, ◌∙◌, true≢false, arith}
 use Rattle.std.specs.Prelude.{◌==◌}
 use Rattle.std.proofs.lemmas.List.{take_more, drop_more}
-use Rattle.std.specs.FinMap.{empty, entries, get, get-empty, get-entries, get-insert, same_map}
-use Rattle.std.specs.FinMap.Entries.{find}
-use Rattle.co_base.specs.Order.{key_cmp}
+use Rattle.std.specs.FinMap.{empty, get, get-empty}
 use Rattle.std.specs.Ordering.{nat_cmp}
 use Rattle.co_base.specs.declared.head.Kind.TheVariants.{Lock}
 use Rattle.co_base.specs.declared.written.Written.{Written}
-use Rattle.co_serial.specs.Records.{Records, with_change, with_changes, row_of, all_rows}
+use Rattle.co_serial.specs.Records.{Records, with_change, with_changes}
 use Rattle.co_pairs.specs.declared.prepared.Prepared.{Prepared}
-use Rattle.co_pairs.specs.Free.{clash, clashes_with, are_free}
+use Rattle.co_pairs.specs.Free.{clashes_with, are_free}
 use Rattle.co_state.specs.declared.engine_state.EngineState.{EngineState}
 use Rattle.co_state.specs.declared.engine_state.Operation.{Operation}
 use Rattle.co_state.specs.declared.engine_state.Vote.{Vote}
-use Rattle.co_state.specs.Changes.{no_sets, spans_of}
-use Rattle.co_state.specs.Effects.{restored, records_from}
-use Rattle.co_state.specs.EngineState.{operations_in, operations_of, sets_in, sets_at}
+use Rattle.co_state.specs.Changes.{spans_of}
+use Rattle.co_state.specs.Effects.{restored}
+use Rattle.co_state.specs.EngineState.{operations_in, sets_in, sets_at}
 use Rattle.co_state.specs.Keys.{same_key, reads_key, writes_key, writes_meet}
 use Rattle.co_state.specs.StaleRead.{stale_keys}
-use Rattle.co_state.specs.Table.{Table, no_entries, look, put}
+use Rattle.co_state.specs.Table.{no_entries, look}
 use Rattle.co_state.proofs.Tables.{look-put}
 use Rattle.co_engine.specs.Calls.{votes_of, vote_in}
-use Rattle.co_locktab.proofs.Orders.{same_number, keys_total, keys_apart}
+use Rattle.co_locktab.proofs.Orders.{same_number}
 use Rattle.co_law_engine.proofs.Keys.{get-change, same_key_sym, same_key_refl, unchanged}
 use Rattle.co_law_engine.proofs.SetsMade.{unwritten, meet_turned}
 use Rattle.co_lock.specs.LockedState.{LockedState, with_write, with_writes, of_records, IsClear}
 use Rattle.co_lock.specs.Standing.{Fits}
-use Rattle.co_lock.proofs.Locking.{same_as, one_of, other_than, not_same, itself, neither_left, neither_right, or_true, or_false, and_false}
+use Rattle.co_lock.proofs.Locking.{same_as, one_of, not_same, itself, neither_left, neither_right, or_true, or_false, and_false}
 
 -- ---- changes one after another
 with_writes-push : (g : LockedState) (t : ℕ) (ws : List Written) (w : Written) → with_writes g t (ws ++ w ∷ []) ≡ with_write (with_writes g t ws) t w.key w.value

@@ -1,34 +1,29 @@
 -- For which states a locking engine stands after each call.
-use Rattle.std.proofs.Common.{◌≡◌, ◌≢◌, ◌⊎◌, inl, inr, T, ℕ, Bool, true, false, cond, not, ◌&&◌, ◌||◌, List, [], ◌∷◌, ◌++◌, map, if◌then◌else◌, is_some, Option, None, Some, IsTrue, refl, sym, ap, ◌∙◌, subst, true≢false}
+use Rattle.std.proofs.Common.{◌≡◌, ◌≢◌, ◌⊎◌, inl, inr, ℕ, Bool, true, false, cond, not, ◌&&◌, ◌||◌, List, [], map, if◌then◌else◌, is_some, Option, None, Some, IsTrue, refl, sym, ap, ◌∙◌, subst, true≢false}
 use Rattle.std.specs.Prelude.{◌==◌}
 use Rattle.std.specs.FinMap.{empty, entries, get}
-use Rattle.co_base.specs.declared.head.Kind.{Kind}
-use Rattle.co_base.specs.declared.head.Kind.TheVariants.{Lock}
 use Rattle.co_base.specs.declared.op.Op.{Op}
 use Rattle.co_base.specs.declared.op.Op.TheVariants.{Read, Write, Erase, Scan}
 use Rattle.co_base.specs.declared.written.Written.{Written}
-use Rattle.co_base.specs.Span.{Span, span_has, span_of_key}
-use Rattle.co_serial.specs.Records.{Records, with_changes}
+use Rattle.co_base.specs.Span.{Span, span_has}
+use Rattle.co_serial.specs.Records.{with_changes}
 use Rattle.co_state.specs.declared.engine_state.EngineState.{EngineState}
 use Rattle.co_state.specs.declared.engine_state.Operation.{Operation}
 use Rattle.co_state.specs.declared.engine_state.Sets.{Sets}
 use Rattle.co_state.specs.declared.engine_state.Vote.{Vote}
-use Rattle.co_state.specs.declared.pair.Pair.{Pair}
-use Rattle.co_state.specs.Changes.{sets_of, spans_of, changes_of, span_read, change_made, with_span, with_written, put_change, no_sets}
+use Rattle.co_state.specs.Changes.{sets_of, spans_of, span_read, change_made, put_change, no_sets}
 use Rattle.co_state.specs.Conflicts.{AreNewPairs}
-use Rattle.co_state.specs.Effects.{with_operation, after_cast, after_install, after_drop, install_vote, undecided_changes}
+use Rattle.co_state.specs.Effects.{with_operation, after_cast, after_drop, install_vote, undecided_changes}
 use Rattle.co_state.specs.EngineState.{operations_in, operations_of, sets_in, sets_at, installed_records}
 use Rattle.co_state.specs.Keys.{reads_key, writes_key, writes_within, least_key}
 use Rattle.co_state.specs.LockRule.{lock_blocker, lock_holder, blocker_by}
-use Rattle.co_state.specs.StaleRead.{stale_keys, stale_key}
-use Rattle.co_state.specs.Table.{Table, look, put, without, holds}
+use Rattle.co_state.specs.StaleRead.{stale_key}
+use Rattle.co_state.specs.Table.{Table, look, without, holds}
 use Rattle.co_state.proofs.Tables.{look-put, look-without}
 use Rattle.co_engine.specs.Calls.{may_operate}
 use Rattle.co_locktab.specs.Locks.{IsLeast}
-use Rattle.co_locktab.proofs.Least.{least_same}
 use Rattle.co_locktab.proofs.Orders.{same_number}
 use Rattle.co_law_engine.proofs.Keys.{unchanged, overlaid}
-use Rattle.co_law_engine.proofs.SeenAlike.{span_own}
 use Rattle.co_engine.specs.declared.undecided.Undecided.{Undecided}
 use Rattle.co_lock.specs.declared.engine.LockEngine.{LockEngine}
 use Rattle.co_lock.specs.declared.locked_store.LockedStore.{LockedStore}
@@ -45,7 +40,7 @@ use Rattle.co_lock.specs.Standing.{StandsFor, Fits}
 use Rattle.co_lock.specs.Undecided.{newly_reads}
 use Rattle.co_lock.proofs.Blocking.{blocks, holder_least, least_unique, kept_one}
 use Rattle.co_lock.proofs.Fitting.{fits_read, fits_write, fits_end, fits_cast, fresh_install, same_writes, same_reads, becomes, other_sets}
-use Rattle.co_lock.proofs.Locking.{holds_key, neither_left, neither_right, one_of, other_than, same_as, and_false}
+use Rattle.co_lock.proofs.Locking.{holds_key, neither_left, neither_right, one_of, same_as}
 use Rattle.co_lock.proofs.Pairing.{nothing_made, readers_made}
 
 pub one_each : (p : LockEngine) (b : EngineState) → StandsFor p b → (u : ℕ) → (look b.active u ≡ None) ⊎ (look b.voted u ≡ None)

@@ -1,20 +1,20 @@
 -- The kept data after each call, point by point.
-use Rattle.std.proofs.Common.{◌≡◌, ◌≢◌, T, ℕ, Bool, true, false, cond, not, ◌&&◌, ◌||◌, List, if◌then◌else◌, Option, None, Some, is_some, refl, sym, ap, ◌∙◌, subst, true≢false}
+use Rattle.std.proofs.Common.{◌≡◌, ◌≢◌, ℕ, Bool, true, false, cond, not, ◌&&◌, ◌||◌, List, if◌then◌else◌, Option, None, Some, is_some, refl, sym, ap, ◌∙◌, true≢false}
 use Rattle.std.specs.Prelude.{◌==◌}
-use Rattle.std.specs.FinMap.{empty, get, entries, get-empty, get-insert, contains_key, insert}
+use Rattle.std.specs.FinMap.{get, entries, get-empty, get-insert, contains_key, insert}
 use Rattle.co_base.specs.Order.{key_cmp}
 use Rattle.co_serial.specs.Records.{Records, with_change}
 use Rattle.co_state.specs.Keys.{same_key}
-use Rattle.co_state.specs.Table.{Table, look, put, without}
+use Rattle.co_state.specs.Table.{look, without}
 use Rattle.co_state.proofs.Tables.{look-put, look-without}
 use Rattle.co_store.specs.declared.slots.Slot.{Slot}
-use Rattle.co_store.specs.Images.{Images, slot_of, or_nothing, with_image}
+use Rattle.co_store.specs.Images.{slot_of, or_nothing, with_image}
 use Rattle.co_store.specs.StoreState.{StoreState, images_of, laid_back, with_put, with_undone, with_kept, IsFree}
-use Rattle.co_locktab.proofs.Orders.{keys_total, same_number}
+use Rattle.co_locktab.proofs.Orders.{keys_total}
 use Rattle.co_law_engine.proofs.Keys.{get-change, same_key_sym, same_key_is}
 use Rattle.co_lock.specs.LockedState.{LockedState, seen_by, IsClear, ended}
 use Rattle.co_lock.specs.LockedState as state
-use Rattle.co_lock.proofs.Locking.{same_as, one_of, other_than, not_same, itself, slot_value, get-undone, neither_left, neither_right, if_same, right_true, left_true}
+use Rattle.co_lock.proofs.Locking.{same_as, one_of, other_than, itself, slot_value, get-undone, neither_left, neither_right, right_true}
 
 -- what the kept data say of a state, without the locks
 pub record ArePlaced (s : StoreState) (g : LockedState) : Type 0 where

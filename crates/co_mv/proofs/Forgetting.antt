@@ -1,10 +1,9 @@
 -- What is kept of the keys of recent installs.
 use Rattle.std.proofs.Common.{◌≡◌, ◌⊎◌, inl, inr, T, ℕ, ◌+◌, ◌<◌, ◌≤◌, Bool, true, false, cond, List, [], ◌∷◌, map, length, None, Some, refl, sym, ap, ◌∙◌, subst, true≢false, arith, eqb→eq, eq-eqb}
-use Rattle.std.specs.Prelude.{nat_lt, nat_le, ◌==◌}
+use Rattle.std.specs.Prelude.{nat_le, ◌==◌}
 use Rattle.std.proofs.lemmas.Bool.Decides.{nat_tests}
-use Rattle.std.specs.FinMap.{entries, entries_sorted, get-entries}
+use Rattle.std.specs.FinMap.{entries, get-entries}
 use Rattle.std.specs.FinMap.Entries.{find}
-use Rattle.std.specs.List.{list_any}
 use Rattle.std.specs.Ordering.{nat_cmp, eq_by_cmp}
 use Rattle.co_base.specs.declared.written.Written.{Written}
 use Rattle.co_serial.specs.Records.{Records}
@@ -19,8 +18,8 @@ use Rattle.co_mv.specs.Versions.{is_kept}
 use Rattle.co_mv.specs.Recents.{Recents, keys_at, keys_in}
 use Rattle.co_mv.proofs.Archiving.{Ends, Noted, StayKept, stay_kept_above, stay_kept_below, keeps_left, left_look, left_at}
 use Rattle.co_mv.proofs.Chaining.{last_or}
-use Rattle.co_mv.proofs.Needing.{tied, ties-itself, some_same, find-first, found-any, any-found}
-use Rattle.co_mv.proofs.Versioning.{true_le, true_lt, same_itself}
+use Rattle.co_mv.proofs.Needing.{tied, ties-itself, some_same, find-first}
+use Rattle.co_mv.proofs.Versioning.{true_le, same_itself}
 
 -- ---- the keys of recent installs
 apart : (n k : ℕ) (b : Bool) → (n < k) ⊎ (k < n) → eq_by_cmp nat_cmp n k ≡ b → b ≡ false

@@ -1,13 +1,11 @@
 -- The needed numbers, and which versions are kept for them.
-use Rattle.std.proofs.Common.{◌≡◌, inl, inr, T, ℕ, suc, ◌<◌, ◌≤◌, Bool, true, false, cond, not, ◌&&◌, ◌||◌, List, [], ◌∷◌, map, filter, length, is_some, Option, None, Some, refl, sym, ap, ◌∙◌, subst, true≢false, arith}
+use Rattle.std.proofs.Common.{◌≡◌, inl, inr, T, ℕ, suc, ◌<◌, ◌≤◌, Bool, true, false, cond, not, ◌&&◌, ◌||◌, List, [], ◌∷◌, map, filter, length, is_some, Option, None, Some, refl, sym, ap, ◌∙◌, true≢false, arith}
 use Rattle.std.specs.Prelude.{nat_lt, nat_le}
 use Rattle.std.specs.List.{list_any, list_all}
-use Rattle.std.specs.FinMap.{entries, entries_sorted, get-entries, nat_cmp-IsAntisymmetric}
+use Rattle.std.specs.FinMap.{entries, entries_sorted, get-entries}
 use Rattle.std.specs.FinMap.Entries.{find, below_all, is_sorted}
-use Rattle.std.specs.Ordering.{nat_cmp, eq_by_cmp, is_eq, is_lt}
-use Rattle.std.specs.Cmp.{nat_cmp_total, eq_by_cmp_equiv, both_ways}
-use Rattle.std.specs.declared.cmp.Ordering.{Ordering}
-use Rattle.std.specs.declared.cmp.Ordering.TheVariants.{Less, Equal, Greater}
+use Rattle.std.specs.Ordering.{nat_cmp, eq_by_cmp}
+use Rattle.std.specs.Cmp.{both_ways}
 use Rattle.co_state.specs.declared.engine_state.Install.{Install}
 use Rattle.co_mv.specs.declared.snapshots.Snapshots.{Snapshots}
 use Rattle.co_mv.specs.declared.version.Version.{Version}
@@ -15,7 +13,7 @@ use Rattle.co_mv.specs.Kept.{needed, grown, IsNeeded}
 use Rattle.co_mv.specs.Versions.{closed_by, closed, is_before, sees, is_gone, is_kept}
 use Rattle.co_mv.proofs.Versioning.{le_true, true_le, true_lt, and_first, and_second, and-false, IsLink, Linked, written_bound}
 pub use Rattle.co_state.proofs.Ties.{first, second, tied, ties-itself}
-use Rattle.co_state.proofs.Ties.{less, tie, nothing_below}
+use Rattle.co_state.proofs.Ties.{nothing_below}
 
 -- ---- one of the needed numbers passes a test
 pub some_same : (x y : ℕ) → Some x ≡ Some y → x ≡ y

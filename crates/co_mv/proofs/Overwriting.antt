@@ -25,7 +25,7 @@ use Rattle.co_mv.proofs.Chaining.{same_keys}
 use Rattle.co_index.proofs.Putting.{reads_key-put}
 use Rattle.co_pairs.proofs.Picking.{first, second}
 use Rattle.co_index.proofs.Listed.{has-append, has-filter, either, key-below, find-within, sorted-within}
-use Rattle.co_mv.proofs.Versioning.{true_le, lt_true, true_lt, lt_false, and_first, and_second, and-false, key_symm, writes-change, IsLink, Linked, linked, written_bound}
+use Rattle.co_mv.proofs.Versioning.{true_le, lt_true, true_lt, lt_false, and_first, and_second, key_symm, writes-change, IsLink, Linked, linked, written_bound}
 
 has-overwritten : (o : Option Span) (xs : List (List ℕ)) (k : List ℕ) → has_key (overwritten o xs) k ≡ (range_has o k && has_key xs k)
 has-overwritten None xs k = refl

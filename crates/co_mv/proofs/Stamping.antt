@@ -1,5 +1,5 @@
 -- The numbers that transactions read at, by the least one at or above a number and the greatest one below it.
-use Rattle.std.proofs.Common.{◌≡◌, ◌⊎◌, inl, inr, ℕ, ◌<◌, ◌≤◌, Bool, true, false, not, ◌&&◌, ◌||◌, List, is_some, is_none, Option, None, Some, refl, sym, ap, ◌∙◌, true≢false, arith}
+use Rattle.std.proofs.Common.{◌≡◌, inl, inr, ℕ, ◌<◌, ◌≤◌, Bool, true, false, not, ◌&&◌, is_some, Option, None, Some, refl, sym, ap, ◌∙◌, true≢false, arith}
 use Rattle.std.specs.Prelude.{nat_lt, nat_le}
 use Rattle.std.specs.List.{list_any, list_all}
 use Rattle.std.specs.FinMap.{entries, entries_sorted, get-entries}
@@ -9,7 +9,7 @@ use Rattle.co_state.specs.Table.{look}
 use Rattle.co_stamps.specs.Stamped.{IsLeastFrom, IsGreatestBelow}
 use Rattle.co_mv.specs.declared.snapshots.Snapshots.{Snapshots}
 use Rattle.co_mv.specs.declared.version.Version.{Version}
-use Rattle.co_mv.specs.Kept.{needed, stamps, IsNeeded, IsNext}
+use Rattle.co_mv.specs.Kept.{needed, stamps, IsNeeded}
 use Rattle.co_mv.specs.Versions.{is_before, sees, is_gone}
 use Rattle.co_mv.proofs.Needing.{any-found, found-any, all-needed, needed-all}
 use Rattle.co_mv.proofs.Versioning.{le_true, true_le, lt_true, true_lt, and_first, and_second}

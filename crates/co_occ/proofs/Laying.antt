@@ -1,11 +1,10 @@
 -- Changes laid over records, and the records of a range.
-use Rattle.std.proofs.Common.{◌≡◌, T, ℕ, Bool, true, false, cond, ◌&&◌, List, [], ◌∷◌, ◌++◌, map, filter, Option, None, Some, Result, Ok, Err, OnErr, refl, sym, ap, ◌∙◌, subst}
-use Rattle.std.specs.Ordering.{eq_by_cmp, is_eq, is_lt}
-use Rattle.std.specs.declared.cmp.Ordering.{Ordering}
-use Rattle.std.specs.declared.cmp.Ordering.TheVariants.{Less, Equal, Greater}
+use Rattle.std.proofs.Common.{◌≡◌, T, ℕ, Bool, true, false, cond, List, [], ◌∷◌, ◌++◌, map, filter, Option, None, Some, Result, Ok, Err, OnErr, refl, sym, ap, ◌∙◌, subst}
+use Rattle.std.specs.Ordering.{eq_by_cmp}
+use Rattle.std.specs.declared.cmp.Ordering.TheVariants.{Equal}
 use Rattle.std.proofs.lemmas.Cmp.{nat_list_cmp_total}
 use Rattle.std.specs.FinMap.{empty, entries, entries_sorted, get, insert, get-entries, get-empty, get-insert, same_map, slice_cmp-IsAntisymmetric, nat_cmp-IsAntisymmetric}
-use Rattle.std.specs.FinMap.Entries.{find, below_all, is_sorted, where_key, same_entries, find-where_key, is_sorted-where_key}
+use Rattle.std.specs.FinMap.Entries.{find, is_sorted, where_key, same_entries, find-where_key, is_sorted-where_key}
 use Rattle.co_base.specs.Order.{key_cmp}
 use Rattle.co_base.specs.Span.{Span, span_has}
 use Rattle.co_base.specs.declared.row.Row.{Row}
@@ -14,7 +13,7 @@ use Rattle.co_serial.specs.Records.{Records, row_of, all_rows, rows_within, with
 use Rattle.co_state.specs.Effects.{records_from}
 use Rattle.co_index.proofs.Laying.{get-with_change}
 use Rattle.co_occ.specs.Seen.{laid_within}
-use Rattle.co_state.proofs.Ties.{first, second, less, tie, nothing_below}
+use Rattle.co_state.proofs.Ties.{first, second, tie, nothing_below}
 
 pub on_err : {X E : Type 0} (r : Result X E) {A : Type 0} → A → OnErr r A
 on_err (Ok x) h = tt

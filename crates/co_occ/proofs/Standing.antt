@@ -1,7 +1,5 @@
 -- For which states an engine with backward validation stands after each call.
-use Rattle.std.proofs.Common.{◌≡◌, ℕ, ◌+◌, ◌-◌, ◌≤◌, Bool, true, false, cond, not, ◌&&◌, List, [], ◌∷◌, ◌++◌, length, drop, if◌then◌else◌, is_some, Option, None, Some, IsTrue, refl, sym, ap, ◌∙◌, subst, true≢false, arith, suc}
-use Rattle.std.specs.Prelude.{nat_lt}
-use Rattle.std.proofs.lemmas.Bool.Decides.{nat_tests}
+use Rattle.std.proofs.Common.{◌≡◌, ℕ, ◌+◌, ◌-◌, true, List, [], ◌∷◌, ◌++◌, length, drop, if◌then◌else◌, is_some, Option, None, Some, IsTrue, refl, sym, ap, ◌∙◌, subst, true≢false, arith, suc}
 use Rattle.std.specs.Option.{option_map}
 use Rattle.std.specs.FinMap.{empty, entries, get-empty}
 use Rattle.std.specs.Ordering.{nat_cmp, eq_by_cmp}
@@ -14,7 +12,6 @@ use Rattle.co_serial.specs.Records.{Records, with_changes, all_rows}
 use Rattle.co_serial.specs.SerialRun.{reply_to}
 use Rattle.co_pairs.specs.declared.prepared.Prepared.{Prepared}
 use Rattle.co_state.specs.declared.engine_state.EngineState.{EngineState}
-use Rattle.co_state.specs.declared.engine_state.Install.{Install}
 use Rattle.co_state.specs.declared.engine_state.Operation.{Operation}
 use Rattle.co_state.specs.declared.engine_state.Sets.{Sets}
 use Rattle.co_state.specs.declared.engine_state.Vote.{Vote}
@@ -22,7 +19,7 @@ use Rattle.co_state.specs.declared.pair.Pair.{Pair}
 use Rattle.co_state.specs.Changes.{sets_of, span_read}
 use Rattle.co_state.specs.Conflicts.{AreNewPairs}
 use Rattle.co_state.specs.Effects.{with_operation, after_operation, after_cast, after_install, after_drop, install_vote, restored, dumped_rows, dumped_undos}
-use Rattle.co_state.specs.EngineState.{operations_in, operations_of, sets_in, sets_at, records_at, records_now}
+use Rattle.co_state.specs.EngineState.{operations_in, operations_of, sets_in, sets_at, records_at}
 use Rattle.co_state.specs.Keys.{least_key}
 use Rattle.co_state.specs.LockRule.{lock_blocker, lock_holder, blocker_by}
 use Rattle.co_state.specs.ReadRule.{stamp_after, snapshot_of, operation_reply}
@@ -30,7 +27,7 @@ use Rattle.co_state.specs.StaleRead.{stale_key}
 use Rattle.co_state.specs.Table.{Table, no_entries, look, put, without, holds, lesser}
 use Rattle.co_state.proofs.Tables.{look-put, look-without, put-without}
 use Rattle.co_engine.specs.declared.answers.Seen.TheVariants.{Answer}
-use Rattle.co_engine.specs.Calls.{may_operate, is_installed, votes_of, seen_by, seen_of, AppendsNewPairs}
+use Rattle.co_engine.specs.Calls.{may_operate, votes_of, seen_by, seen_of, AppendsNewPairs}
 use Rattle.co_index.specs.declared.undecided.Undecided.{Undecided}
 use Rattle.co_pairs.specs.NewPairs.{or_nothing, grown_by, sets_among, AreNew}
 use Rattle.co_index.specs.Undecided.{IsWhole, grown_at}

@@ -1,16 +1,14 @@
 -- Entries that are picked out by their numbers and what stands there.
-use Rattle.std.proofs.Common.{◌≡◌, T, ℕ, Bool, true, false, cond, ◌&&◌, List, [], ◌∷◌, if◌then◌else◌, Option, None, Some, refl, sym, ap, ◌∙◌, subst, eqb→eq, eq-eqb}
+use Rattle.std.proofs.Common.{◌≡◌, T, ℕ, Bool, true, false, cond, List, [], ◌∷◌, if◌then◌else◌, Option, None, Some, refl, sym, ap, ◌∙◌, subst, eqb→eq, eq-eqb}
 use Rattle.std.specs.Prelude.{◌==◌}
-use Rattle.std.specs.Ordering.{nat_cmp, eq_by_cmp, is_eq, is_lt}
-use Rattle.std.specs.declared.cmp.Ordering.{Ordering}
-use Rattle.std.specs.declared.cmp.Ordering.TheVariants.{Less, Equal, Greater}
+use Rattle.std.specs.Ordering.{nat_cmp, eq_by_cmp, is_lt}
 use Rattle.std.specs.Cmp.{nat_cmp_total, both_ways, eq_by_cmp_equiv}
 use Rattle.std.specs.FinMap.{nat_cmp-IsAntisymmetric}
 use Rattle.std.specs.FinMap.Entries.{find, below_all, is_sorted, same_entries}
 use Rattle.co_state.specs.Table.{first_in}
 use Rattle.co_pairs.specs.NewPairs.{passes}
 pub use Rattle.co_state.proofs.Ties.{both, first, second, tied}
-use Rattle.co_state.proofs.Ties.{less, tie, nothing_below}
+use Rattle.co_state.proofs.Ties.{nothing_below}
 
 -- numbers that tie are equal
 pub ties : (u t : ℕ) → eq_by_cmp nat_cmp u t ≡ (t == u)

@@ -17,10 +17,10 @@ use Rattle.co_state.specs.Effects.{with_operation, after_cast, after_install, af
 use Rattle.co_state.specs.EngineState.{operations_in, operations_of, sets_at, records_at, records_now, installed_records}
 use Rattle.co_state.specs.LockRule.{lock_blocker, lock_holder, blocker_by}
 use Rattle.co_state.specs.ReadRule.{stamp_after, snapshot_of, operation_reply}
-use Rattle.co_state.specs.Table.{Table, no_entries, look, put, without, holds, lesser}
+use Rattle.co_state.specs.Table.{no_entries, look, put, without, holds, lesser}
 use Rattle.co_state.proofs.Tables.{put-without}
 use Rattle.co_pairs.specs.declared.prepared.Prepared.{Prepared}
-use Rattle.co_pairs.specs.NewPairs.{or_nothing, grown_by, AreNew}
+use Rattle.co_pairs.specs.NewPairs.{or_nothing, grown_by}
 use Rattle.co_pairs.proofs.OneMore.{grows_at, new_pairs}
 use Rattle.co_pairs.proofs.Mapped.{sorted-mapped, find-mapped}
 use Rattle.co_pairs.proofs.Pairing.{Grows, made_new}

@@ -1,17 +1,14 @@
 -- Numbers and who bears them, after each call.
-use Rattle.std.proofs.Common.{◌≡◌, T, ℕ, suc, Bool, true, false, cond, ◌&&◌, List, [], ◌∷◌, length, if◌then◌else◌, is_some, Option, None, Some, Result, Ok, Err, OnErr, refl, sym, ap, ◌∙◌, subst, true≢false, eqb→eq, arith}
+use Rattle.std.proofs.Common.{◌≡◌, T, ℕ, suc, Bool, true, false, cond, List, [], ◌∷◌, length, if◌then◌else◌, is_some, Option, None, Some, Result, Ok, Err, OnErr, refl, sym, ap, ◌∙◌, subst, true≢false, eqb→eq, arith}
 use Rattle.std.specs.Prelude.{◌==◌}
-use Rattle.std.specs.Ordering.{nat_cmp, eq_by_cmp, is_eq}
-use Rattle.std.specs.declared.cmp.Ordering.{Ordering}
-use Rattle.std.specs.declared.cmp.Ordering.TheVariants.{Less, Equal, Greater}
+use Rattle.std.specs.Ordering.{nat_cmp, eq_by_cmp}
 use Rattle.std.specs.Cmp.{nat_cmp_total, eq_by_cmp_equiv}
-use Rattle.std.specs.FinMap.{entries, get-empty, get-entries, nat_cmp-IsAntisymmetric}
+use Rattle.std.specs.FinMap.{entries, get-empty, get-entries}
 use Rattle.std.specs.FinMap.Entries.{find}
 use Rattle.co_state.specs.Table.{Table, no_entries, look, put, without, holds}
 use Rattle.co_state.proofs.Tables.{look-put, look-without, same_table}
 use Rattle.co_stamps.specs.Bearing.{Bearers, or_nobody, bears, with_bearer, without_in, without_bearer, is_nobody, settled, is_number, Agree}
 pub use Rattle.co_state.proofs.Ties.{tied, ties-itself}
-use Rattle.co_state.proofs.Ties.{tie}
 
 ties-symm : (q k : ℕ) → eq_by_cmp nat_cmp q k ≡ eq_by_cmp nat_cmp k q
 ties-symm q k = (eq_by_cmp_equiv nat_cmp_total).symm q k

@@ -1,17 +1,16 @@
 -- The least number at or above one, and the greatest below one.
-use Rattle.std.proofs.Common.{◌≡◌, T, ℕ, ◌<◌, ◌≤◌, Bool, true, false, cond, ◌&&◌, List, [], ◌∷◌, filter, is_some, length, Option, None, Some, refl, sym, ap, ◌∙◌, subst, true≢false, eq-eqb, arith, ◌⊎◌, inl, inr}
+use Rattle.std.proofs.Common.{◌≡◌, T, ℕ, ◌<◌, ◌≤◌, Bool, true, false, cond, List, [], ◌∷◌, filter, is_some, length, Option, None, Some, refl, sym, ap, ◌∙◌, subst, true≢false, eq-eqb, arith, ◌⊎◌, inl, inr}
 use Rattle.std.specs.Prelude.{nat_lt, nat_le, ◌==◌}
 use Rattle.std.specs.Cmp.{nat_cmp_is}
 use Rattle.std.proofs.lemmas.Bool.{cases_order}
 use Rattle.std.proofs.lemmas.Bool.Decides.{nat_tests}
-use Rattle.std.specs.Ordering.{nat_cmp, eq_by_cmp, is_eq, is_lt}
-use Rattle.std.specs.declared.cmp.Ordering.{Ordering}
+use Rattle.std.specs.Ordering.{nat_cmp, eq_by_cmp}
 use Rattle.std.specs.declared.cmp.Ordering.TheVariants.{Less, Equal, Greater}
 use Rattle.std.specs.FinMap.{entries, entries_sorted, get-entries, get-empty}
 use Rattle.std.specs.FinMap.Entries.{find, below_all, is_sorted}
 use Rattle.co_state.specs.Table.{Table, look, holds, first_of}
-use Rattle.co_stamps.specs.Bearing.{Bearers, or_nobody, bears, is_nobody, is_number, number_or, last_of, Agree}
-use Rattle.co_stamps.specs.Stamped.{IsStamp, IsLeast, IsLeastFrom, IsGreatest, IsGreatestBelow}
+use Rattle.co_stamps.specs.Bearing.{Bearers, or_nobody, is_nobody, is_number, number_or, last_of, Agree}
+use Rattle.co_stamps.specs.Stamped.{IsStamp, IsLeastFrom, IsGreatestBelow}
 use Rattle.co_stamps.proofs.Agreeing.{tied, ties-itself}
 use Rattle.co_state.proofs.Ties.{first, second, less}
 

@@ -1,5 +1,5 @@
 -- Numbers at or above one, and below one.
-use Rattle.std.proofs.Common.{Some, ◌≡◌, ℕ, ◌<◌, Bool, true, false, ◌&&◌, not, nat_lt, filter, List, [], ◌∷◌, ◌++◌, ◌⊎◌, inl, inr, refl, sym, ap, ◌∙◌, arith}
+use Rattle.std.proofs.Common.{Some, ◌≡◌, ℕ, ◌<◌, true, ◌&&◌, not, nat_lt, filter, List, [], ◌∷◌, ◌++◌, ◌⊎◌, inl, inr, refl, sym, ap, ◌∙◌, arith}
 use Rattle.co_stamps.specs.Bearing.{number_or, last_of}
 use Rattle.std.specs.Prelude.{nat_le}
 use Rattle.std.specs.Ordering.{nat_cmp, is_le}

@@ -1,8 +1,6 @@
 -- What stands at keys, after images are laid back or slots are settled.
-use Rattle.std.proofs.Common.{◌≡◌, T, ℕ, Bool, true, false, cond, ◌&&◌, ◌||◌, List, [], ◌∷◌, ◌++◌, if◌then◌else◌, Option, None, Some, is_some, refl, sym, ap, ◌∙◌, subst, true≢false, length, arith}
-use Rattle.std.specs.Ordering.{eq_by_cmp, is_eq, is_lt}
-use Rattle.std.specs.declared.cmp.Ordering.{Ordering}
-use Rattle.std.specs.declared.cmp.Ordering.TheVariants.{Less, Equal, Greater}
+use Rattle.std.proofs.Common.{◌≡◌, T, ℕ, Bool, true, false, cond, ◌||◌, List, [], ◌∷◌, ◌++◌, if◌then◌else◌, Option, None, Some, is_some, refl, sym, ap, ◌∙◌, true≢false, length, arith}
+use Rattle.std.specs.Ordering.{eq_by_cmp}
 use Rattle.std.specs.Cmp.{eq_by_cmp_equiv}
 use Rattle.std.proofs.lemmas.Cmp.{nat_list_cmp_total}
 use Rattle.std.specs.FinMap.{empty, get, insert, remove, contains_key, get-insert, get-remove, slice_cmp-IsAntisymmetric, nat_cmp-IsAntisymmetric}
@@ -14,7 +12,7 @@ use Rattle.co_store.specs.declared.slots.Slot.{Slot}
 use Rattle.co_store.specs.Images.{Images, value_in, slot_of, restored, restored_all, settled, settled_all, slots_from}
 use Rattle.co_store.specs.StoreState.{laid_back}
 pub use Rattle.co_state.proofs.Ties.{first, second}
-use Rattle.co_state.proofs.Ties.{less, tie, nothing_below}
+use Rattle.co_state.proofs.Ties.{tie, nothing_below}
 
 -- ---- keys that tie
 abbrev pub ties : List ℕ → List ℕ → Bool

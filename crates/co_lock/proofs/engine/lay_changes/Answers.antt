@@ -1,7 +1,6 @@
-use Rattle.std.proofs.Common.{List, ℕ, take, ap, subst, ◌∙◌, arith}
+use Rattle.std.proofs.Common.{List, take, ap, subst, ◌∙◌, arith}
 use Rattle.std.proofs.lemmas.List.{take_all}
 use Rattle.co_base.specs.declared.written.Written.{Written}
-use Rattle.std.specs.Option.{option_copied}
 use Rattle.co_lock.specs.Locked.{IsLocked}
 use Rattle.co_lock.specs.LockedState.{LockedState, with_writes, with_write}
 use Rattle.co_lock.proofs.Restoring.{writes_more, clear_still, key_listed}

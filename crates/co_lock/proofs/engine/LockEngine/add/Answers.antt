@@ -1,4 +1,4 @@
-use Rattle.std.proofs.Common.{◌≡◌, List, Some, sym, ap, ◌∙◌, subst}
+use Rattle.std.proofs.Common.{List, Some, sym, ap, ◌∙◌, subst}
 use Rattle.co_base.specs.Span.{Span, span_of_key}
 use Rattle.co_state.specs.declared.pair.Pair.{Pair}
 use Rattle.co_state.specs.Changes.{span_read, change_made}

@@ -1,5 +1,4 @@
-use Rattle.std.proofs.Common.{◌≡◌, ℕ, List, Option, ◌∷◌, map, refl, sym, ap, subst}
-use Rattle.std.specs.FinMap.{entries}
+use Rattle.std.proofs.Common.{ℕ, List, Option, ◌∷◌, refl, sym, subst}
 use Rattle.co_state.proofs.Tables.{on_ok}
 use Rattle.co_state.specs.declared.pair.Pair.{Pair}
 use Rattle.co_state.specs.Conflicts.{AreNewPairs}

@@ -1,7 +1,7 @@
-use Rattle.std.proofs.Common.{◌≡◌, ℕ, List, Option, None, Some, not, ◌&&◌, ◌||◌, refl, sym, ap, subst, ◌∙◌}
+use Rattle.std.proofs.Common.{not, ◌&&◌, ◌||◌, sym, ap, subst, ◌∙◌}
 use Rattle.std.specs.Prelude.{◌==◌}
 use Rattle.co_base.specs.declared.op.Op.TheVariants.{Read, Write, Erase, Scan}
-use Rattle.co_base.specs.Span.{Span, span_of_key}
+use Rattle.co_base.specs.Span.{Span}
 use Rattle.co_state.specs.EngineState.{sets_at}
 use Rattle.co_state.specs.Keys.{writes_within}
 use Rattle.co_state.specs.LockRule.{lock_blocker}

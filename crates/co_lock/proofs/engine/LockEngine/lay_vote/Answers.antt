@@ -1,4 +1,4 @@
-use Rattle.std.proofs.Common.{◌≡◌, ℕ, List, true, refl, sym, ap, subst, ◌∙◌}
+use Rattle.std.proofs.Common.{List, true, refl, sym, ap, subst, ◌∙◌}
 use Rattle.std.specs.FinMap.{get-empty}
 use Rattle.std.specs.Ordering.{nat_cmp}
 use Rattle.co_base.specs.declared.written.Written.{Written}

@@ -1,7 +1,6 @@
-use Rattle.std.proofs.Common.{◌≡◌, ℕ, List, Option, None, Some, not, ◌&&◌, ◌||◌, refl, sym, ap, subst, ◌∙◌}
-use Rattle.std.specs.Prelude.{◌==◌}
-use Rattle.co_base.specs.declared.op.Op.TheVariants.{Read, Write, Erase, Scan}
-use Rattle.co_base.specs.Span.{Span, span_of_key}
+use Rattle.std.proofs.Common.{◌≡◌, None, refl, sym, ap, ◌∙◌}
+use Rattle.co_base.specs.declared.op.Op.TheVariants.{Read, Scan}
+use Rattle.co_base.specs.Span.{span_of_key}
 use Rattle.co_base.specs.declared.reply.Reply.TheVariants.{Got, Rows}
 use Rattle.co_state.specs.LockRule.{lock_blocker}
 use Rattle.co_state.specs.ReadRule.{operation_reply, visible_records}

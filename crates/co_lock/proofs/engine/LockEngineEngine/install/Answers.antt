@@ -1,12 +1,11 @@
 use Rattle.std.specs.Option.{option_map}
-use Rattle.std.proofs.Common.{◌≡◌, Option, None, Some, is_some, true, refl, sym, ap, ◌∙◌, subst, true≢false}
+use Rattle.std.proofs.Common.{◌≡◌, Option, None, Some, is_some, true, refl, sym, subst, true≢false}
 use Rattle.co_serial.specs.Records.{with_changes}
 use Rattle.co_state.specs.declared.engine_state.EngineState.{EngineState}
 use Rattle.co_state.specs.declared.engine_state.Vote.{Vote}
 use Rattle.co_state.specs.Effects.{install_vote}
 use Rattle.co_state.specs.EngineState.{installed_records}
 use Rattle.co_state.specs.Table.{Table, look, without}
-use Rattle.co_lock.specs.declared.engine.LockEngine.{LockEngine}
 use Rattle.co_engine.specs.declared.undecided.Undecided.{Undecided}
 use Rattle.co_index.proofs.Indexing.{tells_along, tells_gone}
 use Rattle.co_engine.specs.Undecided.{IsKept}

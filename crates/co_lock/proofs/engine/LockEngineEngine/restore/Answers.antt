@@ -8,7 +8,6 @@ use Rattle.co_pairs.specs.declared.prepared.Prepared.{Prepared}
 use Rattle.co_state.specs.Effects.{restored, records_from}
 use Rattle.co_state.specs.Table.{look}
 use Rattle.co_engine.specs.Calls.{votes_of}
-use Rattle.co_lock.specs.declared.engine.LockEngine.{LockEngine}
 use Rattle.co_lock.specs.LockedState.{of_records}
 use Rattle.co_index.proofs.Indexing.{tells_none}
 use Rattle.co_lock.specs.Standing.{StandsFor, reads_alone}

@@ -1,4 +1,4 @@
-use Rattle.std.proofs.Common.{◌≡◌, ◌≤◌, length, drop}
+use Rattle.std.proofs.Common.{◌≤◌, length, drop}
 use Rattle.co_base.specs.declared.head.Kind.TheVariants.{Lock}
 use Rattle.co_state.specs.Effects.{restored, records_from}
 use Rattle.co_engine.specs.Calls.{votes_of}

@@ -1,5 +1,5 @@
 use Rattle.std.proofs.Common.{◌∙◌}
-use Rattle.co_lock.proofs.Stepping.{ArePlaced, seen_in_place}
+use Rattle.co_lock.proofs.Stepping.{seen_in_place}
 use Rattle.co_lock.proofs.locked_store.LockedStore.get.Goals as goal
 
 pub returns : goal.returns

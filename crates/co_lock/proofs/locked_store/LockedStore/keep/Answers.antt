@@ -3,7 +3,7 @@ use Rattle.std.specs.Prelude.{◌==◌}
 use Rattle.co_store.specs.StoreState.{with_kept}
 use Rattle.co_locktab.specs.Locks.{without_locks}
 use Rattle.co_lock.proofs.Locking.{read_without, written_without}
-use Rattle.co_lock.proofs.Stepping.{ArePlaced, placed_kept}
+use Rattle.co_lock.proofs.Stepping.{placed_kept}
 use Rattle.co_lock.proofs.locked_store.LockedStore.keep.Goals as goal
 
 pub returns : goal.returns

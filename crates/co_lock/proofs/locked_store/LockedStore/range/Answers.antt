@@ -1,7 +1,7 @@
 use Rattle.std.proofs.Common.{◌≡◌, List, IfOk, sym, subst, ◌∙◌}
 use Rattle.co_base.specs.declared.row.Row.{Row}
 use Rattle.co_law_engine.proofs.SeenAlike.{rows_agree}
-use Rattle.co_lock.proofs.Stepping.{ArePlaced, seen_in_place}
+use Rattle.co_lock.proofs.Stepping.{seen_in_place}
 use Rattle.co_lock.proofs.locked_store.LockedStore.range.Goals as goal
 
 pub returns : goal.returns

@@ -1,9 +1,7 @@
 use Rattle.std.proofs.Common.{◌&&◌, ◌||◌, ◌∙◌}
 use Rattle.std.specs.Prelude.{◌==◌}
-use Rattle.std.specs.List.{list_any}
 use Rattle.co_base.specs.Span.{span_has}
 use Rattle.co_state.proofs.Tables.{on_ok}
-use Rattle.co_state.specs.Keys.{same_key}
 use Rattle.co_locktab.specs.Locks.{with_read}
 use Rattle.co_lock.proofs.Locking.{read_with, writes_unread}
 use Rattle.co_lock.proofs.locked_store.LockedStore.read.Goals as goal

@@ -1,4 +1,4 @@
-use Rattle.std.proofs.Common.{◌≡◌, Option, List, ℕ, ◌&&◌, ◌||◌, ◌∙◌, subst}
+use Rattle.std.proofs.Common.{Option, List, ℕ, ◌&&◌, ◌||◌, ◌∙◌, subst}
 use Rattle.std.specs.Prelude.{◌==◌}
 use Rattle.std.specs.Option.{option_copied}
 use Rattle.co_state.proofs.Tables.{on_ok}

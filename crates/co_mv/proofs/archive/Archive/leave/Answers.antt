@@ -1,7 +1,6 @@
 use Rattle.std.proofs.Common.{None, sym, ap, ◌∙◌, refl, subst}
-use Rattle.co_state.specs.Table.{look, without}
 use Rattle.co_stamps.specs.Stamped.{IsGreatest, IsGreatestBelow}
-use Rattle.co_mv.specs.Kept.{needed, left, IsNext, IsNarrowed, IsPruned}
+use Rattle.co_mv.specs.Kept.{needed, IsNext, IsNarrowed, IsPruned}
 use Rattle.co_mv.specs.Recents.{keys_at}
 use Rattle.co_mv.specs.Versions.{is_kept}
 use Rattle.co_mv.proofs.Archiving.{keeps_absent}

@@ -1,5 +1,4 @@
-use Rattle.std.proofs.Common.{Some, None, sym, ap, ◌∙◌, subst}
-use Rattle.co_stamps.specs.Stamped.{IsLeastFrom}
+use Rattle.std.proofs.Common.{Some, None, ◌∙◌}
 use Rattle.co_mv.proofs.Stamping.{read_at_least}
 use Rattle.co_mv.proofs.snapshots.Snapshots.is_read.Goals as goal
 

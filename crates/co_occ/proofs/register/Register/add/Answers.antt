@@ -1,4 +1,3 @@
-use Rattle.std.proofs.Common.{refl, sym, ap, ◌∙◌}
 use Rattle.co_occ.proofs.Registering.{knows_lost, knows_read, knows_taken}
 use Rattle.co_occ.proofs.register.Register.add.Goals as goal
 

@@ -1,11 +1,11 @@
-use Rattle.std.proofs.Common.{◌≡◌, Option, None, Some, ap, sym, ◌∙◌, is_some, OnOk, OnErr, subst}
-use Rattle.std.specs.FinMap.{FinMap, get, insert, from_entries, nat_cmp-IsAntisymmetric}
+use Rattle.std.proofs.Common.{ap, sym, ◌∙◌, is_some}
+use Rattle.std.specs.FinMap.{get, insert, from_entries, nat_cmp-IsAntisymmetric}
 use Rattle.std.specs.Ordering.{nat_cmp}
 use Rattle.std.specs.Cmp.{nat_cmp_total}
 use Rattle.co_serial.proofs.MapViews.{view-get, view-insert}
 use Rattle.co_state.specs.Table.{put, no_entries}
 use Rattle.co_state.proofs.Tables.{on_ok}
-use Rattle.co_stamps.specs.Bearing.{Bearers, or_nobody, with_bearer}
+use Rattle.co_stamps.specs.Bearing.{or_nobody}
 use Rattle.co_stamps.proofs.Agreeing.{put-same, on_err}
 use Rattle.co_stamps.proofs.bearers.Bearers.add.Goals as goal
 
