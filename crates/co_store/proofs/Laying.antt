@@ -1,9 +1,8 @@
 -- What stands at keys, after images are laid back or slots are settled.
 use Rattle.std.proofs.Common.{◌≡◌, T, ℕ, Bool, true, false, cond, ◌||◌, List, [], ◌∷◌, ◌++◌, if◌then◌else◌, Option, None, Some, is_some, refl, sym, ap, ◌∙◌, true≢false, length, arith}
 use Rattle.std.specs.Ordering.{eq_by_cmp}
-use Rattle.std.specs.Cmp.{eq_by_cmp_equiv}
 use Rattle.std.proofs.lemmas.Cmp.{nat_list_cmp_total}
-use Rattle.std.specs.FinMap.{empty, get, insert, remove, contains_key, get-insert, get-remove, slice_cmp-IsAntisymmetric, nat_cmp-IsAntisymmetric}
+use Rattle.std.specs.FinMap.{empty, get, insert, remove, contains_key, get-insert, get-remove}
 use Rattle.std.specs.FinMap.Entries.{find, below_all, is_sorted}
 use Rattle.co_base.specs.Order.{key_cmp}
 use Rattle.co_base.specs.declared.row.Row.{Row}
@@ -12,17 +11,17 @@ use Rattle.co_store.specs.declared.slots.Slot.{Slot}
 use Rattle.co_store.specs.Images.{Images, value_in, slot_of, restored, restored_all, settled, settled_all, slots_from}
 use Rattle.co_store.specs.StoreState.{laid_back}
 pub use Rattle.co_state.proofs.Ties.{first, second}
-use Rattle.co_state.proofs.Ties.{tie, nothing_below}
+use Rattle.co_state.proofs.Ties.{nothing_below, tied_keys, key_ties-itself}
 
 -- ---- keys that tie
 abbrev pub ties : List ℕ → List ℕ → Bool
 ties = eq_by_cmp key_cmp
 
 pub tied : (q k : List ℕ) → ties q k ≡ true → q ≡ k
-tied q k e = slice_cmp-IsAntisymmetric nat_cmp-IsAntisymmetric q k (tie (key_cmp q k) e)
+tied = tied_keys
 
 pub ties-itself : (q : List ℕ) → ties q q ≡ true
-ties-itself q = (eq_by_cmp_equiv nat_list_cmp_total).refl q
+ties-itself = key_ties-itself
 
 -- ---- one key
 value-cond : (b : Bool) (v : Option (List ℕ)) (o : Option Slot) → value_in (cond b (Some (slot_of v)) o) ≡ cond b v (value_in o)
