@@ -1,15 +1,10 @@
-//! Sources in memory and over a real file: what they give, call by call and whole.
+//! Sources over memory of std and over a real file, and one in memory that is read whole.
 ghost use Rattle.std.specs.Prelude.{◌≤◌};
 
 use co_outside::{Source, SourceFault, SourceMemory, SourceStd, Taken, read_all};
 use std::alloc::{AllocError, Global};
 use std::fs::File;
 use std::{fs, io};
-
-/// A source of these bytes, which fails at these calls.
-fn source_of(alloc: Global, bytes: &[u8], fail: &[u32]) -> Result<SourceMemory, AllocError> {
-    Ok(SourceMemory::new(bytes.to_vec(alloc)?, fail.to_vec(alloc)?))
-}
 
 /// Whether the next call gives these bytes; where it gives none, why.
 fn taken<S: Source>(alloc: Global, source: &mut S, most: u32, wanted: &[u8]) -> &'static str
@@ -38,32 +33,6 @@ fn read<S: Source>(
         Err(SourceFault::Failed) => "failed",
         Err(SourceFault::Memory) => "memory",
     }
-}
-
-/// The answers of four calls of a source of five bytes that fails at its second call.
-fn four_calls(alloc: Global, source: &mut SourceMemory) -> [&'static str; 4] {
-    [
-        taken(alloc, source, 3, b"abc"),
-        taken(alloc, source, 3, b""),
-        taken(alloc, source, 9, b"de"),
-        taken(alloc, source, 1, b""),
-    ]
-}
-
-/// Whether they are as they are wanted.
-fn fails_once(alloc: Global) -> bool {
-    match source_of(alloc, b"abcde", &[2]) {
-        Ok(source) => {
-            let mut source = source;
-            four_calls(alloc, &mut source) == ["these", "failed", "these", "end"]
-        }
-        Err(_) => false,
-    }
-}
-
-#[test]
-fn a_source_gives_its_bytes_and_fails_at_its_second_call(rt: HostRuntime) {
-    assert!(rt; fails_once(rt.alloc()));
 }
 
 /// The answers where a text of 70,000 bytes is read whole, up to a limit.
@@ -96,22 +65,6 @@ fn is_read_in_pieces(alloc: Global) -> bool {
 #[test]
 fn a_whole_source_is_read_in_pieces_up_to_a_limit(rt: HostRuntime) {
     assert!(rt; is_read_in_pieces(rt.alloc()));
-}
-
-/// What reading a source whole that fails at its second call answers.
-fn failed_read(alloc: Global) -> &'static str {
-    match source_of(alloc, b"abc", &[2]) {
-        Ok(source) => {
-            let mut source = source;
-            read(alloc, &mut source, 9, 0, b"")
-        }
-        Err(_) => "memory",
-    }
-}
-
-#[test]
-fn a_source_that_fails_at_its_second_call_is_not_read_whole(rt: HostRuntime) {
-    assert!(rt; failed_read(rt.alloc()) == "failed");
 }
 
 /// What a source over memory of std answers.

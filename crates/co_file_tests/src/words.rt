@@ -1,7 +1,7 @@
 //! Spots of files, and answers of homes in words.
 
-use co_outside::{FailAt, Home, HomeCall, HomeFault, HomeMemory, Spot};
-use std::alloc::{AllocError, Global};
+use co_outside::{Home, HomeFault, Spot};
+use std::alloc::Global;
 
 /// Part `a` of the log of member 1.
 pub(crate) const M1_A: Spot = Spot { node: 1, part: 0 };
@@ -11,35 +11,6 @@ pub(crate) const C2_B: Spot = Spot {
     node: 0x82,
     part: 1,
 };
-
-/// A call of this kind on part `a` of member 1 that is to fail.
-pub(crate) fn fails_on_m1_a(call: HomeCall, number: u32) -> FailAt {
-    FailAt {
-        spot: M1_A,
-        call,
-        number,
-    }
-}
-
-/// A home in memory without files, which fails at these calls.
-pub(crate) fn home_of(alloc: Global, fail: &[FailAt]) -> Result<HomeMemory, AllocError> {
-    Ok(HomeMemory::new(alloc, fail.to_vec(alloc)?))
-}
-
-/// A home in memory without files.
-pub(crate) fn no_files(alloc: Global) -> HomeMemory {
-    HomeMemory::new(alloc, Vec::new(alloc))
-}
-
-/// Puts a file into a home in memory.
-pub(crate) fn put(
-    alloc: Global,
-    home: &mut HomeMemory,
-    spot: Spot,
-    bytes: &[u8],
-) -> Result<(), AllocError> {
-    home.put(spot, bytes.to_vec(alloc)?)
-}
 
 /// The answer of a call of a home, in a word.
 pub(crate) fn answer(answer: Result<(), HomeFault>) -> &'static str {

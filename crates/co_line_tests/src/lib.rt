@@ -1,8 +1,6 @@
-//! Items as they are written, and the lines of a source, lent out of a buffer of one line. What is read and what is
-//! refused is shown by the rows of `co_line_rows`.
+//! The lines of a source, lent out of a buffer of one line. What is read and what is refused is shown by the rows of
+//! `co_line_rows`, and how items are written by the cases of `co_conform`.
 #![tactic(auto)]
 
-#[cfg(test)]
-mod items;
 #[cfg(test)]
 mod reader;

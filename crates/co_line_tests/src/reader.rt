@@ -1,6 +1,5 @@
-ghost use Rattle.std.specs.Prelude.{◌≡◌, List, ℕ, Some, OnOk, None};
-ghost use Rattle.co_schedule.specs.LineText.{behind_line};
-ghost use Rattle.co_schedule.specs.Lines.{ahead};
+//! A source of one byte a call, one that fails amid a schedule, and the limit of a schedule's lines.
+ghost use Rattle.std.specs.Prelude.{None};
 
 use co_base::Bytes;
 use co_outside::{Source, SourceFault, SourceMemory, Taken};
@@ -59,16 +58,6 @@ impl Source for Failing {
     }
 }
 
-// What is known of a reader once its line is no longer lent.
-fn skip_line<S: Source>(reader: &mut Lines, source: &mut S) -> Result<bool, LinesFault>
-    ensures { (text : List ℕ) → ahead reader.old (S.left source.old) ≡ Some text → OnOk result (ahead reader.new (S.left source.new) ≡ Some (behind_line text)) }
-{
-    match reader.next(source) {
-        Ok(line) => Ok(line.is_some()),
-        Err(fault) => Err(fault),
-    }
-}
-
 fn is_next<S: Source>(rt: &impl Abort, reader: &mut Lines, source: &mut S, wanted: &[u8]) {
     match reader.next(source) {
         Ok(Some(line)) => assert_eq!(rt; line, wanted),
@@ -113,19 +102,6 @@ fn a_fault_comes_behind_the_lines_taken_before_it(rt: HostRuntime) -> Result<(),
 }
 
 #[test]
-fn a_line_of_the_limit_is_lent_and_a_longer_one_refused(rt: HostRuntime) -> Result<(), Fail> {
-    let mut source = memory(rt.alloc(), b"abc\nabcd\n")?;
-    let mut reader = Lines::new(rt.alloc(), 3, 9)?;
-    is_next(&rt, &mut reader, &mut source, b"abc");
-    assert!(rt; matches!(reader.next(&mut source), Err(LinesFault::Long { line: 2 })));
-    let mut source = memory(rt.alloc(), b"abc")?;
-    let mut reader = Lines::new(rt.alloc(), 3, 9)?;
-    is_next(&rt, &mut reader, &mut source, b"abc");
-    is_end(&rt, &mut reader, &mut source);
-    Ok(())
-}
-
-#[test]
 fn a_byte_behind_the_last_line_is_too_many(rt: HostRuntime) -> Result<(), Fail> {
     for (text, too_many) in [
         (b"a\nb\n".as_slice(), false),
@@ -140,15 +116,5 @@ fn a_byte_behind_the_last_line_is_too_many(rt: HostRuntime) -> Result<(), Fail> 
         let many = matches!(reader.next(&mut source), Err(LinesFault::Many));
         assert_eq!(rt; many, too_many);
     }
-    Ok(())
-}
-
-#[test]
-fn a_skipped_line_leaves_the_next_one(rt: HostRuntime) -> Result<(), Fail> {
-    let mut source = memory(rt.alloc(), b"first\nsecond")?;
-    let mut reader = Lines::new(rt.alloc(), 8192, 262144)?;
-    assert!(rt; skip_line(&mut reader, &mut source)?);
-    is_next(&rt, &mut reader, &mut source, b"second");
-    assert!(rt; !skip_line(&mut reader, &mut source)?);
     Ok(())
 }
