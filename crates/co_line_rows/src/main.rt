@@ -1,4 +1,4 @@
-//! Reads rows of lines and items and writes how each is judged: `co_line_rows < rows`.
+//! Reads rows of lines, items and records and writes how each is judged: `co_line_rows < rows`.
 //!
 //! A row is `head TEXT`, `line TEXT` or `item TEXT`; any other is a title. A head is the first line of a schedule, and lines are
 //! read under the one before them. A row is written as it stands, with `ok` where its text is read and written again as it was, else with
@@ -7,12 +7,17 @@
 //! A row `sent TEXT` is the delivery of a message that was sent before a trial, and behind `made NUMBER COUNT` come the first so many
 //! events of the trial of that number. Those of the stored output are of another program, written apart from this one.
 //!
+//! A row `record VERSION HEX` is what reading the record at the front of these bytes in a version gives: `read` and how many bytes it takes, `short`
+//! where they end before it, `kind` where none begins so, or `field` and the place of the field outside its set.
+//!
 //! The stored input has the worked rows, and the stored output what is to come of them.
 #![tactic(auto)]
 
 mod making;
+mod records;
 
 use crate::making::{put_made, send};
+use crate::records::put_record;
 use co_base::Head;
 use co_message::Wire;
 use co_outside::{SinkStd, SourceStd, put_all, read_all};
@@ -137,6 +142,7 @@ fn put_text<'a>(
         }
         b"line" => put_line_under(alloc, before.head, text, out),
         b"item" => put_item_row(alloc, text, out),
+        b"record" => put_record(alloc, text, out),
         b"sent" => send(alloc, text, &mut before.sent),
         _ => put_made(alloc, text, &before.sent, out),
     }
@@ -152,7 +158,10 @@ fn put_row<'a>(
     out.extend_from_slice(row)?;
     let end = row.iter().position(|b| *b == b' ').unwrap_or(row.len());
     let (word, rest) = row.split_at(end);
-    if matches!(word, b"head" | b"line" | b"item" | b"sent" | b"made") {
+    if matches!(
+        word,
+        b"head" | b"line" | b"item" | b"record" | b"sent" | b"made"
+    ) {
         out.extend_from_slice(b" => ")?;
         put_text(
             alloc,
