@@ -1,6 +1,6 @@
 //! Three plain engines over std's collections, and the loads of `co_engine_rows`: what the proved engines are measured against. No contracts, no faults, no bounds on memory.
 //!
-//!     rustc -O bench/engines.rs && ./engines locking|validating|multiversion turns|ballots|dumps|staggered OPERATIONS TRANSACTIONS KEYS SPAN TOGETHER
+//!     rustc -O bench/engines.rs && ./engines locking|validating|multiversion turns|ballots|dumps|staggered|held OPERATIONS TRANSACTIONS KEYS SPAN TOGETHER
 //!
 //! It prints what `co_engine_rows` prints of a load; the digest covers every reply, row, blocker and pair.
 
@@ -25,6 +25,7 @@ enum Command {
     Write(Txn, Key, Value),
     Cast(Txn),
     Install(Txn),
+    Drop(Txn),
     /// Whether a read of the transaction was overwritten.
     Ballot(Txn),
     /// The records as they are kept, and what leads back.
@@ -315,6 +316,19 @@ impl Engine {
         Played::Done
     }
 
+    fn drop_txn(&mut self, t: Txn) -> Played {
+        if let Some(own) = self.undecided.remove(&t) {
+            self.leave(t, &own);
+            for (key, before) in own.undos {
+                match before {
+                    Some(value) => drop(self.store.insert(key, value)),
+                    None => drop(self.store.remove(&key)),
+                }
+            }
+        }
+        Played::Done
+    }
+
     /// The least key that was written after an active transaction read it.
     fn ballot(&self, t: Txn) -> Played {
         let mut least: Option<&Key> = None;
@@ -347,6 +361,7 @@ impl Engine {
             Command::Write(t, key, value) => self.write(t, key, value),
             Command::Cast(t) => self.cast(t),
             Command::Install(t) => self.install(t),
+            Command::Drop(t) => self.drop_txn(t),
         }
     }
 }
@@ -394,11 +409,28 @@ fn operation(picks: &mut Picks, keys: u32, span: u32, t: Txn) -> Command {
     }
 }
 
-/// The commands of a load: operations of a group in turn, or reads of the first key with a write and an install of another transaction behind each.
+/// Each transaction of a group scans keys from its own on, or writes its own where a scan has no key; another one is asked to write the first and the last of them.
+fn held(made: &mut Vec<Command>, first: u32, end: u32, span: u32, other: Txn) {
+    let last = |t: u32| t + min(span.saturating_sub(1), 2 * (end - t));
+    made.extend((first..end).map(|t| match span {
+        0 => Command::Write(t, key(t), value(0)),
+        _ => Command::Scan(t, key(t), key(last(t))),
+    }));
+    for t in first..end {
+        made.extend([Command::Write(other, key(t), value(1)), Command::Write(other, key(last(t)), value(1)), Command::Drop(t)]);
+    }
+    made.extend([Command::Write(other, key(first), value(1)), Command::Cast(other), Command::Install(other)]);
+}
+
+/// The commands of a load: operations of a group in turn, or reads of the first key with a write and an install of another transaction behind each, or what is held.
 fn commands(shape: &str, [operations, transactions, keys, span, together]: [u32; 5]) -> Vec<Command> {
     let (mut picks, mut made) = (Picks::new(1), Vec::new());
     for group in 0..transactions.div_ceil(together) {
         let (first, end) = (group * together, min((group + 1) * together, transactions));
+        if shape == "held" {
+            held(&mut made, first, end, span, transactions + first);
+            continue;
+        }
         if shape == "staggered" {
             for t in first..end {
                 made.extend([Command::Read(t, key(0)), Command::Write(transactions + t, key(0), value(t))]);

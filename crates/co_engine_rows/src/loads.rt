@@ -18,6 +18,9 @@ pub enum Shape {
     /// Each transaction of a group reads the first key, and behind it another one writes that key and is installed;
     /// then they vote and are installed.
     Staggered,
+    /// Each transaction of a group scans keys from its own on, or writes its own where a scan has no key. Then another one is asked
+    /// to write the first and the last of them, and the holder is dropped; at last it writes the first key of the group and is installed.
+    Held,
 }
 
 /// How much is to be done.
@@ -55,6 +58,7 @@ fn shape_of(word: &[u8]) -> Result<Shape, RowFault> {
         b"ballots" => Ok(Shape::Ballots),
         b"dumps" => Ok(Shape::Dumps),
         b"staggered" => Ok(Shape::Staggered),
+        b"held" => Ok(Shape::Held),
         _ => Err(RowFault::Word),
     }
 }
@@ -198,6 +202,44 @@ fn add_staggered(
     Ok(())
 }
 
+/// The last key that a transaction of a group holds. Scans of many keys stand in one another.
+fn last_held(load: &Load, t: u32, last: u32) -> u32 {
+    let most = last.saturating_sub(t).saturating_mul(2);
+    t.saturating_add(load.span.saturating_sub(1).min(most))
+}
+
+/// A transaction of a group scans keys from its own on, or writes its own where a scan has no key.
+fn hold(alloc: Global, load: &Load, t: u32, last: u32) -> Result<Command, BaseFault> {
+    if load.span == 0 {
+        return write(alloc, Txn(t), t, 0);
+    }
+    let lo = key(alloc, t)?;
+    let range = Range::new(lo, key(alloc, last_held(load, t, last))?)?;
+    Ok(Command::Scan { txn: Txn(t), range })
+}
+
+/// Each transaction of a group holds keys, and another one is asked to write them.
+fn add_held(
+    alloc: Global,
+    load: &Load,
+    first: u32,
+    last: u32,
+    steps: &mut Sequence<Step>,
+) -> Result<(), BaseFault> {
+    let other = load.transactions.saturating_add(first);
+    for t in first..last {
+        steps.push(Step::Call(hold(alloc, load, t, last)?))?;
+    }
+    for t in first..last {
+        let greatest = last_held(load, t, last);
+        steps.push(Step::Call(write(alloc, Txn(other), t, 1)?))?;
+        steps.push(Step::Call(write(alloc, Txn(other), greatest, 1)?))?;
+        steps.push(Step::Call(Command::Drop(Txn(t))))?;
+    }
+    steps.push(Step::Call(write(alloc, Txn(other), first, 1)?))?;
+    end(other, steps)
+}
+
 /// What is asked before the transactions of a group vote.
 fn add_questions(
     shape: Shape,
@@ -212,7 +254,7 @@ fn add_questions(
             }
         }
         Shape::Dumps => steps.push(Step::Dump)?,
-        Shape::Turns | Shape::Staggered => {}
+        Shape::Turns | Shape::Staggered | Shape::Held => {}
     }
     Ok(())
 }
@@ -228,6 +270,7 @@ fn add_group(
 ) -> Result<(), BaseFault> {
     match load.shape {
         Shape::Staggered => add_staggered(alloc, load, first, last, steps)?,
+        Shape::Held => return add_held(alloc, load, first, last, steps),
         _ => add_operations(alloc, picks, load, first, last, steps)?,
     }
     add_questions(load.shape, first, last, steps)?;

@@ -6,7 +6,7 @@
 //! the prepared transactions that the engine begins with, and then the rows.
 //!
 //! `load locking SHAPE OPERATIONS TRANSACTIONS KEYS SPAN TOGETHER` has no rows: it makes so many calls over so many records, as its
-//! shape says (`turns`, `ballots`, `dumps` or `staggered`), and what it comes to is told by numbers and a digest. Loads of any size are
+//! shape says (`turns`, `ballots`, `dumps`, `staggered` or `held`), and what it comes to is told by numbers and a digest. Loads of any size are
 //! measured outside the gate.
 //!
 //! Each row is written as it stands, with what it comes to at the engine of the kind. The plain engine and the engine of
