@@ -163,7 +163,7 @@ fn told_by_kind(
     }
 }
 
-/// Appends what rows come to on an engine, a line each.
+/// Appends what rows come to on an engine, a line each. No engine begins with prepared transactions that are in conflict.
 fn put_told<E: Engine + Keeps + Drop>(
     alloc: Global,
     mode: Mode,
@@ -176,7 +176,7 @@ fn put_told<E: Engine + Keeps + Drop>(
     let voted = voted_of(alloc, lines)?;
     let voted = voted.as_slice();
     if !are_free(voted) {
-        return Err(RowFault::Word);
+        return Ok(into.extend_from_slice(b"not free")?);
     }
     match mode {
         Mode::Play => put_told_by_play::<E>(alloc, kind, voted, lines, into),

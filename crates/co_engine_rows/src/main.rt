@@ -3,7 +3,8 @@
 //! A line that begins with `#` is a title, and a block begins behind it. The next line of a block says how its rows are played
 //! and on engines of which kind: `play locking` gives them to the player as one list, `ask validating` makes the calls one by one,
 //! with questions between them, and `random multiversion 1 2` makes lists that look random from these seeds. Then come the records and
-//! the prepared transactions that the engine begins with, and then the rows.
+//! the prepared transactions that the engine begins with, and then the rows. Where prepared transactions are in conflict no row is
+//! played, and the first one comes to `not free`.
 //!
 //! `load locking SHAPE OPERATIONS TRANSACTIONS KEYS SPAN TOGETHER` has no rows: it makes so many calls over so many records, as its
 //! shape says (`turns`, `ballots`, `dumps`, `staggered` or `held`), and what it comes to is told by numbers and a digest. Loads of any size are

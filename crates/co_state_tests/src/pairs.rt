@@ -1,6 +1,6 @@
-//! Transactions that have prepared, and whether they are in conflict.
+//! A copy of a transaction that has prepared.
 use crate::same::{holds, number_is};
-use co_base::{Key, Range, Txn, Written};
+use co_base::{Key, Txn, Written};
 use co_pairs::{Prepared, PreparedList, Sets, are_free};
 use std::alloc::Global;
 use std::process::Abort;
@@ -14,27 +14,11 @@ fn prepared(number: u32, sets: Sets) -> Prepared {
     }
 }
 
-// The sets of a transaction that read this key, where there is memory.
-fn reads_of(alloc: Global, key: &Key) -> Sets {
-    let mut sets = Sets::new(alloc);
-    if let Ok(range) = Range::of_key(key) {
-        let _ = sets.reads.push(range);
-    }
-    sets
-}
-
 // The sets of a transaction that erased this key, where there is memory.
 fn writes_of(alloc: Global, key: Key) -> Sets {
     let mut sets = Sets::new(alloc);
     let _ = sets.writes.push(Written { key, value: None });
     sets
-}
-
-fn reader(alloc: Global, number: u32, text: &[u8]) -> Option<Prepared> {
-    match Key::new(alloc, text) {
-        Ok(key) => Some(prepared(number, reads_of(alloc, &key))),
-        Err(_) => None,
-    }
 }
 
 fn writer(alloc: Global, number: u32, text: &[u8]) -> Option<Prepared> {
@@ -49,23 +33,6 @@ fn add(rt: &impl Abort, list: &mut PreparedList, one: Option<Prepared>) {
         Some(one) => holds(rt, list.push(one).is_ok()),
         None => holds(rt, false),
     }
-}
-
-#[test]
-fn readers_of_one_key_are_free(rt: HostRuntime) {
-    let mut list = PreparedList::new(rt.alloc());
-    add(&rt, &mut list, reader(rt.alloc(), 1, b"x"));
-    add(&rt, &mut list, reader(rt.alloc(), 2, b"x"));
-    add(&rt, &mut list, writer(rt.alloc(), 3, b"y"));
-    holds(&rt, are_free(list.as_slice()));
-}
-
-#[test]
-fn a_reader_and_a_writer_are_not_free(rt: HostRuntime) {
-    let mut list = PreparedList::new(rt.alloc());
-    add(&rt, &mut list, reader(rt.alloc(), 1, b"x"));
-    add(&rt, &mut list, writer(rt.alloc(), 2, b"x"));
-    holds(&rt, !are_free(list.as_slice()));
 }
 
 // The copy has the number 1 and one write.
