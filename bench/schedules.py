@@ -2,8 +2,9 @@
 
     python3 bench/schedules.py PROGRAM EVENTS [SEED]       runs and resumed runs, crashes and stops inside log writes
     python3 bench/schedules.py PROGRAM kills COUNT [SEED]  the program itself is killed at a random moment, so often, and its files are resumed
+    python3 bench/schedules.py PROGRAM open COUNT ROUNDS   so many transactions stay open at one coordinator while others are carried to their end
 
-Each line is made from what the program has told so far, so that most messages that are delivered were sent. What is compared stands in `promises.py`: serial
+Each random line is made from what the program has told so far, so that most messages that are delivered were sent. What is compared stands in `promises.py`: serial
 reads, decisions, acknowledgements, agreement, and the records that the files give. A directory in memory (/dev/shm) is used where there is one.
 """
 import os
@@ -12,6 +13,7 @@ import shutil
 import subprocess
 import sys
 import tempfile
+import time
 
 from promises import Reading, records_of, serve
 
@@ -180,6 +182,43 @@ def may_be_left(reading, found):
     return reading.end(found)
 
 
+def beside_open(count, rounds):
+    """A schedule in which so many transactions are asked for their commit and stay open, and so many others are carried to their end beside them."""
+    yield "members occ lock coords 1"
+    for number in range(count + rounds):
+        yield f"begin {number} c1"
+    for number in range(count):
+        yield from (f"read {number} m1 a", f"commit {number}")
+    for number in range(count, count + rounds):
+        yield from (f"write {number} {member} b 1" for member in ("m1", "m2"))
+        yield f"commit {number}"
+        yield from (f"deliver prepare {number} c1 {member} 1" for member in ("m1", "m2"))
+        yield from (f"deliver vote {number} {member} c1 yes" for member in ("m1", "m2"))
+        yield from (f"deliver decide {number} c1 {member} commit" for member in ("m1", "m2"))
+        yield from (f"deliver ack {number} {member} c1" for member in ("m1", "m2"))
+
+
+def time_beside_open(program, count, rounds):
+    """The time of such a schedule, and how many transactions ended."""
+    work = tempfile.mkdtemp(dir="/dev/shm" if os.path.isdir("/dev/shm") else None)
+    try:
+        text = "".join(line + "\n" for line in beside_open(count, rounds))
+        start = time.perf_counter()
+        done = subprocess.run([program, "run", f"{work}/logs"], input=text, stdout=subprocess.PIPE, text=True, check=True)
+        took = time.perf_counter() - start
+    finally:
+        shutil.rmtree(work)
+    return took, sum(line.endswith(" reply ended") for line in done.stdout.splitlines())
+
+
+def tell_beside_open(program, count, rounds):
+    """Tells the time of a round beside so many open transactions: the difference to a run without rounds."""
+    without, none = time_beside_open(program, count, 0)
+    whole, ended = time_beside_open(program, count, rounds)
+    print(f"{count} open: {without:.2f} s without rounds, {whole:.2f} s with {rounds}, {(whole - without) / rounds * 1e6:.0f} microseconds each; {ended} ended")
+    return none == 0 and ended == rounds
+
+
 def series(program, chance, play):
     """Runs over one directory, the later ones resumed; gives the events and what does not hold."""
     memory = "/dev/shm" if os.path.isdir("/dev/shm") else None
@@ -201,6 +240,8 @@ def series(program, chance, play):
 
 def main():
     program, kills = os.path.abspath(sys.argv[1]), sys.argv[2] == "kills"
+    if sys.argv[2] == "open":
+        sys.exit(0 if tell_beside_open(program, int(sys.argv[3]), int(sys.argv[4])) else 1)
     count = int(sys.argv[3 if kills else 2])
     words = sys.argv[4:] if kills else sys.argv[3:]
     seed = int(words[0]) if words else 1

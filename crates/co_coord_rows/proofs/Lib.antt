@@ -1,4 +1,0 @@
-pub mod Events
-pub mod Naming
-pub mod New
-pub mod Starting
