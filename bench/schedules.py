@@ -212,9 +212,9 @@ def time_beside_open(program, count, rounds):
 
 
 def tell_beside_open(program, count, rounds):
-    """Tells the time of a round beside so many open transactions: the difference to a run without rounds."""
-    without, none = time_beside_open(program, count, 0)
-    whole, ended = time_beside_open(program, count, rounds)
+    """Tells the time of a round beside so many open transactions: the difference to a run without rounds, of the shortest of three runs each."""
+    without, none = min(time_beside_open(program, count, 0) for _ in range(3))
+    whole, ended = min(time_beside_open(program, count, rounds) for _ in range(3))
     print(f"{count} open: {without:.2f} s without rounds, {whole:.2f} s with {rounds}, {(whole - without) / rounds * 1e6:.0f} microseconds each; {ended} ended")
     return none == 0 and ended == rounds
 
