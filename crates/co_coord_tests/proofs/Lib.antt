@@ -1,0 +1,4 @@
+pub mod Events
+pub mod Naming
+pub mod New
+pub mod Starting
