@@ -1,15 +1,10 @@
 -- What each event of a coordinator leaves: it stands for a plain one that is whole and writable again.
 use Rattle.std.proofs.Common.{◌≡◌, ℕ, Bool, true, false, List, sym, subst, ◌∙◌, arith}
-use Rattle.std.specs.Prelude.{Ok}
-use Rattle.co_base.specs.declared.node.Node.{Node}
 use Rattle.co_base.specs.declared.part.Part.{Part}
 use Rattle.co_base.specs.Limits.{most_coordinators}
 use Rattle.co_message.specs.declared.message.Message.{Message}
 use Rattle.co_message.specs.declared.message.Message.TheVariants as message
 use Rattle.co_outside.specs.declared.home_memory.HomeMemory.{HomeMemory}
-use Rattle.co_log.specs.LogView.{LogView, IsHeld}
-use Rattle.co_outside.specs.Home.{HomeView}
-use Rattle.co_node.specs.declared.written.Written.TheVariants.{Done}
 use Rattle.co_plain.specs.Coordinator.{coord_deliver}
 use Rattle.co_plain.specs.declared.coord_state.CoordState.{CoordState}
 use Rattle.co_plain.specs.declared.coord_step.CoordStep.{CoordStep as PlainStep}
@@ -18,7 +13,6 @@ use Rattle.co_law_node.proofs.WritableCoords.{coord_stays}
 use Rattle.co_law_node.specs.WholeCoords.{CoordStays, CoordStaysWhole, IsWholeCoord}
 use Rattle.co_plain.specs.Numbers.{IsAmong}
 use Rattle.co_law_node.specs.Writable.{CoordStaysWritable, IsWritableCoord}
-use Rattle.co_coord.specs.Restating.{IsCheckpointed}
 use Rattle.co_coord.specs.Standing.{is_up, HasDone, IsSame}
 use Rattle.co_coord.specs.declared.coord.Coord.{Coord}
 use Rattle.co_coord.specs.declared.step.CoordStep.{CoordStep}
@@ -31,11 +25,6 @@ delivered Keeps MayName c y laws keeps (message.Ask t m coord) up = laws.questio
 delivered Keeps MayName c y laws keeps (message.Ack t m coord) up = laws.acknowledgement t m up
 delivered Keeps MayName c y laws keeps (message.Prepare t coord m count) up = keeps
 delivered Keeps MayName c y laws keeps (message.Decide t coord m commit) up = keeps
-
--- a checkpoint that was done left a log that the directory has
-pub checkpoint_held : (closed : Bool) (owner : Node) (plain : CoordState) (log after : LogView) (old new : HomeView) (d : CoordStep) → IsCheckpointed closed owner plain log after old new (Ok (Done d.marks)) → IsHeld new after
-checkpoint_held true owner plain log after old new d answered = answered.1.held
-checkpoint_held false owner plain log after old new d answered = answered.1.held
 
 module _ (home : HomeMemory) (x : Coord) (p : IsPlayed home x) where
   pub whole_laws : CoordStaysWhole 3 x.number p.plain

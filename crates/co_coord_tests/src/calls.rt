@@ -14,7 +14,12 @@ use std::alloc::Global;
 pub(crate) const COORD: u8 = 1;
 
 /// A client begins a transaction.
-pub(crate) fn begin(alloc: Global, home: &HomeMemory, coord: &mut Coord, t: Txn) -> Result<CoordStep>
+pub(crate) fn begin(
+    alloc: Global,
+    home: &HomeMemory,
+    coord: &mut Coord,
+    t: Txn,
+) -> Result<CoordStep>
     requires { IsRunning home.now coord.old }
     ensures { OnOk result (IsPlayed home.now coord.new) }
 {
@@ -38,7 +43,11 @@ pub(crate) fn commit(
 }
 
 /// A message comes.
-pub(crate) fn deliver(home: &mut HomeMemory, coord: &mut Coord, message: &Message) -> Result<CoordStep>
+pub(crate) fn deliver(
+    home: &mut HomeMemory,
+    coord: &mut Coord,
+    message: &Message,
+) -> Result<CoordStep>
     requires { IsRunning home.old coord.old }
     ensures { OnOk result (IsPlayed home.new coord.new) }
 {

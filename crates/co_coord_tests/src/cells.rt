@@ -109,27 +109,51 @@ fn last_answer(
 ) -> Result<&'static str>
     requires { IsPlayed home.old coord.old }
 {
-    let mut last = "none";
-    for message in messages {
-        last = answered(home, coord, message)?;
+    let [before @ .., last] = messages else {
+        bail!("there is no message");
+    };
+    for message in before {
+        answered(home, coord, message)?;
     }
-    Ok(last)
+    answered(home, coord, last)
 }
 
-/// The same at a coordinator whose only transaction is begun, and is asked for its commit or not.
-fn answer_behind(alloc: Global, is_asked: bool, messages: &[Message]) -> Result<&'static str> {
+/// The transaction is begun, and is asked for its commit or not.
+fn open(alloc: Global, home: &mut HomeMemory, coord: &mut Coord, is_asked: bool) -> Result<()>
+    requires { IsPlayed home.old coord.old }
+    ensures { OnOk result (IsPlayed home.new coord.new) }
+{
+    start(alloc, home, coord)?;
+    if is_asked {
+        return end(alloc, home, coord);
+    }
+    Ok(())
+}
+
+/// What the last of these messages is answered behind that.
+fn answer_behind(
+    alloc: Global,
+    home: &mut HomeMemory,
+    coord: &mut Coord,
+    is_asked: bool,
+    messages: &[Message],
+) -> Result<&'static str>
+    requires { IsPlayed home.old coord.old }
+{
+    open(alloc, home, coord, is_asked)?;
+    last_answer(home, coord, messages)
+}
+
+/// The same at a new coordinator.
+fn answer(alloc: Global, is_asked: bool, messages: &[Message]) -> Result<&'static str> {
     let mut home = HomeMemory::new(alloc, Vec::new(alloc));
     let mut coord = opened(alloc, &mut home)?;
-    start(alloc, &home, &mut coord)?;
-    if is_asked {
-        end(alloc, &mut home, &mut coord)?;
-    }
-    last_answer(&mut home, &mut coord, messages)
+    answer_behind(alloc, &mut home, &mut coord, is_asked, messages)
 }
 
 /// Whether the last of these messages is answered so.
 fn is_answered(alloc: Global, is_asked: bool, messages: &[Message], wanted: &'static str) -> bool {
-    match answer_behind(alloc, is_asked, messages) {
+    match answer(alloc, is_asked, messages) {
         Ok(told) => told == wanted,
         Err(_) => false,
     }
