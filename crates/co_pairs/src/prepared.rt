@@ -1,10 +1,9 @@
 //! Transactions that have voted yes and wait for the decision.
-ghost use Rattle.std.specs.Prelude.{◌≡◌, IfOk};
+ghost use Rattle.std.specs.Prelude.{◌≡◌};
 ghost use Rattle.co_pairs.specs.Free.{clash, clashes_with, are_free};
 
 use co_base::{Sequence, Txn};
 use co_state::Sets;
-use std::alloc::{AllocError, Global};
 
 /// A transaction that has voted yes at a member.
 #[derive(Drop)]
@@ -21,20 +20,6 @@ pub struct Prepared {
 
 /// A list of prepared transactions.
 pub type PreparedList = Sequence<Prepared>;
-
-impl Prepared {
-    /// An equal one.
-    pub fn copy(&self, alloc: Global) -> Result<Prepared, AllocError>
-        ensures { IfOk result (λ copy. copy ≡ self.now) }
-    {
-        Ok(Prepared {
-            txn: self.txn,
-            coord: self.coord,
-            count: self.count,
-            sets: self.sets.copy(alloc)?,
-        })
-    }
-}
 
 /// Whether two prepared transactions have one number or are in conflict.
 fn clash(one: &Prepared, other: &Prepared) -> bool

@@ -4,9 +4,7 @@
 //! there. To undo a transaction and to keep what it wrote take no memory.
 #![tactic(auto)]
 
-mod dump;
 mod slots;
 mod store;
 
-pub use dump::Dump;
 pub use store::Store;

@@ -1,17 +1,16 @@
 //! The store.
-ghost use Rattle.std.specs.Prelude.{◌≡◌, filter, IfOk, OnOk, IsTrue, option_copied};
+ghost use Rattle.std.specs.Prelude.{◌≡◌, filter, IfOk, OnOk, option_copied};
 ghost use Rattle.std.specs.FinMap as map;
 ghost use Rattle.std.specs.FinMap.{entries, get};
 ghost use Rattle.co_base.specs.Span.{span_has};
 ghost use Rattle.co_serial.specs.Records.{all_rows, rows_within};
-ghost use Rattle.co_store.specs.Images.{or_nothing, with_image, value_in, restored_all, settled_all, slots_from, joined_images, all_images, changes_of};
-ghost use Rattle.co_store.specs.StoreState.{StoreState, state_of_rows, with_put, with_undone, with_kept, noted, all_noted, laid_back, all_laid_back, clean_records, undo_changes, IsFree};
+ghost use Rattle.co_store.specs.Images.{or_nothing, with_image, value_in, restored_all, settled_all, slots_from};
+ghost use Rattle.co_store.specs.StoreState.{StoreState, state_of_rows, with_put, with_undone, with_kept, noted, all_noted, laid_back, all_laid_back, clean_records, IsFree};
 ghost use Rattle.co_store.specs.Shown.{Shows};
 ghost use Rattle.co_state.specs.Table.{look, put, without};
 
-use crate::dump::Dump;
 use crate::slots::{Slot, Slots};
-use co_base::{Key, Range, Row, Rows, Txn, Value, Writes, Written};
+use co_base::{Key, Range, Row, Rows, Txn, Value};
 use co_state::{RowList, Table};
 use std::alloc::{AllocError, Global};
 
@@ -143,41 +142,6 @@ fn lay_all(records: &mut RowList, undos: &Table<Slots>) -> Result<(), AllocError
     Ok(())
 }
 
-/// Adds images to others.
-fn join(all: &mut Slots, images: &Slots) -> Result<(), AllocError>
-    ensures { OnOk result (all.new ≡ joined_images all.old (entries images.now)) }
-{
-    for (key, slot) in images.iter() {
-        all.lay(key.copy()?, copy_value(&slot.value)?)?;
-    }
-    Ok(())
-}
-
-/// The images of all transactions.
-fn all_images(alloc: Global, undos: &Table<Slots>) -> Result<Slots, AllocError>
-    ensures { IfOk result (λ all. all ≡ all_images map.empty (entries undos.now)) }
-{
-    let mut all = Slots::new(alloc);
-    for (_, images) in undos.iter() {
-        join(&mut all, images)?;
-    }
-    Ok(all)
-}
-
-/// What stands at keys, as changes.
-fn changes_of(alloc: Global, images: &Slots) -> Result<Writes, AllocError>
-    ensures { IfOk result (λ changes. changes ≡ changes_of (entries images.now)) }
-{
-    let mut changes = Vec::new(alloc);
-    for (key, slot) in images.iter() {
-        changes.push(Written {
-            key: key.copy()?,
-            value: copy_value(&slot.value)?,
-        })?;
-    }
-    Ok(Writes::of(changes))
-}
-
 impl Store {
     /// A store of these records, with no transaction.
     pub fn of_rows(alloc: Global, rows: Rows) -> Result<Store, AllocError>
@@ -246,18 +210,5 @@ impl Store {
         let mut records = self.records()?;
         lay_all(&mut records, &self.undos)?;
         Ok(records.into_rows())
-    }
-
-    /// The records as they are, and for each key that an unfinished transaction wrote what leads back, in the
-    /// order of the keys.
-    pub fn dump(&self) -> Result<Dump, AllocError>
-        ensures rows { (s : StoreState) → Shows self.now s → IfOk result (λ dump. dump.rows ≡ all_rows s.now) }
-        ensures undos { (s : StoreState) → Shows self.now s → IfOk result (λ dump. dump.undos ≡ undo_changes s) }
-    {
-        let records = self.records()?;
-        let rows = records.into_rows();
-        let images = all_images(self.alloc, &self.undos)?;
-        let undos = changes_of(self.alloc, &images)?;
-        Ok(Dump { rows, undos })
     }
 }
