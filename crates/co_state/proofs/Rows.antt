@@ -56,7 +56,3 @@ reverse-take xs n =
 pub records_at-take : (base : Records) (xs : List Install) (count : ℕ) → records_now base (reverse (take count xs)) ≡ records_at base (reverse xs) count
 records_at-take base xs count =
     ap (records_now base) (reverse-take xs count) ∙ ap (λ n. records_now base (drop (n - count) (reverse xs))) (sym (length-reverse xs)) ∙ sym (records_at-drop base (reverse xs) count)
-
--- all installs
-pub records_at-all : (base : Records) (is : List Install) → records_at base is (length is) ≡ records_now base is
-records_at-all base is = records_at-drop base is (length is) ∙ (let e : length is - length is ≡ 0 = omega arith in ap (λ n. records_now base (drop n is)) e)

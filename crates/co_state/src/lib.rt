@@ -1,8 +1,9 @@
 //! What an engine knows of transactions at one member, as plain data: its records, which transactions
 //! are active and which have voted, what they read and wrote; and the rules that all engines share.
 //!
-//! The rules are definitions in `specs/`. Whatever an engine keeps instead (locks and undo lists, write
-//! sets, chains of versions), its answers are compared with these.
+//! The rules are definitions in `specs/`, and no function here computes a whole one. Whatever an engine
+//! keeps instead of the state (locks and undo lists, write sets, chains of versions), its contract says
+//! its answers by these.
 #![tactic(auto)]
 
 mod changes;
