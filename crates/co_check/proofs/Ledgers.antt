@@ -9,7 +9,17 @@ use Rattle.co_check.specs.declared.ledger.Ledger.{Ledger}
 use Rattle.co_check.specs.declared.place.Place.{Place}
 use Rattle.co_check.specs.Account.{Account, Committed, client_in, client_of, with_client, begun, begun_by, told, told_to, commits_at, committed_at, is_by}
 use Rattle.co_check.specs.Kept.{Keeps, IsChange, IsJudged, IsNext, Follows}
-use Rattle.co_check.specs.Shape.{Read}
+use Rattle.co_check.specs.Shape.{Read, at_place}
+
+-- a line that changes the account goes on at its place
+pub goes_on : (o : Option Account) (place : Place) (after : Ledger) → IsChange o true after → IsNext (at_place place o) (Some place) after
+goes_on None place after is = absurd (let z : true ≡ false = is in cc)
+goes_on (Some a) place after is = (refl, is.1)
+
+-- and one that may not breaks the shape
+pub breaks : (o : Option Account) (place : Place) (after : Ledger) → IsChange o false after → IsNext (at_place place o) None after
+breaks None place after is = tt
+breaks (Some a) place after is = absurd (let z : false ≡ true = is.0 in cc)
 
 -- what is known of one transaction is another
 changed : (l mid new : Ledger) (a : Account) (t : ℕ) (client other : Client) → Keeps l a → mid ≡ record l { clients = without l.clients t } →

@@ -1,9 +1,10 @@
 //! The shape of a transcript, line by line.
-ghost use Rattle.std.specs.Prelude.{◌≡◌, ◌<◌, ◌≤◌, ◌+◌, ◌^◌, IfOk, OnOk};
-ghost use Rattle.co_check.specs.Account.{Account};
+ghost use Rattle.std.specs.Prelude.{◌≡◌, ◌<◌, ◌≤◌, ◌+◌, ◌^◌, ◌==◌, false, Some, IfOk, OnOk};
+ghost use Rattle.co_check.specs.Account.{Account, marked, replied};
 ghost use Rattle.co_check.specs.Kept.{Keeps, IsNext};
 ghost use Rattle.co_check.specs.declared.ledger.Ledger.{Ledger};
-ghost use Rattle.co_check.specs.Shape.{has_node, has_members, has_coords, has_headers, with_header, in_head, in_group, behind, next};
+ghost use Rattle.co_check.specs.declared.place.Place.TheVariants.{InHead, InGroup, Behind};
+ghost use Rattle.co_check.specs.Shape.{has_node, has_members, has_coords, has_headers, with_header, number_at, at_place, at_front, opens, in_head, in_group, behind, told_at, next};
 
 use crate::fitting::fits;
 use crate::ledger::Ledger;
@@ -71,6 +72,30 @@ fn has_headers(seen: &[Node], head: &Head) -> bool
     has_members(seen, head.kinds.len() as u8) && has_coords(seen, head.coords)
 }
 
+/// A mark in the group of the head.
+fn marked_in_head(head: Head, seen: Sequence<Node>, mark: Mark) -> Result<Option<Place>, AllocError>
+    ensures { IfOk result (λ place. place ≡ Some (InHead head (with_header seen mark) false)) }
+{
+    let seen = with_header(seen, mark)?;
+    Ok(Some(Place::InHead {
+        head,
+        seen,
+        sending: false,
+    }))
+}
+
+/// The answer that ends the group of the head.
+fn opens(head: Head, seen: Sequence<Node>, answer: Answer) -> Option<Place>
+    ensures { (l : Ledger) (a : Account) → Keeps l a → IsNext (opens a head seen answer) result l }
+{
+    match answer {
+        Answer::Opened if has_headers(seen.as_slice(), &head) => {
+            Some(Place::Behind { head, number: 1 })
+        }
+        _ => None,
+    }
+}
+
 /// A line of the group of the head.
 fn in_head(
     head: Head,
@@ -81,29 +106,57 @@ fn in_head(
     ensures { (l : Ledger) (a : Account) → Keeps l a → IfOk result (λ place. IsNext (in_head a head seen sending what) place l) }
 {
     match what {
-        ItemKind::Log(mark) => {
-            if sending {
-                return Ok(None);
-            }
-            Ok(Some(Place::InHead {
-                head,
-                seen: with_header(seen, mark)?,
-                sending,
-            }))
-        }
+        ItemKind::Log(mark) if !sending => marked_in_head(head, seen, mark),
         ItemKind::Sent(_) => Ok(Some(Place::InHead {
             head,
             seen,
             sending: true,
         })),
-        ItemKind::Answered(Answer::Opened) => {
-            if has_headers(seen.as_slice(), &head) {
-                Ok(Some(Place::Behind { head, number: 1 }))
-            } else {
-                Ok(None)
-            }
-        }
+        ItemKind::Answered(answer) => Ok(opens(head, seen, answer)),
         _ => Ok(None),
+    }
+}
+
+/// A mark in the group of an event.
+fn marked_in_group(
+    ledger: &mut Ledger,
+    head: Head,
+    number: u32,
+    event: Event,
+    mark: Mark,
+) -> Result<Option<Place>, AllocError>
+    requires { ledger.old.transactions + 1 < 2 ^ 32 }
+    ensures next { (a : Account) → Keeps ledger.old a → IfOk result (λ place. IsNext (at_place (InGroup head number event false) (marked a mark)) place ledger.new) }
+    ensures few { OnOk result (ledger.new.transactions ≤ ledger.old.transactions + 1) }
+{
+    if ledger.mark(mark)? {
+        Ok(Some(Place::InGroup {
+            head,
+            number,
+            event,
+            sending: false,
+        }))
+    } else {
+        Ok(None)
+    }
+}
+
+/// The answer that ends the group of an event.
+fn replied_in_group(
+    ledger: &mut Ledger,
+    head: Head,
+    number: u32,
+    event: Event,
+    answer: Answer,
+) -> Result<Option<Place>, AllocError>
+    requires { ledger.old.transactions + 1 < 2 ^ 32 }
+    ensures next { (a : Account) → Keeps ledger.old a → IfOk result (λ place. IsNext (at_place (Behind head number) (replied a number event answer)) place ledger.new) }
+    ensures few { OnOk result (ledger.new.transactions ≤ ledger.old.transactions + 1) }
+{
+    if ledger.reply(number, event, answer)? {
+        Ok(Some(Place::Behind { head, number }))
+    } else {
+        Ok(None)
     }
 }
 
@@ -121,30 +174,14 @@ fn in_group(
     ensures few { OnOk result (ledger.new.transactions ≤ ledger.old.transactions + 1) }
 {
     match what {
-        ItemKind::Log(mark) => {
-            if sending || !ledger.mark(mark)? {
-                return Ok(None);
-            }
-            Ok(Some(Place::InGroup {
-                head,
-                number,
-                event,
-                sending,
-            }))
-        }
+        ItemKind::Log(mark) if !sending => marked_in_group(ledger, head, number, event, mark),
         ItemKind::Sent(_) => Ok(Some(Place::InGroup {
             head,
             number,
             event,
             sending: true,
         })),
-        ItemKind::Answered(answer) => {
-            if ledger.reply(number, event, answer)? {
-                Ok(Some(Place::Behind { head, number }))
-            } else {
-                Ok(None)
-            }
-        }
+        ItemKind::Answered(answer) => replied_in_group(ledger, head, number, event, answer),
         _ => Ok(None),
     }
 }
@@ -170,6 +207,61 @@ fn behind(head: Head, number: u32, what: ItemKind) -> Option<Place>
     }
 }
 
+/// The first line, which is a head.
+fn at_front(alloc: Global, what: ItemKind) -> Option<Place>
+    ensures { (l : Ledger) (a : Account) → Keeps l a → IsNext (at_front a what) result l }
+{
+    match what {
+        ItemKind::Head(head) => Some(Place::InHead {
+            head,
+            seen: Sequence::new(alloc),
+            sending: false,
+        }),
+        _ => None,
+    }
+}
+
+/// Whether an item has the number of its place.
+fn is_numbered(place: &Place, number: u32) -> bool
+    ensures { result ≡ (number == number_at place.now) }
+{
+    match place {
+        Place::AtFront | Place::InHead { .. } => number == 1,
+        Place::InGroup { number: group, .. } => number == *group,
+        Place::Behind { number: last, .. } => number != 0 && number - 1 == *last,
+    }
+}
+
+/// Where the transcript stands behind one more line, which has the number of its place.
+fn told_at(
+    alloc: Global,
+    place: Place,
+    ledger: &mut Ledger,
+    number: u32,
+    what: ItemKind,
+) -> Result<Option<Place>, AllocError>
+    requires few { ledger.old.transactions + 1 < 2 ^ 32 }
+    requires numbered { number ≡ number_at place }
+    ensures next { (a : Account) → Keeps ledger.old a → IfOk result (λ after. IsNext (told_at a place what) after ledger.new) }
+    ensures few { OnOk result (ledger.new.transactions ≤ ledger.old.transactions + 1) }
+{
+    match place {
+        Place::AtFront => Ok(at_front(alloc, what)),
+        Place::InHead {
+            head,
+            seen,
+            sending,
+        } => in_head(head, seen, sending, what),
+        Place::InGroup {
+            head,
+            number,
+            event,
+            sending,
+        } => in_group(ledger, head, number, event, sending, what),
+        Place::Behind { head, number: _ } => Ok(behind(head, number, what)),
+    }
+}
+
 /// Where the transcript stands behind one more line, or nothing where the line breaks its shape.
 pub(crate) fn next(
     alloc: Global,
@@ -181,47 +273,9 @@ pub(crate) fn next(
     ensures next { (a : Account) → Keeps ledger.old a → IfOk result (λ after. IsNext (next (record { place = place; account = a }) item) after ledger.new) }
     ensures few { OnOk result (ledger.new.transactions ≤ ledger.old.transactions + 1) }
 {
-    let Item { number, what } = item;
-    match place {
-        Place::AtFront => match what {
-            ItemKind::Head(head) => {
-                if number != 1 {
-                    return Ok(None);
-                }
-                Ok(Some(Place::InHead {
-                    head,
-                    seen: Sequence::new(alloc),
-                    sending: false,
-                }))
-            }
-            _ => Ok(None),
-        },
-        Place::InHead {
-            head,
-            seen,
-            sending,
-        } => {
-            if number != 1 {
-                return Ok(None);
-            }
-            in_head(head, seen, sending, what)
-        }
-        Place::InGroup {
-            head,
-            number: group,
-            event,
-            sending,
-        } => {
-            if number != group {
-                return Ok(None);
-            }
-            in_group(ledger, head, group, event, sending, what)
-        }
-        Place::Behind { head, number: last } => {
-            if number == 0 || number - 1 != last {
-                return Ok(None);
-            }
-            Ok(behind(head, number, what))
-        }
+    if is_numbered(&place, item.number) {
+        told_at(alloc, place, ledger, item.number, item.what)
+    } else {
+        Ok(None)
     }
 }

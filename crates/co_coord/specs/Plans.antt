@@ -26,6 +26,9 @@ use Rattle.co_node.specs.declared.writing.Writes.TheVariants.{Nothing, Keeps, Fo
 abbrev pub says : Answer → Plan
 says a = record { writes = Nothing; change = Stays; answer = a; sent = [] }
 
+abbrev pub turns : Change → Answer → List Message → Plan
+turns x a messages = record { writes = Nothing; change = x; answer = a; sent = messages }
+
 abbrev pub sends : Answer → List Message → Plan
 sends a messages = record { writes = Nothing; change = Stays; answer = a; sent = messages }
 
@@ -41,11 +44,18 @@ aborts c t by parts = record { writes = Nothing; change = Leaves; answer = answe
 abbrev pub begin_plan : Plan
 begin_plan = record { writes = Nothing; change = Becomes entry.Idle; answer = answer.Begun; sent = [] }
 
+-- a transaction without participants is decided at once
+abbrev pub decides_alone : ℕ → Plan
+decides_alone t = record { writes = Forces (log.Commit t []); change = Leaves; answer = answer.Committed; sent = [] }
+
+-- each participant is asked to prepare, and the least one is waited for
+abbrev pub prepares : ℕ → ℕ → ℕ → List Part → Plan
+prepares c t m parts = turns (Becomes (entry.Collecting parts [])) (answer.Waiting m) (prepares_to c t parts)
+
 -- an idle transaction whose commit is asked is decided where it has no participants
 abbrev pub ask_plan_of : ℕ → ℕ → List Part → Plan
-ask_plan_of c t [] = record { writes = Forces (log.Commit t []); change = Leaves; answer = answer.Committed; sent = [] }
-ask_plan_of c t (p ∷ ps) =
-    record { writes = Nothing; change = Becomes (entry.Collecting (p ∷ ps) []); answer = answer.Waiting p.member; sent = prepares_to c t (p ∷ ps) }
+ask_plan_of c t [] = decides_alone t
+ask_plan_of c t (p ∷ ps) = prepares c t p.member (p ∷ ps)
 
 abbrev pub commit_plan : ℕ → ℕ → List Part → Option Entry → Plan
 commit_plan c t parts None = says answer.Unknown
@@ -64,9 +74,13 @@ abbrev pub commits : ℕ → ℕ → List ℕ → Plan
 commits c t members =
     record { writes = Forces (log.Commit t members); change = Becomes (entry.Committed members []); answer = answer.Committed; sent = decisions_to c t true members }
 
+-- a yes was counted, and another one is waited for
+abbrev pub collects : ℕ → List Part → List ℕ → Plan
+collects m parts yeses = turns (Becomes (entry.Collecting parts yeses)) (answer.Waiting m) []
+
 -- a yes was counted: the last missing one decides
 abbrev pub decides : ℕ → ℕ → List Part → List ℕ → Option ℕ → Plan
-decides c t parts yeses (Some m) = record { writes = Nothing; change = Becomes (entry.Collecting parts yeses); answer = answer.Waiting m; sent = [] }
+decides c t parts yeses (Some m) = collects m parts yeses
 decides c t parts yeses None = commits c t (members_of parts)
 
 -- a yes of a member that is no participant, or that said yes before, changes nothing
@@ -94,10 +108,18 @@ ask_plan c t m (Some entry.Idle) = says answer.Idle
 ask_plan c t m (Some (entry.Collecting parts yeses)) = waits parts yeses
 ask_plan c t m (Some (entry.Committed members acks)) = sends answer.Decided (message.Decide t c m true ∷ [])
 
--- the last acknowledgement ends the transaction, whose end record waits
+-- an acknowledgement was counted, and another one is waited for
+abbrev pub counts : List ℕ → List ℕ → Plan
+counts members acks = turns (Becomes (entry.Committed members acks)) answer.Decided []
+
+-- behind the last acknowledgement the transaction is forgotten, and its end record waits
+abbrev pub forgets : ℕ → Plan
+forgets t = record { writes = Keeps (log.End t); change = Leaves; answer = answer.Ended; sent = [] }
+
+-- the last acknowledgement ends the transaction
 abbrev pub ends : ℕ → List ℕ → List ℕ → Option ℕ → Plan
-ends t members acks (Some m) = record { writes = Nothing; change = Becomes (entry.Committed members acks); answer = answer.Decided; sent = [] }
-ends t members acks None = record { writes = Keeps (log.End t); change = Leaves; answer = answer.Ended; sent = [] }
+ends t members acks (Some m) = counts members acks
+ends t members acks None = forgets t
 
 abbrev pub acknowledged_plan : ℕ → ℕ → List ℕ → List ℕ → Plan
 acknowledged_plan t m members acks =

@@ -1,5 +1,5 @@
 //! The coordinator on its log.
-ghost use Rattle.std.specs.Prelude.{◌≡◌, true, Option, None, Some, [], IfOk, IfErr, OnOk};
+ghost use Rattle.std.specs.Prelude.{◌≡◌, true, Option, None, Some, [], Ok, Err, IfOk, IfErr, OnOk, OnErr};
 ghost use Rattle.co_base.specs.declared.node.Node.TheVariants as node;
 ghost use Rattle.co_log.specs.LogView.{IsHeld, IsShort};
 ghost use Rattle.co_log.specs.Others.{OtherNodesStay};
@@ -48,6 +48,26 @@ fn apply(table: &mut Table<Entry>, txn: Txn, change: Change) -> Result<(), Alloc
             table.remove(txn);
             Ok(())
         }
+    }
+}
+
+/// The step of a plan that writes nothing, where its change was made.
+fn settled(
+    alloc: Global,
+    changed: Result<(), AllocError>,
+    answer: Answer,
+    sent: Messages,
+) -> Result<CoordStep, NodeFault>
+    ensures done { OnOk changed (result ≡ Ok (record { answer = answer; sent = sent; marks = [] })) }
+    ensures memory { OnErr changed (result ≡ Err Memory) }
+{
+    match changed {
+        Ok(()) => Ok(CoordStep {
+            answer,
+            sent,
+            marks: Marks::new(alloc),
+        }),
+        Err(_) => Err(NodeFault::Memory),
     }
 }
 
@@ -137,17 +157,7 @@ impl Coord {
         ensures log { self.new.log ≡ self.old.log }
         ensures same { IsSame self.old self.new }
     {
-        let Plan {
-            writes: _,
-            change,
-            answer,
-            sent,
-        } = plan;
-        self.change(txn, change)?;
-        Ok(CoordStep {
-            answer,
-            sent,
-            marks: Marks::new(self.alloc),
-        })
+        let changed = self.change(txn, plan.change);
+        settled(self.alloc, changed, plan.answer, plan.sent)
     }
 }

@@ -4,10 +4,10 @@ ghost use Rattle.co_message.specs.declared.message.Message.TheVariants as messag
 ghost use Rattle.co_plain.specs.CoordStep.{members_of};
 ghost use Rattle.co_plain.specs.Numbers.{first_lacking};
 ghost use Rattle.co_state.specs.Table.{look};
-ghost use Rattle.co_coord.specs.Plans.{sends, commits, decides, yes_plan, no_plan, vote_plan, ask_plan, ends, acknowledged_plan, ack_plan, deliver_plan, txn_of};
+ghost use Rattle.co_coord.specs.Plans.{sends, commits, collects, decides, counts, forgets, yes_plan, no_plan, vote_plan, ask_plan, ends, acknowledged_plan, ack_plan, deliver_plan, txn_of};
 
 use crate::messages::{aborts, copy_parts, decisions_to, waits};
-use crate::plan::{Change, Plan, says, sends};
+use crate::plan::{Change, Plan, says, sends, turns};
 use co_base::{Bytes, Part, Txn, copy_bytes};
 use co_message::{Answer, Cause, Message, Messages};
 use co_node::Writes;
@@ -21,18 +21,33 @@ fn commits(alloc: Global, coord: u8, txn: Txn, members: &[u8]) -> Result<Plan, A
     ensures { IfOk result (λ plan. plan ≡ commits coord txn members.now) }
 {
     let named = copy_bytes(alloc, members)?;
+    let kept = copy_bytes(alloc, members)?;
+    let sent = decisions_to(alloc, coord, txn, true, members)?;
     Ok(Plan {
         writes: Writes::Forces(Record::Commit {
             txn,
             members: named,
         }),
         change: Change::Becomes(Entry::Committed {
-            members: copy_bytes(alloc, members)?,
+            members: kept,
             acks: Bytes::new(alloc),
         }),
         answer: Answer::Committed,
-        sent: Messages::of(decisions_to(alloc, coord, txn, true, members)?),
+        sent: Messages::of(sent),
     })
+}
+
+/// A yes was counted, and another one is waited for.
+fn collects(alloc: Global, member: u8, parts: &[Part], yeses: Bytes) -> Result<Plan, AllocError>
+    ensures { IfOk result (λ plan. plan ≡ collects member parts.now yeses) }
+{
+    let parts = copy_parts(alloc, parts)?;
+    let entry = Entry::Collecting { parts, yeses };
+    Ok(turns(
+        Change::Becomes(entry),
+        Answer::Waiting(member),
+        Messages::new(alloc),
+    ))
 }
 
 /// A yes was counted: the last missing one decides.
@@ -48,15 +63,7 @@ fn decides(
     let members = members_of(alloc, parts)?;
     match first_lacking(members.as_slice(), yeses.as_slice()) {
         None => commits(alloc, coord, txn, members.as_slice()),
-        Some(member) => Ok(Plan {
-            writes: Writes::Nothing,
-            change: Change::Becomes(Entry::Collecting {
-                parts: copy_parts(alloc, parts)?,
-                yeses,
-            }),
-            answer: Answer::Waiting(member),
-            sent: Messages::new(alloc),
-        }),
+        Some(member) => collects(alloc, member, parts, yeses),
     }
 }
 
@@ -187,26 +194,38 @@ fn ask_plan(
     }
 }
 
+/// An acknowledgement was counted, and another one is waited for.
+fn counts(alloc: Global, members: &[u8], acks: Bytes) -> Result<Plan, AllocError>
+    ensures { IfOk result (λ plan. plan ≡ counts members.now acks) }
+{
+    let members = copy_bytes(alloc, members)?;
+    let entry = Entry::Committed { members, acks };
+    Ok(turns(
+        Change::Becomes(entry),
+        Answer::Decided,
+        Messages::new(alloc),
+    ))
+}
+
+/// The last acknowledgement came: the coordinator forgets, and its end record waits.
+fn forgets(alloc: Global, txn: Txn) -> Plan
+    ensures { result ≡ forgets txn }
+{
+    Plan {
+        writes: Writes::Keeps(Record::End { txn }),
+        change: Change::Leaves,
+        answer: Answer::Ended,
+        sent: Messages::new(alloc),
+    }
+}
+
 /// An acknowledgement was counted: after the last one the coordinator forgets, and its end record waits.
 fn ends(alloc: Global, txn: Txn, members: &[u8], acks: Bytes) -> Result<Plan, AllocError>
     ensures { IfOk result (λ plan. plan ≡ ends txn members.now acks (first_lacking members.now acks)) }
 {
     match first_lacking(members, acks.as_slice()) {
-        None => Ok(Plan {
-            writes: Writes::Keeps(Record::End { txn }),
-            change: Change::Leaves,
-            answer: Answer::Ended,
-            sent: Messages::new(alloc),
-        }),
-        Some(_) => Ok(Plan {
-            writes: Writes::Nothing,
-            change: Change::Becomes(Entry::Committed {
-                members: copy_bytes(alloc, members)?,
-                acks,
-            }),
-            answer: Answer::Decided,
-            sent: Messages::new(alloc),
-        }),
+        None => Ok(forgets(alloc, txn)),
+        Some(_) => counts(alloc, members, acks),
     }
 }
 

@@ -5,10 +5,9 @@ ghost use Rattle.co_plain.specs.Coordinator.{prepares_to, decisions_to, parts_la
 ghost use Rattle.co_plain.specs.Numbers.{first_lacking};
 ghost use Rattle.co_coord.specs.Plans.{waits, aborts};
 
-use crate::plan::{Change, Plan, says};
+use crate::plan::{Change, Plan, says, turns};
 use co_base::{Part, Parts, Txn};
 use co_message::{Answer, Cause, Message, Messages};
-use co_node::Writes;
 use co_plain::{first_lacking, has_number, members_of};
 use std::alloc::{AllocError, Global};
 
@@ -102,10 +101,6 @@ pub(crate) fn aborts(
     ensures { IfOk result (λ plan. plan ≡ aborts coord txn cause parts.now) }
 {
     let members = members_of(alloc, parts)?;
-    Ok(Plan {
-        writes: Writes::Nothing,
-        change: Change::Leaves,
-        answer: Answer::Aborted(cause),
-        sent: Messages::of(decisions_to(alloc, coord, txn, false, members.as_slice())?),
-    })
+    let sent = decisions_to(alloc, coord, txn, false, members.as_slice())?;
+    Ok(turns(Change::Leaves, Answer::Aborted(cause), Messages::of(sent)))
 }

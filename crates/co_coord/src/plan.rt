@@ -1,6 +1,6 @@
 //! The plan of an event.
 ghost use Rattle.std.specs.Prelude.{◌≡◌, []};
-ghost use Rattle.co_coord.specs.Plans.{says, sends};
+ghost use Rattle.co_coord.specs.Plans.{says, sends, turns};
 
 use co_base::Sequence;
 use co_message::{Answer, Messages};
@@ -44,14 +44,21 @@ pub(crate) fn says(alloc: Global, answer: Answer) -> Plan
     }
 }
 
+/// A change of the table, an answer and messages.
+pub(crate) fn turns(change: Change, answer: Answer, sent: Messages) -> Plan
+    ensures { result ≡ turns change answer sent }
+{
+    Plan {
+        writes: Writes::Nothing,
+        change,
+        answer,
+        sent,
+    }
+}
+
 /// An answer and messages.
 pub(crate) fn sends(answer: Answer, sent: Messages) -> Plan
     ensures { result ≡ sends answer sent }
 {
-    Plan {
-        writes: Writes::Nothing,
-        change: Change::Stays,
-        answer,
-        sent,
-    }
+    turns(Change::Stays, answer, sent)
 }

@@ -4,10 +4,9 @@ ghost use Rattle.co_state.specs.Table.{look};
 ghost use Rattle.co_coord.specs.Plans.{timer_plan, resend_plan};
 
 use crate::messages::{aborts, decisions_to, least_waiting, parts_lacking, prepares_to};
-use crate::plan::{Change, Plan, says, sends};
+use crate::plan::{Change, Plan, says, sends, turns};
 use co_base::Txn;
 use co_message::{Answer, Cause, Messages};
-use co_node::Writes;
 use co_plain::{Entry, numbers_lacking};
 use co_state::Table;
 use std::alloc::{AllocError, Global};
@@ -23,12 +22,11 @@ pub(crate) fn timer_plan(
 {
     match table.get(txn) {
         None => Ok(says(alloc, Answer::Unknown)),
-        Some(Entry::Idle) => Ok(Plan {
-            writes: Writes::Nothing,
-            change: Change::Leaves,
-            answer: Answer::Aborted(Cause::Timer),
-            sent: Messages::new(alloc),
-        }),
+        Some(Entry::Idle) => Ok(turns(
+            Change::Leaves,
+            Answer::Aborted(Cause::Timer),
+            Messages::new(alloc),
+        )),
         Some(Entry::Collecting { parts, yeses: _ }) => {
             aborts(alloc, coord, txn, Cause::Timer, parts.as_slice())
         }
