@@ -1,11 +1,12 @@
 -- What carrying a plan out leaves of the plain coordinator, once its change of the table and its log write were done.
 use Rattle.std.proofs.Common.{◌≡◌, ℕ, Bool, true, false, List, [], ◌∷◌, ◌++◌, refl, sym, ap, subst, ◌∙◌}
-use Rattle.std.specs.Prelude.{Option, None, Some, is_some, if◌then◌else◌, Result, Ok, IfOk}
+use Rattle.std.specs.Prelude.{Option, None, Some, is_some, if◌then◌else◌, Result, Ok, Err, is_err, IfOk, OnOk, OnErr}
 use Rattle.co_base.specs.declared.leaves.Leaves.{Leaves}
 use Rattle.co_base.specs.declared.mark.Mark.{Mark}
 use Rattle.co_base.specs.declared.node.Node.TheVariants as node
 use Rattle.co_log.specs.LogView.{LogView}
 use Rattle.co_log.specs.declared.fault.NodeFault.{NodeFault}
+use Rattle.co_log.specs.declared.fault.NodeFault.TheVariants.{Memory}
 use Rattle.co_message.specs.declared.answer.Answer.{Answer}
 use Rattle.co_message.specs.declared.answer.Answer.TheVariants as answer
 use Rattle.co_message.specs.declared.message.Message.{Message}
@@ -157,6 +158,22 @@ settled x after y t txn plan quiet r is number log table =
     let kept : RepresentsLog (node.Coord x.number) after.log y.log = subst (λ (v : LogView). RepresentsLog (node.Coord x.number) v y.log) (sym log) r.log in
     done_step x after y t txn plan.writes plan.change plan.answer plan.sent [] r is number table
     (subst (λ (w : Writes). HasWrittenFor w (node.Coord x.number) y.log after.log (Ok (Done []))) (sym quiet) (refl, kept))
+
+-- the same where the change of the table may have found no memory
+pub settled_by : {A E : Type 0} (x after : Coord) (y : CoordState) (txn : ℕ) (plan : Plan) (made : Result A E) (out : Result CoordStep NodeFault) → plan.writes ≡ Nothing → RepresentsCoord x y → is_up x ≡ true → after.number ≡ x.number
+    → after.log ≡ x.log → ((t : Table Entry) → x.table ≡ Some t → OnOk made (after.table ≡ Some (changed t txn plan.change)))
+    → OnOk made (out ≡ Ok (record { answer = plan.answer; sent = plan.sent; marks = [] })) → OnErr made (out ≡ Err Memory)
+    → IfOk out (λ d. HasDone (carried_out x.number y txn plan) d after)
+settled_by x after y txn plan (Ok a) out quiet r up number log table done memory =
+    let t = table_of x.table up in
+    subst (λ o. IfOk o (λ d. HasDone (carried_out x.number y txn plan) d after)) (sym done) (settled x after y t.0 txn plan quiet r t.1 number log (table t.0 t.1))
+settled_by x after y txn plan (Err e) out quiet r up number log table done memory =
+    subst (λ o. IfOk o (λ d. HasDone (carried_out x.number y txn plan) d after)) (sym memory) tt
+
+-- what a call leaves where it had memory
+pub made : {A E : Type 0} (P : Type 0) (o : Result A E) → is_err o ≡ false → OnOk o P → P
+made P (Ok a) is p = p
+made P (Err e) is p = absurd (let z : true ≡ false = is in cc)
 
 -- ---- stops and crashes
 
