@@ -1,7 +1,8 @@
 //! A transcript that is checked line by line.
 ghost use Rattle.std.specs.Prelude.{◌≡◌, ◌<◌, ◌≤◌, ◌+◌, ◌^◌, length, IfOk, IsErrOf};
-ghost use Rattle.co_check.specs.Checked.{IsTakenAs, IsTaken, IsEnd};
-ghost use Rattle.co_check.specs.Kept.{Follows};
+ghost use Rattle.co_check.specs.Account.{Account};
+ghost use Rattle.co_check.specs.Checked.{IsJudgedAs, IsTakenAs, IsTaken, IsEnd};
+ghost use Rattle.co_check.specs.Kept.{Follows, Keeps};
 ghost use Rattle.co_check.specs.Shape.{Read, unread};
 
 use crate::fault::CheckFault;
@@ -34,6 +35,16 @@ impl Checker {
         }
     }
 
+    /// Lets it go: it is dropped here alone.
+    pub(crate) fn let_go(self) {}
+
+    /// The verdict on what was told.
+    fn judged(self) -> Verdict
+        ensures { (a : Account) → Keeps self.ledger a → IsJudgedAs a result }
+    {
+        self.ledger.verdict()
+    }
+
     /// Takes one more item, which is on the line of this number.
     fn take(self, alloc: Global, number: u32, item: Item) -> Result<Checker, CheckFault>
         requires { self.ledger.transactions + 1 < 2 ^ 32 }
@@ -58,8 +69,14 @@ impl Checker {
     {
         match read_item(alloc, line) {
             Ok(item) => self.take(alloc, number, item),
-            Err(ItemFault::Text { at: _ }) => Err(CheckFault::Text { line: number }),
-            Err(ItemFault::Memory) => Err(CheckFault::Memory),
+            Err(ItemFault::Text { at: _ }) => {
+                self.let_go();
+                Err(CheckFault::Text { line: number })
+            }
+            Err(ItemFault::Memory) => {
+                self.let_go();
+                Err(CheckFault::Memory)
+            }
         }
     }
 
@@ -69,9 +86,9 @@ impl Checker {
         ensures never { IsErrOf result CheckFault.Read → ⊥ }
     {
         if self.place.is_whole() {
-            Ok(self.ledger.verdict())
-        } else {
-            Err(CheckFault::Text { line: number })
+            return Ok(self.judged());
         }
+        self.let_go();
+        Err(CheckFault::Text { line: number })
     }
 }

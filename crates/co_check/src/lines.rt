@@ -64,7 +64,10 @@ fn take_line<S: Source>(
     match lines.next(source) {
         Ok(Some(line)) => further(checker.line(alloc, number, line)),
         Ok(None) => judged(checker.end(number)),
-        Err(fault) => Err(of_lines(fault)),
+        Err(fault) => {
+            checker.let_go();
+            Err(of_lines(fault))
+        }
     }
 }
 

@@ -232,6 +232,9 @@ fn is_numbered(place: &Place, number: u32) -> bool
     }
 }
 
+/// Lets a place and a line go: they are dropped here alone.
+fn let_go(_place: Place, _what: ItemKind) {}
+
 /// Where the transcript stands behind one more line, which has the number of its place.
 fn told_at(
     alloc: Global,
@@ -273,9 +276,10 @@ pub(crate) fn next(
     ensures next { (a : Account) → Keeps ledger.old a → IfOk result (λ after. IsNext (next (record { place = place; account = a }) item) after ledger.new) }
     ensures few { OnOk result (ledger.new.transactions ≤ ledger.old.transactions + 1) }
 {
-    if is_numbered(&place, item.number) {
-        told_at(alloc, place, ledger, item.number, item.what)
-    } else {
-        Ok(None)
+    let Item { number, what } = item;
+    if is_numbered(&place, number) {
+        return told_at(alloc, place, ledger, number, what);
     }
+    let_go(place, what);
+    Ok(None)
 }
