@@ -53,9 +53,16 @@ impl Checker {
         ensures few { IfOk result (λ after. after.ledger.transactions ≤ self.ledger.transactions + 1) }
     {
         let mut ledger = self.ledger;
-        match next(alloc, self.place, &mut ledger, item)? {
-            Some(place) => Ok(Checker { place, ledger }),
-            None => Err(CheckFault::Text { line: number }),
+        match next(alloc, self.place, &mut ledger, item) {
+            Ok(Some(place)) => Ok(Checker { place, ledger }),
+            Ok(None) => {
+                ledger.let_go();
+                Err(CheckFault::Text { line: number })
+            }
+            Err(_) => {
+                ledger.let_go();
+                Err(CheckFault::Memory)
+            }
         }
     }
 

@@ -117,6 +117,12 @@ fn in_head(
     }
 }
 
+/// Lets a line go: it is dropped here alone.
+fn let_go_of_line(_what: ItemKind) {}
+
+/// Lets the head and the event of a group go: they are dropped here alone.
+fn let_go_of_group(_head: Head, _event: Event) {}
+
 /// A mark in the group of an event.
 fn marked_in_group(
     ledger: &mut Ledger,
@@ -130,15 +136,15 @@ fn marked_in_group(
     ensures few { OnOk result (ledger.new.transactions ≤ ledger.old.transactions + 1) }
 {
     if ledger.mark(mark)? {
-        Ok(Some(Place::InGroup {
+        return Ok(Some(Place::InGroup {
             head,
             number,
             event,
             sending: false,
-        }))
-    } else {
-        Ok(None)
+        }));
     }
+    let_go_of_group(head, event);
+    Ok(None)
 }
 
 /// The answer that ends the group of an event.
@@ -182,7 +188,11 @@ fn in_group(
             sending: true,
         })),
         ItemKind::Answered(answer) => replied_in_group(ledger, head, number, event, answer),
-        _ => Ok(None),
+        other => {
+            let_go_of_line(other);
+            let_go_of_group(head, event);
+            Ok(None)
+        }
     }
 }
 
@@ -232,8 +242,8 @@ fn is_numbered(place: &Place, number: u32) -> bool
     }
 }
 
-/// Lets a place and a line go: they are dropped here alone.
-fn let_go(_place: Place, _what: ItemKind) {}
+/// Lets a place go: it is dropped here alone.
+fn let_go_of_place(_place: Place) {}
 
 /// Where the transcript stands behind one more line, which has the number of its place.
 fn told_at(
@@ -280,6 +290,7 @@ pub(crate) fn next(
     if is_numbered(&place, number) {
         return told_at(alloc, place, ledger, number, what);
     }
-    let_go(place, what);
+    let_go_of_place(place);
+    let_go_of_line(what);
     Ok(None)
 }
