@@ -1,11 +1,15 @@
 -- Facts of the elements of lists by their places.
-use Rattle.std.proofs.Common.{◌≡◌, ℕ, zero, suc, ◌+◌, ◌≤◌, ◌<◌, List, [], ◌∷◌, ◌++◌, length, get_or, refl, subst, arith}
+use Rattle.std.proofs.Common.{◌≡◌, ℕ, zero, suc, ◌+◌, ◌≤◌, ◌<◌, List, [], ◌∷◌, ◌++◌, length, get_or, refl, ap, subst, ◌∙◌, arith}
+use Rattle.std.proofs.lemmas.List.{length_push}
 use Rattle.std.specs.Prelude.{slice_get, Some, None}
 use Rattle.std.specs.List.{AllByRecursion}
 use Rattle.co_durable.specs.Pairs.{EachPair}
 use Rattle.co_opening.specs.From.{AllFrom, BothFrom}
 
 -- one element more at the end
+pub one_longer : {A : Type 0} (n : ℕ) (xs more : List A) (x : A) → more ≡ xs ++ x ∷ [] → length xs ≡ n → length more ≡ n + 1
+one_longer n xs more x pushed many = ap length pushed ∙ length_push xs x ∙ ap (λ k. k + 1) many
+
 pub all_from_push : {A : Type 0} (P : ℕ → A → Type 0) (p : ℕ) (xs : List A) (x : A) → AllFrom P p xs → P (p + length xs) x → AllFrom P p (xs ++ x ∷ [])
 all_from_push P p [] x all here = (subst (λ n. P n x) (let e : p + 0 ≡ p = omega arith in e) here, tt)
 all_from_push P p (y ∷ ys) x all here = (all.0, all_from_push P (suc p) ys x all.1 (subst (λ n. P n x) (let e : p + suc (length ys) ≡ suc p + length ys = omega arith in e) here))

@@ -1,8 +1,7 @@
 -- Logs that are made where they are fresh, and the nodes on them.
 use Rattle.std.proofs.Common.{◌≡◌, inl, inr, ℕ, zero, suc, ◌<◌, Bool, false, List, [], ◌∷◌, refl, sym, ap, subst, ◌∙◌, length, get_or, if◌then◌else◌, ◌-◌, arith}
 use Rattle.std.proofs.lemmas.Bool.Decides.{nat_tests}
-use Rattle.std.specs.Prelude.{nat_le, Result, Ok, Err, IsErrOf}
-use Rattle.std.specs.Result.{IsErrAnd}
+use Rattle.std.specs.Prelude.{nat_le}
 use Rattle.co_base.specs.declared.head.Kind.{Kind}
 use Rattle.co_base.specs.declared.node.Node.{Node}
 use Rattle.co_record.specs.declared.record.Record.{Record}
@@ -14,7 +13,6 @@ use Rattle.co_node.proofs.Opened.{made_stands}
 use Rattle.co_plain.specs.CoordView.{recovered_commits}
 use Rattle.co_plain.specs.MemberView.{recovered_view}
 use Rattle.co_plain.specs.Opening.{Found, made, opened_log, kind_of}
-use Rattle.co_durable.specs.declared.fault.WorldFault.{WorldFault}
 use Rattle.co_opening.specs.Standing.{IsStanding}
 
 -- a log without a gate is fresh, and nothing was found
@@ -38,19 +36,6 @@ made_view owner (r ∷ rs) = refl
 pub made_commits : (owner : Node) (records : List Record) → recovered_commits (made owner records) ≡ recovered_commits records
 made_commits owner [] = refl
 made_commits owner (r ∷ rs) = refl
-
--- ---- faults that are handed on
-
-same_fault : {S : Type 0} (fault at : WorldFault) → IsErrOf {T = S} (Err fault) at → fault ≡ at
-same_fault fault at is = cc
-
-pub handed : {T S : Type 0} (answer : Result T WorldFault) (fault at : WorldFault) → IsErrAnd answer (λ e. e ≡ fault) → IsErrOf {T = S} (Err fault) at → IsErrOf answer at
-handed (Ok x) fault at p is = absurd p
-handed {S = S} (Err e) fault at p is = ap Err (p ∙ same_fault {S = S} fault at is)
-
-pub handed_back : {T S : Type 0} (answer : Result T WorldFault) (fault at : WorldFault) → IsErrAnd answer (λ e. e ≡ fault) → IsErrOf answer at → IsErrOf {T = S} (Err fault) at
-handed_back (Ok x) fault at p is = absurd p
-handed_back {T = T} (Err e) fault at p is = ap Err (sym p ∙ same_fault {S = T} e at is)
 
 -- ---- the kinds of members
 

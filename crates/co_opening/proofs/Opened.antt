@@ -1,6 +1,6 @@
 -- The nodes of a federation that was opened.
 use Rattle.std.proofs.Common.{◌≡◌, ℕ, suc, ◌≤◌, ◌++◌, Bool, List, length, sym, ap, subst, ◌∙◌, arith}
-use Rattle.std.specs.Prelude.{Option, Result, Ok, Err, IsErrOf, OnOk, IfOk}
+use Rattle.std.specs.Prelude.{Option, Result, Ok, Err, OnOk, IfOk}
 use Rattle.co_base.specs.Nodes.{IsValidNode}
 use Rattle.co_durable.specs.declared.fault.WorldFault.{WorldFault}
 use Rattle.std.specs.FinMap.{keys}
@@ -81,9 +81,6 @@ own_members_stay old new these few left kept =
     (λ q x low high own. own_stays (Member (suc q)) old new x.log (left (suc q) (omega arith, omega (arith, high, few))) own) kept
 
 -- ---- answers
-
-pub not_err : {T : Type 0} (x : T) (at : WorldFault) → IsErrOf (Ok x) at → ⊥
-not_err x at is = absurd cc
 
 pub clean_moved : {T : Type 0} (result : Result T WorldFault) (old mid new : HomeView) → ((s : Spot) → mid.file s ≡ old.file s) → OnOk result ((s : Spot) → IsClean mid s → IsClean new s) → IfOk result (λ n. (s : Spot) → IsClean old s → IsClean new s)
 clean_moved (Ok n) old mid new same clean = λ s was. clean s (still_clean old mid s (same s) was)

@@ -46,12 +46,12 @@ module _ (sort : Sort) (place count : ℕ) (h : place < count) (most : count ≤
   is : this ≡ node_in sort (suc place)
   is = at ∙ ap (node_in sort) (next_of place)
 
-  valid : IsValidNode this
-  valid = subst IsValidNode (sym is) (node_valid sort place count h most)
+  pub this_valid : IsValidNode this
+  this_valid = subst IsValidNode (sym is) (node_valid sort place count h most)
 
   pub others_on : (old mid new : HomeView) → OthersLeft sort old mid → OtherFilesStay this mid new → OthersLeft sort old new
   others_on old mid new left stay = λ n own out.
-      stays_on n old mid new (left n own out) (stays_elsewhere this n mid new valid own (λ e. out (suc place) (e ∙ is)) stay)
+      stays_on n old mid new (left n own out) (stays_elsewhere this n mid new this_valid own (λ e. out (suc place) (e ∙ is)) stay)
 
   pub kept_on : (mid new : HomeView) (logs more : List LogView) (log : LogView) → more ≡ logs ++ log ∷ [] → length logs ≡ place → AreOwnLogs mid (node_in sort) 0 logs
       → OtherFilesStay this mid new → IsOwnLog new this log → AreOwnLogs new (node_in sort) 0 more
@@ -60,7 +60,7 @@ module _ (sort : Sort) (place count : ℕ) (h : place < count) (most : count ≤
       own_all_stay (node_in sort) 0 mid new logs
       (λ q low high.
       let below : q < place = omega (arith, high, many) in
-      stays_elsewhere this (node_in sort (suc q)) mid new valid (node_valid sort q count (omega (arith, below, h)) most) (λ e. nodes_apart sort (suc q) (suc place) (λ same. omega (arith, same, below)) (e ∙ is)) stay) kept in
+      stays_elsewhere this (node_in sort (suc q)) mid new this_valid (node_valid sort q count (omega (arith, below, h)) most) (λ e. nodes_apart sort (suc q) (suc place) (λ same. omega (arith, same, below)) (e ∙ is)) stay) kept in
       subst (AreOwnLogs new (node_in sort) 0) (sym pushed) (all_from_next (λ q l. IsOwnLog new (node_in sort (suc q)) l) logs place log many all (subst (λ n. IsOwnLog new n log) is own))
 
   pub attached_on : (file mid : Spot → Option File) (resume : Bool) (logs more : List LogView) (log : LogView) → more ≡ logs ++ log ∷ [] → ((s : Spot) → mid s ≡ file s) → EachPair (IsAttachedTo file resume) (nodes_in sort place) logs → IsAttachedTo mid resume this log

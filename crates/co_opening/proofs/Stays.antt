@@ -1,5 +1,5 @@
 -- Logs that the directory keeps, while calls are made on the logs of other nodes.
-use Rattle.std.proofs.Common.{◌≡◌, ℕ, suc, ◌+◌, ◌≤◌, ◌<◌, List, length, sym, subst, ◌∙◌}
+use Rattle.std.proofs.Common.{◌≡◌, ℕ, suc, ◌+◌, ◌≤◌, ◌<◌, List, length, refl, sym, subst, ◌∙◌}
 use Rattle.co_base.specs.declared.node.Node.{Node}
 use Rattle.co_outside.specs.Home.{HomeView}
 use Rattle.co_base.specs.Limits.{most_log_bytes}
@@ -10,6 +10,9 @@ use Rattle.co_log.proofs.Spots.{held_stays}
 use Rattle.co_opening.specs.Kept.{IsOwnLog, AreOwnLogs}
 use Rattle.co_opening.specs.Nodes.{IsKept}
 use Rattle.co_opening.proofs.From.{all_from_map}
+
+pub stays_still : (node : Node) (home : HomeView) → NodeStays node home home
+stays_still node home = record { file_a = refl; file_b = refl; reach_a = refl; reach_b = refl }
 
 pub stays_on : (node : Node) (old mid new : HomeView) → NodeStays node old mid → NodeStays node mid new → NodeStays node old new
 stays_on node old mid new one two = record {

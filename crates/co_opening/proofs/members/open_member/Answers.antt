@@ -1,7 +1,7 @@
 use Rattle.co_base.specs.declared.node.Node.TheVariants.{Member}
 use Rattle.std.specs.Prelude.{suc}
 use Rattle.co_durable.specs.declared.fault.WorldFault.TheVariants.{Device}
-use Rattle.co_opening.proofs.Made.{handed}
+use Rattle.co_opening.proofs.Handed.{handed}
 use Rattle.co_opening.proofs.Placed.{member_stands, member_at}
 use Rattle.co_opening.proofs.members.open_member.Goals as goal
 

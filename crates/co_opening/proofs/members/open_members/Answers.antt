@@ -6,7 +6,8 @@ use Rattle.co_opening.specs.Standing.{IsMemberFound}
 use Rattle.co_opening.specs.declared.sort.Sort.TheVariants.{Members}
 use Rattle.co_durable.specs.declared.fault.WorldFault.TheVariants.{Device}
 use Rattle.co_durable.proofs.Readings.{fails_later}
-use Rattle.co_opening.proofs.Made.{handed, handed_back, kind_at}
+use Rattle.co_opening.proofs.Handed.{handed, handed_back}
+use Rattle.co_opening.proofs.Made.{kind_at}
 use Rattle.co_opening.proofs.From.{both_next}
 use Rattle.co_opening.proofs.Sorts.{number_valid, sorts_apart}
 use Rattle.co_opening.proofs.Turns.{leaves, one_less, place_below, both_on, all_on, marks_on, to_keep_on, kept_on}

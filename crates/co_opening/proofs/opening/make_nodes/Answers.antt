@@ -6,8 +6,8 @@ use Rattle.co_durable.proofs.Readings.{fails_later}
 use Rattle.co_plain.specs.Opening.{member_headers, coord_headers}
 use Rattle.co_opening.specs.Running.{AreMembersAt, AreCoordsAt}
 use Rattle.co_opening.specs.Standing.{AreCoordsFound}
-use Rattle.co_opening.proofs.Made.{handed_back}
-use Rattle.co_opening.proofs.Opened.{opened_nodes, kept_nodes, coords_left, own_members_stay, not_err}
+use Rattle.co_opening.proofs.Handed.{handed_back, not_err}
+use Rattle.co_opening.proofs.Opened.{opened_nodes, kept_nodes, coords_left, own_members_stay}
 use Rattle.co_opening.proofs.opening.make_nodes.Goals as goal
 
 pub open_coords-requires-clause-kept : goal.open_coords-requires-clause-kept

@@ -1,0 +1,38 @@
+-- What follows from the answer of a call, and from the error that `?` hands on.
+use Rattle.std.proofs.Common.{◌≡◌, sym, ap, subst, ◌∙◌}
+use Rattle.std.proofs.lemmas.Bool.{false≢true}
+use Rattle.std.specs.Prelude.{Result, Ok, Err, IfOk, IfErr, IsErr, IsErrOf}
+use Rattle.std.specs.Result.{IsErrAnd}
+use Rattle.co_outside.specs.declared.spot.Spot.{Spot}
+use Rattle.co_durable.specs.declared.fault.WorldFault.{WorldFault}
+use Rattle.co_durable.specs.declared.fault.WorldFault.TheVariants.{Device, Memory}
+
+same_fault : {S : Type 0} (fault at : WorldFault) → IsErrOf {T = S} (Err fault) at → fault ≡ at
+same_fault fault at is = cc
+
+pub handed : {T S : Type 0} (answer : Result T WorldFault) (fault at : WorldFault) → IsErrAnd answer (λ e. e ≡ fault) → IsErrOf {T = S} (Err fault) at → IsErrOf answer at
+handed (Ok x) fault at p is = absurd p
+handed {S = S} (Err e) fault at p is = ap Err (p ∙ same_fault {S = S} fault at is)
+
+pub handed_back : {T S : Type 0} (answer : Result T WorldFault) (fault at : WorldFault) → IsErrAnd answer (λ e. e ≡ fault) → IsErrOf answer at → IsErrOf {T = S} (Err fault) at
+handed_back (Ok x) fault at p is = absurd p
+handed_back {T = T} (Err e) fault at p is = ap Err (sym p ∙ same_fault {S = T} e at is)
+
+-- what holds of the error that is handed on
+pub handed_in : {T : Type 0} (P : WorldFault → Type 0) (answer : Result T WorldFault) (fault : WorldFault) → IsErrAnd answer (λ e. e ≡ fault) → P fault → IfErr answer P
+handed_in P (Ok x) fault same is = absurd same
+handed_in P (Err e) fault same is = subst P (sym same) is
+
+-- an error is no value
+pub no_value : {T E : Type 0} (P : T → Type 0) (answer : Result T E) → IsErr answer → IfOk answer P
+no_value P (Ok x) is = absurd (false≢true is)
+no_value P (Err e) is = tt
+
+-- a value is no error
+pub not_err : {T : Type 0} (x : T) (at : WorldFault) → IsErrOf (Ok x) at → ⊥
+not_err x at is = absurd cc
+
+-- no memory is no failure of the directory
+pub no_device : {T : Type 0} (answer : Result T WorldFault) (spot : Spot) → IsErrAnd answer (λ e. e ≡ Memory) → IsErrOf answer (Device spot) → ⊥
+no_device (Ok x) spot is at = absurd is
+no_device {T = T} (Err e) spot is at = absurd (let same : Memory ≡ Device spot = sym is ∙ same_fault {S = T} e (Device spot) at in cc)
