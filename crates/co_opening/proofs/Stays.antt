@@ -35,6 +35,14 @@ kept_stays node old new log owned stay kept = record {
 pub own_stays : (node : Node) (old new : HomeView) (log : LogView) → NodeStays node old new → IsOwnLog old node log → IsOwnLog new node log
 own_stays node old new log stay own = record { owned = own.owned; kept = kept_stays node old new log own.owned stay own.kept }
 
+-- the log by the node that it has itself
+pub own_log : (node : Node) (home : HomeView) (log : LogView) → IsOwnLog home node log → IsOwnLog home log.node log
+own_log node home log own = subst (λ (n : Node). IsOwnLog home n log) (sym own.owned) own
+
+-- the log that a node keeps
+pub own_again : (this node : Node) (home : HomeView) (log kept : LogView) → this ≡ node → kept ≡ log → IsOwnLog home this log → IsOwnLog home node kept
+own_again this node home log kept owned is own = subst (IsOwnLog home node) (sym is) (subst (λ (n : Node). IsOwnLog home n log) owned own)
+
 -- so of all nodes of a sort that are left
 pub own_all_stay : (node : ℕ → Node) (p : ℕ) (old new : HomeView) (logs : List LogView)
     → ((q : ℕ) → p ≤ q → q < p + length logs → NodeStays (node (suc q)) old new) → AreOwnLogs old node p logs → AreOwnLogs new node p logs
