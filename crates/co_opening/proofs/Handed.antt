@@ -7,7 +7,7 @@ use Rattle.co_outside.specs.declared.spot.Spot.{Spot}
 use Rattle.co_durable.specs.declared.fault.WorldFault.{WorldFault}
 use Rattle.co_durable.specs.declared.fault.WorldFault.TheVariants.{Device, Memory}
 
-same_fault : {S : Type 0} (fault at : WorldFault) → IsErrOf {T = S} (Err fault) at → fault ≡ at
+pub same_fault : {S : Type 0} (fault at : WorldFault) → IsErrOf {T = S} (Err fault) at → fault ≡ at
 same_fault fault at is = cc
 
 pub handed : {T S : Type 0} (answer : Result T WorldFault) (fault at : WorldFault) → IsErrAnd answer (λ e. e ≡ fault) → IsErrOf {T = S} (Err fault) at → IsErrOf answer at

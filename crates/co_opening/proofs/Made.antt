@@ -1,23 +1,75 @@
 -- Logs that are made where they are fresh, and the nodes on them.
-use Rattle.std.proofs.Common.{◌≡◌, inl, inr, ℕ, zero, suc, ◌<◌, Bool, false, List, [], ◌∷◌, refl, sym, ap, subst, ◌∙◌, length, get_or, if◌then◌else◌, ◌-◌, arith}
+use Rattle.std.proofs.Common.{◌≡◌, inl, inr, ℕ, zero, suc, ◌<◌, Bool, false, List, [], ◌∷◌, ◌++◌, append-nil, refl, sym, ap, subst, ◌∙◌, length, get_or, if◌then◌else◌, ◌-◌, arith}
 use Rattle.std.proofs.lemmas.Bool.Decides.{nat_tests}
-use Rattle.std.specs.Prelude.{nat_le}
+use Rattle.std.specs.Prelude.{nat_le, Err}
 use Rattle.co_base.specs.declared.head.Kind.{Kind}
+use Rattle.co_base.specs.Nodes.{IsValidNode}
+use Rattle.co_base.specs.declared.mark.Mark.{Mark}
+use Rattle.co_base.specs.declared.mark.MarkKind.TheVariants.{Header}
 use Rattle.co_base.specs.declared.node.Node.{Node}
+use Rattle.co_outside.specs.Home.{HomeView, HasFailed}
+use Rattle.co_outside.specs.declared.spot.Spot.{Spot}
 use Rattle.co_record.specs.declared.record.Record.{Record}
 use Rattle.co_frame.specs.Gate.{begins_closed}
+use Rattle.co_log.specs.Calls.{MayMake, IsMakeAnswer}
 use Rattle.co_log.specs.Fresh.{IsFresh, IsMade}
-use Rattle.co_log.specs.LogView.{LogView}
+use Rattle.co_log.specs.LogView.{LogView, IsHeld, HasSpots}
+use Rattle.co_log.specs.Others.{BothWithin}
+use Rattle.co_log.specs.declared.fault.LogFault.{LogFault}
+use Rattle.co_log.specs.declared.fault.LogFault.TheVariants as log
+use Rattle.co_log.proofs.Ordered.{attached_unarmed}
 use Rattle.co_node.specs.NodeLog.{RepresentsLog}
+use Rattle.co_node.proofs.Homes.{node_within}
 use Rattle.co_node.proofs.Opened.{made_stands}
 use Rattle.co_plain.specs.CoordView.{recovered_commits}
 use Rattle.co_plain.specs.MemberView.{recovered_view}
-use Rattle.co_plain.specs.Opening.{Found, made, opened_log, kind_of}
+use Rattle.co_plain.specs.Opening.{Found, made, header_mark, opened_log, kind_of}
+use Rattle.co_durable.specs.declared.fault.WorldFault.TheVariants.{Device}
+use Rattle.co_opening.specs.Kept.{IsOwnLog}
 use Rattle.co_opening.specs.Standing.{IsStanding}
 
 -- a log without a gate is fresh, and nothing was found
 fresh_one : (owner : Node) (l : LogView) (found : Found) → IsStanding owner l found → l.gate ≡ 0 → IsFresh l × (found.records ≡ []) × (found.spare_closed ≡ begins_closed l.spare.state.stable)
 fresh_one owner l found s none = elim s.either [ inl f ↦ f | inr r ↦ absurd (omega (arith, r.0, none)) ]
+
+-- one with a gate stands for what was found, of which a header is one
+live_one : (owner : Node) (l : LogView) (found : Found) → IsStanding owner l found → (l.gate ≡ 0 → ⊥) → (header_mark owner found.records ≡ []) × RepresentsLog owner l (opened_log owner found)
+live_one owner l found s some = elim s.either [ inl f ↦ absurd (some f.0.unmade) | inr r ↦ (r.1, r.2) ]
+
+pub still_stands : (owner : Node) (l : LogView) (found : Found) → IsStanding owner l found → (l.gate ≡ 0 → ⊥) → RepresentsLog owner l (opened_log owner found)
+still_stands owner l found s some = (live_one owner l found s some).1
+
+pub still_marked : (owner : Node) (l : LogView) (found : Found) (marks : List Mark) → IsStanding owner l found → (l.gate ≡ 0 → ⊥) → marks ≡ marks ++ header_mark owner found.records
+still_marked owner l found marks s some = sym (ap (λ (ms : List Mark). marks ++ ms) (live_one owner l found s some).0 ∙ append-nil marks)
+
+owned_by : (owner : Node) (l : LogView) (found : Found) → IsStanding owner l found → l.node ≡ owner
+owned_by owner l found s = (attached_unarmed owner s.a s.b l s.attached).0
+
+pub may_make : (owner : Node) (l : LogView) (found : Found) (home : HomeView) → IsStanding owner l found → IsHeld home l → l.gate ≡ 0 → MayMake home l
+may_make owner l found home s held none = record { held = held; fresh = (fresh_one owner l found s none).0; node = subst IsValidNode (sym (owned_by owner l found s)) s.valid }
+
+-- its header is marked
+pub fresh_marked : (owner : Node) (l : LogView) (found : Found) (mark : Mark) (before after : List Mark) → IsStanding owner l found → l.gate ≡ 0 → mark ≡ record { node = l.node; kind = Header; number = 1 } → after ≡ before ++ mark ∷ []
+    → after ≡ before ++ header_mark owner found.records
+fresh_marked owner l found mark before after s none is pushed =
+    let own : mark ≡ record { node = owner; kind = Header; number = 1 } = is ∙ ap (λ (n : Node). record { node = n; kind = Header; number = 1 }) (owned_by owner l found s) in
+    pushed ∙ ap (λ (m : Mark). before ++ m ∷ []) own ∙ ap (λ (rs : List Record). before ++ header_mark owner rs) (sym (fresh_one owner l found s none).1)
+
+-- the directory keeps it
+pub made_own : (home : HomeView) (l after : LogView) → HasSpots l → IsMade l after → IsHeld home after → BothWithin home.file l → IsOwnLog home l.node after
+made_own home l after spots m held short = record { owned = m.node; kept = record { held = held; within = node_within home.file l spots short } }
+
+-- ---- it was not made
+
+module _ (l after : LogView) (old new : HomeView) (fault : LogFault) (answered : IsMakeAnswer l after old new (Err fault)) where
+  pub making_as : (other : LogFault) → fault ≡ other → IsMakeAnswer l after old new (Err other)
+  making_as other is = subst (λ (e : LogFault). IsMakeAnswer l after old new (Err e)) is answered
+
+  pub making_failed : (spot at : Spot) → fault ≡ log.Device spot → Device spot ≡ Device at → HasFailed at old new
+  making_failed spot at is same =
+      let failed = making_as (log.Device spot) is in
+      let named : l.current.spot ≡ at = sym failed.0 ∙ (let h : spot ≡ at = cc in h) in
+      subst (λ (s : Spot). HasFailed s old new) named failed.1
 
 -- one that was made stands for nothing found
 pub fresh_stands : (owner : Node) (l after : LogView) (found : Found) → IsStanding owner l found → l.gate ≡ 0 → IsMade l after → RepresentsLog owner after (opened_log owner found)

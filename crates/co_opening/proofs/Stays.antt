@@ -1,11 +1,11 @@
 -- Logs that the directory keeps, while calls are made on the logs of other nodes.
-use Rattle.std.proofs.Common.{◌≡◌, ℕ, suc, ◌+◌, ◌≤◌, ◌<◌, List, length, refl, sym, subst, ◌∙◌}
+use Rattle.std.proofs.Common.{◌≡◌, ℕ, suc, ◌+◌, ◌≤◌, ◌<◌, List, length, refl, sym, subst, ◌∙◌, arith}
 use Rattle.co_base.specs.declared.node.Node.{Node}
 use Rattle.co_outside.specs.Home.{HomeView}
 use Rattle.co_base.specs.Limits.{most_log_bytes}
 use Rattle.co_log.specs.Attaching.{IsWithin}
 use Rattle.co_log.specs.LogView.{LogView}
-use Rattle.co_log.specs.Others.{NodeStays}
+use Rattle.co_log.specs.Others.{NodeStays, OtherNodesStay}
 use Rattle.co_log.proofs.Spots.{held_stays}
 use Rattle.co_opening.specs.Kept.{IsOwnLog, AreOwnLogs}
 use Rattle.co_opening.specs.Nodes.{IsKept}
@@ -13,6 +13,9 @@ use Rattle.co_opening.proofs.From.{all_from_map}
 
 pub stays_still : (node : Node) (home : HomeView) → NodeStays node home home
 stays_still node home = record { file_a = refl; file_b = refl; reach_a = refl; reach_b = refl }
+
+pub others_still : (node : Node) (home : HomeView) → OtherNodesStay node home home
+others_still node home = record { others = record { files = λ s a b. refl; reaches = λ s a b. refl }; directory = refl; count = omega arith }
 
 pub stays_on : (node : Node) (old mid new : HomeView) → NodeStays node old mid → NodeStays node mid new → NodeStays node old new
 stays_on node old mid new one two = record {
