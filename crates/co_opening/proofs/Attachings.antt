@@ -1,5 +1,5 @@
 -- A log that was attached, from all that its attaching says.
-use Rattle.std.proofs.Common.{◌≡◌, Bool, false, Option, Result, Ok, Err, IfOk, subst, sym}
+use Rattle.std.proofs.Common.{◌≡◌, ℕ, Bool, true, false, Option, Result, Ok, Err, IfOk, subst, sym}
 use Rattle.std.specs.Prelude.{OnOk}
 use Rattle.co_base.specs.Nodes.{IsValidNode}
 use Rattle.co_base.specs.declared.node.Node.{Node}
@@ -8,12 +8,14 @@ use Rattle.co_outside.specs.declared.spot.Spot.{Spot}
 use Rattle.co_outside.specs.Home.{File, HomeView}
 use Rattle.co_base.specs.Limits.{most_log_bytes}
 use Rattle.co_log.specs.declared.fault.LogFault.{LogFault}
-use Rattle.co_log.specs.Attaching.{IsAttached, IsToldAs, IsWithin}
+use Rattle.co_log.specs.declared.fault.LogFault.TheVariants as log
+use Rattle.co_log.specs.Attaching.{IsAttached, IsOfAttach, IsToldAs, IsWithin}
 use Rattle.co_log.specs.Fresh.{IsFresh}
 use Rattle.co_log.specs.LogView.{LogView, IsHeld, spot_of}
 use Rattle.co_log.proofs.Ordered.{attached_unarmed}
 use Rattle.co_opening.specs.Kept.{IsOwnLog}
-use Rattle.co_opening.specs.Attached.{IsAttachedTo}
+use Rattle.co_durable.specs.declared.fault.WorldFault.TheVariants.{Bad, Full}
+use Rattle.co_opening.specs.Attached.{IsAttachedTo, IsUnattached}
 use Rattle.co_opening.specs.InUse.{IsUnusedNode}
 
 pub attached_to : (file : Spot → Option File) (resume : Bool) (node : Node) (log : LogView) → IsValidNode node
@@ -46,3 +48,18 @@ kept_result old new node (Ok log) told held within same_a same_b = record {
   };
 }
 kept_result old new node (Err e) told held within same_a same_b = tt
+
+-- ---- a log that was not attached
+
+module _ (file : Spot → Option File) (resume : Bool) (node : Node) (fault : LogFault) (refused : IsOfAttach node resume (file (spot_of node 0)) (file (spot_of node 1)) fault) where
+  pub refused_as : (other : LogFault) → fault ≡ other → IsOfAttach node resume (file (spot_of node 0)) (file (spot_of node 1)) other
+  refused_as other is = subst (IsOfAttach node resume (file (spot_of node 0)) (file (spot_of node 1))) is refused
+
+  resumed : (other : LogFault) → fault ≡ other → resume ≡ true → IsOfAttach node true (file (spot_of node 0)) (file (spot_of node 1)) other
+  resumed other is on = subst (λ (r : Bool). IsOfAttach node r (file (spot_of node 0)) (file (spot_of node 1)) other) on (refused_as other is)
+
+  pub bad_unattached : (spot : Spot) (at : ℕ) → fault ≡ log.Bad spot at → IsUnattached file resume (Bad spot at) node
+  bad_unattached spot at is = let on = (refused_as (log.Bad spot at) is).0 in (on, resumed (log.Bad spot at) is on)
+
+  pub full_unattached : (spot : Spot) → fault ≡ log.Full spot → IsUnattached file resume (Full spot) node
+  full_unattached spot is = let on = (refused_as (log.Full spot) is).0 in (on, resumed (log.Full spot) is on)

@@ -7,7 +7,7 @@ use Rattle.co_outside.specs.declared.spot.Spot.{Spot}
 use Rattle.co_durable.specs.declared.fault.WorldFault.{WorldFault}
 use Rattle.co_durable.specs.declared.fault.WorldFault.TheVariants.{Device, Memory}
 
-pub same_fault : {S : Type 0} (fault at : WorldFault) → IsErrOf {T = S} (Err fault) at → fault ≡ at
+same_fault : {S : Type 0} (fault at : WorldFault) → IsErrOf {T = S} (Err fault) at → fault ≡ at
 same_fault fault at is = cc
 
 pub handed : {T S : Type 0} (answer : Result T WorldFault) (fault at : WorldFault) → IsErrAnd answer (λ e. e ≡ fault) → IsErrOf {T = S} (Err fault) at → IsErrOf answer at
@@ -29,8 +29,12 @@ no_value P (Ok x) is = absurd (false≢true is)
 no_value P (Err e) is = tt
 
 -- a value is no error
-pub not_err : {T : Type 0} (x : T) (at : WorldFault) → IsErrOf (Ok x) at → ⊥
+pub not_err : {T E : Type 0} (x : T) (at : E) → IsErrOf (Ok x) at → ⊥
 not_err x at is = absurd cc
+
+-- the file at which the directory failed
+pub same_device : {T : Type 0} (spot at : Spot) → IsErrOf {T = T} (Err (Device spot)) (Device at) → spot ≡ at
+same_device spot at is = cc
 
 -- no memory is no failure of the directory
 pub no_device : {T : Type 0} (answer : Result T WorldFault) (spot : Spot) → IsErrAnd answer (λ e. e ≡ Memory) → IsErrOf answer (Device spot) → ⊥

@@ -24,7 +24,6 @@ use Rattle.co_node.proofs.Opened.{made_stands}
 use Rattle.co_plain.specs.CoordView.{recovered_commits}
 use Rattle.co_plain.specs.MemberView.{recovered_view}
 use Rattle.co_plain.specs.Opening.{Found, made, header_mark, opened_log, kind_of}
-use Rattle.co_durable.specs.declared.fault.WorldFault.TheVariants.{Device}
 use Rattle.co_opening.specs.Kept.{IsOwnLog}
 use Rattle.co_opening.specs.Standing.{IsStanding}
 
@@ -65,11 +64,10 @@ module _ (l after : LogView) (old new : HomeView) (fault : LogFault) (answered :
   pub making_as : (other : LogFault) → fault ≡ other → IsMakeAnswer l after old new (Err other)
   making_as other is = subst (λ (e : LogFault). IsMakeAnswer l after old new (Err e)) is answered
 
-  pub making_failed : (spot at : Spot) → fault ≡ log.Device spot → Device spot ≡ Device at → HasFailed at old new
+  pub making_failed : (spot at : Spot) → fault ≡ log.Device spot → spot ≡ at → HasFailed at old new
   making_failed spot at is same =
       let failed = making_as (log.Device spot) is in
-      let named : l.current.spot ≡ at = sym failed.0 ∙ (let h : spot ≡ at = cc in h) in
-      subst (λ (s : Spot). HasFailed s old new) named failed.1
+      subst (λ (s : Spot). HasFailed s old new) (sym failed.0 ∙ same) failed.1
 
 -- one that was made stands for nothing found
 pub fresh_stands : (owner : Node) (l after : LogView) (found : Found) → IsStanding owner l found → l.gate ≡ 0 → IsMade l after → RepresentsLog owner after (opened_log owner found)

@@ -5,7 +5,7 @@ use Rattle.co_log.proofs.Spots.{current_only}
 use Rattle.co_log.specs.declared.fault.LogFault.TheVariants as log
 use Rattle.co_durable.specs.declared.fault.WorldFault.TheVariants.{Device, Memory}
 use Rattle.co_opening.specs.Judged.{IsOfMaking}
-use Rattle.co_opening.proofs.Handed.{same_fault, handed_in, no_value, not_err, no_device}
+use Rattle.co_opening.proofs.Handed.{handed_in, no_value, not_err, same_device, no_device}
 use Rattle.co_opening.proofs.Made.{still_stands, still_marked, may_make, fresh_stands, fresh_marked, made_own, making_as, making_failed}
 use Rattle.co_opening.proofs.Stays.{others_still}
 use Rattle.co_opening.proofs.making.make_fresh.Goals as goal
@@ -96,7 +96,7 @@ returns-in-Err-Device-clause-rest g c =
 
 pub returns-in-Err-Device-clause-device : goal.returns-in-Err-Device-clause-device
 returns-in-Err-Device-clause-device g c = λ spot is.
-    making_failed c.args.log.now c.make.new.self (g.H.Home.seen c.args.home.now) (g.H.Home.seen c.make.new.home) c.in-Err-Device.field-0 c.in-Err-Device.ensures.answered c.in-Err-Device.spot spot c.in-Err-Device.field-0-is (same_fault (Device c.in-Err-Device.spot) (Device spot) is)
+    making_failed c.args.log.now c.make.new.self (g.H.Home.seen c.args.home.now) (g.H.Home.seen c.make.new.home) c.in-Err-Device.field-0 c.in-Err-Device.ensures.answered c.in-Err-Device.spot spot c.in-Err-Device.field-0-is (same_device c.in-Err-Device.spot spot is)
 
 pub returns-in-Err-Device-clause-quiet : goal.returns-in-Err-Device-clause-quiet
 returns-in-Err-Device-clause-quiet g c = λ quiet. absurd (quiet c.in-Err-Device.spot refl)
