@@ -23,6 +23,10 @@ leaves this that old mid new one two other left stay = stays_on that old mid new
 pub one_less : {A : Type 0} (place n : ℕ) (old new : List A) (x : A) → old ≡ x ∷ new → place + length old ≡ n → place + 1 + length new ≡ n
 one_less place n old new x is many = let e : length old ≡ suc (length new) = ap length is in omega (arith, e, many)
 
+-- nothing is left
+pub all_done : {A : Type 0} (place n len : ℕ) (left : List A) → len ≡ 0 → len ≡ length left → place + length left ≡ n → place ≡ n
+all_done place n len left none is many = omega (arith, none, is, many)
+
 pub place_below : {A : Type 0} (place n most : ℕ) (old new : List A) (x : A) → old ≡ x ∷ new → place + length old ≡ n → n ≤ most → suc place ≤ most
 place_below place n most old new x is many few = let e : length old ≡ suc (length new) = ap length is in omega (arith, e, many, few)
 

@@ -1,12 +1,17 @@
-use Rattle.std.proofs.Common.{◌≡◌, suc, ◌+◌, length, rules, refl, ◌∙◌, arith}
+use Rattle.std.proofs.Common.{◌≡◌, suc, ◌+◌, ◌++◌, length, refl, ap, subst, ◌∙◌, arith}
 use Rattle.co_base.specs.declared.node.Node.TheVariants.{Member, Coord}
 use Rattle.co_plain.specs.Opening.{header_mark, opened_coord, coord_headers}
+use Rattle.co_durable.specs.declared.fault.WorldFault.TheVariants.{Device, Memory}
+use Rattle.co_durable.proofs.Readings.{fails_later}
+use Rattle.co_opening.specs.Judged.{IsOfMaking}
+use Rattle.co_opening.specs.Kept.{AreOwnLogs}
 use Rattle.co_opening.specs.Nodes.{IsCoordAt}
 use Rattle.co_opening.specs.Standing.{IsCoordFound}
 use Rattle.co_opening.specs.declared.sort.Sort.TheVariants.{Coords}
-use Rattle.co_opening.proofs.From.{both_next}
+use Rattle.co_opening.proofs.From.{one_longer, both_next}
+use Rattle.co_opening.proofs.Handed.{handed, handed_back, handed_in, no_value, not_err, no_device}
 use Rattle.co_opening.proofs.Sorts.{number_valid, apart_sorts}
-use Rattle.co_opening.proofs.Turns.{leaves, one_less, place_below, both_on, all_on, marks_on, to_keep_on, kept_on}
+use Rattle.co_opening.proofs.Turns.{leaves, one_less, all_done, place_below, both_on, all_on, marks_on, to_keep_on, kept_on}
 use Rattle.co_opening.proofs.coords.open_coords.Goals as goal
 
 pub returns-in_err-coord-clause-others : goal.returns-in_err-coord-clause-others
@@ -19,12 +24,18 @@ returns-in_err-push-clause-others g c = λ k own.
     leaves (Coord (suc c.loop-log.place)) (Member k) (g.H.Home.seen c.args.home.now) (g.H.Home.seen c.loop-log.home) (g.H.Home.seen c.open_coord.new.home)
     (number_valid Coords c.loop-log.place (place_below c.loop-log.place (length c.args.logs.items) 8 c.loop-log.log-iterator.rest.items c.next.new.self.rest.items c.in-Some.log c.in-Some.ensures.steps.0 c.loop-log.invariant.left c.requires.few)) own (λ e. apart_sorts k (suc c.loop-log.place) e) (c.loop-log.invariant.others k own) c.open_coord.ensures.rest.others
 
+
+pub open_coord-requires-clause-found : goal.open_coord-requires-clause-found
+open_coord-requires-clause-found g c =
+    let w = c.requires.found in
+    (w.0 (suc c.loop-log.place), (both_next (λ q l t. IsCoordFound c.args.members (suc q) l t (w.0 (suc q))) c.loop-log.place c.loop-log.log-iterator.rest.items c.next.new.self.rest.items c.loop-log.pasts.rest.items c.next-in-loop-log.new.self.rest.items c.in-Some.log c.in-Some-next.past c.in-Some.ensures.steps.0 c.in-Some-next.ensures.items (c.loop-log.invariant.found w.0 w.1)).0)
+
 pub loop-log-preserved : goal.loop-log-preserved
 loop-log-preserved g c =
     let i = c.loop-log.invariant in
     let few = (place_below c.loop-log.place (length c.args.logs.items) 8 c.loop-log.log-iterator.rest.items c.next.new.self.rest.items c.in-Some.log c.in-Some.ensures.steps.0 c.loop-log.invariant.left c.requires.few) in
     record {
-      done = search rules;
+      done = one_longer c.loop-log.place c.loop-log.coords.items c.push.new.self.items c.in_ok-coord.coord c.in_ok-push.ensures.items i.done;
       left = one_less c.loop-log.place (length c.args.logs.items) c.loop-log.log-iterator.rest.items c.next.new.self.rest.items c.in-Some.log c.in-Some.ensures.steps.0 c.loop-log.invariant.left;
       found = λ found f. both_on (λ q l t. IsCoordFound c.args.members (suc q) l t (found (suc q))) c.loop-log.place c.loop-log.log-iterator.rest.items c.next.new.self.rest.items c.loop-log.pasts.rest.items c.next-in-loop-log.new.self.rest.items c.in-Some.log c.in-Some-next.past c.in-Some.ensures.steps.0 c.in-Some-next.ensures.items (c.loop-log.invariant.found found f);
       opened = λ found f.
@@ -42,5 +53,100 @@ loop-log-preserved g c =
           leaves (Coord (suc c.loop-log.place)) (Member k) (g.H.Home.seen c.args.home.now) (g.H.Home.seen c.loop-log.home) (g.H.Home.seen c.open_coord.new.home)
           (number_valid Coords c.loop-log.place (place_below c.loop-log.place (length c.args.logs.items) 8 c.loop-log.log-iterator.rest.items c.next.new.self.rest.items c.in-Some.log c.in-Some.ensures.steps.0 c.loop-log.invariant.left c.requires.few)) own (λ e. apart_sorts k (suc c.loop-log.place) e) (c.loop-log.invariant.others k own) c.open_coord.ensures.rest.others;
       entered = c.open_coord.ensures.rest.directory ∙ c.loop-log.invariant.entered;
-      quiet = search rules;
+      quiet = c.in_ok-coord.ensures.quiet (λ spot is. not_err c.in_ok-coord.coord (Device spot) is) ∙ i.quiet;
     }
+
+pub open_coord-requires-clause-kept : goal.open_coord-requires-clause-kept
+open_coord-requires-clause-kept g c =
+    (subst (AreOwnLogs (g.H.Home.seen c.loop-log.home) Coord c.loop-log.place) c.in-Some.ensures.steps.0 c.loop-log.invariant.to_keep).0
+
+-- ---- a coordinator is not opened
+
+pub returns-in_err-coord-clause-opened : goal.returns-in_err-coord-clause-opened
+returns-in_err-coord-clause-opened g c = λ found f. no_value _ c.from_residual.result c.from_residual.ensures.0
+
+pub returns-in_err-coord-clause-many : goal.returns-in_err-coord-clause-many
+returns-in_err-coord-clause-many g c = no_value _ c.from_residual.result c.from_residual.ensures.0
+
+pub returns-in_err-coord-clause-marks : goal.returns-in_err-coord-clause-marks
+returns-in_err-coord-clause-marks g c = λ found f. no_value _ c.from_residual.result c.from_residual.ensures.0
+
+pub returns-in_err-coord-clause-kept : goal.returns-in_err-coord-clause-kept
+returns-in_err-coord-clause-kept g c = no_value _ c.from_residual.result c.from_residual.ensures.0
+
+pub returns-in_err-coord-clause-clean : goal.returns-in_err-coord-clause-clean
+returns-in_err-coord-clause-clean g c = no_value _ c.from_residual.result c.from_residual.ensures.0
+
+pub returns-in_err-coord-clause-entered : goal.returns-in_err-coord-clause-entered
+returns-in_err-coord-clause-entered g c = c.open_coord.ensures.rest.directory ∙ c.loop-log.invariant.entered
+
+pub returns-in_err-coord-clause-fault : goal.returns-in_err-coord-clause-fault
+returns-in_err-coord-clause-fault g c = handed_in IsOfMaking c.from_residual.result c.in_err-coord.field-0.0 c.from_residual.ensures.1 c.in_err-coord.ensures.fault
+
+pub returns-in_err-coord-clause-device : goal.returns-in_err-coord-clause-device
+returns-in_err-coord-clause-device g c = λ spot is.
+    fails_later (g.H.Home.seen c.args.home.now) (g.H.Home.seen c.loop-log.home) (g.H.Home.seen c.open_coord.new.home) spot (omega (arith, c.loop-log.invariant.quiet))
+    (c.in_err-coord.ensures.device spot (handed_back c.from_residual.result c.in_err-coord.field-0.0 (Device spot) c.from_residual.ensures.1 is))
+
+pub returns-in_err-coord-clause-quiet : goal.returns-in_err-coord-clause-quiet
+returns-in_err-coord-clause-quiet g c = λ quiet.
+    c.in_err-coord.ensures.quiet (λ spot is. quiet spot (handed c.from_residual.result c.in_err-coord.field-0.0 (Device spot) c.from_residual.ensures.1 is)) ∙ c.loop-log.invariant.quiet
+
+-- ---- there was no memory for it
+
+pub returns-in_err-push-clause-opened : goal.returns-in_err-push-clause-opened
+returns-in_err-push-clause-opened g c = λ found f. no_value _ c.from_residual-in_err-push.result c.from_residual-in_err-push.ensures.0
+
+pub returns-in_err-push-clause-many : goal.returns-in_err-push-clause-many
+returns-in_err-push-clause-many g c = no_value _ c.from_residual-in_err-push.result c.from_residual-in_err-push.ensures.0
+
+pub returns-in_err-push-clause-marks : goal.returns-in_err-push-clause-marks
+returns-in_err-push-clause-marks g c = λ found f. no_value _ c.from_residual-in_err-push.result c.from_residual-in_err-push.ensures.0
+
+pub returns-in_err-push-clause-kept : goal.returns-in_err-push-clause-kept
+returns-in_err-push-clause-kept g c = no_value _ c.from_residual-in_err-push.result c.from_residual-in_err-push.ensures.0
+
+pub returns-in_err-push-clause-clean : goal.returns-in_err-push-clause-clean
+returns-in_err-push-clause-clean g c = no_value _ c.from_residual-in_err-push.result c.from_residual-in_err-push.ensures.0
+
+pub returns-in_err-push-clause-entered : goal.returns-in_err-push-clause-entered
+returns-in_err-push-clause-entered g c = c.open_coord.ensures.rest.directory ∙ c.loop-log.invariant.entered
+
+pub returns-in_err-push-clause-fault : goal.returns-in_err-push-clause-fault
+returns-in_err-push-clause-fault g c = handed_in IsOfMaking c.from_residual-in_err-push.result Memory c.from_residual-in_err-push.ensures.1 tt
+
+pub returns-in_err-push-clause-device : goal.returns-in_err-push-clause-device
+returns-in_err-push-clause-device g c = λ spot is. absurd (no_device c.from_residual-in_err-push.result spot c.from_residual-in_err-push.ensures.1 is)
+
+pub returns-in_err-push-clause-quiet : goal.returns-in_err-push-clause-quiet
+returns-in_err-push-clause-quiet g c = λ quiet. c.in_ok-coord.ensures.quiet (λ spot is. not_err c.in_ok-coord.coord (Device spot) is) ∙ c.loop-log.invariant.quiet
+
+-- ---- all are opened
+
+pub returns-clause-opened : goal.returns-clause-opened
+returns-clause-opened g c = c.loop-log.invariant.opened
+
+pub returns-clause-many : goal.returns-clause-many
+returns-clause-many g c = c.loop-log.invariant.done ∙ all_done c.loop-log.place (length c.args.logs.items) c.loop-log.log-iterator.rest.len c.loop-log.log-iterator.rest.items c.in-None.ensures.steps.0 c.loop-log.log-iterator.rest.ok.0 c.loop-log.invariant.left
+
+pub returns-clause-marks : goal.returns-clause-marks
+returns-clause-marks g c = λ found f.
+    c.loop-log.invariant.marked found f ∙ ap (λ n. c.args.marks.now ++ coord_headers n found) (all_done c.loop-log.place (length c.args.logs.items) c.loop-log.log-iterator.rest.len c.loop-log.log-iterator.rest.items c.in-None.ensures.steps.0 c.loop-log.log-iterator.rest.ok.0 c.loop-log.invariant.left)
+
+pub returns-clause-kept : goal.returns-clause-kept
+returns-clause-kept g c = c.loop-log.invariant.kept
+
+pub returns-clause-clean : goal.returns-clause-clean
+returns-clause-clean g c = c.loop-log.invariant.clean
+
+pub returns-clause-others : goal.returns-clause-others
+returns-clause-others g c = c.loop-log.invariant.others
+
+pub returns-clause-entered : goal.returns-clause-entered
+returns-clause-entered g c = c.loop-log.invariant.entered
+
+pub returns-clause-device : goal.returns-clause-device
+returns-clause-device g c = λ spot is. absurd (not_err _ (Device spot) is)
+
+pub returns-clause-quiet : goal.returns-clause-quiet
+returns-clause-quiet g c = λ quiet. c.loop-log.invariant.quiet
