@@ -1,16 +1,18 @@
-use Rattle.std.proofs.Common.{◌≡◌, suc, ◌+◌, ◌++◌, length, rules, refl, sym, ap, ◌∙◌, arith}
+use Rattle.std.proofs.Common.{◌≡◌, suc, ◌+◌, ◌++◌, length, refl, ap, subst, ◌∙◌, arith}
 use Rattle.co_base.specs.declared.node.Node.TheVariants.{Member, Coord}
 use Rattle.co_plain.specs.Opening.{header_mark, opened_member, member_headers}
+use Rattle.co_opening.specs.Judged.{IsOfMaking}
+use Rattle.co_opening.specs.Kept.{AreOwnLogs}
 use Rattle.co_opening.specs.Nodes.{IsMemberAt}
 use Rattle.co_opening.specs.Standing.{IsMemberFound}
 use Rattle.co_opening.specs.declared.sort.Sort.TheVariants.{Members}
-use Rattle.co_durable.specs.declared.fault.WorldFault.TheVariants.{Device}
+use Rattle.co_durable.specs.declared.fault.WorldFault.TheVariants.{Device, Memory}
 use Rattle.co_durable.proofs.Readings.{fails_later}
-use Rattle.co_opening.proofs.Handed.{handed, handed_back}
+use Rattle.co_opening.proofs.From.{one_longer, both_next}
+use Rattle.co_opening.proofs.Handed.{handed, handed_back, handed_in, no_value, not_err, no_device}
 use Rattle.co_opening.proofs.Made.{kind_at}
-use Rattle.co_opening.proofs.From.{both_next}
 use Rattle.co_opening.proofs.Sorts.{number_valid, sorts_apart}
-use Rattle.co_opening.proofs.Turns.{leaves, one_less, place_below, both_on, all_on, marks_on, to_keep_on, kept_on}
+use Rattle.co_opening.proofs.Turns.{leaves, one_less, all_done, place_below, both_on, all_on, marks_on, to_keep_on, kept_on}
 use Rattle.co_opening.proofs.members.open_members.Goals as goal
 
 pub open_member-requires-clause-found : goal.open_member-requires-clause-found
@@ -27,11 +29,6 @@ pub returns-in_err-member-clause-quiet : goal.returns-in_err-member-clause-quiet
 returns-in_err-member-clause-quiet g c = λ quiet.
     c.in_err-member.ensures.quiet (λ spot is. quiet spot (handed c.from_residual.result c.in_err-member.field-0.0 (Device spot) c.from_residual.ensures.1 is)) ∙ c.loop-log.invariant.quiet
 
-pub returns-clause-marks : goal.returns-clause-marks
-returns-clause-marks g c = λ found f.
-    let many : length c.loop-log.members.items ≡ length c.args.kinds.now = search rules in
-    c.loop-log.invariant.marked found f ∙ ap (λ n. c.args.marks.now ++ member_headers n found) (sym c.loop-log.invariant.done ∙ many)
-
 pub returns-in_err-member-clause-others : goal.returns-in_err-member-clause-others
 returns-in_err-member-clause-others g c = λ k own.
     leaves (Member (suc c.loop-log.place)) (Coord k) (g.H.Home.seen c.args.home.now) (g.H.Home.seen c.loop-log.home) (g.H.Home.seen c.open_member.new.home)
@@ -47,7 +44,7 @@ loop-log-preserved g c =
     let i = c.loop-log.invariant in
     let few = (place_below c.loop-log.place (length c.args.kinds.now) 16 c.loop-log.log-iterator.rest.items c.next.new.self.rest.items c.in-Some.log c.in-Some.ensures.steps.0 c.loop-log.invariant.left c.requires.few) in
     record {
-      done = search rules;
+      done = one_longer c.loop-log.place c.loop-log.members.items c.push.new.self.items c.in_ok-member.member c.in_ok-push.ensures.items i.done;
       left = one_less c.loop-log.place (length c.args.kinds.now) c.loop-log.log-iterator.rest.items c.next.new.self.rest.items c.in-Some.log c.in-Some.ensures.steps.0 c.loop-log.invariant.left;
       found = λ found f. both_on (λ q l t. IsMemberFound c.args.coords (suc q) l t (found (suc q))) c.loop-log.place c.loop-log.log-iterator.rest.items c.next.new.self.rest.items c.loop-log.pasts.rest.items c.next-in-loop-log.new.self.rest.items c.in-Some.log c.in-Some-next.past c.in-Some.ensures.steps.0 c.in-Some-next.ensures.items (c.loop-log.invariant.found found f);
       opened = λ found f.
@@ -65,5 +62,91 @@ loop-log-preserved g c =
           leaves (Member (suc c.loop-log.place)) (Coord k) (g.H.Home.seen c.args.home.now) (g.H.Home.seen c.loop-log.home) (g.H.Home.seen c.open_member.new.home)
           (number_valid Members c.loop-log.place (place_below c.loop-log.place (length c.args.kinds.now) 16 c.loop-log.log-iterator.rest.items c.next.new.self.rest.items c.in-Some.log c.in-Some.ensures.steps.0 c.loop-log.invariant.left c.requires.few)) own (λ e. sorts_apart k (suc c.loop-log.place) e) (c.loop-log.invariant.others k own) c.open_member.ensures.rest.others;
       entered = c.open_member.ensures.rest.directory ∙ c.loop-log.invariant.entered;
-      quiet = search rules;
+      quiet = c.in_ok-member.ensures.quiet (λ spot is. not_err c.in_ok-member.member (Device spot) is) ∙ i.quiet;
     }
+
+pub open_member-requires-clause-kept : goal.open_member-requires-clause-kept
+open_member-requires-clause-kept g c =
+    (subst (AreOwnLogs (g.H.Home.seen c.loop-log.home) Member c.loop-log.place) c.in-Some.ensures.steps.0 c.loop-log.invariant.to_keep).0
+
+-- ---- a member is not opened
+
+pub returns-in_err-member-clause-opened : goal.returns-in_err-member-clause-opened
+returns-in_err-member-clause-opened g c = λ found f. no_value _ c.from_residual.result c.from_residual.ensures.0
+
+pub returns-in_err-member-clause-many : goal.returns-in_err-member-clause-many
+returns-in_err-member-clause-many g c = no_value _ c.from_residual.result c.from_residual.ensures.0
+
+pub returns-in_err-member-clause-marks : goal.returns-in_err-member-clause-marks
+returns-in_err-member-clause-marks g c = λ found f. no_value _ c.from_residual.result c.from_residual.ensures.0
+
+pub returns-in_err-member-clause-kept : goal.returns-in_err-member-clause-kept
+returns-in_err-member-clause-kept g c = no_value _ c.from_residual.result c.from_residual.ensures.0
+
+pub returns-in_err-member-clause-clean : goal.returns-in_err-member-clause-clean
+returns-in_err-member-clause-clean g c = no_value _ c.from_residual.result c.from_residual.ensures.0
+
+pub returns-in_err-member-clause-entered : goal.returns-in_err-member-clause-entered
+returns-in_err-member-clause-entered g c = c.open_member.ensures.rest.directory ∙ c.loop-log.invariant.entered
+
+pub returns-in_err-member-clause-fault : goal.returns-in_err-member-clause-fault
+returns-in_err-member-clause-fault g c = handed_in IsOfMaking c.from_residual.result c.in_err-member.field-0.0 c.from_residual.ensures.1 c.in_err-member.ensures.fault
+
+-- ---- there was no memory for it
+
+pub returns-in_err-push-clause-opened : goal.returns-in_err-push-clause-opened
+returns-in_err-push-clause-opened g c = λ found f. no_value _ c.from_residual-in_err-push.result c.from_residual-in_err-push.ensures.0
+
+pub returns-in_err-push-clause-many : goal.returns-in_err-push-clause-many
+returns-in_err-push-clause-many g c = no_value _ c.from_residual-in_err-push.result c.from_residual-in_err-push.ensures.0
+
+pub returns-in_err-push-clause-marks : goal.returns-in_err-push-clause-marks
+returns-in_err-push-clause-marks g c = λ found f. no_value _ c.from_residual-in_err-push.result c.from_residual-in_err-push.ensures.0
+
+pub returns-in_err-push-clause-kept : goal.returns-in_err-push-clause-kept
+returns-in_err-push-clause-kept g c = no_value _ c.from_residual-in_err-push.result c.from_residual-in_err-push.ensures.0
+
+pub returns-in_err-push-clause-clean : goal.returns-in_err-push-clause-clean
+returns-in_err-push-clause-clean g c = no_value _ c.from_residual-in_err-push.result c.from_residual-in_err-push.ensures.0
+
+pub returns-in_err-push-clause-entered : goal.returns-in_err-push-clause-entered
+returns-in_err-push-clause-entered g c = c.open_member.ensures.rest.directory ∙ c.loop-log.invariant.entered
+
+pub returns-in_err-push-clause-fault : goal.returns-in_err-push-clause-fault
+returns-in_err-push-clause-fault g c = handed_in IsOfMaking c.from_residual-in_err-push.result Memory c.from_residual-in_err-push.ensures.1 tt
+
+pub returns-in_err-push-clause-device : goal.returns-in_err-push-clause-device
+returns-in_err-push-clause-device g c = λ spot is. absurd (no_device c.from_residual-in_err-push.result spot c.from_residual-in_err-push.ensures.1 is)
+
+pub returns-in_err-push-clause-quiet : goal.returns-in_err-push-clause-quiet
+returns-in_err-push-clause-quiet g c = λ quiet. c.in_ok-member.ensures.quiet (λ spot is. not_err c.in_ok-member.member (Device spot) is) ∙ c.loop-log.invariant.quiet
+
+-- ---- all are opened
+
+pub returns-clause-opened : goal.returns-clause-opened
+returns-clause-opened g c = c.loop-log.invariant.opened
+
+pub returns-clause-many : goal.returns-clause-many
+returns-clause-many g c = c.loop-log.invariant.done ∙ all_done c.loop-log.place (length c.args.kinds.now) c.loop-log.log-iterator.rest.len c.loop-log.log-iterator.rest.items c.in-None.ensures.steps.0 c.loop-log.log-iterator.rest.ok.0 c.loop-log.invariant.left
+
+pub returns-clause-marks : goal.returns-clause-marks
+returns-clause-marks g c = λ found f.
+    c.loop-log.invariant.marked found f ∙ ap (λ n. c.args.marks.now ++ member_headers n found) (all_done c.loop-log.place (length c.args.kinds.now) c.loop-log.log-iterator.rest.len c.loop-log.log-iterator.rest.items c.in-None.ensures.steps.0 c.loop-log.log-iterator.rest.ok.0 c.loop-log.invariant.left)
+
+pub returns-clause-kept : goal.returns-clause-kept
+returns-clause-kept g c = c.loop-log.invariant.kept
+
+pub returns-clause-clean : goal.returns-clause-clean
+returns-clause-clean g c = c.loop-log.invariant.clean
+
+pub returns-clause-others : goal.returns-clause-others
+returns-clause-others g c = c.loop-log.invariant.others
+
+pub returns-clause-entered : goal.returns-clause-entered
+returns-clause-entered g c = c.loop-log.invariant.entered
+
+pub returns-clause-device : goal.returns-clause-device
+returns-clause-device g c = λ spot is. absurd (not_err _ (Device spot) is)
+
+pub returns-clause-quiet : goal.returns-clause-quiet
+returns-clause-quiet g c = λ quiet. c.loop-log.invariant.quiet
