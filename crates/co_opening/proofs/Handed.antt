@@ -23,6 +23,11 @@ pub handed_in : {T : Type 0} (P : WorldFault → Type 0) (answer : Result T Worl
 handed_in P (Ok x) fault same is = absurd same
 handed_in P (Err e) fault same is = subst P (sym same) is
 
+-- and so of the fault that the answer tells
+pub handed_at : {T : Type 0} (P : WorldFault → Type 0) (answer : Result T WorldFault) (fault at : WorldFault) → IsErrAnd answer (λ e. e ≡ fault) → IsErrOf answer at → P fault → P at
+handed_at P (Ok x) fault at same told is = absurd same
+handed_at {T = T} P (Err e) fault at same told is = subst P (sym same ∙ same_fault {S = T} e at told) is
+
 -- an error is no value
 pub no_value : {T E : Type 0} (P : T → Type 0) (answer : Result T E) → IsErr answer → IfOk answer P
 no_value P (Ok x) is = absurd (false≢true is)
@@ -35,6 +40,11 @@ not_err x at is = absurd cc
 -- the file at which the directory failed
 pub same_device : {T : Type 0} (spot at : Spot) → IsErrOf {T = T} (Err (Device spot)) (Device at) → spot ≡ at
 same_device spot at is = cc
+
+-- what follows of any error
+pub of_error : {T E : Type 0} (P Q : E → Type 0) (answer : Result T E) → ((e : E) → P e → Q e) → IfErr answer P → IfErr answer Q
+of_error P Q (Ok x) f is = tt
+of_error P Q (Err e) f is = f e is
 
 -- no memory is no failure of the directory
 pub no_device : {T : Type 0} (answer : Result T WorldFault) (spot : Spot) → IsErrAnd answer (λ e. e ≡ Memory) → IsErrOf answer (Device spot) → ⊥

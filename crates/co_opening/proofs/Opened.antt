@@ -3,6 +3,7 @@ use Rattle.std.proofs.Common.{◌≡◌, ℕ, suc, ◌≤◌, ◌++◌, Bool, Li
 use Rattle.std.specs.Prelude.{Option, Result, Ok, Err, OnOk, IfOk}
 use Rattle.co_base.specs.Nodes.{IsValidNode}
 use Rattle.co_durable.specs.declared.fault.WorldFault.{WorldFault}
+use Rattle.co_durable.specs.declared.fault.WorldFault.TheVariants.{Device, Differs, InUse, Bad, Full, Count, Old, Memory}
 use Rattle.std.specs.FinMap.{keys}
 use Rattle.co_base.specs.declared.head.Head.{Head}
 use Rattle.co_base.specs.declared.head.Kind.{Kind}
@@ -20,11 +21,11 @@ use Rattle.co_state.specs.Table.{no_entries}
 use Rattle.co_coord.specs.declared.coord.Coord.{Coord as CoordOn}
 use Rattle.co_member.specs.declared.member.Member.{Member as MemberOn}
 use Rattle.co_opening.specs.Counted.{with_members, with_coords}
-use Rattle.co_opening.specs.Judged.{AreJudged}
+use Rattle.co_opening.specs.Judged.{AreJudged, IsOfMaking}
 use Rattle.co_log.specs.Others.{NodeStays}
 use Rattle.co_opening.specs.Kept.{IsOwnLog, AreOwnLogs}
 use Rattle.co_opening.specs.Nodes.{IsMemberAt, IsCoordAt, IsKept, AreKept}
-use Rattle.co_opening.specs.Opened.{AreOpened}
+use Rattle.co_opening.specs.Opened.{AreOpened, IsUnopened, IsOfFound}
 use Rattle.co_opening.specs.Running.{AreMembersAt, AreCoordsAt, AreOwnMembers, AreOwnCoords}
 use Rattle.co_opening.specs.declared.nodes.Nodes.{Nodes}
 use Rattle.co_opening.proofs.From.{all_from_first, all_from_map}
@@ -81,6 +82,27 @@ own_members_stay old new these few left kept =
     (λ q x low high own. own_stays (Member (suc q)) old new x.log (left (suc q) (omega arith, omega (arith, high, few))) own) kept
 
 -- ---- answers
+
+-- the faults of making a log are none of what was found
+pub making_unopened : (file : Spot → Option File) (head : Head) (resume : Bool) (fault : WorldFault) → IsOfMaking fault → IsUnopened file head resume fault
+making_unopened file head resume (Device spot) is = tt
+making_unopened file head resume (Differs spot at kept read) is = absurd is
+making_unopened file head resume (InUse spot) is = absurd is
+making_unopened file head resume (Bad spot at) is = absurd is
+making_unopened file head resume (Full spot) is = absurd is
+making_unopened file head resume Count is = absurd is
+making_unopened file head resume (Old spot) is = absurd is
+making_unopened file head resume Memory is = tt
+
+pub making_unfound : (fault : WorldFault) → IsOfMaking fault → IsOfFound fault → ⊥
+making_unfound (Device spot) is found = absurd found
+making_unfound (Differs spot at kept read) is found = absurd is
+making_unfound (InUse spot) is found = absurd is
+making_unfound (Bad spot at) is found = absurd is
+making_unfound (Full spot) is found = absurd is
+making_unfound Count is found = absurd is
+making_unfound (Old spot) is found = absurd is
+making_unfound Memory is found = absurd found
 
 pub clean_moved : {T : Type 0} (result : Result T WorldFault) (old mid new : HomeView) → ((s : Spot) → mid.file s ≡ old.file s) → OnOk result ((s : Spot) → IsClean mid s → IsClean new s) → IfOk result (λ n. (s : Spot) → IsClean old s → IsClean new s)
 clean_moved (Ok n) old mid new same clean = λ s was. clean s (still_clean old mid s (same s) was)

@@ -1,12 +1,14 @@
 use Rattle.std.proofs.Common.{◌≡◌, ◌++◌, List, length, sym, ap, subst, ◌∙◌, arith}
+use Rattle.std.specs.List.{AllByRecursion}
 use Rattle.co_base.specs.declared.head.Kind.{Kind}
 use Rattle.co_base.specs.declared.mark.Mark.{Mark}
 use Rattle.co_durable.specs.declared.fault.WorldFault.TheVariants.{Device}
 use Rattle.co_durable.proofs.Readings.{fails_later}
 use Rattle.co_plain.specs.Opening.{member_headers, coord_headers}
+use Rattle.co_opening.specs.Judged.{IsOfMaking}
 use Rattle.co_opening.specs.Running.{AreMembersAt, AreCoordsAt}
 use Rattle.co_opening.specs.Standing.{AreCoordsFound}
-use Rattle.co_opening.proofs.Handed.{handed_back, not_err}
+use Rattle.co_opening.proofs.Handed.{handed, handed_back, handed_in, no_value, not_err}
 use Rattle.co_opening.proofs.Opened.{opened_nodes, kept_nodes, coords_left, own_members_stay}
 use Rattle.co_opening.proofs.opening.make_nodes.Goals as goal
 
@@ -50,3 +52,83 @@ returns-clause-kept g c =
 
 pub returns-clause-clean : goal.returns-clause-clean
 returns-clause-clean g c = λ s was. c.in_ok-coords.ensures.clean s (c.in_ok-members.ensures.clean s was)
+
+pub open_members-requires-clause-takes : goal.open_members-requires-clause-takes
+open_members-requires-clause-takes g c = subst (AllByRecursion g.E.Engine.takes) (sym c.as_slice-kinds.ensures) c.requires.takes
+
+pub open_members-requires-clause-few : goal.open_members-requires-clause-few
+open_members-requires-clause-few g c =
+    let same : length c.as_slice-kinds.result.now ≡ length c.args.head.now.kinds = ap length c.as_slice-kinds.ensures in
+    omega (arith, same, c.args.head.now.members)
+
+pub open_members-requires-clause-many : goal.open_members-requires-clause-many
+open_members-requires-clause-many g c = c.requires.judged.2.many_members ∙ ap length (sym c.as_slice-kinds.ensures)
+
+pub open_members-requires-clause-found : goal.open_members-requires-clause-found
+open_members-requires-clause-found g c = (c.requires.judged.2.found_member, c.requires.judged.2.members)
+
+pub open_members-requires-clause-kept : goal.open_members-requires-clause-kept
+open_members-requires-clause-kept g c = c.requires.kept_members
+
+pub open_coords-requires-clause-few : goal.open_coords-requires-clause-few
+open_coords-requires-clause-few g c = omega (arith, c.requires.judged.2.many_coords, c.args.head.now.coordinators)
+
+pub open_coords-requires-clause-found : goal.open_coords-requires-clause-found
+open_coords-requires-clause-found g c =
+    let j = c.requires.judged.2 in
+    (j.found_coord, subst (λ n. AreCoordsFound n j.found_coord 0 c.args.logs.coords.items c.args.pasts.coords.items) (sym c.len-count.ensures) j.coords)
+
+-- ---- the members are not opened
+
+pub returns-in_err-members-clause-opened : goal.returns-in_err-members-clause-opened
+returns-in_err-members-clause-opened g c = λ file resume j. no_value _ c.from_residual.result c.from_residual.ensures.0
+
+pub returns-in_err-members-clause-kept : goal.returns-in_err-members-clause-kept
+returns-in_err-members-clause-kept g c = no_value _ c.from_residual.result c.from_residual.ensures.0
+
+pub returns-in_err-members-clause-clean : goal.returns-in_err-members-clause-clean
+returns-in_err-members-clause-clean g c = no_value _ c.from_residual.result c.from_residual.ensures.0
+
+pub returns-in_err-members-clause-entered : goal.returns-in_err-members-clause-entered
+returns-in_err-members-clause-entered g c = c.open_members.ensures.entered
+
+pub returns-in_err-members-clause-fault : goal.returns-in_err-members-clause-fault
+returns-in_err-members-clause-fault g c = handed_in IsOfMaking c.from_residual.result c.in_err-members.field-0.0 c.from_residual.ensures.1 c.in_err-members.ensures.fault
+
+pub returns-in_err-members-clause-device : goal.returns-in_err-members-clause-device
+returns-in_err-members-clause-device g c = λ spot is. c.in_err-members.ensures.device spot (handed_back c.from_residual.result c.in_err-members.field-0.0 (Device spot) c.from_residual.ensures.1 is)
+
+pub returns-in_err-members-clause-quiet : goal.returns-in_err-members-clause-quiet
+returns-in_err-members-clause-quiet g c = λ quiet. c.in_err-members.ensures.quiet (λ spot is. quiet spot (handed c.from_residual.result c.in_err-members.field-0.0 (Device spot) c.from_residual.ensures.1 is))
+
+-- ---- the coordinators are not
+
+pub returns-in_err-coords-clause-opened : goal.returns-in_err-coords-clause-opened
+returns-in_err-coords-clause-opened g c = λ file resume j. no_value _ c.from_residual-in_err-coords.result c.from_residual-in_err-coords.ensures.0
+
+pub returns-in_err-coords-clause-kept : goal.returns-in_err-coords-clause-kept
+returns-in_err-coords-clause-kept g c = no_value _ c.from_residual-in_err-coords.result c.from_residual-in_err-coords.ensures.0
+
+pub returns-in_err-coords-clause-clean : goal.returns-in_err-coords-clause-clean
+returns-in_err-coords-clause-clean g c = no_value _ c.from_residual-in_err-coords.result c.from_residual-in_err-coords.ensures.0
+
+pub returns-in_err-coords-clause-entered : goal.returns-in_err-coords-clause-entered
+returns-in_err-coords-clause-entered g c = c.open_coords.ensures.entered ∙ c.open_members.ensures.entered
+
+pub returns-in_err-coords-clause-fault : goal.returns-in_err-coords-clause-fault
+returns-in_err-coords-clause-fault g c = handed_in IsOfMaking c.from_residual-in_err-coords.result c.in_err-coords.field-0.0 c.from_residual-in_err-coords.ensures.1 c.in_err-coords.ensures.fault
+
+pub returns-in_err-coords-clause-quiet : goal.returns-in_err-coords-clause-quiet
+returns-in_err-coords-clause-quiet g c = λ quiet.
+    c.in_err-coords.ensures.quiet (λ spot is. quiet spot (handed c.from_residual-in_err-coords.result c.in_err-coords.field-0.0 (Device spot) c.from_residual-in_err-coords.ensures.1 is)) ∙ c.in_ok-members.ensures.quiet (λ spot is. not_err c.in_ok-members.members (Device spot) is)
+
+-- ---- all are opened
+
+pub returns-clause-entered : goal.returns-clause-entered
+returns-clause-entered g c = c.open_coords.ensures.entered ∙ c.open_members.ensures.entered
+
+pub returns-clause-device : goal.returns-clause-device
+returns-clause-device g c = λ spot is. absurd (not_err _ (Device spot) is)
+
+pub returns-clause-quiet : goal.returns-clause-quiet
+returns-clause-quiet g c = λ quiet. c.in_ok-coords.ensures.quiet (λ spot is. not_err c.in_ok-coords.coords (Device spot) is) ∙ c.in_ok-members.ensures.quiet (λ spot is. not_err c.in_ok-members.members (Device spot) is)
