@@ -36,7 +36,7 @@ use Rattle.co_state.specs.EngineState.{is_undecided, operations_of, sets_at, set
 use Rattle.co_state.specs.Table.{holds, look}
 use Rattle.co_state.specs.declared.engine_state.EngineState.{EngineState}
 use Rattle.co_member.specs.Plans.{changed, carried, carried_out, plan_of}
-use Rattle.co_member.specs.Standing.{is_up, RepresentsMember, RepresentsRunning, HasDone, HasEnded, IsSame}
+use Rattle.co_member.specs.Standing.{is_up, RepresentsMember, RepresentsRunning, HasDone, HasEnded, IsSame, told}
 use Rattle.co_node.specs.Writing.{HasWrittenFor}
 use Rattle.co_member.specs.declared.member.Member.{Member}
 use Rattle.co_member.specs.declared.plan.Change.{Change}
@@ -216,12 +216,11 @@ module _ {E : Type 0} (stands_for : E → EngineState → Type 0) where
       subst (λ (s : PlainStep). IfOk result (λ d. HasDone stands_for s d after)) (sym (is ∙ ap (λ (p : Plan). carried_out m y t p) (sym same))) done
 
   -- a plan that writes and changes nothing
-  pub told_alone : (x : Member E) (y : MemberState) (t : ℕ) (plan : Plan) (marks : List Mark) → plan.writes ≡ Nothing → plan.change ≡ Stays → marks ≡ [] → RepresentsMember stands_for x y
-      → HasDone stands_for (carried_out x.number y t plan) (record { answer = plan.answer; sent = plan.sent; marks = marks }) x
-  told_alone x y t plan marks quiet stays none r =
-      let d : MemberStep = record { answer = plan.answer; sent = plan.sent; marks = marks } in
+  pub told_alone : (x : Member E) (y : MemberState) (t : ℕ) (plan : Plan) → plan.writes ≡ Nothing → plan.change ≡ Stays → RepresentsMember stands_for x y → HasDone stands_for (carried_out x.number y t plan) (told plan) x
+  told_alone x y t plan quiet stays r =
+      let d = told plan in
       subst (λ (w : Writes). HasDone stands_for (carried w x.number (changed y t plan.change) plan.answer plan.sent) d x) (sym quiet)
-      (subst (λ (ch : Change). HasDone stands_for (carried Nothing x.number (changed y t ch) plan.answer plan.sent) d x) (sym stays) (record { answer = refl; sent = refl; marks = none; state = r }))
+      (subst (λ (ch : Change). HasDone stands_for (carried Nothing x.number (changed y t ch) plan.answer plan.sent) d x) (sym stays) (record { answer = refl; sent = refl; marks = refl; state = r }))
 
   -- ---- stops and crashes
 

@@ -1,5 +1,5 @@
 -- For which plain member a member stands, and what a call of it does.
-use Rattle.std.specs.Prelude.{ℕ, Bool, ◌≡◌, List, Option, None, Some, is_some, Result}
+use Rattle.std.specs.Prelude.{ℕ, Bool, ◌≡◌, List, [], Option, None, Some, is_some, Result}
 use Rattle.co_base.specs.declared.head.Kind.{Kind}
 use Rattle.co_base.specs.declared.mark.Mark.{Mark}
 use Rattle.co_base.specs.declared.node.Node.TheVariants as node
@@ -20,6 +20,7 @@ use Rattle.co_plain.specs.declared.standing.Standing.TheVariants.{IsActive, IsVo
 use Rattle.co_member.specs.declared.member.Member.{Member}
 use Rattle.co_member.specs.declared.plan.Change.{Change}
 use Rattle.co_member.specs.declared.plan.Change.TheVariants.{Stays, Casts, Drops, Installs, CastsAndInstalls}
+use Rattle.co_member.specs.declared.plan.Plan.{Plan}
 use Rattle.co_member.specs.declared.running.Running.{Running}
 use Rattle.co_member.specs.declared.step.MemberStep.{MemberStep}
 
@@ -62,6 +63,10 @@ marks_in d = d.marks
 -- what a call of a member says of its log write
 abbrev pub written_by : Result MemberStep NodeFault → Result Written NodeFault
 written_by out = written_with marks_in out
+
+-- what a plan that writes nothing tells
+abbrev pub told : Plan → MemberStep
+told p = record { answer = p.answer; sent = p.sent; marks = [] }
 
 -- what is left once a log write ended: the answer and what is sent where it was done, and a member that is down where it was stopped
 abbrev pub HasEnded : {E : Type 0} → Answer → Option Message → Written → Member E → MemberStep → Member E → Type 0

@@ -14,6 +14,7 @@ ghost use Rattle.co_member.specs.Standing.{is_up, RepresentsMember, HasDone, IsS
 
 use crate::local::local_abort_plan;
 use crate::member::Member;
+use crate::plan::told;
 use crate::step::MemberStep;
 use crate::timers::{ask_plan, timer_plan};
 use co_base::{Leaves, Marks, Txn};
@@ -44,11 +45,7 @@ impl<E: Engine + Drop> Member<E> {
     {
         let running = self.running();
         let plan = ask_plan(self.number, t, running.coord_of(t), running.standing(t));
-        Ok(MemberStep {
-            answer: plan.answer,
-            sent: plan.sent,
-            marks: Marks::new(self.alloc),
-        })
+        Ok(told(self.alloc, plan))
     }
 
     /// The client asks for the abort of a local transaction.

@@ -22,7 +22,7 @@ ghost use Rattle.co_member.specs.declared.running.Running.{Running};
 
 use crate::delivery::commit_record;
 use crate::local::LOCAL_COORD;
-use crate::plan::{Change, Course, Plan};
+use crate::plan::{Change, Course, Plan, told, wants_memory};
 use crate::running::Running;
 use crate::step::MemberStep;
 use co_base::{Kind, Marks, Txn};
@@ -125,15 +125,21 @@ impl<E: Engine + Drop> Member<E> {
         ensures rest { OtherNodesStay self.old.log.node (H.seen home.old) (H.seen home.new) }
         ensures same { IsSame self.old self.new }
     {
-        let Plan {
-            writes,
-            change,
-            answer,
-            sent,
-        } = plan;
-        self.change(t, change)?;
-        let written = write(self.alloc, &mut self.log, home, writes)?;
-        Ok(self.ended(written, answer, sent))
+        match self.change(t, plan.change) {
+            Ok(()) => {
+                let Plan {
+                    writes,
+                    change: _,
+                    answer,
+                    sent,
+                } = plan;
+                match write(self.alloc, &mut self.log, home, writes) {
+                    Ok(written) => Ok(self.ended(written, answer, sent)),
+                    Err(fault) => Err(fault),
+                }
+            }
+            Err(AllocError) => Err(wants_memory(plan)),
+        }
     }
 
     /// Votes yes for this coordinator, over so many operations: the vote is cast in memory, its record is forced from the sets of the
@@ -240,17 +246,9 @@ impl<E: Engine + Drop> Member<E> {
         ensures log { self.new.log ≡ self.old.log }
         ensures same { IsSame self.old self.new }
     {
-        let Plan {
-            writes: _,
-            change,
-            answer,
-            sent,
-        } = plan;
-        self.change(t, change)?;
-        Ok(MemberStep {
-            answer,
-            sent,
-            marks: Marks::new(self.alloc),
-        })
+        match self.change(t, plan.change) {
+            Ok(()) => Ok(told(self.alloc, plan)),
+            Err(AllocError) => Err(wants_memory(plan)),
+        }
     }
 }

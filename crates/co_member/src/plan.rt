@@ -1,9 +1,17 @@
 //! The plan of an event.
 ghost use Rattle.std.specs.Prelude.{◌≡◌};
+ghost use Rattle.co_log.specs.declared.fault.NodeFault.TheVariants.{Memory};
 ghost use Rattle.co_member.specs.Plans.{says, sends, drops};
+ghost use Rattle.co_member.specs.Standing.{told};
+ghost use Rattle.co_node.specs.declared.writing.Writes.TheVariants.{Nothing};
 
+use crate::step::MemberStep;
+use co_base::Marks;
+use co_log::NodeFault;
 use co_message::{Answer, Message};
 use co_node::Writes;
+use co_record::Record;
+use std::alloc::Global;
 
 /// What becomes of a transaction.
 #[derive(Clone, Copy)]
@@ -90,4 +98,54 @@ pub(crate) fn drops(answer: Answer, sent: Option<Message>) -> Plan
         answer,
         sent,
     }
+}
+
+/// What a plan that writes nothing tells.
+pub(crate) fn told(alloc: Global, plan: Plan) -> MemberStep
+    requires { plan.writes ≡ Nothing }
+    ensures { result ≡ told plan }
+{
+    let Plan {
+        writes,
+        change: _,
+        answer,
+        sent,
+    } = plan;
+    match writes {
+        Writes::Nothing => MemberStep {
+            answer,
+            sent,
+            marks: Marks::new(alloc),
+        },
+        Writes::Keeps(_) | Writes::Forces(_) | Writes::ForcesBoth(_, _) => unreachable!(),
+    }
+}
+
+/// Lets go of a record.
+fn lets_go_of(_item: Record) {}
+
+/// Lets go of what the log does not get.
+fn lets_go(writes: Writes) {
+    match writes {
+        Writes::Nothing => (),
+        Writes::Keeps(item) | Writes::Forces(item) => lets_go_of(item),
+        Writes::ForcesBoth(first, item) => {
+            lets_go_of(first);
+            lets_go_of(item);
+        }
+    }
+}
+
+/// The fault of a plan for whose change there is no memory.
+pub(crate) fn wants_memory(plan: Plan) -> NodeFault
+    ensures { result ≡ Memory }
+{
+    let Plan {
+        writes,
+        change: _,
+        answer: _,
+        sent: _,
+    } = plan;
+    lets_go(writes);
+    NodeFault::Memory
 }
