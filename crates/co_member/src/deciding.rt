@@ -126,7 +126,7 @@ impl<E: Engine + Drop> Member<E> {
         ensures same { IsSame self.old self.new }
     {
         co_node::crash(&mut self.log, home);
-        self.running = None;
+        self.has(None);
         Ok(MemberStep {
             answer: Answer::Crashed,
             sent: None,

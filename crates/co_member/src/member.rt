@@ -73,6 +73,15 @@ impl<E: Engine + Drop> Member<E> {
         }
     }
 
+    /// Has this in memory from now on, in place of what it had.
+    pub(crate) fn has(&mut self, running: Option<Running<E>>)
+        ensures running { self.new.running ≡ running }
+        ensures log { self.new.log ≡ self.old.log }
+        ensures same { IsSame self.old self.new }
+    {
+        self.running = running;
+    }
+
     /// A log write was stopped: what was in memory is lost, and the member is down.
     pub(crate) fn stopped(&mut self, call: u8, marks: Marks) -> MemberStep
         ensures step { result ≡ record { answer = answer.Stopped call; sent = None; marks = marks } }
@@ -80,7 +89,7 @@ impl<E: Engine + Drop> Member<E> {
         ensures log { self.new.log ≡ self.old.log }
         ensures same { IsSame self.old self.new }
     {
-        self.running = None;
+        self.has(None);
         MemberStep {
             answer: Answer::Stopped(call),
             sent: None,

@@ -53,6 +53,9 @@ pub(crate) fn recovered(alloc: Global, log: &Log, coords: u8) -> Result<MemberPa
     }
 }
 
+/// Lets go of a log.
+fn lets_go_of(_log: Log) {}
+
 impl<E: Engine> Running<E> {
     /// What a member of this kind has in memory that its log tells. No transaction is active.
     fn restored(alloc: Global, kind: Kind, past: MemberPast) -> Result<Running<E>, AllocError>
@@ -89,15 +92,31 @@ impl<E: Engine + Drop> Member<E> {
         ensures opened { (l : LogState) → IsPastOf number log past l → IfOk result (λ m. RepresentsMember E.stands_for m (member_with kind l (recovered_view l.stable))) }
         ensures made { IfOk result (λ m. (m.number ≡ number) × (m.kind ≡ kind) × (m.coords ≡ coords) × (m.log ≡ log)) }
     {
-        let running = Running::restored(alloc, kind, past)?;
-        Ok(Member {
-            alloc,
-            number,
-            kind,
-            coords,
-            log,
-            running: Some(running),
-        })
+        match Running::restored(alloc, kind, past) {
+            Ok(running) => Ok(Member {
+                alloc,
+                number,
+                kind,
+                coords,
+                log,
+                running: Some(running),
+            }),
+            Err(fault) => {
+                lets_go_of(log);
+                Err(fault)
+            }
+        }
+    }
+
+    /// What its log tells, as what it has in memory.
+    fn found(&self) -> Result<Running<E>, AllocError>
+        requires takes { E.takes self.now.kind }
+        requires stands { (owner : Node) × (l : LogState) × RepresentsLog owner self.now.log l × IsReadable self.now.coords l }
+        ensures { (owner : Node) (l after : LogState) → RepresentsLog owner self.now.log l →
+            IfOk result (λ r. RepresentsRunning E.stands_for self.now.kind r (member_with self.now.kind after (recovered_view l.stable))) }
+    {
+        let past = recovered(self.alloc, &self.log, self.coords)?;
+        Running::restored(self.alloc, self.kind, past)
     }
 
     /// Reads the log of a member that is down again, and goes up with what it tells.
@@ -115,8 +134,8 @@ impl<E: Engine + Drop> Member<E> {
         ensures same { IsSame self.old self.new }
     {
         co_node::reread(&mut self.log, home)?;
-        let past = recovered(self.alloc, &self.log, self.coords)?;
-        self.running = Some(Running::restored(self.alloc, self.kind, past)?);
+        let running = self.found()?;
+        self.has(Some(running));
         Ok(MemberStep {
             answer: Answer::Up,
             sent: None,

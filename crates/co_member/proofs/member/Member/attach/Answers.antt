@@ -11,6 +11,6 @@ restored-requires-clause-free g c =
     let l = c.requires.stands.0 in
     ap (λ (p : MemberPast). are_free p.voted) c.requires.stands.1.past ∙ votes_free (recovered_view l.stable).voted c.requires.stands.2.free
 
-pub returns-clause-opened : goal.returns-clause-opened
-returns-clause-opened g c = λ l past.
-    first_stands g.E.Engine.stands_for _ c.in_ok-running.running _ refl refl past.log (c.in_ok-running.ensures l (recovered_view l.stable) past.past)
+pub returns-in-Ok-clause-opened : goal.returns-in-Ok-clause-opened
+returns-in-Ok-clause-opened g c = λ l past.
+    first_stands g.E.Engine.stands_for _ c.in-Ok.running _ refl refl past.log (c.in-Ok.ensures l (recovered_view l.stable) past.past)

@@ -1,6 +1,8 @@
-use Rattle.std.proofs.Common.{refl}
-use Rattle.std.specs.Prelude.{None}
+use Rattle.std.proofs.Common.{sym, subst}
 use Rattle.co_base.specs.declared.node.Node.TheVariants as node
+use Rattle.co_log.specs.LogView.{LogView}
+use Rattle.co_node.specs.NodeLog.{RepresentsLog}
+use Rattle.co_plain.specs.LogWrite.{crashed_log}
 use Rattle.co_member.proofs.Carrying.{crashed_step}
 use Rattle.co_member.proofs.member.Member.crash.Goals as goal
 
@@ -10,4 +12,6 @@ crash-requires-clause-stands g c = (node.Member c.args.self.now.number, c.requir
 pub returns-clause-did : goal.returns-clause-did
 returns-clause-did g c = λ y r.
     let x = c.args.self.now in
-    crashed_step g.E.Engine.stands_for x (record x { log = c.crash.new.log; running = None }) y c.new.result c.new.ensures r refl refl refl (c.crash.ensures.stands (node.Member x.number) y.log r.log)
+    let n = node.Member x.number in
+    let log = subst (λ (v : LogView). RepresentsLog n v (crashed_log y.log)) (sym c.has.ensures.log) (c.crash.ensures.stands n y.log r.log) in
+    crashed_step g.E.Engine.stands_for x c.has.new.self y c.new.result c.new.ensures r c.has.ensures.same.number c.has.ensures.same.kind c.has.ensures.running log
