@@ -24,7 +24,6 @@ returns-in_err-push-clause-others g c = λ k own.
     leaves (Coord (suc c.loop-log.place)) (Member k) (g.H.Home.seen c.args.home.now) (g.H.Home.seen c.loop-log.home) (g.H.Home.seen c.open_coord.new.home)
     (number_valid Coords c.loop-log.place (place_below c.loop-log.place (length c.args.logs.items) 8 c.loop-log.log-iterator.rest.items c.next.new.self.rest.items c.in-Some.log c.in-Some.ensures.steps.0 c.loop-log.invariant.left c.requires.few)) own (λ e. apart_sorts k (suc c.loop-log.place) e) (c.loop-log.invariant.others k own) c.open_coord.ensures.rest.others
 
-
 pub open_coord-requires-clause-found : goal.open_coord-requires-clause-found
 open_coord-requires-clause-found g c =
     let w = c.requires.found in
