@@ -43,6 +43,11 @@ all_or P [] k d all h = h
 all_or P (x ∷ xs) zero d all h = all.0
 all_or P (x ∷ xs) (suc k) d all h = all_or P xs k d all.1 h
 
+pub all_get : {A : Type 0} (P : A → Type 0) (xs : List A) (k : ℕ) (d : A) → AllByRecursion P xs → k < length xs → P (get_or xs k d)
+all_get P [] k d all h = absurd (omega (arith, h))
+all_get P (x ∷ xs) zero d all h = all.0
+all_get P (x ∷ xs) (suc k) d all h = all_get P xs k d all.1 (omega (arith, h))
+
 pub past_end : {A : Type 0} (xs : List A) (k : ℕ) (d : A) → length xs ≤ k → get_or xs k d ≡ d
 past_end [] k d h = refl
 past_end (x ∷ xs) zero d h = absurd (omega (arith, h))
@@ -52,6 +57,11 @@ past_end (x ∷ xs) (suc k) d h = past_end xs k d (omega (arith, h))
 pub both_next : {A B : Type 0} (R : ℕ → A → B → Type 0) (p : ℕ) (xs more : List A) (ys rest : List B) (x : A) (y : B) → xs ≡ x ∷ more → ys ≡ y ∷ rest → BothFrom R p xs ys → R p x y × BothFrom R (suc p) more rest
 both_next R p xs more ys rest x y is are both =
     subst (λ (l : List _). BothFrom R p (x ∷ more) l) are (subst (λ (l : List _). BothFrom R p l ys) is both)
+
+-- one of them does not end before the other
+pub both_left : {A B : Type 0} (R : ℕ → A → B → Type 0) (p : ℕ) (xs more : List A) (x : A) (ys : List B) → xs ≡ x ∷ more → 0 ≡ length ys → BothFrom R p xs ys → ⊥
+both_left R p xs more x [] is none both = subst (λ (l : List _). BothFrom R p l []) is both
+both_left R p xs more x (y ∷ ys) is none both = absurd (omega (arith, none))
 
 pub pairs_map : {A B : Type 0} (R S : A → B → Type 0) → ((x : A) (y : B) → R x y → S x y) → (xs : List A) (ys : List B) → EachPair R xs ys → EachPair S xs ys
 pairs_map R S f [] [] p = tt

@@ -20,6 +20,10 @@ use Rattle.co_opening.proofs.Stays.{stays_on, own_stays, own_all_stay}
 pub leaves : (this that : Node) (old mid new : HomeView) → IsValidNode this → IsValidNode that → that ≢ this → NodeStays that old mid → OtherFilesStay this mid new → NodeStays that old new
 leaves this that old mid new one two other left stay = stays_on that old mid new left (stays_elsewhere this that mid new one two other stay)
 
+-- how many are left at first, and behind one more
+pub left_first : {A : Type 0} (n : ℕ) (all left : List A) → left ≡ all → length all ≡ n → 0 + length left ≡ n
+left_first n all left is many = let e : length left ≡ length all = ap length is in omega (arith, e, many)
+
 pub one_less : {A : Type 0} (place n : ℕ) (old new : List A) (x : A) → old ≡ x ∷ new → place + length old ≡ n → place + 1 + length new ≡ n
 one_less place n old new x is many = let e : length old ≡ suc (length new) = ap length is in omega (arith, e, many)
 

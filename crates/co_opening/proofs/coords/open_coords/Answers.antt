@@ -1,18 +1,54 @@
-use Rattle.std.proofs.Common.{◌≡◌, suc, ◌+◌, ◌++◌, length, refl, ap, subst, ◌∙◌, arith}
+use Rattle.std.proofs.Common.{◌≡◌, suc, ◌+◌, List, ◌++◌, append-nil, length, refl, sym, ap, subst, ◌∙◌, arith}
 use Rattle.co_base.specs.declared.node.Node.TheVariants.{Member, Coord}
+use Rattle.co_log.specs.LogView.{LogView}
 use Rattle.co_plain.specs.Opening.{header_mark, opened_coord, coord_headers}
 use Rattle.co_durable.specs.declared.fault.WorldFault.TheVariants.{Device, Memory}
 use Rattle.co_durable.proofs.Readings.{fails_later}
 use Rattle.co_opening.specs.Judged.{IsOfMaking}
 use Rattle.co_opening.specs.Kept.{AreOwnLogs}
 use Rattle.co_opening.specs.Nodes.{IsCoordAt}
-use Rattle.co_opening.specs.Standing.{IsCoordFound}
+use Rattle.co_recover.specs.declared.past.CoordPast.{CoordPast}
+use Rattle.co_opening.specs.Running.{AreCoordsAt, AreOwnCoords}
+use Rattle.co_opening.specs.Standing.{IsCoordFound, AreCoordsFound}
 use Rattle.co_opening.specs.declared.sort.Sort.TheVariants.{Coords}
-use Rattle.co_opening.proofs.From.{one_longer, both_next}
+use Rattle.co_opening.proofs.From.{one_longer, both_next, both_left}
 use Rattle.co_opening.proofs.Handed.{handed, handed_back, handed_in, no_value, not_err, no_device}
 use Rattle.co_opening.proofs.Sorts.{number_valid, apart_sorts}
-use Rattle.co_opening.proofs.Turns.{leaves, one_less, all_done, place_below, both_on, all_on, marks_on, to_keep_on, kept_on}
+use Rattle.co_opening.proofs.Stays.{stays_still}
+use Rattle.co_opening.proofs.Turns.{leaves, left_first, one_less, all_done, place_below, both_on, all_on, marks_on, to_keep_on, kept_on}
 use Rattle.co_opening.proofs.coords.open_coords.Goals as goal
+
+pub loop-log-init : goal.loop-log-init
+loop-log-init g c =
+    let home = g.H.Home.seen c.args.home.now in
+    let none = c.new-coords.ensures.items in
+    let logs = c.into_iter-log-iterator.ensures.into_iter_gives.0 in
+    let pasts = c.into_iter-pasts.ensures.rest in
+    record {
+      done = ap length none;
+      left = left_first (length c.args.logs.items) c.args.logs.items c.into_iter-log-iterator.result.rest.items logs refl;
+      found = λ found f.
+          subst (λ (ps : List CoordPast). AreCoordsFound c.args.members found 0 c.into_iter-log-iterator.result.rest.items ps) (sym pasts)
+          (subst (λ (ls : List LogView). AreCoordsFound c.args.members found 0 ls c.args.pasts.items) (sym logs) f);
+      opened = λ found f. subst (AreCoordsAt c.args.members found) (sym none) tt;
+      marked = λ found f. sym (append-nil c.args.marks.now);
+      to_keep = subst (AreOwnLogs home Coord 0) (sym logs) c.requires.kept;
+      kept = subst (AreOwnCoords home) (sym none) tt;
+      clean = λ s was. was;
+      others = λ k own. stays_still (Member k) home;
+      entered = refl;
+      quiet = refl;
+    }
+
+pub unreachable-requires : goal.unreachable-requires
+unreachable-requires g c =
+    let w = c.requires.found in
+    both_left (λ q l t. IsCoordFound c.args.members (suc q) l t (w.0 (suc q))) c.loop-log.place c.loop-log.log-iterator.rest.items c.next.new.self.rest.items c.in-Some.log c.loop-log.pasts.rest.items c.in-Some.ensures.steps.0
+    (sym c.in_default.ensures.cases.0 ∙ c.loop-log.pasts.rest.ok.0) (c.loop-log.invariant.found w.0 w.1)
+
+pub open_coord-requires-clause-few : goal.open_coord-requires-clause-few
+open_coord-requires-clause-few g c =
+    omega (arith, place_below c.loop-log.place (length c.args.logs.items) 8 c.loop-log.log-iterator.rest.items c.next.new.self.rest.items c.in-Some.log c.in-Some.ensures.steps.0 c.loop-log.invariant.left c.requires.few)
 
 pub returns-in_err-coord-clause-others : goal.returns-in_err-coord-clause-others
 returns-in_err-coord-clause-others g c = λ k own.

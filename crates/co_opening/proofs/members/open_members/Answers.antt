@@ -1,19 +1,66 @@
-use Rattle.std.proofs.Common.{◌≡◌, suc, ◌+◌, ◌++◌, length, refl, ap, subst, ◌∙◌, arith}
+use Rattle.std.proofs.Common.{◌≡◌, suc, ◌+◌, ◌≤◌, List, ◌++◌, append-nil, length, refl, sym, ap, subst, ◌∙◌, arith}
+use Rattle.co_base.specs.declared.head.Kind.TheVariants.{Lock}
 use Rattle.co_base.specs.declared.node.Node.TheVariants.{Member, Coord}
+use Rattle.co_log.specs.LogView.{LogView}
 use Rattle.co_plain.specs.Opening.{header_mark, opened_member, member_headers}
 use Rattle.co_opening.specs.Judged.{IsOfMaking}
 use Rattle.co_opening.specs.Kept.{AreOwnLogs}
 use Rattle.co_opening.specs.Nodes.{IsMemberAt}
-use Rattle.co_opening.specs.Standing.{IsMemberFound}
+use Rattle.co_recover.specs.declared.past.MemberPast.{MemberPast}
+use Rattle.co_opening.specs.Running.{AreMembersAt, AreOwnMembers}
+use Rattle.co_opening.specs.Standing.{IsMemberFound, AreMembersFound}
 use Rattle.co_opening.specs.declared.sort.Sort.TheVariants.{Members}
 use Rattle.co_durable.specs.declared.fault.WorldFault.TheVariants.{Device, Memory}
 use Rattle.co_durable.proofs.Readings.{fails_later}
-use Rattle.co_opening.proofs.From.{one_longer, both_next}
+use Rattle.co_opening.proofs.From.{one_longer, all_get, both_next, both_left}
 use Rattle.co_opening.proofs.Handed.{handed, handed_back, handed_in, no_value, not_err, no_device}
 use Rattle.co_opening.proofs.Made.{kind_at}
 use Rattle.co_opening.proofs.Sorts.{number_valid, sorts_apart}
-use Rattle.co_opening.proofs.Turns.{leaves, one_less, all_done, place_below, both_on, all_on, marks_on, to_keep_on, kept_on}
+use Rattle.co_opening.proofs.Stays.{stays_still}
+use Rattle.co_opening.proofs.Turns.{leaves, left_first, one_less, all_done, place_below, both_on, all_on, marks_on, to_keep_on, kept_on}
 use Rattle.co_opening.proofs.members.open_members.Goals as goal
+
+pub loop-log-init : goal.loop-log-init
+loop-log-init g c =
+    let home = g.H.Home.seen c.args.home.now in
+    let none = c.new-members.ensures.items in
+    let logs = c.into_iter-log-iterator.ensures.into_iter_gives.0 in
+    let pasts = c.into_iter-pasts.ensures.rest in
+    record {
+      done = ap length none;
+      left = left_first (length c.args.kinds.now) c.args.logs.items c.into_iter-log-iterator.result.rest.items logs c.requires.many;
+      found = λ found f.
+          subst (λ (ps : List MemberPast). AreMembersFound c.args.coords found 0 c.into_iter-log-iterator.result.rest.items ps) (sym pasts)
+          (subst (λ (ls : List LogView). AreMembersFound c.args.coords found 0 ls c.args.pasts.items) (sym logs) f);
+      opened = λ found f. subst (AreMembersAt g.E.Engine.takes g.E.Engine.stands_for c.args.kinds.now c.args.coords found) (sym none) tt;
+      marked = λ found f. sym (append-nil c.args.marks.now);
+      to_keep = subst (AreOwnLogs home Member 0) (sym logs) c.requires.kept;
+      kept = subst (AreOwnMembers home) (sym none) tt;
+      clean = λ s was. was;
+      others = λ k own. stays_still (Coord k) home;
+      entered = refl;
+      quiet = refl;
+    }
+
+pub unreachable-requires : goal.unreachable-requires
+unreachable-requires g c =
+    let w = c.requires.found in
+    both_left (λ q l t. IsMemberFound c.args.coords (suc q) l t (w.0 (suc q))) c.loop-log.place c.loop-log.log-iterator.rest.items c.next.new.self.rest.items c.in-Some.log c.loop-log.pasts.rest.items c.in-Some.ensures.steps.0
+    (sym c.in_default.ensures.cases.0 ∙ c.loop-log.pasts.rest.ok.0) (c.loop-log.invariant.found w.0 w.1)
+
+pub open_member-requires-clause-few : goal.open_member-requires-clause-few
+open_member-requires-clause-few g c =
+    omega (arith, place_below c.loop-log.place (length c.args.kinds.now) 16 c.loop-log.log-iterator.rest.items c.next.new.self.rest.items c.in-Some.log c.in-Some.ensures.steps.0 c.loop-log.invariant.left c.requires.few)
+
+pub bounds-kinds-from : goal.bounds-kinds-from
+bounds-kinds-from g c =
+    let below : suc c.loop-log.place ≤ length c.args.kinds.now = place_below c.loop-log.place (length c.args.kinds.now) (length c.args.kinds.now) c.loop-log.log-iterator.rest.items c.next.new.self.rest.items c.in-Some.log c.in-Some.ensures.steps.0 c.loop-log.invariant.left (omega arith) in
+    omega (arith, c.from.ensures, below)
+
+pub open_member-requires-clause-takes : goal.open_member-requires-clause-takes
+open_member-requires-clause-takes g c =
+    let below : suc c.loop-log.place ≤ length c.args.kinds.now = place_below c.loop-log.place (length c.args.kinds.now) (length c.args.kinds.now) c.loop-log.log-iterator.rest.items c.next.new.self.rest.items c.in-Some.log c.in-Some.ensures.steps.0 c.loop-log.invariant.left (omega arith) in
+    all_get g.E.Engine.takes c.args.kinds.now c.from.result Lock c.requires.takes (omega (arith, c.from.ensures, below))
 
 pub open_member-requires-clause-found : goal.open_member-requires-clause-found
 open_member-requires-clause-found g c =
