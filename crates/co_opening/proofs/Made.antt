@@ -1,5 +1,6 @@
 -- Logs that are made where they are fresh, and the nodes on them.
-use Rattle.std.proofs.Common.{◌≡◌, inl, inr, ℕ, zero, suc, ◌<◌, Bool, false, List, [], ◌∷◌, ◌++◌, append-nil, refl, sym, ap, subst, ◌∙◌, length, get_or, if◌then◌else◌, ◌-◌, arith}
+use Rattle.std.proofs.Common.{◌≡◌, ◌≢◌, ◌⊎◌, inl, inr, ℕ, zero, suc, ◌<◌, Bool, true, false, eqb, List, [], ◌∷◌, ◌++◌, append-nil, refl, sym, ap, subst, ◌∙◌, length, get_or, if◌then◌else◌, ◌-◌, arith}
+use Rattle.std.proofs.lemmas.Bool.{eqb-true, eqb-false}
 use Rattle.std.proofs.lemmas.Bool.Decides.{nat_tests}
 use Rattle.std.specs.Prelude.{nat_le, Err}
 use Rattle.co_base.specs.declared.head.Kind.{Kind}
@@ -7,7 +8,7 @@ use Rattle.co_base.specs.Nodes.{IsValidNode}
 use Rattle.co_base.specs.declared.mark.Mark.{Mark}
 use Rattle.co_base.specs.declared.mark.MarkKind.TheVariants.{Header}
 use Rattle.co_base.specs.declared.node.Node.{Node}
-use Rattle.co_outside.specs.Home.{HomeView, HasFailed}
+use Rattle.co_outside.specs.Home.{HomeView, HasFailed, IsClean, RestStays}
 use Rattle.co_outside.specs.declared.spot.Spot.{Spot}
 use Rattle.co_record.specs.declared.record.Record.{Record}
 use Rattle.co_frame.specs.Gate.{begins_closed}
@@ -19,7 +20,7 @@ use Rattle.co_log.specs.declared.fault.LogFault.{LogFault}
 use Rattle.co_log.specs.declared.fault.LogFault.TheVariants as log
 use Rattle.co_log.proofs.Ordered.{attached_unarmed}
 use Rattle.co_node.specs.NodeLog.{RepresentsLog}
-use Rattle.co_node.proofs.Homes.{node_within}
+use Rattle.co_node.proofs.Homes.{node_within, still_clean}
 use Rattle.co_node.proofs.Opened.{made_stands}
 use Rattle.co_plain.specs.CoordView.{recovered_commits}
 use Rattle.co_plain.specs.MemberView.{recovered_view}
@@ -57,6 +58,26 @@ fresh_marked owner l found mark before after s none is pushed =
 -- the directory keeps it
 pub made_own : (home : HomeView) (l after : LogView) → HasSpots l → IsMade l after → IsHeld home after → BothWithin home.file l → IsOwnLog home l.node after
 made_own home l after spots m held short = record { owned = m.node; kept = record { held = held; within = node_within home.file l spots short } }
+
+either_way : (b : Bool) → (b ≡ true) ⊎ (b ≡ false)
+either_way true = inl refl
+either_way false = inr refl
+
+same_or : (s t : Spot) → (s ≡ t) ⊎ (s ≢ t)
+same_or s t = elim (either_way (eqb s.node t.node)) [
+  | inl node ↦ elim (either_way (eqb s.part t.part)) [
+    | inl part ↦ inl (λ i. record { node = eqb-true s.node t.node node i; part = eqb-true s.part t.part part i })
+    | inr other ↦ inr (λ e. eqb-false s.part t.part other (ap (λ (x : Spot). x.part) e))
+  ]
+  | inr other ↦ inr (λ e. eqb-false s.node t.node other (ap (λ (x : Spot). x.node) e))
+]
+
+-- and its file is clean, as all others are that were
+pub made_clean : (old new : HomeView) (spot : Spot) → IsClean new spot → RestStays spot old new → (s : Spot) → IsClean old s → IsClean new s
+made_clean old new spot clean rest s was = elim (same_or s spot) as (λ x. IsClean new s) [
+  | inl same ↦ subst (IsClean new) (sym same) clean
+  | inr other ↦ still_clean old new s (rest.others.files s other) was
+]
 
 -- ---- it was not made
 

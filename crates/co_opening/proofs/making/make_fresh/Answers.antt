@@ -6,7 +6,7 @@ use Rattle.co_log.specs.declared.fault.LogFault.TheVariants as log
 use Rattle.co_durable.specs.declared.fault.WorldFault.TheVariants.{Device, Memory}
 use Rattle.co_opening.specs.Judged.{IsOfMaking}
 use Rattle.co_opening.proofs.Handed.{handed_in, no_value, not_err, same_device, no_device}
-use Rattle.co_opening.proofs.Made.{still_stands, still_marked, may_make, fresh_stands, fresh_marked, made_own, making_as, making_failed}
+use Rattle.co_opening.proofs.Made.{still_stands, still_marked, may_make, fresh_stands, fresh_marked, made_own, made_clean, making_as, making_failed}
 use Rattle.co_opening.proofs.Stays.{others_still}
 use Rattle.co_opening.proofs.making.make_fresh.Goals as goal
 
@@ -77,6 +77,10 @@ returns-in-Ok-clause-marks g c = λ owner found s.
 pub returns-in-Ok-clause-kept : goal.returns-in-Ok-clause-kept
 returns-in-Ok-clause-kept g c =
     made_own (g.H.Home.seen c.make.new.home) c.args.log.now c.make.new.self c.requires.kept.kept.held.spots c.in-Ok.ensures.answered.0 c.in-Ok.ensures.answered.2.held c.make.ensures.short
+
+pub returns-in-Ok-clause-clean : goal.returns-in-Ok-clause-clean
+returns-in-Ok-clause-clean g c =
+    made_clean (g.H.Home.seen c.args.home.now) (g.H.Home.seen c.make.new.home) c.args.log.now.current.spot c.in-Ok.ensures.answered.2.clean c.make.ensures.rest
 
 pub returns-in-Ok-clause-rest : goal.returns-in-Ok-clause-rest
 returns-in-Ok-clause-rest g c =
