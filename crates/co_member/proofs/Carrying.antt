@@ -1,15 +1,19 @@
 -- What carrying a plan out leaves of the plain member, once its change in memory and its log write were done.
 use Rattle.std.proofs.Common.{◌≡◌, ◌||◌, ℕ, Bool, true, false, List, [], ◌∷◌, ◌++◌, refl, sym, ap, subst, ◌∙◌, ◌<◌}
-use Rattle.std.specs.Prelude.{IsTrue, Option, None, Some, is_some, if◌then◌else◌, Result, Ok, IfOk}
+use Rattle.std.specs.Prelude.{IsTrue, Option, None, Some, is_some, if◌then◌else◌, Result, Ok, Err, IfOk}
 use Rattle.co_base.specs.declared.head.Kind.{Kind}
 use Rattle.co_base.specs.declared.leaves.Leaves.{Leaves}
 use Rattle.co_base.specs.declared.mark.Mark.{Mark}
+use Rattle.co_base.specs.declared.node.Node.{Node}
 use Rattle.co_base.specs.declared.node.Node.TheVariants as node
 use Rattle.co_log.specs.LogView.{LogView}
 use Rattle.co_log.specs.declared.fault.NodeFault.{NodeFault}
 use Rattle.co_message.specs.declared.answer.Answer.{Answer}
 use Rattle.co_message.specs.declared.answer.Answer.TheVariants as answer
 use Rattle.co_message.specs.declared.message.Message.{Message}
+use Rattle.co_outside.specs.Home.{HomeView}
+use Rattle.co_outside.specs.declared.spot.Spot.{Spot}
+use Rattle.co_node.specs.Answers.{IsAnswered}
 use Rattle.co_node.specs.NodeLog.{RepresentsLog}
 use Rattle.co_node.specs.Writes.{forcing, HasWritten}
 use Rattle.co_node.specs.declared.written.Written.{Written}
@@ -36,7 +40,7 @@ use Rattle.co_state.specs.EngineState.{is_undecided, operations_of, sets_at, set
 use Rattle.co_state.specs.Table.{holds, look}
 use Rattle.co_state.specs.declared.engine_state.EngineState.{EngineState}
 use Rattle.co_member.specs.Plans.{changed, carried, carried_out, plan_of}
-use Rattle.co_member.specs.Standing.{is_up, RepresentsMember, RepresentsRunning, HasDone, HasEnded, IsSame, told}
+use Rattle.co_member.specs.Standing.{is_up, RepresentsMember, RepresentsRunning, HasDone, HasEnded, HasEndedAs, IsSame, told, written_by}
 use Rattle.co_node.specs.Writing.{HasWrittenFor}
 use Rattle.co_member.specs.declared.member.Member.{Member}
 use Rattle.co_member.specs.declared.plan.Change.{Change}
@@ -83,6 +87,16 @@ local_change m t count x small = ap (λ (n : ℕ). CastsAndInstalls local_coord 
 -- the plain member that goes up
 abbrev went_up : MemberState → MemberState
 went_up z = record { up = true; engine = z.engine; committed = z.committed; asked = z.asked; log = z.log }
+
+-- how a log write that ended leaves the directory
+pub ended_answered : {E : Type 0} (owner : Node) (at : Spot) (long : Type 0) (this that : List Record) (log : LogView) (old new : HomeView) (a : Answer) (sent : Option Message) (out : Result Written NodeFault) (before after : Member E) (result : Result MemberStep NodeFault)
+    → HasEndedAs a sent out before result after → after.log ≡ before.log → before.log ≡ log → IsAnswered owner at long this that log old new out → IsAnswered owner at long this that after.log old new (written_by result)
+ended_answered owner at long this that log old new a sent (Ok written) before after result e stays is served =
+    subst (λ (r : Result MemberStep NodeFault). IsAnswered owner at long this that after.log old new (written_by r)) (sym e.1)
+    (subst (λ (v : LogView). IsAnswered owner at long this that v old new (Ok written)) (sym (stays ∙ is)) served)
+ended_answered owner at long this that log old new a sent (Err f) before after result e stays is left =
+    subst (λ (r : Result MemberStep NodeFault). IsAnswered owner at long this that after.log old new (written_by r)) (sym e.0)
+    (subst (λ (v : LogView). IsAnswered owner at long this that v old new (Err f)) (sym (stays ∙ is)) left)
 
 module _ {E : Type 0} (stands_for : E → EngineState → Type 0) where
   -- what a member that is up has in memory
@@ -189,6 +203,16 @@ module _ {E : Type 0} (stands_for : E → EngineState → Type 0) where
       subst (λ (k : MemberStep). HasDone stands_for (carried w x.number next a sent) k after) (sym e.0)
       (stopped_step x after next w a sent call marks (same.number ∙ number) (same.kind ∙ kind ∙ sym running.kind) e.1
       (subst (λ (v : LogView). HasWrittenFor w (node.Member x.number) next.log v (Ok (Stopped call marks))) (sym log) h))
+
+  -- so it is where the log write may have failed
+  pub ended_by : (x before after : Member E) (y next : MemberState) (r : Running E) (w : Writes) (a : Answer) (sent : Option Message) (out : Result Written NodeFault) (result : Result MemberStep NodeFault) → RepresentsMember stands_for x y → is_up x ≡ true
+      → before.number ≡ x.number → before.kind ≡ x.kind → before.running ≡ Some r → next.up ≡ y.up → RepresentsRunning stands_for x.kind r next → HasWrittenFor w (node.Member x.number) next.log before.log out
+      → HasEndedAs a sent out before result after → after.log ≡ before.log → IsSame before after → IfOk result (λ d. HasDone stands_for (carried w x.number next a sent) d after)
+  ended_by x before after y next r w a sent (Ok written) result s up number kind is stays running h e log same =
+      subst (λ (out : Result MemberStep NodeFault). IfOk out (λ d. HasDone stands_for (carried w x.number next a sent) d after)) (sym e.1)
+      (ended_step x before after y next r w a sent written e.0 s up number kind is stays running h e.2 log same)
+  ended_by x before after y next r w a sent (Err f) result s up number kind is stays running h e log same =
+      subst (λ (out : Result MemberStep NodeFault). IfOk out (λ d. HasDone stands_for (carried w x.number next a sent) d after)) (sym e.0) tt
 
   -- the record of a vote that was cast, lent from what the member has in memory
   pub lent_record : (kind : Kind) (o : Option (Running E)) (r u : Running E) (y : MemberState) (t coord count : ℕ) (item : Record) → o ≡ Some r → o ≡ Some u → RepresentsRunning stands_for kind r (voted_state y t coord count)

@@ -1,6 +1,6 @@
 -- What the two steps of a checkpoint leave of the plain member, and of the directory.
 use Rattle.std.proofs.Common.{◌≡◌, ℕ, Bool, true, false, List, [], reverse, refl, sym, ap, subst, ◌∙◌}
-use Rattle.std.specs.Prelude.{None, if◌then◌else◌, Result, Ok}
+use Rattle.std.specs.Prelude.{None, if◌then◌else◌, Result, Ok, Err, IfOk}
 use Rattle.co_base.specs.declared.mark.Mark.{Mark}
 use Rattle.co_base.specs.declared.node.Node.TheVariants as node
 use Rattle.co_log.specs.LogView.{LogView}
@@ -23,7 +23,7 @@ use Rattle.co_frame.specs.Gate.{batch_is_stable, closes_spare}
 use Rattle.co_record.specs.declared.record.Record.{Record}
 use Rattle.co_state.specs.declared.engine_state.EngineState.{EngineState}
 use Rattle.co_member.specs.Checkpoint.{spare_items, IsAnsweredIn}
-use Rattle.co_member.specs.Standing.{is_up, RepresentsMember, HasDone}
+use Rattle.co_member.specs.Standing.{is_up, RepresentsMember, HasDone, HasEndedAs, IsSame}
 use Rattle.co_member.specs.declared.member.Member.{Member}
 use Rattle.co_member.specs.declared.step.MemberStep.{MemberStep}
 use Rattle.co_member.proofs.Carrying.{kind_is, on_log, running_of, stands_down, stands_on}
@@ -47,7 +47,7 @@ module _ {E : Type 0} (stands_for : E → EngineState → Type 0) where
 
   -- ---- the spare is closed
 
-  pub closed_done : (x after : Member E) (y : MemberState) (marks : List Mark) → RepresentsMember stands_for x y → is_up x ≡ true → after.number ≡ x.number → after.kind ≡ x.kind → after.running ≡ x.running → y.log.spare_closed ≡ false
+  closed_done : (x after : Member E) (y : MemberState) (marks : List Mark) → RepresentsMember stands_for x y → is_up x ≡ true → after.number ≡ x.number → after.kind ≡ x.kind → after.running ≡ x.running → y.log.spare_closed ≡ false
       → HasWritten (closing y.log) (node.Member x.number) y.log after.log (Ok (Done marks)) → HasDone stands_for (member_checkpoint x.number y) (record { answer = answer.Closed; sent = None; marks = marks }) after
   closed_done x after y marks s up number kind same open_yet h =
       let d : MemberStep = record { answer = answer.Closed; sent = None; marks = marks } in
@@ -57,7 +57,7 @@ module _ {E : Type 0} (stands_for : E → EngineState → Type 0) where
       (subst (λ (o : Outcome). HasDone stands_for (close_by y o) d after) (sym h.0)
       (record { answer = refl; sent = refl; marks = h.1; state = stands_on stands_for x after y (with_log y l) r.0 s up number kind (same ∙ r.1) refl (on_log stands_for x.kind r.0 y l (s.running r.0 r.1)) h.2 }))
 
-  pub closed_stopped : (x after : Member E) (y : MemberState) (call : ℕ) (marks : List Mark) → RepresentsMember stands_for x y → after.number ≡ x.number → after.kind ≡ x.kind → after.running ≡ None → y.log.spare_closed ≡ false
+  closed_stopped : (x after : Member E) (y : MemberState) (call : ℕ) (marks : List Mark) → RepresentsMember stands_for x y → after.number ≡ x.number → after.kind ≡ x.kind → after.running ≡ None → y.log.spare_closed ≡ false
       → HasWritten (closing y.log) (node.Member x.number) y.log after.log (Ok (Stopped call marks)) → HasDone stands_for (member_checkpoint x.number y) (record { answer = answer.Stopped call; sent = None; marks = marks }) after
   closed_stopped x after y call marks s number kind none open_yet h =
       let d : MemberStep = record { answer = answer.Stopped call; sent = None; marks = marks } in
@@ -65,6 +65,23 @@ module _ {E : Type 0} (stands_for : E → EngineState → Type 0) where
       subst (λ (b : Bool). HasDone stands_for (checkpoint_by x.number y b) d after) (sym open_yet)
       (subst (λ (o : Outcome). HasDone stands_for (close_by y o) d after) (sym h.1)
       (record { answer = refl; sent = refl; marks = h.2; state = stands_down stands_for x after y.engine.kind l number (kind ∙ sym (kind_is stands_for x y s)) none h.3 }))
+
+  pub closed_by : (x before after : Member E) (y : MemberState) (out : Result Written NodeFault) (result : Result MemberStep NodeFault) → RepresentsMember stands_for x y → is_up x ≡ true → before.number ≡ x.number → before.kind ≡ x.kind
+      → before.running ≡ x.running → y.log.spare_closed ≡ false → HasWritten (closing y.log) (node.Member x.number) y.log before.log out → HasEndedAs answer.Closed None out before result after → after.log ≡ before.log → IsSame before after
+      → IfOk result (λ d. HasDone stands_for (member_checkpoint x.number y) d after)
+  closed_by x before after y (Ok (Done marks)) result s up number kind same open_yet h e log alike =
+      let d : MemberStep = record { answer = answer.Closed; sent = None; marks = marks } in
+      let done = closed_done x before y marks s up number kind same open_yet h in
+      let here = subst (λ (m : Member E). HasDone stands_for (member_checkpoint x.number y) d m) (sym e.2.1) done in
+      let told = subst (λ (k : MemberStep). HasDone stands_for (member_checkpoint x.number y) k after) (sym e.2.0) here in
+      subst (λ (o : Result MemberStep NodeFault). IfOk o (λ k. HasDone stands_for (member_checkpoint x.number y) k after)) (sym e.1) told
+  closed_by x before after y (Ok (Stopped call marks)) result s up number kind same open_yet h e log alike =
+      let left = subst (λ (v : LogView). HasWritten (closing y.log) (node.Member x.number) y.log v (Ok (Stopped call marks))) (sym log) h in
+      let done = closed_stopped x after y call marks s (alike.number ∙ number) (alike.kind ∙ kind) e.2.1 open_yet left in
+      let told = subst (λ (k : MemberStep). HasDone stands_for (member_checkpoint x.number y) k after) (sym e.2.0) done in
+      subst (λ (o : Result MemberStep NodeFault). IfOk o (λ k. HasDone stands_for (member_checkpoint x.number y) k after)) (sym e.1) told
+  closed_by x before after y (Err f) result s up number kind same open_yet h e log alike =
+      subst (λ (o : Result MemberStep NodeFault). IfOk o (λ k. HasDone stands_for (member_checkpoint x.number y) k after)) (sym e.0) tt
 
   -- ---- the spare is filled
 

@@ -1,5 +1,5 @@
 -- For which plain member a member stands, and what a call of it does.
-use Rattle.std.specs.Prelude.{ℕ, Bool, ◌≡◌, List, [], Option, None, Some, is_some, Result}
+use Rattle.std.specs.Prelude.{ℕ, Bool, ◌≡◌, List, [], Option, None, Some, is_some, Result, Ok, Err}
 use Rattle.co_base.specs.declared.head.Kind.{Kind}
 use Rattle.co_base.specs.declared.mark.Mark.{Mark}
 use Rattle.co_base.specs.declared.node.Node.TheVariants as node
@@ -72,6 +72,11 @@ told p = record { answer = p.answer; sent = p.sent; marks = [] }
 abbrev pub HasEnded : {E : Type 0} → Answer → Option Message → Written → Member E → MemberStep → Member E → Type 0
 HasEnded a sent (Done marks) old d new = (d ≡ record { answer = a; sent = sent; marks = marks }) × (new ≡ old)
 HasEnded a sent (Stopped call marks) old d new = (d ≡ record { answer = answer.Stopped call; sent = None; marks = marks }) × (new.running ≡ None)
+
+-- so it is where the log write may have failed: then its fault is given back, and nothing of the member changes
+abbrev pub HasEndedAs : {E : Type 0} → Answer → Option Message → Result Written NodeFault → Member E → Result MemberStep NodeFault → Member E → Type 0
+HasEndedAs a sent (Ok written) old result new = (d : MemberStep) × (result ≡ Ok d) × HasEnded a sent written old d new
+HasEndedAs a sent (Err e) old result new = (result ≡ Err e) × (new ≡ old)
 
 -- a change is one of a transaction that stands so: a vote is cast by an active one, and a voted one is installed
 abbrev pub Suits : MemberState → ℕ → Change → Type 0

@@ -102,14 +102,8 @@ impl<E: Engine + Drop> Member<E> {
         ensures rest { OtherNodesStay self.old.log.node (H.seen home.old) (H.seen home.new) }
         ensures same { IsSame self.old self.new }
     {
-        match co_node::close(self.alloc, &mut self.log, home)? {
-            Written::Done { marks } => Ok(MemberStep {
-                answer: Answer::Closed,
-                sent: None,
-                marks,
-            }),
-            Written::Stopped { call, marks } => Ok(self.stopped(call, marks)),
-        }
+        let written = co_node::close(self.alloc, &mut self.log, home);
+        self.ended(written, Answer::Closed, None)
     }
 
     /// Fills the closed spare file with what the member has.

@@ -14,7 +14,7 @@ ghost use Rattle.co_record.specs.Spelling.{IsWritable};
 ghost use Rattle.co_state.specs.Changes.{sets_of};
 ghost use Rattle.co_state.specs.EngineState.{operations_of};
 ghost use Rattle.co_member.specs.Plans.{changed, carried_out, plan_of, IsSingleIn};
-ghost use Rattle.co_member.specs.Standing.{is_up, RepresentsMember, RepresentsRunning, HasDone, HasEnded, IsSame, Suits, written_by};
+ghost use Rattle.co_member.specs.Standing.{is_up, RepresentsMember, RepresentsRunning, HasDone, HasEndedAs, IsSame, Suits, written_by};
 ghost use Rattle.co_node.specs.Writing.{MayWrite, MayWriteOne, IsAnsweredFor};
 ghost use Rattle.co_member.specs.declared.plan.Course.TheVariants.{Grants, GrantsLocal};
 ghost use Rattle.co_node.specs.declared.writing.Writes.TheVariants.{Nothing};
@@ -46,6 +46,9 @@ pub struct Member<E> {
     /// What it has in memory, while it is up.
     pub(crate) running: Option<Running<E>>,
 }
+
+/// Lets go of an answer that is not given.
+fn lets_go_of(_answer: Answer) {}
 
 impl<E: Engine + Drop> Member<E> {
     /// What a member that is up has in memory.
@@ -97,19 +100,31 @@ impl<E: Engine + Drop> Member<E> {
         }
     }
 
-    /// What is answered and sent once a log write ended: where it was stopped, nothing is sent and the member is down.
-    fn ended(&mut self, written: Written, answer: Answer, sent: Option<Message>) -> MemberStep
-        ensures ended { HasEnded answer sent written self.old result self.new }
+    /// What is answered and sent once a log write ended: where it was stopped, nothing is sent and the member is down. A fault is given back.
+    pub(crate) fn ended(
+        &mut self,
+        written: Result<Written, NodeFault>,
+        answer: Answer,
+        sent: Option<Message>,
+    ) -> Result<MemberStep, NodeFault>
+        ensures ended { HasEndedAs answer sent written self.old result self.new }
         ensures log { self.new.log ≡ self.old.log }
         ensures same { IsSame self.old self.new }
     {
         match written {
-            Written::Done { marks } => MemberStep {
+            Ok(Written::Done { marks }) => Ok(MemberStep {
                 answer,
                 sent,
                 marks,
-            },
-            Written::Stopped { call, marks } => self.stopped(call, marks),
+            }),
+            Ok(Written::Stopped { call, marks }) => {
+                lets_go_of(answer);
+                Ok(self.stopped(call, marks))
+            }
+            Err(fault) => {
+                lets_go_of(answer);
+                Err(fault)
+            }
         }
     }
 
@@ -142,10 +157,8 @@ impl<E: Engine + Drop> Member<E> {
                     answer,
                     sent,
                 } = plan;
-                match write(self.alloc, &mut self.log, home, writes) {
-                    Ok(written) => Ok(self.ended(written, answer, sent)),
-                    Err(fault) => Err(fault),
-                }
+                let written = write(self.alloc, &mut self.log, home, writes);
+                self.ended(written, answer, sent)
             }
             Err(AllocError) => Err(wants_memory(plan)),
         }
@@ -173,18 +186,19 @@ impl<E: Engine + Drop> Member<E> {
         ensures same { IsSame self.old self.new }
     {
         self.change(t, Change::Casts { coord, count })?;
-        let item = match &self.running {
-            Some(running) => running.vote_record(t, coord, count),
+        let written = match &self.running {
+            Some(running) => {
+                force_prepare(&mut self.log, home, running.vote_record(t, coord, count))
+            }
             None => unreachable!(),
         };
-        let written = force_prepare(&mut self.log, home, item)?;
         let vote = Message::Vote {
             txn: t,
             member: self.number,
             coord,
             yes: true,
         };
-        Ok(self.ended(written, Answer::Yes, Some(vote)))
+        self.ended(written, Answer::Yes, Some(vote))
     }
 
     /// Commits a local transaction, over so many operations: its prepare record and its commit record are spelled out from its sets, then it is
@@ -214,8 +228,8 @@ impl<E: Engine + Drop> Member<E> {
             count,
         };
         self.change(t, change)?;
-        let written = force_batch(&mut self.log, home, batch)?;
-        Ok(self.ended(written, Answer::Committed, None))
+        let written = force_batch(&mut self.log, home, batch);
+        self.ended(written, Answer::Committed, None)
     }
 
     /// Goes on as a course says.
