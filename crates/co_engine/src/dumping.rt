@@ -8,20 +8,27 @@ ghost use Rattle.co_engine.specs.Undecided.{changes_kept};
 
 use crate::answers::Dump;
 use crate::undecided::Roll;
-use co_base::{Writes, Written};
+use co_base::{Rows, Writes, Written};
 use co_state::{RecordMap, copy_writes, join};
 use std::alloc::{AllocError, Global};
 
 /// The records with every change of the undecided transactions laid over, and what leads back.
-pub fn dump_in_place(alloc: Global, mut records: RecordMap, roll: &Roll) -> Result<Dump, AllocError>
+pub fn dump_in_place(alloc: Global, records: RecordMap, roll: &Roll) -> Result<Dump, AllocError>
     ensures rows { IfOk result (λ dump. dump.rows ≡ all_rows (with_changes records (changes_kept (entries roll.now)))) }
     ensures undos { IfOk result (λ dump. dump.undos ≡ map (undo_of records) (changes_kept (entries roll.now))) }
 {
     let changes = undecided_changes(alloc, roll)?;
     let undos = undos(alloc, &records, changes.as_slice())?;
-    records.lay(changes.as_slice())?;
-    let rows = records.rows(alloc)?;
+    let rows = rows_over(alloc, records, changes.as_slice())?;
     Ok(Dump { rows, undos })
+}
+
+/// The records with changes laid over.
+fn rows_over(alloc: Global, mut records: RecordMap, changes: &[Written]) -> Result<Rows, AllocError>
+    ensures { IfOk result (λ rows. rows ≡ all_rows (with_changes records changes.now)) }
+{
+    records.lay(changes)?;
+    records.rows(alloc)
 }
 
 /// For each change, what the records have at its key.
@@ -53,12 +60,26 @@ fn undo(records: &RecordMap, change: &Written) -> Result<Written, AllocError>
 fn undecided_changes(alloc: Global, roll: &Roll) -> Result<Vec<Written>, AllocError>
     ensures { IfOk result (λ changes. changes.items ≡ changes_kept (entries roll.now)) }
 {
-    let of_voted = changes_of_voted(alloc, roll)?;
-    let of_active = changes_of_active(alloc, roll)?;
-    let apart = join_all(alloc, of_voted.as_slice())?;
-    let mut changes = join_all(alloc, of_active.as_slice())?;
+    let mut changes = joined_of_active(alloc, roll)?;
+    let apart = joined_of_voted(alloc, roll)?;
     join(&mut changes, apart.as_slice())?;
     Ok(changes)
+}
+
+/// The changes of the active transactions, by key.
+fn joined_of_active(alloc: Global, roll: &Roll) -> Result<Vec<Written>, AllocError>
+    ensures { IfOk result (λ changes. changes.items ≡ joined_all (map (λ e. e.1.sets.writes) (filter (λ e. not e.1.voted) (entries roll.now)))) }
+{
+    let lists = changes_of_active(alloc, roll)?;
+    join_all(alloc, lists.as_slice())
+}
+
+/// The changes of the voted transactions, by key.
+fn joined_of_voted(alloc: Global, roll: &Roll) -> Result<Vec<Written>, AllocError>
+    ensures { IfOk result (λ changes. changes.items ≡ joined_all (map (λ e. e.1.sets.writes) (filter (λ e. e.1.voted) (entries roll.now)))) }
+{
+    let lists = changes_of_voted(alloc, roll)?;
+    join_all(alloc, lists.as_slice())
 }
 
 /// The changes of each voted transaction, ascending by number.
