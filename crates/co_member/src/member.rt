@@ -22,7 +22,7 @@ ghost use Rattle.co_member.specs.declared.running.Running.{Running};
 
 use crate::delivery::commit_record;
 use crate::local::LOCAL_COORD;
-use crate::plan::{Change, Course, Plan, told, wants_memory};
+use crate::plan::{Change, Course, Plan, lets_go_of, told};
 use crate::running::Running;
 use crate::step::MemberStep;
 use co_base::{Kind, Marks, Txn};
@@ -46,9 +46,6 @@ pub struct Member<E> {
     /// What it has in memory, while it is up.
     pub(crate) running: Option<Running<E>>,
 }
-
-/// Lets go of an answer that is not given.
-fn lets_go_of(_answer: Answer) {}
 
 impl<E: Engine + Drop> Member<E> {
     /// What a member that is up has in memory.
@@ -160,7 +157,10 @@ impl<E: Engine + Drop> Member<E> {
                 let written = write(self.alloc, &mut self.log, home, writes);
                 self.ended(written, answer, sent)
             }
-            Err(AllocError) => Err(wants_memory(plan)),
+            Err(AllocError) => {
+                lets_go_of(plan);
+                Err(NodeFault::Memory)
+            }
         }
     }
 
@@ -227,9 +227,16 @@ impl<E: Engine + Drop> Member<E> {
             coord: LOCAL_COORD,
             count,
         };
-        self.change(t, change)?;
-        let written = force_batch(&mut self.log, home, batch);
-        self.ended(written, Answer::Committed, None)
+        match self.change(t, change) {
+            Ok(()) => {
+                let written = force_batch(&mut self.log, home, batch);
+                self.ended(written, Answer::Committed, None)
+            }
+            Err(AllocError) => {
+                lets_go_of(batch);
+                Err(NodeFault::Memory)
+            }
+        }
     }
 
     /// Goes on as a course says.
@@ -271,7 +278,10 @@ impl<E: Engine + Drop> Member<E> {
     {
         match self.change(t, plan.change) {
             Ok(()) => Ok(told(self.alloc, plan)),
-            Err(AllocError) => Err(wants_memory(plan)),
+            Err(AllocError) => {
+                lets_go_of(plan);
+                Err(NodeFault::Memory)
+            }
         }
     }
 }

@@ -1,16 +1,13 @@
 //! The plan of an event.
 ghost use Rattle.std.specs.Prelude.{◌≡◌};
-ghost use Rattle.co_log.specs.declared.fault.NodeFault.TheVariants.{Memory};
 ghost use Rattle.co_member.specs.Plans.{says, sends, drops};
 ghost use Rattle.co_member.specs.Standing.{told};
 ghost use Rattle.co_node.specs.declared.writing.Writes.TheVariants.{Nothing};
 
 use crate::step::MemberStep;
 use co_base::Marks;
-use co_log::NodeFault;
 use co_message::{Answer, Message};
 use co_node::Writes;
-use co_record::Record;
 use std::alloc::Global;
 
 /// What becomes of a transaction.
@@ -121,31 +118,5 @@ pub(crate) fn told(alloc: Global, plan: Plan) -> MemberStep
     }
 }
 
-/// Lets go of a record.
-fn lets_go_of(_item: Record) {}
-
-/// Lets go of what the log does not get.
-fn lets_go(writes: Writes) {
-    match writes {
-        Writes::Nothing => (),
-        Writes::Keeps(item) | Writes::Forces(item) => lets_go_of(item),
-        Writes::ForcesBoth(first, item) => {
-            lets_go_of(first);
-            lets_go_of(item);
-        }
-    }
-}
-
-/// The fault of a plan for whose change there is no memory.
-pub(crate) fn wants_memory(plan: Plan) -> NodeFault
-    ensures { result ≡ Memory }
-{
-    let Plan {
-        writes,
-        change: _,
-        answer: _,
-        sent: _,
-    } = plan;
-    lets_go(writes);
-    NodeFault::Memory
-}
+/// Lets go of a value. What its drop does stands in one place by that, and not on each way out of who calls this.
+pub(crate) fn lets_go_of<T: Drop>(_value: T) {}

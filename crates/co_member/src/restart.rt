@@ -18,6 +18,7 @@ ghost use Rattle.co_member.specs.Attaching.{IsReadable, IsPastOf, read_by};
 ghost use Rattle.co_member.specs.Standing.{is_up, RepresentsMember, RepresentsRunning, HasDone, IsSame};
 
 use crate::member::Member;
+use crate::plan::lets_go_of;
 use crate::running::Running;
 use crate::step::MemberStep;
 use co_base::{Kind, Marks, Txns};
@@ -52,9 +53,6 @@ pub(crate) fn recovered(alloc: Global, log: &Log, coords: u8) -> Result<MemberPa
         Err(RecoverFault::Inconsistent { at: _ }) => unreachable!(),
     }
 }
-
-/// Lets go of a log.
-fn lets_go_of(_log: Log) {}
 
 impl<E: Engine> Running<E> {
     /// What a member of this kind has in memory that its log tells. No transaction is active.

@@ -2,6 +2,7 @@ use Rattle.std.proofs.Common.{refl, sym, subst}
 use Rattle.std.specs.Prelude.{Err}
 use Rattle.co_base.specs.declared.node.Node.TheVariants as node
 use Rattle.co_log.specs.LogView.{LogView, IsHeld}
+use Rattle.co_log.specs.declared.fault.NodeFault.TheVariants.{Memory}
 use Rattle.co_node.specs.NodeLog.{RepresentsLog}
 use Rattle.co_plain.specs.declared.log_state.LogState.{LogState}
 use Rattle.co_member.specs.Plans.{changed}
@@ -24,8 +25,8 @@ pub returns-in-Err-clause-answered : goal.returns-in-Err-clause-answered
 returns-in-Err-clause-answered g c = λ y r.
     let x = c.args.self.now in
     let home = g.H.Home.seen c.args.home.now in
-    subst (λ (v : LogView). IsAnsweredFor c.args.plan.writes (node.Member x.number) y.log x.log v home home (Err c.wants_memory.result)) (sym c.change.ensures.log)
-    (wants_memory marks_in (node.Member x.number) c.args.plan.writes y.log x.log home (Err c.wants_memory.result) (refl, c.wants_memory.ensures) r.log c.requires.held c.requires.short)
+    subst (λ (v : LogView). IsAnsweredFor c.args.plan.writes (node.Member x.number) y.log x.log v home home (Err Memory)) (sym c.change.ensures.log)
+    (wants_memory marks_in (node.Member x.number) c.args.plan.writes y.log x.log home (Err Memory) (refl, refl) r.log c.requires.held c.requires.short)
 
 pub returns-in-Ok-clause-did : goal.returns-in-Ok-clause-did
 returns-in-Ok-clause-did g c = λ y r suits.

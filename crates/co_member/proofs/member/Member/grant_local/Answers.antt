@@ -3,13 +3,14 @@ use Rattle.std.specs.Prelude.{None, Err}
 use Rattle.co_base.specs.declared.node.Node.TheVariants as node
 use Rattle.co_log.specs.Batches.{IsBatchOf}
 use Rattle.co_log.specs.LogView.{IsForcible, LogView, IsHeld}
+use Rattle.co_log.specs.declared.fault.NodeFault.TheVariants.{Memory}
 use Rattle.co_message.specs.declared.answer.Answer.TheVariants as answer
 use Rattle.co_node.specs.NodeLog.{RepresentsLog}
 use Rattle.co_node.proofs.Spelled.{unspelled_answered}
 use Rattle.co_record.specs.Spelling.{IsWritable}
 use Rattle.co_record.specs.declared.record.Record.{Record}
 use Rattle.co_member.specs.Plans.{changed, plan_of}
-use Rattle.co_member.specs.Standing.{RepresentsRunning, marks_in, written_by}
+use Rattle.co_member.specs.Standing.{RepresentsRunning, marks_in}
 use Rattle.co_node.specs.Writing.{HasWrittenFor, IsAnsweredFor, IsTooLongFor, MayWrite, stable_after}
 use Rattle.co_member.specs.declared.member.Member.{Member}
 use Rattle.co_member.specs.declared.plan.Change.{Change}
@@ -46,13 +47,13 @@ returns-in_err-batch-clause-answered g c = λ y r active.
     let kept = subst (λ (w : Writes). IsAnsweredFor w n y.log m.log m.log home home (Err e)) both left in
     passed_on marks_in n (plan_of (GrantsLocal c.args.count) m.number y c.args.t).writes y.log m.log m.log home home e c.from_residual.result c.from_residual.ensures kept
 
-pub returns-in_err-change-clause-answered : goal.returns-in_err-change-clause-answered
-returns-in_err-change-clause-answered g c = λ y r active.
+pub returns-in-Err-clause-answered : goal.returns-in-Err-clause-answered
+returns-in-Err-clause-answered g c = λ y r active.
     let x = c.args.self.now in
     let w = (plan_of (GrantsLocal c.args.count) x.number y c.args.t).writes in
     let home = g.H.Home.seen c.args.home.now in
-    subst (λ (v : LogView). IsAnsweredFor w (node.Member x.number) y.log x.log v home home (written_by c.from_residual-in_err-change.result)) (sym c.change.ensures.log)
-    (wants_memory marks_in (node.Member x.number) w y.log x.log home c.from_residual-in_err-change.result c.from_residual-in_err-change.ensures r.log c.requires.held c.requires.short)
+    subst (λ (v : LogView). IsAnsweredFor w (node.Member x.number) y.log x.log v home home (Err Memory)) (sym c.change.ensures.log)
+    (wants_memory marks_in (node.Member x.number) w y.log x.log home (Err Memory) (refl, refl) r.log c.requires.held c.requires.short)
 
 pub force_batch-written-requires-clause-held : goal.force_batch-written-requires-clause-held
 force_batch-written-requires-clause-held g c = subst (λ (v : LogView). IsHeld (g.H.Home.seen c.args.home.now) v) (sym c.change.ensures.log) c.requires.held
@@ -68,8 +69,8 @@ force_batch-written-requires-clause-batch g c =
     let more : List Record = c.vote_record-prepare.result ∷ c.commit_record.result ∷ [] in
     (more, subst (λ (v : LogView). IsBatchOf v more c.in_ok-batch.batch) (sym c.change.ensures.log) c.in_ok-batch.ensures)
 
-pub returns-clause-did : goal.returns-clause-did
-returns-clause-did g c = λ y r active.
+pub returns-in-Ok-clause-did : goal.returns-in-Ok-clause-did
+returns-in-Ok-clause-did g c = λ y r active.
     let m = c.args.self.now in
     let n = node.Member m.number in
     let plan = plan_of (GrantsLocal c.args.count) m.number y c.args.t in
@@ -80,7 +81,7 @@ returns-clause-did g c = λ y r active.
     let is = local_record g.E.Engine.stands_for m.kind c.running.result.now y c.args.t 1 c.args.count first before' active c.vote_record-prepare.ensures in
     let both = local_writes m.number c.args.t c.args.count y first item c.ranges.count.fits is c.commit_record.ensures in
     let change = local_change m.number c.args.t c.args.count y c.ranges.count.fits in
-    let running = c.in_ok-change.ensures.running y r active in
+    let running = c.in-Ok.ensures.running y r active in
     let now = subst (λ (k : Change). RepresentsRunning g.E.Engine.stands_for m.kind running.0 (changed y c.args.t k)) change running.2 in
     let here = subst (λ (v : LogView). RepresentsLog n v y.log) (sym c.change.ensures.log) r.log in
     let laid = subst (λ (v : LogView). IsBatchOf v more c.in_ok-batch.batch) (sym c.change.ensures.log) c.in_ok-batch.ensures in
@@ -89,8 +90,8 @@ returns-clause-did g c = λ y r active.
     ended_by g.E.Engine.stands_for m before c.ended.new.self y (changed y c.args.t plan.change) running.0 plan.writes plan.answer plan.sent c.force_batch-written.result c.ended.result r c.requires.up c.change.ensures.same.number c.change.ensures.same.kind
     running.1 refl now written c.ended.ensures.ended c.ended.ensures.log c.ended.ensures.same
 
-pub returns-clause-answered : goal.returns-clause-answered
-returns-clause-answered g c = λ y r active.
+pub returns-in-Ok-clause-answered : goal.returns-in-Ok-clause-answered
+returns-in-Ok-clause-answered g c = λ y r active.
     let m = c.args.self.now in
     let n = node.Member m.number in
     let old = g.H.Home.seen c.args.home.now in
