@@ -1,6 +1,6 @@
 -- A log that was attached, from all that its attaching says.
-use Rattle.std.proofs.Common.{◌≡◌, ℕ, Bool, true, false, Option, Result, Ok, Err, IfOk, subst, sym}
-use Rattle.std.specs.Prelude.{OnOk}
+use Rattle.std.proofs.Common.{◌≡◌, ℕ, Bool, true, false, Option, Result, Ok, Err, IfOk, subst, sym, ◌∙◌}
+use Rattle.std.specs.Prelude.{OnOk, IsErrOf}
 use Rattle.co_base.specs.Nodes.{IsValidNode}
 use Rattle.co_base.specs.declared.node.Node.{Node}
 use Rattle.co_disk.specs.DiskView.{DiskView}
@@ -63,3 +63,11 @@ module _ (file : Spot → Option File) (resume : Bool) (node : Node) (fault : Lo
 
   pub full_unattached : (spot : Spot) → fault ≡ log.Full spot → IsUnattached file resume (Full spot) node
   full_unattached spot is = let on = (refused_as (log.Full spot) is).0 in (on, resumed (log.Full spot) is on)
+
+-- no failure of the directory
+abbrev pub IsNoDevice : LogFault → Type 0
+IsNoDevice (log.Device spot) = ⊥
+IsNoDevice _ = Unit {0}
+
+pub not_device : {T : Type 0} (fault other : LogFault) (spot : Spot) → fault ≡ other → IsNoDevice other → IsErrOf {T = T} (Err fault) (log.Device spot) → ⊥
+not_device fault other spot is none told = subst IsNoDevice (sym is ∙ (let e : fault ≡ log.Device spot = cc in e)) none

@@ -6,6 +6,7 @@ use Rattle.std.specs.Result.{IsErrAnd}
 use Rattle.co_outside.specs.declared.spot.Spot.{Spot}
 use Rattle.co_durable.specs.declared.fault.WorldFault.{WorldFault}
 use Rattle.co_durable.specs.declared.fault.WorldFault.TheVariants.{Device, Memory}
+use Rattle.co_opening.specs.Opened.{IsOfFound}
 
 same_fault : {S : Type 0} (fault at : WorldFault) → IsErrOf {T = S} (Err fault) at → fault ≡ at
 same_fault fault at is = cc
@@ -50,3 +51,7 @@ of_error P Q (Err e) f is = f e is
 pub no_device : {T : Type 0} (answer : Result T WorldFault) (spot : Spot) → IsErrAnd answer (λ e. e ≡ Memory) → IsErrOf answer (Device spot) → ⊥
 no_device (Ok x) spot is at = absurd is
 no_device {T = T} (Err e) spot is at = absurd (let same : Memory ≡ Device spot = sym is ∙ same_fault {S = T} e (Device spot) at in cc)
+
+-- and neither is what the files are refused for
+pub found_device : {T : Type 0} (fault : WorldFault) (spot : Spot) → IsOfFound fault → IsErrOf {T = T} (Err fault) (Device spot) → ⊥
+found_device {T = T} fault spot found is = subst IsOfFound (same_fault {S = T} fault (Device spot) is) found

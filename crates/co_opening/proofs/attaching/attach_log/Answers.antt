@@ -1,9 +1,9 @@
 use Rattle.std.proofs.Common.{refl, ap, ◌∙◌}
 use Rattle.std.specs.Prelude.{Err}
 use Rattle.co_log.specs.declared.fault.LogFault.TheVariants as log
-use Rattle.co_durable.specs.declared.fault.WorldFault.TheVariants.{Device}
-use Rattle.co_opening.proofs.Attachings.{refused_as, bad_unattached, full_unattached}
-use Rattle.co_opening.proofs.Handed.{not_err, same_device}
+use Rattle.co_durable.specs.declared.fault.WorldFault.TheVariants.{Device, Bad, Full, InUse, Memory}
+use Rattle.co_opening.proofs.Attachings.{refused_as, bad_unattached, full_unattached, not_device}
+use Rattle.co_opening.proofs.Handed.{not_err, same_device, no_device, found_device}
 use Rattle.co_opening.proofs.attaching.attach_log.Goals as goal
 
 pub returns-in-Ok-clause-attached : goal.returns-in-Ok-clause-attached
@@ -52,6 +52,12 @@ returns-in-Err-Bad-clause-reads g c = c.attach.ensures.reads
 pub returns-in-Err-Bad-clause-others : goal.returns-in-Err-Bad-clause-others
 returns-in-Err-Bad-clause-others g c = c.attach.ensures.others
 
+pub returns-in-Err-Bad-clause-device : goal.returns-in-Err-Bad-clause-device
+returns-in-Err-Bad-clause-device g c = λ spot is. absurd (found_device (Bad c.in-Err-Bad.spot c.in-Err-Bad.at) spot tt is)
+
+pub returns-in-Err-Bad-clause-quiet : goal.returns-in-Err-Bad-clause-quiet
+returns-in-Err-Bad-clause-quiet g c = λ quiet. c.in-Err-Bad.ensures.quiet (λ spot is. not_device c.in-Err-Bad.field-0 (log.Bad c.in-Err-Bad.spot c.in-Err-Bad.at) spot c.in-Err-Bad.field-0-is tt is)
+
 pub returns-in-Err-Full-clause-unattached : goal.returns-in-Err-Full-clause-unattached
 returns-in-Err-Full-clause-unattached g c = full_unattached (g.H.Home.seen c.args.home.now).file c.args.resume c.args.node c.in-Err-Full.field-0 c.in-Err-Full.ensures.refused c.in-Err-Full.spot c.in-Err-Full.field-0-is
 
@@ -60,6 +66,12 @@ returns-in-Err-Full-clause-reads g c = c.attach.ensures.reads
 
 pub returns-in-Err-Full-clause-others : goal.returns-in-Err-Full-clause-others
 returns-in-Err-Full-clause-others g c = c.attach.ensures.others
+
+pub returns-in-Err-Full-clause-device : goal.returns-in-Err-Full-clause-device
+returns-in-Err-Full-clause-device g c = λ spot is. absurd (found_device (Full c.in-Err-Full.spot) spot tt is)
+
+pub returns-in-Err-Full-clause-quiet : goal.returns-in-Err-Full-clause-quiet
+returns-in-Err-Full-clause-quiet g c = λ quiet. c.in-Err-Full.ensures.quiet (λ spot is. not_device c.in-Err-Full.field-0 (log.Full c.in-Err-Full.spot) spot c.in-Err-Full.field-0-is tt is)
 
 pub returns-in-Err-InUse-clause-unattached : goal.returns-in-Err-InUse-clause-unattached
 returns-in-Err-InUse-clause-unattached g c = refused_as (g.H.Home.seen c.args.home.now).file c.args.resume c.args.node c.in-Err-InUse.field-0 c.in-Err-InUse.ensures.refused (log.InUse c.in-Err-InUse.spot) c.in-Err-InUse.field-0-is
@@ -70,6 +82,12 @@ returns-in-Err-InUse-clause-reads g c = c.attach.ensures.reads
 pub returns-in-Err-InUse-clause-others : goal.returns-in-Err-InUse-clause-others
 returns-in-Err-InUse-clause-others g c = c.attach.ensures.others
 
+pub returns-in-Err-InUse-clause-device : goal.returns-in-Err-InUse-clause-device
+returns-in-Err-InUse-clause-device g c = λ spot is. absurd (found_device (InUse c.in-Err-InUse.spot) spot tt is)
+
+pub returns-in-Err-InUse-clause-quiet : goal.returns-in-Err-InUse-clause-quiet
+returns-in-Err-InUse-clause-quiet g c = λ quiet. c.in-Err-InUse.ensures.quiet (λ spot is. not_device c.in-Err-InUse.field-0 (log.InUse c.in-Err-InUse.spot) spot c.in-Err-InUse.field-0-is tt is)
+
 -- ---- there was no memory
 
 pub returns-in-Err-Memory-clause-reads : goal.returns-in-Err-Memory-clause-reads
@@ -77,6 +95,12 @@ returns-in-Err-Memory-clause-reads g c = c.attach.ensures.reads
 
 pub returns-in-Err-Memory-clause-others : goal.returns-in-Err-Memory-clause-others
 returns-in-Err-Memory-clause-others g c = c.attach.ensures.others
+
+pub returns-in-Err-Memory-clause-device : goal.returns-in-Err-Memory-clause-device
+returns-in-Err-Memory-clause-device g c = λ spot is. absurd (no_device (Err Memory) spot refl is)
+
+pub returns-in-Err-Memory-clause-quiet : goal.returns-in-Err-Memory-clause-quiet
+returns-in-Err-Memory-clause-quiet g c = λ quiet. c.in-Err-Memory.ensures.quiet (λ spot is. not_device c.in-Err-Memory.field-0 log.Memory spot c.in-Err-Memory.field-0-is tt is)
 
 pub unreachable-requires : goal.unreachable-requires
 unreachable-requires g c =
