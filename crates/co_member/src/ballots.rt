@@ -43,17 +43,16 @@ impl<E: Engine> Running<E> {
     {
         match self.undecided.ballot(t, count) {
             Ballot::NoLost => {
-                let kept = self.undecided.kept(t);
                 let answer = Answer::NoLost {
-                    kept,
+                    kept: self.undecided.kept(t),
                     carried: count,
                 };
                 Ok(refuses(member, t, coord, answer))
             }
-            Ballot::NoStale(key) => {
-                let answer = Answer::NoStale(key.copy()?);
-                Ok(refuses(member, t, coord, answer))
-            }
+            Ballot::NoStale(key) => match key.copy() {
+                Ok(key) => Ok(refuses(member, t, coord, Answer::NoStale(key))),
+                Err(fault) => Err(fault),
+            },
             Ballot::Held(u) => Ok(Course::Carries(says(Answer::Held(u)))),
             Ballot::Yes => Ok(Course::Grants { coord, count }),
         }

@@ -40,14 +40,16 @@ impl<E: Engine> Running<E> {
     {
         match self.undecided.ballot(t, carried) {
             Ballot::NoLost => {
-                let kept = self.undecided.kept(t);
-                let answer = Answer::NoLost { kept, carried };
+                let answer = Answer::NoLost {
+                    kept: self.undecided.kept(t),
+                    carried,
+                };
                 Ok(Course::Carries(drops(answer, None)))
             }
-            Ballot::NoStale(key) => {
-                let answer = Answer::NoStale(key.copy()?);
-                Ok(Course::Carries(drops(answer, None)))
-            }
+            Ballot::NoStale(key) => match key.copy() {
+                Ok(key) => Ok(Course::Carries(drops(Answer::NoStale(key), None))),
+                Err(fault) => Err(fault),
+            },
             Ballot::Held(u) => Ok(Course::Carries(says(Answer::Held(u)))),
             Ballot::Yes => Ok(Course::GrantsLocal { count: carried }),
         }

@@ -185,20 +185,24 @@ impl<E: Engine + Drop> Member<E> {
         ensures rest { OtherNodesStay self.old.log.node (H.seen home.old) (H.seen home.new) }
         ensures same { IsSame self.old self.new }
     {
-        self.change(t, Change::Casts { coord, count })?;
-        let written = match &self.running {
-            Some(running) => {
-                force_prepare(&mut self.log, home, running.vote_record(t, coord, count))
+        match self.change(t, Change::Casts { coord, count }) {
+            Ok(()) => {
+                let written = match &self.running {
+                    Some(running) => {
+                        force_prepare(&mut self.log, home, running.vote_record(t, coord, count))
+                    }
+                    None => unreachable!(),
+                };
+                let vote = Message::Vote {
+                    txn: t,
+                    member: self.number,
+                    coord,
+                    yes: true,
+                };
+                self.ended(written, Answer::Yes, Some(vote))
             }
-            None => unreachable!(),
-        };
-        let vote = Message::Vote {
-            txn: t,
-            member: self.number,
-            coord,
-            yes: true,
-        };
-        self.ended(written, Answer::Yes, Some(vote))
+            Err(AllocError) => Err(NodeFault::Memory),
+        }
     }
 
     /// Commits a local transaction, over so many operations: its prepare record and its commit record are spelled out from its sets, then it is

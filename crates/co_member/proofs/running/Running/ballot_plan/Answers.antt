@@ -16,16 +16,16 @@ returns-in-NoLost g c = λ kind x s unvoted.
     let b = x.engine in
     let t = c.args.t in
     let v = sym (c.ballot.ensures b x.asked s.undecided unvoted) ∙ ap verdict_of c.in-NoLost.is in
-    let kept = sym (counted_small c.kept-kept.result c.kept-kept.type_inv) ∙ ap counted (c.kept-kept.ensures.counted b x.asked s.undecided) in
+    let kept = sym (counted_small c.kept.result c.kept.type_inv) ∙ ap counted (c.kept.ensures.counted b x.asked s.undecided) in
     ap (λ (k : Course). plan_of k c.args.member x t) c.refuses.ensures ∙ ap (λ (k : ℕ). drops (answer.NoLost k c.args.count) (Some (message.Vote t c.args.member c.args.coord false))) kept
     ∙ ap (vote_plan c.args.member t c.args.coord c.args.count (kept_count b t) (sets_of (operations_of b t))) (sym v)
 
-pub returns-in_ok-copy-in-NoStale : goal.returns-in_ok-copy-in-NoStale
-returns-in_ok-copy-in-NoStale g c = λ kind x s unvoted.
+pub returns-in-Ok : goal.returns-in-Ok
+returns-in-Ok g c = λ kind x s unvoted.
     let b = x.engine in
     let t = c.args.t in
     let v = sym (c.ballot.ensures b x.asked s.undecided unvoted) ∙ ap verdict_of c.in-NoStale.is in
-    ap (λ (k : Course). plan_of k c.args.member x t) c.refuses-in-NoStale.ensures ∙ ap (λ key. drops (answer.NoStale key) (Some (message.Vote t c.args.member c.args.coord false))) c.in_ok-copy-in-NoStale.ensures
+    ap (λ (k : Course). plan_of k c.args.member x t) c.refuses-in-Ok.ensures ∙ ap (λ key. drops (answer.NoStale key) (Some (message.Vote t c.args.member c.args.coord false))) c.in-Ok.ensures
     ∙ ap (vote_plan c.args.member t c.args.coord c.args.count (kept_count b t) (sets_of (operations_of b t))) (sym v)
 
 pub returns-in-Held : goal.returns-in-Held

@@ -16,17 +16,17 @@ returns-in-NoLost-clause-plan g c = λ kind m x s unvoted.
     let b = x.engine in
     let t = c.args.t in
     let v = sym (c.ballot.ensures b x.asked s.undecided unvoted) ∙ ap verdict_of c.in-NoLost.is in
-    let kept = sym (counted_small c.kept-kept.result c.kept-kept.type_inv) ∙ ap counted (c.kept-kept.ensures.counted b x.asked s.undecided) in
+    let kept = sym (counted_small c.kept.result c.kept.type_inv) ∙ ap counted (c.kept.ensures.counted b x.asked s.undecided) in
     let carried = sym (counted_small c.args.carried c.ranges.carried.fits) in
     ap (λ (p : Plan). plan_of (Carries p) m x t) c.drops.ensures ∙ ap (λ (k : ℕ). drops (answer.NoLost k c.args.carried) None) kept ∙ ap (λ (n : ℕ). drops (answer.NoLost (counted (kept_count b t)) n) None) carried
     ∙ ap (local_vote_plan t c.args.carried (kept_count b t) (sets_of (operations_of b t))) (sym v)
 
-pub returns-in_ok-copy-in-NoStale-clause-plan : goal.returns-in_ok-copy-in-NoStale-clause-plan
-returns-in_ok-copy-in-NoStale-clause-plan g c = λ kind m x s unvoted.
+pub returns-in-Ok-clause-plan : goal.returns-in-Ok-clause-plan
+returns-in-Ok-clause-plan g c = λ kind m x s unvoted.
     let b = x.engine in
     let t = c.args.t in
     let v = sym (c.ballot.ensures b x.asked s.undecided unvoted) ∙ ap verdict_of c.in-NoStale.is in
-    ap (λ (p : Plan). plan_of (Carries p) m x t) c.drops-in-NoStale.ensures ∙ ap (λ key. drops (answer.NoStale key) None) c.in_ok-copy-in-NoStale.ensures
+    ap (λ (p : Plan). plan_of (Carries p) m x t) c.drops-in-Ok.ensures ∙ ap (λ key. drops (answer.NoStale key) None) c.in-Ok.ensures
     ∙ ap (local_vote_plan t c.args.carried (kept_count b t) (sets_of (operations_of b t))) (sym v)
 
 pub returns-in-Held-clause-plan : goal.returns-in-Held-clause-plan
