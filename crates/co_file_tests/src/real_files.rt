@@ -61,7 +61,7 @@ fn a_home_of_real_files_is_read_back_when_opened_again(rt: HostRuntime) {
     assert!(rt; matches!(is_written(&rt), Ok(true)));
     assert!(rt; matches!(is_read_back(&rt), Ok(true)));
     assert!(rt; matches!(is_named(&rt), Ok(true)));
-    assert!(rt; fs::remove_dir_all(&rt, "home_std_folder").is_ok());
+    assert!(rt; done(fs::remove_dir_all(&rt, "home_std_folder")));
 }
 
 /// The answers of a home that uses a file which is not there, and what it is answered where it would leave a gap.
@@ -75,15 +75,34 @@ fn absent_answers(alloc: Global, home: &mut HomeStd) -> [&'static str; 5] {
     ]
 }
 
-#[test]
-fn an_absent_file_is_empty_and_only_a_write_makes_it(rt: HostRuntime) -> io::Result<()> {
+/// Whether a call of the system was done; its fault is dropped here alone.
+fn done(called: io::Result<()>) -> bool {
+    called.is_ok()
+}
+
+/// Whether there is a file.
+fn exists(rt: &HostRuntime, path: &str) -> bool {
+    matches!(fs::exists(rt, path), Ok(true))
+}
+
+/// Whether only a write makes a file that is not there.
+fn is_made_by_a_write(rt: &HostRuntime, home: &mut HomeStd) -> bool {
+    absent_answers(rt.alloc(), home) == ["done", "these", "done", "done", "failed"]
+        && !exists(rt, "absent_file/one/two/m1.a")
+        && answer(home.write_at(rt.alloc(), M1_A, 0, b"x")) == "done"
+        && exists(rt, "absent_file/one/two/m1.a")
+}
+
+/// The same of a new home.
+fn is_made(rt: &HostRuntime) -> io::Result<bool> {
     let mut home = HomeStd::new(rt.clone()?);
-    let answers = absent_answers(rt.alloc(), &mut home);
-    assert!(rt; answers == ["done", "these", "done", "done", "failed"]);
-    assert!(rt; !fs::exists(&rt, "absent_file/one/two/m1.a")?);
-    assert!(rt; home.write_at(rt.alloc(), M1_A, 0, b"x").is_ok());
-    assert!(rt; fs::exists(&rt, "absent_file/one/two/m1.a")?);
-    fs::remove_dir_all(&rt, "absent_file")
+    Ok(is_made_by_a_write(rt, &mut home))
+}
+
+#[test]
+fn an_absent_file_is_empty_and_only_a_write_makes_it(rt: HostRuntime) {
+    assert!(rt; matches!(is_made(&rt), Ok(true)));
+    assert!(rt; done(fs::remove_dir_all(&rt, "absent_file")));
 }
 
 /// The answers of two homes that enter one directory.
@@ -97,13 +116,18 @@ fn shared_answers(alloc: Global, one: &mut HomeStd, other: &mut HomeStd) -> [&'s
     ]
 }
 
-#[test]
-fn a_directory_that_a_home_holds_is_refused_to_another(rt: HostRuntime) -> io::Result<()> {
+/// Whether a directory that one home holds is refused to another.
+fn is_refused(rt: &HostRuntime) -> io::Result<bool> {
     let mut one = HomeStd::new(rt.clone()?);
     let mut other = HomeStd::new(rt.clone()?);
     let answers = shared_answers(rt.alloc(), &mut one, &mut other);
-    assert!(rt; answers == ["done", "failed", "done", "done", "done"]);
-    fs::remove_dir_all(&rt, "shared")
+    Ok(answers == ["done", "failed", "done", "done", "done"])
+}
+
+#[test]
+fn a_directory_that_a_home_holds_is_refused_to_another(rt: HostRuntime) {
+    assert!(rt; matches!(is_refused(&rt), Ok(true)));
+    assert!(rt; done(fs::remove_dir_all(&rt, "shared")));
 }
 
 /// What the calls on part `a` of member 1 are answered.
@@ -120,51 +144,86 @@ fn calls(alloc: Global, home: &mut HomeStd) -> [&'static str; 4] {
 const ALL_FAIL: [&str; 4] = ["failed", "failed", "failed", "failed"];
 
 /// Whether a new home is answered so in a folder.
-fn is_answered(rt: &HostRuntime, folder: &str, wanted: [&str; 4]) -> io::Result<bool> {
+fn answered(rt: &HostRuntime, folder: &str, wanted: [&str; 4]) -> io::Result<bool> {
     let mut home = HomeStd::new(rt.clone()?);
     let _ = entered(rt.alloc(), &mut home, folder);
     Ok(calls(rt.alloc(), &mut home) == wanted)
 }
 
-#[test]
-fn a_file_that_is_no_plain_file_is_a_fault(rt: HostRuntime) -> io::Result<()> {
-    fs::create_dir_all(&rt, "no_plain_file/m1.a")?;
-    assert!(rt; is_answered(&rt, "no_plain_file", ALL_FAIL)?);
-    fs::remove_dir(&rt, "no_plain_file/m1.a")?;
-    symlink(&rt, "elsewhere", "no_plain_file/m1.a")?;
-    assert!(rt; is_answered(&rt, "no_plain_file", ALL_FAIL)?);
-    fs::remove_dir_all(&rt, "no_plain_file")
+/// The same, where the runtime can be had once more.
+fn is_answered(rt: &HostRuntime, folder: &str, wanted: [&str; 4]) -> bool {
+    matches!(answered(rt, folder, wanted), Ok(true))
 }
 
 #[test]
-fn a_file_of_two_spots_is_a_fault(rt: HostRuntime) -> io::Result<()> {
-    fs::create_dir_all(&rt, "two_spots")?;
-    fs::write(&rt, "two_spots/m1.a", "abc")?;
-    fs::hard_link(&rt, "two_spots/m1.a", "two_spots/c2.b")?;
+fn a_folder_is_a_fault(rt: HostRuntime) {
+    assert!(rt; done(fs::create_dir_all(&rt, "no_plain_file/m1.a")));
+    assert!(rt; is_answered(&rt, "no_plain_file", ALL_FAIL));
+    assert!(rt; done(fs::remove_dir_all(&rt, "no_plain_file")));
+}
+
+#[test]
+fn a_link_is_a_fault(rt: HostRuntime) {
+    assert!(rt; done(fs::create_dir_all(&rt, "link")));
+    assert!(rt; done(symlink(&rt, "elsewhere", "link/m1.a")));
+    assert!(rt; is_answered(&rt, "link", ALL_FAIL));
+    assert!(rt; done(fs::remove_dir_all(&rt, "link")));
+}
+
+/// Whether a folder is made with a file in it.
+fn is_laid(rt: &HostRuntime, folder: &str, file: &str) -> bool {
+    done(fs::create_dir_all(rt, folder)) && done(fs::write(rt, file, "abc"))
+}
+
+/// The answers where a file stands at two spots.
+fn twin_answers(alloc: Global, home: &mut HomeStd) -> [&'static str; 3] {
+    [
+        entered(alloc, home, "two_spots"),
+        read(alloc, home, M1_A, 9, b"abc"),
+        read(alloc, home, C2_B, 9, b"abc"),
+    ]
+}
+
+/// Whether only the first spot is read.
+fn is_read_once(rt: &HostRuntime) -> io::Result<bool> {
     let mut home = HomeStd::new(rt.clone()?);
-    assert!(rt; home.enter(rt.alloc(), "two_spots").is_ok());
-    assert!(rt; read(rt.alloc(), &mut home, M1_A, 9, b"abc") == "these");
-    assert!(rt; read(rt.alloc(), &mut home, C2_B, 9, b"abc") == "failed");
-    fs::remove_dir_all(&rt, "two_spots")
+    Ok(twin_answers(rt.alloc(), &mut home) == ["done", "these", "failed"])
 }
 
 #[test]
-fn a_file_that_has_gone_is_a_fault(rt: HostRuntime) -> io::Result<()> {
-    fs::create_dir_all(&rt, "gone")?;
-    fs::write(&rt, "gone/m1.a", "abc")?;
-    let mut home = HomeStd::new(rt.clone()?);
-    assert!(rt; home.enter(rt.alloc(), "gone").is_ok());
-    assert!(rt; calls(rt.alloc(), &mut home) == ["these", "done", "done", "done"]);
-    fs::remove_file(&rt, "gone/m1.a")?;
-    assert!(rt; calls(rt.alloc(), &mut home) == ALL_FAIL);
-    fs::write(&rt, "gone/m1.a", "abc")?;
-    assert!(rt; calls(rt.alloc(), &mut home) == ALL_FAIL);
-    fs::remove_dir_all(&rt, "gone")
+fn a_file_of_two_spots_is_a_fault(rt: HostRuntime) {
+    assert!(rt; is_laid(&rt, "two_spots", "two_spots/m1.a"));
+    assert!(rt; done(fs::hard_link(&rt, "two_spots/m1.a", "two_spots/c2.b")));
+    assert!(rt; matches!(is_read_once(&rt), Ok(true)));
+    assert!(rt; done(fs::remove_dir_all(&rt, "two_spots")));
 }
 
-/// Lets a path be used as a mode says.
-fn permit(rt: &HostRuntime, path: &str, mode: u32) -> io::Result<()> {
-    fs::set_permissions(rt, path, Permissions::from_mode(mode))
+/// Whether a home that used a file fails once it is gone, also where there is a new one.
+fn fails_once_it_is_gone(rt: &HostRuntime, home: &mut HomeStd) -> bool {
+    entered(rt.alloc(), home, "gone") == "done"
+        && calls(rt.alloc(), home) == ["these", "done", "done", "done"]
+        && done(fs::remove_file(rt, "gone/m1.a"))
+        && calls(rt.alloc(), home) == ALL_FAIL
+        && done(fs::write(rt, "gone/m1.a", "abc"))
+        && calls(rt.alloc(), home) == ALL_FAIL
+}
+
+/// The same of a new home.
+fn is_gone(rt: &HostRuntime) -> io::Result<bool> {
+    let mut home = HomeStd::new(rt.clone()?);
+    Ok(fails_once_it_is_gone(rt, &mut home))
+}
+
+#[test]
+fn a_file_that_has_gone_is_a_fault(rt: HostRuntime) {
+    assert!(rt; is_laid(&rt, "gone", "gone/m1.a"));
+    assert!(rt; matches!(is_gone(&rt), Ok(true)));
+    assert!(rt; done(fs::remove_dir_all(&rt, "gone")));
+}
+
+/// Lets a path be used as a mode says: whether that was done.
+fn permit(rt: &HostRuntime, path: &str, mode: u32) -> bool {
+    done(fs::set_permissions(rt, path, Permissions::from_mode(mode)))
 }
 
 /// Whether this user may do what a mode forbids.
@@ -172,29 +231,34 @@ fn may_all(rt: &HostRuntime, forbidden: &str) -> bool {
     fs::read(rt, forbidden).is_ok()
 }
 
-#[test]
-fn a_file_without_permission_is_a_fault(rt: HostRuntime) -> io::Result<()> {
-    fs::create_dir_all(&rt, "forbidden")?;
-    fs::write(&rt, "forbidden/m1.a", "abc")?;
-    permit(&rt, "forbidden/m1.a", 0)?;
-    if !may_all(&rt, "forbidden/m1.a") {
-        assert!(rt; is_answered(&rt, "forbidden", ALL_FAIL)?);
-        permit(&rt, "forbidden/m1.a", 0o400)?;
-        let read_alone = ["these", "failed", "failed", "done"];
-        assert!(rt; is_answered(&rt, "forbidden", read_alone)?);
-    }
-    fs::remove_dir_all(&rt, "forbidden")
+/// Whether a file that may not be used fails, and one that may be read is read alone.
+fn is_forbidden(rt: &HostRuntime) -> bool {
+    let read_alone = ["these", "failed", "failed", "done"];
+    is_answered(rt, "forbidden", ALL_FAIL)
+        && permit(rt, "forbidden/m1.a", 0o400)
+        && is_answered(rt, "forbidden", read_alone)
 }
 
 #[test]
-fn a_directory_that_cannot_be_synced_is_not_entered(rt: HostRuntime) -> io::Result<()> {
-    fs::create_dir_all(&rt, "unsynced/inner")?;
-    fs::write(&rt, "unsynced/probe", "")?;
-    permit(&rt, "unsynced/probe", 0)?;
-    permit(&rt, "unsynced", 0o300)?;
+fn a_file_without_permission_is_a_fault(rt: HostRuntime) {
+    assert!(rt; is_laid(&rt, "forbidden", "forbidden/m1.a"));
+    assert!(rt; permit(&rt, "forbidden/m1.a", 0));
+    assert!(rt; may_all(&rt, "forbidden/m1.a") || is_forbidden(&rt));
+    assert!(rt; done(fs::remove_dir_all(&rt, "forbidden")));
+}
+
+/// The answer of a new home that enters a directory.
+fn entered_anew(rt: &HostRuntime, dir: &str) -> io::Result<&'static str> {
     let mut home = HomeStd::new(rt.clone()?);
-    let word = entered(rt.alloc(), &mut home, "unsynced/inner");
-    assert!(rt; may_all(&rt, "unsynced/probe") || word == "failed");
-    permit(&rt, "unsynced", 0o700)?;
-    fs::remove_dir_all(&rt, "unsynced")
+    Ok(entered(rt.alloc(), &mut home, dir))
+}
+
+#[test]
+fn a_directory_that_cannot_be_synced_is_not_entered(rt: HostRuntime) {
+    assert!(rt; is_laid(&rt, "unsynced/inner", "unsynced/probe"));
+    assert!(rt; permit(&rt, "unsynced/probe", 0) && permit(&rt, "unsynced", 0o300));
+    let fails = matches!(entered_anew(&rt, "unsynced/inner"), Ok("failed"));
+    assert!(rt; may_all(&rt, "unsynced/probe") || fails);
+    assert!(rt; permit(&rt, "unsynced", 0o700));
+    assert!(rt; done(fs::remove_dir_all(&rt, "unsynced")));
 }
