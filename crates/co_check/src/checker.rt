@@ -35,9 +35,6 @@ impl Checker {
         }
     }
 
-    /// Lets it go: it is dropped here alone.
-    pub(crate) fn let_go(self) {}
-
     /// The verdict on what was told.
     fn judged(self) -> Verdict
         ensures { (a : Account) → Keeps self.ledger a → IsJudgedAs a result }
@@ -56,11 +53,11 @@ impl Checker {
         match next(alloc, self.place, &mut ledger, item) {
             Ok(Some(place)) => Ok(Checker { place, ledger }),
             Ok(None) => {
-                ledger.let_go();
+                drop(ledger);
                 Err(CheckFault::Text { line: number })
             }
             Err(_) => {
-                ledger.let_go();
+                drop(ledger);
                 Err(CheckFault::Memory)
             }
         }
@@ -77,11 +74,11 @@ impl Checker {
         match read_item(alloc, line) {
             Ok(item) => self.take(alloc, number, item),
             Err(ItemFault::Text { at: _ }) => {
-                self.let_go();
+                drop(self);
                 Err(CheckFault::Text { line: number })
             }
             Err(ItemFault::Memory) => {
-                self.let_go();
+                drop(self);
                 Err(CheckFault::Memory)
             }
         }
@@ -95,7 +92,7 @@ impl Checker {
         if self.place.is_whole() {
             return Ok(self.judged());
         }
-        self.let_go();
+        drop(self);
         Err(CheckFault::Text { line: number })
     }
 }

@@ -296,9 +296,6 @@ impl Ledger {
         }
     }
 
-    /// Lets it go: it is dropped here alone.
-    pub(crate) fn let_go(self) {}
-
     /// What the committed transactions were found to be.
     pub(crate) fn verdict(self) -> Verdict
         ensures { (a : Account) → Keeps self a → IsJudgedAs a result }

@@ -65,7 +65,7 @@ fn take_line<S: Source>(
         Ok(Some(line)) => further(checker.line(alloc, number, line)),
         Ok(None) => judged(checker.end(number)),
         Err(fault) => {
-            checker.let_go();
+            drop(checker);
             Err(of_lines(fault))
         }
     }

@@ -117,12 +117,6 @@ fn in_head(
     }
 }
 
-/// Lets a line go: it is dropped here alone.
-fn let_go_of_line(_what: ItemKind) {}
-
-/// Lets the head and the event of a group go: they are dropped here alone.
-fn let_go_of_group(_head: Head, _event: Event) {}
-
 /// A mark in the group of an event.
 fn marked_in_group(
     ledger: &mut Ledger,
@@ -143,7 +137,7 @@ fn marked_in_group(
             sending: false,
         }));
     }
-    let_go_of_group(head, event);
+    drop((head, event));
     Ok(None)
 }
 
@@ -189,8 +183,7 @@ fn in_group(
         })),
         ItemKind::Answered(answer) => replied_in_group(ledger, head, number, event, answer),
         other => {
-            let_go_of_line(other);
-            let_go_of_group(head, event);
+            drop((head, event, other));
             Ok(None)
         }
     }
@@ -242,9 +235,6 @@ fn is_numbered(place: &Place, number: u32) -> bool
     }
 }
 
-/// Lets a place go: it is dropped here alone.
-fn let_go_of_place(_place: Place) {}
-
 /// Where the transcript stands behind one more line, which has the number of its place.
 fn told_at(
     alloc: Global,
@@ -290,7 +280,6 @@ pub(crate) fn next(
     if is_numbered(&place, number) {
         return told_at(alloc, place, ledger, number, what);
     }
-    let_go_of_place(place);
-    let_go_of_line(what);
+    drop((place, what));
     Ok(None)
 }
