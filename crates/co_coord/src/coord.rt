@@ -18,7 +18,7 @@ use crate::step::CoordStep;
 use co_base::{Marks, Txn};
 use co_log::{Log, NodeFault};
 use co_message::{Answer, Messages};
-use co_node::{Writes, Written, write};
+use co_node::{Written, write};
 use co_outside::Home;
 use co_plain::Entry;
 use co_state::Table;
@@ -50,9 +50,6 @@ fn apply(table: &mut Table<Entry>, txn: Txn, change: Change) -> Result<(), Alloc
         }
     }
 }
-
-/// Lets go what a plan was to write: the records in it are dropped here alone.
-fn let_go(_writes: Writes) {}
 
 /// The step of a plan that writes nothing, where its change was made.
 fn settled(
@@ -141,7 +138,7 @@ impl Coord {
             sent,
         } = plan;
         if self.change(txn, change).is_err() {
-            let_go(writes);
+            drop(writes);
             return Err(NodeFault::Memory);
         }
         match write(self.alloc, &mut self.log, home, writes)? {
@@ -169,7 +166,7 @@ impl Coord {
             answer,
             sent,
         } = plan;
-        let_go(writes);
+        drop(writes);
         let changed = self.change(txn, change);
         settled(self.alloc, changed, answer, sent)
     }
