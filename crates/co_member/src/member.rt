@@ -22,7 +22,7 @@ ghost use Rattle.co_member.specs.declared.running.Running.{Running};
 
 use crate::delivery::commit_record;
 use crate::local::LOCAL_COORD;
-use crate::plan::{Change, Course, Plan, lets_go_of, told};
+use crate::plan::{Change, Course, Plan, told};
 use crate::running::Running;
 use crate::step::MemberStep;
 use co_base::{Kind, Marks, Txn};
@@ -115,11 +115,11 @@ impl<E: Engine + Drop> Member<E> {
                 marks,
             }),
             Ok(Written::Stopped { call, marks }) => {
-                lets_go_of(answer);
+                drop(answer);
                 Ok(self.stopped(call, marks))
             }
             Err(fault) => {
-                lets_go_of(answer);
+                drop(answer);
                 Err(fault)
             }
         }
@@ -158,7 +158,7 @@ impl<E: Engine + Drop> Member<E> {
                 self.ended(written, answer, sent)
             }
             Err(AllocError) => {
-                lets_go_of(plan);
+                drop(plan);
                 Err(NodeFault::Memory)
             }
         }
@@ -237,7 +237,7 @@ impl<E: Engine + Drop> Member<E> {
                 self.ended(written, Answer::Committed, None)
             }
             Err(AllocError) => {
-                lets_go_of(batch);
+                drop(batch);
                 Err(NodeFault::Memory)
             }
         }
@@ -283,7 +283,7 @@ impl<E: Engine + Drop> Member<E> {
         match self.change(t, plan.change) {
             Ok(()) => Ok(told(self.alloc, plan)),
             Err(AllocError) => {
-                lets_go_of(plan);
+                drop(plan);
                 Err(NodeFault::Memory)
             }
         }

@@ -117,6 +117,3 @@ pub(crate) fn told(alloc: Global, plan: Plan) -> MemberStep
         Writes::Keeps(_) | Writes::Forces(_) | Writes::ForcesBoth(_, _) => unreachable!(),
     }
 }
-
-/// Lets go of a value. What its drop does stands in one place by that, and not on each way out of who calls this.
-pub(crate) fn lets_go_of<T: Drop>(_value: T) {}

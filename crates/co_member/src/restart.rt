@@ -18,7 +18,6 @@ ghost use Rattle.co_member.specs.Attaching.{IsReadable, IsPastOf, read_by};
 ghost use Rattle.co_member.specs.Standing.{is_up, RepresentsMember, RepresentsRunning, HasDone, IsSame};
 
 use crate::member::Member;
-use crate::plan::lets_go_of;
 use crate::running::Running;
 use crate::step::MemberStep;
 use co_base::{Kind, Marks, Txns};
@@ -100,7 +99,7 @@ impl<E: Engine + Drop> Member<E> {
                 running: Some(running),
             }),
             Err(fault) => {
-                lets_go_of(log);
+                drop(log);
                 Err(fault)
             }
         }
