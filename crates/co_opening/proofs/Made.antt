@@ -6,7 +6,6 @@ use Rattle.std.specs.Prelude.{nat_le, Err}
 use Rattle.co_base.specs.declared.head.Kind.{Kind}
 use Rattle.co_base.specs.Nodes.{IsValidNode}
 use Rattle.co_base.specs.declared.mark.Mark.{Mark}
-use Rattle.co_base.specs.declared.mark.MarkKind.TheVariants.{Header}
 use Rattle.co_base.specs.declared.node.Node.{Node}
 use Rattle.co_outside.specs.Home.{HomeView, HasFailed, IsClean, RestStays}
 use Rattle.co_outside.specs.declared.spot.Spot.{Spot}
@@ -47,13 +46,6 @@ owned_by owner l found s = (attached_unarmed owner s.a s.b l s.attached).0
 
 pub may_make : (owner : Node) (l : LogView) (found : Found) (home : HomeView) → IsStanding owner l found → IsHeld home l → l.gate ≡ 0 → MayMake home l
 may_make owner l found home s held none = record { held = held; fresh = (fresh_one owner l found s none).0; node = subst IsValidNode (sym (owned_by owner l found s)) s.valid }
-
--- its header is marked
-pub fresh_marked : (owner : Node) (l : LogView) (found : Found) (mark : Mark) (before after : List Mark) → IsStanding owner l found → l.gate ≡ 0 → mark ≡ record { node = l.node; kind = Header; number = 1 } → after ≡ before ++ mark ∷ []
-    → after ≡ before ++ header_mark owner found.records
-fresh_marked owner l found mark before after s none is pushed =
-    let own : mark ≡ record { node = owner; kind = Header; number = 1 } = is ∙ ap (λ (n : Node). record { node = n; kind = Header; number = 1 }) (owned_by owner l found s) in
-    pushed ∙ ap (λ (m : Mark). before ++ m ∷ []) own ∙ ap (λ (rs : List Record). before ++ header_mark owner rs) (sym (fresh_one owner l found s none).1)
 
 -- the directory keeps it
 pub made_own : (home : HomeView) (l after : LogView) → HasSpots l → IsMade l after → IsHeld home after → BothWithin home.file l → IsOwnLog home l.node after

@@ -6,7 +6,7 @@ use Rattle.co_log.specs.declared.fault.LogFault.TheVariants as log
 use Rattle.co_durable.specs.declared.fault.WorldFault.TheVariants.{Device, Memory}
 use Rattle.co_opening.specs.Judged.{IsOfMaking}
 use Rattle.co_opening.proofs.Handed.{handed_in, no_value, not_err, same_device, no_device}
-use Rattle.co_opening.proofs.Made.{still_stands, still_marked, may_make, fresh_stands, fresh_marked, made_own, made_clean, making_as, making_failed}
+use Rattle.co_opening.proofs.Made.{still_stands, still_marked, may_make, fresh_stands, made_own, made_clean, making_as, making_failed}
 use Rattle.co_opening.proofs.Stays.{others_still}
 use Rattle.co_opening.proofs.making.make_fresh.Goals as goal
 
@@ -69,10 +69,6 @@ returns-in_err-push-in-Ok-clause-quiet g c = λ quiet. c.in-Ok.ensures.answered.
 
 pub returns-in-Ok-clause-stands : goal.returns-in-Ok-clause-stands
 returns-in-Ok-clause-stands g c = λ owner found s. fresh_stands owner c.args.log.now c.make.new.self found s (eqb-true c.args.log.now.gate 0 (sym c.fresh.ensures ∙ c.if-not-fresh.false)) c.in-Ok.ensures.answered.0
-
-pub returns-in-Ok-clause-marks : goal.returns-in-Ok-clause-marks
-returns-in-Ok-clause-marks g c = λ owner found s.
-    fresh_marked owner c.args.log.now found c.in-Ok.mark c.args.marks.now c.push.new.self s (eqb-true c.args.log.now.gate 0 (sym c.fresh.ensures ∙ c.if-not-fresh.false)) c.in-Ok.ensures.answered.1 c.in_ok-push-in-Ok.ensures.ok
 
 pub returns-in-Ok-clause-kept : goal.returns-in-Ok-clause-kept
 returns-in-Ok-clause-kept g c =
