@@ -13,7 +13,7 @@ import time
 
 TICKS = os.sysconf("SC_CLK_TCK")
 EVERY = 0.25
-PHASES = ("proof", "tests", "wrong bodies")
+PHASES = ("proof", "building", "tests", "wrong bodies")
 
 
 def command():
@@ -37,7 +37,7 @@ def processes():
 
 
 def what(number):
-    """The crate and the phase that a process works for, if it is one of a crate."""
+    """The crate and the phase that a process works for, if it is one of a crate: a library is built as it is proved, a program behind its proof."""
     try:
         with open(f"/proc/{number}/cmdline", "rb") as it:
             words = it.read().decode(errors="replace").split("\0")
@@ -49,7 +49,9 @@ def what(number):
     crate = words[words.index("--crate-name") + 1]
     if re.search(r"/rt-edit-[^/]*$", place):
         return crate, "wrong bodies"
-    return crate, "tests" if "--test" in words else "proof"
+    if "--test" in words:
+        return crate, "tests"
+    return crate, "building" if words[1] == "build" and "src/main.rt" in words else "proof"
 
 
 def of_tree(root, known, children):
@@ -108,11 +110,11 @@ def tell(jobs, log):
             cell = table[crate][phase]
             table[crate][phase] = [cell[0] + 1, cell[1] + last - first, cell[2] + cpu]
             print(f"{crate}\t{phase}\t{last - first:.1f}\t{cpu:.1f}", file=out)
-    print("| Crate | proof: wall-clock, processor s | tests | checks for wrong bodies | all: processor s |\n|---|---|---|---|---|")
+    print("| Crate | proof: wall-clock, processor s | building | tests | checks for wrong bodies | all: processor s |\n|---|---|---|---|---|---|")
     all_of = lambda cells: sum(cpu for _, _, cpu in cells.values())
     for crate, cells in sorted(table.items(), key=lambda it: -all_of(it[1])):
-        (_, wall, cpu), (_, wall_of_tests, of_tests), (tried, wall_of_edits, of_edits) = (cells[it] for it in PHASES)
-        shown = [f"{wall:.0f}, {cpu:.0f}", f"{wall_of_tests:.0f}, {of_tests:.0f}", f"{tried}: {wall_of_edits:.0f}, {of_edits:.0f}"]
+        shown = [f"{wall:.0f}, {cpu:.0f}" if count else "" for count, wall, cpu in (cells[it] for it in PHASES)]
+        shown[-1] = f"{cells[PHASES[-1]][0]}: {shown[-1]}" if shown[-1] else ""
         print(f"| `{crate}` | {' | '.join(shown)} | {all_of(cells):.0f} |")
     for phase in PHASES:
         print(f"{phase}: {sum(cells[phase][2] for cells in table.values()) / 60:.1f} processor minutes")

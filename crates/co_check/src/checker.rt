@@ -1,8 +1,7 @@
 //! A transcript that is checked line by line.
 ghost use Rattle.std.specs.Prelude.{◌≡◌, ◌<◌, ◌≤◌, ◌+◌, ◌^◌, length, IfOk, IsErrOf};
-ghost use Rattle.co_check.specs.Account.{Account};
-ghost use Rattle.co_check.specs.Checked.{IsJudgedAs, IsTakenAs, IsTaken, IsEnd};
-ghost use Rattle.co_check.specs.Kept.{Follows, Keeps};
+ghost use Rattle.co_check.specs.Checked.{IsTakenAs, IsTaken, IsEnd};
+ghost use Rattle.co_check.specs.Kept.{Follows};
 ghost use Rattle.co_check.specs.Shape.{Read, unread};
 
 use crate::fault::CheckFault;
@@ -33,13 +32,6 @@ impl Checker {
             place: Place::AtFront,
             ledger: Ledger::new(alloc),
         }
-    }
-
-    /// The verdict on what was told.
-    fn judged(self) -> Verdict
-        ensures { (a : Account) → Keeps self.ledger a → IsJudgedAs a result }
-    {
-        self.ledger.verdict()
     }
 
     /// Takes one more item, which is on the line of this number.
@@ -89,10 +81,13 @@ impl Checker {
         ensures judged { (r : Read) → Follows self r → IsEnd r number result }
         ensures never { IsErrOf result CheckFault.Read → ⊥ }
     {
-        if self.place.is_whole() {
-            return Ok(self.judged());
+        let Checker { place, ledger } = self;
+        let whole = place.is_whole();
+        drop(place);
+        if whole {
+            return Ok(ledger.verdict());
         }
-        drop(self);
+        drop(ledger);
         Err(CheckFault::Text { line: number })
     }
 }

@@ -113,7 +113,10 @@ fn in_head(
             sending: true,
         })),
         ItemKind::Answered(answer) => Ok(opens(head, seen, answer)),
-        _ => Ok(None),
+        other => {
+            drop((head, seen, other));
+            Ok(None)
+        }
     }
 }
 
@@ -156,6 +159,7 @@ fn replied_in_group(
     if ledger.reply(number, event, answer)? {
         Ok(Some(Place::Behind { head, number }))
     } else {
+        drop(head);
         Ok(None)
     }
 }
@@ -196,17 +200,20 @@ fn behind(head: Head, number: u32, what: ItemKind) -> Option<Place>
     match what {
         ItemKind::Event(event) => {
             if fits(&head, &event) {
-                Some(Place::InGroup {
+                return Some(Place::InGroup {
                     head,
                     number,
                     event,
                     sending: false,
-                })
-            } else {
-                None
+                });
             }
+            drop((head, event));
+            None
         }
-        _ => None,
+        other => {
+            drop((head, other));
+            None
+        }
     }
 }
 

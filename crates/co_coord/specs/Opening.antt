@@ -1,7 +1,7 @@
 -- What a log tells of a coordinator: its table after a start, what a restart rests on, and how it leaves the directory.
-use Rattle.std.specs.Prelude.{ℕ, Bool, true, false, ◌≡◌, List, map, reverse, Option, None, Result, Ok, Err, IsOk}
+use Rattle.std.specs.Prelude.{ℕ, Bool, true, false, ◌≡◌, List, map, reverse, None, Result, Ok, Err, IsOk}
 use Rattle.std.specs.FinMap.{entries}
-use Rattle.co_outside.specs.Home.{HomeView, File}
+use Rattle.co_outside.specs.Home.{HomeView}
 use Rattle.co_outside.specs.declared.spot.Spot.{Spot}
 use Rattle.co_log.specs.LogView.{LogView}
 use Rattle.co_log.specs.declared.fault.NodeFault.{NodeFault}

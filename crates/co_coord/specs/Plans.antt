@@ -23,14 +23,17 @@ use Rattle.co_coord.specs.declared.plan.Plan.{Plan}
 use Rattle.co_node.specs.declared.writing.Writes.{Writes}
 use Rattle.co_node.specs.declared.writing.Writes.TheVariants.{Nothing, Keeps, Forces, ForcesBoth}
 
-abbrev pub says : Answer → Plan
-says a = record { writes = Nothing; change = Stays; answer = a; sent = [] }
-
+-- what becomes of the transaction, with messages and nothing written
 abbrev pub turns : Change → Answer → List Message → Plan
 turns x a messages = record { writes = Nothing; change = x; answer = a; sent = messages }
 
+-- messages alone
 abbrev pub sends : Answer → List Message → Plan
-sends a messages = record { writes = Nothing; change = Stays; answer = a; sent = messages }
+sends a messages = turns Stays a messages
+
+-- an answer alone: nothing is written, changed or sent
+abbrev pub says : Answer → Plan
+says a = sends a []
 
 -- the least participant without a yes is waited for
 abbrev pub waits : List Part → List ℕ → Plan
@@ -38,11 +41,11 @@ waits parts yeses = says (answer.Waiting (member_or_none (first_lacking (members
 
 -- a transaction leaves the table by this cause, and its participants are told
 abbrev pub aborts : ℕ → ℕ → Cause → List Part → Plan
-aborts c t by parts = record { writes = Nothing; change = Leaves; answer = answer.Aborted by; sent = decisions_to c t false (members_of parts) }
+aborts c t by parts = turns Leaves (answer.Aborted by) (decisions_to c t false (members_of parts))
 
 -- a client begins
 abbrev pub begin_plan : Plan
-begin_plan = record { writes = Nothing; change = Becomes entry.Idle; answer = answer.Begun; sent = [] }
+begin_plan = turns (Becomes entry.Idle) answer.Begun []
 
 -- a transaction without participants is decided at once
 abbrev pub decides_alone : ℕ → Plan
@@ -136,7 +139,7 @@ ack_plan t m (Some (entry.Committed members acks)) = acknowledged_plan t m membe
 -- the timer fires: only what is not decided may end
 abbrev pub timer_plan : ℕ → ℕ → Option Entry → Plan
 timer_plan c t None = says answer.Unknown
-timer_plan c t (Some entry.Idle) = record { writes = Nothing; change = Leaves; answer = answer.Aborted cause.Timer; sent = [] }
+timer_plan c t (Some entry.Idle) = turns Leaves (answer.Aborted cause.Timer) []
 timer_plan c t (Some (entry.Collecting parts yeses)) = aborts c t cause.Timer parts
 timer_plan c t (Some (entry.Committed members acks)) = says answer.Decided
 

@@ -1,5 +1,5 @@
 -- Logs as their files are read, and what is told of files that are none.
-use Rattle.std.specs.Prelude.{ℕ, ◌≡◌, ◌⊎◌, true, List, Option, ◌≤◌}
+use Rattle.std.specs.Prelude.{◌≡◌, ◌⊎◌, true, List, Option, ◌≤◌}
 use Rattle.co_base.specs.declared.node.Node.{Node}
 use Rattle.co_outside.specs.declared.spot.Spot.{Spot}
 use Rattle.co_outside.specs.Home.{HomeView, File}

@@ -13,7 +13,7 @@ use co_pairs::{Pairs, Prepared, Sets};
 use std::alloc::{AllocError, Global};
 
 /// Makes the call of a command. Gives what an operation came to.
-pub fn call<E: Engine>(
+pub(crate) fn call<E: Engine>(
     alloc: Global,
     engine: &mut E,
     command: &Command,
@@ -121,7 +121,7 @@ fn put_sets(sets: &Sets, into: &mut Vec<u8>) -> Result<(), AllocError> {
 }
 
 /// Appends the records as an engine keeps them, and what leads back.
-pub fn put_dump<E: Engine>(
+pub(crate) fn put_dump<E: Engine>(
     alloc: Global,
     engine: &E,
     into: &mut Vec<u8>,
@@ -168,7 +168,7 @@ fn put_lines<E: Engine + Keeps>(
 }
 
 /// Appends what calls and questions tell of an engine that begins so, a line each.
-pub fn put_told_by_asks<E: Engine + Keeps + Drop>(
+pub(crate) fn put_told_by_asks<E: Engine + Keeps + Drop>(
     alloc: Global,
     kind: Kind,
     voted: &[Prepared],

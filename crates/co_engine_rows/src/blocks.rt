@@ -28,7 +28,7 @@ enum Mode {
 }
 
 /// Appends a block, and what it comes to: its title, its head and its lines.
-pub fn put_block(alloc: Global, block: &[&[u8]], out: &mut Vec<u8>) -> Result<(), RowFault> {
+pub(crate) fn put_block(alloc: Global, block: &[&[u8]], out: &mut Vec<u8>) -> Result<(), RowFault> {
     let [title, head, lines @ ..] = block else {
         return Ok(());
     };

@@ -41,7 +41,7 @@ fn operation(alloc: Global, word: &[u8], txn: Txn, words: &[u8]) -> Result<Comma
 }
 
 /// The command that a row spells.
-pub fn command(alloc: Global, row: &[u8]) -> Result<Command, RowFault> {
+pub(crate) fn command(alloc: Global, row: &[u8]) -> Result<Command, RowFault> {
     let (word, rest) = cut(row);
     let (t, words) = cut(rest);
     let txn = txn_of(t);

@@ -9,7 +9,7 @@ use co_plain_engine::PlainEngine;
 use std::alloc::{AllocError, Global};
 
 /// What an engine keeps.
-pub trait Keeps {
+pub(crate) trait Keeps {
     /// Appends what is kept of a key.
     fn put_kept(&self, alloc: Global, key: &[u8], into: &mut Vec<u8>) -> Result<(), BaseFault>;
 }

@@ -8,7 +8,7 @@ use std::alloc::Global;
 
 /// In which order the calls of a load come, and what is asked between them.
 #[derive(Clone, Copy)]
-pub enum Shape {
+pub(crate) enum Shape {
     /// Operations of the transactions of a group in turn, and then their votes and installs.
     Turns,
     /// The same, and a ballot on each of them before they vote.
@@ -25,24 +25,24 @@ pub enum Shape {
 
 /// How much is to be done.
 #[derive(Clone, Copy)]
-pub struct Load {
+pub(crate) struct Load {
     /// In which order.
-    pub shape: Shape,
+    pub(crate) shape: Shape,
     /// How many reads, scans and writes, where they come in turn.
-    pub operations: u32,
+    pub(crate) operations: u32,
     /// By how many transactions.
-    pub transactions: u32,
+    pub(crate) transactions: u32,
     /// Over how many keys, each with a record.
-    pub keys: u32,
+    pub(crate) keys: u32,
     /// How many keys a scan reads.
-    pub span: u32,
+    pub(crate) span: u32,
     /// How many transactions a group has, which are active at a time.
-    pub together: u32,
+    pub(crate) together: u32,
 }
 
 /// A call, or a question between calls.
 #[derive(Drop)]
-pub enum Step {
+pub(crate) enum Step {
     /// A call of an engine.
     Call(Command),
     /// Whether a read of a transaction was overwritten.
@@ -64,7 +64,7 @@ fn shape_of(word: &[u8]) -> Result<Shape, RowFault> {
 }
 
 /// The load that words name: `SHAPE OPERATIONS TRANSACTIONS KEYS SPAN TOGETHER`.
-pub fn load_of(words: &[u8]) -> Result<Load, RowFault> {
+pub(crate) fn load_of(words: &[u8]) -> Result<Load, RowFault> {
     let (shape, words) = cut(words);
     let (operations, words) = cut(words);
     let (transactions, words) = cut(words);
@@ -154,7 +154,7 @@ fn set(alloc: Global, number: u32, records: &mut RecordMap) -> Result<(), BaseFa
 }
 
 /// A record for each key.
-pub fn rows(alloc: Global, keys: u32) -> Result<Rows, BaseFault> {
+pub(crate) fn rows(alloc: Global, keys: u32) -> Result<Rows, BaseFault> {
     let mut records = RecordMap::new(alloc);
     for number in 0..keys {
         set(alloc, number, &mut records)?;
@@ -281,7 +281,7 @@ fn add_group(
 }
 
 /// The steps of a load.
-pub fn steps(alloc: Global, load: &Load) -> Result<Sequence<Step>, BaseFault> {
+pub(crate) fn steps(alloc: Global, load: &Load) -> Result<Sequence<Step>, BaseFault> {
     let mut picks = Picks::new(1);
     let mut steps = Sequence::new(alloc);
     for group in 0..load.transactions.div_ceil(load.together.max(1)) {

@@ -140,7 +140,7 @@ fn outcome_of(alloc: Global, all: &[Told]) -> Result<Outcome, AllocError> {
 }
 
 /// Appends what a load comes to on the engine of a kind: how many steps it has, how many pairs were new, and the digest.
-pub fn put_load(
+pub(crate) fn put_load(
     alloc: Global,
     kind: Kind,
     words: &[u8],

@@ -76,7 +76,7 @@ fn put_answers<E: Engine + Drop>(
 
 /// Appends what the rows come to on an engine that begins so, a line each, and in a last line what such an engine dumps
 /// after the same calls.
-pub fn put_told_by_play<E: Engine + Drop>(
+pub(crate) fn put_told_by_play<E: Engine + Drop>(
     alloc: Global,
     kind: Kind,
     voted: &[Prepared],

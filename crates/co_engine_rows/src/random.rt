@@ -139,7 +139,11 @@ fn put_round(
 }
 
 /// Appends rows for engines of a kind, and at last a scan of every key.
-pub fn put_random_rows(kind: Kind, seed: &[u8], into: &mut Vec<u8>) -> Result<(), AllocError> {
+pub(crate) fn put_random_rows(
+    kind: Kind,
+    seed: &[u8],
+    into: &mut Vec<u8>,
+) -> Result<(), AllocError> {
     let shape = shape_of(kind);
     let mut picks = Picks::new(u64::from(number_of(seed)));
     for round in 0..shape.rounds {

@@ -4,7 +4,7 @@ use std::alloc::{AllocError, AllocFailed, Global};
 
 /// Why rows were not played.
 #[derive(Drop)]
-pub enum RowFault {
+pub(crate) enum RowFault {
     /// A row is none, or a word of it is missing or wrong.
     Word,
     /// There was no memory.
@@ -30,7 +30,7 @@ impl From<BaseFault> for RowFault {
 }
 
 /// The first word of a row, and what stands behind the space after it.
-pub fn cut(row: &[u8]) -> (&[u8], &[u8]) {
+pub(crate) fn cut(row: &[u8]) -> (&[u8], &[u8]) {
     match row.iter().position(|b| *b == b' ') {
         Some(at) => (&row[..at], &row[at + 1..]),
         None => (row, &[]),
@@ -38,7 +38,7 @@ pub fn cut(row: &[u8]) -> (&[u8], &[u8]) {
 }
 
 /// The number that a word spells.
-pub fn number_of(word: &[u8]) -> u32 {
+pub(crate) fn number_of(word: &[u8]) -> u32 {
     let mut number: u32 = 0;
     for digit in word {
         let digit = u32::from(digit.saturating_sub(b'0'));
@@ -48,12 +48,12 @@ pub fn number_of(word: &[u8]) -> u32 {
 }
 
 /// The transaction that a word names.
-pub fn txn_of(word: &[u8]) -> Txn {
+pub(crate) fn txn_of(word: &[u8]) -> Txn {
     Txn(number_of(word))
 }
 
 /// The kind that a word names.
-pub fn kind_of(word: &[u8]) -> Result<Kind, RowFault> {
+pub(crate) fn kind_of(word: &[u8]) -> Result<Kind, RowFault> {
     match word {
         b"locking" => Ok(Kind::Lock),
         b"validating" => Ok(Kind::Occ),
@@ -63,7 +63,11 @@ pub fn kind_of(word: &[u8]) -> Result<Kind, RowFault> {
 }
 
 /// The key and the value of two words.
-pub fn record_of(alloc: Global, key: &[u8], value: &[u8]) -> Result<(Key, Value), BaseFault> {
+pub(crate) fn record_of(
+    alloc: Global,
+    key: &[u8],
+    value: &[u8],
+) -> Result<(Key, Value), BaseFault> {
     let key = Key::new(alloc, key)?;
     Ok((key, Value::new(alloc, value)?))
 }

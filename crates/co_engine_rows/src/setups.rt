@@ -7,7 +7,7 @@ use std::alloc::Global;
 
 /// Whether a line is no row that is played: `record KEY VALUE`, or `voted NUMBER READ KEY VALUE` for a transaction that read
 /// one key, or none where that is `-`, and wrote a record.
-pub fn is_setup(line: &[u8]) -> bool {
+pub(crate) fn is_setup(line: &[u8]) -> bool {
     line.starts_with(b"record ") || line.starts_with(b"voted ")
 }
 
@@ -19,7 +19,7 @@ fn set_record(alloc: Global, words: &[u8], records: &mut RecordMap) -> Result<()
 }
 
 /// The records that an engine begins with, as the lines say.
-pub fn rows_of(alloc: Global, lines: &[&[u8]]) -> Result<Rows, BaseFault> {
+pub(crate) fn rows_of(alloc: Global, lines: &[&[u8]]) -> Result<Rows, BaseFault> {
     let mut records = RecordMap::new(alloc);
     for line in lines {
         if let Some(words) = line.strip_prefix(b"record ") {
@@ -62,7 +62,7 @@ fn prepared(alloc: Global, words: &[u8]) -> Result<Prepared, BaseFault> {
 }
 
 /// The prepared transactions that an engine begins with, as the lines say.
-pub fn voted_of(alloc: Global, lines: &[&[u8]]) -> Result<PreparedList, BaseFault> {
+pub(crate) fn voted_of(alloc: Global, lines: &[&[u8]]) -> Result<PreparedList, BaseFault> {
     let mut voted = PreparedList::new(alloc);
     for line in lines {
         if let Some(words) = line.strip_prefix(b"voted ") {

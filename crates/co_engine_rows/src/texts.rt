@@ -6,18 +6,18 @@ use itoa::Buffer;
 use std::alloc::AllocError;
 
 /// Appends a number.
-pub fn put_digits(number: u64, into: &mut Vec<u8>) -> Result<(), AllocError> {
+pub(crate) fn put_digits(number: u64, into: &mut Vec<u8>) -> Result<(), AllocError> {
     into.extend_from_slice(Buffer::new().format(number).as_bytes())
 }
 
 /// Appends a space and a number.
-pub fn put_number(number: u64, into: &mut Vec<u8>) -> Result<(), AllocError> {
+pub(crate) fn put_number(number: u64, into: &mut Vec<u8>) -> Result<(), AllocError> {
     into.push(b' ')?;
     put_digits(number, into)
 }
 
 /// Appends a space and a key or a value.
-pub fn put_text(text: &[u8], into: &mut Vec<u8>) -> Result<(), AllocError> {
+pub(crate) fn put_text(text: &[u8], into: &mut Vec<u8>) -> Result<(), AllocError> {
     into.push(b' ')?;
     into.extend_from_slice(text)
 }
@@ -33,7 +33,7 @@ fn put_rows(rows: &[Row], into: &mut Vec<u8>) -> Result<(), AllocError> {
 }
 
 /// Appends a value, or that there is none.
-pub fn put_value(value: Option<&Value>, into: &mut Vec<u8>) -> Result<(), AllocError> {
+pub(crate) fn put_value(value: Option<&Value>, into: &mut Vec<u8>) -> Result<(), AllocError> {
     match value {
         Some(value) => {
             into.extend_from_slice(b"got")?;
@@ -44,7 +44,7 @@ pub fn put_value(value: Option<&Value>, into: &mut Vec<u8>) -> Result<(), AllocE
 }
 
 /// Appends a key, or that there is none.
-pub fn put_key(key: Option<&Key>, into: &mut Vec<u8>) -> Result<(), AllocError> {
+pub(crate) fn put_key(key: Option<&Key>, into: &mut Vec<u8>) -> Result<(), AllocError> {
     match key {
         Some(key) => {
             into.extend_from_slice(b"stale")?;
@@ -63,7 +63,7 @@ fn put_reply(reply: &Reply, into: &mut Vec<u8>) -> Result<(), AllocError> {
 }
 
 /// Appends an answer, or who is in the way.
-pub fn put_answer(seen: &Seen, into: &mut Vec<u8>) -> Result<(), AllocError> {
+pub(crate) fn put_answer(seen: &Seen, into: &mut Vec<u8>) -> Result<(), AllocError> {
     match seen {
         Seen::Answer(reply) => put_reply(reply, into),
         Seen::Blocked(t) => {
@@ -74,7 +74,7 @@ pub fn put_answer(seen: &Seen, into: &mut Vec<u8>) -> Result<(), AllocError> {
 }
 
 /// Appends how two transactions are in conflict, and their numbers.
-pub fn put_pair(pair: &Pair, into: &mut Vec<u8>) -> Result<(), AllocError> {
+pub(crate) fn put_pair(pair: &Pair, into: &mut Vec<u8>) -> Result<(), AllocError> {
     let by: &[u8] = match pair.by {
         PairKind::Reads => b", reads",
         PairKind::Writes => b", writes",
@@ -85,7 +85,7 @@ pub fn put_pair(pair: &Pair, into: &mut Vec<u8>) -> Result<(), AllocError> {
 }
 
 /// Appends what an operation came to, and the pairs that are new.
-pub fn put_seen(seen: &Seen, pairs: &[Pair], into: &mut Vec<u8>) -> Result<(), AllocError> {
+pub(crate) fn put_seen(seen: &Seen, pairs: &[Pair], into: &mut Vec<u8>) -> Result<(), AllocError> {
     put_answer(seen, into)?;
     for pair in pairs {
         put_pair(pair, into)?;
@@ -103,7 +103,7 @@ fn put_played(played: &Played, into: &mut Vec<u8>) -> Result<(), AllocError> {
 }
 
 /// Appends what commands came to, a line each.
-pub fn put_all_played(answers: &[Played], into: &mut Vec<u8>) -> Result<(), AllocError> {
+pub(crate) fn put_all_played(answers: &[Played], into: &mut Vec<u8>) -> Result<(), AllocError> {
     for played in answers {
         put_played(played, into)?;
         into.push(b'\n')?;
@@ -123,7 +123,7 @@ fn put_undos(undos: &[Written], into: &mut Vec<u8>) -> Result<(), AllocError> {
 }
 
 /// Appends what an engine dumps.
-pub fn put_dumped(dump: &Dump, into: &mut Vec<u8>) -> Result<(), AllocError> {
+pub(crate) fn put_dumped(dump: &Dump, into: &mut Vec<u8>) -> Result<(), AllocError> {
     put_rows(dump.rows.as_slice(), into)?;
     into.push(b' ')?;
     put_undos(dump.undos.as_slice(), into)

@@ -1,8 +1,8 @@
 -- The steps of a walk, in the words of its fields: the text, the place, and what it stands for.
-use Rattle.std.proofs.Common.{◌≡◌, ◌≢◌, ℕ, ◌+◌, ◌-◌, ◌<◌, ◌≤◌, List, [], ◌∷◌, ◌++◌, length, get_or, take, drop, refl, sym, ap, subst, ◌∙◌, arith, Some, None, Ok, Err}
+use Rattle.std.proofs.Common.{◌≡◌, ◌≢◌, ℕ, ◌+◌, ◌-◌, ◌<◌, ◌≤◌, List, ◌++◌, length, get_or, take, drop, refl, sym, ap, subst, ◌∙◌, arith}
 use Rattle.std.specs.List.{slice_range}
-use Rattle.std.proofs.lemmas.List.{take_rest, drop_at, take_at, drop-drop, take_all}
-use Rattle.co_frame.specs.LogText.{IsBatch, IsLogText, HasBatch, IsBrokenAt, GateWalk, HasPassed, batch_text, open_gate}
+use Rattle.std.proofs.lemmas.List.{take_rest, take_at, drop-drop}
+use Rattle.co_frame.specs.LogText.{IsLogText, HasBatch, IsBrokenAt, GateWalk, HasPassed, batch_text}
 use Rattle.co_frame.proofs.Texts.{ends_short, ends_closed, breaks}
 
 abbrev pub walk_of : List ℕ → ℕ → GateWalk

@@ -1,12 +1,11 @@
 -- Texts of batches behind gates: what stands at their front, and that they read in one way.
-use Rattle.std.proofs.Common.{◌≡◌, ◌≢◌, ℕ, zero, suc, ◌+◌, ◌^◌, ◌<◌, ◌≤◌, List, [], ◌∷◌, ◌++◌, length, get_or, take, drop, refl, sym, ap, subst, ◌∙◌, append_assoc, arith, inl, inr, add-one}
-use Rattle.std.specs.List.{flat_map, AllByRecursion}
+use Rattle.std.proofs.Common.{◌≡◌, ◌≢◌, ℕ, ◌+◌, ◌<◌, ◌≤◌, List, [], ◌∷◌, ◌++◌, length, get_or, take, drop, refl, sym, ap, subst, ◌∙◌, append_assoc, arith, inl, inr}
+use Rattle.std.specs.List.{AllByRecursion}
 use Rattle.std.specs.Int.{w32, from_be_bytes, to_be_bytes}
 use Rattle.std.proofs.lemmas.Bool.{cases_lt}
-use Rattle.std.proofs.lemmas.List.{append-nil, take_at, drop_at, drop-drop, drop_more, length-append}
-use Rattle.std.proofs.lemmas.Grind.{flat_map-append}
+use Rattle.std.proofs.lemmas.List.{append-nil, take_at, drop_at, drop_more}
 use Rattle.std.proofs.lemmas.Nat.{from_be_bytes-to_be_bytes_4}
-use Rattle.co_frame.specs.LogText.{IsBatch, IsLogText, IsGated, HasBatch, IsBrokenBehind, IsBrokenAt, GateWalk, HasPassed, gated, batch_text, open_gate}
+use Rattle.co_frame.specs.LogText.{IsBatch, IsLogText, HasBatch, IsBrokenAt, GateWalk, HasPassed, gated, batch_text, open_gate}
 
 -- a text of batches and more has more than one byte
 pub nothing : (batches : List (List ℕ)) (more : List ℕ) → length (gated batches ++ more) ≤ 1 → batches ≡ []

@@ -18,7 +18,7 @@ fn number_of(word: &[u8]) -> u64 {
 }
 
 /// Sends the message of a delivery.
-pub fn send(alloc: Global, text: &[u8], wire: &mut Wire) -> Result<(), AllocError> {
+pub(crate) fn send(alloc: Global, text: &[u8], wire: &mut Wire) -> Result<(), AllocError> {
     let Ok(head) = read_head(alloc, HEAD) else {
         return Err(AllocError);
     };
@@ -51,7 +51,7 @@ fn put_events(
 }
 
 /// Appends the events of a trial: of two words, its number and how many events are to be made.
-pub fn put_made(
+pub(crate) fn put_made(
     alloc: Global,
     words: &[u8],
     wire: &Wire,

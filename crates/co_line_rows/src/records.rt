@@ -42,7 +42,7 @@ fn put_read(alloc: Global, bytes: &[u8], version: u8, out: &mut Vec<u8>) -> Resu
 }
 
 /// Appends what reading the record at the front of some bytes gives: of two words, a version, and the bytes in hex.
-pub fn put_record(alloc: Global, words: &[u8], out: &mut Vec<u8>) -> Result<(), AllocError> {
+pub(crate) fn put_record(alloc: Global, words: &[u8], out: &mut Vec<u8>) -> Result<(), AllocError> {
     let mut words = words.split(|b| *b == b' ');
     let version = version_of(words.next().unwrap_or(b""));
     let Ok(bytes) = hex::decode(alloc, words.next().unwrap_or(b"")) else {

@@ -1,6 +1,8 @@
 -- The two files of a log, and those of all others.
 use Rattle.std.proofs.Common.{◌≡◌, ◌≢◌, ℕ, sym, ap, subst, ◌∙◌, arith, inl, inr}
-use Rattle.std.specs.Prelude.{List}
+use Rattle.std.specs.Prelude.{◌⊎◌, List, Option}
+use Rattle.co_base.specs.declared.leaves.Stop.{Stop}
+use Rattle.co_record.specs.declared.record.Record.{Record}
 use Rattle.co_base.specs.Nodes.{IsValidNode, node_byte}
 use Rattle.co_base.specs.declared.node.Node.{Node}
 use Rattle.co_base.specs.declared.node.Node.TheVariants.{Member, Coord}
@@ -116,6 +118,17 @@ held_stays old new log stay held =
       spots = held.spots;
       current = agrees_on old new log.current.spot (read_of log.current.state) files.0 reaches.0 held.current;
       spare = agrees_on old new log.spare.spot (read_of log.spare.state) files.1 reaches.1 held.spare;
+    }
+
+-- a log whose spare was written is held, whatever waits and is armed
+pub spare_held : (old new : HomeView) (log : LogView) (disk : DiskView) (waiting : List Record) (stop : Option Stop) → IsHeld old log → disk.spot ≡ log.spare.spot → RestStays log.spare.spot old new → Agrees new log.spare.spot (read_of disk.state)
+    → IsHeld new (record log { spare = disk; waiting = waiting; stop = stop })
+spare_held old new log disk waiting stop held at rest agrees =
+    let apart = spots_apart log held.spots in
+    record {
+      spots = subst (λ (s : Spot). ((log.current.spot ≡ spot_of log.node 0) × (s ≡ spot_of log.node 1)) ⊎ ((log.current.spot ≡ spot_of log.node 1) × (s ≡ spot_of log.node 0))) (sym at) held.spots;
+      current = agrees_on old new log.current.spot (read_of log.current.state) (rest.others.files log.current.spot apart) (rest.others.reaches log.current.spot apart) held.current;
+      spare = subst (λ (s : Spot). Agrees new s (read_of disk.state)) (sym at) agrees;
     }
 
 pub held_elsewhere : (node : Node) (old new : HomeView) (log : LogView) → IsValidNode node → IsValidNode log.node → log.node ≢ node → OtherFilesStay node old new → IsHeld old log → IsHeld new log

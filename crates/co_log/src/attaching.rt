@@ -1,13 +1,13 @@
 //! Logs that are attached: both files are read, and the current one is chosen.
 ghost use Rattle.std.specs.Prelude.{◌+◌, ◌≡◌, ◌≢◌, ◌≤◌, ◌<◌, [], ℕ, List, length, OnOk, OnErr, IfOk, IfErr, IfSome, IfNone, IsErrOf, None, Some, true, false, nat_lt};
 ghost use Rattle.co_base.specs.Limits.{most_log_bytes};
-ghost use Rattle.co_base.specs.Nodes.{IsValidNode, node_byte};
+ghost use Rattle.co_base.specs.Nodes.{IsValidNode};
 ghost use Rattle.co_outside.specs.declared.spot.Spot.{Spot};
 ghost use Rattle.co_disk.specs.DiskModel.{read_of};
 ghost use Rattle.co_outside.specs.Home.{Agrees, RestStays, HasFailed};
 ghost use Rattle.co_log.specs.Fresh.{IsOfDevice};
 ghost use Rattle.co_log.specs.Attaching.{built, used_of, IsAttached, AreTwins, IsBadPair, IsLonger, IsWithin, IsToldAs, IsOfAttach};
-ghost use Rattle.co_log.specs.LogView.{IsShort};
+ghost use Rattle.co_log.specs.LogView.{IsShort, spot_of};
 ghost use Rattle.co_log.specs.Scanning.{IsLogFileIn};
 
 use crate::fault::LogFault;
@@ -18,6 +18,17 @@ use co_disk::{Disk, DiskFault};
 use co_outside::{Home, Spot};
 use co_record::NEWEST_VERSION;
 use std::alloc::Global;
+
+/// The spot of a part of the log of a node.
+fn spot_of(node: Node, part: u8) -> Spot
+    requires { IsValidNode node }
+    ensures { result ≡ spot_of node part }
+{
+    Spot {
+        node: node.byte(),
+        part,
+    }
+}
 
 /// Attaches the disk of a file. None is a file with more than 268,435,456 bytes.
 fn open_file<H: Home>(alloc: Global, home: &mut H, spot: Spot) -> Result<Option<Disk>, LogFault>
@@ -156,7 +167,7 @@ impl Log {
     ghost use Rattle.co_log.specs.Calls.{HasAttached};
     ghost use Rattle.co_disk.specs.DiskView.{DiskView};
     ghost use Rattle.co_log.specs.Fresh.{IsFresh};
-    ghost use Rattle.co_log.specs.LogView.{IsHeld, spot_of};
+    ghost use Rattle.co_log.specs.LogView.{IsHeld};
     ghost use Rattle.co_log.specs.Others.{OtherNodesStay};
 
     /// Reads both files of a node, that of part `a` first, and chooses the current one: the one with a batch,
@@ -196,29 +207,35 @@ impl Log {
         ensures device { (spot : Spot) → IsErrOf result (LogFault.Device spot) → HasFailed spot (H.seen home.old) (H.seen home.new) }
         ensures quiet { ((spot : Spot) → IsErrOf result (LogFault.Device spot) → ⊥) → (H.seen home.new).faults ≡ (H.seen home.old).faults }
     {
-        let spot_a = Spot {
-            node: node.byte(),
-            part: 0,
-        };
-        let spot_b = Spot {
-            node: node.byte(),
-            part: 1,
-        };
+        let spot_a = spot_of(node, 0);
+        let spot_b = spot_of(node, 1);
         let a = open_file(alloc, home, spot_a)?;
-        let b = open_file(alloc, home, spot_b)?;
+        let b = match open_file(alloc, home, spot_b) {
+            Ok(b) => b,
+            Err(fault) => {
+                drop(a);
+                return Err(fault);
+            }
+        };
         if resume {
             let Some(a) = a else {
+                drop(b);
                 return Err(LogFault::Full { spot: spot_a });
             };
             let Some(b) = b else {
+                drop(a);
                 return Err(LogFault::Full { spot: spot_b });
             };
             return read_both(alloc, node, a, b);
         }
         if is_used(&a) {
+            drop(a);
+            drop(b);
             return Err(LogFault::InUse { spot: spot_a });
         }
         if is_used(&b) {
+            drop(a);
+            drop(b);
             return Err(LogFault::InUse { spot: spot_b });
         }
         match (a, b) {

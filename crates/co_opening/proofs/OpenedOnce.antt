@@ -1,5 +1,5 @@
 -- A directory that tells its files may be opened, or there is one cause for which it is refused.
-use Rattle.std.proofs.Common.{◌≡◌, ◌⊎◌, inl, inr, ℕ, zero, suc, ◌≤◌, ◌<◌, ◌==◌, Bool, true, false, List, length, Option, Result, Ok, Err, IsErr, IsErrAnd, refl, sym, ap, subst, ◌∙◌, arith}
+use Rattle.std.proofs.Common.{◌≡◌, ◌⊎◌, inl, inr, ℕ, zero, suc, ◌≤◌, ◌==◌, Bool, true, false, List, length, Option, Result, Ok, Err, IsErr, IsErrAnd, refl, sym, ap, subst, ◌∙◌, arith}
 use Rattle.std.proofs.lemmas.Bool.{eqb-true, eqb-false}
 use Rattle.std.specs.FinMap.{keys}
 use Rattle.std.specs.List.{AllByRecursion}
@@ -18,7 +18,6 @@ use Rattle.co_plain.specs.Opening.{Found, with_all, numbers_in, union_to, used_n
 use Rattle.co_durable.specs.declared.fault.WorldFault.{WorldFault}
 use Rattle.co_durable.specs.declared.fault.WorldFault.TheVariants.{Device, Differs, InUse, Bad, Full, Count, Old, Memory}
 use Rattle.co_durable.specs.Nodes.{numbered, member_nodes, coord_nodes, nodes_of}
-use Rattle.co_durable.specs.Pairs.{FirstWhere}
 use Rattle.co_durable.specs.Told.{IsTold, AreTold}
 use Rattle.co_durable.proofs.Firsts.{all_front, all_back, both_first, all_good}
 use Rattle.co_durable.proofs.ReadOnce.{records_once, undurable_once, standing_or_not}

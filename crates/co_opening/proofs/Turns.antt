@@ -1,11 +1,9 @@
 -- One node more is opened on its log.
 use Rattle.std.proofs.Common.{◌≡◌, ◌≢◌, ℕ, suc, ◌+◌, ◌≤◌, List, [], ◌∷◌, ◌++◌, length, sym, ap, subst, ◌∙◌, append_assoc, arith}
-use Rattle.std.specs.Prelude.{Option}
 use Rattle.co_base.specs.Nodes.{IsValidNode}
 use Rattle.co_base.specs.declared.mark.Mark.{Mark}
 use Rattle.co_base.specs.declared.node.Node.{Node}
-use Rattle.co_outside.specs.Home.{HomeView, File}
-use Rattle.co_outside.specs.declared.spot.Spot.{Spot}
+use Rattle.co_outside.specs.Home.{HomeView}
 use Rattle.co_log.specs.LogView.{LogView}
 use Rattle.co_log.specs.Others.{NodeStays, OtherFilesStay}
 use Rattle.co_opening.specs.From.{AllFrom, BothFrom}

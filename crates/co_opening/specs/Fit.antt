@@ -1,5 +1,5 @@
 -- Files over which a federation may be opened.
-use Rattle.std.specs.Prelude.{ℕ, Bool, false, ◌≡◌, length, Option}
+use Rattle.std.specs.Prelude.{Bool, false, ◌≡◌, length, Option}
 use Rattle.std.specs.List.{AllByRecursion}
 use Rattle.co_base.specs.declared.head.Head.{Head}
 use Rattle.co_outside.specs.declared.spot.Spot.{Spot}

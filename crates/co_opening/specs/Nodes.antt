@@ -1,10 +1,9 @@
 -- For which plain nodes the nodes of a federation stand, and which directory holds their logs.
-use Rattle.std.specs.Prelude.{ℕ, suc, ◌≡◌, List, slice_get, Option, Some}
+use Rattle.std.specs.Prelude.{ℕ, suc, ◌≡◌, List, slice_get, Some}
 use Rattle.co_base.specs.declared.head.Kind.{Kind}
 use Rattle.co_base.specs.declared.node.Node.{Node}
 use Rattle.co_base.specs.declared.node.Node.TheVariants as node
-use Rattle.co_outside.specs.declared.spot.Spot.{Spot}
-use Rattle.co_outside.specs.Home.{HomeView, File}
+use Rattle.co_outside.specs.Home.{HomeView}
 use Rattle.co_log.specs.LogView.{LogView, IsHeld}
 use Rattle.co_node.specs.Answers.{AreWithin}
 use Rattle.co_plain.specs.declared.coord_state.CoordState.{CoordState}

@@ -1,9 +1,8 @@
 -- Nodes that were opened, by their places.
-use Rattle.std.specs.Prelude.{ℕ, suc, List, Option}
+use Rattle.std.specs.Prelude.{ℕ, suc, List}
 use Rattle.co_base.specs.declared.head.Kind.{Kind}
 use Rattle.co_base.specs.declared.node.Node.TheVariants as node
-use Rattle.co_outside.specs.declared.spot.Spot.{Spot}
-use Rattle.co_outside.specs.Home.{HomeView, File}
+use Rattle.co_outside.specs.Home.{HomeView}
 use Rattle.co_plain.specs.Opening.{Found, opened_member, opened_coord}
 use Rattle.co_state.specs.declared.engine_state.EngineState.{EngineState}
 use Rattle.co_coord.specs.declared.coord.Coord.{Coord}

@@ -6,12 +6,14 @@
 #![tactic(auto)]
 
 mod counts;
+mod events;
 mod fault;
 mod fields;
 mod form;
 mod head;
 mod laws;
 mod lines;
+mod messages;
 mod reading;
 mod view;
 mod word;
@@ -19,12 +21,14 @@ mod words;
 mod writing;
 
 pub use counts::NodeCounts;
+pub use events::{read_event, read_event_fields};
 pub use fault::{LineFault, LineKind, LinesFault, Mistake, ReadFault};
 pub use form::{Form, MessageForm, form_of, message_form_of};
 pub use head::{read_head, read_head_kinds};
 pub use laws::one_line;
 pub use lines::{Lines, MOST_OF_TEXT};
-pub use reading::{read_event, read_event_fields, read_line, read_message};
+pub use messages::read_message;
+pub use reading::read_line;
 pub use view::{LeavesView, LineView, key_of, value_of};
 pub use word::long_number_within;
 pub use words::{Piece, Words};

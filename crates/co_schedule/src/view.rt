@@ -4,6 +4,7 @@ ghost use Rattle.std.specs.Ordering.{is_gt};
 ghost use Rattle.co_base.specs.Letters.{IsText, most_key_bytes, most_value_bytes};
 ghost use Rattle.co_base.specs.Order.{key_cmp};
 ghost use Rattle.co_schedule.specs.Places.{is_hex};
+ghost use Rattle.co_message.specs.declared.event.Event.TheVariants as event;
 ghost use Rattle.co_schedule.specs.View.{decoded, leaves_of, event_of, IsLent, IsSpelledLeaves};
 
 use co_base::{BaseFault, Bytes, Key, Leaves, Node, Range, Txn, Value};
@@ -169,79 +170,92 @@ fn leaves_of_view(alloc: Global, leaves: &LeavesView<'_>) -> Result<Leaves, Allo
     }
 }
 
+/// A read, with a key of its own.
+fn read(alloc: Global, txn: Txn, member: u8, key: &[u8]) -> Result<Event, AllocError>
+    requires { IsText most_key_bytes key.now }
+    ensures { IfOk result (λ made. made ≡ event.Read txn member key.now) }
+{
+    let key = key_of(alloc, key)?;
+    Ok(Event::Read { txn, member, key })
+}
+
+/// A write, with a key and a value of its own.
+fn write(alloc: Global, txn: Txn, member: u8, key: &[u8], value: &[u8]) -> Result<Event, AllocError>
+    requires { IsText most_key_bytes key.now × IsText most_value_bytes value.now }
+    ensures { IfOk result (λ made. made ≡ event.Write txn member key.now value.now) }
+{
+    let key = key_of(alloc, key)?;
+    let value = value_of(alloc, value)?;
+    Ok(Event::Write {
+        txn,
+        member,
+        key,
+        value,
+    })
+}
+
+/// An erasure, with a key of its own.
+fn erase(alloc: Global, txn: Txn, member: u8, key: &[u8]) -> Result<Event, AllocError>
+    requires { IsText most_key_bytes key.now }
+    ensures { IfOk result (λ made. made ≡ event.Erase txn member key.now) }
+{
+    let key = key_of(alloc, key)?;
+    Ok(Event::Erase { txn, member, key })
+}
+
+/// A scan, with a range of its own.
+fn scan(alloc: Global, txn: Txn, member: u8, lo: &[u8], hi: &[u8]) -> Result<Event, AllocError>
+    requires texts { IsText most_key_bytes lo.now × IsText most_key_bytes hi.now }
+    requires order { is_gt (key_cmp lo.now hi.now) ≡ false }
+    ensures { IfOk result (λ made. made ≡ event.Scan txn member (record { lo = lo.now; hi = hi.now })) }
+{
+    let range = range_of(alloc, lo, hi)?;
+    Ok(Event::Scan { txn, member, range })
+}
+
+/// An armed stop, with an image of its own.
+fn arm(alloc: Global, node: Node, call: u8, leaves: &LeavesView<'_>) -> Result<Event, AllocError>
+    requires { IsSpelledLeaves leaves.now }
+    ensures { IfOk result (λ made. made ≡ event.Arm node call (leaves_of leaves.now)) }
+{
+    let leaves = leaves_of_view(alloc, leaves)?;
+    Ok(Event::Arm { node, call, leaves })
+}
+
 impl<'a> LineView<'a> {
     /// The event, with texts of its own.
     pub fn event(&self, alloc: Global) -> Result<Event, AllocError>
         requires { IsLent self.now }
         ensures { IfOk result (λ event. event ≡ event_of self.now) }
     {
-        Ok(match self {
-            LineView::Begin { txn, coord } => Event::Begin {
-                txn: *txn,
-                coord: *coord,
-            },
-            LineView::Local { txn, member } => Event::Local {
-                txn: *txn,
-                member: *member,
-            },
-            LineView::Read { txn, member, key } => Event::Read {
-                txn: *txn,
-                member: *member,
-                key: key_of(alloc, key)?,
-            },
+        match *self {
+            LineView::Begin { txn, coord } => Ok(Event::Begin { txn, coord }),
+            LineView::Local { txn, member } => Ok(Event::Local { txn, member }),
+            LineView::Read { txn, member, key } => read(alloc, txn, member, key),
             LineView::Write {
                 txn,
                 member,
                 key,
                 value,
-            } => Event::Write {
-                txn: *txn,
-                member: *member,
-                key: key_of(alloc, key)?,
-                value: value_of(alloc, value)?,
-            },
-            LineView::Erase { txn, member, key } => Event::Erase {
-                txn: *txn,
-                member: *member,
-                key: key_of(alloc, key)?,
-            },
+            } => write(alloc, txn, member, key, value),
+            LineView::Erase { txn, member, key } => erase(alloc, txn, member, key),
             LineView::Scan {
                 txn,
                 member,
                 lo,
                 hi,
-            } => Event::Scan {
-                txn: *txn,
-                member: *member,
-                range: range_of(alloc, lo, hi)?,
-            },
-            LineView::Commit { txn } => Event::Commit { txn: *txn },
-            LineView::Abort { txn } => Event::Abort { txn: *txn },
-            LineView::Deliver(message) => Event::Deliver(*message),
-            LineView::Vote { txn, member } => Event::Vote {
-                txn: *txn,
-                member: *member,
-            },
-            LineView::Timer { txn, node } => Event::Timer {
-                txn: *txn,
-                node: *node,
-            },
-            LineView::Ask { txn, member } => Event::Ask {
-                txn: *txn,
-                member: *member,
-            },
-            LineView::Resend { txn, coord } => Event::Resend {
-                txn: *txn,
-                coord: *coord,
-            },
-            LineView::Crash(node) => Event::Crash(*node),
-            LineView::Restart(node) => Event::Restart(*node),
-            LineView::Arm { node, call, leaves } => Event::Arm {
-                node: *node,
-                call: *call,
-                leaves: leaves_of_view(alloc, leaves)?,
-            },
-            LineView::Checkpoint(node) => Event::Checkpoint(*node),
-        })
+            } => scan(alloc, txn, member, lo, hi),
+            LineView::Commit { txn } => Ok(Event::Commit { txn }),
+            LineView::Abort { txn } => Ok(Event::Abort { txn }),
+            LineView::Deliver(message) => Ok(Event::Deliver(message)),
+            LineView::Vote { txn, member } => Ok(Event::Vote { txn, member }),
+            LineView::Timer { txn, node } => Ok(Event::Timer { txn, node }),
+            LineView::Ask { txn, member } => Ok(Event::Ask { txn, member }),
+            LineView::Resend { txn, coord } => Ok(Event::Resend { txn, coord }),
+            LineView::Crash(node) => Ok(Event::Crash(node)),
+            LineView::Restart(node) => Ok(Event::Restart(node)),
+            LineView::Arm { node, call, leaves } => arm(alloc, node, call, &leaves),
+            LineView::Checkpoint(node) => Ok(Event::Checkpoint(node)),
+        }
     }
 }

@@ -1,6 +1,7 @@
 //! Events as lines.
 ghost use Rattle.std.specs.Prelude.{◌≡◌, ◌<◌, ◌≤◌, [], ◌∷◌, map, ◌++◌, ◌⊎◌, length, OnOk, OnErr, IfErr, IsErrOf, decimal, codes};
 ghost use Rattle.co_base.specs.Lent.{Begins};
+ghost use Rattle.co_message.specs.declared.message.Message.TheVariants as message;
 ghost use Rattle.co_schedule.specs.Limits.{longest_line};
 ghost use Rattle.co_schedule.specs.Words.{space, behind, spaced};
 ghost use Rattle.co_schedule.specs.Spelling.{member_word, coord_word, node_word, leaves_word, message_words, event_words, line_text, head_text, kind_word};
@@ -143,6 +144,48 @@ fn append_from_member(
     append_coord(out, coord)
 }
 
+fn append_prepare(
+    out: &mut Vec<u8>,
+    txn: Txn,
+    coord: u8,
+    member: u8,
+    count: u16,
+) -> Result<(), AllocError>
+    ensures ok { OnOk result (out.new.items ≡ out.old.items ++ behind (message_words (message.Prepare txn coord member count))) }
+    ensures err { OnErr result (Begins out.old.items out.new.items) }
+{
+    append_from_coord(out, b"prepare", txn, coord, member)?;
+    append_number(out, u64::from(count))
+}
+
+fn append_vote(
+    out: &mut Vec<u8>,
+    txn: Txn,
+    member: u8,
+    coord: u8,
+    yes: bool,
+) -> Result<(), AllocError>
+    ensures ok { OnOk result (out.new.items ≡ out.old.items ++ behind (message_words (message.Vote txn member coord yes))) }
+    ensures err { OnErr result (Begins out.old.items out.new.items) }
+{
+    append_from_member(out, b"vote", txn, member, coord)?;
+    append_word(out, if yes { b"yes" } else { b"no" })
+}
+
+fn append_decision(
+    out: &mut Vec<u8>,
+    txn: Txn,
+    coord: u8,
+    member: u8,
+    commit: bool,
+) -> Result<(), AllocError>
+    ensures ok { OnOk result (out.new.items ≡ out.old.items ++ behind (message_words (message.Decide txn coord member commit))) }
+    ensures err { OnErr result (Begins out.old.items out.new.items) }
+{
+    append_from_coord(out, b"decide", txn, coord, member)?;
+    append_word(out, if commit { b"commit" } else { b"abort" })
+}
+
 /// Appends the words of the message, each behind a space. After want of memory the list begins with what it held.
 pub fn append_message(out: &mut Vec<u8>, message: &Message) -> Result<(), AllocError>
     ensures ok { OnOk result (out.new.items ≡ out.old.items ++ behind (message_words message.now)) }
@@ -154,28 +197,19 @@ pub fn append_message(out: &mut Vec<u8>, message: &Message) -> Result<(), AllocE
             coord,
             member,
             count,
-        } => {
-            append_from_coord(out, b"prepare", txn, coord, member)?;
-            append_number(out, u64::from(count))
-        }
+        } => append_prepare(out, txn, coord, member, count),
         Message::Vote {
             txn,
             member,
             coord,
             yes,
-        } => {
-            append_from_member(out, b"vote", txn, member, coord)?;
-            append_word(out, if yes { b"yes" } else { b"no" })
-        }
+        } => append_vote(out, txn, member, coord, yes),
         Message::Decide {
             txn,
             coord,
             member,
             commit,
-        } => {
-            append_from_coord(out, b"decide", txn, coord, member)?;
-            append_word(out, if commit { b"commit" } else { b"abort" })
-        }
+        } => append_decision(out, txn, coord, member, commit),
         Message::Ask { txn, member, coord } => append_from_member(out, b"ask", txn, member, coord),
         Message::Ack { txn, member, coord } => append_from_member(out, b"ack", txn, member, coord),
     }

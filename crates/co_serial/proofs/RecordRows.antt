@@ -1,16 +1,16 @@
 -- Rows of entries: they keep the order of the keys, and the rows of a range.
 use Rattle.co_base.specs.declared.row.Row.{Row}
-use Rattle.std.proofs.Common.{◌≡◌, ℕ, Bool, true, false, cond, List, [], ◌∷◌, ◌++◌, map, filter, arith, append-nil, refl, sym, ap, ◌∙◌, subst}
+use Rattle.std.proofs.Common.{◌≡◌, ℕ, Bool, true, false, cond, List, [], ◌∷◌, ◌++◌, map, filter, arith, append-nil, refl, sym, ap, subst}
 use Rattle.std.specs.List.Sorted.{IsStrictlySortedBy}
 use Rattle.std.specs.Map.{keys_of}
 use Rattle.co_base.proofs.Ordered.{sorted_none}
-use Rattle.std.specs.FinMap.{empty, entries, from_entries, slice_cmp-IsAntisymmetric, nat_cmp-IsAntisymmetric}
+use Rattle.std.specs.FinMap.{empty, from_entries, slice_cmp-IsAntisymmetric, nat_cmp-IsAntisymmetric}
 use Rattle.std.proofs.lemmas.Cmp.{nat_list_cmp_total}
 use Rattle.std.proofs.lemmas.List.Kept.{IsStrictlySortedBy-filter}
 use Rattle.co_base.specs.Order.{key_cmp}
 use Rattle.co_base.specs.RowOrder.{IsInKeyOrder}
 use Rattle.co_base.specs.Span.{Span, span_has}
-use Rattle.co_serial.specs.Records.{Records, row_of, all_rows, rows_within}
+use Rattle.co_serial.specs.Records.{row_of, all_rows, rows_within}
 use Rattle.co_serial.proofs.MapViews.{view-entries}
 
 keys-rows : (es : List (List ℕ × List ℕ)) → map (λ r. r.key) (map row_of es) ≡ keys_of es

@@ -1,5 +1,5 @@
 -- The records of all members, kept as a list.
-use Rattle.std.specs.Prelude.{ℕ, zero, suc, List, [], ◌∷◌}
+use Rattle.std.specs.Prelude.{zero, suc, List, [], ◌∷◌}
 use Rattle.std.specs.FinMap.{empty}
 use Rattle.co_serial.specs.Records.{Records}
 use Rattle.co_serial.specs.SerialRun.{AllRecords}

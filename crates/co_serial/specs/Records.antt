@@ -1,6 +1,6 @@
 -- The records of one member: a finite map from keys to values.
 use Rattle.std.specs.Prelude.{ℕ, List, [], ◌∷◌, map, filter, Option, None, Some}
-use Rattle.std.specs.FinMap.{FinMap, entries, get, insert, remove}
+use Rattle.std.specs.FinMap.{FinMap, entries, insert, remove}
 use Rattle.co_base.specs.Order.{key_cmp}
 use Rattle.co_base.specs.Span.{Span, span_has}
 use Rattle.co_base.specs.declared.row.Row.{Row}

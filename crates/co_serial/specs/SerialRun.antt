@@ -1,5 +1,5 @@
 -- The serial run: what operations answer, and what they leave, when each transaction is run whole.
-use Rattle.std.specs.Prelude.{ℕ, List, [], ◌∷◌, if◌then◌else◌, ◌==◌, Option, None, Some}
+use Rattle.std.specs.Prelude.{ℕ, List, [], ◌∷◌, if◌then◌else◌, ◌==◌, None, Some}
 use Rattle.std.specs.FinMap.{get}
 use Rattle.co_base.specs.declared.op.Op.{Op}
 use Rattle.co_base.specs.declared.op.Op.TheVariants.{Read, Write, Erase, Scan}

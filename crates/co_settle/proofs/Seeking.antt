@@ -8,7 +8,6 @@ use Rattle.std.proofs.lemmas.List.{take_all}
 use Rattle.std.proofs.lemmas.List.Elements.{All-more}
 use Rattle.co_state.specs.Table.{look, holds, put, without, is_above, least_where}
 use Rattle.co_plain.specs.declared.coord_state.Entry.{Entry}
-use Rattle.co_plain.specs.declared.coord_state.Entry.TheVariants as entry
 use Rattle.co_plain.specs.Federation.{Federation}
 use Rattle.co_plain.specs.MemberView.{Numbers}
 use Rattle.co_plain.specs.Quiet.{Exchange, IsEnabled, IsOpen, InTable, ActiveAt, VotedAt, busy_in, IsBusy, BusyAt, BusyIn}

@@ -1,5 +1,5 @@
 -- How a trial ends, by how the line of its summary was put.
-use Rattle.std.proofs.Common.{◌≡◌, ◌≤◌, ◌&&◌, ◌||◌, Bool, true, false, sym, ◌∙◌, inl, inr, ℕ, List, [], ◌∷◌, Option, Some, Result, Ok, Err, subst}
+use Rattle.std.proofs.Common.{◌≡◌, ◌≤◌, ◌&&◌, ◌||◌, Bool, true, false, sym, ◌∙◌, inr, ℕ, List, [], ◌∷◌, Option, Some, Result, Ok, Err, subst}
 use Rattle.co_outside.specs.declared.spot.Spot.{Spot}
 use Rattle.std.specs.Prelude.{codes}
 use Rattle.std.specs.String.{string_bytes}

@@ -170,7 +170,9 @@ fn replayed<E: Engine + Drop, S: Source, K: Sink, H: Home>(
     let head = head_of(alloc, &mut lines, source)?;
     let (mut world, items) = open::<E, H>(alloc, home, directory, &head, resume)?;
     let head = tell_opening(alloc, out, head, items.as_slice())?;
-    replay_lines(alloc, &mut lines, source, &head, &mut world, home, out)
+    let ended = replay_lines(alloc, &mut lines, source, &head, &mut world, home, out);
+    drop(world);
+    ended
 }
 
 /// Replays the schedule of the source over the logs of a directory: over fresh ones, or over those that a run left. The engine is one that takes every kind.

@@ -1,5 +1,5 @@
 -- Calls of a directory at which no call is to fail.
-use Rattle.std.specs.Prelude.{ℕ, ◌≡◌, ◌↔◌, List, [], Some, Result, Contains, IsErrOf, refl, map}
+use Rattle.std.specs.Prelude.{◌≡◌, ◌↔◌, [], Some, Result, Contains, IsErrOf, refl, map}
 use Rattle.std.proofs.Common.{subst, ap, arith}
 use Rattle.co_outside.specs.declared.home.FailAt.{FailAt}
 use Rattle.co_outside.specs.declared.home.HomeCall.{HomeCall}

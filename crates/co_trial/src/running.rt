@@ -134,7 +134,7 @@ fn trial_in<E: Engine + Drop, H: Home>(
     let mut told = Told::new(alloc);
     let mut decisions = Decisions::new(alloc);
     let mut world = open::<E, H>(alloc, home, &mut told)?;
-    let settled = run_events(
+    match run_events(
         alloc,
         number,
         events,
@@ -142,10 +142,17 @@ fn trial_in<E: Engine + Drop, H: Home>(
         home,
         &mut told,
         &mut decisions,
-    )?;
-    match sum_up(alloc, number, events, settled, told, &decisions, &world) {
-        Ok(summary) => Ok(summary),
-        Err(AllocError) => Err(WorldFault::Memory),
+    ) {
+        Ok(settled) => {
+            let summary = sum_up(alloc, number, events, settled, told, &decisions, &world);
+            drop(world);
+            Ok(summary?)
+        }
+        Err(fault) => {
+            drop(world);
+            drop(told);
+            Err(fault)
+        }
     }
 }
 

@@ -1,4 +1,4 @@
-use Rattle.std.proofs.Common.{◌≡◌, ◌∷◌, ◌++◌, [], ap, sym, ◌∙◌}
+use Rattle.std.proofs.Common.{◌∷◌, ◌++◌, [], ap, ◌∙◌}
 use Rattle.co_serial.specs.Family.{family_of}
 use Rattle.co_serial.proofs.Families.{family-push}
 use Rattle.co_serial.proofs.serial_map.make_room.Goals as goal

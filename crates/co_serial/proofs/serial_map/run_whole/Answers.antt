@@ -1,6 +1,5 @@
-use Rattle.std.proofs.Common.{◌≡◌, ap, sym, ◌∙◌, ◌+◌, drop, ◌<◌, ◌∷◌, ◌++◌, [], length}
-use Rattle.co_serial.specs.Family.{family_of}
-use Rattle.co_serial.specs.SerialRun.{after_site, reply_to, run_whole, after_whole}
+use Rattle.std.proofs.Common.{ap, ◌∙◌, ◌+◌, drop, ◌∷◌, ◌++◌, []}
+use Rattle.co_serial.specs.SerialRun.{run_whole, after_whole}
 use Rattle.co_serial.proofs.Families.{one_more, any_err}
 use Rattle.co_serial.proofs.serial_map.run_whole.Goals as goal
 

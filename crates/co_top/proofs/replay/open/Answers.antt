@@ -1,7 +1,7 @@
 use Rattle.std.proofs.Common.{Option, ◌∙◌, subst, sym}
 use Rattle.std.specs.Prelude.{IfOk, IfErr}
 use Rattle.co_outside.specs.declared.spot.Spot.{Spot}
-use Rattle.co_outside.specs.Home.{File, IsClean}
+use Rattle.co_outside.specs.Home.{File}
 use Rattle.co_world.specs.Attached.{IsAttachedOver}
 use Rattle.co_top.specs.Replayed.{IsUnopenedAs}
 use Rattle.co_top.proofs.Ending.{on_kept}

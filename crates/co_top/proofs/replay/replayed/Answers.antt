@@ -41,8 +41,8 @@ returns-in_err-head-2-clause-end g c = λ input held l t.
     (subst (λ o. IsOpeningTold c.in_ok-head.head c.in_ok-world.items o (g.K.Sink.told c.tell_opening.new.out) (Err c.in_err-head-2.field-0.0)) t
     (subst (λ (xs : List Item). IsOpeningTold c.in_ok-head.head xs (g.K.Sink.told c.args.out.now) (g.K.Sink.told c.tell_opening.new.out) (Err c.in_err-head-2.field-0.0)) c.as_slice.ensures c.in_err-head-2.ensures.told)))
 
-pub replay_lines-requires-clause-stands : goal.replay_lines-requires-clause-stands
-replay_lines-requires-clause-stands g c =
+pub replay_lines-ended-requires-clause-stands : goal.replay_lines-ended-requires-clause-stands
+replay_lines-ended-requires-clause-stands g c =
     let at = c.in_ok-world.ensures.opened in (
       opened c.in_ok-head.head.kinds c.in_ok-head.head.coords at.found_member at.found_coord,
       at.stands,
@@ -59,7 +59,7 @@ returns-clause-own g c =
     let at = c.in_ok-world.ensures.opened in
     let s0 = opened c.in_ok-head.head.kinds c.in_ok-head.head.coords at.found_member at.found_coord in
     let stays : StaysReady c.in_ok-head-2.head s0 = subst (λ h. StaysReady h s0) (sym c.in_ok-head-2.ensures.told.0) (ready c.in_ok-head.head at.found_member at.found_coord at.may) in
-    over_ends g.E.Engine.takes g.E.Engine.stands_for c.in_ok-head-2.head s0 _ _ _ _ _ c.replay_lines.new.world c.replay_lines.result (c.replay_lines.ensures.over s0 at.stands stays)
+    over_ends g.E.Engine.takes g.E.Engine.stands_for c.in_ok-head-2.head s0 _ _ _ _ _ c.replay_lines-ended.new.world c.replay_lines-ended.result (c.replay_lines-ended.ensures.over s0 at.stands stays)
 
 pub returns-clause-end : goal.returns-clause-end
 returns-clause-end g c = λ input held l t.
@@ -69,24 +69,24 @@ returns-clause-end g c = λ input held l t.
     let items : List Item = c.in_ok-world.items in
     let at = c.in_ok-world.ensures.opened in
     let s0 = opened head.kinds head.coords at.found_member at.found_coord in
-    let home = g.H.Home.seen c.replay_lines.new.home in
+    let home = g.H.Home.seen c.replay_lines-ended.new.home in
     let stays : StaysReady c.in_ok-head-2.head s0 = subst (λ h. StaysReady h s0) (sym c.in_ok-head-2.ensures.told.0) (ready head at.found_member at.found_coord at.may) in
     let put : g.K.Sink.told c.tell_opening.new.out ≡ Some (held ++ opening_text head items) =
     c.in_ok-head-2.ensures.told.1 held t ∙ ap (λ (xs : List Item). Some (held ++ opening_text head xs)) c.as_slice.ensures in
-    over g.E.Engine.takes g.E.Engine.stands_for c.args.resume input held (g.H.Home.seen c.args.home.now).file head read.0 read.1 c.in_ok-world.world items at (g.S.Source.left c.replay_lines.new.source) (g.K.Sink.told c.replay_lines.new.out) home c.replay_lines.new.world c.replay_lines.result
-    (subst (λ (m : Option (List ℕ)). IsOver g.E.Engine.takes g.E.Engine.stands_for head s0 (Some read.0) (g.S.Source.left c.replay_lines.new.source) m (g.K.Sink.told c.replay_lines.new.out) home c.replay_lines.new.world c.replay_lines.result) put
-    (subst (λ (a : Option (List ℕ)). IsOver g.E.Engine.takes g.E.Engine.stands_for head s0 a (g.S.Source.left c.replay_lines.new.source) (g.K.Sink.told c.tell_opening.new.out) (g.K.Sink.told c.replay_lines.new.out) home c.replay_lines.new.world c.replay_lines.result) read.2
-    (subst (λ h. IsOver g.E.Engine.takes g.E.Engine.stands_for h s0 (ahead c.head_of.new.lines (g.S.Source.left c.head_of.new.source)) (g.S.Source.left c.replay_lines.new.source) (g.K.Sink.told c.tell_opening.new.out) (g.K.Sink.told c.replay_lines.new.out) home c.replay_lines.new.world c.replay_lines.result)
-    c.in_ok-head-2.ensures.told.0 (c.replay_lines.ensures.over s0 at.stands stays))))
+    over g.E.Engine.takes g.E.Engine.stands_for c.args.resume input held (g.H.Home.seen c.args.home.now).file head read.0 read.1 c.in_ok-world.world items at (g.S.Source.left c.replay_lines-ended.new.source) (g.K.Sink.told c.replay_lines-ended.new.out) home c.replay_lines-ended.new.world c.replay_lines-ended.result
+    (subst (λ (m : Option (List ℕ)). IsOver g.E.Engine.takes g.E.Engine.stands_for head s0 (Some read.0) (g.S.Source.left c.replay_lines-ended.new.source) m (g.K.Sink.told c.replay_lines-ended.new.out) home c.replay_lines-ended.new.world c.replay_lines-ended.result) put
+    (subst (λ (a : Option (List ℕ)). IsOver g.E.Engine.takes g.E.Engine.stands_for head s0 a (g.S.Source.left c.replay_lines-ended.new.source) (g.K.Sink.told c.tell_opening.new.out) (g.K.Sink.told c.replay_lines-ended.new.out) home c.replay_lines-ended.new.world c.replay_lines-ended.result) read.2
+    (subst (λ h. IsOver g.E.Engine.takes g.E.Engine.stands_for h s0 (ahead c.head_of.new.lines (g.S.Source.left c.head_of.new.source)) (g.S.Source.left c.replay_lines-ended.new.source) (g.K.Sink.told c.tell_opening.new.out) (g.K.Sink.told c.replay_lines-ended.new.out) home c.replay_lines-ended.new.world c.replay_lines-ended.result)
+    c.in_ok-head-2.ensures.told.0 (c.replay_lines-ended.ensures.over s0 at.stands stays))))
 
 pub returns-clause-entered : goal.returns-clause-entered
-returns-clause-entered g c = on_any _ c.replay_lines.result (c.replay_lines.ensures.entered ∙ c.in_ok-world.ensures.entered)
+returns-clause-entered g c = on_any _ c.replay_lines-ended.result (c.replay_lines-ended.ensures.entered ∙ c.in_ok-world.ensures.entered)
 
 pub returns-clause-device : goal.returns-clause-device
 returns-clause-device g c = λ spot h.
     let f =
-    failed_as (g.H.Home.seen c.open.new.home) (g.H.Home.seen c.replay_lines.new.home) (g.H.Home.seen c.args.home.now).faults c.replay_lines.result spot
-    (c.in_ok-world.ensures.quiet (λ spot_of e. not_err _ (status.Device spot_of) e)) c.replay_lines.ensures.ended h in
+    failed_as (g.H.Home.seen c.open.new.home) (g.H.Home.seen c.replay_lines-ended.new.home) (g.H.Home.seen c.args.home.now).faults c.replay_lines-ended.result spot
+    (c.in_ok-world.ensures.quiet (λ spot_of e. not_err _ (status.Device spot_of) e)) c.replay_lines-ended.ensures.ended h in
     record { count = f.0; named = f.1 }
 
 pub returns-in_err-head-2-clause-quiet_sink : goal.returns-in_err-head-2-clause-quiet_sink
@@ -94,16 +94,16 @@ returns-in_err-head-2-clause-quiet_sink g c = λ other.
     c.in_err-head-2.ensures.quiet (λ e. other (same_error c.in_err-head-2.field-0.0 status.Write _ c.from_residual-in_err-head-2.result e refl (err_is c.from_residual-in_err-head-2.result c.in_err-head-2.field-0.0 c.from_residual-in_err-head-2.ensures)))
 
 pub returns-clause-quiet_source : goal.returns-clause-quiet_source
-returns-clause-quiet_source g c = λ other. c.replay_lines.ensures.quiet_source other ∙ c.in_ok-head.ensures.quiet (λ e. not_err _ status.Read e)
+returns-clause-quiet_source g c = λ other. c.replay_lines-ended.ensures.quiet_source other ∙ c.in_ok-head.ensures.quiet (λ e. not_err _ status.Read e)
 
 pub returns-clause-quiet_sink : goal.returns-clause-quiet_sink
-returns-clause-quiet_sink g c = λ other. c.replay_lines.ensures.quiet_sink other ∙ c.in_ok-head-2.ensures.quiet (λ e. not_err _ status.Write e)
+returns-clause-quiet_sink g c = λ other. c.replay_lines-ended.ensures.quiet_sink other ∙ c.in_ok-head-2.ensures.quiet (λ e. not_err _ status.Write e)
 
 pub returns-clause-quiet_home : goal.returns-clause-quiet_home
 returns-clause-quiet_home g c = λ other.
-    ended_quiet (g.H.Home.seen c.open.new.home) (g.H.Home.seen c.replay_lines.new.home) c.replay_lines.result
-    c.replay_lines.ensures.ended other
+    ended_quiet (g.H.Home.seen c.open.new.home) (g.H.Home.seen c.replay_lines-ended.new.home) c.replay_lines-ended.result
+    c.replay_lines-ended.ensures.ended other
     ∙ c.in_ok-world.ensures.quiet (λ spot e. not_err _ (status.Device spot) e)
 
 pub returns-clause-clean : goal.returns-clause-clean
-returns-clause-clean g c = on_kept _ _ c.replay_lines.result (λ later s is. later s (c.in_ok-world.ensures.clean s is)) c.replay_lines.ensures.clean
+returns-clause-clean g c = on_kept _ _ c.replay_lines-ended.result (λ later s is. later s (c.in_ok-world.ensures.clean s is)) c.replay_lines-ended.ensures.clean

@@ -1,4 +1,3 @@
-use Rattle.std.proofs.Common.{arith}
 use Rattle.co_frame.proofs.Steps.{told_short, told_closed, told_broken, lent}
 use Rattle.co_frame.proofs.batches.Batches.next.Goals as goal
 use Rattle.co_frame.proofs.batches.Batches.next.Goals.{then-self-le1-via-then-self-le1, then-self-le1-via-else-self-le1+then-self}

@@ -1,4 +1,4 @@
-use Rattle.std.proofs.Common.{◌≡◌, ap, ◌∙◌}
+use Rattle.std.proofs.Common.{ap, ◌∙◌}
 use Rattle.co_serial.specs.Records.{with_change}
 use Rattle.co_serial.proofs.Layers.{laid_more}
 use Rattle.co_serial.proofs.record_map.RecordMap.lay.Goals as goal

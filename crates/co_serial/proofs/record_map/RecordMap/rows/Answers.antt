@@ -1,4 +1,4 @@
-use Rattle.std.proofs.Common.{◌≡◌, List, [], ◌++◌, map, ap, sym, ◌∙◌, subst, rules}
+use Rattle.std.proofs.Common.{◌≡◌, [], ◌++◌, map, ap, sym, ◌∙◌, subst, rules}
 use Rattle.co_base.specs.RowOrder.{IsInKeyOrder}
 use Rattle.co_serial.specs.Records.{row_of, all_rows}
 use Rattle.co_serial.proofs.RecordRows.{made_all, rows-in_order, all_rows-view}

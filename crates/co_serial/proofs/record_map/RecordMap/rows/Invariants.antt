@@ -1,5 +1,4 @@
-use Rattle.std.proofs.Common.{◌≡◌, ◌++◌, map, filter}
-use Rattle.co_base.specs.Span.{span_has}
+use Rattle.std.proofs.Common.{◌≡◌, ◌++◌, map}
 use Rattle.co_serial.specs.Records.{row_of}
 use Rattle.co_serial.proofs.record_map.RecordMap.rows.Given as goal
 

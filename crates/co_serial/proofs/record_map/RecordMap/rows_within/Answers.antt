@@ -1,4 +1,4 @@
-use Rattle.std.proofs.Common.{◌≡◌, List, [], ◌++◌, map, filter, ap, sym, ◌∙◌, subst, rules}
+use Rattle.std.proofs.Common.{◌≡◌, [], map, filter, ap, sym, ◌∙◌, subst, rules}
 use Rattle.co_base.specs.RowOrder.{IsInKeyOrder}
 use Rattle.co_base.specs.Span.{span_has}
 use Rattle.co_serial.specs.Records.{row_of, rows_within}

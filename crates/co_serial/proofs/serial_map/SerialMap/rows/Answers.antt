@@ -1,8 +1,7 @@
-use Rattle.std.proofs.Common.{◌≡◌, ap, sym, ◌∙◌, ◌<◌, ◌≤◌, length, arith, subst, IfOk, [], map}
-use Rattle.std.specs.FinMap.{get, get-empty, empty, entries}
-use Rattle.co_base.specs.Order.{key_cmp}
+use Rattle.std.proofs.Common.{◌≡◌, ap, sym, ◌∙◌, ◌<◌, ◌≤◌, length, arith, subst, IfOk}
+use Rattle.std.specs.FinMap.{empty}
 use Rattle.co_serial.proofs.Families.{family-get_or, family-past}
-use Rattle.co_serial.specs.Records.{all_rows, row_of, Records}
+use Rattle.co_serial.specs.Records.{all_rows, Records}
 use Rattle.co_serial.specs.Family.{family_of}
 use Rattle.co_serial.proofs.RecordRows.{all_rows-empty}
 use Rattle.co_serial.proofs.serial_map.SerialMap.rows.Goals as goal

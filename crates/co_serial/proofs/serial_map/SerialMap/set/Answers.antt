@@ -1,4 +1,4 @@
-use Rattle.std.proofs.Common.{◌≡◌, ap, sym, ◌∙◌}
+use Rattle.std.proofs.Common.{ap, sym, ◌∙◌}
 use Rattle.std.specs.FinMap.{insert}
 use Rattle.co_serial.specs.SerialRun.{with_at}
 use Rattle.co_serial.specs.Family.{family_of}

@@ -1,4 +1,4 @@
-use Rattle.std.proofs.Common.{IsErrOf, subst, refl}
+use Rattle.std.proofs.Common.{IsErrOf, subst}
 use Rattle.co_outside.specs.declared.home.HomeCall.TheVariants.{Enter}
 use Rattle.co_outside.specs.declared.home.HomeFault.TheVariants.{Failed}
 use Rattle.co_trial.proofs.Calming.{never, due_none, counted_none}

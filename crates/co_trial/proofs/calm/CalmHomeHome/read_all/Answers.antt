@@ -1,4 +1,4 @@
-use Rattle.std.proofs.Common.{Vec, Global, ℕ, IsErrOf, subst, refl}
+use Rattle.std.proofs.Common.{Vec, Global, ℕ, IsErrOf, subst}
 use Rattle.co_outside.specs.declared.home.HomeCall.TheVariants.{ReadAll}
 use Rattle.co_outside.specs.declared.home.HomeFault.TheVariants.{Failed}
 use Rattle.co_trial.proofs.Calming.{never, due_none, counted_none}

@@ -1,6 +1,6 @@
 use Rattle.co_schedule.proofs.EventLaws.{event_made}
 use Rattle.co_schedule.proofs.Views.{IsLent-view}
-use Rattle.co_schedule.proofs.reading.read_event_fields.Goals as goal
+use Rattle.co_schedule.proofs.events.read_event_fields.Goals as goal
 
 pub event-requires : goal.event-requires
 event-requires c = IsLent-view _ _ _ c.in-Ok.ensures.found.0
