@@ -1,9 +1,8 @@
 -- What stands at keys, a value or none: the images that lead back, and the slots of a store.
 use Rattle.std.specs.Prelude.{ℕ, List, [], ◌∷◌, if◌then◌else◌, Option, None, Some, is_some}
-use Rattle.std.specs.FinMap.{FinMap, empty, entries, get, insert, remove, contains_key}
+use Rattle.std.specs.FinMap.{FinMap, empty, get, insert, remove, contains_key}
 use Rattle.co_base.specs.Order.{key_cmp}
 use Rattle.co_base.specs.declared.row.Row.{Row}
-use Rattle.co_base.specs.declared.written.Written.{Written}
 use Rattle.co_store.specs.declared.slots.Slot.{Slot}
 
 abbrev pub Images : Type 0
@@ -50,17 +49,3 @@ with_image m key before = if contains_key m key then m else insert m key (slot_o
 abbrev pub slots_from : List Row → Images
 slots_from [] = empty
 slots_from (r ∷ rs) = insert (slots_from rs) r.key (slot_of (Some r.value))
-
--- images added to others
-abbrev pub joined_images : Images → List (List ℕ × Slot) → Images
-joined_images m [] = m
-joined_images m (e ∷ es) = joined_images (insert m e.0 (slot_of e.1.value)) es
-
-abbrev pub all_images : Images → List (ℕ × Images) → Images
-all_images m [] = m
-all_images m (e ∷ es) = all_images (joined_images m (entries e.1)) es
-
--- what stands at keys, as changes
-abbrev pub changes_of : List (List ℕ × Slot) → List Written
-changes_of [] = []
-changes_of (e ∷ es) = record { key = e.0; value = e.1.value } ∷ changes_of es

@@ -1,14 +1,13 @@
 -- A store as plain data: the records as they are, and for each unfinished transaction what the keys that it
 -- wrote held before its first write there (undo by before-images, Bernstein, Hadzilacos and Goodman 1987).
 use Rattle.std.specs.Prelude.{ℕ, ◌≡◌, ◌≢◌, false, List, [], ◌∷◌, Option, None, Some}
-use Rattle.std.specs.FinMap.{empty, entries, get, contains_key}
+use Rattle.std.specs.FinMap.{entries, get, contains_key}
 use Rattle.co_base.specs.declared.row.Row.{Row}
-use Rattle.co_base.specs.declared.written.Written.{Written}
 use Rattle.co_serial.specs.Records.{Records, with_change}
 use Rattle.co_state.specs.Effects.{records_from}
 use Rattle.co_state.specs.Table.{Table, no_entries, look, put, without}
 use Rattle.co_store.specs.declared.slots.Slot.{Slot}
-use Rattle.co_store.specs.Images.{Images, or_nothing, with_image, all_images, changes_of}
+use Rattle.co_store.specs.Images.{Images, or_nothing, with_image}
 
 pub record StoreState : Type 0 where
   pub now : Records
@@ -50,10 +49,6 @@ all_laid_back records (e ∷ es) = all_laid_back (laid_back records (entries e.1
 
 abbrev pub clean_records : StoreState → Records
 clean_records s = all_laid_back s.now (entries s.undos)
-
--- every image, as a change that leads back, in the order of the keys
-abbrev pub undo_changes : StoreState → List Written
-undo_changes s = changes_of (entries (all_images empty (entries s.undos)))
 
 -- the record of a slot, if it has a value
 abbrev pub noted : Records → List ℕ → Option (List ℕ) → Records
