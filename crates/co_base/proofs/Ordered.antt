@@ -1,5 +1,5 @@
 -- Lists in order, and keys that tie with themselves.
-use Rattle.std.proofs.Common.{◌≡◌, ℕ, List, [], ◌∷◌, false, ap}
+use Rattle.std.proofs.Common.{◌≡◌, ℕ, List, [], false, ap}
 use Rattle.std.specs.List.Sorted.{IsStrictlySortedBy}
 use Rattle.std.specs.declared.cmp.Ordering.{Ordering}
 use Rattle.std.specs.Ordering.{is_gt}
@@ -16,11 +16,6 @@ sorted_none c = tt
 -- no key is above itself
 pub not_above_itself : (key : List ℕ) → is_gt (key_cmp key key) ≡ false
 not_above_itself key = ap is_gt (tied_itself nat_list_cmp_total key)
-
--- one element is in order, behind none
-pub sorted_one : {K : Type 0} (c : K → K → Ordering) (k : K) → IsStrictlySortedBy c (k ∷ [])
-unfolding IsStrictlySortedBy
-sorted_one c k = (tt, tt)
 
 -- ranges are totally ordered
 pub span_total : IsTotalOrder span_cmp

@@ -50,9 +50,6 @@ tells_kept l mid new a t o client after k undecided c f m n =
     subst (λ b. Keeps new (told_to a t o (client_of a t) b)) (sym (ap {A = Client} (λ z. z.decided) (sym (known l a t k)) ∙ undecided))
     (changed l mid new a t after (record (client_of a t) { told = o ∷ (client_of a t).told }) k m n (f ∙ ap {A = Client} (λ z. record z { told = o ∷ z.told }) (c ∙ known l a t k)))
 
-pub decided_stays : (l : Ledger) (a : Account) (t : ℕ) (o : Answered) → Keeps l a → (client_in (look l.clients t)).decided ≡ true → Keeps l (told a t o)
-decided_stays l a t o k e = subst (λ b. Keeps l (told_to a t o (client_of a t) b)) (sym (ap {A = Client} (λ z. z.decided) (sym (known l a t k)) ∙ e)) k
-
 pub commits_kept : (l mid ran new : Ledger) (a : Account) (t : ℕ) (at : Node) (client after : Client) → Keeps l a → is_by (client_in (look l.clients t)).by at ≡ true →
     (client_in (look l.clients t)).decided ≡ false → client ≡ client_in (look l.clients t) → mid ≡ record l { clients = without l.clients t } →
     ((committed : List Committed) → IsJudged mid.differs mid.map committed → IsJudged ran.differs ran.map (record { txn = t; told = client.told } ∷ committed)) →

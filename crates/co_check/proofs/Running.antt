@@ -1,5 +1,5 @@
 -- The serial run of one transaction, one more operation at a time.
-use Rattle.std.proofs.Common.{◌≡◌, ◌≢◌, List, [], ◌∷◌, ◌++◌, refl, sym, ap, ◌∙◌, subst}
+use Rattle.std.proofs.Common.{◌≡◌, ◌≢◌, List, [], ◌∷◌, ◌++◌, refl, sym, ap, ◌∙◌}
 use Rattle.std.proofs.lemmas.List.{map-append}
 use Rattle.co_base.specs.declared.reply.Reply.{Reply}
 use Rattle.co_serial.specs.SerialRun.{AllRecords, after_site, after_whole, run_whole, reply_to}
@@ -71,7 +71,3 @@ stops all left whole told rest less o serial s e r n =
 append_none : {A : Type 0} (xs : List A) → xs ++ [] ≡ xs
 append_none [] = refl
 append_none (x ∷ xs) = ap (λ z. x ∷ z) (append_none xs)
-
-pub all_served : (all left : AllRecords) (whole told rest : List Answered) → IsSoFar all left whole told rest → rest ≡ [] → AreServed all left whole
-all_served all left whole told rest s e =
-    subst (λ z. AreServed all left z) (sym (append_none told) ∙ ap (λ z. told ++ z) (sym e) ∙ s.order) s.served

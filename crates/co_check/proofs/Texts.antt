@@ -1,24 +1,11 @@
 -- The text of the records of the serial run, as it grows.
-use Rattle.std.proofs.Common.{◌≡◌, ℕ, suc, ◌+◌, ◌<◌, List, [], ◌∷◌, ◌++◌, take, length, get_or, sym, ap, ◌∙◌, append_assoc}
-use Rattle.std.proofs.lemmas.List.{append-nil, map-append, take_more}
+use Rattle.std.proofs.Common.{◌≡◌, ℕ, suc, List, ◌++◌, sym, ap, ◌∙◌, append_assoc}
 use Rattle.std.proofs.lemmas.Grind.{flat_map-append}
-use Rattle.co_base.specs.declared.row.Row.{Row}
 use Rattle.co_durable.specs.Durable.{numbered_rows}
 use Rattle.co_durable.specs.Laying.{member_rows}
 use Rattle.co_durable.specs.Text.{record_line, records_text}
 use Rattle.co_serial.specs.Records.{all_rows}
 use Rattle.co_serial.specs.SerialRun.{AllRecords}
-
--- one line more
-pub row_more : (member : ℕ) (rows : List Row) (i : ℕ) (row : Row) (text : List ℕ) → i < length rows → row ≡ get_or rows i row
-    → (text ++ records_text (member_rows member (take i rows))) ++ record_line (record { member = member; row = row }) ≡ text ++ records_text (member_rows member (take (i + 1) rows))
-row_more member rows i row text h is =
-    append_assoc text (records_text (member_rows member (take i rows))) (record_line (record { member = member; row = row }))
-    ∙ ap (λ t. text ++ t)
-    (sym (ap (λ r. records_text (member_rows member r)) (take_more rows i row h ∙ ap (λ r. take i rows ++ r ∷ []) (sym is))
-    ∙ ap records_text (map-append _ (take i rows) (row ∷ []))
-    ∙ flat_map-append record_line (member_rows member (take i rows)) (member_rows member (row ∷ []))
-    ∙ ap (λ t. records_text (member_rows member (take i rows)) ++ t) (append-nil (record_line (record { member = member; row = row })))))
 
 -- the records of one member more
 pub member_more : (all : AllRecords) (member next left rest : ℕ) (text : List ℕ) → next ≡ suc member → left ≡ suc rest

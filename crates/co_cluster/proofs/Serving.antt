@@ -151,17 +151,6 @@ pub still_served : {A : Type 0} (out : Result A NodeFault) (owner : Node) (log a
 still_served (Ok d) owner log after home kept held = record { kept = record { held = held; within = kept.within }; clean = λ s was. was; quiet = refl }
 still_served (Err e) owner log after home kept held = tt
 
-pub same_served : {A : Type 0} (out : Result A NodeFault) (owner : Node) (log after : LogView) (home : HomeView) → IsKept home owner log → after ≡ log → OnOk out (IsServed owner after home home)
-same_served out owner log after home kept same = still_served out owner log after home kept (subst (λ (l : LogView). IsHeld home l) (sym same) kept.held)
-
-pub still_ended : {A : Type 0} (out : Result A NodeFault) (home : HomeView) → IfErr out (λ e. e ≡ Memory) → IfErr out (λ fault. HasFailedAs fault home home)
-still_ended (Ok d) home memory = tt
-still_ended (Err e) home memory = subst (λ (fault : NodeFault). HasFailedAs fault home home) (sym memory) refl
-
-pub done_ended : {A : Type 0} (out : Result A NodeFault) (old new : HomeView) → IsOk out → IfErr out (λ fault. HasFailedAs fault old new)
-done_ended (Ok d) old new done = tt
-done_ended (Err e) old new done = absurd cc
-
 pub others_still : (owner : Node) (home : HomeView) → OtherNodesStay owner home home
 others_still owner home = record { others = record { files = λ s a b. refl; reaches = λ s a b. refl }; directory = refl; count = omega arith }
 

@@ -4,10 +4,10 @@ use Rattle.std.proofs.Math.ListN.{set}
 use Rattle.std.proofs.lemmas.Bool.{cases_Bool}
 use Rattle.std.proofs.lemmas.Bool.Decides.{nat_tests}
 use Rattle.std.specs.Prelude.{Some, None, slice_get, max, nat_lt}
-use Rattle.co_base.specs.declared.leaves.Leaves.TheVariants.{Old, Filled}
+use Rattle.co_base.specs.declared.leaves.Leaves.TheVariants.{Filled}
 use Rattle.co_disk.specs.DiskModel.{DiskState, read_of, is_touched, touched_before, left_at, IsChosen, IsSound}
 use Rattle.co_disk.specs.declared.touched.Touched.{Touched}
-use Rattle.co_disk.specs.Kept.{Entry, entry_of, undone, taken_back, AreFit, IsFit}
+use Rattle.co_disk.specs.Kept.{Entry, entry_of, undone, AreFit, IsFit}
 use Rattle.co_disk.proofs.Gets.{get_past, get_take, get_within, length_take}
 use Rattle.co_disk.proofs.Images.{grown_is_covered, covered_is_read}
 
@@ -138,27 +138,12 @@ filled_all disk with old stable place used bytes front short sound long same_lon
         let from : place ≤ p = grind (arith, nat_tests) in
         kept from (cases_Bool (nat_lt p stable)) ∙ sym (left_stable from (cases_Bool (is_touched disk p)))
 
--- filling with nothing leaves the stable bytes
-pub fills_nothing : (disk : DiskState) (place : ℕ) → left_at disk (Filled []) place ≡ left_at disk Old place
-fills_nothing disk place = either (is_touched disk place) refl
-  where
-    either : (b : Bool) → is_touched disk place ≡ b → left_at disk (Filled []) place ≡ slice_get disk.stable place
-    either true is = rw is refl
-    either false is = rw is refl
-
 -- a write fits where the later ones are taken back
 pub fit_here : (bytes : List ℕ) (touched : List Touched) (n left : ℕ) (t : Touched) → AreFit bytes (map entry_of touched) → left ≡ suc n → n < length touched → t ≡ get_or touched n t → IsFit (undone bytes (map entry_of (drop left touched))) (entry_of t)
 fit_here bytes touched n left t fit is lt here =
     let split = drop-cons touched n t lt in
     let suffix : AreFit bytes (map entry_of (get_or touched n t ∷ drop (suc n) touched)) = subst (λ (ts : List Touched). AreFit bytes (map entry_of ts)) split (fit_suffix bytes touched n fit) in
     subst (λ k. IsFit (undone bytes (map entry_of (drop k touched))) (entry_of t)) (sym is) (subst (λ u. IsFit (undone bytes (map entry_of (drop (suc n) touched))) (entry_of u)) (sym here) suffix.0)
-
--- one write more is taken back
-pub undone_here : (bytes : List ℕ) (touched : List Touched) (n left : ℕ) (t : Touched) → left ≡ suc n → n < length touched → t ≡ get_or touched n t → undone bytes (map entry_of (drop n touched)) ≡ taken_back (undone bytes (map entry_of (drop left touched))) (entry_of t)
-undone_here bytes touched n left t is lt here =
-    ap (λ (ts : List Touched). undone bytes (map entry_of ts)) (drop-cons touched n t lt)
-    ∙ ap (λ u. taken_back (undone bytes (map entry_of (drop (suc n) touched))) (entry_of u)) (sym here)
-    ∙ ap (λ k. taken_back (undone bytes (map entry_of (drop k touched))) (entry_of t)) (sym is)
 
 -- the same, of the front of bytes that it is
 pub fit_front : (bytes whole : List ℕ) (e : Entry) (len : ℕ) → IsFit whole e → take len bytes ≡ whole → len ≤ length bytes → (e.at + length e.piece ≤ len) × (length e.before ≤ length e.piece) × (length e.before < length e.piece → e.at + length e.piece ≡ len)

@@ -123,9 +123,6 @@ read_more disk at piece = laid_more disk.stable disk.pending (record { at = at; 
 pub sound_more : (disk : DiskState) (at : ℕ) (piece : List ℕ) → IsSound disk → at ≤ length (read_of disk) → IsSound (after_write disk at piece)
 sound_more disk at piece sound le = within_more disk.stable disk.pending (record { at = at; piece = piece }) sound le
 
-none_is_not : (x : ℕ) → None ≡ Some x → ⊥
-none_is_not x e = cc
-
 -- every byte that a choice leaves stands within the read
 left_within : (disk : DiskState) (leaves : Leaves) (place : ℕ) → IsSound disk → length (read_of disk) ≤ place → left_at disk leaves place ≡ None
 left_within disk Old place sound past = get_past disk.stable place (omega (arith, grows disk.stable disk.pending sound))

@@ -47,11 +47,6 @@ module _ (disk : DiskState) (first : Option FirstByte) (touched : List Touched) 
   pub others_touch : (place : ℕ) → any_covers place (map write_of (map entry_of touched)) ≡ true → is_touched disk place ≡ true
   others_touch place some = ap (λ (ws : List Write). any_covers place ws) apart ∙ covered_right place (map write_of (entries first [])) (map write_of (map entry_of touched)) some
 
--- what begins or ends within so many places
-pub begin_first : (first : Option FirstByte) (touched : List Touched) (reach : ℕ) → BeginWithin reach (map write_of (entries first touched)) → IfSome first (λ f. f.at ≤ reach)
-begin_first None touched reach begins = tt
-begin_first (Some f) touched reach begins = begins.0
-
 begin_each : (touched : List Touched) (reach : ℕ) → BeginWithin reach (map write_of (map entry_of touched)) → All (λ t. t.at ≤ reach) touched
 begin_each [] reach begins k t lt = absurd (omega arith)
 begin_each (u ∷ touched) reach begins zero t lt = begins.0

@@ -141,10 +141,6 @@ first_is bytes at (x ∷ []) byte old lt one is was =
     entry_is bytes at (x ∷ []) (first_entry (record { at = at; byte = byte; before = old })) refl same (sym back)
 first_is bytes at (x ∷ y ∷ piece) byte old lt one is was = absurd (omega arith)
 
-pub no_items : {X : Type 0} (xs : List X) → length xs ≡ 0 → xs ≡ []
-no_items [] none = refl
-no_items (x ∷ xs) none = absurd (omega arith)
-
 -- one byte is noted where nothing is pending
 pub one_byte : (bytes : List ℕ) (first : Option FirstByte) (touched : List Touched) (at : ℕ) (piece : List ℕ) (old : ℕ) → is_some first ≡ false → length touched ≡ 0 → at < length bytes → length piece ≡ 1 → old ≡ get_or bytes at old → at + length piece ≤ most_log_bytes → IsKept bytes (entries first touched)
     → IsKept (set bytes at (get_or piece 0 0)) (entries (Some (record { at = at; byte = get_or piece 0 0; before = old })) touched) × (state_of (set bytes at (get_or piece 0 0)) (entries (Some (record { at = at; byte = get_or piece 0 0; before = old })) touched) ≡ after_write (state_of bytes (entries first touched)) at piece)

@@ -126,12 +126,3 @@ answered_by known b t op (Some u) reply r e k = absurd (let f : Answer r ≡ Blo
 pub known_answered : (known : Known) (b : EngineState) (t : ℕ) (op : Op) (r : Reply) → Answer r ≡ seen_of b t op → IsKnown known b
     → IsKnown (record known { active = put known.active t tt }) (after_operation b t op)
 known_answered known b t op r e k = answered_by known b t op (lock_blocker b t op) (operation_reply b t op) r e k
-
-blocked_by : (known : Known) (b : EngineState) (t : ℕ) (op : Op) (o : Option ℕ) (reply : Reply) (u : ℕ) → Blocked u ≡ seen_by o reply → IsKnown known b
-    → IsKnown known (if is_some o then b else with_operation b t op)
-blocked_by known b t op None reply u e k = absurd (let f : Blocked u ≡ Answer reply = e in cc)
-blocked_by known b t op (Some v) reply u e k = k
-
--- an operation that was blocked
-pub known_blocked : (known : Known) (b : EngineState) (t : ℕ) (op : Op) (u : ℕ) → Blocked u ≡ seen_of b t op → IsKnown known b → IsKnown known (after_operation b t op)
-known_blocked known b t op u e k = blocked_by known b t op (lock_blocker b t op) (operation_reply b t op) u e k

@@ -71,9 +71,6 @@ shown_alike nodes next g noted s votes same = record {
 abbrev pub new_node : Node
 new_node = record { voted = false; near = no_entries }
 
-pub shown_there : (nodes : Table Node) (g : PlainGraph) (t : ℕ) → is_some (look nodes t) ≡ true → AreShown nodes g → AreShown nodes (with_noted g t)
-shown_there nodes g t is s = subst (λ b. AreShown nodes (if b then g else record { noted = put g.noted t false; pairs = g.pairs })) (sym (held nodes g t s ∙ is)) s
-
 new_bond : (nodes : Table Node) (t x y : ℕ) (b : Bool) → look nodes t ≡ None → ties x t ≡ b → bond_in (cond b (Some new_node) (look nodes x)) y ≡ bond_at nodes x y
 new_bond nodes t x y true is e = ap or_none (get-empty nat_cmp y) ∙ sym (ap (λ o. bond_in o y) (ap (look nodes) (tied x t e) ∙ is) ∙ bond-none y)
 new_bond nodes t x y false is e = refl

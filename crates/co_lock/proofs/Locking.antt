@@ -35,10 +35,6 @@ pub neither_right : (a b : Bool) → (a || b) ≡ false → b ≡ false
 neither_right true b e = absurd (true≢false e)
 neither_right false b e = e
 
-pub if_same : {A : Type 0} (b : Bool) (x : A) → (if b then x else x) ≡ x
-if_same true x = refl
-if_same false x = refl
-
 -- ---- numbers
 pub same_as : (u t : ℕ) → same_number u t ≡ (u == t)
 same_as u t = both_ways (same_number u t) (u == t) (λ e. eq-eqb u t (one_number u t e)) (λ e. subst (λ j. same_number u j ≡ true) (eqb→eq u t (subst T (sym e) tt)) (number_itself u))

@@ -91,9 +91,6 @@ free_at (q ∷ ps) (suc i) p h k =
     rest true b e = e
     rest false b e = absurd (true≢false (sym e))
 
-abbrev pub sets_voted : List Prepared → ℕ → Option Vote
-sets_voted ps u = look (votes_of ps) u
-
 voted_if : (c b : Bool) (x y : Option Vote) → c ≡ b → cond c x y ≡ (if b then x else y)
 voted_if true b x y e = ap (λ d. if d then x else y) e
 voted_if false b x y e = ap (λ d. if d then x else y) e

@@ -37,13 +37,6 @@ height_down (suc n) a b k e =
     let f : one_block n a b ≡ true = subst (λ (m : ℕ). one_block m a b ≡ true) q e in
     ap (λ (m : ℕ). shared_height m a b) q ∙ sym (ap (λ (c : Bool). if c then shared_height n a b else suc n) f)
 
-pub height_stays : (n a b : ℕ) → one_block (n - 1) a b ≡ false → n ≡ shared_height n a b
-height_stays zero a b e = refl
-height_stays (suc n) a b e =
-    let q : suc n - 1 ≡ n = omega arith in
-    let f : one_block n a b ≡ false = subst (λ (m : ℕ). one_block m a b ≡ false) q e in
-    sym (ap (λ (c : Bool). if c then shared_height n a b else suc n) f)
-
 -- the block of the shared height has both bytes
 pub shared_block : (n a b : ℕ) → one_block n a b ≡ true → one_block (shared_height n a b) a b ≡ true
 shared_block zero a b e = e

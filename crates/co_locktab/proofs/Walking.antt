@@ -61,9 +61,6 @@ one_of (Some t) (Some v) u e = by (nat_le t v) refl
     by false f = inr (let m : min t v ≡ v = grind (arith, nat_tests) in ap Some (sym m) ∙ e)
 
 -- ---- what a list has
-t_true : (b : Bool) → T b → b ≡ true
-t_true true h = refl
-t_true false h = absurd h
 
 module _ {K : Type 0} {R : K → K → Ordering} (o : IsTotalOrder R) (same : IsAntisymmetric R) where
   pub first_or_later : (q p : K) (ps : List K) → list_any (eq_by_cmp R q) (p ∷ ps) ≡ true → (q ≡ p) ⊎ (list_any (eq_by_cmp R q) ps ≡ true)

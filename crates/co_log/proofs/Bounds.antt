@@ -1,13 +1,11 @@
 -- Files of a log are within the most bytes of a file.
-use Rattle.std.proofs.Common.{◌≡◌, ◌⊎◌, ℕ, ◌+◌, ◌<◌, ◌≤◌, List, [], ◌∷◌, length, ap, sym, ◌∙◌, arith, inl, inr}
-use Rattle.std.specs.Prelude.{Option, Some}
+use Rattle.std.proofs.Common.{◌≡◌, ℕ, List, length, ap, sym, ◌∙◌, arith}
+use Rattle.std.specs.Prelude.{Option}
 use Rattle.co_base.specs.Limits.{most_log_bytes}
 use Rattle.co_outside.specs.Home.{HomeView, File, Agrees, RestStays}
-use Rattle.co_disk.specs.DiskModel.{IsImage, read_of}
+use Rattle.co_disk.specs.DiskModel.{read_of}
 use Rattle.co_disk.specs.DiskView.{DiskView}
-use Rattle.co_disk.proofs.Gets.{length_overlaid}
 use Rattle.co_log.specs.Attaching.{IsWithin}
-use Rattle.co_log.specs.BatchWrite.{batch_pending, gate_pending}
 use Rattle.co_log.specs.LogView.{LogView, IsHeld, IsShort}
 use Rattle.co_log.specs.Others.{BothWithin}
 use Rattle.co_log.proofs.Spots.{spots_apart}
@@ -15,20 +13,6 @@ use Rattle.co_log.proofs.Spots.{spots_apart}
 -- a told file that is what a disk gives
 pub agreed_within : (home : HomeView) (disk : DiskView) → Agrees home disk.spot (read_of disk.state) → IsShort disk → IsWithin most_log_bytes (home.file disk.spot)
 agreed_within home disk agrees short = λ f told. omega (arith, short, ap (λ (b : List ℕ). length b) (agrees.told f told))
-
--- what a read gives while a log write is on its way
-pub pending_short : (stable batch : List ℕ) (gate : ℕ) → gate < length stable → gate + 1 + length batch ≤ most_log_bytes → length stable ≤ most_log_bytes → (length (read_of (batch_pending stable gate batch)) ≤ most_log_bytes) × (length (read_of (gate_pending stable gate batch)) ≤ most_log_bytes)
-pending_short stable batch gate within end short =
-    let first = length_overlaid stable (gate + 1) batch (omega (arith, within)) in
-    let second = length_overlaid (read_of (batch_pending stable gate batch)) gate (165 ∷ []) (omega (arith, first, within)) in
-    (omega (arith, first, end, short), omega (arith, first, second, within, end, short))
-
--- an image of a log write that met a fault
-pub image_within : (file : Option File) (stable batch : List ℕ) (gate : ℕ) → gate < length stable → gate + 1 + length batch ≤ most_log_bytes → length stable ≤ most_log_bytes
-    → ((f : File) → file ≡ Some f → IsImage (batch_pending stable gate batch) f.bytes ⊎ IsImage (gate_pending stable gate batch) f.bytes) → IsWithin most_log_bytes file
-image_within file stable batch gate within end short images = λ f told.
-    let both = pending_short stable batch gate within end short in
-    elim (images f told) [ inl early ↦ omega (arith, early.no_longer, both.0) | inr late ↦ omega (arith, late.no_longer, both.1) ]
 
 same_within : (file after : Option File) → after ≡ file → IsWithin most_log_bytes file → IsWithin most_log_bytes after
 same_within file after same within = λ f told. within f (sym same ∙ told)

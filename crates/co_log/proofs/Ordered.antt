@@ -1,14 +1,13 @@
 -- Logs whose files are in order stay so.
 use Rattle.std.proofs.Common.{◌≡◌, ◌⊎◌, ℕ, ◌+◌, ◌<◌, Bool, true, false, List, [], ◌∷◌, ◌++◌, refl, sym, ap, subst, ◌∙◌, arith, inl, inr}
-use Rattle.std.specs.Prelude.{◌==◌, Option, Some, None, Result, Ok, Err, length, map, if◌then◌else◌}
+use Rattle.std.specs.Prelude.{Option, Some, None, Result, Ok, Err, length, map, if◌then◌else◌}
 use Rattle.std.proofs.lemmas.List.{map-append}
 use Rattle.co_record.specs.Format.{IsVersion, newest}
 use Rattle.co_record.specs.Spelling.{spelling}
 use Rattle.co_base.specs.Nodes.{IsValidNode}
 use Rattle.co_base.specs.declared.mark.Mark.{Mark}
 use Rattle.co_base.specs.declared.node.Node.{Node}
-use Rattle.co_outside.specs.Home.{HomeView, File, Agrees}
-use Rattle.co_disk.specs.DiskModel.{read_of}
+use Rattle.co_outside.specs.Home.{HomeView, File}
 use Rattle.co_disk.specs.DiskView.{DiskView}
 use Rattle.co_record.specs.declared.record.Record.{Record}
 use Rattle.co_record.specs.declared.record.Record.TheVariants.{Header}
@@ -17,7 +16,7 @@ use Rattle.co_log.specs.declared.fault.LogFault.TheVariants.{Device, Stopped, Ba
 use Rattle.co_frame.specs.LogText.{IsLogText, gated}
 use Rattle.co_frame.specs.Gate.{begins_closed, closes_spare}
 use Rattle.co_log.specs.Attaching.{built, IsToldAs, IsOlder, IsAttached, IsCurrent}
-use Rattle.co_log.specs.Current.{BeginsWith, IsCurrentOf, IsOrdered, IsReady}
+use Rattle.co_log.specs.Current.{BeginsWith, IsCurrentOf, IsOrdered}
 use Rattle.co_log.specs.Forcing.{IsWritten, IsForced, IsDone, counts}
 use Rattle.co_log.specs.Fresh.{IsFresh, IsMade, header_alone}
 use Rattle.co_log.specs.LogFile.{next_items, placed_from, records_of, EndsIn}
@@ -25,7 +24,6 @@ use Rattle.co_log.specs.LogView.{LogView, IsLive, IsHeld, spot_of}
 use Rattle.co_log.specs.Spare.{IsClosed, IsClosing, IsFilled, IsUnfilled, IsFilledIf, IsFilling, filling, filled_items}
 use Rattle.co_log.proofs.Attached.{behind_front}
 use Rattle.co_log.proofs.Currents.{log_file, none_older, image_older, old_current, begins_next}
-use Rattle.co_log.proofs.Spots.{spots_moved}
 use Rattle.co_log.proofs.Unmade.{ends_at_once, read_stable}
 
 -- the same of a log with the same node and generation
@@ -167,14 +165,6 @@ filling_version log after more (Err (Full spot)) f done = absurd done
 filling_version log after more (Err (InUse spot)) f done = absurd done
 filling_version log after more (Err Memory) f done = absurd done
 
--- a log of the newest version is so after a filling
-pub newest_filled : (log after : LogView) (more : List Record) (result : Result Mark LogFault) → log.version ≡ newest → IsFilling log more after result → IsDone result → after.version ≡ newest
-newest_filled log after more result latest f done = filling_version log after more result f done ∙ either (counts result)
-  where
-    either : (b : Bool) → (if b then newest else log.version) ≡ newest
-    either true = refl
-    either false = latest
-
 -- the records alone, oldest first
 placed_records : (at : ℕ) (more : List Record) → map (λ p. p.1) (placed_from at more) ≡ more
 placed_records at [] = refl
@@ -230,33 +220,6 @@ IsFound log = (IsFresh log × IsValidNode log.node) ⊎ ((items : List (ℕ × R
 pub found : (node : Node) (file_a file_b : Option File) (log : LogView) → IsValidNode node → ((a : DiskView) × (b : DiskView) × IsToldAs (spot_of node 0) file_a a × IsToldAs (spot_of node 1) file_b b × IsAttached node a b log) → IsFound log
 found node file_a file_b log valid told = attached_ordered node told.0 told.1 log valid told.2.still told.3.still told.4
 
--- a log of which no file has a batch is fresh
-pub found_fresh : (log : LogView) → IsFound log → (log.gate == 0) ≡ true → IsFresh log × IsValidNode log.node
-found_fresh log is none = elim is [
-  | inl fresh ↦ fresh
-  | inr one ↦ absurd (let e : log.gate ≡ 0 = grind arith in omega (arith, one.1.live.made, e))
-]
-
--- and any other stands for records
-pub found_ordered : (log : LogView) → IsFound log → (log.gate == 0) ≡ false → (items : List (ℕ × Record)) × IsOrdered log items
-found_ordered log is some = elim is [
-  | inl fresh ↦ absurd (let e : (log.gate == 0) ≡ true = ap (λ (n : ℕ). n == 0) fresh.0.unmade in cc)
-  | inr one ↦ one
-]
-
-pub ready_made : (home : HomeView) (log after : LogView) → IsFresh log × IsValidNode log.node → IsMade log after → IsHeld home after → IsReady home after
-ready_made home log after fresh made held = record { held = held; latest = made.version; items = header_alone log.node; ordered = made_ordered log after fresh.0 fresh.1 made }
-
-pub ready_written : (home : HomeView) (log after : LogView) (items : List (ℕ × Record)) (more : List Record) (stable : Bool) → log.version ≡ newest → IsOrdered log items → IsWritten stable log items more after → IsHeld home after → IsReady home after
-ready_written home log after items more stable latest o w held = record { held = held; latest = w.version ∙ latest; items = next_items stable log.gate items more; ordered = written_ordered stable log after items more o w }
-
-pub ready_closed : (home : HomeView) (log after : LogView) (items : List (ℕ × Record)) (closed : Bool) → log.version ≡ newest → IsOrdered log items → IsClosed closed log after → IsHeld home after → IsReady home after
-ready_closed home log after items closed latest o is held = record { held = held; latest = is.version ∙ latest; items = items; ordered = closed_ordered closed log after items o is }
-
-pub ready_filled : (home : HomeView) (log after : LogView) (items : List (ℕ × Record)) (more : List Record) (stable : Bool) → log.version ≡ newest → IsOrdered log items → IsFilledIf stable log after more → IsHeld home after → IsReady home after
-ready_filled home log after items more true latest o is held = record { held = held; latest = is.version; items = placed_from 5 (filling log more); ordered = filled_ordered log after items more o is }
-ready_filled home log after items more false latest o is held = record { held = held; latest = is.version ∙ latest; items = items; ordered = unfilled_ordered log after items o is }
-
 -- a log that keeps its disks, its gate and its generation
 pub ordered_same : (log after : LogView) (items : List (ℕ × Record)) → after.node ≡ log.node → after.version ≡ log.version → after.current ≡ log.current → after.spare ≡ log.spare → after.gate ≡ log.gate → after.generation ≡ log.generation → IsOrdered log items → IsOrdered after items
 ordered_same log after items node version current spare gate generation o = record {
@@ -265,19 +228,6 @@ ordered_same log after items node version current spare gate generation o = reco
   header = moved log after items node generation o.header;
   still = subst (λ (d : DiskView). d.state.pending ≡ []) (sym spare) o.still;
   older = older_moved log after after.spare.state.stable node generation (subst (λ (d : DiskView). IsOlder log.node d.state.stable log.generation) (sym spare) o.older);
-}
-
-pub ready_kept : (old new : HomeView) (log after : LogView) → IsReady old log → after.node ≡ log.node → after.version ≡ log.version → after.current ≡ log.current → after.spare ≡ log.spare → after.gate ≡ log.gate → after.generation ≡ log.generation
-    → IsHeld new after → IsReady new after
-ready_kept old new log after r node version current spare gate generation held =
-    record { held = held; latest = version ∙ r.latest; items = r.items; ordered = ordered_same log after r.items node version current spare gate generation r.ordered }
-
--- and its home
-pub ready_same : (home : HomeView) (log after : LogView) → IsReady home log → after.node ≡ log.node → after.version ≡ log.version → after.current ≡ log.current → after.spare ≡ log.spare → after.gate ≡ log.gate → after.generation ≡ log.generation → IsReady home after
-ready_same home log after r node version current spare gate generation = ready_kept home home log after r node version current spare gate generation record {
-  spots = spots_moved log after node (ap (λ (d : DiskView). d.spot) current) (ap (λ (d : DiskView). d.spot) spare) r.held.spots;
-  current = subst (λ (d : DiskView). Agrees home d.spot (read_of d.state)) (sym current) r.held.current;
-  spare = subst (λ (d : DiskView). Agrees home d.spot (read_of d.state)) (sym spare) r.held.spare;
 }
 
 -- the told files of a log in order are current as it has them

@@ -10,7 +10,6 @@ use Rattle.co_outside.specs.Home.{HomeView, Agrees, RestStays}
 use Rattle.co_outside.specs.declared.spot.Spot.{Spot}
 use Rattle.co_disk.specs.DiskModel.{read_of}
 use Rattle.co_disk.specs.DiskView.{DiskView}
-use Rattle.co_log.specs.Attaching.{built, IsAttached}
 use Rattle.co_log.specs.LogView.{LogView, IsHeld, HasSpots, spot_of}
 use Rattle.co_log.specs.Others.{NodeStays, OtherFilesStay, OtherNodesStay}
 
@@ -40,41 +39,6 @@ spots_moved log after node current spare spots = elim spots [
   | inl own ↦ inl (current ∙ own.0 ∙ ap (λ (n : Node). spot_of n 0) (sym node), spare ∙ own.1 ∙ ap (λ (n : Node). spot_of n 1) (sym node))
   | inr own ↦ inr (current ∙ own.0 ∙ ap (λ (n : Node). spot_of n 1) (sym node), spare ∙ own.1 ∙ ap (λ (n : Node). spot_of n 0) (sym node))
 ]
-
--- and so has one whose files are exchanged
-pub spots_turned : (log after : LogView) → after.node ≡ log.node → after.current.spot ≡ log.spare.spot → after.spare.spot ≡ log.current.spot → HasSpots log → HasSpots after
-spots_turned log after node current spare spots = elim spots [
-  | inl own ↦ inr (current ∙ own.1 ∙ ap (λ (n : Node). spot_of n 1) (sym node), spare ∙ own.0 ∙ ap (λ (n : Node). spot_of n 0) (sym node))
-  | inr own ↦ inl (current ∙ own.1 ∙ ap (λ (n : Node). spot_of n 0) (sym node), spare ∙ own.0 ∙ ap (λ (n : Node). spot_of n 1) (sym node))
-]
-
-pub spots_attached : (node : Node) (a b : DiskView) (log : LogView) → a.spot ≡ spot_of node 0 → b.spot ≡ spot_of node 1 → IsAttached node a b log → HasSpots log
-spots_attached node a b log at_a at_b attached = elim attached [
-  | inl fresh ↦ subst HasSpots (sym fresh.0) (inl (at_a, at_b))
-  | inr live ↦ elim live [
-    | inl one ↦ subst HasSpots (sym one.is) (inl (at_a, at_b))
-    | inr other ↦ subst HasSpots (sym other.is) (inr (at_b, at_a))
-  ]
-]
-
-pub held_attached : (node : Node) (a b : DiskView) (log : LogView) (home : HomeView) → a.spot ≡ spot_of node 0 → b.spot ≡ spot_of node 1 → Agrees home a.spot (read_of a.state) → Agrees home b.spot (read_of b.state)
-    → IsAttached node a b log → IsHeld home log
-held_attached node a b log home at_a at_b agrees_a agrees_b attached =
-    let spots = spots_attached node a b log at_a at_b attached in
-    elim attached [
-      | inl fresh ↦ here log a b fresh.0 agrees_a agrees_b spots
-      | inr live ↦ elim live [
-        | inl one ↦ here log a b one.is agrees_a agrees_b spots
-        | inr other ↦ here log b a other.is agrees_b agrees_a spots
-      ]
-    ]
-  where
-    here : {version gate generation : ℕ} (l : LogView) (current spare : DiskView) → l ≡ built node version current spare gate generation → Agrees home current.spot (read_of current.state) → Agrees home spare.spot (read_of spare.state) → HasSpots l → IsHeld home l
-    here l current spare is this that own = record {
-      spots = own;
-      current = subst (λ (k : LogView). Agrees home k.current.spot (read_of k.current.state)) (sym is) this;
-      spare = subst (λ (k : LogView). Agrees home k.spare.spot (read_of k.spare.state)) (sym is) that;
-    }
 
 -- no other file is one of its two
 pub not_current : (log : LogView) (s : Spot) → HasSpots log → s ≢ spot_of log.node 0 → s ≢ spot_of log.node 1 → s ≢ log.current.spot
@@ -149,11 +113,3 @@ module _ (log : LogView) (spots : HasSpots log) where
     directory = rest.others.directory;
     count = rest.count;
   }
-
--- one call after another
-pub others_then : (node : Node) (old mid new : HomeView) → OtherNodesStay node old mid → OtherNodesStay node mid new → OtherNodesStay node old new
-others_then node old mid new first then = record {
-  others = record { files = λ s a b. then.others.files s a b ∙ first.others.files s a b; reaches = λ s a b. then.others.reaches s a b ∙ first.others.reaches s a b };
-  directory = then.directory ∙ first.directory;
-  count = omega (arith, first.count, then.count);
-}

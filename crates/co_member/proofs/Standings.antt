@@ -62,9 +62,6 @@ held_absent false true c e = absurd (let z : IsVoted ≡ IsAbsent = e in cc)
 held_absent false false true e = absurd (let z : IsInstalled ≡ IsAbsent = e in cc)
 held_absent false false false e = (refl, refl)
 
-pub is_absent : (o : Bool) → o ≡ true → o ≡ false → {A : Type 0} → A
-is_absent o p q = absurd (let z : true ≡ false = sym p ∙ q in cc)
-
 -- ---- who has not voted
 
 pub unvoted_active : (os : Option (List Operation)) (vote : Option Vote) → (is_some vote ≡ true → os ≡ None) → is_some os ≡ true → is_some vote ≡ false

@@ -14,13 +14,13 @@ use Rattle.co_base.specs.declared.mark.Mark.{Mark}
 use Rattle.co_log.specs.Forcing.{IsDone}
 use Rattle.co_log.specs.LogView.{LogView, HasSpots, spot_of}
 use Rattle.co_log.specs.NodeFiles.{Items, HasRecordsIn}
-use Rattle.co_log.specs.Others.{BothWithin, OtherNodesStay}
+use Rattle.co_log.specs.Others.{BothWithin}
 use Rattle.co_log.specs.declared.fault.LogFault.{LogFault}
 use Rattle.co_log.specs.declared.fault.LogFault.TheVariants.{Device, Stopped, Bad, Differs, Full, InUse, Memory}
 use Rattle.co_log.specs.declared.fault.NodeFault.{NodeFault}
 use Rattle.co_log.specs.declared.fault.NodeFault.TheVariants as node
 use Rattle.co_log.proofs.Answered.{HasWriteParts}
-use Rattle.co_log.proofs.Spots.{at_each, at_parts, spots_apart, current_only, spare_only}
+use Rattle.co_log.proofs.Spots.{at_each, at_parts, spots_apart}
 use Rattle.co_node.specs.Answers.{AreTold, AreWithin, LeftAs, IsServed, IsAnswered}
 use Rattle.co_node.specs.Ended.{IsPassedOn}
 use Rattle.co_node.specs.Sizes.{IsOverlong}
@@ -191,9 +191,3 @@ memory_answered owner at long this that log home (Err e) is left = subst (λ (f 
 pub not_failed : {T : Type 0} (at spot : Spot) (fault : LogFault) → IsErrOf {T = T} (Err fault) (Device spot) → (IsErrOf {T = T} (Err fault) (Full at)) ⊎ (IsErrOf {T = T} (Err fault) Memory) → ⊥
 not_failed at spot fault is (inl e) = absurd cc
 not_failed at spot fault is (inr e) = absurd cc
-
--- a call on one of its two files leaves all other nodes
-pub others_stay : (log : LogView) (at : Spot) (old new : HomeView) → HasSpots log → (at ≡ log.current.spot) ⊎ (at ≡ log.spare.spot)
-    → RestStays at old new → OtherNodesStay log.node old new
-others_stay log at old new spots (inl is) rest = current_only log spots old new (subst (λ (s : Spot). RestStays s old new) is rest)
-others_stay log at old new spots (inr is) rest = spare_only log spots old new (subst (λ (s : Spot). RestStays s old new) is rest)

@@ -18,7 +18,7 @@ use Rattle.co_state.specs.declared.engine_state.Vote.{Vote}
 use Rattle.co_state.specs.declared.pair.Pair.{Pair}
 use Rattle.co_state.specs.Changes.{sets_of, span_read}
 use Rattle.co_state.specs.Conflicts.{AreNewPairs}
-use Rattle.co_state.specs.Effects.{with_operation, after_operation, after_cast, after_install, after_drop, install_vote, restored, dumped_rows, dumped_undos}
+use Rattle.co_state.specs.Effects.{with_operation, after_operation, after_cast, after_install, after_drop, install_vote, restored, dumped_rows}
 use Rattle.co_state.specs.EngineState.{operations_in, operations_of, sets_in, sets_at, records_at}
 use Rattle.co_state.specs.Keys.{least_key}
 use Rattle.co_state.specs.LockRule.{lock_blocker, lock_holder, blocker_by}
@@ -284,9 +284,6 @@ validated o b t s =
 -- ---- dumps
 pub dump_alike : (o : OccEngine) (b : EngineState) → StandsFor o b → all_rows o.records ≡ dumped_rows b.kind b
 dump_alike o b s = ap all_rows s.keeps.records_are ∙ ap (λ kind. dumped_rows kind b) s.keeps.kind_is
-
-pub undos_alike : (o : OccEngine) (b : EngineState) → StandsFor o b → [] ≡ dumped_undos b.kind b
-undos_alike o b s = ap (λ kind. dumped_undos kind b) s.keeps.kind_is
 
 -- ---- the state after a call
 pub stands_after : (o next : OccEngine) (b : EngineState) (t : ℕ) (op done : Op) → StandsFor o b → done ≡ op → StandsFor next (with_operation b t done) → StandsFor next (after_operation b t op)

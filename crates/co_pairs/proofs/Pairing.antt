@@ -125,9 +125,6 @@ same_kind_itself Writes = refl
 same_pair_itself : (p : Pair) → same_pair p p ≡ true
 same_pair_itself p = λ i. (same_kind_itself p.by i && same_itself p.first i) && same_itself p.second i
 
-all_apart : (b c : Bool) → (b ≡ true → c ≡ false) → b ≡ true → c ≡ false
-all_apart b c h e = h e
-
 -- lists that share no pair
 pub distinct-append : (xs ys : List Pair) → AreDistinctPairs xs → AreDistinctPairs ys → ((p : Pair) → lists_pair xs p ≡ true → lists_pair ys p ≡ false) → AreDistinctPairs (xs ++ ys)
 distinct-append [] ys d e apart = e

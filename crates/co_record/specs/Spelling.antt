@@ -123,7 +123,3 @@ HasParts = HasPartsIn newest
 -- a record of the grammar of the newest version
 abbrev pub IsSpelled : Record → Type 0
 IsSpelled = IsSpelledIn newest
-
--- The record grammar: these bytes are the record in the version.
-abbrev pub IsSpellingOf : ℕ → Record → List ℕ → Type 0
-IsSpellingOf version item bytes = IsSpelledIn version item × (bytes ≡ spelling version item)

@@ -173,14 +173,6 @@ pub against : (voted : Table Vote) (t : ℕ) (sets : Sets) (u : ℕ)
     → is_against voted t sets u ≡ (not (u == t) && (reads_meet sets.reads (sets_at voted u).writes || meets (sets_at voted u) sets.writes))
 against voted t sets u = ap (λ b. not (u == t) && b) (three (reads_meet (sets_at voted u).reads sets.writes) (reads_meet sets.reads (sets_at voted u).writes) (writes_meet (sets_at voted u).writes sets.writes))
 
-pub read_against : (voted : Table Vote) (t : ℕ) (sets : Sets) (u : ℕ) → (not (u == t) && reads_meet sets.reads (sets_at voted u).writes) ≡ true → is_against voted t sets u ≡ true
-read_against voted t sets u e = against voted t sets u ∙ hit (not (u == t)) (reads_meet sets.reads (sets_at voted u).writes) (meets (sets_at voted u) sets.writes) e
-
-pub write_against : (voted : Table Vote) (t : ℕ) (sets : Sets) (o : Option ℕ) → ((u : ℕ) → (not (u == t) && reads_meet sets.reads (sets_at voted u).writes) ≡ false)
-    → IsFound (λ u. not (u == t) && meets (sets_at voted u) sets.writes) o → IsFound (is_against voted t sets) o
-write_against voted t sets o none = found_same (λ u. not (u == t) && meets (sets_at voted u) sets.writes) (is_against voted t sets) o
-    (λ u. sym (against voted t sets u ∙ missed (not (u == t)) (reads_meet sets.reads (sets_at voted u).writes) (meets (sets_at voted u) sets.writes) (none u)))
-
 no_writes_met : (vs : List Written) → writes_meet [] vs ≡ false
 no_writes_met [] = refl
 no_writes_met (v ∷ vs) = no_writes_met vs

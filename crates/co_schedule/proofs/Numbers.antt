@@ -48,9 +48,3 @@ test-outside low high n word e small outside =
     let it = is_number-true low high word t in
     let same : digits_value 10 word ≡ n = ap (digits_value 10) e ∙ value_of-decimal n (omega arith) in
     outside (omega (arith, it.0, same)) (omega (arith, it.1, same)))
-
-pub test-nowhere : (low high : ℕ) (word : Word) → ((n : ℕ) → n < 2 ^ 64 → word ≡ decimal n → ⊥) → high < 2 ^ 64 → false ≡ is_number low high word
-test-nowhere low high word none small =
-    never _ (λ (t : is_number low high word ≡ true).
-    let it = is_number-true low high word t in
-    none (digits_value 10 word) (omega (arith, it.1)) it.2)

@@ -23,7 +23,7 @@ use Rattle.co_cluster.specs.Left.{IsFullIn}
 use Rattle.co_world.specs.Standing.{AreServed, RepresentsWorld}
 use Rattle.co_cluster.specs.Served.{HasEndedAs}
 use Rattle.co_world.specs.declared.world.World.{World}
-use Rattle.co_settle.specs.Progress.{HasDone, IsCutIn, DoesAll, HasEnded, EndsAs, IsUntoldFor}
+use Rattle.co_settle.specs.Progress.{HasDone, IsCutIn, DoesAll, HasEnded, IsUntoldFor}
 use Rattle.co_settle.specs.declared.counting.Steps.{Steps}
 use Rattle.co_settle.specs.declared.telling.Told.{Told}
 
@@ -83,10 +83,6 @@ ended_later world.Memory old mid new same h = h ∙ same
 
 pub served_later : {E : Type 0} (w x : World E) (old mid new : HomeView) → AreServed w old mid → AreServed x mid new → AreServed x old new
 served_later w x old mid new a b = record { kept = b.kept; clean = λ s c. b.clean s (a.clean s c); quiet = b.quiet ∙ a.quiet }
-
-pub ends_later : {A E : Type 0} (w x : World E) (old mid new : HomeView) (result : Result A WorldFault) → AreServed w old mid → EndsAs x mid new result → EndsAs x old new result
-ends_later w x old mid new (Ok a) s h = served_later w x old mid new s h
-ends_later w x old mid new (Err fault) s h = ended_later fault old mid new s.quiet h
 
 -- the fault of an event ends settling
 pub ended_as : (fault : WorldFault) (old new : HomeView) → (fault ≡ world.Count → ⊥) → HasEndedAs fault old new → HasEnded fault old new

@@ -30,7 +30,7 @@ use Rattle.co_settle.specs.Turning.{TakesTurn}
 use Rattle.co_settle.specs.declared.counting.Steps.{Steps}
 use Rattle.co_settle.specs.declared.telling.Told.{Told}
 use Rattle.co_settle.proofs.Bounded.{few_settling}
-use Rattle.co_settle.proofs.Composing.{cut_later, done_none, done_more, run_on, ended_later}
+use Rattle.co_settle.proofs.Composing.{cut_later, done_none, done_more, run_on}
 use Rattle.co_settle.proofs.Reaching.{NamesNoNode, reached_next, reached_disarmed, own_logs}
 
 -- ---- the events of a turn name no node anew
@@ -175,7 +175,3 @@ module _ {E : Type 0} (takes : Kind → Type 0) (stands_for : E → EngineState 
 pub wants_memory : {A E : Type 0} (w x : World E) (old mid : HomeView) (result : Result A WorldFault) → IsErr result × IsErrAnd result (λ f. f ≡ world.Memory) → AreServed x old mid → EndsAs w old mid result
 wants_memory w x old mid (Ok a) h served = absurd (let z : false ≡ true = h.0 in cc)
 wants_memory w x old mid (Err fault) h served = subst (λ f. HasEnded f old mid) (sym h.1) served.quiet
-
-pub fails_on : {A E : Type 0} (w x : World E) (old mid new : HomeView) (fault : WorldFault) (result : Result A WorldFault) → IsErr result × IsErrAnd result (λ f. f ≡ fault) → AreServed x old mid → HasEnded fault mid new → EndsAs w old new result
-fails_on w x old mid new fault (Ok a) h served ended = absurd (let z : false ≡ true = h.0 in cc)
-fails_on w x old mid new fault (Err f) h served ended = subst (λ k. HasEnded k old new) (sym h.1) (ended_later fault old mid new served.quiet ended)

@@ -1,5 +1,5 @@
 -- The messages of an exchange: those that the code delivers are those of the turn, and they name nodes of the federation.
-use Rattle.std.proofs.Common.{◌≡◌, ◌≢◌, ◌⊎◌, inl, inr, ℕ, Bool, true, false, ◌==◌, ◌≤◌, if◌then◌else◌, List, [], ◌∷◌, ◌++◌, find, length, Option, None, Some, refl, sym, ap, ◌∙◌, subst, arith}
+use Rattle.std.proofs.Common.{◌≡◌, ◌≢◌, ℕ, Bool, true, false, ◌==◌, ◌≤◌, if◌then◌else◌, List, [], ◌∷◌, ◌++◌, find, length, Option, None, Some, refl, sym, ap, ◌∙◌, subst, arith}
 use Rattle.std.proofs.lemmas.Bool.{eqb-true}
 use Rattle.co_message.specs.declared.answer.Answer.{Answer}
 use Rattle.co_message.specs.declared.answer.Answer.TheVariants as answer
@@ -25,11 +25,8 @@ use Rattle.co_plain.specs.declared.member_state.MemberState.{MemberState}
 use Rattle.co_plain.specs.declared.member_step.MemberStep.{MemberStep}
 use Rattle.co_plain.specs.declared.standing.Standing.{Standing}
 use Rattle.co_plain.specs.declared.standing.Standing.TheVariants.{IsActive, IsVoted, IsInstalled, IsAbsent}
-use Rattle.co_schedule.specs.View.{IsEventFor, IsTxn}
 use Rattle.co_law_settle.proofs.Reaching.{note_of, found_sent}
 use Rattle.co_law_settle.specs.SettlingTurns.{note_in, delivers, deliveries, first_event, turn_events, Exchanges, prepares_member, votes_from, decides_for, asks_from, acks_from}
-use Rattle.co_session.specs.Clients.{Clients}
-use Rattle.co_world.specs.Counting.{MeetsLimit}
 use Rattle.co_cluster.specs.Readings.{exchange_of, exchange_as}
 use Rattle.co_cluster.specs.declared.exchanges.Exchange.{Exchange}
 use Rattle.co_cluster.specs.declared.exchanges.ExchangeKind.{ExchangeKind}
@@ -264,18 +261,6 @@ first_names kind.Vote t m c n j = tt
 first_names kind.Commit t m c n j = tt
 first_names kind.Ask t m c n j = tt
 
-pub first_limit : (k : ExchangeKind) (t m c : ℕ) (x : Clients) → MeetsLimit x (first_event (exchange_as k t m c)) → ⊥
-first_limit kind.Prepare t m c x h = h
-first_limit kind.Vote t m c x h = h
-first_limit kind.Commit t m c x h = h
-first_limit kind.Ask t m c x h = h
-
-pub first_for : (s : Federation) (k : ExchangeKind) (t m c : ℕ) → IsTxn t → IsEnabled s (exchange_as k t m c) → IsEventFor (length s.kinds) s.coordinators (first_event (exchange_as k t m c))
-first_for s kind.Prepare t m c few h = (few, h.1)
-first_for s kind.Vote t m c few h = (few, h.0)
-first_for s kind.Commit t m c few h = (few, h.1)
-first_for s kind.Ask t m c few h = (few, h.0)
-
 pub enabled_member : (s : Federation) (k : ExchangeKind) (t m c : ℕ) → IsEnabled s (exchange_as k t m c) → IsMember s m
 enabled_member s kind.Prepare t m c h = h.0
 enabled_member s kind.Vote t m c h = h.0
@@ -289,10 +274,6 @@ no_ack_first kind.Commit e = let z : want.Decide ≡ want.Ack = e in cc
 no_ack_first kind.Ask e = let z : want.Ask ≡ want.Ack = e in cc
 
 -- ---- its messages are for nodes of the federation
-
-note_is : (o : Option Message) → (o ≡ None) ⊎ ((note : Message) × (o ≡ Some note))
-note_is None = inl refl
-note_is (Some note) = inr (note, refl)
 
 may_pass : (n k : ℕ) (o : Option Message) → ((note : Message) → o ≡ Some note → IsForHead n k note) → MayPass n k o
 may_pass n k None h = tt

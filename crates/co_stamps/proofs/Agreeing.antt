@@ -41,16 +41,6 @@ bears-put m n tab k u = ap (λ o. holds (or_nobody o) u) (look-put m n tab k) �
 bears-with : (m : Bearers) (n t k u : ℕ) → bears (with_bearer m n t) k u ≡ cond (eq_by_cmp nat_cmp k n) (cond (eq_by_cmp nat_cmp u t) true (bears m n u)) (bears m k u)
 bears-with m n t k u = bears-put m n (put (or_nobody (look m n)) t tt) k u ∙ ap (λ b. cond (eq_by_cmp nat_cmp k n) b (bears m k u)) (held-put (or_nobody (look m n)) t u)
 
-both-false : (b c : Bool) → false ≡ cond b (cond c false false) false
-both-false true true = refl
-both-false true false = refl
-both-false false c = refl
-
-same-cond : (b c : Bool) (x y : Bool) → (b ≡ true → x ≡ y) → y ≡ cond b (cond c x x) y
-same-cond true true x y f = sym (f refl)
-same-cond true false x y f = sym (f refl)
-same-cond false c x y f = refl
-
 bears-without : (m : Bearers) (n t k u : ℕ) → bears (without_bearer m n t) k u ≡ cond (eq_by_cmp nat_cmp k n) (cond (eq_by_cmp nat_cmp u t) false (bears m n u)) (bears m k u)
 bears-without m n t k u = by (look m n) refl
   where

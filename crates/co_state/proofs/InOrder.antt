@@ -23,7 +23,6 @@ use Rattle.co_state.specs.declared.engine_state.Operation.{Operation}
 use Rattle.co_state.specs.Changes.{span_read, change_made, put_span, put_change, with_span, with_written, spans_of, changes_of}
 use Rattle.co_state.specs.Effects.{joined, active_changes, voted_changes, undecided_changes, undo_of, dumped_undos}
 use Rattle.co_state.specs.EngineState.{installed_records}
-use Rattle.co_state.specs.Joined.{joined_all}
 
 module _ {K : Type 0} (cmp : K → K → Ordering) (total : IsTotalOrder cmp) where
   -- what is below the first is below the others
@@ -116,10 +115,6 @@ ordered-changes_of (o ∷ os) = ordered-with_written (change_made o.op) (changes
 pub ordered-joined : (ws vs : List Written) → AreInKeyOrder vs → AreInKeyOrder (joined ws vs)
 ordered-joined [] vs a = a
 ordered-joined (w ∷ ws) vs a = ordered-put_change w (joined ws vs) (ordered-joined ws vs a)
-
-pub ordered-joined_all : (wss : List (List Written)) → AreInKeyOrder (joined_all wss)
-ordered-joined_all [] = sorted_none key_cmp
-ordered-joined_all (ws ∷ wss) = ordered-joined ws (joined_all wss) (ordered-joined_all wss)
 
 ordered-active : (es : List (ℕ × List Operation)) → AreInKeyOrder (active_changes es)
 ordered-active [] = sorted_none key_cmp

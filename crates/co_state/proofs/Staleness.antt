@@ -13,10 +13,6 @@ use Rattle.co_state.specs.Search.{least_with, range_has}
 use Rattle.co_state.specs.StaleRead.{keys_since, overwritten, stale_keys}
 use Rattle.co_state.proofs.Newest.{newest_more}
 
-both_same : {A : Type 0} (b : Bool) {x y p q : A} → x ≡ p → y ≡ q → (if b then x else y) ≡ (if b then p else q)
-both_same true e f = e
-both_same false e f = f
-
 least_from-append : (key : List ℕ) (xs ys : List (List ℕ)) → least_from key (xs ++ ys) ≡ least_from (least_from key xs) ys
 least_from-append key [] ys = refl
 least_from-append key (x ∷ xs) ys =

@@ -20,12 +20,12 @@ use Rattle.co_cluster.specs.Left.{AreLeftAs}
 use Rattle.co_world.proofs.Nodes.{held_left}
 use Rattle.co_world.specs.Standing.{RepresentsWorld, AreHeld}
 use Rattle.co_world.specs.declared.world.World.{World}
-use Rattle.co_top.specs.Front.{IsHeaded, StandsBehind, AtStart, IsHeadFault, IsStreamed}
+use Rattle.co_top.specs.Front.{IsHeaded, StandsBehind, AtStart, IsStreamed}
 use Rattle.co_top.specs.Played.{IsTold, IsToldInPart, StandsFor, IsStreamedBehind, IsLeftNear, HasFailed, HasStopped, IsOver}
 use Rattle.co_top.specs.Ran.{Ran, AreLeftBy, AreLeftByFault, HasRun, HasRunInPart, HasStoppedAt, IsRunEnd}
 use Rattle.co_outside.specs.Faults.{HasRisen}
 use Rattle.std.specs.Prelude.{OnOk, IfErr}
-use Rattle.co_top.specs.Heads.{IsReadStatus, IsEnding}
+use Rattle.co_top.specs.Heads.{IsEnding}
 use Rattle.co_top.specs.Replayed.{status_of, opening_text, IsUnopenedAs, IsOfFiles, IsOpeningTold}
 use Rattle.co_top.specs.Telling.{IsPutInPart, HasEnded}
 use Rattle.co_top.specs.declared.status.LimitKind.TheVariants as limit
@@ -181,26 +181,6 @@ unopened resume input now streamed held old new told head text headed same (stat
 unopened resume input now streamed held old new told head text headed same (status.NotSerial txn number) u rest = absurd u
 unopened resume input now streamed held old new told head text headed same (status.Transcript number) u rest = absurd u
 
--- the head was not read
-pub unheaded : (resume : Bool) (input : List ℕ) (now : Option (List ℕ)) → IsStreamed input now → (held : List ℕ) (old : Spot → Option File) (told : Option (List ℕ)) → told ≡ Some held → (why : Status) → IsHeadFault input why → IsRunEnd resume input now held old old told why
-unheaded resume input now streamed held old told same status.Done u = absurd u
-unheaded resume input now streamed held old told same status.Usage u = absurd u
-unheaded resume input now streamed held old told same (status.Schedule line what) u = inl (((same, streamed), λ s. refl), u)
-unheaded resume input now streamed held old told same status.Read u = inl ((same, streamed), λ s. refl)
-unheaded resume input now streamed held old told same status.Write u = absurd u
-unheaded resume input now streamed held old told same (status.Device spot) u = absurd u
-unheaded resume input now streamed held old told same (status.Differs spot place kept read) u = absurd u
-unheaded resume input now streamed held old told same (status.InUse spot) u = absurd u
-unheaded resume input now streamed held old told same (status.BadLog spot place) u = absurd u
-unheaded resume input now streamed held old told same (status.Limit (limit.Line line)) u = inl (((same, streamed), λ s. refl), u)
-unheaded resume input now streamed held old told same (status.Limit limit.Lines) u = absurd u
-unheaded resume input now streamed held old told same (status.Limit limit.Transactions) u = absurd u
-unheaded resume input now streamed held old told same (status.Limit (limit.Log spot)) u = absurd u
-unheaded resume input now streamed held old told same status.Memory u = inl (same, streamed)
-unheaded resume input now streamed held old told same (status.OldLog spot) u = absurd u
-unheaded resume input now streamed held old told same (status.NotSerial txn number) u = absurd u
-unheaded resume input now streamed held old told same (status.Transcript number) u = absurd u
-
 -- the text of the first line was not put whole
 module _ {E : Type 0} (takes : Kind → Type 0) (stands_for : E → EngineState → Type 0) (resume : Bool) (input : List ℕ) (now : Option (List ℕ)) (streamed : IsStreamed input now) (held : List ℕ) (old : Spot → Option File) (head : Head) (text : List ℕ) (headed : IsHeaded input head text)
     (w : World E) (items : List Item) (at : IsAttachedOver takes stands_for old head resume w items) (home : HomeView) (kept : AreHeld home w) (told : Option (List ℕ)) where
@@ -224,38 +204,6 @@ module _ {E : Type 0} (takes : Kind → Type 0) (stands_for : E → EngineState 
   opening_over (status.Transcript number) p = absurd p
 
 -- ---- what a status is not
-
-pub read_ends : (why : Status) → IsReadStatus why → IsEnding why
-read_ends status.Done own = absurd own
-read_ends status.Usage own = absurd own
-read_ends (status.Schedule line what) own = tt
-read_ends status.Read own = tt
-read_ends status.Write own = tt
-read_ends (status.Device spot) own = tt
-read_ends (status.Differs spot place kept read) own = tt
-read_ends (status.InUse spot) own = tt
-read_ends (status.BadLog spot place) own = tt
-read_ends (status.Limit what) own = tt
-read_ends status.Memory own = tt
-read_ends (status.OldLog spot) own = tt
-read_ends (status.NotSerial txn number) own = absurd own
-read_ends (status.Transcript number) own = absurd own
-
-pub unopened_ends : (file : Spot → Option File) (head : Head) (resume : Bool) (why : Status) → IsUnopenedAs file head resume why → IsEnding why
-unopened_ends file head resume status.Done u = absurd u
-unopened_ends file head resume status.Usage u = absurd u
-unopened_ends file head resume (status.Schedule line what) u = tt
-unopened_ends file head resume status.Read u = tt
-unopened_ends file head resume status.Write u = tt
-unopened_ends file head resume (status.Device spot) u = tt
-unopened_ends file head resume (status.Differs spot place kept read) u = tt
-unopened_ends file head resume (status.InUse spot) u = tt
-unopened_ends file head resume (status.BadLog spot place) u = tt
-unopened_ends file head resume (status.Limit what) u = tt
-unopened_ends file head resume status.Memory u = tt
-unopened_ends file head resume (status.OldLog spot) u = tt
-unopened_ends file head resume (status.NotSerial txn number) u = absurd u
-unopened_ends file head resume (status.Transcript number) u = absurd u
 
 pub opening_ends : (head : Head) (items : List Item) (held told : Option (List ℕ)) (why : Status) → IsOpeningTold head items held told (Err why) → IsEnding why
 opening_ends head items held told status.Done p = absurd p

@@ -1,11 +1,7 @@
 -- How an event ends is how a call over the directory ends, where it does not meet the limit and there is room for it.
-use Rattle.std.proofs.Common.{◌≡◌, ℕ, ◌<◌, Result, Ok, Err, IsErr, IsErrAnd, Bool, true, false, nat_lt, if◌then◌else◌, Option, None, Some, refl, subst, sym}
-use Rattle.std.proofs.lemmas.Bool.{lt-ltb}
+use Rattle.std.proofs.Common.{◌≡◌, ℕ, Result, Ok, Err, IsErr, IsErrAnd, Bool, true, false, Option, refl, subst, sym}
 use Rattle.co_base.specs.declared.head.Head.{Head}
 use Rattle.co_outside.specs.Home.{File, HomeView}
-use Rattle.co_outside.specs.HomeMemory.{memory_file}
-use Rattle.co_outside.specs.Stored.{bytes_at, clean_at}
-use Rattle.co_outside.specs.declared.home_memory.HomeMemory.{HomeMemory}
 use Rattle.co_outside.specs.declared.spot.Spot.{Spot}
 use Rattle.co_opening.specs.Opened.{IsUnopened}
 use Rattle.co_plain.specs.Federation.{Federation}
@@ -55,14 +51,3 @@ unopened_untold seen old head resume (world.Full spot) u = tt
 unopened_untold seen old head resume world.Count u = tt
 unopened_untold seen old head resume (world.Old spot) u = tt
 unopened_untold seen old head resume world.Memory u = tt
-
--- a directory in memory tells every file of a log
-pub told_in_memory : (home : HomeMemory) (spot : Spot) → spot.part < 2 → memory_file home spot ≡ None → ⊥
-told_in_memory home spot part none = by (nat_lt spot.part 2) (lt-ltb spot.part 2 part) none
-  where
-    told : Option File
-    told = Some (record { bytes = bytes_at home.files.items spot; clean = clean_at home.clean spot })
-
-    by : (b : Bool) → b ≡ true → (if b then told else None) ≡ None → ⊥
-    by true is e = let z : told ≡ None = e in cc
-    by false is e = absurd (let z : false ≡ true = is in cc)
