@@ -109,9 +109,15 @@ fn open<E: Engine + Drop, H: Home>(
     let head = trial_head(alloc)?;
     match World::<E>::attach(alloc, home, &head, false) {
         Ok((world, items)) => {
-            told.tell_head(head)?;
-            told.tell_all(items.as_slice())?;
-            Ok(world)
+            let put = told.tell_opening(head, items.as_slice());
+            drop(items);
+            match put {
+                Ok(()) => Ok(world),
+                Err(AllocError) => {
+                    drop(world);
+                    Err(WorldFault::Memory)
+                }
+            }
         }
         Err(fault) => Err(fault),
     }

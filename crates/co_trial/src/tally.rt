@@ -64,7 +64,7 @@ impl Told {
     }
 
     /// Tells the head.
-    pub(crate) fn tell_head(&mut self, head: Head) -> Result<(), AllocError>
+    fn tell_head(&mut self, head: Head) -> Result<(), AllocError>
         ensures { (text : List ℕ) → Holds256 self.old.hasher text → OnOk result (Holds256 self.new.hasher (text ++ items_text (numbered 1 (item.Head head ∷ [])))) }
     {
         let told = Item {
@@ -72,6 +72,14 @@ impl Told {
             what: ItemKind::Head(head),
         };
         self.tell(&told)
+    }
+
+    /// Tells the head, and what opening told behind it.
+    pub(crate) fn tell_opening(&mut self, head: Head, items: &[Item]) -> Result<(), AllocError>
+        ensures { (text : List ℕ) → Holds256 self.old.hasher text → OnOk result (Holds256 self.new.hasher ((text ++ items_text (numbered 1 (item.Head head ∷ []))) ++ items_text items.now)) }
+    {
+        self.tell_head(head)?;
+        self.tell_all(items)
     }
 
     /// The digest, in hexadecimal digits.

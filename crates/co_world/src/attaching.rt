@@ -1,5 +1,9 @@
 //! A federation is opened over a directory of logs.
-ghost use Rattle.std.specs.Prelude.{◌≡◌, length, IfOk, IfErr, IsErrOf};
+ghost use Rattle.std.specs.Prelude.{◌≡◌, [], length, IfOk, IfErr, IsErrOf};
+ghost use Rattle.co_message.specs.declared.answer.Answer.TheVariants as answer;
+ghost use Rattle.co_plain.specs.Federation.{items_of};
+ghost use Rattle.co_plain.specs.Runs.{numbered};
+ghost use Rattle.co_session.specs.Clients.{none_begun};
 ghost use Rattle.std.specs.List.{AllByRecursion};
 ghost use Rattle.co_outside.specs.declared.spot.Spot.{Spot};
 ghost use Rattle.co_outside.specs.Home.{HasFailed, IsClean};
@@ -18,7 +22,30 @@ use co_message::{Answer, Items, Wire};
 use co_opening::{Nodes, open_nodes};
 use co_outside::Home;
 use co_session::Sessions;
-use std::alloc::Global;
+use std::alloc::{AllocError, Global};
+
+/// The federation over opened nodes, and what its opening tells.
+fn over<E: Engine + Drop>(alloc: Global, nodes: Nodes<E>) -> Result<(World<E>, Items), AllocError>
+    ensures nodes { IfOk result (λ r. (r.0.cluster.members.items ≡ nodes.members.items) × (r.0.cluster.coords.items ≡ nodes.coords.items)) }
+    ensures clients { IfOk result (λ r. (r.0.sessions ≡ none_begun nodes.used) × (r.0.wire ≡ [])) }
+    ensures told { IfOk result (λ r. r.1 ≡ numbered 1 (items_of nodes.marks [] answer.Opened)) }
+{
+    let Nodes {
+        members,
+        coords,
+        used,
+        marks,
+    } = nodes;
+    let items = items_of(alloc, 1, marks.as_slice(), &[], Answer::Opened)?;
+    let sessions = Sessions::attach(alloc, used)?;
+    let world = World {
+        alloc,
+        cluster: Cluster::new(alloc, members, coords),
+        sessions,
+        wire: Wire::new(alloc),
+    };
+    Ok((world, items))
+}
 
 impl<E: Engine + Drop> World<E> {
     /// Opens the federation of a head over the logs in the directory that was entered: over fresh ones, or, where it is resumed, over those that a
@@ -46,20 +73,8 @@ impl<E: Engine + Drop> World<E> {
         ensures device { (spot : Spot) → IsErrOf result (WorldFault.Device spot) → HasFailed spot (H.seen home.old) (H.seen home.new) }
         ensures quiet { ((spot : Spot) → IsErrOf result (WorldFault.Device spot) → ⊥) → (H.seen home.new).faults ≡ (H.seen home.old).faults }
     {
-        let Nodes {
-            members,
-            coords,
-            used,
-            marks,
-        } = open_nodes(alloc, home, head, resume)?;
-        let items = items_of(alloc, 1, marks.as_slice(), &[], Answer::Opened)?;
-        let sessions = Sessions::attach(alloc, used)?;
-        let world = World {
-            alloc,
-            cluster: Cluster::new(alloc, members, coords),
-            sessions,
-            wire: Wire::new(alloc),
-        };
-        Ok((world, items))
+        let nodes = open_nodes(alloc, home, head, resume)?;
+        let opened = over(alloc, nodes)?;
+        Ok(opened)
     }
 }

@@ -10,8 +10,8 @@ use Rattle.co_trial.proofs.Ending.{unopened_untold}
 use Rattle.co_trial.proofs.Starting.{opening_fault}
 use Rattle.co_trial.proofs.running.open.Goals as goal
 
-pub returns-in_ok-tell_all-in-Ok-clause-opened : goal.returns-in_ok-tell_all-in-Ok-clause-opened
-returns-in_ok-tell_all-in-Ok-clause-opened g c =
+pub returns-in-Ok-put-clause-opened : goal.returns-in-Ok-put-clause-opened
+returns-in-Ok-put-clause-opened g c =
     let p = c.in-Ok.ensures.opened in
     let head = c.in_ok-head.head in (
       record {
@@ -27,10 +27,10 @@ returns-in_ok-tell_all-in-Ok-clause-opened g c =
         unused = p.unused refl;
       },
       p.stands,
-      subst (Holds256 c.tell_all.new.self.hasher)
+      subst (Holds256 c.tell_opening-put.new.self.hasher)
           (ap (λ (is : List Item). items_text (numbered 1 (item.Head head ∷ [])) ++ items_text is) (c.as_slice.ensures ∙ p.told)
           ∙ sym (items_text-append (numbered 1 (item.Head head ∷ [])) (numbered 1 (opening_items head.kinds head.coords p.found_member p.found_coord))))
-          (c.in_ok-tell_all-in-Ok.ensures (items_text (numbered 1 (item.Head head ∷ []))) (c.in_ok-tell_head-in-Ok.ensures [] c.requires.nothing)),
+          (c.in-Ok-put.ensures [] c.requires.nothing),
     )
 
 pub returns-in-Err-clause-ended : goal.returns-in-Err-clause-ended
