@@ -1,5 +1,5 @@
 //! A schedule is replayed over a directory of logs: its head is read, the federation is opened, and one line at a time is read, done and told.
-ghost use Rattle.std.specs.Prelude.{◌≡◌, ◌≤◌, ◌⊎◌, ◌++◌, ◌∷◌, [], ℕ, List, Some, IfOk, IfErr, IsErrOf, OnOk, OnErr};
+ghost use Rattle.std.specs.Prelude.{◌≡◌, ◌≤◌, ◌⊎◌, ◌++◌, ◌∷◌, [], ℕ, List, Some, Ok, IfOk, IfErr, IsErrOf, OnOk, OnErr};
 ghost use Rattle.co_base.specs.Lent.{Begins};
 ghost use Rattle.co_outside.specs.Faults.{HasRisen};
 ghost use Rattle.co_outside.specs.declared.spot.Spot.{Spot};
@@ -11,7 +11,9 @@ ghost use Rattle.co_plain.specs.Runs.{numbered};
 ghost use Rattle.co_replay.specs.Transcript.{items_text};
 ghost use Rattle.co_world.specs.Attached.{IsAttachedOver};
 ghost use Rattle.co_world.specs.Standing.{AreHeld};
-ghost use Rattle.co_top.specs.Heads.{IsEnding};
+ghost use Rattle.co_schedule.specs.Lines.{ahead};
+ghost use Rattle.co_top.specs.Front.{HasRead, IsHeadFault, IsStreamed};
+ghost use Rattle.co_top.specs.Heads.{IsEnding, IsHeadRead, IsReadStatus};
 ghost use Rattle.co_top.specs.Ran.{IsRunEnd};
 ghost use Rattle.co_top.specs.Replayed.{status_of, given_back, opening_text, IsUnopenedAs, IsOfFiles, IsOpeningTold};
 
@@ -144,6 +146,22 @@ fn tell_opening<K: Sink>(
     given_back(head, told)
 }
 
+/// Reads the first line of the source: a reader of the lines behind it, and the head.
+fn read_first<S: Source>(alloc: Global, source: &mut S) -> Result<(Lines, Head), Status>
+    ensures read { (text : List ℕ) → S.left source.old ≡ Some text → IfOk result (λ r. IsHeadRead text (ahead r.0 (S.left source.new)) (Ok r.1)) }
+    ensures fault { (text : List ℕ) → S.left source.old ≡ Some text → IfErr result (IsHeadFault text) }
+    ensures streamed { (text : List ℕ) → S.left source.old ≡ Some text → IsStreamed text (S.left source.new) }
+    ensures one { IfOk result (λ r. HasRead 1 r.0) }
+    ensures own { IfErr result IsReadStatus }
+    ensures counts { S.faults source.old ≤ S.faults source.new }
+    ensures failed { IsErrOf result Status.Read → HasRisen (S.faults source.old) (S.faults source.new) }
+    ensures quiet { (IsErrOf result Status.Read → ⊥) → S.faults source.new ≡ S.faults source.old }
+{
+    let mut lines = Lines::new(alloc, LONGEST_LINE as u32, LINES)?;
+    let head = head_of(alloc, &mut lines, source)?;
+    Ok((lines, head))
+}
+
 /// Replays the schedule of the source over the logs of a directory, up to its end or to what ends it before.
 fn replayed<E: Engine + Drop, S: Source, K: Sink, H: Home>(
     alloc: Global,
@@ -166,8 +184,7 @@ fn replayed<E: Engine + Drop, S: Source, K: Sink, H: Home>(
     ensures quiet_home { ((spot : Spot) → IsErrOf result (Status.Device spot) → ⊥) → (H.seen home.new).faults ≡ (H.seen home.old).faults }
     ensures clean { OnOk result ((s : Spot) → IsClean (H.seen home.old) s → IsClean (H.seen home.new) s) }
 {
-    let mut lines = Lines::new(alloc, LONGEST_LINE as u32, LINES)?;
-    let head = head_of(alloc, &mut lines, source)?;
+    let (mut lines, head) = read_first(alloc, source)?;
     let (mut world, items) = open::<E, H>(alloc, home, directory, &head, resume)?;
     let head = tell_opening(alloc, out, head, items.as_slice())?;
     let ended = replay_lines(alloc, &mut lines, source, &head, &mut world, home, out);

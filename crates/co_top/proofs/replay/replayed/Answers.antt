@@ -1,4 +1,4 @@
-use Rattle.std.proofs.Common.{◌≡◌, ◌∙◌, ◌++◌, List, ℕ, Option, Some, Err, Result, refl, sym, ap, subst, option_map}
+use Rattle.std.proofs.Common.{◌≡◌, ◌∙◌, ◌++◌, List, ℕ, Option, Some, Err, Result, refl, sym, ap, subst}
 use Rattle.std.specs.Prelude.{IfErr}
 use Rattle.co_message.specs.declared.item.Item.{Item}
 use Rattle.co_plain.specs.Opening.{opened}
@@ -14,70 +14,67 @@ use Rattle.co_top.proofs.Laws.{ready}
 use Rattle.co_top.proofs.Plays.{err_is, not_err}
 use Rattle.co_top.proofs.replay.replayed.Goals as goal
 
-pub returns-in_err-head-clause-write : goal.returns-in_err-head-clause-write
-returns-in_err-head-clause-write g c = λ h.
-    absurd (subst (λ (o : Result (Unit {0}) Status). IfErr o IsReadStatus) h (subst (λ (o : Result (Unit {0}) Status). IfErr o IsReadStatus) (sym (err_is c.from_residual-in_err-head.result c.in_err-head.field-0.0 c.from_residual-in_err-head.ensures)) c.in_err-head.ensures.own))
+pub returns-in_err-lines-clause-write : goal.returns-in_err-lines-clause-write
+returns-in_err-lines-clause-write g c = λ h.
+    absurd (subst (λ (o : Result (Unit {0}) Status). IfErr o IsReadStatus) h (subst (λ (o : Result (Unit {0}) Status). IfErr o IsReadStatus) (sym (err_is c.from_residual.result c.in_err-lines.field-0.0 c.from_residual.ensures)) c.in_err-lines.ensures.own))
 
-pub returns-in_err-head-clause-device : goal.returns-in_err-head-clause-device
-returns-in_err-head-clause-device g c = λ spot h.
-    absurd (subst (λ (o : Result (Unit {0}) Status). IfErr o IsReadStatus) h (subst (λ (o : Result (Unit {0}) Status). IfErr o IsReadStatus) (sym (err_is c.from_residual-in_err-head.result c.in_err-head.field-0.0 c.from_residual-in_err-head.ensures)) c.in_err-head.ensures.own))
+pub returns-in_err-lines-clause-device : goal.returns-in_err-lines-clause-device
+returns-in_err-lines-clause-device g c = λ spot h.
+    absurd (subst (λ (o : Result (Unit {0}) Status). IfErr o IsReadStatus) h (subst (λ (o : Result (Unit {0}) Status). IfErr o IsReadStatus) (sym (err_is c.from_residual.result c.in_err-lines.field-0.0 c.from_residual.ensures)) c.in_err-lines.ensures.own))
 
 pub returns-in_err-world-clause-end : goal.returns-in_err-world-clause-end
 returns-in_err-world-clause-end g c = λ input held l t.
-    let at_front : ahead c.in_ok-lines.lines (g.S.Source.left c.args.source.now) ≡ Some input = λ i. option_map (λ rest. c.in_ok-lines.ensures.nothing i ++ rest) (l i) in
-    let read = c.in_ok-head.ensures.read input at_front in
-    subst (λ o. IsRunEnd c.args.resume input (g.S.Source.left c.head_of.new.source) held (g.H.Home.seen c.args.home.now).file (g.H.Home.seen c.open.new.home).file (g.K.Sink.told c.args.out.now) (status_of o))
+    let read = c.in_ok-lines.ensures.read input l in
+    subst (λ o. IsRunEnd c.args.resume input (g.S.Source.left c.read_first.new.source) held (g.H.Home.seen c.args.home.now).file (g.H.Home.seen c.open.new.home).file (g.K.Sink.told c.args.out.now) (status_of o))
     (sym (err_is c.from_residual-in_err-world.result c.in_err-world.field-0.0 c.from_residual-in_err-world.ensures))
-    (unopened c.args.resume input (g.S.Source.left c.head_of.new.source) (c.in_ok-head.ensures.streamed input at_front) held (g.H.Home.seen c.args.home.now).file (g.H.Home.seen c.open.new.home).file (g.K.Sink.told c.args.out.now) c.in_ok-head.head read.0 read.1 t c.in_err-world.field-0.0 c.in_err-world.ensures.refused c.in_err-world.ensures.untouched)
+    (unopened c.args.resume input (g.S.Source.left c.read_first.new.source) (c.in_ok-lines.ensures.streamed input l) held (g.H.Home.seen c.args.home.now).file (g.H.Home.seen c.open.new.home).file (g.K.Sink.told c.args.out.now) c.in_ok-lines.head read.0 read.1 t c.in_err-world.field-0.0 c.in_err-world.ensures.refused c.in_err-world.ensures.untouched)
 
-pub returns-in_err-head-2-clause-end : goal.returns-in_err-head-2-clause-end
-returns-in_err-head-2-clause-end g c = λ input held l t.
-    let at_front : ahead c.in_ok-lines.lines (g.S.Source.left c.args.source.now) ≡ Some input = λ i. option_map (λ rest. c.in_ok-lines.ensures.nothing i ++ rest) (l i) in
-    let read = c.in_ok-head.ensures.read input at_front in
-    subst (λ o. IsRunEnd c.args.resume input (g.S.Source.left c.head_of.new.source) held (g.H.Home.seen c.args.home.now).file (g.H.Home.seen c.open.new.home).file (g.K.Sink.told c.tell_opening.new.out) (status_of o))
-    (sym (err_is c.from_residual-in_err-head-2.result c.in_err-head-2.field-0.0 c.from_residual-in_err-head-2.ensures))
-    (opening_over g.E.Engine.takes g.E.Engine.stands_for c.args.resume input (g.S.Source.left c.head_of.new.source) (c.in_ok-head.ensures.streamed input at_front) held (g.H.Home.seen c.args.home.now).file c.in_ok-head.head read.0 read.1 c.in_ok-world.world c.in_ok-world.items c.in_ok-world.ensures.opened
-    (g.H.Home.seen c.open.new.home) c.in_ok-world.ensures.held (g.K.Sink.told c.tell_opening.new.out) c.in_err-head-2.field-0.0
-    (subst (λ o. IsOpeningTold c.in_ok-head.head c.in_ok-world.items o (g.K.Sink.told c.tell_opening.new.out) (Err c.in_err-head-2.field-0.0)) t
-    (subst (λ (xs : List Item). IsOpeningTold c.in_ok-head.head xs (g.K.Sink.told c.args.out.now) (g.K.Sink.told c.tell_opening.new.out) (Err c.in_err-head-2.field-0.0)) c.as_slice.ensures c.in_err-head-2.ensures.told)))
+pub returns-in_err-head-clause-end : goal.returns-in_err-head-clause-end
+returns-in_err-head-clause-end g c = λ input held l t.
+    let read = c.in_ok-lines.ensures.read input l in
+    subst (λ o. IsRunEnd c.args.resume input (g.S.Source.left c.read_first.new.source) held (g.H.Home.seen c.args.home.now).file (g.H.Home.seen c.open.new.home).file (g.K.Sink.told c.tell_opening.new.out) (status_of o))
+    (sym (err_is c.from_residual-in_err-head.result c.in_err-head.field-0.0 c.from_residual-in_err-head.ensures))
+    (opening_over g.E.Engine.takes g.E.Engine.stands_for c.args.resume input (g.S.Source.left c.read_first.new.source) (c.in_ok-lines.ensures.streamed input l) held (g.H.Home.seen c.args.home.now).file c.in_ok-lines.head read.0 read.1 c.in_ok-world.world c.in_ok-world.items c.in_ok-world.ensures.opened
+    (g.H.Home.seen c.open.new.home) c.in_ok-world.ensures.held (g.K.Sink.told c.tell_opening.new.out) c.in_err-head.field-0.0
+    (subst (λ o. IsOpeningTold c.in_ok-lines.head c.in_ok-world.items o (g.K.Sink.told c.tell_opening.new.out) (Err c.in_err-head.field-0.0)) t
+    (subst (λ (xs : List Item). IsOpeningTold c.in_ok-lines.head xs (g.K.Sink.told c.args.out.now) (g.K.Sink.told c.tell_opening.new.out) (Err c.in_err-head.field-0.0)) c.as_slice.ensures c.in_err-head.ensures.told)))
 
 pub replay_lines-ended-requires-clause-stands : goal.replay_lines-ended-requires-clause-stands
 replay_lines-ended-requires-clause-stands g c =
     let at = c.in_ok-world.ensures.opened in (
-      opened c.in_ok-head.head.kinds c.in_ok-head.head.coords at.found_member at.found_coord,
+      opened c.in_ok-lines.head.kinds c.in_ok-lines.head.coords at.found_member at.found_coord,
       at.stands,
-      subst (λ h. StaysReady h (opened c.in_ok-head.head.kinds c.in_ok-head.head.coords at.found_member at.found_coord)) (sym c.in_ok-head-2.ensures.told.0) (ready c.in_ok-head.head at.found_member at.found_coord at.may),
+      subst (λ h. StaysReady h (opened c.in_ok-lines.head.kinds c.in_ok-lines.head.coords at.found_member at.found_coord)) (sym c.in_ok-head.ensures.told.0) (ready c.in_ok-lines.head at.found_member at.found_coord at.may),
     )
 
-pub returns-in_err-head-2-clause-own : goal.returns-in_err-head-2-clause-own
-returns-in_err-head-2-clause-own g c =
-    subst (λ (o : Result (Unit {0}) Status). IfErr o IsEnding) (sym (err_is c.from_residual-in_err-head-2.result c.in_err-head-2.field-0.0 c.from_residual-in_err-head-2.ensures))
-    (opening_ends c.in_ok-head.head c.as_slice.result.now (g.K.Sink.told c.args.out.now) (g.K.Sink.told c.tell_opening.new.out) c.in_err-head-2.field-0.0 c.in_err-head-2.ensures.told)
+pub returns-in_err-head-clause-own : goal.returns-in_err-head-clause-own
+returns-in_err-head-clause-own g c =
+    subst (λ (o : Result (Unit {0}) Status). IfErr o IsEnding) (sym (err_is c.from_residual-in_err-head.result c.in_err-head.field-0.0 c.from_residual-in_err-head.ensures))
+    (opening_ends c.in_ok-lines.head c.as_slice.result.now (g.K.Sink.told c.args.out.now) (g.K.Sink.told c.tell_opening.new.out) c.in_err-head.field-0.0 c.in_err-head.ensures.told)
 
 pub returns-clause-own : goal.returns-clause-own
 returns-clause-own g c =
     let at = c.in_ok-world.ensures.opened in
-    let s0 = opened c.in_ok-head.head.kinds c.in_ok-head.head.coords at.found_member at.found_coord in
-    let stays : StaysReady c.in_ok-head-2.head s0 = subst (λ h. StaysReady h s0) (sym c.in_ok-head-2.ensures.told.0) (ready c.in_ok-head.head at.found_member at.found_coord at.may) in
-    over_ends g.E.Engine.takes g.E.Engine.stands_for c.in_ok-head-2.head s0 _ _ _ _ _ c.replay_lines-ended.new.world c.replay_lines-ended.result (c.replay_lines-ended.ensures.over s0 at.stands stays)
+    let s0 = opened c.in_ok-lines.head.kinds c.in_ok-lines.head.coords at.found_member at.found_coord in
+    let stays : StaysReady c.in_ok-head.head s0 = subst (λ h. StaysReady h s0) (sym c.in_ok-head.ensures.told.0) (ready c.in_ok-lines.head at.found_member at.found_coord at.may) in
+    over_ends g.E.Engine.takes g.E.Engine.stands_for c.in_ok-head.head s0 _ _ _ _ _ c.replay_lines-ended.new.world c.replay_lines-ended.result (c.replay_lines-ended.ensures.over s0 at.stands stays)
 
 pub returns-clause-end : goal.returns-clause-end
 returns-clause-end g c = λ input held l t.
-    let at_front : ahead c.in_ok-lines.lines (g.S.Source.left c.args.source.now) ≡ Some input = λ i. option_map (λ rest. c.in_ok-lines.ensures.nothing i ++ rest) (l i) in
-    let read = c.in_ok-head.ensures.read input at_front in
-    let head = c.in_ok-head.head in
+    let read = c.in_ok-lines.ensures.read input l in
+    let head = c.in_ok-lines.head in
     let items : List Item = c.in_ok-world.items in
     let at = c.in_ok-world.ensures.opened in
     let s0 = opened head.kinds head.coords at.found_member at.found_coord in
     let home = g.H.Home.seen c.replay_lines-ended.new.home in
-    let stays : StaysReady c.in_ok-head-2.head s0 = subst (λ h. StaysReady h s0) (sym c.in_ok-head-2.ensures.told.0) (ready head at.found_member at.found_coord at.may) in
+    let stays : StaysReady c.in_ok-head.head s0 = subst (λ h. StaysReady h s0) (sym c.in_ok-head.ensures.told.0) (ready head at.found_member at.found_coord at.may) in
     let put : g.K.Sink.told c.tell_opening.new.out ≡ Some (held ++ opening_text head items) =
-    c.in_ok-head-2.ensures.told.1 held t ∙ ap (λ (xs : List Item). Some (held ++ opening_text head xs)) c.as_slice.ensures in
+    c.in_ok-head.ensures.told.1 held t ∙ ap (λ (xs : List Item). Some (held ++ opening_text head xs)) c.as_slice.ensures in
     over g.E.Engine.takes g.E.Engine.stands_for c.args.resume input held (g.H.Home.seen c.args.home.now).file head read.0 read.1 c.in_ok-world.world items at (g.S.Source.left c.replay_lines-ended.new.source) (g.K.Sink.told c.replay_lines-ended.new.out) home c.replay_lines-ended.new.world c.replay_lines-ended.result
     (subst (λ (m : Option (List ℕ)). IsOver g.E.Engine.takes g.E.Engine.stands_for head s0 (Some read.0) (g.S.Source.left c.replay_lines-ended.new.source) m (g.K.Sink.told c.replay_lines-ended.new.out) home c.replay_lines-ended.new.world c.replay_lines-ended.result) put
     (subst (λ (a : Option (List ℕ)). IsOver g.E.Engine.takes g.E.Engine.stands_for head s0 a (g.S.Source.left c.replay_lines-ended.new.source) (g.K.Sink.told c.tell_opening.new.out) (g.K.Sink.told c.replay_lines-ended.new.out) home c.replay_lines-ended.new.world c.replay_lines-ended.result) read.2
-    (subst (λ h. IsOver g.E.Engine.takes g.E.Engine.stands_for h s0 (ahead c.head_of.new.lines (g.S.Source.left c.head_of.new.source)) (g.S.Source.left c.replay_lines-ended.new.source) (g.K.Sink.told c.tell_opening.new.out) (g.K.Sink.told c.replay_lines-ended.new.out) home c.replay_lines-ended.new.world c.replay_lines-ended.result)
-    c.in_ok-head-2.ensures.told.0 (c.replay_lines-ended.ensures.over s0 at.stands stays))))
+    (subst (λ h. IsOver g.E.Engine.takes g.E.Engine.stands_for h s0 (ahead c.in_ok-lines.lines (g.S.Source.left c.read_first.new.source)) (g.S.Source.left c.replay_lines-ended.new.source) (g.K.Sink.told c.tell_opening.new.out) (g.K.Sink.told c.replay_lines-ended.new.out) home c.replay_lines-ended.new.world c.replay_lines-ended.result)
+    c.in_ok-head.ensures.told.0 (c.replay_lines-ended.ensures.over s0 at.stands stays))))
 
 pub returns-clause-entered : goal.returns-clause-entered
 returns-clause-entered g c = on_any _ c.replay_lines-ended.result (c.replay_lines-ended.ensures.entered ∙ c.in_ok-world.ensures.entered)
@@ -89,15 +86,15 @@ returns-clause-device g c = λ spot h.
     (c.in_ok-world.ensures.quiet (λ spot_of e. not_err _ (status.Device spot_of) e)) c.replay_lines-ended.ensures.ended h in
     record { count = f.0; named = f.1 }
 
-pub returns-in_err-head-2-clause-quiet_sink : goal.returns-in_err-head-2-clause-quiet_sink
-returns-in_err-head-2-clause-quiet_sink g c = λ other.
-    c.in_err-head-2.ensures.quiet (λ e. other (same_error c.in_err-head-2.field-0.0 status.Write _ c.from_residual-in_err-head-2.result e refl (err_is c.from_residual-in_err-head-2.result c.in_err-head-2.field-0.0 c.from_residual-in_err-head-2.ensures)))
+pub returns-in_err-head-clause-quiet_sink : goal.returns-in_err-head-clause-quiet_sink
+returns-in_err-head-clause-quiet_sink g c = λ other.
+    c.in_err-head.ensures.quiet (λ e. other (same_error c.in_err-head.field-0.0 status.Write _ c.from_residual-in_err-head.result e refl (err_is c.from_residual-in_err-head.result c.in_err-head.field-0.0 c.from_residual-in_err-head.ensures)))
 
 pub returns-clause-quiet_source : goal.returns-clause-quiet_source
-returns-clause-quiet_source g c = λ other. c.replay_lines-ended.ensures.quiet_source other ∙ c.in_ok-head.ensures.quiet (λ e. not_err _ status.Read e)
+returns-clause-quiet_source g c = λ other. c.replay_lines-ended.ensures.quiet_source other ∙ c.in_ok-lines.ensures.quiet (λ e. not_err _ status.Read e)
 
 pub returns-clause-quiet_sink : goal.returns-clause-quiet_sink
-returns-clause-quiet_sink g c = λ other. c.replay_lines-ended.ensures.quiet_sink other ∙ c.in_ok-head-2.ensures.quiet (λ e. not_err _ status.Write e)
+returns-clause-quiet_sink g c = λ other. c.replay_lines-ended.ensures.quiet_sink other ∙ c.in_ok-head.ensures.quiet (λ e. not_err _ status.Write e)
 
 pub returns-clause-quiet_home : goal.returns-clause-quiet_home
 returns-clause-quiet_home g c = λ other.
