@@ -1,3 +1,4 @@
 pub mod Ordered
 pub mod Parts
 pub mod Numbers
+pub mod Between

@@ -1,5 +1,5 @@
 -- The nodes of a federation and the bytes that stand for them in logs.
-use Rattle.std.specs.Prelude.{ℕ, ◌≤◌, ◌+◌}
+use Rattle.std.specs.Prelude.{ℕ, Bool, false, ◌≤◌, ◌+◌, ◌==◌}
 use Rattle.co_base.specs.declared.node.Node.{Node}
 use Rattle.co_base.specs.declared.node.Node.TheVariants.{Member, Coord}
 use Rattle.co_base.specs.Limits.{most_coordinators, most_members}
@@ -13,3 +13,10 @@ IsValidNode (Coord number) = (1 ≤ number) × (number ≤ most_coordinators)
 abbrev pub node_byte : Node → ℕ
 node_byte (Member number) = number
 node_byte (Coord number) = 128 + number
+
+-- whether two nodes are the same one
+abbrev pub same_node : Node → Node → Bool
+same_node (Member m) (Member n) = m == n
+same_node (Member m) (Coord n) = false
+same_node (Coord m) (Member n) = false
+same_node (Coord m) (Coord n) = m == n

@@ -1,9 +1,8 @@
 -- The text of the records of the serial run, as it grows.
 use Rattle.std.proofs.Common.{◌≡◌, ℕ, suc, List, ◌++◌, sym, ap, ◌∙◌, append_assoc}
 use Rattle.std.proofs.lemmas.Grind.{flat_map-append}
-use Rattle.co_durable.specs.Durable.{numbered_rows}
-use Rattle.co_durable.specs.Laying.{member_rows}
-use Rattle.co_durable.specs.Text.{record_line, records_text}
+use Rattle.co_serial.specs.MemberRows.{numbered_rows, member_rows}
+use Rattle.co_serial.specs.RecordText.{record_line, records_text}
 use Rattle.co_serial.specs.Records.{all_rows}
 use Rattle.co_serial.specs.SerialRun.{AllRecords}
 

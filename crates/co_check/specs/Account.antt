@@ -14,7 +14,7 @@ use Rattle.co_message.specs.declared.answer.Answer.TheVariants as answer
 use Rattle.co_message.specs.declared.event.Event.{Event}
 use Rattle.co_message.specs.declared.event.Event.TheVariants as event
 use Rattle.co_state.specs.Table.{Table, no_entries, look, put}
-use Rattle.co_plain.specs.Sessions.{same_node}
+use Rattle.co_base.specs.Nodes.{same_node}
 use Rattle.co_check.specs.declared.client.Answered.{Answered}
 use Rattle.co_check.specs.declared.client.Client.{Client}
 

@@ -16,7 +16,7 @@ use Rattle.co_message.specs.declared.item.ItemKind.{ItemKind}
 use Rattle.co_message.specs.declared.item.ItemKind.TheVariants as item
 use Rattle.co_message.specs.declared.message.Message.{Message}
 use Rattle.co_message.specs.declared.message.Message.TheVariants as message
-use Rattle.co_plain.specs.Sessions.{same_node}
+use Rattle.co_base.specs.Nodes.{same_node}
 use Rattle.co_check.specs.declared.place.Place.{Place}
 use Rattle.co_check.specs.declared.place.Place.TheVariants.{AtFront, InHead, InGroup, Behind}
 use Rattle.co_check.specs.Account.{Account, no_account, marked, replied}

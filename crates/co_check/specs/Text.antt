@@ -1,8 +1,8 @@
 -- The text of a verdict.
 use Rattle.std.specs.Prelude.{ℕ, List, [], ◌∷◌, ◌++◌, codes, decimal}
 use Rattle.co_base.specs.Limits.{most_members}
-use Rattle.co_durable.specs.Durable.{numbered_rows}
-use Rattle.co_durable.specs.Text.{records_text}
+use Rattle.co_serial.specs.MemberRows.{numbered_rows}
+use Rattle.co_serial.specs.RecordText.{records_text}
 use Rattle.co_schedule.specs.LineText.{newline}
 use Rattle.co_schedule.specs.Words.{space}
 use Rattle.co_serial.specs.Family.{family_of}

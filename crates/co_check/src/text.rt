@@ -2,33 +2,16 @@
 ghost use Rattle.std.specs.Prelude.{◌≡◌, ◌++◌, OnOk, OnErr};
 ghost use Rattle.co_base.specs.Lent.{Begins};
 ghost use Rattle.co_base.specs.Limits.{most_members};
-ghost use Rattle.co_durable.specs.Laying.{member_rows};
-ghost use Rattle.co_durable.specs.Text.{record_line, records_text};
-ghost use Rattle.co_durable.specs.Durable.{numbered_rows};
+ghost use Rattle.co_serial.specs.MemberRows.{member_rows, numbered_rows};
+ghost use Rattle.co_serial.specs.RecordText.{records_text};
 ghost use Rattle.co_serial.specs.Family.{family_of};
 ghost use Rattle.co_check.specs.Text.{serial_text, differs_text, verdict_text};
 
 use crate::verdict::Verdict;
 use co_base::{MOST_MEMBERS, Row};
 use co_schedule::append_number;
-use co_serial::SerialMap;
-use itoa::Buffer;
+use co_serial::{SerialMap, append_record};
 use std::alloc::AllocError;
-
-/// Appends the line of a record: the member, the key and the value.
-fn append_row(into: &mut Vec<u8>, member: u8, row: &Row) -> Result<(), AllocError>
-    ensures ok { OnOk result (into.new.items ≡ into.old.items ++ record_line (record { member = member; row = row.now })) }
-    ensures err { OnErr result (Begins into.old.items into.new.items) }
-{
-    into.push(b'm')?;
-    into.extend_from_slice(Buffer::new().format(member).as_bytes())?;
-    into.push(b' ')?;
-    into.extend_from_slice(row.key.text())?;
-    into.push(b' ')?;
-    into.extend_from_slice(row.value.text())?;
-    into.push(b'\n')?;
-    Ok(())
-}
 
 /// Appends the lines of the records of a member.
 fn append_rows(into: &mut Vec<u8>, member: u8, rows: &[Row]) -> Result<(), AllocError>
@@ -36,7 +19,7 @@ fn append_rows(into: &mut Vec<u8>, member: u8, rows: &[Row]) -> Result<(), Alloc
     ensures err { OnErr result (Begins into.old.items into.new.items) }
 {
     for row in rows {
-        append_row(into, member, row)?;
+        append_record(into, member, row)?;
     }
     Ok(())
 }

@@ -14,9 +14,9 @@ use Rattle.co_plain.specs.Invariants.{Stable}
 use Rattle.co_plain.specs.MemberView.{Numbers, recovered_view}
 use Rattle.co_recover.specs.declared.past.MemberPast.{MemberPast}
 use Rattle.co_recover.specs.Recovered.{past_of_member}
-use Rattle.co_durable.specs.declared.durable.DurableRow.{DurableRow}
-use Rattle.co_durable.specs.Durable.{numbered_rows}
-use Rattle.co_durable.specs.Laying.{durable_of_past, member_rows, rows_from, durable_of_pasts}
+use Rattle.co_serial.specs.declared.member_row.MemberRow.{MemberRow}
+use Rattle.co_serial.specs.MemberRows.{numbered_rows, member_rows}
+use Rattle.co_durable.specs.Laying.{durable_of_past, rows_from, durable_of_pasts}
 use Rattle.co_durable.specs.Nodes.{numbered}
 use Rattle.co_durable.proofs.Durables.{IsSeen, past_is_durable}
 use Rattle.co_durable.proofs.Numbered.{front, numbered_front, numbered_at}
@@ -29,7 +29,7 @@ module _ (seen : List Numbers) (all : AllRecords) (past : ℕ → MemberPast) wh
   rows_front p zero same = refl
   rows_front p (suc k) same =
       ap (λ rs. member_rows (suc p) (all_rows rs) ++ rows_from (suc (suc p)) (map (λ one. all_rows (durable_of_past seen one)) (front past (suc p) k))) (same (suc p) (omega arith) (omega arith))
-      ∙ ap (λ (rows : List DurableRow). member_rows (suc p) (all_rows (all (suc p))) ++ rows) (rows_front (suc p) k (λ m low high. same m (omega (arith, low)) (omega (arith, high))))
+      ∙ ap (λ (rows : List MemberRow). member_rows (suc p) (all_rows (all (suc p))) ++ rows) (rows_front (suc p) k (λ m low high. same m (omega (arith, low)) (omega (arith, high))))
 
 module _ (s : Federation) where
   -- what the log of a member tells, and the commits in that of a coordinator
@@ -61,7 +61,7 @@ module _ (s : Federation) (ready : IsReady s) where
       let own = (ready.whole.member m).voted Stable t vote (get-entries v.voted t ∙ is) in
       numbered_at (commits_at s) no_entries s.coordinators vote.coord own.0 own.1)))
 
-  pub rows_alone : (pasts : List MemberPast) (commits : List Numbers) (rows : List DurableRow) → rows ≡ durable_of_pasts commits pasts → pasts ≡ numbered (past_at s) (length s.kinds) → commits ≡ seen →
+  pub rows_alone : (pasts : List MemberPast) (commits : List Numbers) (rows : List MemberRow) → rows ≡ durable_of_pasts commits pasts → pasts ≡ numbered (past_at s) (length s.kinds) → commits ≡ seen →
       rows ≡ numbered_rows (durable_in s) 1 (length s.kinds)
   rows_alone pasts commits rows is pasts_are commits_are =
       is ∙ (λ i. durable_of_pasts (commits_are i) (pasts_are i))

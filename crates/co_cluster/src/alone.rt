@@ -1,6 +1,6 @@
 //! What the logs alone give.
 ghost use Rattle.std.specs.Prelude.{◌≡◌, ◌≤◌, length, IfOk};
-ghost use Rattle.co_durable.specs.Durable.{numbered_rows};
+ghost use Rattle.co_serial.specs.MemberRows.{numbered_rows};
 ghost use Rattle.co_durable.specs.Nodes.{numbered};
 ghost use Rattle.co_plain.specs.CoordView.{recovered_commits};
 ghost use Rattle.co_plain.specs.DurableRecords.{durable_in};
@@ -11,9 +11,10 @@ ghost use Rattle.co_cluster.specs.Conditions.{IsReady};
 ghost use Rattle.co_cluster.specs.Standing.{RepresentsCluster};
 
 use crate::cluster::Cluster;
-use co_durable::{Durable, Numbers, durable_rows, numbers_from};
+use co_durable::{Numbers, durable_rows, numbers_from};
 use co_engine::Engine;
 use co_recover::MemberPast;
+use co_serial::MemberRows;
 use std::alloc::AllocError;
 
 impl<E: Engine + Drop> Cluster<E> {
@@ -55,7 +56,7 @@ impl<E: Engine + Drop> Cluster<E> {
 
     /// The records that the logs alone give, also of nodes that are down: of each member the records that its log tells, with the writes of each
     /// voted transaction laid over whose coordinator's log has its commit. Members ascend, and so do the keys of each. The logs are gone through.
-    pub fn durable(&self) -> Result<Durable, AllocError>
+    pub fn durable(&self) -> Result<MemberRows, AllocError>
         requires stands { (s : Federation) × RepresentsCluster E.takes E.stands_for self.now s × IsReady s }
         ensures { (s : Federation) → RepresentsCluster E.takes E.stands_for self.now s → IsReady s →
             IfOk result (λ rows. rows ≡ numbered_rows (durable_in s) 1 (length s.kinds)) }

@@ -19,12 +19,13 @@ use Rattle.co_plain.specs.DurableRecords.{with_decided, durable_of, durable_reco
 use Rattle.co_plain.specs.declared.member_view.MemberView.{MemberView}
 use Rattle.co_recover.specs.declared.past.MemberPast.{MemberPast}
 use Rattle.co_recover.specs.Recovered.{prepared_of, past_of_member, IsMemberRecovery}
-use Rattle.co_durable.specs.declared.durable.DurableRow.{DurableRow}
+use Rattle.co_serial.specs.declared.member_row.MemberRow.{MemberRow}
 use Rattle.co_durable.specs.declared.fault.WorldFault.{WorldFault}
 use Rattle.co_durable.specs.declared.fault.WorldFault.TheVariants.{Device, Differs, InUse, Bad, Full, Count, Old, Memory}
-use Rattle.co_durable.specs.Durable.{IsLogIn, log_of, numbered_rows, IsAllowedBy, IsDurable, Stands, Falls, IsUndurable}
+use Rattle.co_durable.specs.Durable.{IsLogIn, log_of, IsAllowedBy, IsDurable, Stands, Falls, IsUndurable}
+use Rattle.co_serial.specs.MemberRows.{numbered_rows, member_rows}
 use Rattle.co_log.specs.NodeFiles.{HasRecordsIn}
-use Rattle.co_durable.specs.Laying.{seen_by, with_decided_votes, durable_of_past, member_rows, rows_from, durable_of_pasts}
+use Rattle.co_durable.specs.Laying.{seen_by, with_decided_votes, durable_of_past, rows_from, durable_of_pasts}
 use Rattle.co_durable.specs.Nodes.{member_nodes, coord_nodes}
 use Rattle.co_durable.specs.Pairs.{EachPair, FirstWhere}
 use Rattle.co_durable.specs.Reading.{IsLogOf, HasLog, IsUnread, IsFirstUnread}
@@ -172,10 +173,10 @@ module _ (seen : List Numbers) (logs : ℕ → List Record) (same : (c : ℕ) �
   rows_are coords all (items ∷ lists) (past ∷ pasts) member p h =
       let first : all member ≡ durable_of logs (recovered_view (newest_first items)) = ap all (let e : member ≡ member + 0 = omega arith in e) ∙ h 0 in
       ap (λ (rows : List Row). member_rows member rows ++ rows_from (suc member) (map (λ past. all_rows (durable_of_past seen past)) pasts)) (member_is_durable coords items past p.0 ∙ ap all_rows (sym first))
-      ∙ ap (λ (rows : List DurableRow). member_rows member (all_rows (all member)) ++ rows)
+      ∙ ap (λ (rows : List MemberRow). member_rows member (all_rows (all member)) ++ rows)
       (rows_are coords all lists pasts (suc member) p.1 (λ place. ap all (let e : suc member + place ≡ member + suc place = omega arith in e) ∙ h (suc place)))
 
-pub durable : (file : Spot → Option File) (members coords : ℕ) (member_logs coord_logs : List LogView) (pasts : List MemberPast) (seen : List Numbers) (rows : List DurableRow) → EachPair (IsLogOf file) (member_nodes members) member_logs
+pub durable : (file : Spot → Option File) (members coords : ℕ) (member_logs coord_logs : List LogView) (pasts : List MemberPast) (seen : List Numbers) (rows : List MemberRow) → EachPair (IsLogOf file) (member_nodes members) member_logs
     → EachPair (IsLogOf file) (coord_nodes coords) coord_logs → EachPair (IsPastOf coords) member_logs pasts → EachPair (IsSeenIn members) coord_logs seen → rows ≡ durable_of_pasts seen pasts → IsDurable file members coords rows
 durable file members coords member_logs coord_logs pasts seen rows m c p s is =
     let m_told = told file (λ items past. IsMemberRecovery coords items (Ok past)) (IsPastOf coords) (λ log items past has r. r items has) (member_nodes members) member_logs pasts m p in

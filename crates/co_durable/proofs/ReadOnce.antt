@@ -14,10 +14,11 @@ use Rattle.co_log.specs.declared.fault.LogFault.TheVariants as log
 use Rattle.co_log.proofs.Judged.{pair_once, attached_not_bad, current_file_in, current_once, one_current, none_current}
 use Rattle.co_recover.specs.Recovered.{IsRefusedAt}
 use Rattle.co_plain.specs.DurableRecords.{durable_records}
-use Rattle.co_durable.specs.declared.durable.DurableRow.{DurableRow}
+use Rattle.co_serial.specs.declared.member_row.MemberRow.{MemberRow}
 use Rattle.co_durable.specs.declared.fault.WorldFault.{WorldFault}
 use Rattle.co_durable.specs.declared.fault.WorldFault.TheVariants.{Device, Differs, InUse, Bad, Full, Count, Old, Memory}
-use Rattle.co_durable.specs.Durable.{IsLogIn, log_of, numbered_rows, IsAllowedBy, IsDurable, Stands, Falls, IsFirstFallen, IsUndurable}
+use Rattle.co_durable.specs.Durable.{IsLogIn, log_of, IsAllowedBy, IsDurable, Stands, Falls, IsFirstFallen, IsUndurable}
+use Rattle.co_serial.specs.MemberRows.{numbered_rows}
 use Rattle.co_log.specs.NodeFiles.{HasCurrent, IsCurrentIn, HasRecordsIn}
 use Rattle.co_durable.specs.Nodes.{member_nodes, coord_nodes, nodes_of}
 use Rattle.co_durable.specs.Pairs.{EachPair, FirstWhere}
@@ -288,12 +289,12 @@ module _ (file : Spot → Option File) (members coords : ℕ) (told : AreTold fi
   standing_or_not (Old spot) own u = own
   standing_or_not Memory own u = own
 
-pub durable_or_not : (file : Spot → Option File) (members coords : ℕ) (rows : List DurableRow) (fault : WorldFault) → AreTold file members coords → IsOfFiles fault → IsDurable file members coords rows → IsUndurable file members coords fault → ⊥
+pub durable_or_not : (file : Spot → Option File) (members coords : ℕ) (rows : List MemberRow) (fault : WorldFault) → AreTold file members coords → IsOfFiles fault → IsDurable file members coords rows → IsUndurable file members coords fault → ⊥
 durable_or_not file members coords rows fault told own d u =
     standing_or_not file members coords told (nodes_stand file (member_refuses coords) (member_nodes members) d.member_logs d.read_members d.allowed_members)
     (nodes_stand file (coord_refuses members) (coord_nodes coords) d.coord_logs d.read_coords d.allowed_coords) fault own u
 
-pub durable_once : (file : Spot → Option File) (members coords : ℕ) (these those : List DurableRow) → AreTold file members coords → IsDurable file members coords these → IsDurable file members coords those → these ≡ those
+pub durable_once : (file : Spot → Option File) (members coords : ℕ) (these those : List MemberRow) → AreTold file members coords → IsDurable file members coords these → IsDurable file members coords those → these ≡ those
 durable_once file members coords these those told d e =
     let members_are : d.member_logs ≡ e.member_logs =
     pairs_once (IsTold file) (HasRecordsIn file) (records_once file) (member_nodes members) d.member_logs e.member_logs (all_front (IsTold file) (member_nodes members) (coord_nodes coords) told) d.read_members e.read_members in

@@ -1,19 +1,17 @@
 -- The durable records of a directory of logs: what the bytes of its files say, and nothing else.
-use Rattle.std.specs.Prelude.{ℕ, zero, suc, ◌-◌, ◌≡◌, ◌⊎◌, List, [], ◌++◌, map, slice_index_or, Option, None}
+use Rattle.std.specs.Prelude.{ℕ, ◌-◌, ◌≡◌, ◌⊎◌, List, [], map, slice_index_or, Option, None}
 use Rattle.std.specs.List.{AllByRecursion}
 use Rattle.co_base.specs.declared.node.Node.{Node}
 use Rattle.co_outside.specs.declared.spot.Spot.{Spot}
 use Rattle.co_outside.specs.Home.{File}
 use Rattle.co_record.specs.declared.record.Record.{Record}
 use Rattle.co_log.specs.LogView.{spot_of}
-use Rattle.co_serial.specs.Records.{all_rows}
-use Rattle.co_serial.specs.SerialRun.{AllRecords}
 use Rattle.co_plain.specs.DurableRecords.{durable_records}
 use Rattle.co_recover.specs.Recovered.{IsRefusedAt}
-use Rattle.co_durable.specs.declared.durable.DurableRow.{DurableRow}
+use Rattle.co_serial.specs.declared.member_row.MemberRow.{MemberRow}
 use Rattle.co_durable.specs.declared.fault.WorldFault.{WorldFault}
 use Rattle.co_durable.specs.declared.fault.WorldFault.TheVariants.{Device, Differs, InUse, Bad, Full, Count, Old, Memory}
-use Rattle.co_durable.specs.Laying.{member_rows}
+use Rattle.co_serial.specs.MemberRows.{numbered_rows}
 use Rattle.co_durable.specs.Nodes.{member_nodes, coord_nodes, nodes_of}
 use Rattle.co_durable.specs.Pairs.{EachPair, FirstWhere}
 use Rattle.co_durable.specs.Reading.{IsUnread}
@@ -28,17 +26,12 @@ IsLogIn file node = (items : Items) × HasRecordsIn file node items
 abbrev pub log_of : List Items → ℕ → List Record
 log_of logs number = slice_index_or (map newest_first logs) (number - 1) []
 
--- the records of so many members, the first of which has this number: members ascending, and keys ascending
-abbrev pub numbered_rows : AllRecords → ℕ → ℕ → List DurableRow
-numbered_rows all member zero = []
-numbered_rows all member (suc count) = member_rows member (all_rows (all member)) ++ numbered_rows all (suc member) count
-
 abbrev pub IsAllowedBy : (Items → Option ℕ) → Items → Type 0
 IsAllowedBy refuses items = refuses items ≡ None
 
 -- The durable records of the federation whose logs these are: for each member the records that its log tells, with
 -- the writes of each voted transaction laid over whose coordinator's log has its commit.
-pub record IsDurable (file : Spot → Option File) (members coords : ℕ) (rows : List DurableRow) : Type 0 where
+pub record IsDurable (file : Spot → Option File) (members coords : ℕ) (rows : List MemberRow) : Type 0 where
   pub member_logs : List Items
   pub coord_logs : List Items
   pub read_members : EachPair (HasRecordsIn file) (member_nodes members) member_logs

@@ -7,7 +7,8 @@ use Rattle.co_state.specs.Effects.{records_from}
 use Rattle.co_state.specs.Table.{no_entries, holds}
 use Rattle.co_plain.specs.MemberView.{Numbers}
 use Rattle.co_recover.specs.declared.past.MemberPast.{MemberPast}
-use Rattle.co_durable.specs.declared.durable.DurableRow.{DurableRow}
+use Rattle.co_serial.specs.MemberRows.{member_rows}
+use Rattle.co_serial.specs.declared.member_row.MemberRow.{MemberRow}
 
 -- the commits in the log of a coordinator, by its number; one past the last has none
 abbrev pub seen_by : List Numbers → ℕ → Numbers
@@ -23,13 +24,10 @@ with_decided_votes seen records (vote ∷ votes) =
 abbrev pub durable_of_past : List Numbers → MemberPast → Records
 durable_of_past seen past = with_decided_votes seen (records_from past.rows) past.voted
 
-abbrev pub member_rows : ℕ → List Row → List DurableRow
-member_rows member rows = map (λ row. record { member = member; row = row }) rows
-
 -- the rows of members, the first of which has this number
-abbrev pub rows_from : ℕ → List (List Row) → List DurableRow
+abbrev pub rows_from : ℕ → List (List Row) → List MemberRow
 rows_from member [] = []
 rows_from member (rows ∷ more) = member_rows member rows ++ rows_from (suc member) more
 
-abbrev pub durable_of_pasts : List Numbers → List MemberPast → List DurableRow
+abbrev pub durable_of_pasts : List Numbers → List MemberPast → List MemberRow
 durable_of_pasts seen pasts = rows_from 1 (map (λ past. all_rows (durable_of_past seen past)) pasts)

@@ -5,5 +5,4 @@ pub mod Recovering
 pub mod Laying
 pub mod Durable
 pub mod Told
-pub mod Text
 pub mod Directory

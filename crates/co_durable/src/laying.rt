@@ -3,14 +3,14 @@ ghost use Rattle.std.specs.Prelude.{◌≡◌, ◌≤◌, ◌++◌, IfOk, OnOk, 
 ghost use Rattle.co_base.specs.Limits.{most_members};
 ghost use Rattle.co_serial.specs.Records.{all_rows};
 ghost use Rattle.co_state.specs.Table.{holds};
-ghost use Rattle.co_durable.specs.Laying.{seen_by, with_decided_votes, durable_of_past, member_rows, durable_of_pasts};
+ghost use Rattle.co_durable.specs.Laying.{seen_by, with_decided_votes, durable_of_past, durable_of_pasts};
+ghost use Rattle.co_serial.specs.MemberRows.{member_rows};
 
-use crate::durable::{Durable, DurableRow};
 use crate::recovering::Numbers;
 use co_base::{Row, Rows, Txn, copy_rows};
 use co_pairs::Prepared;
 use co_recover::MemberPast;
-use co_serial::RecordMap;
+use co_serial::{MemberRow, MemberRows, RecordMap};
 use co_state::records_from;
 use std::alloc::{AllocError, Global};
 
@@ -50,11 +50,11 @@ fn durable_of(alloc: Global, past: &MemberPast, seen: &[Numbers]) -> Result<Rows
 }
 
 /// Adds the records of a member.
-fn push_rows(durable: &mut Durable, member: u8, rows: Vec<Row>) -> Result<(), AllocError>
+fn push_rows(durable: &mut MemberRows, member: u8, rows: Vec<Row>) -> Result<(), AllocError>
     ensures { OnOk result (durable.new ≡ durable.old ++ member_rows member rows.items) }
 {
     for row in rows {
-        durable.push(DurableRow { member, row })?;
+        durable.push(MemberRow { member, row })?;
     }
     Ok(())
 }
@@ -65,11 +65,11 @@ pub fn durable_rows(
     alloc: Global,
     pasts: &[MemberPast],
     seen: &[Numbers],
-) -> Result<Durable, AllocError>
+) -> Result<MemberRows, AllocError>
     requires { length pasts.now ≤ most_members }
     ensures { IfOk result (λ durable. durable ≡ durable_of_pasts seen.now pasts.now) }
 {
-    let mut durable = Durable::new(alloc);
+    let mut durable = MemberRows::new(alloc);
     for (place, past) in pasts.iter().enumerate() {
         let rows = durable_of(alloc, past, seen)?;
         push_rows(&mut durable, place as u8 + 1, rows.into_vec())?;

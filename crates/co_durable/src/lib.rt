@@ -1,7 +1,6 @@
 //! What the logs of a whole federation tell: its durable records, read and written as text.
 #![tactic(auto)]
 
-mod durable;
 mod fault;
 mod laws;
 mod laying;
@@ -11,7 +10,6 @@ mod records;
 mod recovering;
 mod text;
 
-pub use durable::{Durable, DurableRow};
 pub use fault::WorldFault;
 pub use laws::directories_are_read_once;
 pub use laying::durable_rows;

@@ -7,13 +7,13 @@ ghost use Rattle.co_durable.specs.Directory.{IsUnreadable};
 ghost use Rattle.co_durable.specs.Durable.{IsDurable, IsUndurable};
 ghost use Rattle.co_durable.specs.Reading.{OnlyReads};
 
-use crate::durable::Durable;
 use crate::fault::WorldFault;
 use crate::laying::durable_rows;
 use crate::reading::{read_coords, read_members};
 use crate::recovering::{recover_coords, recover_members};
 use co_base::{Head, MOST_COORDINATORS, MOST_MEMBERS};
 use co_outside::{Home, HomeFault, Spot};
+use co_serial::MemberRows;
 use std::alloc::Global;
 
 /// The durable records of so many members and coordinators, by their logs.
@@ -22,7 +22,7 @@ fn read_rows<H: Home>(
     home: &mut H,
     members: u8,
     coords: u8,
-) -> Result<Durable, WorldFault>
+) -> Result<MemberRows, WorldFault>
     requires members { members ≤ most_members }
     requires coords { coords ≤ most_coordinators }
     ensures durable { IfOk result (IsDurable (H.seen home.old).file members coords) }
@@ -50,7 +50,7 @@ pub fn read_durable<H: Home>(
     alloc: Global,
     home: &mut H,
     head: &Head,
-) -> Result<Durable, WorldFault>
+) -> Result<MemberRows, WorldFault>
     ensures durable { IfOk result (IsDurable (H.seen home.old).file (length head.now.kinds) head.now.coords) }
     ensures undurable { IfErr result (IsUndurable (H.seen home.old).file (length head.now.kinds) head.now.coords) }
     ensures reads { OnlyReads (H.seen home.old) (H.seen home.new) }
@@ -70,7 +70,7 @@ pub fn read_directory<H: Home>(
     alloc: Global,
     home: &mut H,
     dir: &str,
-) -> Result<Durable, WorldFault>
+) -> Result<MemberRows, WorldFault>
     ensures durable { IfOk result (IsDurable (H.seen home.old).file most_members most_coordinators) }
     ensures refused { IfErr result (IsUnreadable (H.seen home.old).file) }
     ensures files { (s : Spot) → (H.seen home.new).file s ≡ (H.seen home.old).file s }

@@ -1,31 +1,14 @@
 //! The text of durable records.
 ghost use Rattle.std.specs.Prelude.{◌≡◌, ◌++◌, ◌≤◌, ℕ, List, Some, take, OnOk, OnErr, IsErrOf};
-ghost use Rattle.co_base.specs.Lent.{Begins};
 ghost use Rattle.co_outside.specs.Faults.{HasRisen};
-ghost use Rattle.co_durable.specs.Text.{record_line, records_text};
+ghost use Rattle.co_serial.specs.RecordText.{records_text};
 
-use crate::durable::DurableRow;
 use co_outside::{Sink, SinkFault, put_all};
-use itoa::Buffer;
+use co_serial::{MemberRow, append_record};
 use std::alloc::{AllocError, Global};
 
 /// How many bytes of text are put at once, but for the last line of them.
 const PIECE: usize = 65_536;
-
-/// Appends the line of a record: the member, the key and the value. After want of memory the list begins with what it held.
-fn append_line(into: &mut Vec<u8>, row: &DurableRow) -> Result<(), AllocError>
-    ensures ok { OnOk result (into.new.items ≡ into.old.items ++ record_line row.now) }
-    ensures err { OnErr result (Begins into.old.items into.new.items) }
-{
-    into.push(b'm')?;
-    into.extend_from_slice(Buffer::new().format(row.member).as_bytes())?;
-    into.push(b' ')?;
-    into.extend_from_slice(row.row.key.text())?;
-    into.push(b' ')?;
-    into.extend_from_slice(row.row.value.text())?;
-    into.push(b'\n')?;
-    Ok(())
-}
 
 /// Puts the text where a whole piece has come together, and leaves nothing of it then.
 ///
@@ -50,11 +33,7 @@ fn put_piece<K: Sink>(alloc: Global, out: &mut K, text: &mut Vec<u8>) -> Result<
 ///
 /// `Failed` comes where the sink failed and its count of faults rose, and only there; `Memory` where there was
 /// none. With either fault the sink took a front of the text.
-pub fn put_records<K: Sink>(
-    alloc: Global,
-    out: &mut K,
-    rows: &[DurableRow],
-) -> Result<(), SinkFault>
+pub fn put_records<K: Sink>(alloc: Global, out: &mut K, rows: &[MemberRow]) -> Result<(), SinkFault>
     ensures put { (held : List ℕ) → K.told out.old ≡ Some held → OnOk result (K.told out.new ≡ Some (held ++ records_text rows.now)) }
     ensures front { (held : List ℕ) → K.told out.old ≡ Some held → OnErr result ((count : ℕ) × (K.told out.new ≡ Some (held ++ take count (records_text rows.now)))) }
     ensures counts { K.faults out.old ≤ K.faults out.new }
@@ -63,7 +42,7 @@ pub fn put_records<K: Sink>(
 {
     let mut text = Vec::new(alloc);
     for row in rows {
-        append_line(&mut text, row)?;
+        append_record(&mut text, row.member, &row.row)?;
         put_piece(alloc, out, &mut text)?;
     }
     put_all(alloc, out, text.as_slice())

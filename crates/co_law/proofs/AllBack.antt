@@ -13,7 +13,8 @@ use Rattle.co_plain.specs.CoordView.{recovered_commits, has_commit_of}
 use Rattle.co_plain.specs.Decisions.{sites_of, replies_of, is_decided, is_asked, told_of, votes_for, BelongsTo, IsPresumedAborted}
 use Rattle.co_plain.specs.Federation.{Federation}
 use Rattle.co_plain.specs.MemberView.{recovered_view}
-use Rattle.co_plain.specs.Sessions.{same_node, count_at}
+use Rattle.co_plain.specs.Sessions.{count_at}
+use Rattle.co_base.specs.Nodes.{same_node}
 use Rattle.co_plain.specs.SoundLogs.{unended_in, has_unended, log_has_committed, ByVote, ByCommit}
 use Rattle.co_plain.specs.Invariants.{Side, Memory, Stable, view, stands, takes_part_in, ends_only, is_settled_vote, OnlyAbortsWait}
 use Rattle.co_plain.specs.CoordInvariants.{BegunAt, IsOpenEntry, OwnEnds, IsHeldFor}

@@ -28,7 +28,8 @@ use Rattle.co_plain.specs.declared.member_step.MemberStep.{MemberStep}
 use Rattle.co_plain.specs.declared.session.Session.{Session}
 use Rattle.co_plain.specs.CoordView.{has_commit_of, all_up_to}
 use Rattle.co_plain.specs.CoordStep.{has_part, members_of}
-use Rattle.co_plain.specs.Sessions.{Leave, Refuses, Grants, leave_to_visit, leave_to_end, parts_of, count_at, begun_by, same_node, unless_asked, may_visit}
+use Rattle.co_plain.specs.Sessions.{Leave, Refuses, Grants, leave_to_visit, leave_to_end, parts_of, count_at, begun_by, unless_asked, may_visit}
+use Rattle.co_base.specs.Nodes.{same_node}
 use Rattle.co_plain.specs.Wire.{was_sent}
 use Rattle.co_plain.specs.Federation.{Federation, answers, at_member, at_coord, with_session}
 use Rattle.co_plain.specs.Decisions.{asked_in, is_decided}

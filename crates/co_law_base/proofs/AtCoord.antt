@@ -15,7 +15,8 @@ use Rattle.co_plain.specs.declared.coord_state.Entry.TheVariants as entry
 use Rattle.co_plain.specs.Numbers.{has_number}
 use Rattle.co_plain.specs.CoordView.{recovered_commits, has_commit_of}
 use Rattle.co_plain.specs.CoordStep.{members_of, has_part}
-use Rattle.co_plain.specs.Sessions.{same_node, parts_of, count_at}
+use Rattle.co_plain.specs.Sessions.{parts_of, count_at}
+use Rattle.co_base.specs.Nodes.{same_node}
 use Rattle.co_plain.specs.Wire.{was_sent}
 use Rattle.co_plain.specs.Federation.{Federation, with_coord}
 use Rattle.co_plain.specs.Decisions.{is_decided}

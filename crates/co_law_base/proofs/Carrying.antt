@@ -18,7 +18,8 @@ use Rattle.co_plain.specs.declared.member_view.MemberView.{MemberView}
 use Rattle.co_plain.specs.declared.session.Session.{Session}
 use Rattle.co_plain.specs.MemberView.{recovered_view}
 use Rattle.co_plain.specs.CoordView.{has_commit_of}
-use Rattle.co_plain.specs.Sessions.{told_at, count_at, parts_of, same_node}
+use Rattle.co_plain.specs.Sessions.{told_at, count_at, parts_of}
+use Rattle.co_base.specs.Nodes.{same_node}
 use Rattle.co_plain.specs.Wire.{was_sent}
 use Rattle.co_plain.specs.Decisions.{is_decided, told_in, asked_in, votes_for}
 use Rattle.co_plain.specs.SoundLogs.{unended_in}

@@ -23,7 +23,8 @@ use Rattle.co_plain.specs.Numbers.{first_lacking, has_number}
 use Rattle.co_plain.specs.MemberView.{Numbers, recovered_view}
 use Rattle.co_plain.specs.CoordView.{has_commit_of}
 use Rattle.co_plain.specs.CoordStep.{members_of}
-use Rattle.co_plain.specs.Sessions.{told_at, count_at, parts_of, same_node}
+use Rattle.co_plain.specs.Sessions.{told_at, count_at, parts_of}
+use Rattle.co_base.specs.Nodes.{same_node}
 use Rattle.co_plain.specs.Wire.{was_sent}
 use Rattle.co_plain.specs.Federation.{Federation}
 use Rattle.co_plain.specs.Decisions.{sites_of, replies_of, is_decided, told_in, asked_in, votes_for}

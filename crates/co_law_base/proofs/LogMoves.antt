@@ -15,7 +15,7 @@ use Rattle.co_plain.specs.LogWrite.{with_waiting}
 use Rattle.co_plain.specs.MemberView.{recovered_view, forget_in}
 use Rattle.co_plain.specs.MemberStep.{with_log, dropped, member_down}
 use Rattle.co_plain.specs.Member.{with_mark}
-use Rattle.co_plain.specs.Sessions.{same_node}
+use Rattle.co_base.specs.Nodes.{same_node}
 use Rattle.co_plain.specs.Wire.{was_sent}
 use Rattle.co_plain.specs.Federation.{Federation, with_member}
 use Rattle.co_plain.specs.Decisions.{votes_for, BelongsTo, BegunThere, VotedBefore, IsPresumedAborted, AtCoordinator, AtMember}

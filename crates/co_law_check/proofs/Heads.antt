@@ -10,7 +10,7 @@ use Rattle.co_message.specs.declared.item.ItemKind.TheVariants as item
 use Rattle.co_record.specs.declared.record.Record.{Record}
 use Rattle.co_plain.specs.Opening.{Found, header_mark, member_headers, coord_headers, opening_items}
 use Rattle.co_plain.specs.Runs.{numbered}
-use Rattle.co_plain.specs.Sessions.{same_node}
+use Rattle.co_base.specs.Nodes.{same_node}
 use Rattle.co_check.specs.Account.{no_account}
 use Rattle.co_check.specs.Shape.{unread, read_from, at_place, has_node, with_node, is_first_header, with_header, has_members, has_coords, has_headers}
 use Rattle.co_check.specs.declared.place.Place.TheVariants.{InHead, Behind}

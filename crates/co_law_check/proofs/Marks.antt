@@ -10,7 +10,7 @@ use Rattle.co_state.specs.Table.{Table, look, put}
 use Rattle.co_plain.specs.Decisions.{told_in, is_decided}
 use Rattle.co_plain.specs.Federation.{decided_where, decided_by_kind, decide_all}
 use Rattle.co_plain.specs.Promises.{AreDecidedOnce}
-use Rattle.co_plain.specs.Sessions.{same_node}
+use Rattle.co_base.specs.Nodes.{same_node}
 use Rattle.co_plain.specs.declared.session.Decided.{Decided}
 use Rattle.co_plain.specs.declared.session.Session.{Session}
 use Rattle.co_law_base.proofs.Lookups.{put_here, put_there}

@@ -34,7 +34,8 @@ use Rattle.co_state.specs.declared.engine_state.Vote.{Vote}
 use Rattle.co_state.specs.declared.verdict.Verdict.{Verdict}
 use Rattle.co_state.specs.declared.verdict.Verdict.TheVariants.{LostOperations, StaleRead, HeldBy, VoteYes}
 use Rattle.co_law_base.proofs.ImageRules.{EachEntry}
-use Rattle.co_law_items.proofs.Named.{all_append, all_map, all_filter, Holds, holds_nothing, holds_put, holds_without, holds_each, least_numbered, lesser_numbered, IsValue, IsChangeOf, IsRowOf, AreRecordsOf, changes_named, all_rows_named, within_named, rows_ordered, joined_named, IsOpOf, AreOperationsOf, changes_of_named, IsVoteOf, AreActiveOf}
+use Rattle.co_serial.proofs.RowsInOrder.{rows_ordered}
+use Rattle.co_law_items.proofs.Named.{all_append, all_map, all_filter, Holds, holds_nothing, holds_put, holds_without, holds_each, least_numbered, lesser_numbered, IsValue, IsChangeOf, IsRowOf, AreRecordsOf, changes_named, all_rows_named, within_named, joined_named, IsOpOf, AreOperationsOf, changes_of_named, IsVoteOf, AreActiveOf}
 
 module _ (P : List ℕ → Type 0) where
   abbrev pub IsInstallOf : Install → Type 0

@@ -24,7 +24,8 @@ use Rattle.co_plain.specs.MemberStep.{says, with_engine}
 use Rattle.co_plain.specs.Member.{unless_blocked, member_op}
 use Rattle.co_plain.specs.CoordStep.{with_table, with_coord_log, stopped_coord, coord_forced_by}
 use Rattle.co_plain.specs.Coordinator.{prepares_to, ask_commit, commit_entry, abort_entry}
-use Rattle.co_plain.specs.Sessions.{parts_of, count_at, asked_to_end, same_node}
+use Rattle.co_plain.specs.Sessions.{parts_of, count_at, asked_to_end}
+use Rattle.co_base.specs.Nodes.{same_node}
 use Rattle.co_plain.specs.Federation.{Federation, with_session, with_coord, with_member, at_coord, at_member}
 use Rattle.co_plain.specs.Step.{marked_asked, is_stopped, operated, entered, reply_in}
 use Rattle.co_plain.specs.Decisions.{told_of, told_in, asked_in}

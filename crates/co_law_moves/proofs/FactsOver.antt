@@ -12,7 +12,8 @@ use Rattle.co_state.specs.Table.{Table, look, holds}
 use Rattle.co_plain.specs.declared.member_state.AskedMark.{AskedMark}
 use Rattle.co_plain.specs.declared.session.Decided.{Decided}
 use Rattle.co_plain.specs.declared.session.Session.{Session}
-use Rattle.co_plain.specs.Sessions.{same_node, asked_to_end}
+use Rattle.co_plain.specs.Sessions.{asked_to_end}
+use Rattle.co_base.specs.Nodes.{same_node}
 use Rattle.co_plain.specs.Wire.{was_sent}
 use Rattle.co_plain.specs.Federation.{Federation, with_session, decided_where}
 use Rattle.co_plain.specs.Invariants.{Memory, txn_of, OwnAborts}

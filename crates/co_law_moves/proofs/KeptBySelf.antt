@@ -8,7 +8,7 @@ use Rattle.co_plain.specs.declared.coord_state.Entry.{Entry}
 use Rattle.co_plain.specs.declared.coord_state.Entry.TheVariants as entry
 use Rattle.co_plain.specs.declared.session.Session.{Session}
 use Rattle.co_plain.specs.CoordView.{has_commit_of}
-use Rattle.co_plain.specs.Sessions.{same_node}
+use Rattle.co_base.specs.Nodes.{same_node}
 use Rattle.co_plain.specs.Federation.{Federation}
 use Rattle.co_plain.specs.Decisions.{is_decided, is_asked}
 use Rattle.co_plain.specs.SoundLogs.{unended_in}

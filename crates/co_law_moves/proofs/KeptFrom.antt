@@ -12,7 +12,8 @@ use Rattle.co_plain.specs.declared.session.Decided.{Decided}
 use Rattle.co_plain.specs.declared.session.Session.{Session}
 use Rattle.co_plain.specs.Numbers.{has_number}
 use Rattle.co_plain.specs.CoordView.{has_commit_of}
-use Rattle.co_plain.specs.Sessions.{same_node, count_at}
+use Rattle.co_plain.specs.Sessions.{count_at}
+use Rattle.co_base.specs.Nodes.{same_node}
 use Rattle.co_plain.specs.Federation.{Federation}
 use Rattle.co_plain.specs.Decisions.{is_decided, votes_for, sites_of, BelongsTo, BegunThere, VotedBefore, IsPresumedAborted, AtCoordinator, AtMember, IsSettled, InThisRun, InOpenedFile}
 use Rattle.co_plain.specs.DurableRecords.{durable_records, starting_records}

@@ -24,7 +24,8 @@ use Rattle.co_plain.specs.Numbers.{counted}
 use Rattle.co_plain.specs.LogWrite.{marks_of, outcome_of, with_batch}
 use Rattle.co_plain.specs.MemberStep.{says, standing_of, dropped, member_down, member_down_with, stopped_member, forced_by}
 use Rattle.co_plain.specs.LocalCommit.{local_coord, local_commit_by, member_local_commit, local_abort_by}
-use Rattle.co_plain.specs.Sessions.{count_at, asked_to_end, same_node}
+use Rattle.co_plain.specs.Sessions.{count_at, asked_to_end}
+use Rattle.co_base.specs.Nodes.{same_node}
 use Rattle.co_plain.specs.Federation.{Federation, with_session, with_member, at_member, noted, decide_all, decided_where}
 use Rattle.co_plain.specs.Step.{marked_asked, is_held}
 use Rattle.co_plain.specs.Decisions.{told_of, told_in, asked_in}

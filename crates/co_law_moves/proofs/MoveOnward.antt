@@ -24,7 +24,8 @@ use Rattle.co_plain.specs.CoordStep.{with_table, members_of, table_from}
 use Rattle.co_plain.specs.LocalCommit.{local_coord}
 use Rattle.co_plain.specs.MemberStep.{with_engine}
 use Rattle.co_plain.specs.CoordView.{has_commit_of}
-use Rattle.co_plain.specs.Sessions.{same_node, count_at, with_told, asked_to_end, begun_by, parts_of}
+use Rattle.co_plain.specs.Sessions.{count_at, with_told, asked_to_end, begun_by, parts_of}
+use Rattle.co_base.specs.Nodes.{same_node}
 use Rattle.co_plain.specs.Federation.{Federation, with_member, with_coord, with_session}
 use Rattle.co_plain.specs.Decisions.{told_of, told_in, is_decided}
 use Rattle.co_plain.specs.Step.{is_used}

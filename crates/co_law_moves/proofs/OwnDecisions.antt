@@ -12,7 +12,8 @@ use Rattle.co_plain.specs.declared.member_view.MemberView.{MemberView}
 use Rattle.co_plain.specs.declared.session.Session.{Session}
 use Rattle.co_plain.specs.MemberView.{cast_in, install_in}
 use Rattle.co_plain.specs.CoordStep.{members_of}
-use Rattle.co_plain.specs.Sessions.{count_at, same_node, asked_to_end}
+use Rattle.co_plain.specs.Sessions.{count_at, asked_to_end}
+use Rattle.co_base.specs.Nodes.{same_node}
 use Rattle.co_plain.specs.Federation.{Federation, with_session, with_member, with_coord}
 use Rattle.co_plain.specs.Decisions.{is_decided, told_of, told_in, asked_in}
 use Rattle.co_plain.specs.Invariants.{Memory, Stable, view, stands}

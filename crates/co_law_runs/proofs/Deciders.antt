@@ -9,7 +9,7 @@ use Rattle.co_plain.specs.declared.session.Decided.{Decided}
 use Rattle.co_plain.specs.declared.session.Session.{Session}
 use Rattle.co_plain.specs.Decisions.{is_decided, decided_numbers}
 use Rattle.co_plain.specs.Numbers.{has_number}
-use Rattle.co_plain.specs.Sessions.{same_node}
+use Rattle.co_base.specs.Nodes.{same_node}
 use Rattle.co_plain.specs.CommitmentOrder.{Trace, Began, Operated, Committed, decides_at, decisions_from, installs}
 use Rattle.co_law_base.proofs.Facts.{by_coord}
 

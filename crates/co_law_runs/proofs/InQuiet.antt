@@ -20,7 +20,8 @@ use Rattle.co_plain.specs.MemberStep.{standing_by, standing_of, dropped}
 use Rattle.co_plain.specs.Member.{coord_of, timer_by}
 use Rattle.co_plain.specs.CoordStep.{has_part, members_of}
 use Rattle.co_plain.specs.Coordinator.{timer_entry}
-use Rattle.co_plain.specs.Sessions.{count_at, same_node}
+use Rattle.co_plain.specs.Sessions.{count_at}
+use Rattle.co_base.specs.Nodes.{same_node}
 use Rattle.co_plain.specs.Federation.{Federation, Stepped}
 use Rattle.co_plain.specs.CommitmentOrder.{trace_of}
 use Rattle.co_plain.specs.Step.{step, up_member, up_coord}

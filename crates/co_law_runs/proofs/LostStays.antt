@@ -28,7 +28,8 @@ use Rattle.co_plain.specs.MemberView.{cast_in, install_in}
 use Rattle.co_plain.specs.Moves.{Move, Operate, MarkAsked, Cast, DropActive, DropVoted, Install, CommitLocally, CrashMember, RestartMember, ArmMember, CloseMemberSpare, FillMemberSpare, Begin, Collect, RecordYes, Decide, Leave, RecordAck, End, CrashCoord, RestartCoord, ArmCoord, CloseCoordSpare, FillCoordSpare, BeginLocal, AskEnd, Send, Guard, GuardsHold, effect, entered_reply, marked_over, record_yes, record_ack, cast_state, install_state, local_state}
 use Rattle.co_plain.specs.Numbers.{counted, next_generation}
 use Rattle.co_plain.specs.Runs.{run}
-use Rattle.co_plain.specs.Sessions.{same_node, count_at}
+use Rattle.co_plain.specs.Sessions.{count_at}
+use Rattle.co_base.specs.Nodes.{same_node}
 use Rattle.co_plain.specs.Step.{disarmed, step}
 use Rattle.co_state.specs.Effects.{with_operation}
 use Rattle.co_law_base.proofs.Carrying.{at_each}

@@ -8,7 +8,7 @@ use Rattle.co_base.specs.declared.reply.Reply.{Reply}
 use Rattle.co_state.specs.ReadRule.{operation_reply}
 use Rattle.co_plain.specs.Federation.{Federation}
 use Rattle.co_plain.specs.Numbers.{has_number}
-use Rattle.co_plain.specs.Sessions.{same_node}
+use Rattle.co_base.specs.Nodes.{same_node}
 use Rattle.co_plain.specs.CommitmentOrder.{Trace, Began, Operated, Committed, decides_at, installs, before_first}
 use Rattle.co_plain.specs.Moves.{Operate, MarkAsked, Cast, DropActive, DropVoted, Install, CommitLocally, CrashMember, RestartMember, ArmMember, CloseMemberSpare, FillMemberSpare, Begin, Collect, RecordYes, Decide, Leave, RecordAck, End, CrashCoord, RestartCoord, ArmCoord, CloseCoordSpare, FillCoordSpare, BeginLocal, AskEnd, Send}
 use Rattle.co_law_runs.proofs.Acts.{Act, Moves, Disarms, after_act, act_trace, acts_trace, same_head, same_tail, not_empty}

@@ -8,7 +8,7 @@ use Rattle.co_base.specs.declared.op.Op.{Op}
 use Rattle.co_base.specs.declared.reply.Reply.{Reply}
 use Rattle.co_state.specs.Table.{no_entries, look, holds}
 use Rattle.co_plain.specs.declared.session.Session.{Session}
-use Rattle.co_plain.specs.Sessions.{same_node}
+use Rattle.co_base.specs.Nodes.{same_node}
 use Rattle.co_plain.specs.Federation.{Federation, with_session}
 use Rattle.co_plain.specs.Step.{is_used}
 use Rattle.co_plain.specs.Decisions.{decided_numbers}

@@ -16,7 +16,8 @@ use Rattle.co_plain.specs.Member.{coord_of}
 use Rattle.co_plain.specs.MemberView.{recovered_view}
 use Rattle.co_state.specs.Effects.{with_operation}
 use Rattle.co_law_engine.proofs.YesTells.{in_some}
-use Rattle.co_plain.specs.Sessions.{same_node, count_at, with_told, asked_to_end, begun_by}
+use Rattle.co_plain.specs.Sessions.{count_at, with_told, asked_to_end, begun_by}
+use Rattle.co_base.specs.Nodes.{same_node}
 use Rattle.co_plain.specs.Federation.{Federation, with_member, with_session}
 use Rattle.co_plain.specs.Step.{is_used, disarmed}
 use Rattle.co_plain.specs.Decisions.{told_of, decided_numbers}

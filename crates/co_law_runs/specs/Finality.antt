@@ -15,7 +15,8 @@ use Rattle.co_plain.specs.Decisions.{told_of}
 use Rattle.co_plain.specs.Federation.{Federation}
 use Rattle.co_plain.specs.Invariants.{Side, view, stands}
 use Rattle.co_plain.specs.Runs.{run}
-use Rattle.co_plain.specs.Sessions.{same_node, count_at}
+use Rattle.co_plain.specs.Sessions.{count_at}
+use Rattle.co_base.specs.Nodes.{same_node}
 use Rattle.co_plain.specs.Step.{step}
 use Rattle.co_plain.specs.Premises.{AreTrueVerdicts}
 use Rattle.co_law_moves.specs.MoveTraces.{items_along}

@@ -23,7 +23,7 @@ use Rattle.co_state.specs.Keys.{same_key}
 use Rattle.co_state.specs.Table.{Table, no_entries, look, put}
 use Rattle.co_plain.specs.Numbers.{TxnNumber, MemberNumber, has_number}
 use Rattle.co_plain.specs.Opening.{kind_of}
-use Rattle.co_plain.specs.Sessions.{same_node}
+use Rattle.co_base.specs.Nodes.{same_node}
 
 -- what the items tell of conflicts
 pub data Trace : Type 0 where

@@ -20,7 +20,7 @@ use Rattle.co_plain.specs.Numbers.{TxnNumber, MemberNumber, CoordNumber}
 use Rattle.co_plain.specs.MemberView.{Numbers}
 use Rattle.co_plain.specs.declared.member_step.MemberStep.{MemberStep}
 use Rattle.co_plain.specs.declared.coord_step.CoordStep.{CoordStep}
-use Rattle.co_plain.specs.Sessions.{same_node}
+use Rattle.co_base.specs.Nodes.{same_node}
 use Rattle.co_plain.specs.Wire.{send_all}
 
 pub record Federation : Type 0 where

@@ -25,12 +25,6 @@ abbrev pub parts_of : List Told → List Part
 parts_of [] = []
 parts_of (o ∷ os) = with_part o.site.member (parts_of os)
 
-abbrev pub same_node : Node → Node → Bool
-same_node (node.Member m) (node.Member n) = m == n
-same_node (node.Member m) (node.Coord n) = false
-same_node (node.Coord m) (node.Member n) = false
-same_node (node.Coord m) (node.Coord n) = m == n
-
 -- whether operations of the transaction may be done at the member: a local one stays at its own
 abbrev pub may_visit : Node → MemberNumber → Bool
 may_visit (node.Member own) m = own == m

@@ -2,3 +2,4 @@ pub mod MapViews
 mod RecordRows
 mod Families
 mod Layers
+pub mod RowsInOrder

@@ -1,16 +1,14 @@
 -- Rows of entries: they keep the order of the keys, and the rows of a range.
 use Rattle.co_base.specs.declared.row.Row.{Row}
-use Rattle.std.proofs.Common.{◌≡◌, ℕ, Bool, true, false, cond, List, [], ◌∷◌, ◌++◌, map, filter, arith, append-nil, refl, sym, ap, subst}
+use Rattle.std.proofs.Common.{◌≡◌, ℕ, List, [], ◌∷◌, ◌++◌, map, arith, append-nil, refl, sym, ap, subst}
 use Rattle.std.specs.List.Sorted.{IsStrictlySortedBy}
 use Rattle.std.specs.Map.{keys_of}
 use Rattle.co_base.proofs.Ordered.{sorted_none}
 use Rattle.std.specs.FinMap.{empty, from_entries, slice_cmp-IsAntisymmetric, nat_cmp-IsAntisymmetric}
 use Rattle.std.proofs.lemmas.Cmp.{nat_list_cmp_total}
-use Rattle.std.proofs.lemmas.List.Kept.{IsStrictlySortedBy-filter}
 use Rattle.co_base.specs.Order.{key_cmp}
 use Rattle.co_base.specs.RowOrder.{IsInKeyOrder}
-use Rattle.co_base.specs.Span.{Span, span_has}
-use Rattle.co_serial.specs.Records.{row_of, all_rows, rows_within}
+use Rattle.co_serial.specs.Records.{row_of, all_rows}
 use Rattle.co_serial.proofs.MapViews.{view-entries}
 
 keys-rows : (es : List (List ℕ × List ℕ)) → map (λ r. r.key) (map row_of es) ≡ keys_of es
@@ -22,17 +20,6 @@ rows-in_order es h = subst (IsStrictlySortedBy key_cmp) (sym (keys-rows es)) h
 
 pub all_rows-view : (es : List (List ℕ × List ℕ)) → IsStrictlySortedBy key_cmp (keys_of es) → all_rows (from_entries es) ≡ map row_of es
 all_rows-view es h = ap (map row_of) (view-entries nat_list_cmp_total (slice_cmp-IsAntisymmetric nat_cmp-IsAntisymmetric) es h)
-
-pub rows_within-view : (es : List (List ℕ × List ℕ)) (span : Span) → IsStrictlySortedBy key_cmp (keys_of es) → rows_within (from_entries es) span ≡ map row_of (filter (λ e. span_has span e.0) es)
-rows_within-view es span h = ap (λ fs. map row_of (filter (λ e. span_has span e.0) fs)) (view-entries nat_list_cmp_total (slice_cmp-IsAntisymmetric nat_cmp-IsAntisymmetric) es h)
-
-keys-filter : (p : List ℕ → Bool) (es : List (List ℕ × List ℕ)) → keys_of (filter (λ e. p e.0) es) ≡ filter p (keys_of es)
-keys-filter p [] = refl
-keys-filter p (e ∷ es) = elim (p e.0) as (λ b. keys_of (cond b (e ∷ filter (λ e. p e.0) es) (filter (λ e. p e.0) es)) ≡ cond b (e.0 ∷ filter p (keys_of es)) (filter p (keys_of es)))
-    [ true ↦ ap (λ ks. e.0 ∷ ks) (keys-filter p es) | false ↦ keys-filter p es ]
-
-pub filtered-in_order : (p : List ℕ → Bool) (es : List (List ℕ × List ℕ)) → IsStrictlySortedBy key_cmp (keys_of es) → IsStrictlySortedBy key_cmp (keys_of (filter (λ e. p e.0) es))
-filtered-in_order p es h = subst (IsStrictlySortedBy key_cmp) (sym (keys-filter p es)) (IsStrictlySortedBy-filter key_cmp p (keys_of es) h)
 
 -- the rows made so far are all of them, once no entry is left
 pub made_all : (rows : List Row) (es left : List (List ℕ × List ℕ)) → rows ++ map row_of left ≡ map row_of es → left ≡ [] → rows ≡ map row_of es

@@ -1,3 +1,5 @@
 pub mod Records
 pub mod SerialRun
 pub mod Family
+pub mod MemberRows
+pub mod RecordText

@@ -2,14 +2,18 @@
 //!
 //! It knows no locks, versions, votes, messages or logs. What the federation answers is compared with
 //! it (Bernstein, Hadzilacos and Goodman, *Concurrency Control and Recovery in Database Systems*, 1987,
-//! on serial executions).
+//! on serial executions). It also has the text in which records of members are told.
 #![tactic(auto)]
 
 mod changes;
+mod member_row;
 mod record_map;
+mod record_text;
 mod serial_map;
 mod site;
 
+pub use member_row::{MemberRow, MemberRows};
 pub use record_map::RecordMap;
+pub use record_text::append_record;
 pub use serial_map::{SerialMap, run_whole};
 pub use site::{Site, Sites};

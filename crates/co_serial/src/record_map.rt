@@ -1,14 +1,17 @@
 //! The records of one member.
-ghost use Rattle.std.specs.Prelude.{◌≡◌, IfOk, OnOk, OnErr, option_copied};
+ghost use Rattle.std.specs.Prelude.{◌≡◌, filter, IfOk, OnOk, OnErr, option_copied};
 ghost use Rattle.std.specs.FinMap as map;
+ghost use Rattle.std.specs.FinMap.{entries};
 ghost use Rattle.co_base.specs.Order.{key_cmp};
+ghost use Rattle.co_base.specs.Span.{span_has};
 ghost use Rattle.co_serial.specs.Records.{all_rows, rows_within};
 ghost use Rattle.co_serial.specs.SerialRun.{reply_to, records_after};
 
 use co_base::{Key, Op, Range, Reply, Row, Rows, Value};
 use std::alloc::{AllocError, Global};
-use std::collections::BTreeMap;
+use std::collections::{BTreeMap, btree_map};
 use std::marker::Model;
+use std::ops::Bound;
 
 /// The records of one member. A contract sees the finite map from keys to values.
 #[derive(Drop)]
@@ -76,18 +79,24 @@ impl RecordMap {
         Ok(Rows::of(rows))
     }
 
+    /// The entries of a range, in the order of the keys.
+    fn within(&self, range: &Range) -> btree_map::Range<'_, Key, Value>
+        ensures { result ≡ filter (λ entry. span_has range.now entry.0) (entries self.now) }
+    {
+        let (lo, hi) = range.bounds();
+        self.map.range((Bound::Included(lo), Bound::Included(hi)))
+    }
+
     /// The records of a range, in the order of the keys.
     pub fn rows_within(&self, alloc: Global, range: &Range) -> Result<Rows, AllocError>
         ensures { IfOk result (λ rows. rows ≡ rows_within self.now range.now) }
     {
         let mut rows = Vec::new(alloc);
-        for (key, value) in self.map.iter() {
-            if range.has(key) {
-                rows.push(Row {
-                    key: key.copy()?,
-                    value: value.copy()?,
-                })?;
-            }
+        for (key, value) in self.within(range) {
+            rows.push(Row {
+                key: key.copy()?,
+                value: value.copy()?,
+            })?;
         }
         Ok(Rows::of(rows))
     }

@@ -6,6 +6,5 @@ mod Staleness
 pub mod Tables
 mod Joining
 pub mod InOrder
-pub mod Between
 pub mod Ties
 mod Ascending

@@ -25,7 +25,8 @@ use Rattle.co_plain.specs.declared.happening.Happening.TheVariants as happening
 use Rattle.co_message.specs.declared.event.Event.{Event}
 use Rattle.co_replay.specs.Schedule.{HasLine}
 use Rattle.co_serial.specs.SerialRun.{AllRecords}
-use Rattle.co_durable.specs.Durable.{IsDurable, log_of, numbered_rows, IsAllowedBy}
+use Rattle.co_durable.specs.Durable.{IsDurable, log_of, IsAllowedBy}
+use Rattle.co_serial.specs.MemberRows.{numbered_rows}
 use Rattle.co_durable.specs.Nodes.{numbered, member_nodes, coord_nodes}
 use Rattle.co_durable.specs.Recovering.{member_refuses, coord_refuses}
 use Rattle.co_durable.specs.Told as files

@@ -12,11 +12,11 @@ use Rattle.co_state.specs.declared.engine_state.Vote.{Vote}
 use Rattle.co_plain.specs.CoordView.{has_commit_of}
 use Rattle.co_plain.specs.DurableRecords.{with_decided}
 use Rattle.co_plain.specs.Numbers.{IsAmong}
-use Rattle.co_durable.specs.Durable.{log_of, numbered_rows}
-use Rattle.co_durable.specs.Laying.{member_rows}
+use Rattle.co_durable.specs.Durable.{log_of}
+use Rattle.co_serial.specs.MemberRows.{numbered_rows, member_rows}
 use Rattle.co_durable.specs.Nodes.{numbered}
 use Rattle.co_durable.specs.Pairs.{EachPair}
-use Rattle.co_durable.specs.declared.durable.DurableRow.{DurableRow}
+use Rattle.co_serial.specs.declared.member_row.MemberRow.{MemberRow}
 use Rattle.co_durable.proofs.Pairs.{pairs_push, all_append}
 use Rattle.co_top.proofs.Lists.{get_before, get_last, map_more, map_count, count_more, or_last}
 
@@ -75,4 +75,4 @@ pub same_rows : (all others : AllRecords) (member count : ℕ) → ((n : ℕ) �
 same_rows all others member zero same = refl
 same_rows all others member (suc count) same =
     ap (λ rs. member_rows member (all_rows rs) ++ numbered_rows all (suc member) count) (same member (omega arith) (omega arith))
-    ∙ ap (λ (rows : List DurableRow). member_rows member (all_rows (others member)) ++ rows) (same_rows all others (suc member) count (λ n a b. same n (omega (arith, a)) (omega (arith, b))))
+    ∙ ap (λ (rows : List MemberRow). member_rows member (all_rows (others member)) ++ rows) (same_rows all others (suc member) count (λ n a b. same n (omega (arith, a)) (omega (arith, b))))

@@ -6,12 +6,12 @@ use Rattle.co_outside.specs.declared.sink.SinkFault.{SinkFault}
 use Rattle.co_outside.specs.declared.sink.SinkFault.TheVariants as sink
 use Rattle.co_outside.specs.declared.spot.Spot.{Spot}
 use Rattle.co_outside.specs.Home.{File}
-use Rattle.co_durable.specs.declared.durable.DurableRow.{DurableRow}
+use Rattle.co_serial.specs.declared.member_row.MemberRow.{MemberRow}
 use Rattle.co_durable.specs.declared.fault.WorldFault.{WorldFault}
 use Rattle.co_durable.specs.declared.fault.WorldFault.TheVariants as world
 use Rattle.co_durable.specs.Directory.{IsUnreadable}
 use Rattle.co_durable.specs.Durable.{IsDurable, IsUndurable}
-use Rattle.co_durable.specs.Text.{records_text}
+use Rattle.co_serial.specs.RecordText.{records_text}
 use Rattle.co_durable.specs.Told.{AreTold}
 use Rattle.co_durable.proofs.ReadOnce.{undurable_once, durable_or_not}
 use Rattle.co_top.specs.Ends.{of_world}
@@ -26,7 +26,7 @@ put_cause file (Ok u) durable = durable
 put_cause file (Err sink.Failed) durable = durable
 put_cause file (Err sink.Memory) durable = tt
 
-pub put_holds : (file : Spot → Option File) (held : List ℕ) (told : Option (List ℕ)) (rows : List DurableRow) (put : Result (Unit {0}) SinkFault) → IsDurable file most_members most_coordinators rows →
+pub put_holds : (file : Spot → Option File) (held : List ℕ) (told : Option (List ℕ)) (rows : List MemberRow) (put : Result (Unit {0}) SinkFault) → IsDurable file most_members most_coordinators rows →
     OnOk put (told ≡ Some (held ++ records_text rows)) → OnErr put ((count : ℕ) × (told ≡ Some (held ++ take count (records_text rows)))) → HoldsRecords file held told (status_of_put put)
 put_holds file held told rows (Ok u) durable whole front = (rows, durable, whole)
 put_holds file held told rows (Err sink.Failed) durable whole front = (rows, durable, front)
@@ -54,7 +54,7 @@ refusal_holds file held told (world.Old spot) h same = absurd h
 refusal_holds file held told world.Memory h same = inl same
 
 module _ (file : Spot → Option File) (told : AreTold file most_members most_coordinators) where
-  done_of : (ended : Status) → HasCause file ended → (rows : List DurableRow) → IsDurable file most_members most_coordinators rows → (ended ≡ status.Done) ⊎ ((ended ≡ status.Write) ⊎ IsExcused ended)
+  done_of : (ended : Status) → HasCause file ended → (rows : List MemberRow) → IsDurable file most_members most_coordinators rows → (ended ≡ status.Done) ⊎ ((ended ≡ status.Write) ⊎ IsExcused ended)
   done_of status.Done cause rows d = inl refl
   done_of status.Usage cause rows d = absurd cause
   done_of status.Read cause rows d = absurd cause

@@ -2,7 +2,8 @@
 use Rattle.std.specs.Prelude.{ℕ, Bool, ◌≡◌, List, [], ◌++◌, length, Option, Some}
 use Rattle.co_outside.specs.declared.spot.Spot.{Spot}
 use Rattle.co_outside.specs.Home.{File}
-use Rattle.co_durable.specs.Durable.{IsDurable, numbered_rows}
+use Rattle.co_durable.specs.Durable.{IsDurable}
+use Rattle.co_serial.specs.MemberRows.{numbered_rows}
 use Rattle.co_durable.specs.Told as files
 use Rattle.co_plain.specs.Promises.{SerialReads, Acknowledged, MembersAgree, serial_records}
 use Rattle.co_plain.specs.Runs.{lines}

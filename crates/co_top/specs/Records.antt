@@ -5,10 +5,10 @@ use Rattle.co_outside.specs.declared.spot.Spot.{Spot}
 use Rattle.co_outside.specs.declared.sink.SinkFault.{SinkFault}
 use Rattle.co_outside.specs.declared.sink.SinkFault.TheVariants as sink
 use Rattle.co_outside.specs.Home.{File}
-use Rattle.co_durable.specs.declared.durable.DurableRow.{DurableRow}
+use Rattle.co_serial.specs.declared.member_row.MemberRow.{MemberRow}
 use Rattle.co_durable.specs.declared.fault.WorldFault.TheVariants as world
 use Rattle.co_durable.specs.Durable.{IsDurable, IsUndurable}
-use Rattle.co_durable.specs.Text.{records_text}
+use Rattle.co_serial.specs.RecordText.{records_text}
 use Rattle.co_top.specs.declared.status.LimitKind.TheVariants as limit
 use Rattle.co_top.specs.declared.status.Status.{Status}
 use Rattle.co_top.specs.declared.status.Status.TheVariants as status
@@ -21,7 +21,7 @@ status_of_put (Err sink.Memory) = status.Memory
 
 -- there are durable records
 abbrev pub HasDurable : (Spot → Option File) → Type 0
-HasDurable file = (rows : List DurableRow) × IsDurable file most_members most_coordinators rows
+HasDurable file = (rows : List MemberRow) × IsDurable file most_members most_coordinators rows
 
 -- The cause of a status, by the files of 16 members and 8 coordinators where the home tells them. All is read before anything is put, and no
 -- line is read, so no status of lines comes.
@@ -43,17 +43,17 @@ IsExcused _ = ⊥
 -- Where the files have durable records, all was done, unless the sink failed; and where they have a fault, that one is told. In both cases the
 -- directory may have failed, or there was no memory.
 pub record IsExact (file : Spot → Option File) (ended : Status) : Type 0 where
-  pub done : (rows : List DurableRow) → IsDurable file most_members most_coordinators rows → (ended ≡ status.Done) ⊎ ((ended ≡ status.Write) ⊎ IsExcused ended)
+  pub done : (rows : List MemberRow) → IsDurable file most_members most_coordinators rows → (ended ≡ status.Done) ⊎ ((ended ≡ status.Write) ⊎ IsExcused ended)
   pub bad : (spot : Spot) (at : ℕ) → IsUndurable file most_members most_coordinators (world.Bad spot at) → (ended ≡ status.BadLog spot at) ⊎ IsExcused ended
   pub full : (spot : Spot) → IsUndurable file most_members most_coordinators (world.Full spot) → (ended ≡ status.Limit (limit.Log spot)) ⊎ IsExcused ended
 
 -- the sink took a front of the text of the durable records
 abbrev pub TookFront : (Spot → Option File) → List ℕ → Option (List ℕ) → Type 0
-TookFront file held told = (rows : List DurableRow) × IsDurable file most_members most_coordinators rows × ((count : ℕ) × (told ≡ Some (held ++ take count (records_text rows))))
+TookFront file held told = (rows : List MemberRow) × IsDurable file most_members most_coordinators rows × ((count : ℕ) × (told ≡ Some (held ++ take count (records_text rows))))
 
 -- What a sink holds then that held this before: the text of the durable records, or a front of it, or nothing of it.
 abbrev pub HoldsRecords : (Spot → Option File) → List ℕ → Option (List ℕ) → Status → Type 0
-HoldsRecords file held told status.Done = (rows : List DurableRow) × IsDurable file most_members most_coordinators rows × (told ≡ Some (held ++ records_text rows))
+HoldsRecords file held told status.Done = (rows : List MemberRow) × IsDurable file most_members most_coordinators rows × (told ≡ Some (held ++ records_text rows))
 HoldsRecords file held told status.Write = TookFront file held told
 HoldsRecords file held told (status.Device spot) = told ≡ Some held
 HoldsRecords file held told (status.BadLog spot at) = told ≡ Some held

@@ -12,12 +12,11 @@ use Rattle.co_plain.specs.declared.session.Session.{Session}
 use Rattle.co_plain.specs.Federation.{Federation, decide_all, decided_where, decided_by_kind}
 use Rattle.co_plain.specs.Promises.{serial_records}
 use Rattle.co_plain.specs.Runs.{run, lines, numbered, transcript}
-use Rattle.co_plain.specs.Sessions.{same_node}
+use Rattle.co_base.specs.Nodes.{same_node}
 use Rattle.co_plain.specs.Step.{step_line}
 use Rattle.co_base.specs.declared.row.Row.{Row}
-use Rattle.co_durable.specs.Durable.{numbered_rows}
-use Rattle.co_durable.specs.Laying.{member_rows}
-use Rattle.co_durable.specs.declared.durable.DurableRow.{DurableRow}
+use Rattle.co_serial.specs.MemberRows.{numbered_rows, member_rows}
+use Rattle.co_serial.specs.declared.member_row.MemberRow.{MemberRow}
 use Rattle.co_serial.specs.Family.{family_of}
 use Rattle.co_serial.specs.Records.{all_rows}
 use Rattle.co_serial.specs.SerialRun.{AllRecords, after_whole}
@@ -128,13 +127,13 @@ drop_at (y ∷ ys) zero x l e = ap (λ z. z ∷ ys) (sym e)
 drop_at (y ∷ ys) (suc i) x l e = drop_at ys i x (omega (arith, l)) e ∙ ap (λ j. x ∷ drop j (y ∷ ys)) (let q : suc (i + 1) ≡ suc i + 1 = omega arith in q)
 
 -- the rows of one more member
-pub rows_more : (all : AllRecords) (old new whole : List DurableRow) (m members : ℕ) (rows : List Row) → m < members + 1 → new ≡ old ++ member_rows m rows → rows ≡ all_rows (all m) →
+pub rows_more : (all : AllRecords) (old new whole : List MemberRow) (m members : ℕ) (rows : List Row) → m < members + 1 → new ≡ old ++ member_rows m rows → rows ≡ all_rows (all m) →
     old ++ numbered_rows all m (members + 1 - m) ≡ whole → new ++ numbered_rows all (m + 1) (members + 1 - (m + 1)) ≡ whole
 rows_more all old new whole m members rows l is are before =
     let k = members + 1 - (m + 1) in
     let next : m + 1 ≡ suc m = omega arith in
     let left : suc k ≡ members + 1 - m = omega (arith, l) in
-    ap (λ (d : List DurableRow). d ++ numbered_rows all (m + 1) k) is
+    ap (λ (d : List MemberRow). d ++ numbered_rows all (m + 1) k) is
     ∙ append_assoc old (member_rows m rows) (numbered_rows all (m + 1) k)
     ∙ ap (λ (r : List Row). old ++ (member_rows m r ++ numbered_rows all (m + 1) k)) are
     ∙ ap (λ j. old ++ (member_rows m (all_rows (all m)) ++ numbered_rows all j k)) next

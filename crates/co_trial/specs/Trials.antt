@@ -5,7 +5,7 @@ use Rattle.hex.specs.Hex.{encode_lower}
 use Rattle.sha2.specs.Sha256.{sha256}
 use Rattle.co_base.specs.declared.head.Head.{Head}
 use Rattle.co_base.specs.declared.head.Kind.TheVariants.{Lock, Occ, Mv}
-use Rattle.co_durable.specs.Durable.{numbered_rows}
+use Rattle.co_serial.specs.MemberRows.{numbered_rows}
 use Rattle.co_law_settle.specs.SettlingTurns.{Settles}
 use Rattle.co_message.specs.declared.event.Event.{Event}
 use Rattle.co_message.specs.declared.item.Item.{Item}

@@ -2,21 +2,19 @@
 ghost use Rattle.std.specs.Prelude.{◌≡◌, ◌<◌, ◌+◌, ◌++◌, ◌↔◌, [], ◌∷◌, List, true, map, length, IfOk, OnOk};
 ghost use Rattle.co_plain.specs.declared.session.Decided.{Decided};
 ghost use Rattle.co_plain.specs.Federation.{Federation, decide_all, decided_where, decided_by_kind};
-ghost use Rattle.co_plain.specs.Sessions.{same_node};
+ghost use Rattle.co_base.specs.Nodes.{same_node};
 ghost use Rattle.co_serial.specs.Family.{family_of};
 ghost use Rattle.co_serial.specs.SerialRun.{after_whole};
 ghost use Rattle.co_state.specs.Table.{look};
-ghost use Rattle.co_durable.specs.Durable.{numbered_rows};
-ghost use Rattle.co_durable.specs.Laying.{member_rows};
+ghost use Rattle.co_serial.specs.MemberRows.{numbered_rows, member_rows};
 ghost use Rattle.co_world.specs.Standing.{RepresentsWorld};
 ghost use Rattle.co_trial.specs.Decisions.{marks_of, AreRun};
 
 use co_base::{Mark, MarkKind, Node, Row, Txn};
-use co_durable::{Durable, DurableRow};
 use co_engine::Engine;
 use co_message::{Item, ItemKind};
 use co_plain::Told;
-use co_serial::SerialMap;
+use co_serial::{MemberRow, MemberRows, SerialMap};
 use co_world::World;
 use std::alloc::{AllocError, Global};
 
@@ -47,11 +45,11 @@ fn txn_of(number: u32) -> Txn
 }
 
 /// Adds the records of a member.
-fn push_rows(durable: &mut Durable, member: u8, rows: Vec<Row>) -> Result<(), AllocError>
+fn push_rows(durable: &mut MemberRows, member: u8, rows: Vec<Row>) -> Result<(), AllocError>
     ensures { OnOk result (durable.new ≡ durable.old ++ member_rows member rows.items) }
 {
     for row in rows {
-        durable.push(DurableRow { member, row })?;
+        durable.push(MemberRow { member, row })?;
     }
     Ok(())
 }
@@ -156,11 +154,11 @@ impl Decisions {
     }
 
     /// The records of so many members.
-    fn rows(&self, alloc: Global, members: u8) -> Result<Durable, AllocError>
+    fn rows(&self, alloc: Global, members: u8) -> Result<MemberRows, AllocError>
         requires { members < 255 }
         ensures { IfOk result (λ rows. rows ≡ numbered_rows (family_of self.now.serial) 1 members) }
     {
-        let mut rows = Durable::new(alloc);
+        let mut rows = MemberRows::new(alloc);
         for member in 1..members + 1 {
             push_rows(&mut rows, member, self.serial.rows(member)?.into_vec())?;
         }
@@ -172,7 +170,7 @@ impl Decisions {
         &self,
         alloc: Global,
         members: u8,
-        durable: &Durable,
+        durable: &MemberRows,
     ) -> Result<bool, AllocError>
         requires { members < 255 }
         ensures { IfOk result (λ equal. (equal ≡ true) ↔ (durable.now ≡ numbered_rows (family_of self.now.serial) 1 members)) }

@@ -1,7 +1,7 @@
 //! What a federation lists: what is open, who is in doubt, who waits for whom, and what the logs alone give.
 ghost use Rattle.std.specs.Prelude.{◌≡◌, ℕ, true, false, length, AllPairs, Contains, IfOk, ◌↔◌};
 ghost use Rattle.co_base.specs.Order.{IsAscending};
-ghost use Rattle.co_durable.specs.Durable.{numbered_rows};
+ghost use Rattle.co_serial.specs.MemberRows.{numbered_rows};
 ghost use Rattle.co_plain.specs.DurableRecords.{durable_in};
 ghost use Rattle.co_plain.specs.Federation.{Federation};
 ghost use Rattle.co_plain.specs.Quiet.{IsOpen};
@@ -12,8 +12,8 @@ ghost use Rattle.co_world.specs.Standing.{RepresentsWorld};
 use crate::world::World;
 use co_base::Txns;
 use co_cluster::{Doubt, Doubts, Wait, Waits};
-use co_durable::Durable;
 use co_engine::Engine;
+use co_serial::MemberRows;
 use std::alloc::AllocError;
 
 impl<E: Engine + Drop> World<E> {
@@ -57,7 +57,7 @@ impl<E: Engine + Drop> World<E> {
 
     /// The records that the logs alone give, also of nodes that are down: of each member the records that its log tells, with the writes of each
     /// voted transaction laid over whose coordinator's log has its commit. Members ascend, and so do the keys of each. The logs are gone through.
-    pub fn durable(&self) -> Result<Durable, AllocError>
+    pub fn durable(&self) -> Result<MemberRows, AllocError>
         requires stands { (s : Federation) × RepresentsWorld E.takes E.stands_for self.now s × IsReady s }
         ensures { (s : Federation) → RepresentsWorld E.takes E.stands_for self.now s → IsReady s →
             IfOk result (λ rows. rows ≡ numbered_rows (durable_in s) 1 (length s.kinds)) }

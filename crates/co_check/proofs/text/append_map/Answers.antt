@@ -1,8 +1,7 @@
 use Rattle.std.proofs.Common.{◌≡◌, ◌++◌, ◌+◌, ◌-◌, suc, sym, ap, ◌∙◌, arith}
 use Rattle.std.proofs.lemmas.Result.{err_from_is_err_and}
-use Rattle.co_durable.specs.Durable.{numbered_rows}
-use Rattle.co_durable.specs.Laying.{member_rows}
-use Rattle.co_durable.specs.Text.{records_text}
+use Rattle.co_serial.specs.MemberRows.{numbered_rows, member_rows}
+use Rattle.co_serial.specs.RecordText.{records_text}
 use Rattle.co_schedule.proofs.Begun.{begins_again}
 use Rattle.co_serial.specs.Family.{family_of}
 use Rattle.co_check.proofs.Texts.{member_more}

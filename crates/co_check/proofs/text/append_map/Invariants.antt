@@ -1,8 +1,8 @@
 use Rattle.std.proofs.Common.{◌≡◌, ◌++◌, ◌-◌}
 use Rattle.co_base.specs.Lent.{Begins}
 use Rattle.co_base.specs.Limits.{most_members}
-use Rattle.co_durable.specs.Durable.{numbered_rows}
-use Rattle.co_durable.specs.Text.{records_text}
+use Rattle.co_serial.specs.MemberRows.{numbered_rows}
+use Rattle.co_serial.specs.RecordText.{records_text}
 use Rattle.co_serial.specs.Family.{family_of}
 use Rattle.co_check.proofs.text.append_map.Given as goal
 

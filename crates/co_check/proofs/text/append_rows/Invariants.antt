@@ -1,6 +1,6 @@
 use Rattle.std.proofs.Common.{◌≡◌, ◌++◌, take}
-use Rattle.co_durable.specs.Laying.{member_rows}
-use Rattle.co_durable.specs.Text.{records_text}
+use Rattle.co_serial.specs.MemberRows.{member_rows}
+use Rattle.co_serial.specs.RecordText.{records_text}
 use Rattle.co_check.proofs.text.append_rows.Given as goal
 
 abbrev pub invariant-loop-row : goal.invariant-loop-row

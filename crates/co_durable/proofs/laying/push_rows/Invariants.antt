@@ -1,5 +1,5 @@
 use Rattle.std.proofs.Common.{◌≡◌, ◌++◌}
-use Rattle.co_durable.specs.Laying.{member_rows}
+use Rattle.co_serial.specs.MemberRows.{member_rows}
 use Rattle.co_durable.proofs.laying.push_rows.Given as goal
 
 abbrev pub invariant-loop-row : goal.invariant-loop-row

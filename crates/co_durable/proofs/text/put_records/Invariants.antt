@@ -1,5 +1,5 @@
 use Rattle.std.proofs.Common.{◌≡◌, ◌++◌, ℕ, List, Some, take}
-use Rattle.co_durable.specs.Text.{records_text}
+use Rattle.co_serial.specs.RecordText.{records_text}
 use Rattle.co_durable.proofs.text.put_records.Given as goal
 
 abbrev pub invariant-loop-row : goal.invariant-loop-row

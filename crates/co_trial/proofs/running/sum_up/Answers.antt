@@ -1,5 +1,5 @@
 use Rattle.std.proofs.Common.{◌≡◌, true, length, refl, ap, ◌∙◌, subst}
-use Rattle.co_durable.specs.Durable.{numbered_rows}
+use Rattle.co_serial.specs.MemberRows.{numbered_rows}
 use Rattle.co_plain.specs.DurableRecords.{durable_in}
 use Rattle.co_plain.specs.Promises.{serial_records}
 use Rattle.co_settle.proofs.Reaching.{ready}

@@ -1,6 +1,6 @@
 use Rattle.std.proofs.Common.{◌≡◌, ◌∙◌, length, ap, arith}
 use Rattle.std.proofs.lemmas.Result.{IfOk-weaker}
-use Rattle.co_durable.specs.Durable.{numbered_rows}
+use Rattle.co_serial.specs.MemberRows.{numbered_rows}
 use Rattle.co_durable.specs.Laying.{durable_of_pasts}
 use Rattle.co_durable.proofs.Numbered.{so_many}
 use Rattle.co_plain.specs.DurableRecords.{durable_in}

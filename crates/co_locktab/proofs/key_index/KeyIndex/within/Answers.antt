@@ -3,7 +3,7 @@ use Rattle.std.specs.FinMap.{entries}
 use Rattle.co_base.specs.Span.{span_has}
 use Rattle.co_serial.proofs.MapViews.{view-entries}
 use Rattle.co_locktab.proofs.Orders.{keys_total, keys_apart}
-use Rattle.co_state.proofs.Between.{between_span}
+use Rattle.co_base.proofs.Between.{between_span}
 use Rattle.co_locktab.proofs.key_index.KeyIndex.within.Goals as goal
 
 pub returns : goal.returns

@@ -1,7 +1,6 @@
-use Rattle.std.proofs.Common.{◌≡◌, ◌++◌, map, filter}
-use Rattle.co_base.specs.Span.{span_has}
+use Rattle.std.proofs.Common.{◌≡◌, ◌++◌, map}
 use Rattle.co_serial.specs.Records.{row_of}
 use Rattle.co_serial.proofs.record_map.RecordMap.rows_within.Given as goal
 
 abbrev pub invariant-loop-key : goal.invariant-loop-key
-invariant-loop-key l = l.rows.items ++ map row_of (filter (λ e. span_has l.range e.0) l.key-iterator) ≡ map row_of (filter (λ e. span_has l.range e.0) l.initial.key-iterator)
+invariant-loop-key l = l.rows.items ++ map row_of l.key-iterator ≡ map row_of l.initial.key-iterator

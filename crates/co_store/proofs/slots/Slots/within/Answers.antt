@@ -3,7 +3,7 @@ use Rattle.std.specs.FinMap.{entries, slice_cmp-IsAntisymmetric, nat_cmp-IsAntis
 use Rattle.std.proofs.lemmas.Cmp.{nat_list_cmp_total}
 use Rattle.co_base.specs.Span.{span_has}
 use Rattle.co_serial.proofs.MapViews.{view-entries}
-use Rattle.co_state.proofs.Between.{between_span}
+use Rattle.co_base.proofs.Between.{between_span}
 use Rattle.co_store.proofs.slots.Slots.within.Goals as goal
 
 pub returns : goal.returns

@@ -1,5 +1,5 @@
 use Rattle.std.proofs.Common.{◌≡◌, ◌++◌, ◌+◌, ◌-◌}
-use Rattle.co_durable.specs.Durable.{numbered_rows}
+use Rattle.co_serial.specs.MemberRows.{numbered_rows}
 use Rattle.co_serial.specs.Family.{family_of}
 use Rattle.co_trial.proofs.deciding.Decisions.rows.Given as goal
 
