@@ -1,9 +1,10 @@
 //! A source of one byte a call, one that fails amid a schedule, and the limit of a schedule's lines.
-ghost use Rattle.std.specs.Prelude.{None};
+ghost use Rattle.std.specs.Prelude.{None, false};
 
 use co_base::Bytes;
 use co_outside::{Source, SourceFault, SourceMemory, Taken};
 use co_schedule::{Lines, LinesFault};
+use co_trace::Text;
 use std::alloc::Global;
 use std::process::Abort;
 use std::test::Fail;
@@ -13,20 +14,29 @@ use std::test::Fail;
 struct Drip {
     bytes: Vec<u8>,
     at: usize,
+    gave: Text,
+    ended: bool,
 }
 
 impl Source for Drip {
     ghost left = { λ _. None };
 
+    ghost gave = { λ s. s.gave };
+
+    ghost ended = { λ s. s.ended };
+
     ghost faults = { λ _. 0 };
 
     fn take(&mut self, alloc: Global, _most: u32) -> Result<Taken, SourceFault> {
         if self.at >= self.bytes.len() {
+            self.ended = true;
             return Ok(Taken::End);
         }
-        let byte = self.bytes[self.at];
+        let piece = Vec::from_slice(alloc, &[self.bytes[self.at]])?;
         self.at += 1;
-        Ok(Taken::Bytes(Bytes::of(Vec::from_slice(alloc, &[byte])?)))
+        self.gave.note(&piece);
+        self.ended = false;
+        Ok(Taken::Bytes(Bytes::of(piece)))
     }
 }
 
@@ -35,10 +45,15 @@ impl Source for Drip {
 struct Failing {
     calls: u64,
     faults: u64,
+    gave: Text,
 }
 
 impl Source for Failing {
     ghost left = { λ _. None };
+
+    ghost gave = { λ s. s.gave };
+
+    ghost ended = { λ _. false };
 
     ghost faults = { λ s. s.faults };
 
@@ -54,7 +69,9 @@ impl Source for Failing {
             }
         };
         let count = piece.len().min(most as usize);
-        Ok(Taken::Bytes(Bytes::of(Vec::from_slice(alloc, &piece[..count])?)))
+        let front = Vec::from_slice(alloc, &piece[..count])?;
+        self.gave.note(&front);
+        Ok(Taken::Bytes(Bytes::of(front)))
     }
 }
 
@@ -78,6 +95,8 @@ fn lines_are_lent_one_byte_at_a_time(rt: HostRuntime) -> Result<(), Fail> {
     let mut source = Drip {
         bytes: Vec::from_slice(rt.alloc(), b"members lock coords 1\n\nread 1 m1 a")?,
         at: 0,
+        gave: Text::new(),
+        ended: false,
     };
     let mut reader = Lines::new(rt.alloc(), 8192, 262144)?;
     is_next(&rt, &mut reader, &mut source, b"members lock coords 1");
@@ -92,6 +111,7 @@ fn a_fault_comes_behind_the_lines_taken_before_it(rt: HostRuntime) -> Result<(),
     let mut source = Failing {
         calls: 0,
         faults: 0,
+        gave: Text::new(),
     };
     let mut reader = Lines::new(rt.alloc(), 8192, 262144)?;
     is_next(&rt, &mut reader, &mut source, b"members lock coords 1");

@@ -45,3 +45,8 @@ pub held_at_fault : {X E : Type 0} (result : Result X E) (told : Option (List �
     → OnErr result ((taken : ℕ) × (told ≡ Some (held ++ take taken piece)))
 held_at_fault (Ok x) told held piece count is = tt
 held_at_fault (Err e) told held piece count is = (count, is)
+
+pub took_at_fault : {X E : Type 0} (result : Result X E) (took held piece : List ℕ) (count : ℕ) → took ≡ held ++ take count piece
+    → OnErr result ((done : ℕ) × (took ≡ held ++ take done piece))
+took_at_fault (Ok value) took held piece count is = tt
+took_at_fault (Err fault) took held piece count is = (count, is)

@@ -1,4 +1,5 @@
 pub mod Faults
+pub mod Heard
 pub mod Source
 pub mod Sink
 pub mod SourceMemory

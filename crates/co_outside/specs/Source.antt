@@ -1,5 +1,5 @@
 -- What a call of a source gives.
-use Rattle.std.specs.Prelude.{ℕ, ◌≤◌, List, [], length, Result, Ok, Err}
+use Rattle.std.specs.Prelude.{ℕ, ◌≤◌, Bool, true, false, List, [], length, Result, Ok, Err}
 use Rattle.co_outside.specs.declared.source.Taken.{Taken}
 use Rattle.co_outside.specs.declared.source.Taken.TheVariants.{Bytes, End}
 use Rattle.co_outside.specs.declared.source.SourceFault.{SourceFault}
@@ -13,6 +13,12 @@ taken_bytes End = []
 abbrev pub given : Result Taken SourceFault → List ℕ
 given (Ok taken) = taken_bytes taken
 given (Err fault) = []
+
+-- whether the last answer of a source was the end, after one more call; a fault is no answer
+abbrev pub ended_by : Result Taken SourceFault → Bool → Bool
+ended_by (Ok (Bytes bytes)) before = false
+ended_by (Ok End) before = true
+ended_by (Err fault) before = before
 
 -- at least one byte and at most so many, or the end
 abbrev pub HasSize : ℕ → Taken → Type 0

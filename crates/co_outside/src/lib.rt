@@ -2,11 +2,13 @@
 //!
 //! Each trait says what its calls tell of the content, where it can be told, and that the count of
 //! faults rises exactly in the calls that answer `Failed`. A form in memory tells its content
-//! and fails at named calls; a form over std's readers and writers tells nothing, nor does the one over
-//! files, which stands in a crate of its own.
+//! and fails at named calls; a form over std's readers and writers tells nothing of what is still to
+//! come, nor does the one over files, which stands in a crate of its own. What a source gave and
+//! what a sink took is told by every form.
 #![tactic(auto)]
 
 mod failing;
+mod heard;
 mod home;
 mod home_memory;
 mod home_twist;

@@ -32,6 +32,9 @@ pub trait Sink {
     /// The bytes that the sink holds, where it tells them.
     ghost told: { Self → Option (List ℕ) };
 
+    /// All bytes that the sink took, the oldest first.
+    ghost took: { Self → List ℕ };
+
     /// How often the sink has failed.
     ghost faults: { Self → ℕ };
 
@@ -44,6 +47,7 @@ pub trait Sink {
         ensures count { IfOk result (λ n. n ≤ length piece.now) }
         ensures some { 1 ≤ length piece.now → IfOk result (λ n. 1 ≤ n) }
         ensures appended { (held : List ℕ) → told self.old ≡ Some held → told self.new ≡ Some (held ++ accepted piece.now result) }
+        ensures took { took self.new ≡ took self.old ++ accepted piece.now result }
         ensures counts { faults self.old ≤ faults self.new }
         ensures failed { IsErrOf result SinkFault.Failed → HasRisen (faults self.old) (faults self.new) }
         ensures quiet { (IsErrOf result SinkFault.Failed → ⊥) → faults self.new ≡ faults self.old };

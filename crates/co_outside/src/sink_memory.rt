@@ -45,12 +45,15 @@ impl Sink for SinkMemory {
 
     ghost told = { λ s. Some (memory_held s) };
 
+    ghost took = { memory_held };
+
     ghost faults = { λ s. s.faults };
 
     fn put(&mut self, _alloc: Global, piece: &[u8]) -> Result<u32, SinkFault>
         ensures count { IfOk result (λ n. n ≤ length piece.now) }
         ensures some { 1 ≤ length piece.now → IfOk result (λ n. 1 ≤ n) }
         ensures appended { memory_held self.new ≡ memory_held self.old ++ accepted piece.now result }
+        ensures took { memory_held self.new ≡ memory_held self.old ++ accepted piece.now result }
         ensures counts { self.old.faults ≤ self.new.faults }
         ensures failed { IsErrOf result SinkFault.Failed → HasRisen self.old.faults self.new.faults }
         ensures quiet { (IsErrOf result SinkFault.Failed → ⊥) → self.new.faults ≡ self.old.faults }

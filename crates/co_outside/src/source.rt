@@ -1,8 +1,8 @@
 //! Where bytes come from.
-ghost use Rattle.std.specs.Prelude.{◌≡◌, ◌≤◌, ◌↔◌, List, [], ℕ, Option, length, take, drop, IfOk, IsErrOf};
+ghost use Rattle.std.specs.Prelude.{◌≡◌, ◌≤◌, ◌↔◌, ◌++◌, Bool, List, [], ℕ, Option, length, take, drop, IfOk, IsErrOf};
 ghost use Rattle.co_outside.specs.declared.source.Taken.TheVariants.{End};
 ghost use Rattle.co_outside.specs.Faults.{HasRisen};
-ghost use Rattle.co_outside.specs.Source.{given, HasSize};
+ghost use Rattle.co_outside.specs.Source.{given, ended_by, HasSize};
 
 use co_base::Bytes;
 use std::alloc::{AllocError, Global};
@@ -43,6 +43,12 @@ pub trait Source {
     /// The bytes that are left, where the source tells them.
     ghost left: { Self → Option (List ℕ) };
 
+    /// All bytes that the source gave, the oldest first.
+    ghost gave: { Self → List ℕ };
+
+    /// Whether its last answer, faults apart, was the end.
+    ghost ended: { Self → Bool };
+
     /// How often the source has failed.
     ghost faults: { Self → ℕ };
 
@@ -55,6 +61,8 @@ pub trait Source {
         ensures front { (bytes : List ℕ) → left self.old ≡ Some bytes → given result ≡ take (length (given result)) bytes }
         ensures rest { (bytes : List ℕ) → left self.old ≡ Some bytes → left self.new ≡ Some (drop (length (given result)) bytes) }
         ensures end { (bytes : List ℕ) → left self.old ≡ Some bytes → IfOk result (λ taken. (taken ≡ End) ↔ (bytes ≡ [])) }
+        ensures gave { gave self.new ≡ gave self.old ++ given result }
+        ensures ended { ended self.new ≡ ended_by result (ended self.old) }
         ensures counts { faults self.old ≤ faults self.new }
         ensures failed { IsErrOf result SourceFault.Failed → HasRisen (faults self.old) (faults self.new) }
         ensures quiet { (IsErrOf result SourceFault.Failed → ⊥) → faults self.new ≡ faults self.old };

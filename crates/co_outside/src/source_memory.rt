@@ -1,5 +1,5 @@
 //! A source in memory.
-ghost use Rattle.std.specs.Prelude.{◌≡◌, ◌≤◌, ◌-◌, ◌↔◌, [], List, ℕ, length, take, drop, map, Some, IfOk, IsErrOf, Contains};
+ghost use Rattle.std.specs.Prelude.{◌≡◌, ◌≤◌, ◌-◌, ◌↔◌, ◌++◌, false, [], List, ℕ, length, take, drop, map, Some, IfOk, IsErrOf, Contains};
 
 use crate::failing::is_due;
 use crate::source::{Source, SourceFault, Taken};
@@ -11,24 +11,28 @@ use std::alloc::Global;
 pub struct SourceMemory {
     bytes: Vec<u8>,
     at: usize,
+    ended: bool,
     fail: Vec<u32>,
     faults: u64,
     ghost within: { at ≤ length bytes.items },
 }
 
 impl SourceMemory {
-    ghost use Rattle.co_outside.specs.SourceMemory.{memory_left, calls_to_fail};
+    ghost use Rattle.co_outside.specs.SourceMemory.{memory_left, memory_gave, calls_to_fail};
 
     /// A source of these bytes. `fail` names the calls that are to fail, counted from 1. Takes no
     /// memory.
     pub fn new(bytes: Vec<u8>, fail: Vec<u32>) -> SourceMemory
         ensures left { memory_left result ≡ bytes.items }
+        ensures gave { memory_gave result ≡ [] }
+        ensures ended { result.ended ≡ false }
         ensures fails { calls_to_fail result ≡ fail.items }
         ensures faults { result.faults ≡ 0 }
     {
         SourceMemory {
             bytes,
             at: 0,
+            ended: false,
             fail,
             faults: 0,
         }
@@ -38,10 +42,14 @@ impl SourceMemory {
 impl Source for SourceMemory {
     ghost use Rattle.co_outside.specs.declared.source.Taken.TheVariants.{End};
     ghost use Rattle.co_outside.specs.Faults.{HasRisen};
-    ghost use Rattle.co_outside.specs.Source.{given, HasSize};
-    ghost use Rattle.co_outside.specs.SourceMemory.{memory_left, calls_to_fail};
+    ghost use Rattle.co_outside.specs.Source.{given, ended_by, HasSize};
+    ghost use Rattle.co_outside.specs.SourceMemory.{memory_left, memory_gave, calls_to_fail};
 
     ghost left = { λ s. Some (memory_left s) };
+
+    ghost gave = { memory_gave };
+
+    ghost ended = { λ s. s.ended };
 
     ghost faults = { λ s. s.faults };
 
@@ -51,6 +59,8 @@ impl Source for SourceMemory {
         ensures front { given result ≡ take (length (given result)) (memory_left self.old) }
         ensures rest { memory_left self.new ≡ drop (length (given result)) (memory_left self.old) }
         ensures end { IfOk result (λ taken. (taken ≡ End) ↔ (memory_left self.old ≡ [])) }
+        ensures gave { memory_gave self.new ≡ memory_gave self.old ++ given result }
+        ensures ended { self.new.ended ≡ ended_by result self.old.ended }
         ensures counts { self.old.faults ≤ self.new.faults }
         ensures failed { IsErrOf result SourceFault.Failed → HasRisen self.old.faults self.new.faults }
         ensures quiet { (IsErrOf result SourceFault.Failed → ⊥) → self.new.faults ≡ self.old.faults }
@@ -63,11 +73,13 @@ impl Source for SourceMemory {
         }
         let rest = &self.bytes[self.at..];
         if rest.is_empty() {
+            self.ended = true;
             return Ok(Taken::End);
         }
         let count = rest.len().min(most as usize);
         let front = Vec::from_slice(alloc, &rest[..count])?;
         self.at += count;
+        self.ended = false;
         Ok(Taken::Bytes(Bytes::of(front)))
     }
 }

@@ -1,5 +1,5 @@
 //! Whole inputs and whole outputs, over the calls that move a piece at a time.
-ghost use Rattle.std.specs.Prelude.{◌≡◌, ◌≤◌, ◌++◌, List, ℕ, Some, length, take, drop, IfOk, OnOk, OnErr, IsErrOf};
+ghost use Rattle.std.specs.Prelude.{◌≡◌, ◌≤◌, ◌<◌, ◌++◌, true, List, ℕ, Some, length, take, drop, IfOk, OnOk, OnErr, IsErrOf};
 ghost use Rattle.co_outside.specs.Faults.{HasRisen};
 
 use crate::sink::{Sink, SinkFault};
@@ -18,6 +18,9 @@ pub fn read_all<S: Source>(alloc: Global, source: &mut S, most: u32) -> Result<V
     ensures size { IfOk result (λ v. length v.items ≤ most) }
     ensures rest { (held : List ℕ) → S.left source.old ≡ Some held → OnOk result (S.left source.new ≡ Some (drop most held)) }
     ensures lost { (held : List ℕ) → S.left source.old ≡ Some held → OnErr result ((count : ℕ) × (S.left source.new ≡ Some (drop count held))) }
+    ensures gave { IfOk result (λ v. S.gave source.new ≡ S.gave source.old ++ v.items) }
+    ensures gave_more { OnErr result ((more : List ℕ) × (S.gave source.new ≡ S.gave source.old ++ more)) }
+    ensures ended { IfOk result (λ v. length v.items < most → S.ended source.new ≡ true) }
     ensures counts { S.faults source.old ≤ S.faults source.new }
     ensures failed { IsErrOf result SourceFault.Failed → HasRisen (S.faults source.old) (S.faults source.new) }
     ensures quiet { (IsErrOf result SourceFault.Failed → ⊥) → S.faults source.new ≡ S.faults source.old }
@@ -40,6 +43,8 @@ pub fn read_all<S: Source>(alloc: Global, source: &mut S, most: u32) -> Result<V
 pub fn put_all<K: Sink>(alloc: Global, sink: &mut K, piece: &[u8]) -> Result<(), SinkFault>
     ensures appended { (held : List ℕ) → K.told sink.old ≡ Some held → OnOk result (K.told sink.new ≡ Some (held ++ piece.now)) }
     ensures front { (held : List ℕ) → K.told sink.old ≡ Some held → OnErr result ((count : ℕ) × (K.told sink.new ≡ Some (held ++ take count piece.now))) }
+    ensures took { OnOk result (K.took sink.new ≡ K.took sink.old ++ piece.now) }
+    ensures took_front { OnErr result ((count : ℕ) × (K.took sink.new ≡ K.took sink.old ++ take count piece.now)) }
     ensures counts { K.faults sink.old ≤ K.faults sink.new }
     ensures failed { IsErrOf result SinkFault.Failed → HasRisen (K.faults sink.old) (K.faults sink.new) }
     ensures quiet { (IsErrOf result SinkFault.Failed → ⊥) → K.faults sink.new ≡ K.faults sink.old }

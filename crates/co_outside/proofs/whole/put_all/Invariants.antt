@@ -7,6 +7,7 @@ invariant-writing g l = record {
   within : l.done ≤ length l.piece;
   counts : g.K.Sink.faults l.sink ≡ g.K.Sink.faults l.fn.sink;
   front : (held : List ℕ) → g.K.Sink.told l.fn.sink ≡ Some held → g.K.Sink.told l.sink ≡ Some (held ++ take l.done l.piece);
+  took : g.K.Sink.took l.sink ≡ g.K.Sink.took l.fn.sink ++ take l.done l.piece;
 }
 
 abbrev pub decreases-writing : goal.decreases-writing

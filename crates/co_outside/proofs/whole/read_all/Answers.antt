@@ -1,4 +1,4 @@
-use Rattle.std.proofs.Common.{◌≡◌, ◌∙◌, ap, sym, rules, ℕ, List, Some, take, drop, length, ◌++◌}
+use Rattle.std.proofs.Common.{◌≡◌, ◌∙◌, ap, sym, rules, ℕ, List, Some, take, drop, length, ◌++◌, append_assoc}
 use Rattle.co_outside.specs.Source.{taken_bytes}
 use Rattle.co_outside.proofs.Wholes.{more_read, less_left, all_read, none_left, left_at_fault}
 use Rattle.co_outside.proofs.whole.read_all.Goals as goal
@@ -24,6 +24,10 @@ reading-preserved g c =
           c.in_ok-bytes.ensures.rest _ (c.reading.invariant.rest held told)
           ∙ ap Some (less_left held c.reading.input.items (taken_bytes c.in_ok-bytes.field-0))
           ∙ ap (λ (xs : List ℕ). Some (drop (length xs) held)) (sym items);
+      gave = c.in_ok-bytes.ensures.gave
+          ∙ ap (λ (gave : List ℕ). gave ++ taken_bytes c.in_ok-bytes.field-0) c.reading.invariant.gave
+          ∙ append_assoc (g.S.Source.gave c.args.source.now) c.reading.input.items (taken_bytes c.in_ok-bytes.field-0)
+          ∙ ap (λ (xs : List ℕ). g.S.Source.gave c.args.source.now ++ xs) (sym items);
     }
 
 pub returns-in-End-clause-bytes : goal.returns-in-End-clause-bytes
