@@ -111,9 +111,13 @@ abbrev pub opens : Account → Head → List Node → Answer → Option Read
 opens a head seen answer.Opened = if has_headers seen head then at_place (Behind head 1) (Some a) else None
 opens a head seen _ = None
 
+-- no mark stands behind a message, so every header was told before the first one
+abbrev pub sends : Account → Head → List Node → Option Read
+sends a head seen = if has_headers seen head then at_place (InHead head seen true) (Some a) else None
+
 abbrev pub in_head : Account → Head → List Node → Bool → ItemKind → Option Read
 in_head a head seen false (item.Log mark) = at_place (InHead head (with_header seen mark) false) (Some a)
-in_head a head seen sending (item.Sent sent) = at_place (InHead head seen true) (Some a)
+in_head a head seen sending (item.Sent sent) = sends a head seen
 in_head a head seen sending (item.Answered said) = opens a head seen said
 in_head a head seen sending _ = None
 

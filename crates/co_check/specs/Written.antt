@@ -26,32 +26,44 @@ fault_of (check.Long line) = fault.Long line
 fault_of check.Many = fault.Many
 fault_of check.Memory = fault.Memory
 
--- a sink that held this took a front of the text of a verdict
-abbrev pub IsFront : List ℕ → Option (List ℕ) → Verdict → Type 0
-IsFront held told judged = (count : ℕ) × (told ≡ Some (held ++ take count (verdict_text judged)))
+-- How a verdict is written, by the text that is told of it.
+module _ (says : Verdict → List ℕ) where
+  -- a sink that held this took a front of what is told of a verdict
+  abbrev pub IsFrontAs : List ℕ → Option (List ℕ) → Verdict → Type 0
+  IsFrontAs held told judged = (count : ℕ) × (told ≡ Some (held ++ take count (says judged)))
 
--- how a verdict is written: whole, or a front of it where the sink failed or there was no memory
-abbrev pub IsPut : Verdict → List ℕ → Option (List ℕ) → Result Finding VerdictFault → Type 0
-IsPut judged held told (Ok found) = (found ≡ finding_of judged) × (told ≡ Some (held ++ verdict_text judged))
-IsPut judged held told (Err fault.Write) = IsFront held told judged
-IsPut judged held told (Err fault.Memory) = IsFront held told judged
-IsPut judged held told (Err _) = ⊥
+  -- how a verdict is written: whole, or a front of it where the sink failed or there was no memory
+  abbrev pub IsPutAs : Verdict → List ℕ → Option (List ℕ) → Result Finding VerdictFault → Type 0
+  IsPutAs judged held told (Ok found) = (found ≡ finding_of judged) × (told ≡ Some (held ++ says judged))
+  IsPutAs judged held told (Err fault.Write) = IsFrontAs held told judged
+  IsPutAs judged held told (Err fault.Memory) = IsFrontAs held told judged
+  IsPutAs judged held told (Err _) = ⊥
 
--- the verdict of the text was found and written
+  -- the verdict of the text was found and written
+  abbrev pub IsFoundAs : List ℕ → List ℕ → Option (List ℕ) → Verdict → Type 0
+  IsFoundAs text held told judged = IsVerdict text judged × (told ≡ Some (held ++ says judged))
+
+  -- a front of what is told of its verdict was put
+  abbrev pub IsFoundInPartAs : List ℕ → List ℕ → Option (List ℕ) → Type 0
+  IsFoundInPartAs text held told = (judged : Verdict) × IsVerdict text judged × IsFrontAs held told judged
+
+  -- How the verdict on a text is written to a sink that held this: by what was found, or by the fault.
+  abbrev pub IsWrittenAs : List ℕ → List ℕ → Option (List ℕ) → Result Finding VerdictFault → Type 0
+  IsWrittenAs text held told (Ok finding.Serial) = (transactions : ℕ) × (map : List Records) × IsFoundAs text held told (verdict.Serial transactions map)
+  IsWrittenAs text held told (Ok (finding.NotSerial txn line)) = (was : Reply) × (serial : Reply) × IsFoundAs text held told (verdict.Differs txn line was serial)
+  IsWrittenAs text held told (Err (fault.Text line)) = IsTextFault text line × (told ≡ Some held)
+  IsWrittenAs text held told (Err (fault.Long line)) = IsLineFault text (check.Long line) × (told ≡ Some held)
+  IsWrittenAs text held told (Err fault.Many) = IsLineFault text check.Many × (told ≡ Some held)
+  IsWrittenAs text held told (Err fault.Read) = told ≡ Some held
+  IsWrittenAs text held told (Err fault.Write) = IsFoundInPartAs text held told
+  IsWrittenAs text held told (Err fault.Memory) = (told ≡ Some held) ⊎ IsFoundInPartAs text held told
+
+-- as the verdict alone
 abbrev pub IsFound : List ℕ → List ℕ → Option (List ℕ) → Verdict → Type 0
-IsFound text held told judged = IsVerdict text judged × (told ≡ Some (held ++ verdict_text judged))
+IsFound = IsFoundAs verdict_text
 
--- a front of the text of its verdict was put
 abbrev pub IsFoundInPart : List ℕ → List ℕ → Option (List ℕ) → Type 0
-IsFoundInPart text held told = (judged : Verdict) × IsVerdict text judged × IsFront held told judged
+IsFoundInPart = IsFoundInPartAs verdict_text
 
--- How the verdict on a text is written to a sink that held this: by what was found, or by the fault.
 abbrev pub IsWritten : List ℕ → List ℕ → Option (List ℕ) → Result Finding VerdictFault → Type 0
-IsWritten text held told (Ok finding.Serial) = (transactions : ℕ) × (map : List Records) × IsFound text held told (verdict.Serial transactions map)
-IsWritten text held told (Ok (finding.NotSerial txn line)) = (was : Reply) × (serial : Reply) × IsFound text held told (verdict.Differs txn line was serial)
-IsWritten text held told (Err (fault.Text line)) = IsTextFault text line × (told ≡ Some held)
-IsWritten text held told (Err (fault.Long line)) = IsLineFault text (check.Long line) × (told ≡ Some held)
-IsWritten text held told (Err fault.Many) = IsLineFault text check.Many × (told ≡ Some held)
-IsWritten text held told (Err fault.Read) = told ≡ Some held
-IsWritten text held told (Err fault.Write) = IsFoundInPart text held told
-IsWritten text held told (Err fault.Memory) = (told ≡ Some held) ⊎ IsFoundInPart text held told
+IsWritten = IsWrittenAs verdict_text

@@ -25,6 +25,6 @@ pub use fault::CheckFault;
 pub use laws::texts_are_checked_once;
 pub use lines::check_items;
 pub use place::Place;
-pub use text::put_verdict;
+pub use text::{Detail, put_verdict};
 pub use verdict::Verdict;
 pub use writing::{Finding, VerdictFault, write_check};

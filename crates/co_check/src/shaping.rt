@@ -4,7 +4,7 @@ ghost use Rattle.co_check.specs.Account.{Account, marked, replied};
 ghost use Rattle.co_check.specs.Kept.{Keeps, IsNext};
 ghost use Rattle.co_check.specs.declared.ledger.Ledger.{Ledger};
 ghost use Rattle.co_check.specs.declared.place.Place.TheVariants.{InHead, InGroup, Behind};
-ghost use Rattle.co_check.specs.Shape.{has_node, has_members, has_coords, has_headers, with_header, number_at, at_place, at_front, opens, in_head, in_group, behind, told_at, next};
+ghost use Rattle.co_check.specs.Shape.{has_node, has_members, has_coords, has_headers, with_header, number_at, at_place, at_front, opens, sends, in_head, in_group, behind, told_at, next};
 
 use crate::fitting::fits;
 use crate::ledger::Ledger;
@@ -96,6 +96,21 @@ fn opens(head: Head, seen: Sequence<Node>, answer: Answer) -> Option<Place>
     }
 }
 
+/// A message in the group of the head, behind which no mark may stand: every header has been told.
+fn sends(head: Head, seen: Sequence<Node>) -> Option<Place>
+    ensures { (l : Ledger) (a : Account) → Keeps l a → IsNext (sends a head seen) result l }
+{
+    if has_headers(seen.as_slice(), &head) {
+        return Some(Place::InHead {
+            head,
+            seen,
+            sending: true,
+        });
+    }
+    drop((head, seen));
+    None
+}
+
 /// A line of the group of the head.
 fn in_head(
     head: Head,
@@ -107,11 +122,7 @@ fn in_head(
 {
     match what {
         ItemKind::Log(mark) if !sending => marked_in_head(head, seen, mark),
-        ItemKind::Sent(_) => Ok(Some(Place::InHead {
-            head,
-            seen,
-            sending: true,
-        })),
+        ItemKind::Sent(_) => Ok(sends(head, seen)),
         ItemKind::Answered(answer) => Ok(opens(head, seen, answer)),
         other => {
             drop((head, seen, other));

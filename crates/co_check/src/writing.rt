@@ -1,11 +1,12 @@
 //! The verdict on a transcript, written to a sink.
 ghost use Rattle.std.specs.Prelude.{◌≡◌, ◌≤◌, ℕ, List, Some, IsErrOf};
 ghost use Rattle.co_outside.specs.Faults.{HasRisen};
-ghost use Rattle.co_check.specs.Written.{finding_of, fault_of, IsPut, IsWritten};
+ghost use Rattle.co_check.specs.Text.{told_in};
+ghost use Rattle.co_check.specs.Written.{finding_of, fault_of, IsPutAs, IsWritten, IsWrittenAs};
 
 use crate::fault::CheckFault;
 use crate::lines::check_items;
-use crate::text::put_verdict;
+use crate::text::{Detail, put_verdict};
 use crate::verdict::Verdict;
 use co_base::Txn;
 use co_outside::{Sink, SinkFault, Source, put_all};
@@ -89,21 +90,44 @@ fn fault_of(fault: CheckFault) -> VerdictFault
 /// Writes a verdict.
 fn write_verdict<K: Sink>(
     alloc: Global,
+    detail: Detail,
     out: &mut K,
     verdict: &Verdict,
 ) -> Result<Finding, VerdictFault>
-    ensures put { (held : List ℕ) → K.told out.old ≡ Some held → IsPut verdict.now held (K.told out.new) result }
+    ensures put { (held : List ℕ) → K.told out.old ≡ Some held → IsPutAs (told_in detail) verdict.now held (K.told out.new) result }
+    ensures took { IsPutAs (told_in detail) verdict.now (K.took out.old) (Some (K.took out.new)) result }
     ensures never { IsErrOf result VerdictFault.Read → ⊥ }
     ensures counts { K.faults out.old ≤ K.faults out.new }
     ensures write { IsErrOf result VerdictFault.Write → HasRisen (K.faults out.old) (K.faults out.new) }
     ensures silent { (IsErrOf result VerdictFault.Write → ⊥) → K.faults out.new ≡ K.faults out.old }
 {
     let mut text = Vec::new(alloc);
-    put_verdict(verdict, &mut text)?;
+    put_verdict(detail, verdict, &mut text)?;
     match put_all(alloc, out, &text) {
         Ok(()) => Ok(finding_of(verdict)),
         Err(SinkFault::Failed) => Err(VerdictFault::Write),
         Err(SinkFault::Memory) => Err(VerdictFault::Memory),
+    }
+}
+
+/// Reads a transcript, judges it and writes so much of the verdict.
+fn write_judged<S: Source, K: Sink>(
+    alloc: Global,
+    detail: Detail,
+    source: &mut S,
+    out: &mut K,
+) -> Result<Finding, VerdictFault>
+    ensures written { (text held : List ℕ) → S.left source.old ≡ Some text → K.told out.old ≡ Some held → IsWrittenAs (told_in detail) text held (K.told out.new) result }
+    ensures reads { S.faults source.old ≤ S.faults source.new }
+    ensures read { IsErrOf result VerdictFault.Read → HasRisen (S.faults source.old) (S.faults source.new) }
+    ensures quiet { (IsErrOf result VerdictFault.Read → ⊥) → S.faults source.new ≡ S.faults source.old }
+    ensures counts { K.faults out.old ≤ K.faults out.new }
+    ensures write { IsErrOf result VerdictFault.Write → HasRisen (K.faults out.old) (K.faults out.new) }
+    ensures silent { (IsErrOf result VerdictFault.Write → ⊥) → K.faults out.new ≡ K.faults out.old }
+{
+    match check_items(alloc, source) {
+        Ok(verdict) => write_verdict(alloc, detail, out, &verdict),
+        Err(fault) => Err(fault_of(fault)),
     }
 }
 
@@ -125,8 +149,5 @@ pub fn write_check<S: Source, K: Sink>(
     ensures write { IsErrOf result VerdictFault.Write → HasRisen (K.faults out.old) (K.faults out.new) }
     ensures silent { (IsErrOf result VerdictFault.Write → ⊥) → K.faults out.new ≡ K.faults out.old }
 {
-    match check_items(alloc, source) {
-        Ok(verdict) => write_verdict(alloc, out, &verdict),
-        Err(fault) => Err(fault_of(fault)),
-    }
+    write_judged(alloc, Detail::Verdict, source, out)
 }

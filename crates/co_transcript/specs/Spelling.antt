@@ -48,6 +48,9 @@ reply_fields (reply.Got None) = []
 reply_fields (reply.Rows rows) = decimal (length rows) ∷ row_words rows
 reply_fields reply.Done = []
 
+abbrev pub reply_words : Reply → List Word
+reply_words reply = reply_form reply ++ reply_fields reply
+
 -- the fixed words of an answer
 abbrev pub answer_form : Answer → List Word
 answer_form answer.Opened = codes "open" ∷ []

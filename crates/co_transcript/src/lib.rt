@@ -15,4 +15,4 @@ pub use fault::ItemFault;
 pub use form::{AnswerForm, ToldForm};
 pub use laws::one_text;
 pub use reading::read_item;
-pub use writing::put_item;
+pub use writing::{append_reply, put_item};

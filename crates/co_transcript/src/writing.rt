@@ -3,7 +3,7 @@ ghost use Rattle.std.specs.Prelude.{◌≡◌, [], ◌∷◌, ◌++◌, OnOk, On
 ghost use Rattle.co_base.specs.Lent.{Begins};
 ghost use Rattle.co_schedule.specs.Words.{space, behind};
 ghost use Rattle.co_schedule.specs.Spelling.{node_word};
-ghost use Rattle.co_transcript.specs.Spelling.{mark_word, cause_word, row_words, reply_form, reply_fields, answer_form, answer_fields, kind_words, item_text};
+ghost use Rattle.co_transcript.specs.Spelling.{mark_word, cause_word, row_words, reply_form, reply_fields, reply_words, answer_form, answer_fields, kind_words, item_text};
 
 use co_base::{Mark, MarkKind, Node, Reply, Row};
 use co_message::{Answer, Cause, Item, ItemKind};
@@ -81,6 +81,15 @@ fn append_reply_fields(out: &mut Vec<u8>, reply: &Reply) -> Result<(), AllocErro
         }
         Reply::Got(None) | Reply::Done => Ok(()),
     }
+}
+
+/// Appends a reply as items tell it, each of its words behind a space. After want of memory the list begins with what it held.
+pub fn append_reply(out: &mut Vec<u8>, reply: &Reply) -> Result<(), AllocError>
+    ensures ok { OnOk result (out.new.items ≡ out.old.items ++ behind (reply_words reply.now)) }
+    ensures err { OnErr result (Begins out.old.items out.new.items) }
+{
+    append_word(out, reply_text(reply))?;
+    append_reply_fields(out, reply)
 }
 
 fn answer_text(answer: &Answer) -> &'static [u8]

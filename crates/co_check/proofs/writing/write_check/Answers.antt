@@ -1,6 +1,0 @@
-use Rattle.co_check.proofs.Verdicts.{written}
-use Rattle.co_check.proofs.writing.write_check.Goals as goal
-
-pub returns-in-Ok-clause-written : goal.returns-in-Ok-clause-written
-returns-in-Ok-clause-written g c = λ text held is told.
-    written text held (g.K.Sink.told c.write_verdict.new.out) c.in-Ok.verdict c.write_verdict.result (c.in-Ok.ensures.checked text is) (c.write_verdict.ensures.put held told)
