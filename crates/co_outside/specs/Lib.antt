@@ -10,4 +10,5 @@ pub mod Stored
 pub mod Spots
 pub mod HomeMemory
 pub mod HomeMemoryLaws
+pub mod HomeTwist
 pub mod Untold

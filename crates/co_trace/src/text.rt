@@ -27,6 +27,15 @@ impl Text {
         }
     }
 
+    /// These bytes.
+    pub fn of(bytes: &[u8]) -> Text
+        ensures { result ≡ bytes.now }
+    {
+        let mut text = Text::new();
+        text.note(bytes);
+        text
+    }
+
     /// Notes bytes, behind those before.
     pub fn note(&mut self, bytes: &[u8])
         ensures { self.new ≡ self.old ++ bytes.now }
