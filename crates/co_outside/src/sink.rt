@@ -38,11 +38,14 @@ pub trait Sink {
     /// How often the sink has failed.
     ghost faults: { Self → ℕ };
 
+    /// How often it had no memory.
+    ghost lacks: { Self → ℕ };
+
     /// Takes some bytes from the front of the piece and gives their count, at least 1 of a piece
     /// that is not empty. A fault takes nothing.
     ///
     /// `Failed` comes where the count of faults rose in this call, and only there; so it does where
-    /// the outside took nothing.
+    /// the outside took nothing. `Memory` comes where the other count rose, and only there.
     fn put(&mut self, alloc: Global, piece: &[u8]) -> Result<u32, SinkFault>
         ensures count { IfOk result (λ n. n ≤ length piece.now) }
         ensures some { 1 ≤ length piece.now → IfOk result (λ n. 1 ≤ n) }
@@ -50,5 +53,8 @@ pub trait Sink {
         ensures took { took self.new ≡ took self.old ++ accepted piece.now result }
         ensures counts { faults self.old ≤ faults self.new }
         ensures failed { IsErrOf result SinkFault.Failed → HasRisen (faults self.old) (faults self.new) }
-        ensures quiet { (IsErrOf result SinkFault.Failed → ⊥) → faults self.new ≡ faults self.old };
+        ensures quiet { (IsErrOf result SinkFault.Failed → ⊥) → faults self.new ≡ faults self.old }
+        ensures lacks { lacks self.old ≤ lacks self.new }
+        ensures memory { IsErrOf result SinkFault.Memory → HasRisen (lacks self.old) (lacks self.new) }
+        ensures fed { (IsErrOf result SinkFault.Memory → ⊥) → lacks self.new ≡ lacks self.old };
 }

@@ -11,6 +11,7 @@ pub struct SinkMemory {
     bytes: Vec<u8>,
     fail: Vec<u32>,
     faults: u64,
+    lacks: u64,
 }
 
 impl SinkMemory {
@@ -22,11 +23,13 @@ impl SinkMemory {
         ensures held { memory_held result ≡ [] }
         ensures fails { puts_to_fail result ≡ fail.items }
         ensures faults { result.faults ≡ 0 }
+        ensures lacks { result.lacks ≡ 0 }
     {
         SinkMemory {
             bytes: Vec::new(alloc),
             fail,
             faults: 0,
+            lacks: 0,
         }
     }
 
@@ -49,6 +52,8 @@ impl Sink for SinkMemory {
 
     ghost faults = { λ s. s.faults };
 
+    ghost lacks = { λ s. s.lacks };
+
     fn put(&mut self, _alloc: Global, piece: &[u8]) -> Result<u32, SinkFault>
         ensures count { IfOk result (λ n. n ≤ length piece.now) }
         ensures some { 1 ≤ length piece.now → IfOk result (λ n. 1 ≤ n) }
@@ -57,6 +62,9 @@ impl Sink for SinkMemory {
         ensures counts { self.old.faults ≤ self.new.faults }
         ensures failed { IsErrOf result SinkFault.Failed → HasRisen self.old.faults self.new.faults }
         ensures quiet { (IsErrOf result SinkFault.Failed → ⊥) → self.new.faults ≡ self.old.faults }
+        ensures lacks { self.old.lacks ≤ self.new.lacks }
+        ensures memory { IsErrOf result SinkFault.Memory → HasRisen self.old.lacks self.new.lacks }
+        ensures fed { (IsErrOf result SinkFault.Memory → ⊥) → self.new.lacks ≡ self.old.lacks }
         ensures fails { IsErrOf result SinkFault.Failed ↔ Contains (puts_to_fail self.old) 1 }
         ensures counted { puts_to_fail self.new ≡ map (λ n. n - 1) (puts_to_fail self.old) }
     {
@@ -65,7 +73,12 @@ impl Sink for SinkMemory {
             return Err(SinkFault::Failed);
         }
         let count = u32::try_from(piece.len()).unwrap_or(u32::MAX);
-        self.bytes.extend_from_slice(&piece[..count as usize])?;
-        Ok(count)
+        match self.bytes.extend_from_slice(&piece[..count as usize]) {
+            Ok(()) => Ok(count),
+            Err(_) => {
+                self.lacks = self.lacks.saturating_add(1);
+                Err(SinkFault::Memory)
+            }
+        }
     }
 }

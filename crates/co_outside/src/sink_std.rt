@@ -37,6 +37,9 @@ impl<W: Write + Drop> Sink for SinkStd<W> {
 
     ghost faults = { λ s. s.faults };
 
+    // It holds nothing in memory.
+    ghost lacks = { λ _. 0 };
+
     fn put(&mut self, _alloc: Global, piece: &[u8]) -> Result<u32, SinkFault> {
         if piece.is_empty() {
             return Ok(0);

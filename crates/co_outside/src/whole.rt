@@ -39,7 +39,7 @@ pub fn read_all<S: Source>(alloc: Global, source: &mut S, most: u32) -> Result<V
 /// Puts the whole piece into the sink.
 ///
 /// `Failed` comes where the sink failed and its count of faults rose, and only there; `Memory`
-/// comes where the sink had none. With either fault the sink took a front of the piece.
+/// comes where the sink had none, and says so by its other count. With either fault the sink took a front of the piece.
 pub fn put_all<K: Sink>(alloc: Global, sink: &mut K, piece: &[u8]) -> Result<(), SinkFault>
     ensures appended { (held : List ℕ) → K.told sink.old ≡ Some held → OnOk result (K.told sink.new ≡ Some (held ++ piece.now)) }
     ensures front { (held : List ℕ) → K.told sink.old ≡ Some held → OnErr result ((count : ℕ) × (K.told sink.new ≡ Some (held ++ take count piece.now))) }
@@ -48,6 +48,8 @@ pub fn put_all<K: Sink>(alloc: Global, sink: &mut K, piece: &[u8]) -> Result<(),
     ensures counts { K.faults sink.old ≤ K.faults sink.new }
     ensures failed { IsErrOf result SinkFault.Failed → HasRisen (K.faults sink.old) (K.faults sink.new) }
     ensures quiet { (IsErrOf result SinkFault.Failed → ⊥) → K.faults sink.new ≡ K.faults sink.old }
+    ensures lacks { K.lacks sink.old ≤ K.lacks sink.new }
+    ensures memory { IsErrOf result SinkFault.Memory → HasRisen (K.lacks sink.old) (K.lacks sink.new) }
 {
     let mut done: usize = 0;
     'writing: while done < piece.len() {

@@ -16,6 +16,7 @@ pub writing-preserved : goal.writing-preserved
 writing-preserved g c = record {
   within = search rules;
   counts = search rules;
+  lacks = search rules;
   front = λ held told. c.in_ok-count.ensures.appended _ (c.writing.invariant.front held told) ∙ ap Some (more_held held c.args.piece.now c.writing.done c.in_ok-count.count);
   took = c.in_ok-count.ensures.took
       ∙ ap (λ (took : List ℕ). took ++ take c.in_ok-count.count (take (length c.args.piece.now - c.writing.done) (drop c.writing.done c.args.piece.now))) c.writing.invariant.took
