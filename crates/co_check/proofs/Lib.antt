@@ -6,3 +6,4 @@ pub mod Texts
 pub mod Verdicts
 pub mod Splits
 pub mod Fronts
+mod Notes

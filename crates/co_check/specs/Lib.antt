@@ -8,3 +8,4 @@ pub mod Taking
 pub mod Text
 pub mod Written
 pub mod Once
+pub mod Judge

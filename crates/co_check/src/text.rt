@@ -92,11 +92,7 @@ fn append_reasons(into: &mut Vec<u8>, told: &Reply, serial: &Reply) -> Result<()
 /// Appends the text of a verdict: `serial N` and the records that the serial run leaves, a line `NODE KEY VALUE` each, members ascending and
 /// the keys of each ascending; or `not serial T LINE`, and for the reasons the lines `told REPLY` and `serial REPLY`. N is how many
 /// transactions are committed. After want of memory the list begins with what it held.
-pub fn put_verdict(
-    detail: Detail,
-    verdict: &Verdict,
-    into: &mut Vec<u8>,
-) -> Result<(), AllocError>
+pub fn put_verdict(detail: Detail, verdict: &Verdict, into: &mut Vec<u8>) -> Result<(), AllocError>
     ensures ok { OnOk result (into.new.items ≡ into.old.items ++ told_in detail verdict.now) }
     ensures err { OnErr result (Begins into.old.items into.new.items) }
 {
@@ -105,7 +101,15 @@ pub fn put_verdict(
         (Verdict::Differs { txn, line, .. }, Detail::Verdict) => {
             append_difference(into, txn.0, *line)
         }
-        (Verdict::Differs { txn, line, told, serial }, Detail::Reasons) => {
+        (
+            Verdict::Differs {
+                txn,
+                line,
+                told,
+                serial,
+            },
+            Detail::Reasons,
+        ) => {
             append_difference(into, txn.0, *line)?;
             append_reasons(into, told, serial)
         }

@@ -111,7 +111,7 @@ fn write_verdict<K: Sink>(
 }
 
 /// Reads a transcript, judges it and writes so much of the verdict.
-fn write_judged<S: Source, K: Sink>(
+pub(crate) fn write_judged<S: Source, K: Sink>(
     alloc: Global,
     detail: Detail,
     source: &mut S,

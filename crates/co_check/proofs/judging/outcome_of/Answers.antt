@@ -1,0 +1,12 @@
+use Rattle.std.proofs.Common.{◌≡◌, Some, sym, subst, ◌∙◌}
+use Rattle.co_check.specs.Text.{told_in}
+use Rattle.co_check.specs.Written.{IsWrittenAs}
+use Rattle.co_check.specs.declared.text.Detail.{Detail}
+use Rattle.co_check.proofs.judging.outcome_of.Goals as goal
+
+pub returns-in-Some-clause-judged : goal.returns-in-Some-clause-judged
+returns-in-Some-clause-judged g c how text held asked left told =
+    let both : Some c.in-Some.detail ≡ Some how = sym c.in-Some.is ∙ c.detail_of.ensures ∙ asked in
+    let same : c.in-Some.detail ≡ how = cc in
+    subst (λ (d : Detail). IsWrittenAs (told_in d) text held (g.K.Sink.told c.write_judged.new.out) c.write_judged.result) same
+    (c.write_judged.ensures.written text held left told)
