@@ -107,9 +107,12 @@ abbrev pub at_front : Account → ItemKind → Option Read
 at_front a (item.Head head) = at_place (InHead head [] false) (Some a)
 at_front a _ = None
 
+abbrev pub is_open : Answer → Bool
+is_open answer.Opened = true
+is_open _ = false
+
 abbrev pub opens : Account → Head → List Node → Answer → Option Read
-opens a head seen answer.Opened = if has_headers seen head then at_place (Behind head 1) (Some a) else None
-opens a head seen _ = None
+opens a head seen said = if is_open said && has_headers seen head then at_place (Behind head 1) (Some a) else None
 
 -- no mark stands behind a message, so every header was told before the first one
 abbrev pub sends : Account → Head → List Node → Option Read

@@ -4,7 +4,7 @@ ghost use Rattle.co_check.specs.Account.{Account, marked, replied};
 ghost use Rattle.co_check.specs.Kept.{Keeps, IsNext};
 ghost use Rattle.co_check.specs.declared.ledger.Ledger.{Ledger};
 ghost use Rattle.co_check.specs.declared.place.Place.TheVariants.{InHead, InGroup, Behind};
-ghost use Rattle.co_check.specs.Shape.{has_node, has_members, has_coords, has_headers, with_header, number_at, at_place, at_front, opens, sends, in_head, in_group, behind, told_at, next};
+ghost use Rattle.co_check.specs.Shape.{has_node, has_members, has_coords, has_headers, with_header, number_at, at_place, at_front, is_open, opens, sends, in_head, in_group, behind, told_at, next};
 
 use crate::fitting::fits;
 use crate::ledger::Ledger;
@@ -84,16 +84,22 @@ fn marked_in_head(head: Head, seen: Sequence<Node>, mark: Mark) -> Result<Option
     }))
 }
 
+/// Whether the answer says that the logs are open.
+fn is_open(answer: &Answer) -> bool
+    ensures { result ≡ is_open answer.now }
+{
+    matches!(answer, Answer::Opened)
+}
+
 /// The answer that ends the group of the head.
 fn opens(head: Head, seen: Sequence<Node>, answer: Answer) -> Option<Place>
     ensures { (l : Ledger) (a : Account) → Keeps l a → IsNext (opens a head seen answer) result l }
 {
-    match answer {
-        Answer::Opened if has_headers(seen.as_slice(), &head) => {
-            Some(Place::Behind { head, number: 1 })
-        }
-        _ => None,
+    if is_open(&answer) && has_headers(seen.as_slice(), &head) {
+        return Some(Place::Behind { head, number: 1 });
     }
+    drop((head, seen, answer));
+    None
 }
 
 /// A message in the group of the head, behind which no mark may stand: every header has been told.

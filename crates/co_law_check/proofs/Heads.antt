@@ -11,14 +11,14 @@ use Rattle.co_record.specs.declared.record.Record.{Record}
 use Rattle.co_plain.specs.Opening.{Found, header_mark, member_headers, coord_headers, opening_items}
 use Rattle.co_plain.specs.Runs.{numbered}
 use Rattle.co_base.specs.Nodes.{same_node}
-use Rattle.co_check.specs.Account.{no_account}
+use Rattle.co_check.specs.Account.{Account, no_account}
 use Rattle.co_check.specs.Shape.{unread, read_from, at_place, has_node, with_node, is_first_header, with_header, has_members, has_coords, has_headers}
 use Rattle.co_check.specs.declared.place.Place.TheVariants.{InHead, Behind}
 use Rattle.co_law_check.proofs.Marks.{own}
 use Rattle.co_law_check.proofs.Groups.{numbered_more}
 
 -- the nodes whose header was told, after these marks
-abbrev seen_after : List Node → List Mark → List Node
+abbrev pub seen_after : List Node → List Mark → List Node
 seen_after seen [] = seen
 seen_after seen (mark ∷ marks) = seen_after (with_header seen mark) marks
 
@@ -115,24 +115,24 @@ coords_told seen found fresh (suc n) =
 -- ---- the group is read
 
 module _ (head : Head) where
-  marks_read : (seen : List Node) (marks : List Mark) (rest : List Item) →
-      read_from (Some (record { place = InHead head seen false; account = no_account })) (numbered 1 (map item.Log marks) ++ rest) ≡ read_from (Some (record { place = InHead head (seen_after seen marks) false; account = no_account })) rest
-  marks_read seen [] rest = refl
-  marks_read seen (mark ∷ marks) rest = marks_read (with_header seen mark) marks rest
+  pub marks_read : (a : Account) (seen : List Node) (marks : List Mark) (rest : List Item) →
+      read_from (Some (record { place = InHead head seen false; account = a })) (numbered 1 (map item.Log marks) ++ rest) ≡ read_from (Some (record { place = InHead head (seen_after seen marks) false; account = a })) rest
+  marks_read a seen [] rest = refl
+  marks_read a seen (mark ∷ marks) rest = marks_read a (with_header seen mark) marks rest
 
   module _ (fm fc : ℕ → Found) (fresh_members : (m : ℕ) → (fm m).records ≡ []) (fresh_coords : (c : ℕ) → (fc c).records ≡ []) where
-    abbrev headers : List Mark
+    abbrev pub headers : List Mark
     headers = member_headers (length head.kinds) fm ++ coord_headers head.coords fc
 
-    all_told : has_headers (seen_after [] headers) head ≡ true
-    all_told =
-        subst (λ ns. has_headers ns head ≡ true) (sym (seen_more [] (member_headers (length head.kinds) fm) (coord_headers head.coords fc)))
-        (both _ _ (members_kept (seen_after [] (member_headers (length head.kinds) fm)) (coord_headers head.coords fc) (length head.kinds) (members_told [] fm fresh_members (length head.kinds)))
-        (coords_told (seen_after [] (member_headers (length head.kinds) fm)) fc fresh_coords head.coords))
+    pub all_told : (seen : List Node) → has_headers (seen_after seen headers) head ≡ true
+    all_told seen =
+        subst (λ ns. has_headers ns head ≡ true) (sym (seen_more seen (member_headers (length head.kinds) fm) (coord_headers head.coords fc)))
+        (both _ _ (members_kept (seen_after seen (member_headers (length head.kinds) fm)) (coord_headers head.coords fc) (length head.kinds) (members_told seen fm fresh_members (length head.kinds)))
+        (coords_told (seen_after seen (member_headers (length head.kinds) fm)) fc fresh_coords head.coords))
 
     pub read_head : (rest : List Item) →
         read_from (Some unread) (numbered 1 (item.Head head ∷ opening_items head.kinds head.coords fm fc) ++ rest) ≡ read_from (Some (record { place = Behind head 1; account = no_account })) rest
     read_head rest =
         ap (read_from (Some (record { place = InHead head [] false; account = no_account }))) (numbered_more 1 (map item.Log headers) (item.Answered answer.Opened ∷ []) rest)
-        ∙ marks_read [] headers (numbered 1 (item.Answered answer.Opened ∷ []) ++ rest)
-        ∙ ap (λ b. read_from (if b then at_place (Behind head 1) (Some no_account) else None) rest) all_told
+        ∙ marks_read no_account [] headers (numbered 1 (item.Answered answer.Opened ∷ []) ++ rest)
+        ∙ ap (λ b. read_from (if b then at_place (Behind head 1) (Some no_account) else None) rest) (all_told [])

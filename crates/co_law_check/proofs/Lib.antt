@@ -9,3 +9,4 @@ pub mod Judged
 pub mod Cutting
 pub mod Places
 pub mod Standing
+pub mod Wholes

@@ -1,5 +1,5 @@
 //! What a checker finds in the transcript of a run.
-ghost use Rattle.std.specs.Prelude.{ℕ, List, [], ◌≡◌, ◌≤◌, length, Result};
+ghost use Rattle.std.specs.Prelude.{ℕ, List, [], ◌≡◌, ◌≤◌, length, Some, Result};
 ghost use Rattle.std.specs.List.{AllByRecursion};
 ghost use Rattle.co_base.specs.declared.head.Head.{Head};
 ghost use Rattle.co_message.specs.declared.event.Event.{Event};
@@ -14,6 +14,9 @@ ghost use Rattle.co_check.specs.Once.{IsOfText};
 ghost use Rattle.co_check.specs.declared.fault.CheckFault.{CheckFault};
 ghost use Rattle.co_check.specs.declared.verdict.Verdict.{Verdict};
 ghost use Rattle.co_law_items.specs.Scans.{HasShortScan, keys_written};
+ghost use Rattle.co_transcript.specs.Items.{IsItem};
+ghost use Rattle.co_check.specs.Shape.{Read, read};
+ghost use Rattle.co_law_check.specs.Whole.{CanBeWhole};
 ghost use Rattle.co_law_check.specs.Told.{IsToldSerially, IsFoundSerial, IsShortItem, most_events, most_writes};
 
 /// The transcript of every schedule over logs without records is well shaped to its end, and each transaction whose decision it tells was
@@ -69,4 +72,10 @@ pub fn few_writes_are_found_serial()
 /// The text of items that have such lines is cut back into them: each stands on a line of its own, behind those before it.
 pub fn items_stand_in_their_text()
     ensures { (items : List Item) → AllByRecursion IsShortItem items → length items ≤ most_of_text → StandsBehind (items_text items) items [] }
+{}
+
+/// A checker finds a fault at the first line at which there is one: as long as lines keep the shape, others may stand behind them with which
+/// the transcript is whole.
+pub fn fronts_can_be_whole()
+    ensures { (items : List Item) (stands : Read) → AllByRecursion IsItem items → read items ≡ Some stands → CanBeWhole items }
 {}

@@ -6,6 +6,6 @@
 mod laws;
 
 pub use laws::{
-    few_writes_are_found_serial, items_stand_in_their_text, schedules_are_found_serial,
-    transcripts_are_found_serial, transcripts_are_serial,
+    few_writes_are_found_serial, fronts_can_be_whole, items_stand_in_their_text,
+    schedules_are_found_serial, transcripts_are_found_serial, transcripts_are_serial,
 };
