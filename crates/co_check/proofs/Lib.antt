@@ -7,3 +7,4 @@ pub mod Verdicts
 pub mod Splits
 pub mod Fronts
 mod Notes
+mod Hearing

@@ -1,6 +1,7 @@
 //! The judge: a program that tells whether a transcript is serial.
 ghost use Rattle.std.specs.Prelude.{◌≡◌, ◌≤◌, ◌↔◌, ℕ, List, Some, None, Ok, Err, codes};
 ghost use Rattle.co_outside.specs.Faults.{HasRisen};
+ghost use Rattle.co_outside.specs.Onward.{past, LiesAhead};
 ghost use Rattle.co_outside.specs.Sink.{HasNoted};
 ghost use Rattle.co_check.specs.Judge.{detail_of, is_why, exit_code, note_of, text_of_note, IsOutcome};
 ghost use Rattle.co_check.specs.declared.text.Detail.{Detail};
@@ -109,6 +110,8 @@ fn outcome_of<S: Source, K: Sink>(
     ensures untouched { result ≡ Outcome.Usage → (source.new ≡ source.old) × (out.new ≡ out.old) }
     ensures judged { (how : Detail) (text held : List ℕ) → detail_of words.now ≡ Some how → S.left source.old ≡ Some text → K.told out.old ≡ Some held →
         IsOutcome how text held (K.told out.new) result }
+    ensures heard { (how : Detail) (text more : List ℕ) → detail_of words.now ≡ Some how → LiesAhead (past S.gave S.ended S.went_on source.old) (past S.gave S.ended S.went_on source.new) text more →
+        IsOutcome how text (K.took out.old) (Some (K.took out.new)) result }
     ensures read { result ≡ Outcome.Ended (Err VerdictFault.Read) → HasRisen (S.faults source.old) (S.faults source.new) }
     ensures quiet { (result ≡ Outcome.Ended (Err VerdictFault.Read) → ⊥) → S.faults source.new ≡ S.faults source.old }
     ensures write { result ≡ Outcome.Ended (Err VerdictFault.Write) → HasRisen (K.faults out.old) (K.faults out.new) }
@@ -138,6 +141,9 @@ pub fn note_outcome<N: Sink>(alloc: Global, notes: &mut N, outcome: &Outcome)
 /// the word `why` the lines `told REPLY` and `serial REPLY` stand behind that: what it was answered, and what the serial run answers. Other
 /// words are `Usage`.
 ///
+/// The clause `judged` says this of a source and a sink that tell what they hold. The clause `heard` says it of any: of each text that begins with what the
+/// source gave, and of what the sink took.
+///
 /// A note of the outcome goes to the sink of notes; a verdict has none. `Read` and `Write` come only where the source or the sink of the
 /// verdict failed, the others as `write_check` says.
 pub fn judge<S: Source, K: Sink, N: Sink>(
@@ -151,6 +157,8 @@ pub fn judge<S: Source, K: Sink, N: Sink>(
     ensures untouched { result ≡ Outcome.Usage → (source.new ≡ source.old) × (out.new ≡ out.old) }
     ensures judged { (how : Detail) (text held : List ℕ) → detail_of words.now ≡ Some how → S.left source.old ≡ Some text → K.told out.old ≡ Some held →
         IsOutcome how text held (K.told out.new) result }
+    ensures heard { (how : Detail) (text more : List ℕ) → detail_of words.now ≡ Some how → LiesAhead (past S.gave S.ended S.went_on source.old) (past S.gave S.ended S.went_on source.new) text more →
+        IsOutcome how text (K.took out.old) (Some (K.took out.new)) result }
     ensures read { result ≡ Outcome.Ended (Err VerdictFault.Read) → HasRisen (S.faults source.old) (S.faults source.new) }
     ensures quiet { (result ≡ Outcome.Ended (Err VerdictFault.Read) → ⊥) → S.faults source.new ≡ S.faults source.old }
     ensures write { result ≡ Outcome.Ended (Err VerdictFault.Write) → HasRisen (K.faults out.old) (K.faults out.new) }

@@ -1,6 +1,7 @@
 //! The lines of a transcript.
 ghost use Rattle.std.specs.Prelude.{◌≡◌, ◌<◌, ◌≤◌, ◌+◌, ◌^◌, ℕ, List, Some, IsErrOf};
 ghost use Rattle.co_outside.specs.Faults.{HasRisen};
+ghost use Rattle.co_outside.specs.Onward.{past, IsOnward, LiesAhead};
 ghost use Rattle.co_check.specs.Checked.{IsCheck};
 ghost use Rattle.co_check.specs.Taking.{HasTaken, IsWithin, IsStep, IsFurther, told_as, further_of, judged_of};
 
@@ -56,6 +57,8 @@ fn take_line<S: Source>(
     requires few { checker.ledger.transactions + 1 < 2 ^ 32 }
     requires within { IsWithin number lines.old }
     ensures checked { (text : List ℕ) → HasTaken text lines.old (S.left source.old) checker → IsStep text lines.new (S.left source.new) result }
+    ensures heard { (whole text more : List ℕ) → LiesAhead (past S.gave S.ended S.went_on source.old) (past S.gave S.ended S.went_on source.new) text more → HasTaken whole lines.old (Some text) checker → IsStep whole lines.new (Some more) result }
+    ensures onward { IsOnward (past S.gave S.ended S.went_on source.old) (past S.gave S.ended S.went_on source.new) }
     ensures further { IsFurther number checker lines.new result }
     ensures counts { S.faults source.old ≤ S.faults source.new }
     ensures read { IsErrOf result CheckFault.Read → HasRisen (S.faults source.old) (S.faults source.new) }
@@ -77,9 +80,11 @@ fn take_line<S: Source>(
 /// whole behind the earlier decisions; `Differs` names the first one, in the order of decisions, that was not, and its first such operation.
 /// `Text` names the first line that is no item or breaks the shape, or the line past the end where the last group is cut; `Long` names
 /// the first line of more than 16,777,216 bytes, and `Many` comes behind as many lines. `Read` comes where the source failed, and only there;
-/// `Memory` where there was none.
+/// `Memory` where there was none. So it is of the text that a source tells, and of what a source gave that tells nothing of what is to come: of each text
+/// that begins with the bytes that it gave, and goes on with whatever comes behind; with nothing, where it ended.
 pub fn check_items<S: Source>(alloc: Global, source: &mut S) -> Result<Verdict, CheckFault>
     ensures checked { (text : List ℕ) → S.left source.old ≡ Some text → IsCheck text result }
+    ensures heard { (text more : List ℕ) → LiesAhead (past S.gave S.ended S.went_on source.old) (past S.gave S.ended S.went_on source.new) text more → IsCheck text result }
     ensures counts { S.faults source.old ≤ S.faults source.new }
     ensures read { IsErrOf result CheckFault.Read → HasRisen (S.faults source.old) (S.faults source.new) }
     ensures quiet { (IsErrOf result CheckFault.Read → ⊥) → S.faults source.new ≡ S.faults source.old }

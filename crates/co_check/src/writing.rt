@@ -1,6 +1,7 @@
 //! The verdict on a transcript, written to a sink.
 ghost use Rattle.std.specs.Prelude.{◌≡◌, ◌≤◌, ℕ, List, Some, IsErrOf};
 ghost use Rattle.co_outside.specs.Faults.{HasRisen};
+ghost use Rattle.co_outside.specs.Onward.{past, LiesAhead};
 ghost use Rattle.co_check.specs.Text.{told_in};
 ghost use Rattle.co_check.specs.Written.{finding_of, fault_of, IsPutAs, IsWritten, IsWrittenAs};
 
@@ -118,6 +119,7 @@ pub(crate) fn write_judged<S: Source, K: Sink>(
     out: &mut K,
 ) -> Result<Finding, VerdictFault>
     ensures written { (text held : List ℕ) → S.left source.old ≡ Some text → K.told out.old ≡ Some held → IsWrittenAs (told_in detail) text held (K.told out.new) result }
+    ensures heard { (text more : List ℕ) → LiesAhead (past S.gave S.ended S.went_on source.old) (past S.gave S.ended S.went_on source.new) text more → IsWrittenAs (told_in detail) text (K.took out.old) (Some (K.took out.new)) result }
     ensures reads { S.faults source.old ≤ S.faults source.new }
     ensures read { IsErrOf result VerdictFault.Read → HasRisen (S.faults source.old) (S.faults source.new) }
     ensures quiet { (IsErrOf result VerdictFault.Read → ⊥) → S.faults source.new ≡ S.faults source.old }
@@ -142,6 +144,7 @@ pub fn write_check<S: Source, K: Sink>(
     out: &mut K,
 ) -> Result<Finding, VerdictFault>
     ensures written { (text held : List ℕ) → S.left source.old ≡ Some text → K.told out.old ≡ Some held → IsWritten text held (K.told out.new) result }
+    ensures heard { (text more : List ℕ) → LiesAhead (past S.gave S.ended S.went_on source.old) (past S.gave S.ended S.went_on source.new) text more → IsWritten text (K.took out.old) (Some (K.took out.new)) result }
     ensures reads { S.faults source.old ≤ S.faults source.new }
     ensures read { IsErrOf result VerdictFault.Read → HasRisen (S.faults source.old) (S.faults source.new) }
     ensures quiet { (IsErrOf result VerdictFault.Read → ⊥) → S.faults source.new ≡ S.faults source.old }

@@ -5,10 +5,16 @@
 //! `co_judge why` writes also what was answered there, and what the serial run answers. A note of how it ended goes to standard error.
 #![tactic(auto)]
 
+ghost use Rattle.std.specs.Prelude.{◌≡◌, ◌↔◌, ℕ, List, Some, None};
+ghost use Rattle.co_outside.specs.Onward.{past, LiesAhead};
+ghost use Rattle.co_check.specs.Judge.{detail_of, IsOutcome};
+ghost use Rattle.co_check.specs.declared.text.Detail.{Detail};
+
 use co_check::{Outcome, VerdictFault, judge, note_outcome};
-use co_outside::{SinkStd, SourceStd};
+use co_outside::{Sink, SinkStd, Source, SourceStd};
+use std::alloc::Global;
 use std::env;
-use std::io::{self, ErrorKind};
+use std::io::{self, ErrorKind, Read, Write};
 use std::process::ExitCode;
 
 /// The words of the command line behind the name of the program.
@@ -20,12 +26,31 @@ fn words_of(rt: &HostRuntime) -> io::Result<Vec<String>> {
     Ok(words)
 }
 
+/// Judges what a stream gives, and writes to streams. Of each text that begins with the bytes that were given, and goes on with whatever comes behind
+/// them, with nothing where the stream ended: the bytes that were taken are the verdict on it, whole or, with a fault, a front of that.
+fn judge_streams<R: Read + Drop, W: Write + Drop, N: Write + Drop>(
+    alloc: Global,
+    words: &[String],
+    source: &mut SourceStd<R>,
+    out: &mut SinkStd<W>,
+    notes: &mut SinkStd<N>,
+) -> Outcome
+    ensures usage { (result ≡ Outcome.Usage) ↔ (detail_of words.now ≡ None) }
+    ensures untouched { result ≡ Outcome.Usage → (source.new ≡ source.old) × (out.new ≡ out.old) }
+    ensures heard { (how : Detail) (text more : List ℕ) → detail_of words.now ≡ Some how →
+        let now = past ⟦<SourceStd<R> as Source>⟧.gave ⟦<SourceStd<R> as Source>⟧.ended ⟦<SourceStd<R> as Source>⟧.went_on in
+        LiesAhead (now source.old) (now source.new) text more →
+        IsOutcome how text (⟦<SinkStd<W> as Sink>⟧.took out.old) (Some (⟦<SinkStd<W> as Sink>⟧.took out.new)) result }
+{
+    judge(alloc, words, source, out, notes)
+}
+
 /// Judges over the standard streams.
 fn judge_here(rt: &HostRuntime, words: &[String]) -> Outcome {
     let mut source = SourceStd::new(rt.stdin());
     let mut out = SinkStd::new(rt.stdout());
     let mut notes = SinkStd::new(rt.stderr());
-    judge(rt.alloc(), words, &mut source, &mut out, &mut notes)
+    judge_streams(rt.alloc(), words, &mut source, &mut out, &mut notes)
 }
 
 /// Notes an outcome that came before any judging.

@@ -16,6 +16,7 @@ struct Drip {
     at: usize,
     gave: Text,
     ended: bool,
+    went_on: bool,
 }
 
 impl Source for Drip {
@@ -24,6 +25,8 @@ impl Source for Drip {
     ghost gave = { λ s. s.gave };
 
     ghost ended = { λ s. s.ended };
+
+    ghost went_on = { λ s. s.went_on };
 
     ghost faults = { λ _. 0 };
 
@@ -35,6 +38,7 @@ impl Source for Drip {
         let piece = Vec::from_slice(alloc, &[self.bytes[self.at]])?;
         self.at += 1;
         self.gave.note(&piece);
+        self.went_on = self.ended || self.went_on;
         self.ended = false;
         Ok(Taken::Bytes(Bytes::of(piece)))
     }
@@ -54,6 +58,8 @@ impl Source for Failing {
     ghost gave = { λ s. s.gave };
 
     ghost ended = { λ _. false };
+
+    ghost went_on = { λ _. false };
 
     ghost faults = { λ s. s.faults };
 
@@ -97,6 +103,7 @@ fn lines_are_lent_one_byte_at_a_time(rt: HostRuntime) -> Result<(), Fail> {
         at: 0,
         gave: Text::new(),
         ended: false,
+        went_on: false,
     };
     let mut reader = Lines::new(rt.alloc(), 8192, 262144)?;
     is_next(&rt, &mut reader, &mut source, b"members lock coords 1");

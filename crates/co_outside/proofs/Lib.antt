@@ -1,3 +1,4 @@
+pub mod Onward
 pub mod Files
 pub mod Overlays
 pub mod TornFiles

@@ -1,6 +1,7 @@
 pub mod Faults
 pub mod Heard
 pub mod Source
+pub mod Onward
 pub mod Sink
 pub mod SourceMemory
 pub mod SinkMemory

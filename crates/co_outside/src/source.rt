@@ -2,7 +2,7 @@
 ghost use Rattle.std.specs.Prelude.{◌≡◌, ◌≤◌, ◌↔◌, ◌++◌, Bool, List, [], ℕ, Option, length, take, drop, IfOk, IsErrOf};
 ghost use Rattle.co_outside.specs.declared.source.Taken.TheVariants.{End};
 ghost use Rattle.co_outside.specs.Faults.{HasRisen};
-ghost use Rattle.co_outside.specs.Source.{given, ended_by, HasSize};
+ghost use Rattle.co_outside.specs.Source.{given, ended_by, went_on_by, HasSize};
 
 use co_base::Bytes;
 use std::alloc::{AllocError, Global};
@@ -49,6 +49,9 @@ pub trait Source {
     /// Whether its last answer, faults apart, was the end.
     ghost ended: { Self → Bool };
 
+    /// Whether it gave bytes behind an end, as a terminal or a growing file may.
+    ghost went_on: { Self → Bool };
+
     /// How often the source has failed.
     ghost faults: { Self → ℕ };
 
@@ -63,6 +66,7 @@ pub trait Source {
         ensures end { (bytes : List ℕ) → left self.old ≡ Some bytes → IfOk result (λ taken. (taken ≡ End) ↔ (bytes ≡ [])) }
         ensures gave { gave self.new ≡ gave self.old ++ given result }
         ensures ended { ended self.new ≡ ended_by result (ended self.old) }
+        ensures went_on { went_on self.new ≡ went_on_by result (ended self.old) (went_on self.old) }
         ensures counts { faults self.old ≤ faults self.new }
         ensures failed { IsErrOf result SourceFault.Failed → HasRisen (faults self.old) (faults self.new) }
         ensures quiet { (IsErrOf result SourceFault.Failed → ⊥) → faults self.new ≡ faults self.old };

@@ -1,5 +1,5 @@
 //! A source in memory.
-ghost use Rattle.std.specs.Prelude.{◌≡◌, ◌≤◌, ◌-◌, ◌↔◌, ◌++◌, false, [], List, ℕ, length, take, drop, map, Some, IfOk, IsErrOf, Contains};
+ghost use Rattle.std.specs.Prelude.{◌≡◌, ◌≤◌, ◌-◌, ◌↔◌, ◌++◌, true, false, [], List, ℕ, length, take, drop, map, Some, IfOk, IsErrOf, Contains};
 
 use crate::failing::is_due;
 use crate::source::{Source, SourceFault, Taken};
@@ -15,6 +15,7 @@ pub struct SourceMemory {
     fail: Vec<u32>,
     faults: u64,
     ghost within: { at ≤ length bytes.items },
+    ghost over: { ended ≡ true → at ≡ length bytes.items },
 }
 
 impl SourceMemory {
@@ -42,7 +43,7 @@ impl SourceMemory {
 impl Source for SourceMemory {
     ghost use Rattle.co_outside.specs.declared.source.Taken.TheVariants.{End};
     ghost use Rattle.co_outside.specs.Faults.{HasRisen};
-    ghost use Rattle.co_outside.specs.Source.{given, ended_by, HasSize};
+    ghost use Rattle.co_outside.specs.Source.{given, ended_by, went_on_by, HasSize};
     ghost use Rattle.co_outside.specs.SourceMemory.{memory_left, memory_gave, calls_to_fail};
 
     ghost left = { λ s. Some (memory_left s) };
@@ -50,6 +51,8 @@ impl Source for SourceMemory {
     ghost gave = { memory_gave };
 
     ghost ended = { λ s. s.ended };
+
+    ghost went_on = { λ _. false };
 
     ghost faults = { λ s. s.faults };
 
@@ -61,6 +64,7 @@ impl Source for SourceMemory {
         ensures end { IfOk result (λ taken. (taken ≡ End) ↔ (memory_left self.old ≡ [])) }
         ensures gave { memory_gave self.new ≡ memory_gave self.old ++ given result }
         ensures ended { self.new.ended ≡ ended_by result self.old.ended }
+        ensures went_on { false ≡ went_on_by result self.old.ended false }
         ensures counts { self.old.faults ≤ self.new.faults }
         ensures failed { IsErrOf result SourceFault.Failed → HasRisen self.old.faults self.new.faults }
         ensures quiet { (IsErrOf result SourceFault.Failed → ⊥) → self.new.faults ≡ self.old.faults }

@@ -17,6 +17,7 @@ const MOST_AT_ONCE: u32 = 65536;
 pub struct SourceStd<R: Read + Drop> {
     reader: Heard<R>,
     ended: bool,
+    went_on: bool,
     faults: u64,
 }
 
@@ -26,12 +27,14 @@ impl<R: Read + Drop> SourceStd<R> {
         ensures reads { result.reader.reader ≡ reader }
         ensures gave { result.reader.gave ≡ [] }
         ensures ended { result.ended ≡ false }
+        ensures went_on { result.went_on ≡ false }
         ensures faults { result.faults ≡ 0 }
     {
         let gave = Text::new();
         SourceStd {
             reader: Heard { reader, gave },
             ended: false,
+            went_on: false,
             faults: 0,
         }
     }
@@ -44,6 +47,8 @@ impl<R: Read + Drop> Source for SourceStd<R> {
 
     ghost ended = { λ s. s.ended };
 
+    ghost went_on = { λ s. s.went_on };
+
     ghost faults = { λ s. s.faults };
 
     fn take(&mut self, alloc: Global, most: u32) -> Result<Taken, SourceFault> {
@@ -55,6 +60,7 @@ impl<R: Read + Drop> Source for SourceStd<R> {
                 Ok(Taken::End)
             }
             Ok(count) => {
+                self.went_on = self.ended || self.went_on;
                 self.ended = false;
                 piece.truncate(count);
                 Ok(Taken::Bytes(Bytes::of(piece)))

@@ -14,3 +14,4 @@ pub mod Heads
 pub mod Filling
 pub mod NextLine
 pub mod HeadUnique
+mod Heard

@@ -1,5 +1,6 @@
 -- How a reader of lines fills its buffer.
 use Rattle.std.specs.Prelude.{ℕ, ◌≡◌, ◌+◌, ◌≤◌, List, ◌++◌, length, position, Option, None, Some}
+use Rattle.co_outside.specs.Onward.{Past, IsOnward}
 use Rattle.co_schedule.specs.LineText.{is_newline}
 use Rattle.co_schedule.specs.declared.lines.Held.{Held}
 use Rattle.co_schedule.specs.declared.lines.Held.TheVariants.{Line, Rest, Full}
@@ -10,6 +11,10 @@ use Rattle.co_schedule.specs.declared.lines.Lines.{Lines}
 -- at least one byte stands behind what was held
 abbrev pub IsGrown : List ℕ → List ℕ → Type 0
 IsGrown held_old held_new = (piece : List ℕ) × (held_new ≡ held_old ++ piece) × (1 ≤ length piece)
+
+-- the bytes that the source gave stand behind what was held
+abbrev pub IsAdded : List ℕ → List ℕ → List ℕ → List ℕ → Type 0
+IsAdded gave_old gave_new held_old held_new = (given : List ℕ) × (gave_new ≡ gave_old ++ given) × (held_new ≡ held_old ++ given)
 
 -- what is held and what the source has left are together what they were
 abbrev pub IsTakenFrom : {S : Type 0} → (S → Option (List ℕ)) → S → S → List ℕ → List ℕ → Type 0
@@ -39,9 +44,11 @@ IsOfSource (fault.Long line) = ⊥
 IsOfSource fault.Many = ⊥
 
 -- The buffer was filled with bytes of the source, which did not fail, and still holds no newline.
-pub record IsFilling {S : Type 0} (left : S → Option (List ℕ)) (faults : S → ℕ) (source_old source_new : S) (old new : Lines) : Type 0 where
+pub record IsFilling {S : Type 0} (left : S → Option (List ℕ)) (faults : S → ℕ) (at : S → Past) (source_old source_new : S) (old new : Lines) : Type 0 where
   pub none : position is_newline new.buffer.items ≡ None
   pub taken : IsTakenFrom left source_old source_new old.buffer.items new.buffer.items
   pub same : HasSameLimits old new
   pub used : (new.used ≡ old.used) × (new.shown ≡ old.shown)
   pub counts : faults source_new ≡ faults source_old
+  pub onward : IsOnward (at source_old) (at source_new)
+  pub added : IsAdded (at source_old).gave (at source_new).gave old.buffer.items new.buffer.items

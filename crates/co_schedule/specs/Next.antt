@@ -1,9 +1,10 @@
 -- What the next line leaves of a reader and of its source.
-use Rattle.std.specs.Prelude.{ℕ, ◌≡◌, ◌≢◌, ◌+◌, ◌<◌, ◌≤◌, List, [], length, position, Option, None, Some, option_copied, Result, OnOk, IfOk, IsErrOf}
+use Rattle.std.specs.Prelude.{ℕ, ◌≡◌, ◌≢◌, ◌+◌, ◌<◌, ◌≤◌, List, [], ◌++◌, length, position, Option, None, Some, option_copied, Result, OnOk, IfOk, IsErrOf}
 use Rattle.std.specs.Borrow.{Fml, Bor, MutBor}
 use Rattle.std.specs.Io.BufRead.{Rests}
+use Rattle.co_outside.specs.Onward.{Past, LiesAhead}
 use Rattle.co_schedule.specs.LineText.{is_newline, behind_line}
-use Rattle.co_schedule.specs.Lines.{most_bytes, most_lines, lines_read, unread, ahead, lent_then}
+use Rattle.co_schedule.specs.Lines.{most_bytes, most_lines, lines_read, unread, ahead, lent_then, next_of, IsRead}
 use Rattle.co_schedule.specs.declared.fault.LinesFault.{LinesFault}
 use Rattle.co_schedule.specs.declared.fault.LinesFault.TheVariants.{Read}
 use Rattle.co_schedule.specs.declared.lines.Lines.{Lines}
@@ -22,13 +23,21 @@ pub record HasMoved {A : Type 0} (old : Lines) (left_old left_new : Option (List
   pub whole : IsErrOf result Read → position is_newline (unread new) ≡ None
   pub limits : (most_bytes new ≡ most_bytes old) × (most_lines new ≡ most_lines old)
 
+-- What was next of every text that may lie ahead was read, and what lies behind it is ahead then.
+pub record HasHeard (old : Lines) (source_old source_new : Past) (new : Lines) (result : Result (Unit {0}) LinesFault) : Type 0 where
+  pub next : (text more : List ℕ) → LiesAhead source_old source_new text more → IsRead (next_of old (unread old ++ text)) new result
+  pub behind : (text more : List ℕ) → LiesAhead source_old source_new text more → OnOk result (unread new ++ more ≡ behind_line (unread old ++ text))
+
 -- the same, and the line is counted
-abbrev pub HasRead : Lines → Option (List ℕ) → Option (List ℕ) → Result (Option (Bor (List ℕ))) LinesFault → Lines → Type 0
-HasRead old left_old left_new result new = HasMoved old left_old left_new result new × IfOk result (λ line. lines_read new ≡ lent_then (lines_read old) (option_copied line))
+abbrev pub HasRead : Lines → Option (List ℕ) → Option (List ℕ) → Past → Past → Result (Option (Bor (List ℕ))) LinesFault → Lines → Type 0
+HasRead old left_old left_new source_old source_new result new =
+    HasMoved old left_old left_new result new
+    × ((text more : List ℕ) → LiesAhead source_old source_new text more → OnOk result (unread new ++ more ≡ behind_line (unread old ++ text)))
+    × IfOk result (λ line. lines_read new ≡ lent_then (lines_read old) (option_copied line))
 
 -- so the reader stands once its line is no longer lent
-abbrev pub EndsAs : MutBor Lines → Option (List ℕ) → Option (List ℕ) → Result (Option (Bor (List ℕ))) LinesFault → Fml
-EndsAs reader left_old left_new result = Rests the_row reader (HasRead reader.now left_old left_new result)
+abbrev pub EndsAs : MutBor Lines → Option (List ℕ) → Option (List ℕ) → Past → Past → Result (Option (Bor (List ℕ))) LinesFault → Fml
+EndsAs reader left_old left_new source_old source_new result = Rests the_row reader (HasRead reader.now left_old left_new source_old source_new result)
 
 -- where a whole line is held, or a byte behind the last line, the source is not asked
 pub record IsIdle {S : Type 0} (reader : Lines) (old new : S) : Type 0 where

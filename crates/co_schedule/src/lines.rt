@@ -1,5 +1,5 @@
 //! The lines of a source, one at a time.
-ghost use Rattle.std.specs.Prelude.{◌≡◌, ◌<◌, ◌≤◌, ◌+◌, ◌++◌, [], List, ℕ, Some, None, length, position, Ok, OnOk, OnErr, IfOk, IfErr, IsErrOf, IfSome, IfNone, ◌≢◌, MatchResult, MatchBool, false, option_copied};
+ghost use Rattle.std.specs.Prelude.{◌≡◌, ◌<◌, ◌≤◌, ◌+◌, ◌++◌, [], List, ℕ, Some, None, length, position, Ok, OnOk, OnErr, IfOk, IfErr, IsErrOf, IfSome, IfNone, ◌≢◌, MatchResult, MatchBool, true, false, option_copied};
 ghost use Rattle.std.specs.Option.{ForSome};
 ghost use Rattle.co_schedule.specs.Limits.{most_of_text};
 ghost use Rattle.co_schedule.specs.LineText.{is_newline, behind_line, next_line, IsNextFault};
@@ -52,10 +52,11 @@ fn newline_in(bytes: &[u8]) -> Option<usize>
 
 impl Lines {
     ghost use Rattle.co_outside.specs.Faults.{HasRisen};
+    ghost use Rattle.co_outside.specs.Onward.{past, IsOnward, LiesAhead};
     ghost use Rattle.co_schedule.specs.Lines.{most_bytes, most_lines, lines_read, unread, shown_line, ahead, next_of, IsRead, lent_then};
     ghost use Rattle.std.specs.Borrow.{sem};
-    ghost use Rattle.co_schedule.specs.Next.{HasMoved, EndsAs, IsIdle};
-    ghost use Rattle.co_schedule.specs.Filling.{IsGrown, IsTakenFrom, IsWithin, IsHeld, IsOfSource, HasSameLimits};
+    ghost use Rattle.co_schedule.specs.Next.{HasHeard, HasMoved, EndsAs, IsIdle};
+    ghost use Rattle.co_schedule.specs.Filling.{IsAdded, IsGrown, IsTakenFrom, IsWithin, IsHeld, IsOfSource, HasSameLimits};
 
     /// A reader of lines of at most `line` bytes without their newline, at most `lines` of them. Takes
     /// a buffer of `line + 1` bytes.
@@ -95,6 +96,9 @@ impl Lines {
         ensures kept { IsErrOf result LinesFault.Read → IsTakenFrom S.left source.old source.new self.old.buffer.items self.new.buffer.items }
         ensures bound { IsWithin S.left source.old source.new self.old.buffer.items (self.old.line + 1) }
         ensures end { result ≡ Ok false → (bytes : List ℕ) → S.left source.old ≡ Some bytes → S.left source.new ≡ Some [] }
+        ensures onward { IsOnward (past S.gave S.ended S.went_on source.old) (past S.gave S.ended S.went_on source.new) }
+        ensures added { OnOk result (IsAdded (S.gave source.old) (S.gave source.new) self.old.buffer.items self.new.buffer.items) }
+        ensures ended { result ≡ Ok false → S.ended source.new ≡ true }
         ensures same { HasSameLimits self.old self.new }
         ensures used { (self.new.used ≡ self.old.used) × (self.new.shown ≡ self.old.shown) }
         ensures counts { S.faults source.old ≤ S.faults source.new }
@@ -126,6 +130,9 @@ impl Lines {
         ensures taken { OnOk result (IsTakenFrom S.left source.old source.new self.old.buffer.items self.new.buffer.items) }
         ensures kept { IsErrOf result LinesFault.Read → IsTakenFrom S.left source.old source.new self.old.buffer.items self.new.buffer.items }
         ensures bound { IsWithin S.left source.old source.new self.old.buffer.items (self.old.line + 1) }
+        ensures onward { IsOnward (past S.gave S.ended S.went_on source.old) (past S.gave S.ended S.went_on source.new) }
+        ensures added { OnOk result (IsAdded (S.gave source.old) (S.gave source.new) self.old.buffer.items self.new.buffer.items) }
+        ensures ended { result ≡ Ok (Some Held.Rest) → S.ended source.new ≡ true }
         ensures same { HasSameLimits self.old self.new }
         ensures used { (self.new.used ≡ self.old.used) × (self.new.shown ≡ self.old.shown) }
         ensures counts { S.faults source.old ≤ S.faults source.new }
@@ -152,6 +159,9 @@ impl Lines {
         ensures kept { IsErrOf result LinesFault.Read → IsTakenFrom S.left source.old source.new self.old.buffer.items self.new.buffer.items }
         ensures bound { IsWithin S.left source.old source.new self.old.buffer.items (self.old.line + 1) }
         ensures idle { (end : ℕ) → position is_newline self.old.buffer.items ≡ Some end → source.new ≡ source.old }
+        ensures onward { IsOnward (past S.gave S.ended S.went_on source.old) (past S.gave S.ended S.went_on source.new) }
+        ensures added { OnOk result (IsAdded (S.gave source.old) (S.gave source.new) self.old.buffer.items self.new.buffer.items) }
+        ensures ended { result ≡ Ok Held.Rest → S.ended source.new ≡ true }
         ensures same { HasSameLimits self.old self.new }
         ensures used { (self.new.used ≡ self.old.used) × (self.new.shown ≡ self.old.shown) }
         ensures counts { S.faults source.old ≤ S.faults source.new }
@@ -228,6 +238,8 @@ impl Lines {
         ensures bound { IsWithin S.left source.old source.new self.old.buffer.items (self.old.line + 1) }
         ensures few { OnOk result (unread self.new ≡ []) }
         ensures idle { unread self.old ≢ [] → source.new ≡ source.old }
+        ensures onward { IsOnward (past S.gave S.ended S.went_on source.old) (past S.gave S.ended S.went_on source.new) }
+        ensures heard { HasHeard self.old (past S.gave S.ended S.went_on source.old) (past S.gave S.ended S.went_on source.new) self.new result }
         ensures none_shown { self.new.shown ≡ None }
         ensures same { HasSameLimits self.old self.new }
         ensures counts { S.faults source.old ≤ S.faults source.new }
@@ -248,6 +260,8 @@ impl Lines {
     fn advance<S: Source>(&mut self, source: &mut S) -> Result<(), LinesFault>
         ensures next { (text : List ℕ) → ahead self.old (S.left source.old) ≡ Some text → IsRead (next_line self.old.line self.old.lines self.old.lent text) self.new result }
         ensures moved { HasMoved self.old (S.left source.old) (S.left source.new) result self.new }
+        ensures onward { IsOnward (past S.gave S.ended S.went_on source.old) (past S.gave S.ended S.went_on source.new) }
+        ensures heard { HasHeard self.old (past S.gave S.ended S.went_on source.old) (past S.gave S.ended S.went_on source.new) self.new result }
         ensures counted { OnOk result (self.new.lent ≡ lent_then self.old.lent (shown_line self.new)) }
         ensures fits { OnOk result (IfSome (shown_line self.new) (λ line. length line ≤ self.old.line)) }
         ensures idle { IsIdle self.old source.old source.new }
@@ -282,8 +296,10 @@ impl Lines {
     /// bytes than a line may have.
     pub fn next<'a, S: Source>(&'a mut self, source: &mut S) -> Result<Option<&'a [u8]>, LinesFault>
         ensures next { (text : List ℕ) → ahead self.old (S.left source.old) ≡ Some text → MatchResult result (λ line. next_of self.old text ≡ Ok (option_copied line)) (IsNextFault (next_of self.old text)) }
+        ensures heard { (text more : List ℕ) → LiesAhead (past S.gave S.ended S.went_on source.old) (past S.gave S.ended S.went_on source.new) text more → MatchResult result (λ line. next_of self.old (unread self.old ++ text) ≡ Ok (option_copied line)) (IsNextFault (next_of self.old (unread self.old ++ text))) }
+        ensures onward { IsOnward (past S.gave S.ended S.went_on source.old) (past S.gave S.ended S.went_on source.new) }
         ensures fits { IfOk result (λ line. IfSome (option_copied line) (λ text. length text ≤ most_bytes self.old)) }
-        ensures* ends { sem 𝓛 (EndsAs self.entry (S.left source.old) (S.left source.new) result) }
+        ensures* ends { sem 𝓛 (EndsAs self.entry (S.left source.old) (S.left source.new) (past S.gave S.ended S.went_on source.old) (past S.gave S.ended S.went_on source.new) result) }
         ensures idle { IsIdle self.old source.old source.new }
         ensures counts { S.faults source.old ≤ S.faults source.new }
         ensures read { IsErrOf result LinesFault.Read → HasRisen (S.faults source.old) (S.faults source.new) }

@@ -6,6 +6,8 @@ use Rattle.co_schedule.specs.declared.fault.LinesFault.{LinesFault}
 use Rattle.co_schedule.specs.declared.fault.LinesFault.TheVariants.{Read}
 use Rattle.co_schedule.specs.declared.lines.Held.TheVariants.{Rest}
 use Rattle.co_schedule.proofs.NextLine.{filled_ahead, ahead_within, handed_fault, on_fault, next_same, on_ok, ahead_then, same_rest, unread_held}
+use Rattle.co_outside.specs.Onward.{past, LiesAhead}
+use Rattle.co_schedule.proofs.Heard.{added_ahead}
 use Rattle.co_schedule.proofs.lines.Lines.advance.Goals as goal
 
 pub returns-clause-next : goal.returns-clause-next
@@ -45,4 +47,20 @@ returns-in_err-held-clause-moved g c =
           ahead_then (unread c.fill.new.self) _ it.0 text it.1 (ap (λ (k : ℕ). drop k c.fill.new.self.buffer.items ++ it.0) none ∙ it.2);
       whole = λ fault. ap (λ (k : ℕ). position is_newline (drop k c.fill.new.self.buffer.items)) none ∙ c.in_err-held.ensures.whole;
       limits = (c.in_err-held.ensures.same.line ∙ c.let_go.ensures.same.line, c.in_err-held.ensures.same.lines ∙ c.let_go.ensures.same.lines);
+    }
+
+pub returns-clause-heard : goal.returns-clause-heard
+returns-clause-heard g c =
+    let all : (text more : List ℕ) → LiesAhead (past g.S.Source.gave g.S.Source.ended g.S.Source.went_on c.args.source.now) (past g.S.Source.gave g.S.Source.ended g.S.Source.went_on c.fill.new.source) text more →
+        c.fill.new.self.buffer.items ++ more ≡ unread c.args.self.now ++ text
+        = λ text more ahead. added_ahead (past g.S.Source.gave g.S.Source.ended g.S.Source.went_on c.args.source.now) (past g.S.Source.gave g.S.Source.ended g.S.Source.went_on c.fill.new.source)
+        text more c.let_go.new.self.buffer.items c.fill.new.self.buffer.items (unread c.args.self.now) c.let_go.ensures.held c.in_ok-held.ensures.added ahead in
+    record {
+      next = λ text more ahead.
+          let none : c.in_ok-held.held ≡ Rest → more ≡ [] = λ e. ahead.over (c.in_ok-held.ensures.ended (ap Ok e)) in
+          let P : Result (Rattle.std.specs.Prelude.Option (List ℕ)) LinesFault → Type 0 = λ wanted. IsRead wanted c.show.new.self c.show.result in
+          subst P (next_same _ _ _ _ _ _ _ _ (c.in_ok-held.ensures.same.line ∙ c.let_go.ensures.same.line) (c.in_ok-held.ensures.same.lines ∙ c.let_go.ensures.same.lines) (c.in_ok-held.ensures.same.lent ∙ c.let_go.ensures.same.lent) (all text more ahead)) (c.show.ensures.next more none);
+      behind = λ text more ahead.
+          let none : c.in_ok-held.held ≡ Rest → more ≡ [] = λ e. ahead.over (c.in_ok-held.ensures.ended (ap Ok e)) in
+          on_ok c.show.result _ _ (λ moved. moved ∙ ap behind_line (all text more ahead)) (c.show.ensures.behind more none);
     }
