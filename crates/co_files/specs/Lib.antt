@@ -1,1 +1,4 @@
+pub mod Calls
+pub mod Paths
+pub mod Folder
 pub mod Seen

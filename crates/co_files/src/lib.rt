@@ -4,9 +4,13 @@
 //! edge where trust in the operating system begins.
 #![tactic(auto)]
 
+mod call;
+mod descriptor;
 mod directory;
 mod folder;
+mod guarded;
 mod home_std;
+mod keeping;
 mod log_file;
 
 pub use home_std::HomeStd;

@@ -1,0 +1,9 @@
+use Rattle.std.proofs.Common.{inr, rules}
+use Rattle.co_files.proofs.Files.{missing, absent}
+use Rattle.co_files.proofs.Attended.{none_before}
+use Rattle.co_files.proofs.folder.Folder.cut.Goals as goal
+
+pub returns-then-len-eq0-clause-called : goal.returns-then-len-eq0-clause-called
+returns-then-len-eq0-clause-called c =
+    let files = c.attend.new.self.files.items in
+    inr (none_before c.in_ok-attend.ensures.attended (absent c.args.spot files (missing c.args.spot files (search rules))))
