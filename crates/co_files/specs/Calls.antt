@@ -1,7 +1,7 @@
 -- Calls of the operating system on a file or a directory, and what their history says.
 use Rattle.std.specs.Prelude.{◌≡◌, ◌⊎◌, ◌&&◌, ◌||◌, not, Bool, true, false, List, [], ◌∷◌, Result, Ok, Err}
 use Rattle.co_files.specs.declared.call.Work.{Work}
-use Rattle.co_files.specs.declared.call.Work.TheVariants.{Open, Make, Read, Write, Cut, Sync, DropCopies, SyncName, Lock, HandOn}
+use Rattle.co_files.specs.declared.call.Work.TheVariants.{Open, Make, Read, Write, Cut, Sync, DropCopies, SyncName, SyncAbove, Lock, HandOn}
 use Rattle.co_files.specs.declared.call.Call.{Call}
 
 -- a call with its answer
@@ -29,6 +29,7 @@ gives_lock (Cut len) = false
 gives_lock Sync = false
 gives_lock DropCopies = false
 gives_lock SyncName = false
+gives_lock (SyncAbove path) = false
 
 -- whether the lock of a directory was taken, or handed on
 abbrev pub is_held : List Call → Bool

@@ -8,6 +8,7 @@ use Rattle.co_files.specs.declared.call.Work.TheVariants.{Open, Sync, Lock, Hand
 use Rattle.co_files.specs.declared.folder.Folder.{Folder}
 use Rattle.co_files.specs.declared.home_std.HomeStd.{HomeStd}
 use Rattle.co_files.specs.Calls.{did}
+use Rattle.co_files.specs.Climb.{IsClimb}
 use Rattle.co_files.specs.Folder.{calls_at}
 use Rattle.co_files.specs.Paths.{dir_name, path_of}
 
@@ -32,11 +33,11 @@ abbrev pub path_in : Option Folder → Spot → List ℕ
 path_in None spot = []
 path_in (Some folder) spot = path_of (string_bytes folder.name) spot
 
--- The directory of this name was opened and locked, or the lock was handed on from the one before, which is the same; then it was synced. No file of it was used.
+-- The directory of this name was opened and locked, or the lock was handed on from the one before, which is the same; then it was synced, and so were those above it. No file of it was used.
 abbrev pub IsEntered : List ℕ → Option Folder → Type 0
 IsEntered dir None = ⊥
 IsEntered dir (Some folder) =
-    (folder.files.items ≡ []) × ((folder.directory ≡ did Sync ∷ did Lock ∷ did (Open (dir_name dir)) ∷ []) ⊎ (folder.directory ≡ did Sync ∷ did HandOn ∷ []))
+    (folder.files.items ≡ []) × ((folder.directory ≡ did Sync ∷ did Lock ∷ did (Open (dir_name dir)) ∷ []) ⊎ (folder.directory ≡ did Sync ∷ did HandOn ∷ [])) × IsClimb folder.made dir folder.above
 
 -- A call of the home on a spot: it is done only where a directory was entered, it makes these calls of the system on the file of the spot, and none on another file.
 pub record IsAtSpot {T : Type 0} (spot : Spot) (called : List ℕ → List Call → List Call → Type 0) (old new : Option Folder) (result : Result T HomeFault) : Type 0 where

@@ -20,6 +20,8 @@ pub(crate) enum Work {
     DropCopies,
     /// To make the name of the file stable, by a sync of the directory that has it.
     SyncName,
+    /// To make the directory at this path stable, which is above.
+    SyncAbove(Text),
     /// To lock the directory.
     Lock,
     /// To hand the lock of another descriptor of the directory on to this one.

@@ -3,7 +3,7 @@
 //! Each method makes one call of the system, and then notes it with its answer. That it makes the
 //! call that it notes, once, is trusted: std's clauses tell nothing of what a file holds.
 ghost use Rattle.std.specs.Prelude.{◌≡◌, [], ◌∷◌, true, false, is_ok, IfOk, MatchResult};
-ghost use Rattle.co_files.specs.declared.call.Work.TheVariants.{Open, Make, Read, Write, Cut, Sync, DropCopies, SyncName, Lock, HandOn};
+ghost use Rattle.co_files.specs.declared.call.Work.TheVariants.{Open, Make, Read, Write, Cut, Sync, DropCopies, SyncName, SyncAbove, Lock, HandOn};
 ghost use Rattle.co_files.specs.Calls.{called, did, is_held};
 
 use crate::call::{Call, Work};
@@ -157,3 +157,19 @@ impl Descriptor {
 
 /// The last descriptor of a standard stream.
 const LAST_STREAM: i32 = 2;
+
+/// One `fsync` of the directory at a path, opened for it alone and noted in a history of its own.
+pub(crate) fn sync_above(rt: &HostRuntime, path: &str, above: &mut Trace<Call>) -> io::Result<()>
+    ensures { above.new ≡ called (SyncAbove path.now) (is_ok result) ∷ above.old }
+{
+    let answer = sync_path(rt, path);
+    above.note(Call {
+        work: Work::SyncAbove(Text::of(path.as_bytes())),
+        done: answer.is_ok(),
+    });
+    answer
+}
+
+fn sync_path(rt: &HostRuntime, path: &str) -> io::Result<()> {
+    File::open(rt, path)?.sync_all()
+}

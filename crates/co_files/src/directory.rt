@@ -1,11 +1,14 @@
 //! Directories by their paths: made, locked, and made stable.
-ghost use Rattle.std.specs.Prelude.{◌≡◌, ◌⊎◌, [], ◌∷◌, IfOk};
-ghost use Rattle.co_files.specs.declared.call.Work.TheVariants.{Open};
-ghost use Rattle.co_files.specs.Calls.{did};
+ghost use Rattle.std.specs.Prelude.{◌≡◌, ◌⊎◌, [], ◌∷◌, false, IfOk, OnOk};
+ghost use Rattle.co_files.specs.declared.call.Work.TheVariants.{Open, SyncAbove};
+ghost use Rattle.co_files.specs.Calls.{called, did};
+ghost use Rattle.co_files.specs.Climb.{IsClimb};
 ghost use Rattle.co_files.specs.Paths.{dir_name};
 
-use crate::descriptor::Descriptor;
-use std::fs::{self, File, Metadata, OpenOptions};
+use crate::call::Call;
+use crate::descriptor::{self, Descriptor};
+use co_trace::Trace;
+use std::fs::{self, Metadata, OpenOptions};
 use std::io::{self, ErrorKind};
 use std::os::unix::fs::MetadataExt;
 use std::path::Path;
@@ -24,11 +27,6 @@ impl Identity {
             device: found.dev(),
             number: found.ino(),
         }
-    }
-
-    /// Whether it is on the same device as another one.
-    fn is_beside(self, other: Identity) -> bool {
-        self.device == other.device
     }
 }
 
@@ -68,30 +66,42 @@ pub(crate) fn open(rt: &HostRuntime, dir: &str) -> io::Result<Descriptor>
 }
 
 /// Makes the directories above one stable, each in that above it, as far as they are on its device: the process that made them may have ended before they were.
-///
-/// One that may be traversed and not read is passed over where nothing was missing below it.
 pub(crate) fn sync_above(
     rt: &HostRuntime,
     dir: &str,
     missing: usize,
     entered: Identity,
-) -> io::Result<()> {
-    for (height, parent) in Path::new(dir).ancestors().skip(1).enumerate() {
+) -> io::Result<Trace<Call>>
+    ensures { IfOk result (IsClimb missing dir.now) }
+{
+    let mut above = Trace::new();
+    let mut owed = missing;
+    let mut parents = Path::new(dir).ancestors();
+    parents.next();
+    for parent in parents {
         let name = name_of(parent.as_str());
-        let found = Identity::of(&fs::metadata(rt, name)?);
-        if height >= missing && !found.is_beside(entered) {
+        if owed == 0 && !is_beside(rt, name, entered)? {
             break;
         }
-        match sync_one(rt, name) {
-            Err(e) if height >= missing && e.kind() == ErrorKind::PermissionDenied => {}
-            done => done?,
-        }
+        climb(rt, name, owed > 0, &mut above)?;
+        owed = owed.saturating_sub(1);
     }
-    Ok(())
+    Ok(above)
 }
 
-fn sync_one(rt: &HostRuntime, name: &str) -> io::Result<()> {
-    File::open(rt, name)?.sync_all()
+/// Makes a directory above stable. One that may be traversed and not read is passed over where nothing was missing below it.
+fn climb(rt: &HostRuntime, name: &str, is_owed: bool, above: &mut Trace<Call>) -> io::Result<()>
+    ensures { OnOk result ((above.new ≡ did (SyncAbove name.now) ∷ above.old) ⊎ ((is_owed ≡ false) × (above.new ≡ called (SyncAbove name.now) false ∷ above.old))) }
+{
+    match descriptor::sync_above(rt, name, above) {
+        Err(e) if !is_owed && e.kind() == ErrorKind::PermissionDenied => Ok(()),
+        synced => synced,
+    }
+}
+
+/// Whether a directory is on the device of another one.
+fn is_beside(rt: &HostRuntime, name: &str, other: Identity) -> io::Result<bool> {
+    Ok(fs::metadata(rt, name)?.dev() == other.device)
 }
 
 fn is_directory(rt: &HostRuntime, path: &str) -> bool {

@@ -6,12 +6,14 @@ ghost use Rattle.co_files.specs.Calls.{did, begun_by, is_held};
 ghost use Rattle.co_files.specs.Paths.{dir_name, path_of};
 ghost use Rattle.co_files.specs.Folder.{calls_at};
 
+use crate::call::Call;
 use crate::descriptor::Descriptor;
 use crate::directory::{self, Identity};
 use crate::guarded::Guarded;
 use crate::keeping::{cut_at, keep, kept, read_at, sync_at, write_at};
 use crate::log_file::{LogFile, found};
 use co_outside::Spot;
+use co_trace::Trace;
 use std::alloc::Global;
 use std::fmt::Write;
 use std::fs;
@@ -33,6 +35,10 @@ pub(crate) struct Folder {
     pub(crate) files: Vec<LogFile>,
     /// The directory itself, which is locked as long as it is open. It is closed last.
     pub(crate) directory: Guarded,
+    /// How many directories were missing and made, it and those above it.
+    pub(crate) made: usize,
+    /// What was synced above it.
+    pub(crate) above: Trace<Call>,
     ghost held: { is_held directory ≡ true },
 }
 
@@ -41,6 +47,7 @@ impl Folder {
     ghost use Rattle.co_outside.specs.declared.spot.Spot.{Spot};
     ghost use Rattle.co_files.specs.declared.call.Work.TheVariants.{Open, Read, Write, Cut, Sync, Lock, HandOn};
     ghost use Rattle.co_files.specs.Calls.{did};
+    ghost use Rattle.co_files.specs.Climb.{IsClimb};
     ghost use Rattle.co_files.specs.Paths.{dir_name, path_of};
     ghost use Rattle.co_files.specs.Folder.{calls_at, IsAttended, IsCallAt, IsCallOrNone};
 
@@ -55,13 +62,15 @@ impl Folder {
     ) -> io::Result<Folder>
         ensures name { IfOk result (λ f. string_bytes f.name ≡ dir.now) }
         ensures unused { IfOk result (λ f. f.files.items ≡ []) }
+        ensures above { IfOk result (λ f. IsClimb f.made dir.now f.above) }
         ensures before { option_map (λ f. string_bytes f.name) before.new ≡ option_map (λ f. string_bytes f.name) before.old }
         ensures entered { IfOk result (λ f. (f.directory ≡ did Sync ∷ did Lock ∷ did (Open (dir_name dir.now)) ∷ []) ⊎ (f.directory ≡ did Sync ∷ did HandOn ∷ [])) }
     {
-        let missing = directory::make(rt, dir)?;
+        let made = directory::make(rt, dir)?;
         let mut directory = Guarded::new(locked(directory::open(rt, dir)?, before)?);
         directory.sync()?;
-        directory::sync_above(rt, dir, missing, Identity::of(&directory.metadata()?))?;
+        let found = Identity::of(&directory.metadata()?);
+        let above = directory::sync_above(rt, dir, made, found)?;
         if let Some(before) = before {
             settle(&mut before.files)?;
         }
@@ -72,6 +81,8 @@ impl Folder {
             path,
             files: Vec::with_capacity(alloc, MOST_FILES)?,
             directory,
+            made,
+            above,
         })
     }
 
