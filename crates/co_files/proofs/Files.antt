@@ -4,9 +4,10 @@ use Rattle.std.proofs.Math.ListN.{set}
 use Rattle.std.proofs.lemmas.Bool.{cases_Bool}
 use Rattle.std.proofs.lemmas.Bool.Decides.{nat_tests}
 use Rattle.std.specs.List.{position, position_or_len}
-use Rattle.std.specs.Prelude.{Some, None, nat_lt}
+use Rattle.std.specs.Prelude.{Option, Some, None, is_some, false, nat_lt}
 use Rattle.co_outside.specs.declared.spot.Spot.{Spot}
 use Rattle.co_files.specs.declared.log_file.LogFile.{LogFile}
+use Rattle.co_files.specs.Calls.{is_used}
 use Rattle.co_files.specs.Folder.{calls_at, is_of}
 
 -- a file of a spot has that spot
@@ -123,4 +124,27 @@ missing spot files is = elim (cases_Bool (nat_lt (position_or_len (is_of spot) f
       let here : None ≡ Some (position_or_len (is_of spot) files) = is ∙ rw within refl in
       absurd (cc)
   | inr none ↦ grind (arith, nat_tests)
+]
+
+-- a file that is found was used
+pub used_at : (spot : Spot) (files : List LogFile) (place : ℕ) → position_or_len (is_of spot) files ≡ place → place < length files → is_used (calls_at files spot) ≡ true
+used_at spot [] place is within = absurd (omega arith)
+used_at spot (f ∷ files) place is within = elim (cases_Bool (is_of spot f)) [
+  | inl same ↦ ap is_used (bytes_first spot f files same) ∙ f.used
+  | inr not ↦
+      let inner : position_or_len (is_of spot) files < length files = omega (arith, later spot f files not) in
+      ap is_used (bytes_later spot f files not) ∙ used_at spot files _ refl inner
+]
+
+pub used_where_kept : (spot : Spot) (files : List LogFile) (place : Option ℕ) → place ≡ position (is_of spot) files → is_some place ≡ true → calls_at files spot ≡ [] → ⊥
+used_where_kept spot files place is some none = elim (cases_Bool (nat_lt (position_or_len (is_of spot) files) (length files))) [
+  | inl within ↦
+      let lt : position_or_len (is_of spot) files < length files = grind (arith, nat_tests) in
+      let used : is_used (calls_at files spot) ≡ true = used_at spot files _ refl lt in
+      let unused : is_used (calls_at files spot) ≡ false = ap is_used none in
+      absurd (cc)
+  | inr beyond ↦
+      let here : place ≡ None = is ∙ rw beyond refl in
+      let nowhere : is_some place ≡ false = ap is_some here in
+      absurd (cc)
 ]

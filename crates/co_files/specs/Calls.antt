@@ -1,7 +1,7 @@
 -- Calls of the operating system on a file or a directory, and what their history says.
-use Rattle.std.specs.Prelude.{◌≡◌, ◌⊎◌, ◌&&◌, ◌||◌, not, Bool, true, false, List, [], ◌∷◌, Result, Ok, Err}
+use Rattle.std.specs.Prelude.{◌≡◌, ◌⊎◌, ◌&&◌, ◌||◌, not, Bool, true, false, List, [], ◌∷◌, ℕ, Option, None, Some, Result, Ok, Err}
 use Rattle.co_files.specs.declared.call.Work.{Work}
-use Rattle.co_files.specs.declared.call.Work.TheVariants.{Open, Make, Read, Write, Cut, Sync, DropCopies, SyncName, SyncAbove, Lock, HandOn}
+use Rattle.co_files.specs.declared.call.Work.TheVariants.{Miss, Open, Make, Read, Write, Cut, Sync, DropCopies, SyncName, SyncAbove, Lock, HandOn}
 use Rattle.co_files.specs.declared.call.Call.{Call}
 
 -- a call with its answer
@@ -21,6 +21,7 @@ has_failed (call ∷ earlier) = not call.done || has_failed earlier
 abbrev pub gives_lock : Work → Bool
 gives_lock Lock = true
 gives_lock HandOn = true
+gives_lock (Miss path) = false
 gives_lock (Open path) = false
 gives_lock (Make path) = false
 gives_lock (Read bytes) = false
@@ -35,6 +36,17 @@ gives_lock (SyncAbove path) = false
 abbrev pub is_held : List Call → Bool
 is_held [] = false
 is_held (call ∷ earlier) = (call.done && gives_lock call.work) || is_held earlier
+
+-- whether there is a call
+abbrev pub is_used : List Call → Bool
+is_used [] = false
+is_used (call ∷ earlier) = true
+
+-- the calls on a directory behind a look at a path, which is noted where nothing stands there
+abbrev pub looked : {T E : Type 0} → List ℕ → List Call → Result (Option T) E → List Call
+looked path calls (Ok None) = did (Miss path) ∷ calls
+looked path calls (Ok (Some found)) = calls
+looked path calls (Err fault) = calls
 
 -- Where the work was done, it was one call, which was done, and none before it had failed; where it was not, it was one call that failed, or none.
 abbrev pub IsOneCall : {T E : Type 0} → (T → Work) → Work → List Call → List Call → Result T E → Type 0

@@ -1,11 +1,11 @@
 -- What the calls of a home leave in the histories of its files.
-use Rattle.std.specs.Prelude.{ℕ, ◌≡◌, ◌⊎◌, ◌==◌, ◌&&◌, Bool, true, false, if◌then◌else◌, List, [], ◌∷◌, Result}
+use Rattle.std.specs.Prelude.{ℕ, ◌≡◌, ◌⊎◌, ◌==◌, ◌&&◌, Bool, true, false, if◌then◌else◌, List, [], ◌∷◌, Result, OnOk}
 use Rattle.co_outside.specs.declared.spot.Spot.{Spot}
 use Rattle.co_files.specs.declared.call.Work.{Work}
-use Rattle.co_files.specs.declared.call.Work.TheVariants.{Open, Make}
+use Rattle.co_files.specs.declared.call.Work.TheVariants.{Miss, Open, Make}
 use Rattle.co_files.specs.declared.call.Call.{Call}
 use Rattle.co_files.specs.declared.log_file.LogFile.{LogFile}
-use Rattle.co_files.specs.Calls.{begun_by, IsOneCall}
+use Rattle.co_files.specs.Calls.{did, begun_by, IsOneCall}
 
 -- whether it is the file of the spot
 abbrev pub is_of : Spot → LogFile → Bool
@@ -24,6 +24,7 @@ IsAttended path makes old new = (new ≡ old) ⊎ ((old ≡ []) × ((new ≡ beg
 abbrev pub IsCallAt : {T E : Type 0} → List ℕ → Bool → (T → Work) → Work → List Call → List Call → Result T E → Type 0
 IsCallAt path makes work failed old new result = (first : List Call) × IsAttended path makes old first × IsOneCall work failed first new result
 
--- the same, or there was no file, which needs none
-abbrev pub IsCallOrNone : {T E : Type 0} → List ℕ → (T → Work) → Work → List Call → List Call → Result T E → Type 0
-IsCallOrNone path work failed old new result = IsCallAt path false work failed old new result ⊎ ((old ≡ []) × (new ≡ []))
+-- the same, or there is no file, which needs none: then the last call on the directory looked for it and found nothing
+abbrev pub IsCallOrNone : {T E : Type 0} → List ℕ → (T → Work) → Work → List Call → List Call → List Call → List Call → Result T E → Type 0
+IsCallOrNone path work failed before after old new result =
+    IsCallAt path false work failed old new result ⊎ ((old ≡ []) × (new ≡ []) × OnOk result (after ≡ did (Miss path) ∷ before))

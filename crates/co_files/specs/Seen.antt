@@ -33,6 +33,11 @@ abbrev pub path_in : Option Folder → Spot → List ℕ
 path_in None spot = []
 path_in (Some folder) spot = path_of (string_bytes folder.name) spot
 
+-- the calls on that directory itself, the newest first
+abbrev pub directory_calls : Option Folder → List Call
+directory_calls None = []
+directory_calls (Some folder) = folder.directory
+
 -- The directory of this name was opened and locked, or the lock was handed on from the one before, which is the same; then it was synced, and so were those above it. No file of it was used.
 abbrev pub IsEntered : List ℕ → Option Folder → Type 0
 IsEntered dir None = ⊥

@@ -4,6 +4,8 @@ use co_trace::Text;
 /// What a call asks for.
 #[derive(Drop)]
 pub(crate) enum Work {
+    /// To look at this path, where nothing stands.
+    Miss(Text),
     /// To open the file at this path.
     Open(Text),
     /// To make the file at this path.

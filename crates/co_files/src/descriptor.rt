@@ -4,12 +4,12 @@
 //! call that it notes, once, is trusted: std's clauses tell nothing of what a file holds.
 ghost use Rattle.std.specs.Prelude.{◌≡◌, [], ◌∷◌, true, false, is_ok, IfOk, MatchResult};
 ghost use Rattle.co_files.specs.declared.call.Work.TheVariants.{Open, Make, Read, Write, Cut, Sync, DropCopies, SyncName, SyncAbove, Lock, HandOn};
-ghost use Rattle.co_files.specs.Calls.{called, did, is_held};
+ghost use Rattle.co_files.specs.Calls.{called, did, is_held, looked};
 
 use crate::call::{Call, Work};
 use co_trace::{Text, Trace};
-use std::fs::{File, Metadata, OpenOptions};
-use std::io;
+use std::fs::{self, File, Metadata, OpenOptions};
+use std::io::{self, ErrorKind};
 use std::marker::Model;
 use std::os::fd::AsRawFd;
 use std::os::unix::fs::FileExt;
@@ -128,6 +128,17 @@ impl Descriptor {
         Ok(answer?)
     }
 
+    /// One `lstat`, which is noted in the history of this directory where nothing stands at the path.
+    pub(crate) fn look(&mut self, rt: &HostRuntime, path: &str) -> io::Result<Option<Metadata>>
+        ensures { self.new ≡ looked path.now self.old result }
+    {
+        let found = found(rt, path)?;
+        if found.is_none() {
+            self.note(Work::Miss(Text::of(path.as_bytes())), true);
+        }
+        Ok(found)
+    }
+
     /// What the system tells of it.
     pub(crate) fn metadata(&self) -> io::Result<Metadata> {
         self.file.metadata()
@@ -172,4 +183,14 @@ pub(crate) fn sync_above(rt: &HostRuntime, path: &str, above: &mut Trace<Call>) 
 
 fn sync_path(rt: &HostRuntime, path: &str) -> io::Result<()> {
     File::open(rt, path)?.sync_all()
+}
+
+/// What stands at a path: a plain file, or nothing. Anything else is refused before it is opened, which may wait for ever at a pipe.
+pub(crate) fn found(rt: &HostRuntime, path: &str) -> io::Result<Option<Metadata>> {
+    match fs::symlink_metadata(rt, path) {
+        Ok(found) if found.is_file() => Ok(Some(found)),
+        Ok(_) => Err(ErrorKind::Unsupported.into()),
+        Err(e) if e.kind() == ErrorKind::NotFound => Ok(None),
+        Err(e) => Err(e),
+    }
 }

@@ -1,7 +1,7 @@
 //! The directory that was entered, with the log files that are kept open in it.
-ghost use Rattle.std.specs.Prelude.{◌≡◌, ◌≢◌, ◌≤◌, ◌⊎◌, ◌==◌, [], ◌∷◌, true, false, IfOk, IfSome, OnOk, length, string_bytes};
+ghost use Rattle.std.specs.Prelude.{◌≡◌, ◌≢◌, ◌≤◌, ◌⊎◌, ◌==◌, [], ◌∷◌, true, false, IfOk, IfSome, IfNone, OnOk, length, string_bytes};
 ghost use Rattle.co_outside.specs.declared.spot.Spot.{Spot};
-ghost use Rattle.co_files.specs.declared.call.Work.TheVariants.{Open, Make, Read, Write, Cut, Sync, Lock, HandOn};
+ghost use Rattle.co_files.specs.declared.call.Work.TheVariants.{Miss, Open, Make, Read, Write, Cut, Sync, Lock, HandOn};
 ghost use Rattle.co_files.specs.Calls.{did, begun_by, is_held};
 ghost use Rattle.co_files.specs.Paths.{dir_name, path_of};
 ghost use Rattle.co_files.specs.Folder.{calls_at};
@@ -11,7 +11,7 @@ use crate::descriptor::Descriptor;
 use crate::directory::{self, Identity};
 use crate::guarded::Guarded;
 use crate::keeping::{cut_at, keep, kept, read_at, sync_at, write_at};
-use crate::log_file::{LogFile, found};
+use crate::log_file::LogFile;
 use co_outside::Spot;
 use co_trace::Trace;
 use std::alloc::Global;
@@ -45,7 +45,7 @@ pub(crate) struct Folder {
 impl Folder {
     ghost use Rattle.std.specs.Prelude.{◌≡◌, ◌≢◌, ◌≤◌, ◌⊎◌, ◌==◌, [], ◌∷◌, true, false, IfOk, OnOk, length, option_map, string_bytes};
     ghost use Rattle.co_outside.specs.declared.spot.Spot.{Spot};
-    ghost use Rattle.co_files.specs.declared.call.Work.TheVariants.{Open, Read, Write, Cut, Sync, Lock, HandOn};
+    ghost use Rattle.co_files.specs.declared.call.Work.TheVariants.{Miss, Open, Read, Write, Cut, Sync, Lock, HandOn};
     ghost use Rattle.co_files.specs.Calls.{did};
     ghost use Rattle.co_files.specs.Climb.{IsClimb};
     ghost use Rattle.co_files.specs.Paths.{dir_name, path_of};
@@ -97,7 +97,7 @@ impl Folder {
         ensures name { self.new.name ≡ self.old.name }
         ensures most { IfOk result (λ v. length v.items ≤ most) }
         ensures absent { IfOk result (λ v. calls_at self.new.files.items spot ≡ [] → v.items ≡ []) }
-        ensures called { IsCallOrNone (path_of (string_bytes self.old.name) spot) (λ v. Read v.items) (Read []) (calls_at self.old.files.items spot) (calls_at self.new.files.items spot) result }
+        ensures called { IsCallOrNone (path_of (string_bytes self.old.name) spot) (λ v. Read v.items) (Read []) self.old.directory self.new.directory (calls_at self.old.files.items spot) (calls_at self.new.files.items spot) result }
         ensures others { (s : Spot) → s ≢ spot → calls_at self.new.files.items s ≡ calls_at self.old.files.items s }
     {
         self.attend(rt, spot, false)?;
@@ -130,7 +130,7 @@ impl Folder {
     pub(crate) fn cut(&mut self, rt: &HostRuntime, spot: Spot, len: u32) -> io::Result<()>
         ensures name { self.new.name ≡ self.old.name }
         ensures absent { OnOk result (calls_at self.new.files.items spot ≡ [] → len ≡ 0) }
-        ensures called { IsCallOrNone (path_of (string_bytes self.old.name) spot) (λ _. Cut len) (Cut len) (calls_at self.old.files.items spot) (calls_at self.new.files.items spot) result }
+        ensures called { IsCallOrNone (path_of (string_bytes self.old.name) spot) (λ _. Cut len) (Cut len) self.old.directory self.new.directory (calls_at self.old.files.items spot) (calls_at self.new.files.items spot) result }
         ensures others { (s : Spot) → s ≢ spot → calls_at self.new.files.items s ≡ calls_at self.old.files.items s }
     {
         self.attend(rt, spot, false)?;
@@ -144,7 +144,7 @@ impl Folder {
     /// Makes the file stable. An absent file is stable already.
     pub(crate) fn sync(&mut self, rt: &HostRuntime, spot: Spot) -> io::Result<()>
         ensures name { self.new.name ≡ self.old.name }
-        ensures called { IsCallOrNone (path_of (string_bytes self.old.name) spot) (λ _. Sync) Sync (calls_at self.old.files.items spot) (calls_at self.new.files.items spot) result }
+        ensures called { IsCallOrNone (path_of (string_bytes self.old.name) spot) (λ _. Sync) Sync self.old.directory self.new.directory (calls_at self.old.files.items spot) (calls_at self.new.files.items spot) result }
         ensures others { (s : Spot) → s ≢ spot → calls_at self.new.files.items s ≡ calls_at self.old.files.items s }
     {
         self.attend(rt, spot, false)?;
@@ -158,6 +158,7 @@ impl Folder {
     fn attend(&mut self, rt: &HostRuntime, spot: Spot, makes: bool) -> io::Result<()>
         ensures name { self.new.name ≡ self.old.name }
         ensures attended { IsAttended (path_of (string_bytes self.old.name) spot) makes (calls_at self.old.files.items spot) (calls_at self.new.files.items spot) }
+        ensures missed { OnOk result (calls_at self.new.files.items spot ≡ [] → self.new.directory ≡ did (Miss (path_of (string_bytes self.old.name) spot)) ∷ self.old.directory) }
         ensures others { (s : Spot) → s ≢ spot → calls_at self.new.files.items s ≡ calls_at self.old.files.items s }
     {
         self.spell(spot)?;
@@ -185,6 +186,7 @@ impl Folder {
     fn spell(&mut self, spot: Spot) -> io::Result<()>
         ensures name { self.new.name ≡ self.old.name }
         ensures files { self.new.files ≡ self.old.files }
+        ensures directory { self.new.directory ≡ self.old.directory }
         ensures path { OnOk result (string_bytes self.new.path ≡ path_of (string_bytes self.old.name) spot) }
     {
         self.path.clear();
@@ -204,9 +206,10 @@ fn begin(
 ) -> io::Result<Option<LogFile>>
     ensures begun { IfOk result (λ begun. IfSome begun (λ log. (log.file ≡ begun_by (Open path.now)) ⊎ ((makes ≡ true) × (log.file ≡ begun_by (Make path.now))))) }
     ensures spot { IfOk result (λ begun. IfSome begun (λ log. log.spot ≡ spot)) }
+    ensures missed { IfOk result (λ begun. IfNone begun (directory.new ≡ did (Miss path.now) ∷ directory.old)) }
     ensures held { is_held directory.old ≡ true → is_held directory.new ≡ true }
 {
-    if found(rt, path)?.is_some() {
+    if directory.look(rt, path)?.is_some() {
         return Ok(Some(LogFile::open(rt, path, spot, directory)?));
     }
     if makes {

@@ -1,7 +1,7 @@
 //! A descriptor that is given up once a call of it has failed.
 ghost use Rattle.std.specs.Prelude.{◌≡◌, [], true, false, IfOk, OnOk, ◌∷◌};
 ghost use Rattle.co_files.specs.declared.call.Work.TheVariants.{Read, Write, Cut, Sync, SyncName, HandOn};
-ghost use Rattle.co_files.specs.Calls.{did, has_failed, is_held, IsOneCall};
+ghost use Rattle.co_files.specs.Calls.{did, has_failed, is_held, looked, IsOneCall};
 
 use crate::descriptor::Descriptor;
 use std::fs::Metadata;
@@ -98,6 +98,13 @@ impl Guarded {
     {
         self.stay_sound()?;
         self.descriptor.hand_on()
+    }
+
+    /// What stands at a path in this directory.
+    pub(crate) fn look(&mut self, rt: &HostRuntime, path: &str) -> io::Result<Option<Metadata>>
+        ensures { self.new ≡ looked path.now self.old result }
+    {
+        self.descriptor.look(rt, path)
     }
 
     /// What the system tells of it.

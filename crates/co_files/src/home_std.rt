@@ -87,7 +87,7 @@ impl Home for HomeStd {
     ghost use Rattle.co_outside.specs.Untold.{none_is_no_file};
     ghost use Rattle.co_files.specs.declared.call.Work.TheVariants.{Read, Write, Cut, Sync};
     ghost use Rattle.co_files.specs.Folder.{IsCallAt, IsCallOrNone};
-    ghost use Rattle.co_files.specs.Seen.{std_seen, calls_in, IsEntered, IsAtSpot};
+    ghost use Rattle.co_files.specs.Seen.{std_seen, calls_in, directory_calls, IsEntered, IsAtSpot};
 
     ghost seen = { std_seen };
 
@@ -112,7 +112,7 @@ impl Home for HomeStd {
     fn read_all(&mut self, alloc: Global, spot: Spot, most: u32) -> Result<Vec<u8>, HomeFault>
         ensures most { IfOk result (λ v. length v.items ≤ most) }
         ensures absent { IfOk result (λ v. calls_in self.new.folder spot ≡ [] → v.items ≡ []) }
-        ensures made { IsAtSpot spot (λ path old new. IsCallOrNone path (λ v. Read v.items) (Read []) old new result) self.old.folder self.new.folder result }
+        ensures made { IsAtSpot spot (λ path old new. IsCallOrNone path (λ v. Read v.items) (Read []) (directory_calls self.old.folder) (directory_calls self.new.folder) old new result) self.old.folder self.new.folder result }
         ensures others { OthersStay spot (std_seen self.old) (std_seen self.new) }
         ensures counted { IsCounted spot (std_seen self.old) (std_seen self.new) result }
     {
@@ -145,7 +145,7 @@ impl Home for HomeStd {
 
     fn set_len(&mut self, spot: Spot, len: u32) -> Result<(), HomeFault>
         ensures absent { OnOk result (calls_in self.new.folder spot ≡ [] → len ≡ 0) }
-        ensures made { IsAtSpot spot (λ path old new. IsCallOrNone path (λ _. Cut len) (Cut len) old new result) self.old.folder self.new.folder result }
+        ensures made { IsAtSpot spot (λ path old new. IsCallOrNone path (λ _. Cut len) (Cut len) (directory_calls self.old.folder) (directory_calls self.new.folder) old new result) self.old.folder self.new.folder result }
         ensures memory { IsErrOf result HomeFault.Memory → ⊥ }
         ensures others { OthersStay spot (std_seen self.old) (std_seen self.new) }
         ensures counted { IsCounted spot (std_seen self.old) (std_seen self.new) result }
@@ -158,7 +158,7 @@ impl Home for HomeStd {
     }
 
     fn sync(&mut self, spot: Spot) -> Result<(), HomeFault>
-        ensures made { IsAtSpot spot (λ path old new. IsCallOrNone path (λ _. Sync) Sync old new result) self.old.folder self.new.folder result }
+        ensures made { IsAtSpot spot (λ path old new. IsCallOrNone path (λ _. Sync) Sync (directory_calls self.old.folder) (directory_calls self.new.folder) old new result) self.old.folder self.new.folder result }
         ensures memory { IsErrOf result HomeFault.Memory → ⊥ }
         ensures others { OthersStay spot (std_seen self.old) (std_seen self.new) }
         ensures counted { IsCounted spot (std_seen self.old) (std_seen self.new) result }

@@ -1,14 +1,14 @@
 //! A log file that is kept open.
 ghost use Rattle.std.specs.Prelude.{◌≡◌, ◌≤◌, ◌∷◌, [], true, false, IfOk, length};
 ghost use Rattle.co_files.specs.declared.call.Work.TheVariants.{Open, Make, Read, Write, Cut, Sync, DropCopies, SyncName};
-ghost use Rattle.co_files.specs.Calls.{did, begun_by, has_failed, is_held, IsOneCall};
+ghost use Rattle.co_files.specs.Calls.{did, begun_by, has_failed, is_held, is_used, IsOneCall};
 
-use crate::descriptor::Descriptor;
+use crate::descriptor::{Descriptor, found};
 use crate::directory::Identity;
 use crate::guarded::Guarded;
 use co_outside::Spot;
 use std::alloc::Global;
-use std::fs::{self, Metadata, OpenOptions};
+use std::fs::OpenOptions;
 use std::io::{self, ErrorKind};
 
 /// A log file that is kept open. It is read, written, cut and synced by one descriptor, so that an error at write-back reaches the next sync.
@@ -17,6 +17,7 @@ pub(crate) struct LogFile {
     pub(crate) spot: Spot,
     pub(crate) file: Guarded,
     identity: Identity,
+    ghost used: { is_used file ≡ true },
 }
 
 impl LogFile {
@@ -145,16 +146,6 @@ impl LogFile {
         ensures called { IsOneCall (λ _. Sync) Sync self.old.file self.new.file result }
     {
         self.file.sync()
-    }
-}
-
-/// What stands at a path: a plain file, or nothing. Anything else is refused before it is opened, which may wait for ever at a pipe.
-pub(crate) fn found(rt: &HostRuntime, path: &str) -> io::Result<Option<Metadata>> {
-    match fs::symlink_metadata(rt, path) {
-        Ok(found) if found.is_file() => Ok(Some(found)),
-        Ok(_) => Err(ErrorKind::Unsupported.into()),
-        Err(e) if e.kind() == ErrorKind::NotFound => Ok(None),
-        Err(e) => Err(e),
     }
 }
 
