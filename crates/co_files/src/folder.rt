@@ -1,10 +1,11 @@
 //! The directory that was entered, with the log files that are kept open in it.
-ghost use Rattle.std.specs.Prelude.{◌≡◌, ◌≢◌, ◌≤◌, ◌⊎◌, ◌==◌, [], ◌∷◌, true, false, IfOk, IfSome, IfNone, OnOk, length, string_bytes};
+ghost use Rattle.std.specs.Prelude.{◌≡◌, ◌≢◌, ◌≤◌, ◌⊎◌, ◌==◌, [], ◌∷◌, true, length, option_map, string_bytes, IfOk, IfSome, IfNone, OnOk};
 ghost use Rattle.co_outside.specs.declared.spot.Spot.{Spot};
 ghost use Rattle.co_files.specs.declared.call.Work.TheVariants.{Miss, Open, Make, Read, Write, Cut, Sync, Lock, HandOn};
 ghost use Rattle.co_files.specs.Calls.{did, begun_by, is_held};
+ghost use Rattle.co_files.specs.Climb.{IsClimb};
+ghost use Rattle.co_files.specs.Folder.{calls_at, IsAttended, IsCallAt, IsCallOrNone};
 ghost use Rattle.co_files.specs.Paths.{dir_name, path_of};
-ghost use Rattle.co_files.specs.Folder.{calls_at};
 
 use crate::call::Call;
 use crate::descriptor::Descriptor;
@@ -43,14 +44,6 @@ pub(crate) struct Folder {
 }
 
 impl Folder {
-    ghost use Rattle.std.specs.Prelude.{◌≡◌, ◌≢◌, ◌≤◌, ◌⊎◌, ◌==◌, [], ◌∷◌, true, false, IfOk, OnOk, length, option_map, string_bytes};
-    ghost use Rattle.co_outside.specs.declared.spot.Spot.{Spot};
-    ghost use Rattle.co_files.specs.declared.call.Work.TheVariants.{Miss, Open, Read, Write, Cut, Sync, Lock, HandOn};
-    ghost use Rattle.co_files.specs.Calls.{did};
-    ghost use Rattle.co_files.specs.Climb.{IsClimb};
-    ghost use Rattle.co_files.specs.Paths.{dir_name, path_of};
-    ghost use Rattle.co_files.specs.Folder.{calls_at, IsAttended, IsCallAt, IsCallOrNone};
-
     /// Enters a directory: makes it and its missing parents, locks it, makes it stable, and takes the room that its calls need.
     ///
     /// The files of the directory before are synced first, each by the descriptor that wrote it.

@@ -1,16 +1,17 @@
 //! The directory of logs over std's files.
-ghost use Rattle.std.specs.Prelude.{◌≡◌, ◌≢◌, ◌≤◌, ◌^◌, ◌==◌, [], List, None, Some, Ok, length, option_map, string_bytes, IfOk, OnOk, OnErr, IsErr, IsErrOf};
+ghost use Rattle.std.specs.Prelude.{◌≡◌, ◌≤◌, ◌+◌, ◌==◌, [], None, Some, Ok, length, max, IfOk, OnOk, OnErr, IsErr, IsErrOf};
 
 use crate::folder::Folder;
 use co_outside::{Home, HomeFault, Spot};
 use std::alloc::Global;
 use std::io::{self, ErrorKind};
 
-/// A directory of real files. It tells nothing of what they hold.
+/// A directory of real files. It tells nothing of what they hold, and every call of the system that it made on them.
 ///
-/// `enter` makes the directory and its missing parents, syncs it and its parent whatever existed before, and locks it against every other home until
-/// another one is entered or this home is dropped. A log file is opened at its first use and kept open: it is then synced before its first bytes are given,
-/// since an earlier process may have left it unsynced. A file that is no plain file, that has gone or was replaced while it was open, or that is the file of another
+/// `enter` makes the directory and its missing parents, syncs it and those above it on its device whatever existed before, and locks it against every other
+/// home until another one is entered or this home is dropped. A log file is opened at its first use and kept open: it is then synced before its first bytes are
+/// given, since an earlier process may have left it unsynced, and read from the disk, since a sync that failed there may have left the system's copies unlike it.
+/// Once a call on a file has failed, every later one on it fails. A file that is no plain file, that has gone or was replaced while it was open, or that is the file of another
 /// spot too, is a fault; so is a write that would leave a gap. Before a directory is entered every call fails.
 #[derive(Drop)]
 pub struct HomeStd {
@@ -82,7 +83,6 @@ impl HomeStd {
 }
 
 impl Home for HomeStd {
-    ghost use Rattle.std.specs.Prelude.{◌≡◌, ◌≤◌, ◌+◌, ◌==◌, max, Some, [], length, string_bytes, option_map, IfOk, OnOk, OnErr, IsErrOf};
     ghost use Rattle.co_outside.specs.Home.{OthersStay, IsCounted};
     ghost use Rattle.co_outside.specs.Untold.{none_is_no_file};
     ghost use Rattle.co_files.specs.declared.call.Work.TheVariants.{Read, Write, Cut, Sync};
