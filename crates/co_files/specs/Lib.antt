@@ -1,1 +1,5 @@
+pub mod Calls
+pub mod Paths
+pub mod Climb
+pub mod Folder
 pub mod Seen

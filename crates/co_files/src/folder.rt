@@ -1,14 +1,24 @@
 //! The directory that was entered, with the log files that are kept open in it.
-ghost use Rattle.std.specs.Prelude.{◌≡◌, ◌≤◌, IfOk, length, string_bytes};
+ghost use Rattle.std.specs.Prelude.{◌≡◌, ◌≢◌, ◌≤◌, ◌⊎◌, ◌==◌, [], ◌∷◌, true, length, option_map, string_bytes, IfOk, IfSome, IfNone, OnOk};
+ghost use Rattle.co_outside.specs.declared.spot.Spot.{Spot};
+ghost use Rattle.co_files.specs.declared.call.Work.TheVariants.{Miss, Open, Make, Read, Write, Cut, Sync, Lock, HandOn};
+ghost use Rattle.co_files.specs.Calls.{did, begun_by, is_held};
+ghost use Rattle.co_files.specs.Climb.{IsClimb};
+ghost use Rattle.co_files.specs.Folder.{calls_at, IsAttended, IsCallAt, IsCallOrNone};
+ghost use Rattle.co_files.specs.Paths.{dir_name, path_of};
 
+use crate::call::Call;
+use crate::descriptor::Descriptor;
 use crate::directory::{self, Identity};
-use crate::log_file::{LogFile, found};
+use crate::guarded::Guarded;
+use crate::keeping::{cut_at, keep, kept, read_at, sync_at, write_at};
+use crate::log_file::LogFile;
 use co_outside::Spot;
+use co_trace::Trace;
 use std::alloc::Global;
 use std::fmt::Write;
-use std::fs::{self, File};
+use std::fs;
 use std::io::{self, ErrorKind};
-use std::path::Path;
 
 /// The most bytes of a file's name behind the directory's, with the slash before it.
 const NAME_ROOM: usize = 8;
@@ -23,9 +33,14 @@ pub(crate) struct Folder {
     pub(crate) name: String,
     /// Room for the path of a file.
     path: String,
-    files: Vec<LogFile>,
+    pub(crate) files: Vec<LogFile>,
     /// The directory itself, which is locked as long as it is open. It is closed last.
-    directory: File,
+    pub(crate) directory: Guarded,
+    /// How many directories were missing and made, it and those above it.
+    pub(crate) made: usize,
+    /// What was synced above it.
+    pub(crate) above: Trace<Call>,
+    ghost held: { is_held directory ≡ true },
 }
 
 impl Folder {
@@ -36,15 +51,22 @@ impl Folder {
         rt: &HostRuntime,
         alloc: Global,
         dir: &str,
-        before: &Option<Folder>,
+        before: &mut Option<Folder>,
     ) -> io::Result<Folder>
-        ensures { IfOk result (λ f. string_bytes f.name ≡ dir.now) }
+        ensures name { IfOk result (λ f. string_bytes f.name ≡ dir.now) }
+        ensures unused { IfOk result (λ f. f.files.items ≡ []) }
+        ensures above { IfOk result (λ f. IsClimb f.made dir.now f.above) }
+        ensures before { option_map (λ f. string_bytes f.name) before.new ≡ option_map (λ f. string_bytes f.name) before.old }
+        ensures entered { IfOk result (λ f. (f.directory ≡ did Sync ∷ did Lock ∷ did (Open (dir_name dir.now)) ∷ []) ⊎ (f.directory ≡ did Sync ∷ did HandOn ∷ [])) }
     {
-        let missing = directory::make(rt, dir)?;
-        let directory = locked(directory::open(rt, dir)?, before)?;
-        directory.sync_all()?;
-        directory::sync_parents(rt, dir, missing)?;
-        settle(before)?;
+        let made = directory::make(rt, dir)?;
+        let mut directory = Guarded::new(locked(directory::open(rt, dir)?, before)?);
+        directory.sync()?;
+        let found = Identity::of(&directory.metadata()?);
+        let above = directory::sync_above(rt, dir, made, found)?;
+        if let Some(before) = before {
+            settle(&mut before.files)?;
+        }
         let name = String::from_str(alloc, dir)?;
         let path = String::with_capacity(alloc, dir.len().saturating_add(NAME_ROOM))?;
         Ok(Folder {
@@ -52,6 +74,8 @@ impl Folder {
             path,
             files: Vec::with_capacity(alloc, MOST_FILES)?,
             directory,
+            made,
+            above,
         })
     }
 
@@ -65,10 +89,13 @@ impl Folder {
     ) -> io::Result<Vec<u8>>
         ensures name { self.new.name ≡ self.old.name }
         ensures most { IfOk result (λ v. length v.items ≤ most) }
+        ensures absent { IfOk result (λ v. calls_at self.new.files.items spot ≡ [] → v.items ≡ []) }
+        ensures called { IsCallOrNone (path_of (string_bytes self.old.name) spot) (λ v. Read v.items) (Read []) self.old.directory self.new.directory (calls_at self.old.files.items spot) (calls_at self.new.files.items spot) result }
+        ensures others { (s : Spot) → s ≢ spot → calls_at self.new.files.items s ≡ calls_at self.old.files.items s }
     {
-        self.attend(rt, spot)?;
-        match self.kept(spot) {
-            Some(log) => log.read(rt, alloc, self.path.as_str(), most),
+        self.attend(rt, spot, false)?;
+        match kept(&self.files, spot) {
+            Some(place) => read_at(rt, alloc, &mut self.files, place, &self.path, spot, most),
             None => Ok(Vec::new(alloc)),
         }
     }
@@ -81,26 +108,27 @@ impl Folder {
         at: u32,
         piece: &[u8],
     ) -> io::Result<()>
-        ensures { self.new.name ≡ self.old.name }
+        ensures name { self.new.name ≡ self.old.name }
+        ensures called { IsCallAt (path_of (string_bytes self.old.name) spot) (at == 0) (λ _. Write at piece.now) (Write at piece.now) (calls_at self.old.files.items spot) (calls_at self.new.files.items spot) result }
+        ensures others { (s : Spot) → s ≢ spot → calls_at self.new.files.items s ≡ calls_at self.old.files.items s }
     {
-        self.attend(rt, spot)?;
-        if self.kept(spot).is_none() && at == 0 {
-            let log = LogFile::make(rt, self.path.as_str(), spot)?;
-            self.keep(log)?;
-        }
-        match self.kept(spot) {
-            Some(log) => log.write(rt, self.path.as_str(), at, piece),
+        self.attend(rt, spot, at == 0)?;
+        match kept(&self.files, spot) {
+            Some(place) => write_at(rt, &mut self.files, place, &self.path, spot, at, piece),
             None => Err(ErrorKind::UnexpectedEof.into()),
         }
     }
 
     /// Cuts the file. An absent file is empty already.
     pub(crate) fn cut(&mut self, rt: &HostRuntime, spot: Spot, len: u32) -> io::Result<()>
-        ensures { self.new.name ≡ self.old.name }
+        ensures name { self.new.name ≡ self.old.name }
+        ensures absent { OnOk result (calls_at self.new.files.items spot ≡ [] → len ≡ 0) }
+        ensures called { IsCallOrNone (path_of (string_bytes self.old.name) spot) (λ _. Cut len) (Cut len) self.old.directory self.new.directory (calls_at self.old.files.items spot) (calls_at self.new.files.items spot) result }
+        ensures others { (s : Spot) → s ≢ spot → calls_at self.new.files.items s ≡ calls_at self.old.files.items s }
     {
-        self.attend(rt, spot)?;
-        match self.kept(spot) {
-            Some(log) => log.cut(rt, self.path.as_str(), len),
+        self.attend(rt, spot, false)?;
+        match kept(&self.files, spot) {
+            Some(place) => cut_at(rt, &mut self.files, place, &self.path, spot, len),
             None if len == 0 => Ok(()),
             None => Err(ErrorKind::UnexpectedEof.into()),
         }
@@ -108,46 +136,38 @@ impl Folder {
 
     /// Makes the file stable. An absent file is stable already.
     pub(crate) fn sync(&mut self, rt: &HostRuntime, spot: Spot) -> io::Result<()>
-        ensures { self.new.name ≡ self.old.name }
+        ensures name { self.new.name ≡ self.old.name }
+        ensures called { IsCallOrNone (path_of (string_bytes self.old.name) spot) (λ _. Sync) Sync self.old.directory self.new.directory (calls_at self.old.files.items spot) (calls_at self.new.files.items spot) result }
+        ensures others { (s : Spot) → s ≢ spot → calls_at self.new.files.items s ≡ calls_at self.old.files.items s }
     {
-        self.attend(rt, spot)?;
-        match self.kept(spot) {
-            Some(log) => log.sync(rt, self.path.as_str()),
+        self.attend(rt, spot, false)?;
+        match kept(&self.files, spot) {
+            Some(place) => sync_at(rt, &mut self.files, place, &self.path, spot),
             None => Ok(()),
         }
     }
 
-    /// Spells the path of a file. At its first use the file is opened, where there is one.
-    fn attend(&mut self, rt: &HostRuntime, spot: Spot) -> io::Result<()>
-        ensures { self.new.name ≡ self.old.name }
+    /// Spells the path of a file. At its first use the file is opened, where there is one, or made, where it may be.
+    fn attend(&mut self, rt: &HostRuntime, spot: Spot, makes: bool) -> io::Result<()>
+        ensures name { self.new.name ≡ self.old.name }
+        ensures attended { IsAttended (path_of (string_bytes self.old.name) spot) makes (calls_at self.old.files.items spot) (calls_at self.new.files.items spot) }
+        ensures missed { OnOk result (calls_at self.new.files.items spot ≡ [] → self.new.directory ≡ did (Miss (path_of (string_bytes self.old.name) spot)) ∷ self.old.directory) }
+        ensures others { (s : Spot) → s ≢ spot → calls_at self.new.files.items s ≡ calls_at self.old.files.items s }
     {
         self.spell(spot)?;
-        if self.kept(spot).is_some() {
+        if kept(&self.files, spot).is_some() {
             return Ok(());
         }
         self.stay(rt)?;
-        if found(rt, self.path.as_str())?.is_none() {
-            return Ok(());
+        match begin(rt, &self.path, spot, makes, &mut self.directory)? {
+            Some(log) => keep(&mut self.files, log, spot),
+            None => Ok(()),
         }
-        let log = LogFile::open(rt, self.path.as_str(), spot)?;
-        self.keep(log)
-    }
-
-    /// Keeps a file that was opened, once the directory has its name stably. A file that is kept for another spot is refused.
-    fn keep(&mut self, log: LogFile) -> io::Result<()>
-        ensures { self.new.name ≡ self.old.name }
-    {
-        if self.files.iter().any(|other| other.is_same(&log)) {
-            return Err(ErrorKind::AlreadyExists.into());
-        }
-        self.directory.sync_all()?;
-        self.files.push(log)?;
-        Ok(())
     }
 
     /// Refuses a directory of this name that is not the one which was locked.
     fn stay(&self, rt: &HostRuntime) -> io::Result<()> {
-        let name = directory::name_of(Path::new(self.name.as_str()));
+        let name = directory::name_of(&self.name);
         if Identity::of(&fs::metadata(rt, name)?) == Identity::of(&self.directory.metadata()?) {
             Ok(())
         } else {
@@ -155,40 +175,60 @@ impl Folder {
         }
     }
 
-    /// The file of a spot, where it was used before.
-    fn kept(&self, spot: Spot) -> Option<&LogFile> {
-        self.files.iter().find(|log| log.is_at(spot))
-    }
-
     /// Spells the path of a file.
     fn spell(&mut self, spot: Spot) -> io::Result<()>
-        ensures { self.new.name ≡ self.old.name }
+        ensures name { self.new.name ≡ self.old.name }
+        ensures files { self.new.files ≡ self.old.files }
+        ensures directory { self.new.directory ≡ self.old.directory }
+        ensures path { OnOk result (string_bytes self.new.path ≡ path_of (string_bytes self.old.name) spot) }
     {
         self.path.clear();
-        let name = directory::name_of(Path::new(self.name.as_str()));
-        self.path.push_str(name)?;
+        self.path.push_str(directory::name_of(&self.name))?;
         write!(self.path, "/{spot}")?;
         Ok(())
     }
 }
 
+/// Opens the file of a spot, where there is one, or makes it where it may be made.
+fn begin(
+    rt: &HostRuntime,
+    path: &str,
+    spot: Spot,
+    makes: bool,
+    directory: &mut Guarded,
+) -> io::Result<Option<LogFile>>
+    ensures begun { IfOk result (λ begun. IfSome begun (λ log. (log.file ≡ begun_by (Open path.now)) ⊎ ((makes ≡ true) × (log.file ≡ begun_by (Make path.now))))) }
+    ensures spot { IfOk result (λ begun. IfSome begun (λ log. log.spot ≡ spot)) }
+    ensures missed { IfOk result (λ begun. IfNone begun (directory.new ≡ did (Miss path.now) ∷ directory.old)) }
+    ensures held { is_held directory.old ≡ true → is_held directory.new ≡ true }
+{
+    if directory.look(rt, path)?.is_some() {
+        return Ok(Some(LogFile::open(rt, path, spot, directory)?));
+    }
+    if makes {
+        return Ok(Some(LogFile::make(rt, path, spot, directory)?));
+    }
+    Ok(None)
+}
+
 /// Locks a directory. The lock of the directory before is handed on where it is the same one.
-fn locked(directory: File, before: &Option<Folder>) -> io::Result<File> {
+fn locked(mut directory: Descriptor, before: &Option<Folder>) -> io::Result<Descriptor>
+    ensures { IfOk result (λ d. (d ≡ did Lock ∷ directory) ⊎ (d ≡ did HandOn ∷ [])) }
+{
     if let Some(before) = before {
         let held = Identity::of(&before.directory.metadata()?);
         if held == Identity::of(&directory.metadata()?) {
-            return before.directory.try_clone();
+            return before.directory.hand_on();
         }
     }
-    directory::lock(directory)
+    directory.lock()?;
+    Ok(directory)
 }
 
-/// Syncs each file of the directory before.
-fn settle(before: &Option<Folder>) -> io::Result<()> {
-    if let Some(before) = before {
-        for log in before.files.iter() {
-            log.settle()?;
-        }
+/// Syncs each of the files.
+fn settle(files: &mut [LogFile]) -> io::Result<()> {
+    for log in files.iter_mut() {
+        log.settle()?;
     }
     Ok(())
 }

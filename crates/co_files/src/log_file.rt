@@ -1,46 +1,70 @@
 //! A log file that is kept open.
-ghost use Rattle.std.specs.Prelude.{◌≡◌, ◌≤◌, IfOk, length};
+ghost use Rattle.std.specs.Prelude.{◌≡◌, ◌≤◌, ◌∷◌, [], true, false, IfOk, length};
+ghost use Rattle.co_files.specs.declared.call.Work.TheVariants.{Open, Make, Read, Write, Cut, Sync, DropCopies, SyncName};
+ghost use Rattle.co_files.specs.Calls.{did, begun_by, has_failed, is_held, is_used, IsOneCall};
 
+use crate::descriptor::{Descriptor, found};
 use crate::directory::Identity;
+use crate::guarded::Guarded;
 use co_outside::Spot;
 use std::alloc::Global;
-use std::fs::{self, File, Metadata, OpenOptions};
+use std::fs::OpenOptions;
 use std::io::{self, ErrorKind};
-use std::os::unix::fs::FileExt;
 
 /// A log file that is kept open. It is read, written, cut and synced by one descriptor, so that an error at write-back reaches the next sync.
 #[derive(Drop)]
 pub(crate) struct LogFile {
-    spot: Spot,
-    file: File,
+    pub(crate) spot: Spot,
+    pub(crate) file: Guarded,
     identity: Identity,
+    ghost used: { is_used file ≡ true },
 }
 
 impl LogFile {
     /// Opens the file at a path, and settles it.
-    pub(crate) fn open(rt: &HostRuntime, path: &str, spot: Spot) -> io::Result<LogFile> {
-        LogFile::settled(spot, open(rt, path)?)
+    pub(crate) fn open(
+        rt: &HostRuntime,
+        path: &str,
+        spot: Spot,
+        directory: &mut Guarded,
+    ) -> io::Result<LogFile>
+        ensures begun { IfOk result (λ log. log.file ≡ begun_by (Open path.now)) }
+        ensures spot { IfOk result (λ log. log.spot ≡ spot) }
+        ensures held { is_held directory.old ≡ true → is_held directory.new ≡ true }
+    {
+        LogFile::settled(spot, open(rt, path)?, directory)
     }
 
     /// Makes the file at a path, where nothing may stand yet.
-    pub(crate) fn make(rt: &HostRuntime, path: &str, spot: Spot) -> io::Result<LogFile> {
-        LogFile::settled(spot, File::create_new(rt, path)?)
+    pub(crate) fn make(
+        rt: &HostRuntime,
+        path: &str,
+        spot: Spot,
+        directory: &mut Guarded,
+    ) -> io::Result<LogFile>
+        ensures begun { IfOk result (λ log. log.file ≡ begun_by (Make path.now)) }
+        ensures spot { IfOk result (λ log. log.spot ≡ spot) }
+        ensures held { is_held directory.old ≡ true → is_held directory.new ≡ true }
+    {
+        LogFile::settled(spot, Descriptor::make(rt, path)?, directory)
     }
 
-    /// Syncs what an earlier process may have left unsynced.
-    fn settled(spot: Spot, file: File) -> io::Result<LogFile> {
+    /// Syncs what an earlier process may have left unsynced, drops the system's copies of it, which a failed sync may have left unlike the disk, and makes its name stable.
+    fn settled(spot: Spot, mut file: Descriptor, directory: &mut Guarded) -> io::Result<LogFile>
+        requires { has_failed file ≡ false }
+        ensures begun { IfOk result (λ log. log.file ≡ did SyncName ∷ did DropCopies ∷ did Sync ∷ file) }
+        ensures spot { IfOk result (λ log. log.spot ≡ spot) }
+        ensures held { is_held directory.old ≡ true → is_held directory.new ≡ true }
+    {
         let identity = Identity::of(&file.metadata()?);
-        file.sync_all()?;
+        file.sync()?;
+        file.drop_copies()?;
+        directory.sync_name(&mut file)?;
         Ok(LogFile {
             spot,
-            file,
+            file: Guarded::new(file),
             identity,
         })
-    }
-
-    /// Whether it is the file of a spot.
-    pub(crate) fn is_at(&self, spot: Spot) -> bool {
-        self.spot == spot
     }
 
     /// Whether it is the same file as another one.
@@ -67,66 +91,75 @@ impl LogFile {
 
     /// The first `most` bytes, or all of a shorter file.
     pub(crate) fn read(
-        &self,
+        &mut self,
         rt: &HostRuntime,
         alloc: Global,
         path: &str,
         most: u32,
     ) -> io::Result<Vec<u8>>
-        ensures { IfOk result (λ v. length v.items ≤ most) }
+        ensures most { IfOk result (λ v. length v.items ≤ most) }
+        ensures spot { self.new.spot ≡ self.old.spot }
+        ensures called { IsOneCall (λ v. Read v.items) (Read []) self.old.file self.new.file result }
     {
         let count = self.length(rt, path)?.min(u64::from(most));
         let mut bytes = vec![in alloc; 0u8; count as usize]?;
-        self.file.read_exact_at(&mut bytes, 0)?;
+        self.file.read(&mut bytes)?;
         Ok(bytes)
     }
 
     /// Lays a piece into the file at a place that is not behind its end.
     pub(crate) fn write(
-        &self,
+        &mut self,
         rt: &HostRuntime,
         path: &str,
         at: u32,
         piece: &[u8],
-    ) -> io::Result<()> {
+    ) -> io::Result<()>
+        ensures spot { self.new.spot ≡ self.old.spot }
+        ensures called { IsOneCall (λ _. Write at piece.now) (Write at piece.now) self.old.file self.new.file result }
+    {
         self.reach(rt, path, at)?;
-        self.file.write_all_at(piece, u64::from(at))
+        self.file.write(at, piece)
     }
 
     /// Cuts the file to a length that is not greater than its own.
-    pub(crate) fn cut(&self, rt: &HostRuntime, path: &str, len: u32) -> io::Result<()> {
+    pub(crate) fn cut(&mut self, rt: &HostRuntime, path: &str, len: u32) -> io::Result<()>
+        ensures spot { self.new.spot ≡ self.old.spot }
+        ensures called { IsOneCall (λ _. Cut len) (Cut len) self.old.file self.new.file result }
+    {
         self.reach(rt, path, len)?;
-        self.file.set_len(u64::from(len))
+        self.file.cut(len)
     }
 
     /// Makes the file stable.
-    pub(crate) fn sync(&self, rt: &HostRuntime, path: &str) -> io::Result<()> {
+    pub(crate) fn sync(&mut self, rt: &HostRuntime, path: &str) -> io::Result<()>
+        ensures spot { self.new.spot ≡ self.old.spot }
+        ensures called { IsOneCall (λ _. Sync) Sync self.old.file self.new.file result }
+    {
         self.length(rt, path)?;
-        self.file.sync_all()
+        self.file.sync()
     }
 
     /// Makes what was written stable, wherever the file stands by now.
-    pub(crate) fn settle(&self) -> io::Result<()> {
-        self.file.sync_all()
-    }
-}
-
-/// What stands at a path: a plain file, or nothing. Anything else is refused before it is opened, which may wait for ever at a pipe.
-pub(crate) fn found(rt: &HostRuntime, path: &str) -> io::Result<Option<Metadata>> {
-    match fs::symlink_metadata(rt, path) {
-        Ok(found) if found.is_file() => Ok(Some(found)),
-        Ok(_) => Err(ErrorKind::Unsupported.into()),
-        Err(e) if e.kind() == ErrorKind::NotFound => Ok(None),
-        Err(e) => Err(e),
+    pub(crate) fn settle(&mut self) -> io::Result<()>
+        ensures spot { self.new.spot ≡ self.old.spot }
+        ensures called { IsOneCall (λ _. Sync) Sync self.old.file self.new.file result }
+    {
+        self.file.sync()
     }
 }
 
 /// Opens a file to read and write, or to read alone where no more is permitted: then each write fails.
-fn open(rt: &HostRuntime, path: &str) -> io::Result<File> {
+fn open(rt: &HostRuntime, path: &str) -> io::Result<Descriptor>
+    ensures { IfOk result (λ d. d ≡ did (Open path.now) ∷ []) }
+{
     let mut how = OpenOptions::new();
     how.read(true).write(true);
-    match how.open(rt, path) {
-        Err(e) if is_denied(e.kind()) => File::open(rt, path),
+    match Descriptor::open(rt, path, &how) {
+        Err(e) if is_denied(e.kind()) => {
+            how.write(false);
+            Descriptor::open(rt, path, &how)
+        }
         opened => opened,
     }
 }

@@ -1,0 +1,14 @@
+use Rattle.std.proofs.Common.{◌∙◌}
+use Rattle.co_files.proofs.Files.{found}
+use Rattle.co_files.proofs.keeping.read_at.Goals as goal
+
+pub returns-clause-called : goal.returns-clause-called
+returns-clause-called c =
+    let there = (found c.args.spot c.args.files.now c.args.place c.requires).1 in
+    let its = c.read.ensures.spot ∙ there.its_spot c.index-files-place.result in
+    rw (there.changed c.read.new.self its, ← there.bytes c.index-files-place.result) c.read.ensures.called
+
+pub returns-clause-others : goal.returns-clause-others
+returns-clause-others c =
+    let there = (found c.args.spot c.args.files.now c.args.place c.requires).1 in
+    there.others _ (c.read.ensures.spot ∙ there.its_spot c.index-files-place.result)
