@@ -52,9 +52,9 @@ returns-in_err-held-clause-moved g c =
 pub returns-clause-heard : goal.returns-clause-heard
 returns-clause-heard g c =
     let all : (text more : List ℕ) → LiesAhead (past g.S.Source.gave g.S.Source.ended g.S.Source.went_on c.args.source.now) (past g.S.Source.gave g.S.Source.ended g.S.Source.went_on c.fill.new.source) text more →
-        c.fill.new.self.buffer.items ++ more ≡ unread c.args.self.now ++ text
-        = λ text more ahead. added_ahead (past g.S.Source.gave g.S.Source.ended g.S.Source.went_on c.args.source.now) (past g.S.Source.gave g.S.Source.ended g.S.Source.went_on c.fill.new.source)
-        text more c.let_go.new.self.buffer.items c.fill.new.self.buffer.items (unread c.args.self.now) c.let_go.ensures.held c.in_ok-held.ensures.added ahead in
+    c.fill.new.self.buffer.items ++ more ≡ unread c.args.self.now ++ text
+    = λ text more ahead. added_ahead (past g.S.Source.gave g.S.Source.ended g.S.Source.went_on c.args.source.now) (past g.S.Source.gave g.S.Source.ended g.S.Source.went_on c.fill.new.source)
+    text more c.let_go.new.self.buffer.items c.fill.new.self.buffer.items (unread c.args.self.now) c.let_go.ensures.held c.in_ok-held.ensures.added ahead in
     record {
       next = λ text more ahead.
           let none : c.in_ok-held.held ≡ Rest → more ≡ [] = λ e. ahead.over (c.in_ok-held.ensures.ended (ap Ok e)) in
