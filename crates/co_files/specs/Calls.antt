@@ -1,7 +1,7 @@
 -- Calls of the operating system on a file or a directory, and what their history says.
 use Rattle.std.specs.Prelude.{◌≡◌, ◌⊎◌, ◌&&◌, ◌||◌, not, Bool, true, false, List, [], ◌∷◌, ℕ, Option, None, Some, Result, Ok, Err}
 use Rattle.co_files.specs.declared.call.Work.{Work}
-use Rattle.co_files.specs.declared.call.Work.TheVariants.{Miss, Open, Make, Read, Write, Cut, Sync, DropCopies, SyncName, SyncAbove, Lock, HandOn}
+use Rattle.co_files.specs.declared.call.Work.TheVariants.{Miss, Open, Make, Read, Write, Cut, Sync, SyncName, SyncAbove, Lock, HandOn}
 use Rattle.co_files.specs.declared.call.Call.{Call}
 
 -- a call with its answer
@@ -28,7 +28,6 @@ gives_lock (Read bytes) = false
 gives_lock (Write at piece) = false
 gives_lock (Cut len) = false
 gives_lock Sync = false
-gives_lock DropCopies = false
 gives_lock SyncName = false
 gives_lock (SyncAbove path) = false
 
@@ -53,6 +52,6 @@ abbrev pub IsOneCall : {T E : Type 0} → (T → Work) → Work → List Call �
 IsOneCall work failed old new (Ok value) = (new ≡ did (work value) ∷ old) × (has_failed old ≡ false)
 IsOneCall work failed old new (Err fault) = (new ≡ called failed false ∷ old) ⊎ (new ≡ old)
 
--- How a file is begun that this call opened or made: what an earlier process left unsynced is synced, the system's copies of it are dropped, and its name is made stable.
+-- How a file is begun that this call opened or made: what an earlier process left unsynced is synced, and its name is made stable.
 abbrev pub begun_by : Work → List Call
-begun_by first = did SyncName ∷ did DropCopies ∷ did Sync ∷ did first ∷ []
+begun_by first = did SyncName ∷ did Sync ∷ did first ∷ []

@@ -18,8 +18,6 @@ pub(crate) enum Work {
     Cut(u32),
     /// To make the file stable.
     Sync,
-    /// To drop the system's copies of the file.
-    DropCopies,
     /// To make the name of the file stable, by a sync of the directory that has it.
     SyncName,
     /// To make the directory at this path stable, which is above.

@@ -3,7 +3,7 @@
 //! Each method makes one call of the system, and then notes it with its answer. That it makes the
 //! call that it notes, once, is trusted: std's clauses tell nothing of what a file holds.
 ghost use Rattle.std.specs.Prelude.{◌≡◌, [], ◌∷◌, true, false, is_ok, IfOk, MatchResult};
-ghost use Rattle.co_files.specs.declared.call.Work.TheVariants.{Open, Make, Read, Write, Cut, Sync, DropCopies, SyncName, SyncAbove, Lock, HandOn};
+ghost use Rattle.co_files.specs.declared.call.Work.TheVariants.{Open, Make, Read, Write, Cut, Sync, SyncName, SyncAbove, Lock, HandOn};
 ghost use Rattle.co_files.specs.Calls.{called, did, is_held, looked};
 
 use crate::call::{Call, Work};
@@ -94,19 +94,6 @@ impl Descriptor {
         let answer = self.file.sync_all();
         self.note(Work::Sync, answer.is_ok());
         answer
-    }
-
-    /// One `posix_fadvise`, which drops the system's own copies of what is stable.
-    pub(crate) fn drop_copies(&mut self) -> io::Result<()>
-        ensures { self.new ≡ called DropCopies (is_ok result) ∷ self.old }
-    {
-        let code = libc::posix_fadvise(self.file.as_raw_fd(), 0, 0, libc::POSIX_FADV_DONTNEED);
-        self.note(Work::DropCopies, code == 0);
-        if code == 0 {
-            Ok(())
-        } else {
-            Err(io::Error::from_raw_os_error(code))
-        }
     }
 
     /// One `fsync` of the directory that has this file.

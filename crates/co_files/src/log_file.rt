@@ -1,6 +1,6 @@
 //! A log file that is kept open.
 ghost use Rattle.std.specs.Prelude.{◌≡◌, ◌≤◌, ◌∷◌, [], true, false, IfOk, length};
-ghost use Rattle.co_files.specs.declared.call.Work.TheVariants.{Open, Make, Read, Write, Cut, Sync, DropCopies, SyncName};
+ghost use Rattle.co_files.specs.declared.call.Work.TheVariants.{Open, Make, Read, Write, Cut, Sync, SyncName};
 ghost use Rattle.co_files.specs.Calls.{did, begun_by, has_failed, is_held, is_used, IsOneCall};
 
 use crate::descriptor::{Descriptor, found};
@@ -49,16 +49,15 @@ impl LogFile {
         LogFile::settled(spot, Descriptor::make(rt, path)?, directory)
     }
 
-    /// Syncs what an earlier process may have left unsynced, drops the system's copies of it, which a failed sync may have left unlike the disk, and makes its name stable.
+    /// Syncs what an earlier process may have left unsynced, and makes its name stable.
     fn settled(spot: Spot, mut file: Descriptor, directory: &mut Guarded) -> io::Result<LogFile>
         requires { has_failed file ≡ false }
-        ensures begun { IfOk result (λ log. log.file ≡ did SyncName ∷ did DropCopies ∷ did Sync ∷ file) }
+        ensures begun { IfOk result (λ log. log.file ≡ did SyncName ∷ did Sync ∷ file) }
         ensures spot { IfOk result (λ log. log.spot ≡ spot) }
         ensures held { is_held directory.old ≡ true → is_held directory.new ≡ true }
     {
         let identity = Identity::of(&file.metadata()?);
         file.sync()?;
-        file.drop_copies()?;
         directory.sync_name(&mut file)?;
         Ok(LogFile {
             spot,
