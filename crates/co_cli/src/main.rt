@@ -1,8 +1,10 @@
-//! Replays a schedule, writes the durable records of a directory of logs, or judges a transcript.
+//! Replays a schedule, writes the durable records of a directory of logs, judges a transcript, or runs a trial.
 //!
 //! `co_cli run DIR` reads a schedule from standard input and writes its transcript to standard output;
 //! `co_cli records DIR` writes the records that the logs in the directory give; `co_cli check` reads a
-//! transcript from standard input and tells whether its committed transactions read serially. A note of how it ended goes to standard error.
+//! transcript from standard input and tells whether its committed transactions read serially; and
+//! `co_cli trial NUMBER EVENTS` runs a made schedule over a directory in memory and writes what it came to.
+//! A note of how it ended goes to standard error.
 #![tactic(auto)]
 
 use co_files::HomeStd;

@@ -31,6 +31,7 @@ use Rattle.co_coord.specs.declared.plan.Plan.{Plan}
 use Rattle.co_node.specs.declared.writing.Writes.{Writes}
 use Rattle.co_node.specs.declared.writing.Writes.TheVariants.{Nothing, Keeps, Forces, ForcesBoth}
 use Rattle.co_coord.specs.declared.step.CoordStep.{CoordStep}
+use Rattle.co_opening.specs.Rest.{IsSpotOf}
 use Rattle.co_cluster.specs.Left.{IsLeftBy, coord_disarmed}
 use Rattle.co_cluster.proofs.Leaving.{IsNotFull, step_left, reread_alone}
 
@@ -53,17 +54,17 @@ deliver_stable c y note =
     plan_stable c (txn_of note) y (deliver_plan c note (look y.table (txn_of note))) ∙ sym (ap (λ (d : PlainStep). d.state.log.stable) (deliver_is c (coord_disarmed y) note))
 
 -- the two steps of a checkpoint
-checkpoint_by_left : (c : ℕ) (y : CoordState) (log after : LogView) (old new : HomeView) (out : Result CoordStep NodeFault) (closed : Bool) → IsCheckpointed closed (node.Coord c) y log after old new (written_by out) → ((that : List Record) → LeftAs old.file (node.Coord c) y.log.stable that)
+checkpoint_by_left : (c : ℕ) (y : CoordState) (log after : LogView) (old new : HomeView) (out : Result CoordStep NodeFault) (closed : Bool) → IsSpotOf (node.Coord c) log.spare.spot → IsCheckpointed closed (node.Coord c) y log after old new (written_by out) → ((that : List Record) → LeftAs old.file (node.Coord c) y.log.stable that)
     → IfErr out (IsLeftBy new.file (node.Coord c) y.log.stable (coord_checkpoint_by c (coord_disarmed y) closed).state.log.stable)
-checkpoint_by_left c y log after old new out false answered before =
-    step_left (node.Coord c) log.spare.spot ⊥ y.log.stable y.log.stable after old new marks_in out y.log.stable refl answered (before y.log.stable)
-checkpoint_by_left c y log after old new out true answered before =
+checkpoint_by_left c y log after old new out false own answered before =
+    step_left (node.Coord c) log.spare.spot ⊥ y.log.stable y.log.stable after old new own marks_in out y.log.stable refl answered (before y.log.stable)
+checkpoint_by_left c y log after old new out true own answered before =
     let that = filled_with (node.Coord c) y.log (restated y) in
-    step_left (node.Coord c) log.spare.spot (IsOverfull log (reverse (restated y))) y.log.stable that after old new marks_in out (coord_checkpoint_by c (coord_disarmed y) true).state.log.stable (sym (spare_is c y)) answered (before that)
+    step_left (node.Coord c) log.spare.spot (IsOverfull log (reverse (restated y))) y.log.stable that after old new own marks_in out (coord_checkpoint_by c (coord_disarmed y) true).state.log.stable (sym (spare_is c y)) answered (before that)
 
-pub checkpoint_left : (c : ℕ) (y : CoordState) (log after : LogView) (old new : HomeView) (out : Result CoordStep NodeFault) → IsCheckpointed y.log.spare_closed (node.Coord c) y log after old new (written_by out) → ((that : List Record) → LeftAs old.file (node.Coord c) y.log.stable that)
+pub checkpoint_left : (c : ℕ) (y : CoordState) (log after : LogView) (old new : HomeView) (out : Result CoordStep NodeFault) → IsSpotOf (node.Coord c) log.spare.spot → IsCheckpointed y.log.spare_closed (node.Coord c) y log after old new (written_by out) → ((that : List Record) → LeftAs old.file (node.Coord c) y.log.stable that)
     → IfErr out (IsLeftBy new.file (node.Coord c) y.log.stable (coord_checkpoint c (coord_disarmed y)).state.log.stable)
-checkpoint_left c y log after old new out answered before = checkpoint_by_left c y log after old new out y.log.spare_closed answered before
+checkpoint_left c y log after old new out own answered before = checkpoint_by_left c y log after old new out y.log.spare_closed own answered before
 
 -- a restart writes nothing
 pub coord_read : {H : Type 0} (gives : H → Spot → ℕ → List ℕ → Type 0) (seen : H → HomeView) (log : LogView) (old new : H) (up : Bool) (out : Result CoordStep NodeFault) →

@@ -4,7 +4,7 @@ use Rattle.std.specs.Prelude.{Option, None, Some, is_some, Result, Ok, Err, IsOk
 use Rattle.co_base.specs.declared.mark.Mark.{Mark}
 use Rattle.co_base.specs.declared.node.Node.{Node}
 use Rattle.co_base.specs.declared.node.Node.TheVariants as node
-use Rattle.co_log.specs.LogView.{LogView}
+use Rattle.co_log.specs.LogView.{LogView, HasSpots, spot_of}
 use Rattle.co_log.specs.declared.fault.NodeFault.{NodeFault}
 use Rattle.co_log.specs.declared.fault.NodeFault.TheVariants.{Device, Differs, Full, Memory}
 use Rattle.co_message.specs.declared.answer.Answer.{Answer}
@@ -14,6 +14,7 @@ use Rattle.co_node.proofs.Opened.{told_records}
 use Rattle.co_node.specs.Answers.{LeftAs, IsAnswered}
 use Rattle.co_node.specs.NodeLog.{RepresentsLog}
 use Rattle.co_opening.specs.Nodes.{IsKept}
+use Rattle.co_opening.specs.Rest.{IsSpotOf}
 use Rattle.co_outside.specs.Home.{File, HomeView}
 use Rattle.co_outside.specs.declared.spot.Spot.{Spot}
 use Rattle.co_plain.specs.LogWrite.{outcome_of, with_stop}
@@ -125,6 +126,11 @@ local_commit_stable m t carried x =
 
 -- ---- what is left where a call does not answer
 
+-- the files of a log are those of its node
+pub own_spots : (owner : Node) (log : LogView) → log.node ≡ owner → HasSpots log → IsSpotOf owner log.current.spot × IsSpotOf owner log.spare.spot
+own_spots owner log owned (inl own) = (inl (own.0 ∙ ap (λ (n : Node). spot_of n 0) owned), inr (own.1 ∙ ap (λ (n : Node). spot_of n 1) owned))
+own_spots owner log owned (inr own) = (inr (own.0 ∙ ap (λ (n : Node). spot_of n 1) owned), inl (own.1 ∙ ap (λ (n : Node). spot_of n 0) owned))
+
 -- before a log write the files have the records of the log
 pub kept_left : (owner : Node) (home : HomeView) (log : LogView) (l : LogState) (that : List Record) → RepresentsLog owner log l → IsKept home owner log → LeftAs home.file owner l.stable that
 kept_left owner home log l that s kept told =
@@ -132,40 +138,40 @@ kept_left owner home log l that s kept told =
     (here.0, here.1, inl here.2)
 
 module _ (owner : Node) (at : Spot) (long : Type 0) (this that : List Record) (log : LogView) (old new : HomeView) where
-  pub fault_left : (e : NodeFault) → IsAnswered owner at long this that log old new (Err e) → LeftAs old.file owner this that → IsLeftBy new.file owner this that e
-  fault_left (Device spot) answered before = (answered.1.left, tt)
-  fault_left (Differs spot place kept read) answered before = absurd answered
-  fault_left (Full spot) answered before = (subst (λ (v : HomeView). LeftAs v.file owner this that) (sym answered.untouched) before, answered.overlong)
-  fault_left Memory answered before = (λ told. let h = answered.left told in (h.0, h.1, inl (either h.2)), tt)
+  pub fault_left : IsSpotOf owner at → (e : NodeFault) → IsAnswered owner at long this that log old new (Err e) → LeftAs old.file owner this that → IsLeftBy new.file owner this that e
+  fault_left own (Device spot) answered before = (answered.1.left, tt)
+  fault_left own (Differs spot place kept read) answered before = absurd answered
+  fault_left own (Full spot) answered before = (subst (λ (v : HomeView). LeftAs v.file owner this that) (sym answered.untouched) before, (answered.overlong, subst (IsSpotOf owner) (sym answered.spot) own))
+  fault_left own Memory answered before = (λ told. let h = answered.left told in (h.0, h.1, inl (either h.2)), tt)
     where
       either : {X : Type 0} → X ⊎ X → X
       either (inl x) = x
       either (inr x) = x
 
   -- so of a step with these marks
-  pub step_left : {D : Type 0} (marks : D → List Mark) (out : Result D NodeFault) (completed : List Record) → that ≡ completed → IsAnswered owner at long this that log old new (written_with marks out) → LeftAs old.file owner this that → IfErr out (IsLeftBy new.file owner this completed)
-  step_left marks (Ok d) completed same answered before = tt
-  step_left marks (Err e) completed same answered before = subst (λ (rs : List Record). IsLeftBy new.file owner this rs e) same (fault_left e answered before)
+  pub step_left : IsSpotOf owner at → {D : Type 0} (marks : D → List Mark) (out : Result D NodeFault) (completed : List Record) → that ≡ completed → IsAnswered owner at long this that log old new (written_with marks out) → LeftAs old.file owner this that → IfErr out (IsLeftBy new.file owner this completed)
+  step_left own marks (Ok d) completed same answered before = tt
+  step_left own marks (Err e) completed same answered before = subst (λ (rs : List Record). IsLeftBy new.file owner this rs e) same (fault_left own e answered before)
 
 -- the two steps of a checkpoint
-checkpoint_by_left : (m : ℕ) (x : MemberState) (log after : LogView) (old new : HomeView) (out : Result MemberStep NodeFault) (closed : Bool) → IsAnsweredIn closed m x log after old new (written_by out) → ((that : List Record) → LeftAs old.file (node.Member m) x.log.stable that)
+checkpoint_by_left : (m : ℕ) (x : MemberState) (log after : LogView) (old new : HomeView) (out : Result MemberStep NodeFault) (closed : Bool) → IsSpotOf (node.Member m) log.spare.spot → IsAnsweredIn closed m x log after old new (written_by out) → ((that : List Record) → LeftAs old.file (node.Member m) x.log.stable that)
     → IfErr out (IsLeftBy new.file (node.Member m) x.log.stable (checkpoint_by m (member_disarmed x) closed).state.log.stable)
-checkpoint_by_left m x log after old new out false answered before =
-    step_left (node.Member m) log.spare.spot ⊥ x.log.stable x.log.stable after old new marks_in out x.log.stable refl answered (before x.log.stable)
-checkpoint_by_left m x log after old new out true answered before =
+checkpoint_by_left m x log after old new out false own answered before =
+    step_left (node.Member m) log.spare.spot ⊥ x.log.stable x.log.stable after old new own marks_in out x.log.stable refl answered (before x.log.stable)
+checkpoint_by_left m x log after old new out true own answered before =
     let that = member_spare m x (next_generation (generation_of x.log.stable)) in
-    step_left (node.Member m) log.spare.spot (IsOverfull log (spare_items x)) x.log.stable that after old new marks_in out that refl answered (before that)
+    step_left (node.Member m) log.spare.spot (IsOverfull log (spare_items x)) x.log.stable that after old new own marks_in out that refl answered (before that)
 
-pub checkpoint_left : (m : ℕ) (x : MemberState) (log after : LogView) (old new : HomeView) (out : Result MemberStep NodeFault) → IsCheckpointed m x log after old new (written_by out) → ((that : List Record) → LeftAs old.file (node.Member m) x.log.stable that)
+pub checkpoint_left : (m : ℕ) (x : MemberState) (log after : LogView) (old new : HomeView) (out : Result MemberStep NodeFault) → IsSpotOf (node.Member m) log.spare.spot → IsCheckpointed m x log after old new (written_by out) → ((that : List Record) → LeftAs old.file (node.Member m) x.log.stable that)
     → IfErr out (IsLeftBy new.file (node.Member m) x.log.stable (member_checkpoint m (member_disarmed x)).state.log.stable)
-checkpoint_left m x log after old new out answered before = checkpoint_by_left m x log after old new out x.log.spare_closed answered before
+checkpoint_left m x log after old new out own answered before = checkpoint_by_left m x log after old new out x.log.spare_closed own answered before
 
 -- ---- by the calls of a node
 
 pub plan_left : {D : Type 0} (marks : D → List Mark) (w : Writes) (owner : Node) (l : LogState) (log after : LogView) (old new : HomeView) (out : Result D NodeFault) (completed : List Record) → stable_after w l ≡ completed → RepresentsLog owner log l → IsKept old owner log
     → IsAnsweredFor w owner l log after old new (written_with marks out) → IfErr out (IsLeftBy new.file owner l.stable completed)
 plan_left marks w owner l log after old new out completed same stands kept answered =
-    step_left owner log.current.spot (IsTooLongFor w log) l.stable (stable_after w l) after old new marks out completed same answered (kept_left owner old log l (stable_after w l) stands kept)
+    step_left owner log.current.spot (IsTooLongFor w log) l.stable (stable_after w l) after old new (own_spots owner log stands.owned kept.held.spots).0 marks out completed same answered (kept_left owner old log l (stable_after w l) stands kept)
 
 -- there was no memory, and nothing was written
 pub still_left : {A : Type 0} (out : Result A NodeFault) (owner : Node) (home : HomeView) (log : LogView) (l : LogState) (that : List Record) → IfErr out (λ e. e ≡ Memory) → RepresentsLog owner log l → IsKept home owner log →
@@ -184,18 +190,18 @@ IsNotFull (Differs spot place kept read) = Unit {0}
 IsNotFull (Full spot) = ⊥
 IsNotFull Memory = Unit {0}
 
-not_full : (records : List Record) (e : NodeFault) → IsNotFull e → IsFullWith records e
-not_full records (Device spot) h = tt
-not_full records (Differs spot place kept read) h = tt
-not_full records (Full spot) h = absurd h
-not_full records Memory h = tt
+not_full : (owner : Node) (records : List Record) (e : NodeFault) → IsNotFull e → IsFullWith owner records e
+not_full owner records (Device spot) h = tt
+not_full owner records (Differs spot place kept read) h = tt
+not_full owner records (Full spot) h = absurd h
+not_full owner records Memory h = tt
 
 pub restart_left : {A : Type 0} (out : Result A NodeFault) (owner : Node) (old new : HomeView) (log : LogView) (l : LogState) (that : List Record) → IfErr out IsNotFull → RepresentsLog owner log l → IsKept old owner log
     → new.file log.current.spot ≡ old.file log.current.spot → new.file log.spare.spot ≡ old.file log.spare.spot → OtherFilesStay log.node old new → IfErr out (IsLeftBy new.file owner l.stable that)
 restart_left (Ok d) owner old new log l that read stands kept current spare stay = tt
 restart_left (Err e) owner old new log l that read stands kept current spare stay =
     let same = files_stay owner log old new stands.owned kept.held.spots current spare (subst (λ (n : Node). OtherFilesStay n old new) stands.owned stay) in
-    (subst (λ (f : Spot → Option File). LeftAs f owner l.stable that) (sym (λ i s. same s i)) (kept_left owner old log l that stands kept), not_full that e read)
+    (subst (λ (f : Spot → Option File). LeftAs f owner l.stable that) (sym (λ i s. same s i)) (kept_left owner old log l that stands kept), not_full owner that e read)
 
 module _ {H : Type 0} (gives : H → Spot → ℕ → List ℕ → Type 0) (seen : H → HomeView) (log : LogView) (old new : H) where
   pub reread_alone : (e : NodeFault) → IsReread gives seen log old new (Err e) → IsNotFull e

@@ -34,6 +34,7 @@ use Rattle.co_plain.specs.declared.member_state.MemberState.{MemberState}
 use Rattle.co_base.specs.Limits.{most_coordinators, most_log_bytes, most_members}
 use Rattle.co_log.specs.Attaching.{IsWithin}
 use Rattle.co_log.proofs.Spots.{stays_elsewhere}
+use Rattle.co_opening.specs.Rest.{IsSpotOf}
 use Rattle.co_cluster.proofs.Places.{at_other, at_same, within_list}
 use Rattle.co_record.specs.declared.record.Record.{Record}
 use Rattle.co_state.specs.declared.engine_state.EngineState.{EngineState}
@@ -209,11 +210,11 @@ module _ (s : Federation) (few : AreFew s) (old new : HomeView) (before : AreLef
           (subst (λ (z : CoordState). HasStable new.file (node.Coord k) z.log.stable) (sym (at_same (disarmed s).coord k y)) written))
 
 -- a fault of a node that is told as one of the federation
-full_with : (s : Federation) (records : List Record) → (IsOverlong records → HasOverlong s) → (fault : NodeFault) → IsFullWith records fault → IsFullIn s (of_node fault)
-full_with s records so (log.Device spot) full = tt
-full_with s records so (log.Differs spot at kept read) full = tt
-full_with s records so (log.Full spot) full = so full
-full_with s records so log.Memory full = tt
+full_with : (owner : Node) (s : Federation) (records : List Record) → ((spot : Spot) → IsOverlong records → IsSpotOf owner spot → HasOverlong s spot) → (fault : NodeFault) → IsFullWith owner records fault → IsFullIn s (of_node fault)
+full_with owner s records so (log.Device spot) full = tt
+full_with owner s records so (log.Differs spot at kept read) full = tt
+full_with owner s records so (log.Full spot) full = so spot full.0 full.1
+full_with owner s records so log.Memory full = tt
 
 module _ {E : Type 0} (takes : Kind → Type 0) (stands_for : E → EngineState → Type 0) (w : Cluster E) (s : Federation) (stands : RepresentsCluster takes stands_for w s) (old new : HomeView) (held : AreHeld old w) where
   -- a fault at the member of a number
@@ -232,7 +233,7 @@ module _ {E : Type 0} (takes : Kind → Type 0) (stands_for : E → EngineState 
       let low : 1 ≤ k = omega (arith, next) in
       let high : k ≤ length s.kinds = omega (arith, below, stands.kinds, next) in (
         member_fault_left s few old new (held_left takes stands_for w s old stands held) k x low high (subst (λ (j : ℕ). OtherFilesStay (node.Member j) old new) number stay) at_k.0,
-        full_with (with_member (disarmed s) k x) x.log.stable (λ long. OverlongMember k low high (subst (λ (y : MemberState). IsOverlong y.log.stable) (sym (at_same (disarmed s).member k x)) long)) fault at_k.1,
+        full_with (node.Member k) (with_member (disarmed s) k x) x.log.stable (λ spot long own. OverlongMember k low high (subst (λ (y : MemberState). IsOverlong y.log.stable) (sym (at_same (disarmed s).member k x)) long) own) fault at_k.1,
       )
 
   -- so for a coordinator
@@ -251,7 +252,7 @@ module _ {E : Type 0} (takes : Kind → Type 0) (stands_for : E → EngineState 
       let low : 1 ≤ k = omega (arith, next) in
       let high : k ≤ s.coordinators = omega (arith, below, stands.coordinators, next) in (
         coord_fault_left s few old new (held_left takes stands_for w s old stands held) k y low high (subst (λ (j : ℕ). OtherFilesStay (node.Coord j) old new) number stay) at_k.0,
-        full_with (with_coord (disarmed s) k y) y.log.stable (λ long. OverlongCoord k low high (subst (λ (z : CoordState). IsOverlong z.log.stable) (sym (at_same (disarmed s).coord k y)) long)) fault at_k.1,
+        full_with (node.Coord k) (with_coord (disarmed s) k y) y.log.stable (λ spot long own. OverlongCoord k low high (subst (λ (z : CoordState). IsOverlong z.log.stable) (sym (at_same (disarmed s).coord k y)) long) own) fault at_k.1,
       )
 
 -- ---- a step of the federation
@@ -261,9 +262,9 @@ pub noted_left : (file : Spot → Option File) (s : Federation) (marks : List Ma
 noted_left file s marks messages left = record { member = left.member; coord = left.coord }
 
 -- nor are they in a log
-pub noted_overlong : (s : Federation) (marks : List Mark) (messages : List Message) → HasOverlong s → HasOverlong (noted s marks messages)
-noted_overlong s marks messages (OverlongMember m low high long) = OverlongMember m low high long
-noted_overlong s marks messages (OverlongCoord c low high long) = OverlongCoord c low high long
+pub noted_overlong : (s : Federation) (marks : List Mark) (messages : List Message) (spot : Spot) → HasOverlong s spot → HasOverlong (noted s marks messages) spot
+noted_overlong s marks messages spot (OverlongMember m low high long own) = OverlongMember m low high long own
+noted_overlong s marks messages spot (OverlongCoord c low high long own) = OverlongCoord c low high long own
 
 pub member_step_left : (file : Spot → Option File) (s : Federation) (k : ℕ) (up : Bool) (did : PlainMemberStep) → up ≡ true → AreLeftAs file (with_member s k did.state) → AreLeftAs file (up_member s k up did).state
 member_step_left file s k up did is left =
@@ -273,26 +274,26 @@ pub coord_step_left : (file : Spot → Option File) (s : Federation) (k : ℕ) (
 coord_step_left file s k up did is left =
     subst (λ (b : Bool). AreLeftAs file (up_coord s k b did).state) (sym is) (noted_left file (with_coord s k did.state) did.marks did.sent left)
 
-pub member_step_overlong : (s : Federation) (k : ℕ) (up : Bool) (did : PlainMemberStep) → up ≡ true → HasOverlong (with_member s k did.state) → HasOverlong (up_member s k up did).state
-member_step_overlong s k up did is long =
-    subst (λ (b : Bool). HasOverlong (up_member s k b did).state) (sym is) (noted_overlong (with_member s k did.state) did.marks (message_list did.sent) long)
+pub member_step_overlong : (s : Federation) (k : ℕ) (up : Bool) (did : PlainMemberStep) → up ≡ true → (spot : Spot) → HasOverlong (with_member s k did.state) spot → HasOverlong (up_member s k up did).state spot
+member_step_overlong s k up did is spot long =
+    subst (λ (b : Bool). HasOverlong (up_member s k b did).state spot) (sym is) (noted_overlong (with_member s k did.state) did.marks (message_list did.sent) spot long)
 
-pub coord_step_overlong : (s : Federation) (k : ℕ) (up : Bool) (did : PlainCoordStep) → up ≡ true → HasOverlong (with_coord s k did.state) → HasOverlong (up_coord s k up did).state
-coord_step_overlong s k up did is long =
-    subst (λ (b : Bool). HasOverlong (up_coord s k b did).state) (sym is) (noted_overlong (with_coord s k did.state) did.marks did.sent long)
+pub coord_step_overlong : (s : Federation) (k : ℕ) (up : Bool) (did : PlainCoordStep) → up ≡ true → (spot : Spot) → HasOverlong (with_coord s k did.state) spot → HasOverlong (up_coord s k up did).state spot
+coord_step_overlong s k up did is spot long =
+    subst (λ (b : Bool). HasOverlong (up_coord s k b did).state spot) (sym is) (noted_overlong (with_coord s k did.state) did.marks did.sent spot long)
 
-full_as : (s t : Federation) → (HasOverlong s → HasOverlong t) → (fault : WorldFault) → IsFullIn s fault → IsFullIn t fault
+full_as : (s t : Federation) → ((spot : Spot) → HasOverlong s spot → HasOverlong t spot) → (fault : WorldFault) → IsFullIn s fault → IsFullIn t fault
 full_as s t so (world.Device spot) full = tt
 full_as s t so (world.Differs spot at kept read) full = tt
 full_as s t so (world.InUse spot) full = tt
 full_as s t so (world.Bad spot at) full = tt
-full_as s t so (world.Full spot) full = so full
+full_as s t so (world.Full spot) full = so spot full
 full_as s t so world.Count full = tt
 full_as s t so (world.Old spot) full = tt
 full_as s t so world.Memory full = tt
 
 -- what came of an event has the logs that its node left
-pub either_left : (file : Spot → Option File) (before start after completed other : Federation) (fault : WorldFault) → (AreLeftAs file start → AreLeftAs file before) → (AreLeftAs file other → AreLeftAs file completed) → (HasOverlong other → HasOverlong completed) →
+pub either_left : (file : Spot → Option File) (before start after completed other : Federation) (fault : WorldFault) → (AreLeftAs file start → AreLeftAs file before) → (AreLeftAs file other → AreLeftAs file completed) → ((spot : Spot) → HasOverlong other spot → HasOverlong completed spot) →
     AreLeftWith file start other fault → AreLeftBy file before after completed fault
 either_left file before start after completed other fault was so long left = (by left.0, full_as other completed long fault left.1)
   where

@@ -84,7 +84,7 @@ module _ (owner : Node) (at : Spot) (long : Type 0) (this that : List Record) (l
   answered_ended (Ok written) answered = tt
   answered_ended (Err (Device spot)) answered = (answered.1.count, answered.1.last)
   answered_ended (Err (Differs spot place kept read)) answered = absurd answered
-  answered_ended (Err (Full spot)) answered = ap (λ (v : HomeView). v.faults) answered.untouched
+  answered_ended (Err (Full spot)) answered = answered.untouched
   answered_ended (Err Memory) answered = answered.quiet
 
   -- so of a step with these marks
@@ -152,7 +152,7 @@ still_served (Ok d) owner log after home kept held = record { kept = record { he
 still_served (Err e) owner log after home kept held = tt
 
 pub others_still : (owner : Node) (home : HomeView) → OtherNodesStay owner home home
-others_still owner home = record { others = record { files = λ s a b. refl; reaches = λ s a b. refl }; directory = refl; count = omega arith }
+others_still owner home = record { others = record { files = λ s a b. refl; reaches = λ s a b. refl }; told = λ s none. none; directory = refl; count = omega arith }
 
 -- ---- a restart
 

@@ -9,6 +9,7 @@ use Rattle.co_durable.specs.declared.fault.WorldFault.{WorldFault}
 use Rattle.co_durable.specs.declared.fault.WorldFault.TheVariants as world
 use Rattle.co_node.specs.Answers.{AreTold, LeftAs}
 use Rattle.co_node.specs.Sizes.{IsOverlong}
+use Rattle.co_opening.specs.Rest.{IsSpotOf}
 use Rattle.co_outside.specs.declared.spot.Spot.{Spot}
 use Rattle.co_outside.specs.Home.{File}
 use Rattle.co_record.specs.declared.record.Record.{Record}
@@ -35,17 +36,17 @@ pub record AreLeftAs (file : Spot → Option File) (s : Federation) : Type 0 whe
   pub member : (m : ℕ) → 1 ≤ m → m ≤ length s.kinds → HasStable file (node.Member m) (s.member m).log.stable
   pub coord : (c : ℕ) → 1 ≤ c → c ≤ s.coordinators → HasStable file (node.Coord c) (s.coord c).log.stable
 
--- Some node of the head has a log that would be too long, or no next generation.
-pub data HasOverlong (s : Federation) : Type 0 where
-  OverlongMember : (m : ℕ) → 1 ≤ m → m ≤ length s.kinds → IsOverlong (s.member m).log.stable → HasOverlong s
-  OverlongCoord : (c : ℕ) → 1 ≤ c → c ≤ s.coordinators → IsOverlong (s.coord c).log.stable → HasOverlong s
+-- The file is that of a node of the head whose log would be too long, or has no next generation.
+pub data HasOverlong (s : Federation) (spot : Spot) : Type 0 where
+  OverlongMember : (m : ℕ) → 1 ≤ m → m ≤ length s.kinds → IsOverlong (s.member m).log.stable → IsSpotOf (node.Member m) spot → HasOverlong s spot
+  OverlongCoord : (c : ℕ) → 1 ≤ c → c ≤ s.coordinators → IsOverlong (s.coord c).log.stable → IsSpotOf (node.Coord c) spot → HasOverlong s spot
 
--- A file is said to be too long only where the completed write of the node would leave it so.
-abbrev pub IsFullWith : List Record → NodeFault → Type 0
-IsFullWith records (log.Device spot) = Unit {0}
-IsFullWith records (log.Differs spot at kept read) = Unit {0}
-IsFullWith records (log.Full spot) = IsOverlong records
-IsFullWith records log.Memory = Unit {0}
+-- A file is said to be too long only where it is one of the node, and the completed write would leave it so.
+abbrev pub IsFullWith : Node → List Record → NodeFault → Type 0
+IsFullWith owner records (log.Device spot) = Unit {0}
+IsFullWith owner records (log.Differs spot at kept read) = Unit {0}
+IsFullWith owner records (log.Full spot) = IsOverlong records × IsSpotOf owner spot
+IsFullWith owner records log.Memory = Unit {0}
 
 -- So of a federation.
 abbrev pub IsFullIn : Federation → WorldFault → Type 0
@@ -53,14 +54,14 @@ IsFullIn s (world.Device spot) = Unit {0}
 IsFullIn s (world.Differs spot at kept read) = Unit {0}
 IsFullIn s (world.InUse spot) = Unit {0}
 IsFullIn s (world.Bad spot at) = Unit {0}
-IsFullIn s (world.Full spot) = HasOverlong s
+IsFullIn s (world.Full spot) = HasOverlong s spot
 IsFullIn s world.Count = Unit {0}
 IsFullIn s (world.Old spot) = Unit {0}
 IsFullIn s world.Memory = Unit {0}
 
 -- A fault of a node leaves in its files the records of before, or those of the completed write.
 abbrev pub IsLeftBy : (Spot → Option File) → Node → List Record → List Record → NodeFault → Type 0
-IsLeftBy file owner before completed fault = LeftAs file owner before completed × IsFullWith completed fault
+IsLeftBy file owner before completed fault = LeftAs file owner before completed × IsFullWith owner completed fault
 
 abbrev pub AreLeftWith : (Spot → Option File) → Federation → Federation → WorldFault → Type 0
 AreLeftWith file before completed fault = (AreLeftAs file before ⊎ AreLeftAs file completed) × IsFullIn completed fault

@@ -24,11 +24,11 @@ pub record AreServed {E : Type 0} (w : Cluster E) (old new : HomeView) : Type 0 
   pub clean : (s : Spot) → IsClean old s → IsClean new s
   pub quiet : new.faults ≡ old.faults
 
--- The directory failed at this file, or no fault was met. Only a file of a log that the directory does not tell can differ from what is kept of it.
+-- The directory failed at this file, or no fault was met. Only a file of a log that the directory does not tell can differ from what is kept of it; a file is too long before anything is changed.
 abbrev pub HasFailedAs : NodeFault → HomeView → HomeView → Type 0
 HasFailedAs (log.Device spot) old new = HasRisen old.faults new.faults × (new.last_failed ≡ spot)
 HasFailedAs (log.Differs spot at kept read) old new = (new.faults ≡ old.faults) × (old.file spot ≡ None) × (spot.part < 2)
-HasFailedAs (log.Full spot) old new = new.faults ≡ old.faults
+HasFailedAs (log.Full spot) old new = new ≡ old
 HasFailedAs log.Memory old new = new.faults ≡ old.faults
 
 -- The fault of a node is that of its federation.
@@ -38,13 +38,13 @@ of_node (log.Differs spot at kept read) = world.Differs spot at kept read
 of_node (log.Full spot) = world.Full spot
 of_node log.Memory = world.Memory
 
--- So is how the directory failed then, and that only an untold file differs. An event is refused for none of the faults of opening; the limit on numbers is met where no call of the directory was made.
+-- So is how the directory failed then, and that only an untold file differs. An event is refused for none of the faults of opening; the limit on numbers is met, and a file is too long, where nothing of the directory was changed.
 abbrev pub HasEndedAs : WorldFault → HomeView → HomeView → Type 0
 HasEndedAs (world.Device spot) old new = HasRisen old.faults new.faults × (new.last_failed ≡ spot)
 HasEndedAs (world.Differs spot at kept read) old new = (new.faults ≡ old.faults) × (old.file spot ≡ None) × (spot.part < 2)
 HasEndedAs (world.InUse spot) old new = ⊥
 HasEndedAs (world.Bad spot at) old new = ⊥
-HasEndedAs (world.Full spot) old new = new.faults ≡ old.faults
+HasEndedAs (world.Full spot) old new = new ≡ old
 HasEndedAs world.Count old new = new ≡ old
 HasEndedAs (world.Old spot) old new = ⊥
 HasEndedAs world.Memory old new = new.faults ≡ old.faults

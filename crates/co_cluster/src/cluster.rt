@@ -11,6 +11,7 @@ ghost use Rattle.co_cluster.specs.Left.{AreLeftWith, member_disarmed, coord_disa
 ghost use Rattle.co_cluster.specs.Served.{AreServed, HasEndedAs};
 ghost use Rattle.co_cluster.specs.Standing.{RepresentsCluster, AreHeld};
 ghost use Rattle.co_cluster.specs.Telling.{IsTold, IsToldBy};
+ghost use Rattle.co_opening.specs.Rest.{OnlyOwnFilesChange};
 
 use crate::calls::{CoordCall, MemberCall};
 use crate::coords::coord_does;
@@ -84,7 +85,7 @@ impl<E: Engine + Drop> Cluster<E> {
             IfErr result (AreLeftWith (H.seen home.new).file s (with_member (disarmed s) member (member_does member call (member_disarmed (s.member member))).state)) }
         ensures served { OnOk result (AreServed self.new (H.seen home.old) (H.seen home.new)) }
         ensures ended { IfErr result (λ fault. HasEndedAs fault (H.seen home.old) (H.seen home.new)) }
-        ensures entered { (H.seen home.new).entered ≡ (H.seen home.old).entered }
+        ensures rest { OnlyOwnFilesChange (length self.old.members.items) (length self.old.coords.items) (H.seen home.old) (H.seen home.new) }
     {
         match member_does(&mut self.members[usize::from(member) - 1], home, call) {
             Ok(did) => Ok(did),
@@ -112,7 +113,7 @@ impl<E: Engine + Drop> Cluster<E> {
             IfErr result (AreLeftWith (H.seen home.new).file s (with_coord (disarmed s) coord (coord_does coord call (coord_disarmed (s.coord coord))).state)) }
         ensures served { OnOk result (AreServed self.new (H.seen home.old) (H.seen home.new)) }
         ensures ended { IfErr result (λ fault. HasEndedAs fault (H.seen home.old) (H.seen home.new)) }
-        ensures entered { (H.seen home.new).entered ≡ (H.seen home.old).entered }
+        ensures rest { OnlyOwnFilesChange (length self.old.members.items) (length self.old.coords.items) (H.seen home.old) (H.seen home.new) }
     {
         match coord_does(&mut self.coords[usize::from(coord) - 1], home, call) {
             Ok(did) => Ok(did),

@@ -1,12 +1,12 @@
 -- The two files of a log, and those of all others.
-use Rattle.std.proofs.Common.{◌≡◌, ◌≢◌, ℕ, sym, ap, subst, ◌∙◌, arith, inl, inr}
-use Rattle.std.specs.Prelude.{◌⊎◌, List, Option}
+use Rattle.std.proofs.Common.{◌≡◌, ◌≢◌, ℕ, refl, sym, ap, subst, ◌∙◌, arith, inl, inr}
+use Rattle.std.specs.Prelude.{◌⊎◌, List, Option, None, Some, IsSome}
 use Rattle.co_base.specs.declared.leaves.Stop.{Stop}
 use Rattle.co_record.specs.declared.record.Record.{Record}
 use Rattle.co_base.specs.Nodes.{IsValidNode, node_byte}
 use Rattle.co_base.specs.declared.node.Node.{Node}
 use Rattle.co_base.specs.declared.node.Node.TheVariants.{Member, Coord}
-use Rattle.co_outside.specs.Home.{HomeView, Agrees, RestStays}
+use Rattle.co_outside.specs.Home.{File, HomeView, Agrees, RestStays}
 use Rattle.co_outside.specs.declared.spot.Spot.{Spot}
 use Rattle.co_disk.specs.DiskModel.{read_of}
 use Rattle.co_disk.specs.DiskView.{DiskView}
@@ -98,11 +98,23 @@ spare_held old new log disk waiting stop held at rest agrees =
 pub held_elsewhere : (node : Node) (old new : HomeView) (log : LogView) → IsValidNode node → IsValidNode log.node → log.node ≢ node → OtherFilesStay node old new → IsHeld old log → IsHeld new log
 held_elsewhere node old new log one two other stay held = held_stays old new log (stays_elsewhere node log.node old new one two other stay) held
 
+-- a call on one file leaves each told
+still_told : (spot : Spot) (old new : HomeView) → RestStays spot old new → (s : Spot) → new.file s ≡ None → old.file s ≡ None
+still_told spot old new rest s none = by (old.file s) refl
+  where
+    by : (o : Option File) → old.file s ≡ o → old.file s ≡ None
+    by None is = is
+    by (Some f) is =
+        let here : s ≢ spot = λ e. let some = rest.told f (sym (ap old.file e) ∙ is) in let gone : new.file spot ≡ None = sym (ap new.file e) ∙ none in cc in
+        let away = rest.others.files s here in
+        absurd (cc)
+
 module _ (log : LogView) (spots : HasSpots log) where
   -- a call on one of its two files leaves all other nodes
   pub current_only : (old new : HomeView) → RestStays log.current.spot old new → OtherNodesStay log.node old new
   current_only old new rest = record {
     others = record { files = λ s a b. rest.others.files s (not_current log s spots a b); reaches = λ s a b. rest.others.reaches s (not_current log s spots a b) };
+    told = still_told log.current.spot old new rest;
     directory = rest.others.directory;
     count = rest.count;
   }
@@ -110,6 +122,7 @@ module _ (log : LogView) (spots : HasSpots log) where
   pub spare_only : (old new : HomeView) → RestStays log.spare.spot old new → OtherNodesStay log.node old new
   spare_only old new rest = record {
     others = record { files = λ s a b. rest.others.files s (not_spare log s spots a b); reaches = λ s a b. rest.others.reaches s (not_spare log s spots a b) };
+    told = still_told log.spare.spot old new rest;
     directory = rest.others.directory;
     count = rest.count;
   }

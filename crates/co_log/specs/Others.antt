@@ -1,5 +1,5 @@
 -- What a call on the log of one node leaves of the directory.
-use Rattle.std.specs.Prelude.{◌≡◌, ◌≢◌, ◌≤◌, Option}
+use Rattle.std.specs.Prelude.{◌≡◌, ◌≢◌, ◌≤◌, Option, None}
 use Rattle.co_base.specs.declared.node.Node.{Node}
 use Rattle.co_outside.specs.Home.{HomeView, File}
 use Rattle.co_outside.specs.declared.spot.Spot.{Spot}
@@ -19,9 +19,10 @@ pub record OtherFilesStay (node : Node) (old new : HomeView) : Type 0 where
   pub files : (s : Spot) → s ≢ spot_of node 0 → s ≢ spot_of node 1 → new.file s ≡ old.file s
   pub reaches : (s : Spot) → s ≢ spot_of node 0 → s ≢ spot_of node 1 → new.reach s ≡ old.reach s
 
--- So they are, the directory stays entered, and the count of faults does not fall.
+-- So they are, a file that was told still is, the directory stays entered, and the count of faults does not fall.
 pub record OtherNodesStay (node : Node) (old new : HomeView) : Type 0 where
   pub others : OtherFilesStay node old new
+  pub told : (s : Spot) → new.file s ≡ None → old.file s ≡ None
   pub directory : new.entered ≡ old.entered
   pub count : old.faults ≤ new.faults
 

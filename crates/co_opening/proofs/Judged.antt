@@ -16,7 +16,7 @@ use Rattle.co_log.specs.NodeFiles.{Items, newest_first}
 use Rattle.co_law_node.specs.Writable.{IsWithinBounds}
 use Rattle.co_plain.specs.CoordView.{first_refused_at_coord, recovered_commits}
 use Rattle.co_plain.specs.MemberView.{first_refused_at_member, recovered_view}
-use Rattle.co_plain.specs.Opening.{used_numbers}
+use Rattle.co_plain.specs.Opening.{Found, used_numbers}
 use Rattle.co_recover.specs.Recovered.{records_of, past_of_member, past_of_coord, IsMemberRecovery, IsCoordRecovery}
 use Rattle.co_recover.specs.declared.past.CoordPast.{CoordPast}
 use Rattle.co_recover.specs.declared.past.MemberPast.{MemberPast}
@@ -103,11 +103,13 @@ module _ (file : Spot → Option File) (resume : Bool) (head : Head) (member_log
               (subst (λ n. m ≤ n) (sym many) high);
           coord = λ c low high. in_files_at file Coord cs.list (founds_from file resume Coord (CoordTold members) (λ q f. IsFoundIn file (Coord (suc q)) f) (λ q l t f is t_is. is.in_file) 0 coord_logs coord_pasts cs.list cs.are) c low
               (subst (λ n. c ≤ n) (sym few) high);
+          no_member = λ m out. outside ms.list m (ap (λ n. nat_le 1 m && nat_le m n) many ∙ out);
+          no_coord = λ c out. outside cs.list c (ap (λ n. nat_le 1 c && nat_le c n) few ∙ out);
         };
         may = record {
           own = record {
-            members = λ m out. outside ms.list m (ap (λ n. nat_le 1 m && nat_le m n) many ∙ out);
-            coordinators = λ c out. outside cs.list c (ap (λ n. nat_le 1 c && nat_le c n) few ∙ out);
+            members = λ m out. ap (λ (f : Found). f.records) (outside ms.list m (ap (λ n. nat_le 1 m && nat_le m n) many ∙ out));
+            coordinators = λ c out. ap (λ (f : Found). f.records) (outside cs.list c (ap (λ n. nat_le 1 c && nat_le c n) few ∙ out));
           };
           members_allowed = all_at (λ f. first_refused_at_member coords (reverse f.records) ≡ None) ms.list refl
               (founds_all file resume Member (MemberTold coords) (λ f. first_refused_at_member coords (reverse f.records) ≡ None) (λ q l t f is t_is. t_is.0) 0 member_logs member_pasts ms.list ms.are);

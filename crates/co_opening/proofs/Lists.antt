@@ -102,10 +102,10 @@ all_at P founds none all zero = none
 all_at P founds none all (suc p) = all_or P founds p fresh all none
 
 -- nothing was found outside of them
-pub outside : (founds : List Found) (m : ℕ) → (nat_le 1 m && nat_le m (length founds)) ≡ false → (found_at founds m).records ≡ []
+pub outside : (founds : List Found) (m : ℕ) → (nat_le 1 m && nat_le m (length founds)) ≡ false → found_at founds m ≡ fresh
 unfolding found_at
 outside founds zero e = refl
-outside founds (suc p) e = ap (λ (f : Found). f.records) (past_end founds p fresh (grind (arith, nat_tests)))
+outside founds (suc p) e = past_end founds p fresh (grind (arith, nat_tests))
 
 pub in_files_at : (file : Spot → Option File) (node : ℕ → Node) (founds : List Found) → AllFrom (λ q f. IsFoundIn file (node (suc q)) f) 0 founds → (m : ℕ) → 1 ≤ m → m ≤ length founds → IsFoundIn file (node m) (found_at founds m)
 unfolding found_at

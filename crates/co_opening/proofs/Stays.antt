@@ -15,7 +15,7 @@ pub stays_still : (node : Node) (home : HomeView) → NodeStays node home home
 stays_still node home = record { file_a = refl; file_b = refl; reach_a = refl; reach_b = refl }
 
 pub others_still : (node : Node) (home : HomeView) → OtherNodesStay node home home
-others_still node home = record { others = record { files = λ s a b. refl; reaches = λ s a b. refl }; directory = refl; count = omega arith }
+others_still node home = record { others = record { files = λ s a b. refl; reaches = λ s a b. refl }; told = λ s none. none; directory = refl; count = omega arith }
 
 pub stays_on : (node : Node) (old mid new : HomeView) → NodeStays node old mid → NodeStays node mid new → NodeStays node old new
 stays_on node old mid new one two = record {

@@ -1,6 +1,7 @@
 pub mod From
 pub mod Sorts
 pub mod Nodes
+pub mod Rest
 pub mod Found
 pub mod InUse
 pub mod Versions

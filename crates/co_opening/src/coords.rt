@@ -5,10 +5,11 @@ ghost use Rattle.co_base.specs.declared.node.Node.TheVariants as node;
 ghost use Rattle.co_base.specs.Limits.{most_coordinators};
 ghost use Rattle.co_outside.specs.declared.spot.Spot.{Spot};
 ghost use Rattle.co_outside.specs.Home.{HasFailed, IsClean};
-ghost use Rattle.co_log.specs.Others.{NodeStays, OtherNodesStay};
+ghost use Rattle.co_log.specs.Others.{NodeStays};
 ghost use Rattle.co_plain.specs.Opening.{Found, header_mark, coord_headers, opened_coord};
 ghost use Rattle.co_opening.specs.Judged.{IsOfMaking};
 ghost use Rattle.co_opening.specs.Kept.{IsOwnLog, AreOwnLogs};
+ghost use Rattle.co_opening.specs.Rest.{OnlyOneIsMade, OnlyOpens};
 ghost use Rattle.co_opening.specs.Nodes.{IsCoordAt};
 ghost use Rattle.co_opening.specs.Standing.{IsCoordFound, AreCoordsFound};
 ghost use Rattle.co_opening.specs.Running.{AreCoordsAt, AreOwnCoords};
@@ -40,7 +41,7 @@ fn open_coord<H: Home>(
     ensures marks { (found : Found) → IsCoordFound members (suc place) log past found → OnOk result (marks.new ≡ marks.old ++ header_mark (node.Coord (suc place)) found.records) }
     ensures kept { IfOk result (λ c. IsOwnLog (H.seen home.new) (node.Coord (suc place)) c.log) }
     ensures clean { OnOk result ((s : Spot) → IsClean (H.seen home.old) s → IsClean (H.seen home.new) s) }
-    ensures rest { OtherNodesStay (node.Coord (suc place)) (H.seen home.old) (H.seen home.new) }
+    ensures rest { OnlyOneIsMade (node.Coord (suc place)) (H.seen home.old) (H.seen home.new) }
     ensures fault { IfErr result IsOfMaking }
     ensures device { (spot : Spot) → IsErrOf result (WorldFault.Device spot) → HasFailed spot (H.seen home.old) (H.seen home.new) }
     ensures quiet { ((spot : Spot) → IsErrOf result (WorldFault.Device spot) → ⊥) → (H.seen home.new).faults ≡ (H.seen home.old).faults }
@@ -69,7 +70,7 @@ pub(crate) fn open_coords<H: Home>(
     ensures kept { IfOk result (λ coords. AreOwnCoords (H.seen home.new) coords.items) }
     ensures clean { OnOk result ((s : Spot) → IsClean (H.seen home.old) s → IsClean (H.seen home.new) s) }
     ensures others { (m : ℕ) → IsValidNode (node.Member m) → NodeStays (node.Member m) (H.seen home.old) (H.seen home.new) }
-    ensures entered { (H.seen home.new).entered ≡ (H.seen home.old).entered }
+    ensures opens { OnlyOpens members (length logs.items) (H.seen home.old) (H.seen home.new) }
     ensures fault { IfErr result IsOfMaking }
     ensures device { (spot : Spot) → IsErrOf result (WorldFault.Device spot) → HasFailed spot (H.seen home.old) (H.seen home.new) }
     ensures quiet { ((spot : Spot) → IsErrOf result (WorldFault.Device spot) → ⊥) → (H.seen home.new).faults ≡ (H.seen home.old).faults }

@@ -7,10 +7,11 @@ ghost use Rattle.co_base.specs.declared.node.Node.TheVariants as node;
 ghost use Rattle.co_base.specs.Limits.{most_members};
 ghost use Rattle.co_outside.specs.declared.spot.Spot.{Spot};
 ghost use Rattle.co_outside.specs.Home.{HasFailed, IsClean};
-ghost use Rattle.co_log.specs.Others.{NodeStays, OtherNodesStay};
+ghost use Rattle.co_log.specs.Others.{NodeStays};
 ghost use Rattle.co_plain.specs.Opening.{Found, header_mark, member_headers, kind_of, opened_member};
 ghost use Rattle.co_opening.specs.Judged.{IsOfMaking};
 ghost use Rattle.co_opening.specs.Kept.{IsOwnLog, AreOwnLogs};
+ghost use Rattle.co_opening.specs.Rest.{OnlyOneIsMade, OnlyOpens};
 ghost use Rattle.co_opening.specs.Nodes.{IsMemberAt};
 ghost use Rattle.co_opening.specs.Standing.{IsMemberFound, AreMembersFound};
 ghost use Rattle.co_opening.specs.Running.{AreMembersAt, AreOwnMembers};
@@ -45,7 +46,7 @@ fn open_member<E: Engine + Drop, H: Home>(
     ensures marks { (found : Found) → IsMemberFound coords (suc place) log past found → OnOk result (marks.new ≡ marks.old ++ header_mark (node.Member (suc place)) found.records) }
     ensures kept { IfOk result (λ m. IsOwnLog (H.seen home.new) (node.Member (suc place)) m.log) }
     ensures clean { OnOk result ((s : Spot) → IsClean (H.seen home.old) s → IsClean (H.seen home.new) s) }
-    ensures rest { OtherNodesStay (node.Member (suc place)) (H.seen home.old) (H.seen home.new) }
+    ensures rest { OnlyOneIsMade (node.Member (suc place)) (H.seen home.old) (H.seen home.new) }
     ensures fault { IfErr result IsOfMaking }
     ensures device { (spot : Spot) → IsErrOf result (WorldFault.Device spot) → HasFailed spot (H.seen home.old) (H.seen home.new) }
     ensures quiet { ((spot : Spot) → IsErrOf result (WorldFault.Device spot) → ⊥) → (H.seen home.new).faults ≡ (H.seen home.old).faults }
@@ -77,7 +78,7 @@ pub(crate) fn open_members<E: Engine + Drop, H: Home>(
     ensures kept { IfOk result (λ members. AreOwnMembers (H.seen home.new) members.items) }
     ensures clean { OnOk result ((s : Spot) → IsClean (H.seen home.old) s → IsClean (H.seen home.new) s) }
     ensures others { (c : ℕ) → IsValidNode (node.Coord c) → NodeStays (node.Coord c) (H.seen home.old) (H.seen home.new) }
-    ensures entered { (H.seen home.new).entered ≡ (H.seen home.old).entered }
+    ensures opens { OnlyOpens (length kinds.now) coords (H.seen home.old) (H.seen home.new) }
     ensures fault { IfErr result IsOfMaking }
     ensures device { (spot : Spot) → IsErrOf result (WorldFault.Device spot) → HasFailed spot (H.seen home.old) (H.seen home.new) }
     ensures quiet { ((spot : Spot) → IsErrOf result (WorldFault.Device spot) → ⊥) → (H.seen home.new).faults ≡ (H.seen home.old).faults }

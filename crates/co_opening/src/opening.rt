@@ -12,6 +12,7 @@ ghost use Rattle.co_opening.specs.Judged.{AreJudged, IsOfMaking};
 ghost use Rattle.co_opening.specs.Kept.{AreOwnLogs};
 ghost use Rattle.co_opening.specs.Nodes.{AreKept};
 ghost use Rattle.co_opening.specs.Opened.{AreOpened, IsUnopened, IsOfFound};
+ghost use Rattle.co_opening.specs.Rest.{OnlyOpens};
 
 use crate::attaching::{Logs, attach_all};
 use crate::coords::open_coords;
@@ -44,7 +45,7 @@ fn make_nodes<E: Engine + Drop, H: Home>(
         IfOk result (AreOpened E.takes E.stands_for file head.now resume) }
     ensures kept { IfOk result (λ n. AreKept (H.seen home.new) n.members.items n.coords.items) }
     ensures clean { OnOk result ((s : Spot) → IsClean (H.seen home.old) s → IsClean (H.seen home.new) s) }
-    ensures entered { (H.seen home.new).entered ≡ (H.seen home.old).entered }
+    ensures opens { OnlyOpens (length head.now.kinds) head.now.coords (H.seen home.old) (H.seen home.new) }
     ensures fault { IfErr result IsOfMaking }
     ensures device { (spot : Spot) → IsErrOf result (WorldFault.Device spot) → HasFailed spot (H.seen home.old) (H.seen home.new) }
     ensures quiet { ((spot : Spot) → IsErrOf result (WorldFault.Device spot) → ⊥) → (H.seen home.new).faults ≡ (H.seen home.old).faults }
@@ -90,7 +91,7 @@ pub fn open_nodes<E: Engine + Drop, H: Home>(
     ensures clean { IfOk result (λ n. (s : Spot) → IsClean (H.seen home.old) s → IsClean (H.seen home.new) s) }
     ensures refused { IfErr result (IsUnopened (H.seen home.old).file head.now resume) }
     ensures untouched { IfErr result (λ fault. IsOfFound fault → (s : Spot) → (H.seen home.new).file s ≡ (H.seen home.old).file s) }
-    ensures entered { (H.seen home.new).entered ≡ (H.seen home.old).entered }
+    ensures opens { OnlyOpens (length head.now.kinds) head.now.coords (H.seen home.old) (H.seen home.new) }
     ensures device { (spot : Spot) → IsErrOf result (WorldFault.Device spot) → HasFailed spot (H.seen home.old) (H.seen home.new) }
     ensures quiet { ((spot : Spot) → IsErrOf result (WorldFault.Device spot) → ⊥) → (H.seen home.new).faults ≡ (H.seen home.old).faults }
 {

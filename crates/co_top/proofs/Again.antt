@@ -1,5 +1,5 @@
 -- What a run left in the logs may be run again.
-use Rattle.std.proofs.Common.{◌≡◌, ℕ, Bool, true, false, ◌&&◌, List, [], length, reverse, ◌==◌, if◌then◌else◌, Option, None, refl, sym, ◌∙◌, subst}
+use Rattle.std.proofs.Common.{◌≡◌, ℕ, Bool, true, false, ◌&&◌, List, [], length, reverse, ◌==◌, if◌then◌else◌, Option, None, refl, sym, ap, ◌∙◌, subst}
 use Rattle.std.specs.Prelude.{nat_le}
 use Rattle.std.specs.List.{AllByRecursion}
 use Rattle.std.proofs.lemmas.Bool.{leb-true, le-leb}
@@ -18,7 +18,7 @@ use Rattle.co_plain.specs.CoordView.{first_refused_at_coord}
 use Rattle.co_plain.specs.Federation.{Federation}
 use Rattle.co_plain.specs.Invariants.{Stable}
 use Rattle.co_plain.specs.MemberView.{first_refused_at_member}
-use Rattle.co_plain.specs.Opening.{Found}
+use Rattle.co_plain.specs.Opening.{Found, fresh}
 use Rattle.co_law_node.specs.WholeNodes.{AreWhole, AreWritable}
 use Rattle.co_law_node.specs.Writable.{IsWithinBounds}
 use Rattle.co_plain.specs.Numbers.{IsAmong}
@@ -65,10 +65,10 @@ module _ (file : Spot → Option File) (sort : ℕ → Node) (logs : ℕ → Lis
       by true e = found_in n (one_between n count e)
       by false e = absurd (let z : true ≡ false = sym (between_one n count between) ∙ e in cc)
 
-  pub none_found : (n : ℕ) → is_one n count ≡ false → (found_at n).records ≡ []
+  pub none_found : (n : ℕ) → is_one n count ≡ false → found_at n ≡ fresh
   none_found n none = by (is_one n count) refl
     where
-      by : (b : Bool) (e : is_one n count ≡ b) → (found_if n b e).records ≡ []
+      by : (b : Bool) (e : is_one n count ≡ b) → found_if n b e ≡ fresh
       by true e = absurd (let z : true ≡ false = sym e ∙ none in cc)
       by false e = refl
 
@@ -96,8 +96,8 @@ module _ (file : Spot → Option File) (kinds : List Kind) (coords : ℕ) (s : F
   may =
       record {
         own = record {
-          members = none_found file node.Member (λ m. (s.member m).log.stable) (length kinds) members;
-          coordinators = none_found file node.Coord (λ c. (s.coord c).log.stable) coords coordinators;
+          members = λ m out. ap (λ (f : Found). f.records) (none_found file node.Member (λ m. (s.member m).log.stable) (length kinds) members m out);
+          coordinators = λ c out. ap (λ (f : Found). f.records) (none_found file node.Coord (λ c. (s.coord c).log.stable) coords coordinators c out);
         };
         members_allowed = all_found file node.Member (λ m. (s.member m).log.stable) (length kinds) members (λ rs. first_refused_at_member coords (reverse rs) ≡ None) refl (λ m between. (whole.member m).readable Stable);
         coords_allowed = all_found file node.Coord (λ c. (s.coord c).log.stable) coords coordinators (λ rs. first_refused_at_coord (length kinds) (reverse rs) ≡ None) refl (λ c between. (whole.coord c).readable Stable);
@@ -114,6 +114,8 @@ module _ (file : Spot → Option File) (kinds : List Kind) (coords : ℕ) (s : F
     record {
       member = λ m low high. is_found file node.Member (λ m. (s.member m).log.stable) (length kinds) members m (low, high);
       coord = λ c low high. is_found file node.Coord (λ c. (s.coord c).log.stable) coords coordinators c (low, high);
+      no_member = none_found file node.Member (λ m. (s.member m).log.stable) (length kinds) members;
+      no_coord = none_found file node.Coord (λ c. (s.coord c).log.stable) coords coordinators;
     },
     may,
   )

@@ -4,7 +4,7 @@ use Rattle.co_base.specs.declared.head.Head.{Head}
 use Rattle.co_message.specs.declared.event.Event.{Event}
 use Rattle.co_outside.specs.declared.spot.Spot.{Spot}
 use Rattle.co_outside.specs.Faults.{HasRisen}
-use Rattle.co_outside.specs.Home.{File}
+use Rattle.co_outside.specs.Home.{File, HomeView}
 use Rattle.co_durable.specs.declared.fault.WorldFault.{WorldFault}
 use Rattle.co_durable.specs.declared.fault.WorldFault.TheVariants as world
 use Rattle.co_opening.specs.Opened.{IsUnopened, IsOfFound}
@@ -15,8 +15,9 @@ use Rattle.co_schedule.specs.Spelling.{line_text}
 use Rattle.co_schedule.specs.declared.fault.LineKind.{LineKind}
 use Rattle.co_schedule.specs.declared.fault.LinesFault.TheVariants as lines
 use Rattle.co_top.specs.Complete.{IsSchedule, IsUnhindered}
-use Rattle.co_top.specs.Front.{IsHeaded, StandsBehind, AtStart, OneMore, IsLineFault, most}
-use Rattle.co_top.specs.Ran.{Ran, HasStoppedAt, IsUnopenedFor, IsAtLimit, IsOutgrown, IsRunEnd}
+use Rattle.co_top.specs.Front.{IsHeaded, StandsBehind, AtStart, OneMore, IsHeadFault, IsLineFault, most}
+use Rattle.co_top.specs.Ran.{Ran, IsAtLimit, IsOutgrown, IsStop, IsEventFault, IsRunEnd, NoHead, Unopened, Stopped, CutOff, Failed, Wanted}
+use Rattle.co_top.specs.Replayed.{IsUnopenedAs}
 use Rattle.co_top.specs.declared.status.LimitKind.TheVariants as limit
 use Rattle.co_top.specs.declared.status.Status.{Status}
 use Rattle.co_top.specs.declared.status.Status.TheVariants as status
@@ -30,13 +31,13 @@ abbrev pub behind_lines : ℕ → List ℕ → List ℕ
 behind_lines zero text = text
 behind_lines (suc n) text = behind_line (behind_lines n text)
 
-stands_rest : (head : Head) (text : List ℕ) (es : List Event) (rest : List ℕ) → StandsBehind head text es rest → rest ≡ behind_lines (length es) text
+pub stands_rest : (head : Head) (text : List ℕ) (es : List Event) (rest : List ℕ) → StandsBehind head text es rest → rest ≡ behind_lines (length es) text
 stands_rest head text es rest (AtStart t) = refl
 stands_rest head text es rest (OneMore t left events e before line next) =
     ap behind_line (stands_rest head t events left before) ∙ ap (λ n. behind_lines n t) (sym (count_more events e))
 
 -- a line that is that of an event lies there
-abbrev IsLineAt : Head → List ℕ → ℕ → Type 0
+abbrev pub IsLineAt : Head → List ℕ → ℕ → Type 0
 IsLineAt head text n = (e : Event) × HasLine head e × (next_line longest_line most (suc n) (behind_lines n text) ≡ Ok (Some (line_text e)))
 
 or_less : (n k : ℕ) → n < suc k → (n < k) ⊎ (n ≡ k)
@@ -44,7 +45,7 @@ or_less n zero l = inr (omega (arith, l))
 or_less zero (suc k) l = inl (omega arith)
 or_less (suc n) (suc k) l = elim (or_less n k (omega (arith, l))) as (λ c. (suc n < suc k) ⊎ (suc n ≡ suc k)) [ inl less ↦ inl (omega (arith, less)) | inr same ↦ inr (ap suc same) ]
 
-line_at : (head : Head) (text : List ℕ) (es : List Event) (rest : List ℕ) → StandsBehind head text es rest → (n : ℕ) → n < length es → IsLineAt head text n
+pub line_at : (head : Head) (text : List ℕ) (es : List Event) (rest : List ℕ) → StandsBehind head text es rest → (n : ℕ) → n < length es → IsLineAt head text n
 line_at head text es rest (AtStart t) n less = absurd (omega (arith, less))
 line_at head text es rest (OneMore t left events e before line next) n less =
     elim (or_less n (length events) (let z : n < length (events ++ e ∷ []) = less in omega (arith, z, count_more events e))) as (λ c. IsLineAt head t n) [
@@ -55,7 +56,7 @@ line_at head text es rest (OneMore t left events e before line next) n less =
 -- ---- no line of a schedule ends a run
 
 -- there is no line at the end
-no_line : (lent : ℕ) (line : List ℕ) (text : List ℕ) → text ≡ [] → next_line longest_line most lent text ≡ Ok (Some line) → ⊥
+pub no_line : (lent : ℕ) (line : List ℕ) (text : List ℕ) → text ≡ [] → next_line longest_line most lent text ≡ Ok (Some line) → ⊥
 no_line lent line text none next = let z : Ok None ≡ Ok (Some line) = sym (ap (next_line longest_line most lent) none) ∙ next in cc
 
 -- a line gives no event only where the source fails or memory is wanting, but for these three causes
@@ -66,18 +67,7 @@ only_wanting head count left outside long many (status.Limit (limit.Line line)) 
 only_wanting head count left outside long many (status.Limit limit.Lines) fault = absurd (many fault)
 only_wanting head count left outside long many status.Read fault = inl refl
 only_wanting head count left outside long many status.Memory fault = inr refl
-only_wanting head count left outside long many status.Done fault = absurd fault
-only_wanting head count left outside long many status.Usage fault = absurd fault
-only_wanting head count left outside long many status.Write fault = absurd fault
-only_wanting head count left outside long many (status.Device spot) fault = absurd fault
-only_wanting head count left outside long many (status.Differs spot at kept read) fault = absurd fault
-only_wanting head count left outside long many (status.InUse spot) fault = absurd fault
-only_wanting head count left outside long many (status.BadLog spot at) fault = absurd fault
-only_wanting head count left outside long many (status.Limit limit.Transactions) fault = absurd fault
-only_wanting head count left outside long many (status.Limit (limit.Log spot)) fault = absurd fault
-only_wanting head count left outside long many (status.OldLog spot) fault = absurd fault
-only_wanting head count left outside long many (status.NotSerial txn line) fault = absurd fault
-only_wanting head count left outside long many (status.Transcript line) fault = absurd fault
+only_wanting head count left outside long many _ fault = absurd fault
 
 -- so it is of a line of an event
 no_fault : (head : Head) (count : ℕ) (left : List ℕ) (ended : Status) (e : Event) → HasLine head e → next_line longest_line most (suc count) left ≡ Ok (Some (line_text e)) → IsLineFault head count left ended → (ended ≡ status.Read) ⊎ (ended ≡ status.Memory)
@@ -134,72 +124,77 @@ module _ (input : List ℕ) (schedule : IsSchedule input) where
         ]
 
   -- how it ends
-  module _ (resume : Bool) (left : Option (List ℕ)) (held : List ℕ) (old new : Spot → Option File) (told : Option (List ℕ))
-      (allowed : (head : Head) (text : List ℕ) → IsHeaded input head text → (why : WorldFault) → IsOfFound why → IsUnopened old head resume why → ⊥)
-      (room : (r : Ran resume input old) → IsOutgrown r → ⊥) (few : (r : Ran resume input old) → IsAtLimit r → ⊥) where
-    unopened : (why : WorldFault) → IsOfFound why → IsUnopenedFor resume input old why → ⊥
-    unopened why of u = allowed u.head u.text u.headed why of u.cause
-
-    stopped : (ended : Status) → HasStoppedAt resume input left held old new told ended → (ended ≡ status.Read) ⊎ (ended ≡ status.Memory)
-    stopped ended h = never_stopped h.run.ran ended h.cause
-
-    -- it is done, or wants memory, or has another cause
+  module _ {H : Type 0} (seen : H → HomeView) (resume : Bool) (left : Option (List ℕ)) (held : List ℕ) (told : Option (List ℕ)) (old new : H)
+      (allowed : (head : Head) (text : List ℕ) → IsHeaded input head text → (why : WorldFault) → IsOfFound why → IsUnopened (seen old).file head resume why → ⊥)
+      (room : (r : Ran resume input (seen old).file) (spot : Spot) → IsOutgrown r spot → ⊥) (few : (r : Ran resume input (seen old).file) → IsAtLimit r → ⊥) where
+    -- it is done, or the outside has failed, or it wants memory
     abbrev pub Comes : Status → Type 0
-    Comes (status.Schedule line what) = ⊥
-    Comes (status.Limit what) = ⊥
-    Comes (status.InUse spot) = ⊥
-    Comes (status.BadLog spot at) = ⊥
-    Comes (status.OldLog spot) = ⊥
-    Comes status.Usage = ⊥
-    Comes (status.NotSerial txn line) = ⊥
-    Comes (status.Transcript line) = ⊥
-    Comes _ = Unit {0}
+    Comes status.Done = Unit {0}
+    Comes status.Read = Unit {0}
+    Comes status.Write = Unit {0}
+    Comes (status.Device spot) = Unit {0}
+    Comes (status.Differs spot at kept read) = IsEventFault (seen old).file (status.Differs spot at kept read)
+    Comes status.Memory = Unit {0}
+    Comes _ = ⊥
 
     wanting_comes : (ended : Status) → (ended ≡ status.Read) ⊎ (ended ≡ status.Memory) → Comes ended
     wanting_comes ended (inl e) = subst Comes (sym e) tt
     wanting_comes ended (inr e) = subst Comes (sym e) tt
 
-    pub comes : (ended : Status) → IsRunEnd resume input left held old new told ended → Comes ended
-    comes status.Done h = tt
-    comes status.Usage h = absurd h
-    comes (status.Schedule line what) (inl h) = absurd (head_is_some input schedule.head schedule.text schedule.headed line what h.1)
-    comes (status.Schedule line what) (inr h) = wanting_comes (status.Schedule line what) (stopped (status.Schedule line what) h)
-    comes status.Read h = tt
-    comes status.Write h = tt
-    comes (status.Device spot) h = tt
-    comes (status.Differs spot at kept read) h = tt
-    comes (status.InUse spot) h = absurd (unopened (world.InUse spot) tt h.1)
-    comes (status.BadLog spot at) h = absurd (unopened (world.Bad spot at) tt h.1)
-    comes (status.OldLog spot) h = absurd (unopened (world.Old spot) tt h.1)
-    comes (status.NotSerial txn line) h = absurd h
-    comes (status.Transcript line) h = absurd h
-    comes (status.Limit (limit.Line line)) (inl h) = absurd (head_is_short input schedule.head schedule.text schedule.headed line h.1)
-    comes (status.Limit (limit.Line line)) (inr h) = wanting_comes (status.Limit (limit.Line line)) (stopped (status.Limit (limit.Line line)) h)
-    comes (status.Limit limit.Lines) h = wanting_comes (status.Limit limit.Lines) (stopped (status.Limit limit.Lines) h)
-    comes (status.Limit limit.Transactions) (inl h) = absurd (unopened world.Count tt h.1)
-    comes (status.Limit limit.Transactions) (inr h) = absurd (few h.0.ran h.2)
-    comes (status.Limit (limit.Log spot)) (inl h) = absurd (unopened (world.Full spot) tt h.1)
-    comes (status.Limit (limit.Log spot)) (inr h) = absurd (room h.0.ran h.2)
-    comes status.Memory h = tt
+    -- the head is one
+    headed_comes : (ended : Status) → IsHeadFault input ended → Comes ended
+    headed_comes (status.Schedule line what) fault = absurd (head_is_some input schedule.head schedule.text schedule.headed line what fault)
+    headed_comes (status.Limit (limit.Line line)) fault = absurd (head_is_short input schedule.head schedule.text schedule.headed line fault)
+    headed_comes status.Read fault = tt
+    headed_comes status.Memory fault = tt
+    headed_comes _ fault = absurd fault
+
+    -- and nothing is refused
+    unopened_comes : (head : Head) (text : List ℕ) → IsHeaded input head text → (ended : Status) → IsUnopenedAs (seen old).file head resume ended → Comes ended
+    unopened_comes head text headed (status.Device spot) cause = tt
+    unopened_comes head text headed status.Memory cause = tt
+    unopened_comes head text headed (status.InUse spot) cause = absurd (allowed head text headed (world.InUse spot) tt cause)
+    unopened_comes head text headed (status.BadLog spot at) cause = absurd (allowed head text headed (world.Bad spot at) tt cause)
+    unopened_comes head text headed (status.OldLog spot) cause = absurd (allowed head text headed (world.Old spot) tt cause)
+    unopened_comes head text headed (status.Limit limit.Transactions) cause = absurd (allowed head text headed world.Count tt cause)
+    unopened_comes head text headed (status.Limit (limit.Log spot)) cause = absurd (allowed head text headed (world.Full spot) tt cause)
+    unopened_comes head text headed _ cause = absurd cause
+
+    stopped_comes : (r : Ran resume input (seen old).file) (ended : Status) → IsStop r ended → Comes ended
+    stopped_comes r status.Done cause = tt
+    stopped_comes r (status.Limit limit.Transactions) cause = absurd (few r cause)
+    stopped_comes r (status.Limit (limit.Log spot)) cause = absurd (room r spot cause)
+    stopped_comes r (status.Limit (limit.Line line)) cause = wanting_comes (status.Limit (limit.Line line)) (never_stopped r (status.Limit (limit.Line line)) cause)
+    stopped_comes r (status.Limit limit.Lines) cause = wanting_comes (status.Limit limit.Lines) (never_stopped r (status.Limit limit.Lines) cause)
+    stopped_comes r (status.Schedule line what) cause = wanting_comes (status.Schedule line what) (never_stopped r (status.Schedule line what) cause)
+    stopped_comes r status.Read cause = tt
+    stopped_comes r status.Memory cause = tt
+    stopped_comes r _ cause = absurd cause
+
+    failed_comes : (ended : Status) → IsEventFault (seen old).file ended → Comes ended
+    failed_comes (status.Device spot) cause = tt
+    failed_comes (status.Differs spot at kept read) cause = cause
+    failed_comes _ cause = absurd cause
+
+    pub comes : (ended : Status) → IsRunEnd seen resume input left held told old new ended → Comes ended
+    comes ended (NoHead untold same cause) = headed_comes ended cause
+    comes ended (Unopened untold for) = unopened_comes for.head for.text for.headed ended for.cause
+    comes ended (Stopped done files cause) = stopped_comes done.ran ended cause
+    comes ended (CutOff done files is) = subst Comes (sym is) tt
+    comes ended (Failed done files cause) = failed_comes ended cause
+    comes ended (Wanted done files is) = subst Comes (sym is) tt
 
 -- a run that nothing hinders is done, or wants memory
-pub done_or_wanting : (resume : Bool) (input : List ℕ) (left : Option (List ℕ)) (held : List ℕ) (old new : Spot → Option File) (told : Option (List ℕ)) (a b c d e f : ℕ) (ended : Status) →
+pub done_or_wanting : {H : Type 0} (seen : H → HomeView) (resume : Bool) (input : List ℕ) (left : Option (List ℕ)) (held : List ℕ) (told : Option (List ℕ)) (old new : H) (a b c d e f : ℕ) (ended : Status) →
     (ended ≡ status.Read → HasRisen a b) → (ended ≡ status.Write → HasRisen c d) → ((spot : Spot) → ended ≡ status.Device spot → HasRisen e f) →
-    IsRunEnd resume input left held old new told ended → IsUnhindered resume input old a b c d e f ended → (ended ≡ status.Done) ⊎ (ended ≡ status.Memory)
-done_or_wanting resume input left held old new told a b c d e f ended read write device h u = by ended refl (comes input u.schedule resume left held old new told u.allowed u.room u.few ended h)
+    IsRunEnd seen resume input left held told old new ended → IsUnhindered resume input (seen old).file a b c d e f → (ended ≡ status.Done) ⊎ (ended ≡ status.Memory)
+done_or_wanting seen resume input left held told old new a b c d e f ended read write device h u = by ended refl (comes input u.schedule seen resume left held told old new u.allowed u.room u.few ended h)
   where
-    by : (s : Status) → ended ≡ s → Comes input u.schedule resume left held old new told u.allowed u.room u.few s → (ended ≡ status.Done) ⊎ (ended ≡ status.Memory)
+    by : (s : Status) → ended ≡ s → Comes input u.schedule seen resume left held told old new u.allowed u.room u.few s → (ended ≡ status.Done) ⊎ (ended ≡ status.Memory)
     by status.Done is it = inl is
-    by status.Usage is it = absurd it
-    by (status.Schedule line what) is it = absurd it
     by status.Read is it = absurd (u.source (read is))
     by status.Write is it = absurd (u.out (write is))
     by (status.Device spot) is it = absurd (u.home (device spot is))
-    by (status.Differs spot at kept got) is it = absurd (u.same spot at kept got is)
-    by (status.InUse spot) is it = absurd it
-    by (status.BadLog spot at) is it = absurd it
-    by (status.OldLog spot) is it = absurd it
-    by (status.NotSerial txn line) is it = absurd it
-    by (status.Transcript line) is it = absurd it
-    by (status.Limit what) is it = absurd it
+    by (status.Differs spot at kept got) is it = absurd (u.told spot it.1 it.0)
     by status.Memory is it = inr is
+    by _ is it = absurd it

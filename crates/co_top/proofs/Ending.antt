@@ -22,11 +22,11 @@ use Rattle.co_world.specs.Standing.{RepresentsWorld, AreHeld}
 use Rattle.co_world.specs.declared.world.World.{World}
 use Rattle.co_top.specs.Front.{IsHeaded, StandsBehind, AtStart, IsStreamed}
 use Rattle.co_top.specs.Played.{IsTold, IsToldInPart, StandsFor, IsStreamedBehind, IsLeftNear, HasFailed, HasStopped, IsOver}
-use Rattle.co_top.specs.Ran.{Ran, AreLeftBy, AreLeftByFault, HasRun, HasRunInPart, HasStoppedAt, IsRunEnd}
+use Rattle.co_top.specs.Ran.{Ran, AreLeftBy, AreLeftByFault, HasRun, HasRunInPart, IsStop, IsEventFault, IsRunEnd, Stopped, CutOff, Failed, Wanted}
 use Rattle.co_outside.specs.Faults.{HasRisen}
 use Rattle.std.specs.Prelude.{OnOk, IfErr}
 use Rattle.co_top.specs.Heads.{IsEnding}
-use Rattle.co_top.specs.Replayed.{status_of, opening_text, IsUnopenedAs, IsOfFiles, IsOpeningTold}
+use Rattle.co_top.specs.Replayed.{status_of, opening_text, IsOpeningTold}
 use Rattle.co_top.specs.Telling.{IsPutInPart, HasEnded}
 use Rattle.co_top.specs.declared.status.LimitKind.TheVariants as limit
 use Rattle.co_top.specs.declared.status.Status.{Status}
@@ -36,8 +36,11 @@ use Rattle.co_top.proofs.Lists.{take_behind}
 use Rattle.co_top.proofs.Left.{left_by, left_by_fault}
 use Rattle.co_top.proofs.Plays.{streamed_behind}
 
-module _ {E : Type 0} (takes : Kind → Type 0) (stands_for : E → EngineState → Type 0) (resume : Bool) (input held : List ℕ) (old : Spot → Option File) (head : Head) (text : List ℕ) (headed : IsHeaded input head text)
-    (before : World E) (items : List Item) (at : IsAttachedOver takes stands_for old head resume before items) where
+module _ {E H : Type 0} (takes : Kind → Type 0) (stands_for : E → EngineState → Type 0) (seen : H → HomeView) (resume : Bool) (input held : List ℕ) (start : H) (head : Head) (text : List ℕ) (headed : IsHeaded input head text)
+    (before : World E) (items : List Item) (at : IsAttachedOver takes stands_for (seen start).file head resume before items) where
+  abbrev pub old : Spot → Option File
+  old = (seen start).file
+
   abbrev pub s0 : Federation
   s0 = opened head.kinds head.coords at.found_member at.found_coord
 
@@ -98,7 +101,10 @@ module _ {E : Type 0} (takes : Kind → Type 0) (stands_for : E → EngineState 
         let t = part_text p.events told (p.part (held ++ opening_text head items) refl) in
         record { ran = r; streamed = streamed text refl; promises = promised r; count = t.0; transcript = t.1 }
 
-    module _ (home : HomeView) (w : World E) where
+    module _ (end : H) (w : World E) where
+      abbrev pub home : HomeView
+      home = seen end
+
       files_of : (events : List Event) → StandsFor takes stands_for s0 home w events → AreLeftAs home.file (run (lines events) s0)
       files_of events f = held_left takes stands_for w (run (lines events) s0) home f.stands f.held
 
@@ -107,43 +113,33 @@ module _ {E : Type 0} (takes : Kind → Type 0) (stands_for : E → EngineState 
       near_left events valid left (inl before) = left_by_fault (ran events valid (left text refl)) home.file (inl before)
       near_left events valid left (inr (event, line, next, either)) = left_by_fault (ran events valid (left text refl)) home.file (inr (event, line, next text refl, either))
 
-      failed : HasFailed head s0 (Some text) now mid told home → (done : HasRun resume input now held old told) × AreLeftByFault done.ran home.file
-      failed p = (has_run p.done p.streamed, near_left p.done.events p.done.valid p.done.left p.files)
+      -- the lines that were done, and why there was no further one
+      stopped : (p : IsTold head s0 (Some text) mid told) (streamed : IsStreamedBehind head (Some text) now p.events p.left) → AreLeftAs home.file (run (lines p.events) s0) → (ended : Status) → IsStop (has_run p streamed).ran ended →
+          IsRunEnd seen resume input now held told start end ended
+      stopped p streamed files ended cause = let r = has_run p streamed in Stopped r (left_by r.ran home.file files) cause
 
-      stopped : (ended : Status) → HasStopped takes stands_for head s0 (Some text) now mid told home w ended → HasStoppedAt resume input now held old home.file told ended
-      stopped ended p =
-          let r = has_run p.done p.streamed in
-          record { run = r; files = left_by r.ran home.file (files_of p.done.events p.stands); cause = p.cause text refl }
+      -- the next line gave no event
+      at_line : (ended : Status) (p : HasStopped takes stands_for head s0 (Some text) now mid told home w ended) → IsStop (has_run p.done p.streamed).ran ended → IsRunEnd seen resume input now held told start end ended
+      at_line ended p cause = stopped p.done p.streamed (files_of p.done.events p.stands) ended cause
 
-      pub over : (result : Result (Unit {0}) Status) → IsOver takes stands_for head s0 (Some text) now mid told home w result → IsRunEnd resume input now held old home.file told (status_of result)
-      over (Ok u) p =
-          let r = has_run p.0 p.1 in
-          (r, left_by r.ran home.file (files_of p.0.events p.2), p.3 text refl)
-      over (Err status.Done) p = absurd p
-      over (Err status.Usage) p = absurd p
-      over (Err (status.Schedule line what)) p = inr (stopped (status.Schedule line what) p)
-      over (Err status.Read) p = inr (stopped status.Read p)
-      over (Err status.Write) p =
-          let r = has_run_in_part p.0 p.1 in
-          (r, left_by r.ran home.file (files_of p.0.events p.2))
-      over (Err (status.Device spot)) p = inr (failed p)
-      over (Err (status.Differs spot place kept read)) p = failed p
-      over (Err (status.InUse spot)) p = absurd p
-      over (Err (status.BadLog spot place)) p = absurd p
-      over (Err (status.Limit (limit.Line line))) p = inr (stopped (status.Limit (limit.Line line)) p)
-      over (Err (status.Limit limit.Lines)) p = stopped (status.Limit limit.Lines) p
-      over (Err (status.Limit limit.Transactions)) p =
-          let r = has_run p.done p.streamed in
-          let next = p.next text refl in
-          inr (r, left_by r.ran home.file p.files, (p.event, next.0, next.1, p.limit))
-      over (Err (status.Limit (limit.Log spot))) p =
-          let f = p.failed in
-          let next = p.next text refl in
-          inr (has_run f.done f.streamed, near_left f.done.events f.done.valid f.done.left f.files, (p.event, next.0, next.1, p.outgrows))
-      over (Err status.Memory) p = inr (has_run_in_part p.done p.streamed, near_left p.done.events p.done.valid p.done.left p.files)
-      over (Err (status.OldLog spot)) p = absurd p
-      over (Err (status.NotSerial txn number)) p = absurd p
-      over (Err (status.Transcript number)) p = absurd p
+      -- a fault within an event
+      failed : (ended : Status) → IsEventFault old ended → HasFailed head s0 (Some text) now mid told home → IsRunEnd seen resume input now held told start end ended
+      failed ended cause p = Failed (has_run p.done p.streamed) (near_left p.done.events p.done.valid p.done.left p.files) cause
+
+      pub over : (result : Result (Unit {0}) Status) → ((spot : Spot) (place : ℕ) (kept read : Option ℕ) → result ≡ Err (status.Differs spot place kept read) → IsEventFault old (status.Differs spot place kept read)) →
+          IsOver takes stands_for head s0 (Some text) now mid told home w result → IsRunEnd seen resume input now held told start end (status_of result)
+      over (Ok u) differs p = stopped p.0 p.1 (files_of p.0.events p.2) status.Done (p.3 text refl)
+      over (Err (status.Schedule line what)) differs p = at_line (status.Schedule line what) p (p.cause text refl)
+      over (Err status.Read) differs p = at_line status.Read p (p.cause text refl)
+      over (Err status.Write) differs p = let r = has_run_in_part p.0 p.1 in CutOff r (left_by r.ran home.file (files_of p.0.events p.2)) refl
+      over (Err (status.Device spot)) differs p = failed (status.Device spot) tt p
+      over (Err (status.Differs spot place kept read)) differs p = failed (status.Differs spot place kept read) (differs spot place kept read refl) p
+      over (Err (status.Limit (limit.Line line))) differs p = at_line (status.Limit (limit.Line line)) p (p.cause text refl)
+      over (Err (status.Limit limit.Lines)) differs p = at_line (status.Limit limit.Lines) p (p.cause text refl)
+      over (Err (status.Limit limit.Transactions)) differs p = let next = p.next text refl in stopped p.done p.streamed p.files (status.Limit limit.Transactions) (p.event, next.0, next.1, p.limit)
+      over (Err (status.Limit (limit.Log spot))) differs p = let next = p.next text refl in stopped p.done p.streamed p.files (status.Limit (limit.Log spot)) (p.event, next.0, next.1, p.outgrows)
+      over (Err status.Memory) differs p = Wanted (has_run_in_part p.done p.streamed) (near_left p.done.events p.done.valid p.done.left p.files) refl
+      over (Err _) differs p = absurd p
 
       -- no line was played: a front of the text of the head was put
       pub first : IsStreamed text now → RepresentsWorld takes stands_for w s0 → AreHeld home w → (count : ℕ) × (told ≡ Some (held ++ take count (opening_text head items))) →
@@ -160,84 +156,32 @@ module _ {E : Type 0} (takes : Kind → Type 0) (stands_for : E → EngineState 
             left_by r home.file (files_of [] (record { stands = stands; held = kept })),
           )
 
--- nothing was opened
-pub unopened : (resume : Bool) (input : List ℕ) (now : Option (List ℕ)) → IsStreamed input now → (held : List ℕ) (old new : Spot → Option File) (told : Option (List ℕ)) (head : Head) (text : List ℕ) → IsHeaded input head text → told ≡ Some held →
-    (why : Status) → IsUnopenedAs old head resume why → (IsOfFiles why → (s : Spot) → new s ≡ old s) → IsRunEnd resume input now held old new told why
-unopened resume input now streamed held old new told head text headed same status.Done u rest = absurd u
-unopened resume input now streamed held old new told head text headed same status.Usage u rest = absurd u
-unopened resume input now streamed held old new told head text headed same (status.Schedule line what) u rest = absurd u
-unopened resume input now streamed held old new told head text headed same status.Read u rest = absurd u
-unopened resume input now streamed held old new told head text headed same status.Write u rest = absurd u
-unopened resume input now streamed held old new told head text headed same (status.Device spot) u rest = inl (same, streamed)
-unopened resume input now streamed held old new told head text headed same (status.Differs spot place kept read) u rest = absurd u
-unopened resume input now streamed held old new told head text headed same (status.InUse spot) u rest = (((same, streamed), rest tt), record { head = head; text = text; headed = headed; cause = u })
-unopened resume input now streamed held old new told head text headed same (status.BadLog spot place) u rest = (((same, streamed), rest tt), record { head = head; text = text; headed = headed; cause = u })
-unopened resume input now streamed held old new told head text headed same (status.Limit (limit.Line line)) u rest = absurd u
-unopened resume input now streamed held old new told head text headed same (status.Limit limit.Lines) u rest = absurd u
-unopened resume input now streamed held old new told head text headed same (status.Limit limit.Transactions) u rest = inl (((same, streamed), rest tt), record { head = head; text = text; headed = headed; cause = u })
-unopened resume input now streamed held old new told head text headed same (status.Limit (limit.Log spot)) u rest = inl (((same, streamed), rest tt), record { head = head; text = text; headed = headed; cause = u })
-unopened resume input now streamed held old new told head text headed same status.Memory u rest = inl (same, streamed)
-unopened resume input now streamed held old new told head text headed same (status.OldLog spot) u rest = (((same, streamed), rest tt), record { head = head; text = text; headed = headed; cause = u })
-unopened resume input now streamed held old new told head text headed same (status.NotSerial txn number) u rest = absurd u
-unopened resume input now streamed held old new told head text headed same (status.Transcript number) u rest = absurd u
-
 -- the text of the first line was not put whole
-module _ {E : Type 0} (takes : Kind → Type 0) (stands_for : E → EngineState → Type 0) (resume : Bool) (input : List ℕ) (now : Option (List ℕ)) (streamed : IsStreamed input now) (held : List ℕ) (old : Spot → Option File) (head : Head) (text : List ℕ) (headed : IsHeaded input head text)
-    (w : World E) (items : List Item) (at : IsAttachedOver takes stands_for old head resume w items) (home : HomeView) (kept : AreHeld home w) (told : Option (List ℕ)) where
-  cut_text : IsPutInPart (opening_text head items) (Some held) told → (done : HasRunInPart resume input now held old told) × AreLeftBy done.ran home.file
-  cut_text p = first takes stands_for resume input held old head text headed w items at now told home w (streamed_behind input text now headed.behind streamed) at.stands kept (p held refl)
+module _ {E H : Type 0} (takes : Kind → Type 0) (stands_for : E → EngineState → Type 0) (seen : H → HomeView) (resume : Bool) (input : List ℕ) (now : Option (List ℕ)) (streamed : IsStreamed input now) (held : List ℕ) (start : H) (head : Head) (text : List ℕ) (headed : IsHeaded input head text)
+    (w : World E) (items : List Item) (at : IsAttachedOver takes stands_for (seen start).file head resume w items) (end : H) (kept : AreHeld (seen end) w) (told : Option (List ℕ)) where
+  cut_text : IsPutInPart (opening_text head items) (Some held) told → (done : HasRunInPart resume input now held (seen start).file told) × AreLeftBy done.ran (seen end).file
+  cut_text p = first takes stands_for seen resume input held start head text headed w items at now told end w (streamed_behind input text now headed.behind streamed) at.stands kept (p held refl)
 
-  pub opening_over : (why : Status) → IsOpeningTold head items (Some held) told (Err why) → IsRunEnd resume input now held old home.file told why
-  opening_over status.Done p = absurd p
-  opening_over status.Usage p = absurd p
-  opening_over (status.Schedule line what) p = absurd p
-  opening_over status.Read p = absurd p
-  opening_over status.Write p = cut_text p
-  opening_over (status.Device spot) p = absurd p
-  opening_over (status.Differs spot place kept_byte read) p = absurd p
-  opening_over (status.InUse spot) p = absurd p
-  opening_over (status.BadLog spot place) p = absurd p
-  opening_over (status.Limit what) p = absurd p
-  opening_over status.Memory p = let c = cut_text p in inr (c.0, record { happened = lines c.0.ran.events; up_to = inl refl; files = c.1 })
-  opening_over (status.OldLog spot) p = absurd p
-  opening_over (status.NotSerial txn number) p = absurd p
-  opening_over (status.Transcript number) p = absurd p
+  pub opening_over : (why : Status) → IsOpeningTold head items (Some held) told (Err why) → IsRunEnd seen resume input now held told start end why
+  opening_over status.Write p = let c = cut_text p in CutOff c.0 c.1 refl
+  opening_over status.Memory p = let c = cut_text p in Wanted c.0 (record { happened = lines c.0.ran.events; up_to = inl refl; files = c.1 }) refl
+  opening_over _ p = absurd p
 
 -- ---- what a status is not
 
 pub opening_ends : (head : Head) (items : List Item) (held told : Option (List ℕ)) (why : Status) → IsOpeningTold head items held told (Err why) → IsEnding why
-opening_ends head items held told status.Done p = absurd p
-opening_ends head items held told status.Usage p = absurd p
-opening_ends head items held told (status.Schedule line what) p = tt
-opening_ends head items held told status.Read p = tt
 opening_ends head items held told status.Write p = tt
-opening_ends head items held told (status.Device spot) p = tt
-opening_ends head items held told (status.Differs spot place kept read) p = tt
-opening_ends head items held told (status.InUse spot) p = tt
-opening_ends head items held told (status.BadLog spot place) p = tt
-opening_ends head items held told (status.Limit what) p = tt
 opening_ends head items held told status.Memory p = tt
-opening_ends head items held told (status.OldLog spot) p = tt
-opening_ends head items held told (status.NotSerial txn number) p = absurd p
-opening_ends head items held told (status.Transcript number) p = absurd p
+opening_ends head items held told _ p = absurd p
 
 pub over_ends : {E : Type 0} (takes : Kind → Type 0) (stands_for : E → EngineState → Type 0) (head : Head) (s0 : Federation) (text now held told : Option (List ℕ)) (home : HomeView) (w : World E) (o : Result (Unit {0}) Status) →
     IsOver takes stands_for head s0 text now held told home w o → IfErr o IsEnding
 over_ends takes stands_for head s text now held told home w (Ok u) p = tt
 over_ends takes stands_for head s text now held told home w (Err status.Done) p = absurd p
 over_ends takes stands_for head s text now held told home w (Err status.Usage) p = absurd p
-over_ends takes stands_for head s text now held told home w (Err (status.Schedule line what)) p = tt
-over_ends takes stands_for head s text now held told home w (Err status.Read) p = tt
-over_ends takes stands_for head s text now held told home w (Err status.Write) p = tt
-over_ends takes stands_for head s text now held told home w (Err (status.Device spot)) p = tt
-over_ends takes stands_for head s text now held told home w (Err (status.Differs spot place kept read)) p = tt
-over_ends takes stands_for head s text now held told home w (Err (status.InUse spot)) p = tt
-over_ends takes stands_for head s text now held told home w (Err (status.BadLog spot place)) p = tt
-over_ends takes stands_for head s text now held told home w (Err (status.Limit what)) p = tt
-over_ends takes stands_for head s text now held told home w (Err status.Memory) p = tt
-over_ends takes stands_for head s text now held told home w (Err (status.OldLog spot)) p = tt
 over_ends takes stands_for head s text now held told home w (Err (status.NotSerial txn number)) p = absurd p
 over_ends takes stands_for head s text now held told home w (Err (status.Transcript number)) p = absurd p
+over_ends takes stands_for head s text now held told home w (Err _) p = tt
 
 -- what is so whatever the answer is
 pub on_any : {A E : Type 0} (P : Type 0) (o : Result A E) → P → OnOk o P
@@ -260,21 +204,9 @@ same_error x y one other is was also = also ∙ ap Err (ap (error_or x) (sym was
 
 -- where the status names no file at which the directory failed, it met no fault
 pub ended_quiet : (old new : HomeView) (o : Result (Unit {0}) Status) → HasEnded old new o → ((spot : Spot) → o ≡ Err (status.Device spot) → ⊥) → new.faults ≡ old.faults
-ended_quiet old new (Ok u) ended other = ended
-ended_quiet old new (Err status.Done) ended other = ended
-ended_quiet old new (Err status.Usage) ended other = ended
-ended_quiet old new (Err (status.Schedule line what)) ended other = ended
-ended_quiet old new (Err status.Read) ended other = ended
-ended_quiet old new (Err status.Write) ended other = ended
 ended_quiet old new (Err (status.Device spot)) ended other = absurd (other spot refl)
-ended_quiet old new (Err (status.Differs spot at kept read)) ended other = ended
-ended_quiet old new (Err (status.InUse spot)) ended other = ended
-ended_quiet old new (Err (status.BadLog spot at)) ended other = ended
-ended_quiet old new (Err (status.Limit what)) ended other = ended
-ended_quiet old new (Err status.Memory) ended other = ended
-ended_quiet old new (Err (status.OldLog spot)) ended other = ended
-ended_quiet old new (Err (status.NotSerial txn line)) ended other = ended
-ended_quiet old new (Err (status.Transcript line)) ended other = ended
+ended_quiet old new (Err (status.Differs spot at kept read)) ended other = ended.0
+ended_quiet old new _ ended other = ended
 
 -- the directory failed in this call, where it met no fault before
 pub failed_as : (old new : HomeView) (before : ℕ) (o : Result (Unit {0}) Status) (spot : Spot) → old.faults ≡ before → HasEnded old new o → o ≡ Err (status.Device spot) → HasRisen before new.faults × (new.last_failed ≡ spot)

@@ -55,14 +55,14 @@ all_but_last file (y ∷ ys) x a = let rest = all_but_last file ys x a.1 in ((a.
 as_told : (file : Spot → Option File) (n : Node) → files.IsTold file n → AreTold file n
 as_told file n t = record { a = t.0; b = t.1; is_a = t.2; is_b = t.3 }
 
-told_at : (file : Spot → Option File) (sort : ℕ → Node) (count n : ℕ) → AllByRecursion (files.IsTold file) (numbered sort count) → IsAmong n count → AreTold file (sort n)
+pub told_at : (file : Spot → Option File) (sort : ℕ → Node) (count n : ℕ) → AllByRecursion (files.IsTold file) (numbered sort count) → IsAmong n count → AreTold file (sort n)
 told_at file sort zero n all between = absurd (omega (arith, between.0, between.1))
 told_at file sort (suc count) n all between =
     let parts = all_but_last file (numbered sort count) (sort (suc count)) all in
     elim (or_last n count between.1) as (λ c. AreTold file (sort n))
     [ inl few ↦ told_at file sort count n parts.0 (between.0, few) | inr last ↦ subst (λ k. AreTold file (sort k)) (sym last) (as_told file (sort (suc count)) parts.1) ]
 
-split_told : (file : Spot → Option File) (xs ys : List Node) → AllByRecursion (files.IsTold file) (xs ++ ys) → AllByRecursion (files.IsTold file) xs × AllByRecursion (files.IsTold file) ys
+pub split_told : (file : Spot → Option File) (xs ys : List Node) → AllByRecursion (files.IsTold file) (xs ++ ys) → AllByRecursion (files.IsTold file) xs × AllByRecursion (files.IsTold file) ys
 split_told file [] ys a = (tt, a)
 split_told file (x ∷ xs) ys a = let rest = split_told file xs ys a.1 in ((a.0, rest.0), rest.1)
 
@@ -121,7 +121,7 @@ pub record ArePlain (members coords : ℕ) (hs : List Happening) : Type 0 where
   pub own : AreOwn members coords hs
   pub handless : (s : Federation) → AreTrueVerdicts hs s
 
-own_more : (n k : ℕ) (hs more : List Happening) → AreOwn n k hs → AreOwn n k more → AreOwn n k (hs ++ more)
+pub own_more : (n k : ℕ) (hs more : List Happening) → AreOwn n k hs → AreOwn n k more → AreOwn n k (hs ++ more)
 own_more n k [] more own rest = rest
 own_more n k (h ∷ hs) more own rest = (own.0, own_more n k hs more own.1 rest)
 
@@ -173,7 +173,7 @@ module _ {resume : Bool} {input : List ℕ} {old : Spot → Option File} (r : Ra
       let more : List Happening = happening.Line event ∷ [] in
       record {
         happened = lines r.events ++ more;
-        up_to = inr (event, next.0, next.1, inl refl);
+        up_to = inr (event, line, next.0, next.1, inl refl);
         files = left_after (lines r.events ++ more) (more_plain more (all_own r.head (event ∷ []) (line, tt)) (λ s. (tt, tt)))
             (subst (AreLeftAs file) (sym (run_more (lines r.events) more (start_of r))) after);
       }
@@ -181,7 +181,7 @@ module _ {resume : Bool} {input : List ℕ} {old : Spot → Option File} (r : Ra
       let more : List Happening = happening.Disarm ∷ happening.Line event ∷ [] in
       record {
         happened = lines r.events ++ more;
-        up_to = inr (event, next.0, next.1, inr refl);
+        up_to = inr (event, line, next.0, next.1, inr refl);
         files = left_after (lines r.events ++ more) (more_plain more (tt, all_own r.head (event ∷ []) (line, tt)) (λ s. (tt, (tt, tt))))
             (subst (AreLeftAs file) (sym (run_more (lines r.events) more (start_of r))) completed);
       }

@@ -11,4 +11,6 @@ pub mod Judging
 pub mod Headlines
 pub mod Completing
 pub mod Refusing
+pub mod OneRun
+pub mod Resuming
 pub mod Trying

@@ -10,11 +10,13 @@ use Rattle.co_message.specs.declared.event.Event.{Event}
 use Rattle.co_message.specs.declared.item.Item.{Item}
 use Rattle.co_message.specs.declared.item.ItemKind.TheVariants as item
 use Rattle.co_outside.specs.declared.spot.Spot.{Spot}
-use Rattle.co_outside.specs.Home.{File, HomeView}
+use Rattle.co_outside.specs.Faults.{HasRisen}
+use Rattle.co_outside.specs.Home.{File, HomeView, IsClean}
 use Rattle.co_durable.proofs.Pairs.{all_append}
 use Rattle.co_durable.specs.declared.fault.WorldFault.{WorldFault}
 use Rattle.co_durable.specs.declared.fault.WorldFault.TheVariants as world
 use Rattle.co_opening.specs.Opened.{IsUnopened, IsOfFound}
+use Rattle.co_opening.specs.Rest.{OnlyOwnFilesChange}
 use Rattle.co_cluster.specs.Served.{HasEndedAs}
 use Rattle.co_law.proofs.GoingOn.{transcript_more}
 use Rattle.co_law_runs.proofs.Agreement.{run_more}
@@ -37,9 +39,10 @@ use Rattle.co_top.specs.Front.{HasRead, StandsBehind, OneMore, IsNext, IsStreame
 use Rattle.co_schedule.specs.LineText.{behind_line, is_newline}
 use Rattle.std.specs.List.{position_or_len}
 use Rattle.co_top.specs.Heads.{IsEventRead, IsReadStatus}
-use Rattle.co_top.specs.Played.{IsTold, IsToldInPart, StandsFor, IsStreamedBehind, IsLeftNear, HasFailed, HasFailedInPart, HasOutgrown, HasStopped, IsOver, HasMetLimit}
+use Rattle.co_top.specs.Played.{IsTold, IsToldInPart, StandsFor, IsStreamedBehind, IsLeftNear, HasFailed, HasFailedInPart, HasOutgrown, HasStopped, IsOver, HasMetLimit, IsReadyFor}
 use Rattle.co_top.specs.Ends.{of_world}
 use Rattle.co_top.specs.Replayed.{given_back, opening_text, IsUnopenedAs, IsOfFiles, IsOpeningTold}
+use Rattle.co_top.specs.Running.{IsBetween}
 use Rattle.co_top.specs.Telling.{Outgrows, event_text, IsPut, IsPutInPart, IsTextPut, HasStepped, HasFaulted, HasEnded, IsToldOf}
 use Rattle.co_top.specs.declared.status.LimitKind.TheVariants as limit
 use Rattle.co_top.specs.declared.status.Status.{Status}
@@ -152,31 +155,21 @@ module _ (head : Head) (s0 : Federation) (text held told : Option (List ℕ)) (p
         subst (λ (t : Option (List ℕ)). HasMetLimit head s0 text now held t home) (sym o.0)
         (record { done = p; streamed = streamed; files = o.1; event = e; next = λ t q. let r = read t q in (r.0, r.1); limit = o.2 })
 
-    outgrown : (after : Option (List ℕ)) → HasFaulted z e told after home → Outgrows z e → HasOutgrown head s0 text now held after home
-    outgrown after o long =
-        subst (λ (t : Option (List ℕ)). HasOutgrown head s0 text now held t home) (sym o.0)
-        (record { failed = record { done = p; streamed = streamed; files = near o.1 }; event = e; next = λ t q. let r = read t q in (r.0, r.1); outgrows = long })
+    outgrown : (spot : Spot) (after : Option (List ℕ)) → (after ≡ told) × AreLeftAs home.file z × Outgrows z e spot → HasOutgrown head s0 text now held after home spot
+    outgrown spot after o =
+        subst (λ (t : Option (List ℕ)). HasOutgrown head s0 text now held t home spot) (sym o.0)
+        (record { done = p; streamed = streamed; files = o.1; event = e; next = λ t q. let r = read t q in (r.0, r.1); outgrows = o.2 })
 
     -- a line that could not be told, or not be done, ends it
     pub told_over : (why : Status) (after : Option (List ℕ)) → IsToldOf takes stands_for z (length p.events + 2) e told after home w (Err why) → IsOver takes stands_for head s0 text now held after home w (Err why)
-    told_over status.Done after o = absurd o
-    told_over status.Usage after o = absurd o
-    told_over (status.Schedule number what) after o = absurd o
-    told_over status.Read after o = absurd o
     told_over status.Write after o = (told_in_part after o.1, streamed_one, stands_one o.0)
     told_over (status.Device spot) after o = failed after o
     told_over (status.Differs spot place kept got) after o = failed after o
-    told_over (status.InUse spot) after o = absurd o
-    told_over (status.BadLog spot place) after o = absurd o
-    told_over (status.Limit (limit.Line number)) after o = absurd o
-    told_over (status.Limit limit.Lines) after o = absurd o
     told_over (status.Limit limit.Transactions) after o = met after o
-    told_over (status.Limit (limit.Log spot)) after o = outgrown after o.0 o.1
+    told_over (status.Limit (limit.Log spot)) after o = outgrown spot after o
     told_over status.Memory after (inl o) = in_part head s0 text now held after home (failed after o)
     told_over status.Memory after (inr o) = record { done = told_in_part after o.1; streamed = streamed_one; files = inl (files_one o.0) }
-    told_over (status.OldLog spot) after o = absurd o
-    told_over (status.NotSerial txn at) after o = absurd o
-    told_over (status.Transcript at) after o = absurd o
+    told_over _ after o = absurd o
 
 -- what holds before each line: the lines that were told, for what the federation stands, and how many lines were read
 pub record IsPlaying {E : Type 0} (takes : Kind → Type 0) (stands_for : E → EngineState → Type 0) (head : Head) (s0 : Federation) (text held told : Option (List ℕ)) (home : HomeView) (w : World E) (number : ℕ) (reader : Lines) (ahead : Option (List ℕ)) : Type 0 where
@@ -215,24 +208,13 @@ module _ {E : Type 0} (takes : Kind → Type 0) (stands_for : E → EngineState 
   -- the next line gave no event
   pub reads_over : (now : Option (List ℕ)) → IsStreamedBehind head text now p.done.events p.done.left → (why : Status) (after : Option (List ℕ)) → IsReadStatus why → ((t : List ℕ) → ahead ≡ Some t → IsEventRead head (length p.done.events) t after (Err why)) →
       IsOver takes stands_for head s0 text now held told home w (Err why)
-  reads_over now streamed status.Done after own f = absurd own
-  reads_over now streamed status.Usage after own f = absurd own
   reads_over now streamed (status.Schedule at what) after own f = stops now streamed (status.Schedule at what) after f
   reads_over now streamed status.Read after own f = stops now streamed status.Read after f
-  reads_over now streamed status.Write after own f = absurd own
-  reads_over now streamed (status.Device spot) after own f = absurd own
-  reads_over now streamed (status.Differs spot place kept got) after own f = absurd own
-  reads_over now streamed (status.InUse spot) after own f = absurd own
-  reads_over now streamed (status.BadLog spot place) after own f = absurd own
   reads_over now streamed (status.Limit (limit.Line at)) after own f = stops now streamed (status.Limit (limit.Line at)) after f
   reads_over now streamed (status.Limit limit.Lines) after own f = stops now streamed (status.Limit limit.Lines) after f
-  reads_over now streamed (status.Limit limit.Transactions) after own f = absurd own
-  reads_over now streamed (status.Limit (limit.Log spot)) after own f = absurd own
   reads_over now streamed status.Memory after own f =
       record { done = whole_part head s0 text held told p.done; streamed = streamed; files = inl (held_left takes stands_for w (run (lines p.done.events) s0) home p.stands.stands p.stands.held) }
-  reads_over now streamed (status.OldLog spot) after own f = absurd own
-  reads_over now streamed (status.NotSerial txn at) after own f = absurd own
-  reads_over now streamed (status.Transcript at) after own f = absurd own
+  reads_over now streamed _ after own f = absurd own
 
 -- ---- one event is told
 
@@ -240,20 +222,9 @@ module _ {E : Type 0} (takes : Kind → Type 0) (stands_for : E → EngineState 
 pub told_as : {E : Type 0} (takes : Kind → Type 0) (stands_for : E → EngineState → Type 0) (s : Federation) (number : ℕ) (e : Event) (held told : Option (List ℕ)) (home : HomeView) (w : World E) (items : List Item) (o : Result (Unit {0}) Status) →
     items ≡ numbered number (step_line s e).items → HasStepped takes stands_for s e home w → IsTextPut (items_text (numbered number (item.Event e ∷ []) ++ items)) held told o → IsToldOf takes stands_for s number e held told home w o
 told_as takes stands_for s number e held told home w items (Ok u) is st p = (st, subst (λ (xs : List Item). IsPut (items_text (numbered number (item.Event e ∷ []) ++ xs)) held told) is p)
-told_as takes stands_for s number e held told home w items (Err status.Done) is st p = absurd p
-told_as takes stands_for s number e held told home w items (Err status.Usage) is st p = absurd p
-told_as takes stands_for s number e held told home w items (Err (status.Schedule line what)) is st p = absurd p
-told_as takes stands_for s number e held told home w items (Err status.Read) is st p = absurd p
 told_as takes stands_for s number e held told home w items (Err status.Write) is st p = (st, subst (λ (xs : List Item). IsPutInPart (items_text (numbered number (item.Event e ∷ []) ++ xs)) held told) is p)
-told_as takes stands_for s number e held told home w items (Err (status.Device spot)) is st p = absurd p
-told_as takes stands_for s number e held told home w items (Err (status.Differs spot place kept got)) is st p = absurd p
-told_as takes stands_for s number e held told home w items (Err (status.InUse spot)) is st p = absurd p
-told_as takes stands_for s number e held told home w items (Err (status.BadLog spot place)) is st p = absurd p
-told_as takes stands_for s number e held told home w items (Err (status.Limit what)) is st p = absurd p
 told_as takes stands_for s number e held told home w items (Err status.Memory) is st p = inr (st, subst (λ (xs : List Item). IsPutInPart (items_text (numbered number (item.Event e ∷ []) ++ xs)) held told) is p)
-told_as takes stands_for s number e held told home w items (Err (status.OldLog spot)) is st p = absurd p
-told_as takes stands_for s number e held told home w items (Err (status.NotSerial txn at)) is st p = absurd p
-told_as takes stands_for s number e held told home w items (Err (status.Transcript at)) is st p = absurd p
+told_as takes stands_for s number e held told home w items (Err _) is st p = absurd p
 
 -- what was not done is not told
 pub untold : {E : Type 0} (takes : Kind → Type 0) (stands_for : E → EngineState → Type 0) (s : Federation) (number : ℕ) (e : Event) (held : Option (List ℕ)) (old new : HomeView) (w : World E) (fault : WorldFault) → HasEndedAs fault old new →
@@ -262,7 +233,7 @@ untold takes stands_for s number e held old new w (world.Device spot) h left bef
 untold takes stands_for s number e held old new w (world.Differs spot place kept got) h left before met = (refl, left.0)
 untold takes stands_for s number e held old new w (world.InUse spot) h left before met = absurd h
 untold takes stands_for s number e held old new w (world.Bad spot place) h left before met = absurd h
-untold takes stands_for s number e held old new w (world.Full spot) h left before met = ((refl, left.0), left.1)
+untold takes stands_for s number e held old new w (world.Full spot) h left before met = (refl, subst (λ (v : HomeView). AreLeftAs v.file s) (sym h) before, left.1)
 untold takes stands_for s number e held old new w world.Count h left before met = (refl, subst (λ (v : HomeView). AreLeftAs v.file s) (sym h) before, met refl)
 untold takes stands_for s number e held old new w (world.Old spot) h left before met = absurd h
 untold takes stands_for s number e held old new w world.Memory h left before met = inl (refl, left.0)
@@ -270,10 +241,10 @@ untold takes stands_for s number e held old new w world.Memory h left before met
 -- how the directory ended
 pub ended_as : (old new : HomeView) (fault : WorldFault) → HasEndedAs fault old new → HasEnded old new (Err (of_world fault))
 ended_as old new (world.Device spot) h = h
-ended_as old new (world.Differs spot place kept got) h = h.0
+ended_as old new (world.Differs spot place kept got) h = h
 ended_as old new (world.InUse spot) h = absurd h
 ended_as old new (world.Bad spot place) h = absurd h
-ended_as old new (world.Full spot) h = h
+ended_as old new (world.Full spot) h = ap (λ (v : HomeView). v.faults) h
 ended_as old new world.Count h = ap (λ (v : HomeView). v.faults) h
 ended_as old new (world.Old spot) h = absurd h
 ended_as old new world.Memory h = h
@@ -292,38 +263,16 @@ not_write world.Memory e = let z : status.Memory ≡ status.Write = e in cc
 -- a text that was put met no fault of the directory
 pub put_ended : (text : List ℕ) (held told : Option (List ℕ)) (old new : HomeView) (o : Result (Unit {0}) Status) → new.faults ≡ old.faults → IsTextPut text held told o → HasEnded old new o
 put_ended text held told old new (Ok u) q p = q
-put_ended text held told old new (Err status.Done) q p = q
-put_ended text held told old new (Err status.Usage) q p = q
-put_ended text held told old new (Err (status.Schedule line what)) q p = q
-put_ended text held told old new (Err status.Read) q p = q
-put_ended text held told old new (Err status.Write) q p = q
 put_ended text held told old new (Err (status.Device spot)) q p = absurd p
-put_ended text held told old new (Err (status.Differs spot place kept got)) q p = q
-put_ended text held told old new (Err (status.InUse spot)) q p = q
-put_ended text held told old new (Err (status.BadLog spot place)) q p = q
-put_ended text held told old new (Err (status.Limit what)) q p = q
-put_ended text held told old new (Err status.Memory) q p = q
-put_ended text held told old new (Err (status.OldLog spot)) q p = q
-put_ended text held told old new (Err (status.NotSerial txn at)) q p = absurd p
-put_ended text held told old new (Err (status.Transcript at)) q p = absurd p
+put_ended text held told old new (Err (status.Differs spot place kept got)) q p = absurd p
+put_ended text held told old new (Err _) q p = q
 
 -- how the text of the first line was put
 pub opening_put : (head : Head) (items : List Item) (held told : Option (List ℕ)) (o : Result (Unit {0}) Status) → IsTextPut (opening_text head items) held told o → IsOpeningTold head items held told (given_back head o)
 opening_put head items held told (Ok u) p = (refl, p)
-opening_put head items held told (Err status.Done) p = absurd p
-opening_put head items held told (Err status.Usage) p = absurd p
-opening_put head items held told (Err (status.Schedule line what)) p = absurd p
-opening_put head items held told (Err status.Read) p = absurd p
 opening_put head items held told (Err status.Write) p = p
-opening_put head items held told (Err (status.Device spot)) p = absurd p
-opening_put head items held told (Err (status.Differs spot place kept got)) p = absurd p
-opening_put head items held told (Err (status.InUse spot)) p = absurd p
-opening_put head items held told (Err (status.BadLog spot place)) p = absurd p
-opening_put head items held told (Err (status.Limit what)) p = absurd p
 opening_put head items held told (Err status.Memory) p = p
-opening_put head items held told (Err (status.OldLog spot)) p = absurd p
-opening_put head items held told (Err (status.NotSerial txn at)) p = absurd p
-opening_put head items held told (Err (status.Transcript at)) p = absurd p
+opening_put head items held told (Err _) p = absurd p
 
 -- why a federation was not opened, as a status
 pub unopened_as : (file : Spot → Option File) (head : Head) (resume : Bool) (fault : WorldFault) → IsUnopened file head resume fault → IsUnopenedAs file head resume (of_world fault)
@@ -355,3 +304,46 @@ err_is (Err e) why h = ap Err h.1
 -- what was done is no fault
 pub not_err : {A E : Type 0} (x : A) (e : E) → Ok x ≡ Err e → ⊥
 not_err x e q = let z : Ok x ≡ Err e = q in cc
+
+-- ---- the directory
+
+-- the nodes of a federation are those of its head
+pub head_changes : {E : Type 0} (takes : Kind → Type 0) (stands_for : E → EngineState → Type 0) (w : World E) (head : Head) (z : Federation) (old new : HomeView) → RepresentsWorld takes stands_for w z → IsReadyFor head z →
+    OnlyOwnFilesChange (length w.cluster.members.items) (length w.cluster.coords.items) old new → OnlyOwnFilesChange (length head.kinds) head.coords old new
+head_changes takes stands_for w head z old new r ready rest =
+    subst (λ c. OnlyOwnFilesChange (length head.kinds) c old new) (r.cluster.coordinators ∙ ready.coordinators)
+    (subst (λ m. OnlyOwnFilesChange m (length w.cluster.coords.items) old new) (r.cluster.kinds ∙ ap length ready.kinds) rest)
+
+-- a fault behind calls that met none
+pub ended_behind : (old mid new : HomeView) (o : Result (Unit {0}) Status) → mid.faults ≡ old.faults → ((s : Spot) → mid.file s ≡ None → old.file s ≡ None) → HasEnded mid new o → HasEnded old new o
+ended_behind old mid new (Ok u) same told h = h ∙ same
+ended_behind old mid new (Err (status.Device spot)) same told h = (subst (λ n. HasRisen n new.faults) same h.0, h.1)
+ended_behind old mid new (Err (status.Differs spot place kept got)) same told h = (h.0 ∙ same, told spot h.1, h.2)
+ended_behind old mid new (Err _) same told h = h ∙ same
+
+-- a line that gave no event
+pub read_ended : (old new : HomeView) (why : Status) → IsReadStatus why → new.faults ≡ old.faults → HasEnded old new (Err why)
+read_ended old new (status.Device spot) own same = absurd own
+read_ended old new (status.Differs spot place kept got) own same = absurd own
+read_ended old new _ own same = same
+
+-- where no event was begun, every file is as it was
+pub fault_clean : (old new : HomeView) (fault : WorldFault) → HasEndedAs fault old new → IsBetween (of_world fault) → (s : Spot) → IsClean old s → IsClean new s
+fault_clean old new (world.Device spot) h between s was = absurd between
+fault_clean old new (world.Differs spot place kept got) h between s was = absurd between
+fault_clean old new (world.InUse spot) h between s was = absurd h
+fault_clean old new (world.Bad spot place) h between s was = absurd h
+fault_clean old new (world.Full spot) h between s was = subst (λ (v : HomeView). IsClean v s) (sym h) was
+fault_clean old new world.Count h between s was = subst (λ (v : HomeView). IsClean v s) (sym h) was
+fault_clean old new (world.Old spot) h between s was = absurd h
+fault_clean old new world.Memory h between s was = absurd between
+
+-- a federation that was not opened left no file, but where the directory failed or there was no memory
+pub refused_between : (file : Spot → Option File) (head : Head) (resume : Bool) (why : Status) → IsUnopenedAs file head resume why → IsBetween why → IsOfFiles why
+refused_between file head resume (status.Device spot) u between = absurd between
+refused_between file head resume status.Memory u between = absurd between
+refused_between file head resume (status.InUse spot) u between = tt
+refused_between file head resume (status.BadLog spot place) u between = tt
+refused_between file head resume (status.OldLog spot) u between = tt
+refused_between file head resume (status.Limit what) u between = tt
+refused_between file head resume _ u between = absurd u

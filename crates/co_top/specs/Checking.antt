@@ -13,6 +13,7 @@ use Rattle.co_check.specs.declared.writing.Finding.{Finding}
 use Rattle.co_check.specs.declared.writing.Finding.TheVariants as finding
 use Rattle.co_check.specs.declared.writing.VerdictFault.{VerdictFault}
 use Rattle.co_check.specs.declared.writing.VerdictFault.TheVariants as fault
+use Rattle.co_top.specs.Views.{SourceView, SinkView, TellsRead, TellsWrite}
 use Rattle.co_top.specs.declared.status.LimitKind.TheVariants as limit
 use Rattle.co_top.specs.declared.status.Status.{Status}
 use Rattle.co_top.specs.declared.status.Status.TheVariants as status
@@ -80,3 +81,10 @@ HasGivenUp _ = ⊥
 -- whatever the text is, a serial transcript or not, or one with a fault: that is told, unless the source or the sink failed or there was no memory
 abbrev pub IsExactCheck : List ℕ → Status → Type 0
 IsExactCheck input ended = (answer : Result Verdict CheckFault) → IsCheck input answer → IsOfText answer → (ended ≡ status_of_answer answer) ⊎ HasGivenUp ended
+
+-- The command `check`: how it ends, over what is seen of the source and the sink.
+pub record ChecksAs (source_old source_new : SourceView) (out_old out_new : SinkView) (ended : Status) : Type 0 where
+  pub end : (input held : List ℕ) → source_old.left ≡ Some input → out_old.told ≡ Some held → IsCheckEnd input held out_new.told ended
+  pub judged : (input held : List ℕ) → source_old.left ≡ Some input → out_old.told ≡ Some held → IsExactCheck input ended
+  pub read : TellsRead source_old source_new ended
+  pub write : TellsWrite out_old out_new ended

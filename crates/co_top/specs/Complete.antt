@@ -1,5 +1,5 @@
 -- What a run needs to come to its end.
-use Rattle.std.specs.Prelude.{ℕ, Bool, ◌≡◌, ◌⊎◌, List, [], length, Option}
+use Rattle.std.specs.Prelude.{ℕ, Bool, ◌≡◌, ◌<◌, ◌⊎◌, List, [], length, Option, None}
 use Rattle.co_base.specs.declared.head.Head.{Head}
 use Rattle.co_message.specs.declared.event.Event.{Event}
 use Rattle.co_outside.specs.declared.spot.Spot.{Spot}
@@ -22,16 +22,16 @@ pub record IsSchedule (input : List ℕ) : Type 0 where
   pub events : List Event
   pub whole : StandsBehind head text events []
 
--- The input is a schedule, the logs are not refused, neither the source nor the sink nor the directory failed, no file that was read again differs, and no line of
--- the run would leave a log too long or begin one transaction too many.
-pub record IsUnhindered (resume : Bool) (input : List ℕ) (old : Spot → Option File) (source_old source_new out_old out_new home_old home_new : ℕ) (ended : Status) : Type 0 where
+-- The input is a schedule, the logs are not refused, neither the source nor the sink nor the directory failed, the directory tells its files, and no line of the run would leave a log
+-- too long or begin one transaction too many.
+pub record IsUnhindered (resume : Bool) (input : List ℕ) (old : Spot → Option File) (source_old source_new out_old out_new home_old home_new : ℕ) : Type 0 where
   pub schedule : IsSchedule input
   pub allowed : (head : Head) (text : List ℕ) → IsHeaded input head text → (why : WorldFault) → IsOfFound why → IsUnopened old head resume why → ⊥
   pub source : HasRisen source_old source_new → ⊥
   pub out : HasRisen out_old out_new → ⊥
   pub home : HasRisen home_old home_new → ⊥
-  pub same : (spot : Spot) (at : ℕ) (kept read : Option ℕ) → ended ≡ status.Differs spot at kept read → ⊥
-  pub room : (r : Ran resume input old) → IsOutgrown r → ⊥
+  pub told : (spot : Spot) → spot.part < 2 → old spot ≡ None → ⊥
+  pub room : (r : Ran resume input old) (spot : Spot) → IsOutgrown r spot → ⊥
   pub few : (r : Ran resume input old) → IsAtLimit r → ⊥
 
 -- the source or the directory failed, or there was no memory

@@ -4,10 +4,12 @@ pub mod Front
 pub mod Heads
 pub mod Played
 pub mod Telling
+pub mod Views
 pub mod Ran
 pub mod Headline
 pub mod Replayed
 pub mod Records
 pub mod Checking
 pub mod Complete
+pub mod Running
 pub mod Trials

@@ -83,12 +83,14 @@ pub record HasMetLimit (head : Head) (s0 : Federation) (text now held told : Opt
   pub next : (t : List ℕ) (e : text ≡ Some t) → (rest : List ℕ) × IsNext head (length done.events) (done.left t e).0 rest (Some event)
   pub limit : MeetsPlainLimit (run (lines done.events) s0) event
 
--- what was told before an event that would leave a log too long
-pub record HasOutgrown (head : Head) (s0 : Federation) (text now held told : Option (List ℕ)) (home : HomeView) : Type 0 where
-  pub failed : HasFailed head s0 text now held told home
+-- what was told before an event that would leave this log too long; the files have what the lines before it left
+pub record HasOutgrown (head : Head) (s0 : Federation) (text now held told : Option (List ℕ)) (home : HomeView) (spot : Spot) : Type 0 where
+  pub done : IsTold head s0 text held told
+  pub streamed : IsStreamedBehind head text now done.events done.left
+  pub files : AreLeftAs home.file (run (lines done.events) s0)
   pub event : Event
-  pub next : (t : List ℕ) (e : text ≡ Some t) → (rest : List ℕ) × IsNext head (length failed.done.events) (failed.done.left t e).0 rest (Some event)
-  pub outgrows : Outgrows (run (lines failed.done.events) s0) event
+  pub next : (t : List ℕ) (e : text ≡ Some t) → (rest : List ℕ) × IsNext head (length done.events) (done.left t e).0 rest (Some event)
+  pub outgrows : Outgrows (run (lines done.events) s0) event spot
 
 -- the lines that were done, and why the next one gave no event
 pub record HasStopped {E : Type 0} (takes : Kind → Type 0) (stands_for : E → EngineState → Type 0) (head : Head) (s0 : Federation) (text now held told : Option (List ℕ)) (home : HomeView) (w : World E) (ended : Status) : Type 0 where
@@ -109,6 +111,6 @@ IsOver takes stands_for head s0 text now held told home w (Err status.Write) = (
 IsOver takes stands_for head s0 text now held told home w (Err status.Memory) = HasFailedInPart head s0 text now held told home
 IsOver takes stands_for head s0 text now held told home w (Err (status.Device spot)) = HasFailed head s0 text now held told home
 IsOver takes stands_for head s0 text now held told home w (Err (status.Differs spot at kept read)) = HasFailed head s0 text now held told home
-IsOver takes stands_for head s0 text now held told home w (Err (status.Limit (limit.Log spot))) = HasOutgrown head s0 text now held told home
+IsOver takes stands_for head s0 text now held told home w (Err (status.Limit (limit.Log spot))) = HasOutgrown head s0 text now held told home spot
 IsOver takes stands_for head s0 text now held told home w (Err (status.Limit limit.Transactions)) = HasMetLimit head s0 text now held told home
 IsOver takes stands_for head s0 text now held told home w (Err _) = ⊥

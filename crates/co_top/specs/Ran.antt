@@ -1,17 +1,15 @@
 -- What a run did, and what is promised of it.
-use Rattle.std.specs.Prelude.{ℕ, Bool, false, ◌≡◌, ◌≤◌, ◌⊎◌, List, [], ◌∷◌, ◌++◌, length, take, map, Option, Some}
+use Rattle.std.specs.Prelude.{ℕ, Bool, false, ◌≡◌, ◌<◌, ◌≤◌, ◌⊎◌, List, [], ◌∷◌, ◌++◌, length, take, map, Option, None, Some}
 use Rattle.std.specs.FinMap.{keys}
 use Rattle.std.specs.List.{AllByRecursion}
 use Rattle.co_base.specs.Limits.{most_transactions}
 use Rattle.co_base.specs.declared.head.Head.{Head}
 use Rattle.co_message.specs.declared.event.Event.{Event}
 use Rattle.co_outside.specs.declared.spot.Spot.{Spot}
-use Rattle.co_outside.specs.Home.{File}
+use Rattle.co_outside.specs.Home.{File, HomeView}
 use Rattle.co_durable.specs.Durable.{IsDurable}
 use Rattle.co_serial.specs.MemberRows.{numbered_rows}
 use Rattle.co_durable.specs.Told as files
-use Rattle.co_durable.specs.declared.fault.WorldFault.{WorldFault}
-use Rattle.co_durable.specs.declared.fault.WorldFault.TheVariants as world
 use Rattle.co_plain.specs.CommitmentOrder.{IsCommitmentOrdered}
 use Rattle.co_plain.specs.Federation.{Federation}
 use Rattle.co_plain.specs.Opening.{Found, opened, used_numbers}
@@ -24,10 +22,11 @@ use Rattle.co_replay.specs.Schedule.{HasLine}
 use Rattle.co_replay.specs.Transcript.{items_text, run_items}
 use Rattle.co_opening.specs.Fit.{AreFit}
 use Rattle.co_opening.specs.Found.{AreFound, MayRun, AreUnused}
-use Rattle.co_opening.specs.Opened.{IsUnopened}
+use Rattle.co_opening.specs.Rest.{AreFoundOrMade}
 use Rattle.co_cluster.specs.Left.{AreLeftAs}
 use Rattle.co_top.specs.Front.{IsHeaded, StandsBehind, IsNext, IsHeadFault, IsLineFault, IsStreamed}
 use Rattle.co_world.specs.Counting.{MeetsPlainLimit}
+use Rattle.co_top.specs.Replayed.{IsUnopenedAs, IsOfFiles}
 use Rattle.co_top.specs.Telling.{Outgrows}
 use Rattle.co_top.specs.declared.status.LimitKind.TheVariants as limit
 use Rattle.co_top.specs.declared.status.Status.{Status}
@@ -49,6 +48,13 @@ pub record Ran (resume : Bool) (input : List ℕ) (file : Spot → Option File) 
   pub unused : resume ≡ false → AreUnused found_member found_coord
   pub fit : AreFit file head resume
   pub few : length (keys (used_numbers (length head.kinds) head.coords found_member found_coord)) ≤ most_transactions
+
+-- two runs have the same head and events, and were opened over the same logs
+pub record IsSameRun {resume : Bool} {input : List ℕ} {file : Spot → Option File} (r s : Ran resume input file) : Type 0 where
+  pub head : r.head ≡ s.head
+  pub events : r.events ≡ s.events
+  pub members : (m : ℕ) → r.found_member m ≡ s.found_member m
+  pub coordinators : (c : ℕ) → r.found_coord c ≡ s.found_coord c
 
 -- the federation that was opened, and what the events left of it
 abbrev pub start_of : {resume : Bool} {input : List ℕ} {file : Spot → Option File} → Ran resume input file → Federation
@@ -96,7 +102,7 @@ AreLeftBy r file = AreLeftAfter r (lines r.events) file
 abbrev pub IsUpToFault : {resume : Bool} {input : List ℕ} {old : Spot → Option File} → Ran resume input old → List Happening → Type 0
 IsUpToFault r happened =
     (happened ≡ lines r.events)
-    ⊎ ((event : Event) × (rest : List ℕ) × IsNext r.head (length r.events) r.rest rest (Some event)
+    ⊎ ((event : Event) × HasLine r.head event × (rest : List ℕ) × IsNext r.head (length r.events) r.rest rest (Some event)
     × ((happened ≡ lines r.events ++ happening.Line event ∷ []) ⊎ (happened ≡ lines r.events ++ happening.Disarm ∷ happening.Line event ∷ [])))
 
 -- the files that a fault left
@@ -124,47 +130,43 @@ pub record HasRunInPart (resume : Bool) (input : List ℕ) (left : Option (List 
 abbrev pub IsUntold : List ℕ → Option (List ℕ) → List ℕ → Option (List ℕ) → Type 0
 IsUntold input left held told = (told ≡ Some held) × IsStreamed input left
 
--- nothing was put, and no file is changed
-abbrev pub IsAtRest : List ℕ → Option (List ℕ) → List ℕ → Option (List ℕ) → (Spot → Option File) → (Spot → Option File) → Type 0
-IsAtRest input left held told old new = IsUntold input left held told × ((s : Spot) → new s ≡ old s)
-
--- why no federation was opened: the head was none, or nothing could be opened in the directory
-pub record IsUnopenedFor (resume : Bool) (input : List ℕ) (old : Spot → Option File) (why : WorldFault) : Type 0 where
+-- Why the federation of the head was not opened, and what that left: with a refusal of what was found in the files no file is changed; and where the directory failed or there was
+-- no memory, every log is as it was found, or has its header alone where there was none.
+pub record IsUnopenedFor (resume : Bool) (input : List ℕ) (old new : Spot → Option File) (ended : Status) : Type 0 where
   pub head : Head
   pub text : List ℕ
   pub headed : IsHeaded input head text
-  pub cause : IsUnopened old head resume why
+  pub cause : IsUnopenedAs old head resume ended
+  pub untouched : IsOfFiles ended → (s : Spot) → new s ≡ old s
+  pub left : AreFoundOrMade (length head.kinds) head.coords old new
 
 -- the next line begins a transaction whose number is unused, and as many are used as there may be
 abbrev pub IsAtLimit : {resume : Bool} {input : List ℕ} {old : Spot → Option File} → Ran resume input old → Type 0
 IsAtLimit r = (event : Event) × (rest : List ℕ) × IsNext r.head (length r.events) r.rest rest (Some event) × MeetsPlainLimit (end_of r) event
 
--- the event of the next line would leave a log that is too long, were no stop armed
-abbrev pub IsOutgrown : {resume : Bool} {input : List ℕ} {old : Spot → Option File} → Ran resume input old → Type 0
-IsOutgrown r = (event : Event) × (rest : List ℕ) × IsNext r.head (length r.events) r.rest rest (Some event) × Outgrows (end_of r) event
+-- the event of the next line would leave this log too long, were no stop armed
+abbrev pub IsOutgrown : {resume : Bool} {input : List ℕ} {old : Spot → Option File} → Ran resume input old → Spot → Type 0
+IsOutgrown r spot = (event : Event) × (rest : List ℕ) × IsNext r.head (length r.events) r.rest rest (Some event) × Outgrows (end_of r) event spot
 
--- the lines that were done, the files that they left, and why the next one gave no event
-pub record HasStoppedAt (resume : Bool) (input : List ℕ) (left : Option (List ℕ)) (held : List ℕ) (old new : Spot → Option File) (told : Option (List ℕ)) (ended : Status) : Type 0 where
-  pub run : HasRun resume input left held old told
-  pub files : AreLeftBy run.ran new
-  pub cause : IsLineFault run.ran.head (length run.ran.events) run.ran.rest ended
+-- Why a run ended behind the lines that were done: there is no further one, or its event meets a limit, or it gave none.
+abbrev pub IsStop : {resume : Bool} {input : List ℕ} {old : Spot → Option File} → Ran resume input old → Status → Type 0
+IsStop r status.Done = r.rest ≡ []
+IsStop r (status.Limit limit.Transactions) = IsAtLimit r
+IsStop r (status.Limit (limit.Log spot)) = IsOutgrown r spot
+IsStop r ended = IsLineFault r.head (length r.events) r.rest ended
 
--- How a run ends, by its status: over an input, files and a sink that are told, and what the source has left then.
-abbrev pub IsRunEnd : Bool → List ℕ → Option (List ℕ) → List ℕ → (Spot → Option File) → (Spot → Option File) → Option (List ℕ) → Status → Type 0
-IsRunEnd resume input left held old new told status.Done = (done : HasRun resume input left held old told) × AreLeftBy done.ran new × (done.ran.rest ≡ [])
-IsRunEnd resume input left held old new told status.Usage = ⊥
-IsRunEnd resume input left held old new told (status.Schedule line what) = (IsAtRest input left held told old new × IsHeadFault input (status.Schedule line what)) ⊎ HasStoppedAt resume input left held old new told (status.Schedule line what)
-IsRunEnd resume input left held old new told status.Read = IsAtRest input left held told old new ⊎ HasStoppedAt resume input left held old new told status.Read
-IsRunEnd resume input left held old new told status.Write = (done : HasRunInPart resume input left held old told) × AreLeftBy done.ran new
-IsRunEnd resume input left held old new told (status.Device spot) = IsUntold input left held told ⊎ ((done : HasRun resume input left held old told) × AreLeftByFault done.ran new)
-IsRunEnd resume input left held old new told (status.Differs spot at kept read) = (done : HasRun resume input left held old told) × AreLeftByFault done.ran new
-IsRunEnd resume input left held old new told (status.InUse spot) = IsAtRest input left held told old new × IsUnopenedFor resume input old (world.InUse spot)
-IsRunEnd resume input left held old new told (status.BadLog spot at) = IsAtRest input left held told old new × IsUnopenedFor resume input old (world.Bad spot at)
-IsRunEnd resume input left held old new told (status.OldLog spot) = IsAtRest input left held told old new × IsUnopenedFor resume input old (world.Old spot)
-IsRunEnd resume input left held old new told (status.NotSerial txn line) = ⊥
-IsRunEnd resume input left held old new told (status.Transcript line) = ⊥
-IsRunEnd resume input left held old new told (status.Limit (limit.Line line)) = (IsAtRest input left held told old new × IsHeadFault input (status.Limit (limit.Line line))) ⊎ HasStoppedAt resume input left held old new told (status.Limit (limit.Line line))
-IsRunEnd resume input left held old new told (status.Limit limit.Lines) = HasStoppedAt resume input left held old new told (status.Limit limit.Lines)
-IsRunEnd resume input left held old new told (status.Limit limit.Transactions) = (IsAtRest input left held told old new × IsUnopenedFor resume input old world.Count) ⊎ ((done : HasRun resume input left held old told) × AreLeftBy done.ran new × IsAtLimit done.ran)
-IsRunEnd resume input left held old new told (status.Limit (limit.Log spot)) = (IsAtRest input left held told old new × IsUnopenedFor resume input old (world.Full spot)) ⊎ ((done : HasRun resume input left held old told) × AreLeftByFault done.ran new × IsOutgrown done.ran)
-IsRunEnd resume input left held old new told status.Memory = IsUntold input left held told ⊎ ((done : HasRunInPart resume input left held old told) × AreLeftByFault done.ran new)
+-- a fault of the directory within an event: it failed, or a file that was read again and that it does not tell differs from what is kept of it
+abbrev pub IsEventFault : (Spot → Option File) → Status → Type 0
+IsEventFault old (status.Device spot) = Unit {0}
+IsEventFault old (status.Differs spot at kept read) = (old spot ≡ None) × (spot.part < 2)
+IsEventFault old _ = ⊥
+
+-- How a run ends, over an input, a sink and files that are told, and what the source has left then. Either the head is none, and the directory is as it was; or its federation was not
+-- opened; or the run stopped behind a line, or in the text of one; or there was a fault within the event of the next line, or no memory.
+pub data IsRunEnd {H : Type 0} (seen : H → HomeView) (resume : Bool) (input : List ℕ) (left : Option (List ℕ)) (held : List ℕ) (told : Option (List ℕ)) (old new : H) (ended : Status) : Type 0 where
+  NoHead : IsUntold input left held told → new ≡ old → IsHeadFault input ended → IsRunEnd seen resume input left held told old new ended
+  Unopened : IsUntold input left held told → IsUnopenedFor resume input (seen old).file (seen new).file ended → IsRunEnd seen resume input left held told old new ended
+  Stopped : (done : HasRun resume input left held (seen old).file told) → AreLeftBy done.ran (seen new).file → IsStop done.ran ended → IsRunEnd seen resume input left held told old new ended
+  CutOff : (done : HasRunInPart resume input left held (seen old).file told) → AreLeftBy done.ran (seen new).file → ended ≡ status.Write → IsRunEnd seen resume input left held told old new ended
+  Failed : (done : HasRun resume input left held (seen old).file told) → AreLeftByFault done.ran (seen new).file → IsEventFault (seen old).file ended → IsRunEnd seen resume input left held told old new ended
+  Wanted : (done : HasRunInPart resume input left held (seen old).file told) → AreLeftByFault done.ran (seen new).file → ended ≡ status.Memory → IsRunEnd seen resume input left held told old new ended

@@ -4,11 +4,13 @@ use Rattle.co_base.specs.Limits.{most_coordinators, most_members}
 use Rattle.co_outside.specs.declared.spot.Spot.{Spot}
 use Rattle.co_outside.specs.declared.sink.SinkFault.{SinkFault}
 use Rattle.co_outside.specs.declared.sink.SinkFault.TheVariants as sink
-use Rattle.co_outside.specs.Home.{File}
+use Rattle.co_outside.specs.Home.{File, HomeView}
 use Rattle.co_serial.specs.declared.member_row.MemberRow.{MemberRow}
 use Rattle.co_durable.specs.declared.fault.WorldFault.TheVariants as world
 use Rattle.co_durable.specs.Durable.{IsDurable, IsUndurable}
+use Rattle.co_durable.specs.Told.{AreTold}
 use Rattle.co_serial.specs.RecordText.{records_text}
+use Rattle.co_top.specs.Views.{SinkView, TellsWrite, TellsDevice}
 use Rattle.co_top.specs.declared.status.LimitKind.TheVariants as limit
 use Rattle.co_top.specs.declared.status.Status.{Status}
 use Rattle.co_top.specs.declared.status.Status.TheVariants as status
@@ -60,3 +62,13 @@ HoldsRecords file held told (status.BadLog spot at) = told ≡ Some held
 HoldsRecords file held told (status.Limit (limit.Log spot)) = told ≡ Some held
 HoldsRecords file held told status.Memory = (told ≡ Some held) ⊎ TookFront file held told
 HoldsRecords file held told _ = ⊥
+
+-- The command `records`: how it ends, over what is seen of the sink and the directory. It writes no file.
+pub record WritesRecords (directory : List ℕ) (out_old out_new : SinkView) (old new : HomeView) (ended : Status) : Type 0 where
+  pub cause : HasCause old.file ended
+  pub exact : AreTold old.file most_members most_coordinators → IsExact old.file ended
+  pub durable : (held : List ℕ) → out_old.told ≡ Some held → HoldsRecords old.file held out_new.told ended
+  pub files : (s : Spot) → new.file s ≡ old.file s
+  pub entered : ended ≡ status.Done → new.entered ≡ Some directory
+  pub write : TellsWrite out_old out_new ended
+  pub device : TellsDevice old new ended

@@ -1,10 +1,11 @@
 -- How one event is done and told, and how a federation is opened and told of.
-use Rattle.std.specs.Prelude.{ℕ, ◌≡◌, ◌⊎◌, List, ◌∷◌, ◌++◌, take, Option, Some, Result, Ok, Err}
+use Rattle.std.specs.Prelude.{ℕ, ◌≡◌, ◌<◌, ◌⊎◌, List, ◌∷◌, ◌++◌, take, Option, None, Some, Result, Ok, Err}
 use Rattle.co_base.specs.declared.head.Kind.{Kind}
 use Rattle.co_message.specs.declared.event.Event.{Event}
 use Rattle.co_message.specs.declared.item.ItemKind.TheVariants as item
 use Rattle.co_outside.specs.Faults.{HasRisen}
 use Rattle.co_outside.specs.Home.{HomeView}
+use Rattle.co_outside.specs.declared.spot.Spot.{Spot}
 use Rattle.co_plain.specs.Federation.{Federation}
 use Rattle.co_plain.specs.Runs.{numbered}
 use Rattle.co_plain.specs.Step.{disarmed, step_line}
@@ -37,9 +38,10 @@ IsTextPut text held told (Err status.Write) = IsPutInPart text held told
 IsTextPut text held told (Err status.Memory) = IsPutInPart text held told
 IsTextPut text held told (Err _) = ⊥
 
--- the directory failed at the file that the status names, or it met no fault
+-- The directory failed at the file that the status names, or it met no fault; only a file that it does not tell can differ.
 abbrev pub HasEnded : HomeView → HomeView → Result (Unit {0}) Status → Type 0
 HasEnded old new (Err (status.Device spot)) = HasRisen old.faults new.faults × (new.last_failed ≡ spot)
+HasEnded old new (Err (status.Differs spot at kept read)) = (new.faults ≡ old.faults) × (old.file spot ≡ None) × (spot.part < 2)
 HasEnded old new _ = new.faults ≡ old.faults
 
 -- the federation stands for the state that the event leaves, and the directory holds its logs
@@ -51,9 +53,9 @@ pub record HasStepped {E : Type 0} (takes : Kind → Type 0) (stands_for : E →
 abbrev pub HasFaulted : Federation → Event → Option (List ℕ) → Option (List ℕ) → HomeView → Type 0
 HasFaulted s event held told home = (told ≡ held) × AreLeftNear home.file s (step_line s event).state (step_line (disarmed s) event).state
 
--- the event would leave a log that is too long
-abbrev pub Outgrows : Federation → Event → Type 0
-Outgrows s event = HasOverlong (step_line (disarmed s) event).state
+-- the event would leave this log too long
+abbrev pub Outgrows : Federation → Event → Spot → Type 0
+Outgrows s event spot = HasOverlong (step_line (disarmed s) event).state spot
 
 -- How an event of a line of this number is done and told.
 abbrev pub IsToldOf : {E : Type 0} → (Kind → Type 0) → (E → EngineState → Type 0) → Federation → ℕ → Event → Option (List ℕ) → Option (List ℕ) → HomeView → World E → Result (Unit {0}) Status → Type 0
@@ -62,6 +64,6 @@ IsToldOf takes stands_for s number event held told home w (Err status.Write) = H
 IsToldOf takes stands_for s number event held told home w (Err status.Memory) = HasFaulted s event held told home ⊎ (HasStepped takes stands_for s event home w × IsPutInPart (event_text number event s) held told)
 IsToldOf takes stands_for s number event held told home w (Err (status.Device spot)) = HasFaulted s event held told home
 IsToldOf takes stands_for s number event held told home w (Err (status.Differs spot at kept read)) = HasFaulted s event held told home
-IsToldOf takes stands_for s number event held told home w (Err (status.Limit (limit.Log spot))) = HasFaulted s event held told home × Outgrows s event
+IsToldOf takes stands_for s number event held told home w (Err (status.Limit (limit.Log spot))) = (told ≡ held) × AreLeftAs home.file s × Outgrows s event spot
 IsToldOf takes stands_for s number event held told home w (Err (status.Limit limit.Transactions)) = (told ≡ held) × AreLeftAs home.file s × MeetsPlainLimit s event
 IsToldOf takes stands_for s number event held told home w (Err _) = ⊥

@@ -4,6 +4,7 @@ use Rattle.co_trial.specs.Line.{summary_line}
 use Rattle.co_trial.specs.Trials.{IsTrial}
 use Rattle.co_trial.specs.declared.summary.Summary.{Summary}
 use Rattle.co_top.specs.Telling.{IsTextPut}
+use Rattle.co_top.specs.Views.{SinkView, TellsWrite}
 use Rattle.co_top.specs.declared.status.Status.{Status}
 use Rattle.co_top.specs.declared.status.Status.TheVariants as status
 
@@ -25,3 +26,8 @@ IsOfTrial status.Done = Unit {0}
 IsOfTrial status.Write = Unit {0}
 IsOfTrial status.Memory = Unit {0}
 IsOfTrial _ = ⊥
+
+-- The command `trial`: how it ends, over what is seen of the sink.
+pub record TriesAs (number events : ℕ) (out_old out_new : SinkView) (ended : Status) : Type 0 where
+  pub end : (held : List ℕ) → out_old.told ≡ Some held → IsTrialEnd number events held out_new.told ended
+  pub write : TellsWrite out_old out_new ended

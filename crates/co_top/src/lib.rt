@@ -6,10 +6,12 @@ mod lines;
 mod playing;
 mod records;
 mod replay;
+mod runs;
 mod status;
 mod top;
 mod trials;
 mod words;
 
+pub use runs::{runs_go_on, there_is_one_run};
 pub use status::{LimitKind, Status};
 pub use top::run;

@@ -1,5 +1,5 @@
 //! The events of a schedule, one at a time: each is done, and then told.
-ghost use Rattle.std.specs.Prelude.{◌≡◌, ◌≤◌, ◌++◌, ◌∷◌, [], ℕ, Ok, Err, length, IfOk, IsErrOf, OnOk};
+ghost use Rattle.std.specs.Prelude.{◌≡◌, ◌≤◌, ◌++◌, ◌∷◌, [], ℕ, Ok, Err, length, IfOk, IsErrOf};
 ghost use Rattle.co_outside.specs.Faults.{HasRisen};
 ghost use Rattle.co_outside.specs.declared.spot.Spot.{Spot};
 ghost use Rattle.co_outside.specs.Home.{IsClean};
@@ -11,7 +11,10 @@ ghost use Rattle.co_world.specs.Standing.{RepresentsWorld, AreHeld};
 ghost use Rattle.co_top.specs.Ends.{of_world};
 ghost use Rattle.co_top.specs.Front.{HasRead};
 ghost use Rattle.co_top.specs.Played.{StaysReady, IsOver};
+ghost use Rattle.co_top.specs.Replayed.{status_of};
+ghost use Rattle.co_top.specs.Running.{IsBetween};
 ghost use Rattle.co_top.specs.Telling.{IsToldOf, IsTextPut, HasEnded};
+ghost use Rattle.co_opening.specs.Rest.{OnlyOwnFilesChange};
 ghost use Rattle.co_replay.specs.Transcript.{items_text};
 ghost use Rattle.co_message.specs.declared.item.ItemKind.TheVariants as item;
 ghost use Rattle.co_plain.specs.Runs.{numbered};
@@ -89,8 +92,8 @@ fn tell_event<E: Engine + Drop, K: Sink, H: Home>(
     requires stands { (s : Federation) × RepresentsWorld E.takes E.stands_for world.old s × IsReady s }
     ensures told { (s : Federation) → RepresentsWorld E.takes E.stands_for world.old s → IsReady s →
         IsToldOf E.takes E.stands_for s number event (K.told out.old) (K.told out.new) (H.seen home.new) world.new result }
-    ensures entered { (H.seen home.new).entered ≡ (H.seen home.old).entered }
-    ensures clean { OnOk result ((s : Spot) → IsClean (H.seen home.old) s → IsClean (H.seen home.new) s) }
+    ensures rest { OnlyOwnFilesChange (length world.old.cluster.members.items) (length world.old.cluster.coords.items) (H.seen home.old) (H.seen home.new) }
+    ensures clean { IsBetween (status_of result) → (s : Spot) → IsClean (H.seen home.old) s → IsClean (H.seen home.new) s }
     ensures ended { HasEnded (H.seen home.old) (H.seen home.new) result }
     ensures failed { IsErrOf result Status.Write → HasRisen (K.faults out.old) (K.faults out.new) }
     ensures quiet { (IsErrOf result Status.Write → ⊥) → K.faults out.new ≡ K.faults out.old }
@@ -116,8 +119,8 @@ pub(crate) fn replay_lines<E: Engine + Drop, S: Source, K: Sink, H: Home>(
     requires stands { (s0 : Federation) × RepresentsWorld E.takes E.stands_for world.old s0 × StaysReady head.now s0 }
     ensures over { (s0 : Federation) → RepresentsWorld E.takes E.stands_for world.old s0 → StaysReady head.now s0 →
         IsOver E.takes E.stands_for head.now s0 (ahead lines.old (S.left source.old)) (S.left source.new) (K.told out.old) (K.told out.new) (H.seen home.new) world.new result }
-    ensures entered { (H.seen home.new).entered ≡ (H.seen home.old).entered }
-    ensures clean { OnOk result ((s : Spot) → IsClean (H.seen home.old) s → IsClean (H.seen home.new) s) }
+    ensures rest { OnlyOwnFilesChange (length head.now.kinds) head.now.coords (H.seen home.old) (H.seen home.new) }
+    ensures clean { IsBetween (status_of result) → (s : Spot) → IsClean (H.seen home.old) s → IsClean (H.seen home.new) s }
     ensures ended { HasEnded (H.seen home.old) (H.seen home.new) result }
     ensures failed { IsErrOf result Status.Write → HasRisen (K.faults out.old) (K.faults out.new) }
     ensures read { IsErrOf result Status.Read → HasRisen (S.faults source.old) (S.faults source.new) }

@@ -1,5 +1,5 @@
 //! A schedule is replayed over a directory of logs: its head is read, the federation is opened, and one line at a time is read, done and told.
-ghost use Rattle.std.specs.Prelude.{◌≡◌, ◌≤◌, ◌⊎◌, ◌++◌, ◌∷◌, [], ℕ, List, Some, Ok, IfOk, IfErr, IsErrOf, OnOk, OnErr};
+ghost use Rattle.std.specs.Prelude.{length, ◌≡◌, ◌≤◌, ◌⊎◌, ◌++◌, ◌∷◌, [], ℕ, List, Some, Ok, IfOk, IfErr, IsErrOf, OnOk, OnErr};
 ghost use Rattle.co_base.specs.Lent.{Begins};
 ghost use Rattle.co_outside.specs.Faults.{HasRisen};
 ghost use Rattle.co_outside.specs.declared.spot.Spot.{Spot};
@@ -15,6 +15,8 @@ ghost use Rattle.co_schedule.specs.Lines.{ahead};
 ghost use Rattle.co_top.specs.Front.{HasRead, IsHeadFault, IsStreamed};
 ghost use Rattle.co_top.specs.Heads.{IsEnding, IsHeadRead, IsReadStatus};
 ghost use Rattle.co_top.specs.Ran.{IsRunEnd};
+ghost use Rattle.co_top.specs.Running.{AreOthersKept, IsBetween};
+ghost use Rattle.co_opening.specs.Rest.{AreFoundOrMade, OnlyOpens};
 ghost use Rattle.co_top.specs.Replayed.{status_of, given_back, opening_text, IsUnopenedAs, IsOfFiles, IsOpeningTold};
 
 use crate::lines::head_of;
@@ -61,7 +63,7 @@ fn attach<E: Engine + Drop, H: Home>(
     ensures clean { OnOk result ((s : Spot) → IsClean (H.seen home.old) s → IsClean (H.seen home.new) s) }
     ensures refused { IfErr result (IsUnopenedAs (H.seen home.old).file head.now resume) }
     ensures untouched { IfErr result (λ why. IsOfFiles why → (s : Spot) → (H.seen home.new).file s ≡ (H.seen home.old).file s) }
-    ensures entered { (H.seen home.new).entered ≡ (H.seen home.old).entered }
+    ensures opens { OnlyOpens (length head.now.kinds) head.now.coords (H.seen home.old) (H.seen home.new) }
     ensures device { (spot : Spot) → IsErrOf result (Status.Device spot) → HasFailed spot (H.seen home.old) (H.seen home.new) }
     ensures quiet { ((spot : Spot) → IsErrOf result (Status.Device spot) → ⊥) → (H.seen home.new).faults ≡ (H.seen home.old).faults }
 {
@@ -85,6 +87,7 @@ fn open<E: Engine + Drop, H: Home>(
     ensures clean { OnOk result ((s : Spot) → IsClean (H.seen home.old) s → IsClean (H.seen home.new) s) }
     ensures refused { IfErr result (IsUnopenedAs (H.seen home.old).file head.now resume) }
     ensures untouched { IfErr result (λ why. IsOfFiles why → (s : Spot) → (H.seen home.new).file s ≡ (H.seen home.old).file s) }
+    ensures made { AreFoundOrMade (length head.now.kinds) head.now.coords (H.seen home.old).file (H.seen home.new).file }
     ensures entered { OnOk result ((H.seen home.new).entered ≡ Some directory.now) }
     ensures device { (spot : Spot) → IsErrOf result (Status.Device spot) → HasFailed spot (H.seen home.old) (H.seen home.new) }
     ensures quiet { ((spot : Spot) → IsErrOf result (Status.Device spot) → ⊥) → (H.seen home.new).faults ≡ (H.seen home.old).faults }
@@ -173,7 +176,8 @@ fn replayed<E: Engine + Drop, S: Source, K: Sink, H: Home>(
 ) -> Result<(), Status>
     requires kinds { (kind : Kind) → E.takes kind }
     ensures end { (input held : List ℕ) → S.left source.old ≡ Some input → K.told out.old ≡ Some held →
-        IsRunEnd resume input (S.left source.new) held (H.seen home.old).file (H.seen home.new).file (K.told out.new) (status_of result) }
+        IsRunEnd H.seen resume input (S.left source.new) held (K.told out.new) home.old home.new (status_of result) }
+    ensures others { (input : List ℕ) → S.left source.old ≡ Some input → AreOthersKept input (H.seen home.old).file (H.seen home.new).file }
     ensures own { IfErr result IsEnding }
     ensures entered { OnOk result ((H.seen home.new).entered ≡ Some directory.now) }
     ensures read { IsErrOf result Status.Read → HasRisen (S.faults source.old) (S.faults source.new) }
@@ -182,7 +186,7 @@ fn replayed<E: Engine + Drop, S: Source, K: Sink, H: Home>(
     ensures quiet_source { (IsErrOf result Status.Read → ⊥) → S.faults source.new ≡ S.faults source.old }
     ensures quiet_sink { (IsErrOf result Status.Write → ⊥) → K.faults out.new ≡ K.faults out.old }
     ensures quiet_home { ((spot : Spot) → IsErrOf result (Status.Device spot) → ⊥) → (H.seen home.new).faults ≡ (H.seen home.old).faults }
-    ensures clean { OnOk result ((s : Spot) → IsClean (H.seen home.old) s → IsClean (H.seen home.new) s) }
+    ensures clean { IsBetween (status_of result) → (s : Spot) → IsClean (H.seen home.old) s → IsClean (H.seen home.new) s }
 {
     let (mut lines, head) = read_first(alloc, source)?;
     let (mut world, items) = open::<E, H>(alloc, home, directory, &head, resume)?;
@@ -203,7 +207,8 @@ pub(crate) fn replay<E: Engine + Drop, S: Source, K: Sink, H: Home>(
 ) -> Status
     requires kinds { (kind : Kind) → E.takes kind }
     ensures end { (input held : List ℕ) → S.left source.old ≡ Some input → K.told out.old ≡ Some held →
-        IsRunEnd resume input (S.left source.new) held (H.seen home.old).file (H.seen home.new).file (K.told out.new) result }
+        IsRunEnd H.seen resume input (S.left source.new) held (K.told out.new) home.old home.new result }
+    ensures others { (input : List ℕ) → S.left source.old ≡ Some input → AreOthersKept input (H.seen home.old).file (H.seen home.new).file }
     ensures own { result ≡ Status.Usage → ⊥ }
     ensures entered { result ≡ Status.Done → (H.seen home.new).entered ≡ Some directory.now }
     ensures read { result ≡ Status.Read → HasRisen (S.faults source.old) (S.faults source.new) }
@@ -212,7 +217,7 @@ pub(crate) fn replay<E: Engine + Drop, S: Source, K: Sink, H: Home>(
     ensures quiet_source { (result ≡ Status.Read → ⊥) → S.faults source.new ≡ S.faults source.old }
     ensures quiet_sink { (result ≡ Status.Write → ⊥) → K.faults out.new ≡ K.faults out.old }
     ensures quiet_home { ((spot : Spot) → result ≡ Status.Device spot → ⊥) → (H.seen home.new).faults ≡ (H.seen home.old).faults }
-    ensures clean { result ≡ Status.Done → (s : Spot) → IsClean (H.seen home.old) s → IsClean (H.seen home.new) s }
+    ensures clean { IsBetween result → (s : Spot) → IsClean (H.seen home.old) s → IsClean (H.seen home.new) s }
 {
     match replayed::<E, S, K, H>(alloc, directory, resume, source, out, home) {
         Ok(()) => Status::Done,

@@ -12,17 +12,17 @@ use Rattle.co_cluster.specs.Left.{HasOverlong, IsFullIn}
 use Rattle.co_cluster.specs.Served.{HasEndedAs}
 use Rattle.co_trial.specs.Ended.{IsFaultOf, Ended}
 
-ended_as : (fault : WorldFault) (completed : Federation) (old new : HomeView) → HasEndedAs fault old new → (fault ≡ world.Count → ⊥) → IsFullIn completed fault → ¬ (HasOverlong completed) → IsFaultOf fault old.faults new.faults
+ended_as : (fault : WorldFault) (completed : Federation) (old new : HomeView) → HasEndedAs fault old new → (fault ≡ world.Count → ⊥) → IsFullIn completed fault → ((spot : Spot) → HasOverlong completed spot → ⊥) → IsFaultOf fault old.faults new.faults
 ended_as (world.Device spot) completed old new h below full room = h.0
 ended_as (world.Differs spot at kept read) completed old new h below full room = tt
 ended_as (world.InUse spot) completed old new h below full room = absurd h
 ended_as (world.Bad spot at) completed old new h below full room = absurd h
-ended_as (world.Full spot) completed old new h below full room = room full
+ended_as (world.Full spot) completed old new h below full room = room spot full
 ended_as world.Count completed old new h below full room = absurd (below refl)
 ended_as (world.Old spot) completed old new h below full room = absurd h
 ended_as world.Memory completed old new h below full room = tt
 
-pub ends : (fault given : WorldFault) (completed : Federation) (old new : HomeView) → given ≡ fault → HasEndedAs fault old new → (fault ≡ world.Count → ⊥) → IsFullIn completed fault → ¬ (HasOverlong completed) → IsFaultOf given old.faults new.faults
+pub ends : (fault given : WorldFault) (completed : Federation) (old new : HomeView) → given ≡ fault → HasEndedAs fault old new → (fault ≡ world.Count → ⊥) → IsFullIn completed fault → ((spot : Spot) → HasOverlong completed spot → ⊥) → IsFaultOf given old.faults new.faults
 ends fault given completed old new is h below full room = subst (λ f. IsFaultOf f old.faults new.faults) (sym is) (ended_as fault completed old new h below full room)
 
 -- and so does settling, where no fault of it is that a file is full

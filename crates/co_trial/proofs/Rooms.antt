@@ -82,9 +82,9 @@ not_overlong : (records : List Record) (bytes generation : ℕ) → log_bytes re
 not_overlong records bytes generation b g few low (inl long) = omega (arith, b, few, long)
 not_overlong records bytes generation b g few low (inr last) = omega (arith, g, low, last)
 
-none_overlong : (bytes generation : ℕ) (s : Federation) → AreWithin bytes generation s → bytes ≤ 268435456 → generation < 4294967295 → HasOverlong s → ⊥
-none_overlong bytes generation s w few low (OverlongMember m from to long) = not_overlong (s.member m).log.stable bytes generation (w.member_bytes m) (w.member_generations m) few low long
-none_overlong bytes generation s w few low (OverlongCoord c from to long) = not_overlong (s.coord c).log.stable bytes generation (w.coord_bytes c) (w.coord_generations c) few low long
+none_overlong : (bytes generation : ℕ) (s : Federation) → AreWithin bytes generation s → bytes ≤ 268435456 → generation < 4294967295 → (spot : Spot) → HasOverlong s spot → ⊥
+none_overlong bytes generation s w few low spot (OverlongMember m from to long own) = not_overlong (s.member m).log.stable bytes generation (w.member_bytes m) (w.member_generations m) few low long
+none_overlong bytes generation s w few low spot (OverlongCoord c from to long own) = not_overlong (s.coord c).log.stable bytes generation (w.coord_bytes c) (w.coord_generations c) few low long
 
 module _ (o : Opened) where
   -- behind few short happenings one more event has room
@@ -104,7 +104,7 @@ module _ (o : Opened) where
   never_full : (hs : List Happening) (es : List Event) (file : Spot → Option File) (spot : Spot) → AreBrief hs → AreSettlingEvents es → length hs + length es ≤ 3100000 →
       IsCutIn es (run hs (start_of o)) file (world.Full spot) → ⊥
   never_full hs [] file spot brief all few cut = let z : world.Full spot ≡ world.Memory = cut.1 in cc
-  never_full hs (e ∷ es) file spot brief all few (inl left) = next_has_room hs e brief (settling_short e all.0) (omega (arith, few)) left.1
+  never_full hs (e ∷ es) file spot brief all few (inl left) = next_has_room hs e brief (settling_short e all.0) (omega (arith, few)) spot left.1
   never_full hs (e ∷ es) file spot brief all few (inr later) =
       never_full (hs ++ Line e ∷ []) es file spot (both_brief hs (Line e ∷ []) brief (settling_short e all.0, tt)) all.1 (omega (arith, few, length_push hs (Line e)))
       (subst (λ s. IsCutIn es s file (world.Full spot)) (sym (run_more hs (Line e ∷ []) (start_of o))) later)

@@ -6,6 +6,7 @@ use Rattle.co_base.specs.declared.head.Kind.{Kind}
 use Rattle.co_law_settle.specs.SettlingTurns.{Settles}
 use Rattle.co_message.specs.declared.event.Event.{Event}
 use Rattle.co_message.specs.declared.item.ItemKind.TheVariants as item
+use Rattle.co_outside.specs.declared.spot.Spot.{Spot}
 use Rattle.co_plain.specs.Federation.{Federation}
 use Rattle.co_plain.specs.Runs.{numbered, transcript}
 use Rattle.co_plain.specs.Step.{step_line, disarmed}
@@ -23,7 +24,7 @@ use Rattle.co_trial.specs.declared.tally.Told.{Told}
 
 -- Behind the event no log is too long, and each has a next generation, where each log write of it completes.
 abbrev pub HasRoom : Federation → Event → Type 0
-HasRoom s event = ¬ (HasOverlong (step_line (disarmed s) event).state)
+HasRoom s event = (spot : Spot) → HasOverlong (step_line (disarmed s) event).state spot → ⊥
 
 -- one event was done and told, and what it decided was run
 pub record HasPlayed {E : Type 0} (takes : Kind → Type 0) (stands_for : E → EngineState → Type 0) (s : Federation) (number : ℕ) (event : Event) (before after : Told) (old new : Decisions) (w : World E) : Type 0 where

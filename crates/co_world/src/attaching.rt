@@ -9,6 +9,7 @@ ghost use Rattle.co_outside.specs.declared.spot.Spot.{Spot};
 ghost use Rattle.co_outside.specs.Home.{HasFailed, IsClean};
 ghost use Rattle.co_durable.specs.Told.{AreTold};
 ghost use Rattle.co_opening.specs.Opened.{IsUnopened, IsOfFound, IsExact};
+ghost use Rattle.co_opening.specs.Rest.{OnlyOpens};
 ghost use Rattle.co_world.specs.Attached.{IsAttachedOver};
 ghost use Rattle.co_world.specs.Standing.{AreHeld};
 
@@ -69,7 +70,7 @@ impl<E: Engine + Drop> World<E> {
         ensures refused { IfErr result (IsUnopened (H.seen home.old).file head.now resume) }
         ensures exact { AreTold (H.seen home.old).file (length head.now.kinds) head.now.coords → IsExact (H.seen home.old).file head.now resume result }
         ensures untouched { IfErr result (λ fault. IsOfFound fault → (s : Spot) → (H.seen home.new).file s ≡ (H.seen home.old).file s) }
-        ensures entered { (H.seen home.new).entered ≡ (H.seen home.old).entered }
+        ensures opens { OnlyOpens (length head.now.kinds) head.now.coords (H.seen home.old) (H.seen home.new) }
         ensures device { (spot : Spot) → IsErrOf result (WorldFault.Device spot) → HasFailed spot (H.seen home.old) (H.seen home.new) }
         ensures quiet { ((spot : Spot) → IsErrOf result (WorldFault.Device spot) → ⊥) → (H.seen home.new).faults ≡ (H.seen home.old).faults }
     {

@@ -22,6 +22,7 @@ ghost use Rattle.co_world.specs.Counting.{IsOneMore};
 ghost use Rattle.co_world.specs.Standing.{RepresentsWorld, AreHeld};
 ghost use Rattle.co_cluster.specs.Served.{IsOfNoFile};
 ghost use Rattle.co_world.specs.Answered.{AnswersEvent};
+ghost use Rattle.co_opening.specs.Rest.{OnlyOwnFilesChange};
 
 use crate::world::World;
 use co_base::{Node, Op, Parts, Reply, Rows, Txn, copy_rows};
@@ -132,7 +133,7 @@ impl<E: Engine + Drop> World<E> {
         ensures count { IsErrOf result WorldFault.Count ↔ IsOneMore self.old.sessions t }
         ensures answered { (s : Federation) → RepresentsWorld E.takes E.stands_for self.old s →
             AnswersEvent E.takes E.stands_for number (λ z. step_line z (event.Begin t coord)) s self.new (H.seen home.old) (H.seen home.new) result }
-        ensures entered { (H.seen home.new).entered ≡ (H.seen home.old).entered }
+        ensures rest { OnlyOwnFilesChange (length self.old.cluster.members.items) (length self.old.cluster.coords.items) (H.seen home.old) (H.seen home.new) }
     {
         if self.used(t)? {
             return self.answers(number, Answer::Used);
@@ -264,7 +265,7 @@ impl<E: Engine + Drop> World<E> {
         ensures count { IsErrOf result WorldFault.Count → ⊥ }
         ensures answered { (s : Federation) → RepresentsWorld E.takes E.stands_for self.old s → IsReady s →
             AnswersEvent E.takes E.stands_for number (λ z. ended z t ending) s self.new (H.seen home.old) (H.seen home.new) result }
-        ensures entered { (H.seen home.new).entered ≡ (H.seen home.old).entered }
+        ensures rest { OnlyOwnFilesChange (length self.old.cluster.members.items) (length self.old.cluster.coords.items) (H.seen home.old) (H.seen home.new) }
     {
         match self.sessions.may_act(t, None) {
             Ok(Node::Coord(coord)) => self.end_at_coord(home, number, t, coord, ending),
@@ -288,7 +289,7 @@ impl<E: Engine + Drop> World<E> {
         ensures count { IsErrOf result WorldFault.Count → ⊥ }
         ensures answered { (s : Federation) → RepresentsWorld E.takes E.stands_for self.old s → (session : Session) → look s.sessions t ≡ Some session →
             AnswersEvent E.takes E.stands_for number (λ z. coord_answers z t session coord (z.coord coord).up (coord_does coord (coord_call ending t (parts_of session.told)) (z.coord coord))) s self.new (H.seen home.old) (H.seen home.new) result }
-        ensures entered { (H.seen home.new).entered ≡ (H.seen home.old).entered }
+        ensures rest { OnlyOwnFilesChange (length self.old.cluster.members.items) (length self.old.cluster.coords.items) (H.seen home.old) (H.seen home.new) }
     {
         if !self.coord_up(coord) {
             return self.answers(number, Answer::Down(Node::Coord(coord)));
@@ -314,7 +315,7 @@ impl<E: Engine + Drop> World<E> {
         ensures count { IsErrOf result WorldFault.Count → ⊥ }
         ensures answered { (s : Federation) → RepresentsWorld E.takes E.stands_for self.old s → (session : Session) → look s.sessions t ≡ Some session →
             AnswersEvent E.takes E.stands_for number (λ z. local_answers z t session member (z.member member).up (member_does member (member_call ending t (count_at session.told member)) (z.member member))) s self.new (H.seen home.old) (H.seen home.new) result }
-        ensures entered { (H.seen home.new).entered ≡ (H.seen home.old).entered }
+        ensures rest { OnlyOwnFilesChange (length self.old.cluster.members.items) (length self.old.cluster.coords.items) (H.seen home.old) (H.seen home.new) }
     {
         if !self.member_up(member) {
             return self.answers(number, Answer::Down(Node::Member(member)));

@@ -7,6 +7,7 @@ ghost use Rattle.co_plain.specs.Step.{member_step, coord_step};
 ghost use Rattle.co_cluster.specs.Calls.{member_does, coord_does, MemberMay, CoordMay};
 ghost use Rattle.co_world.specs.Standing.{RepresentsWorld, AreHeld};
 ghost use Rattle.co_world.specs.Answered.{AnswersEvent};
+ghost use Rattle.co_opening.specs.Rest.{OnlyOwnFilesChange};
 
 use crate::world::World;
 use co_base::Node;
@@ -85,7 +86,7 @@ impl<E: Engine + Drop> World<E> {
         ensures count { IsErrOf result WorldFault.Count → ⊥ }
         ensures answered { (s : Federation) → RepresentsWorld E.takes E.stands_for self.old s →
             AnswersEvent E.takes E.stands_for number (λ z. member_step z member (member_does member call)) s self.new (H.seen home.old) (H.seen home.new) result }
-        ensures entered { (H.seen home.new).entered ≡ (H.seen home.old).entered }
+        ensures rest { OnlyOwnFilesChange (length self.old.cluster.members.items) (length self.old.cluster.coords.items) (H.seen home.old) (H.seen home.new) }
     {
         if !self.member_up(member) {
             return self.answers(number, Answer::Down(Node::Member(member)));
@@ -108,7 +109,7 @@ impl<E: Engine + Drop> World<E> {
         ensures count { IsErrOf result WorldFault.Count → ⊥ }
         ensures answered { (s : Federation) → RepresentsWorld E.takes E.stands_for self.old s →
             AnswersEvent E.takes E.stands_for number (λ z. coord_step z coord (coord_does coord call)) s self.new (H.seen home.old) (H.seen home.new) result }
-        ensures entered { (H.seen home.new).entered ≡ (H.seen home.old).entered }
+        ensures rest { OnlyOwnFilesChange (length self.old.cluster.members.items) (length self.old.cluster.coords.items) (H.seen home.old) (H.seen home.new) }
     {
         if !self.coord_up(coord) {
             return self.answers(number, Answer::Down(Node::Coord(coord)));

@@ -11,6 +11,7 @@ ghost use Rattle.co_cluster.specs.Conditions.{IsReady};
 ghost use Rattle.co_world.specs.Counting.{MeetsLimit, MeetsPlainLimit};
 ghost use Rattle.co_world.specs.Standing.{RepresentsWorld, AreHeld};
 ghost use Rattle.co_world.specs.Answered.{AnswersEvent};
+ghost use Rattle.co_opening.specs.Rest.{OnlyOwnFilesChange};
 
 use crate::clients::Ending;
 use crate::world::World;
@@ -114,7 +115,7 @@ impl<E: Engine + Drop> World<E> {
         ensures count { IsErrOf result WorldFault.Count → ⊥ }
         ensures answered { (s : Federation) → RepresentsWorld E.takes E.stands_for self.old s → IsReady s →
             AnswersEvent E.takes E.stands_for number (λ z. deliver z message) s self.new (H.seen home.old) (H.seen home.new) result }
-        ensures entered { (H.seen home.new).entered ≡ (H.seen home.old).entered }
+        ensures rest { OnlyOwnFilesChange (length self.old.cluster.members.items) (length self.old.cluster.coords.items) (H.seen home.old) (H.seen home.new) }
     {
         match self.wire.get(&message) {
             Ok(()) => match receiver(&message) {
@@ -143,7 +144,7 @@ impl<E: Engine + Drop> World<E> {
         ensures count { IsErrOf result WorldFault.Count → ⊥ }
         ensures answered { (s : Federation) → RepresentsWorld E.takes E.stands_for self.old s →
             AnswersEvent E.takes E.stands_for number (λ z. timer_at z t node) s self.new (H.seen home.old) (H.seen home.new) result }
-        ensures entered { (H.seen home.new).entered ≡ (H.seen home.old).entered }
+        ensures rest { OnlyOwnFilesChange (length self.old.cluster.members.items) (length self.old.cluster.coords.items) (H.seen home.old) (H.seen home.new) }
     {
         match node {
             Node::Member(member) => self.at_member(home, number, member, MemberCall::Timer(t)),
@@ -159,7 +160,7 @@ impl<E: Engine + Drop> World<E> {
         ensures count { IsErrOf result WorldFault.Count → ⊥ }
         ensures answered { (s : Federation) → RepresentsWorld E.takes E.stands_for self.old s →
             AnswersEvent E.takes E.stands_for number (λ z. crash_at z node) s self.new (H.seen home.old) (H.seen home.new) result }
-        ensures entered { (H.seen home.new).entered ≡ (H.seen home.old).entered }
+        ensures rest { OnlyOwnFilesChange (length self.old.cluster.members.items) (length self.old.cluster.coords.items) (H.seen home.old) (H.seen home.new) }
     {
         match node {
             Node::Member(member) => self.at_member(home, number, member, MemberCall::Crash),
@@ -180,7 +181,7 @@ impl<E: Engine + Drop> World<E> {
         ensures count { IsErrOf result WorldFault.Count → ⊥ }
         ensures answered { (s : Federation) → RepresentsWorld E.takes E.stands_for self.old s →
             AnswersEvent E.takes E.stands_for number (λ z. restart_at z node) s self.new (H.seen home.old) (H.seen home.new) result }
-        ensures entered { (H.seen home.new).entered ≡ (H.seen home.old).entered }
+        ensures rest { OnlyOwnFilesChange (length self.old.cluster.members.items) (length self.old.cluster.coords.items) (H.seen home.old) (H.seen home.new) }
     {
         match node {
             Node::Member(member) => {
@@ -210,7 +211,7 @@ impl<E: Engine + Drop> World<E> {
         ensures count { IsErrOf result WorldFault.Count → ⊥ }
         ensures answered { (s : Federation) → RepresentsWorld E.takes E.stands_for self.old s →
             AnswersEvent E.takes E.stands_for number (λ z. arm_at z call leaves.now node) s self.new (H.seen home.old) (H.seen home.new) result }
-        ensures entered { (H.seen home.new).entered ≡ (H.seen home.old).entered }
+        ensures rest { OnlyOwnFilesChange (length self.old.cluster.members.items) (length self.old.cluster.coords.items) (H.seen home.old) (H.seen home.new) }
     {
         let leaves = copy_leaves(self.alloc, leaves)?;
         match node {
@@ -236,7 +237,7 @@ impl<E: Engine + Drop> World<E> {
         ensures count { IsErrOf result WorldFault.Count → ⊥ }
         ensures answered { (s : Federation) → RepresentsWorld E.takes E.stands_for self.old s →
             AnswersEvent E.takes E.stands_for number (λ z. checkpoint_at z node) s self.new (H.seen home.old) (H.seen home.new) result }
-        ensures entered { (H.seen home.new).entered ≡ (H.seen home.old).entered }
+        ensures rest { OnlyOwnFilesChange (length self.old.cluster.members.items) (length self.old.cluster.coords.items) (H.seen home.old) (H.seen home.new) }
     {
         match node {
             Node::Member(member) => self.at_member(home, number, member, MemberCall::Checkpoint),
@@ -263,7 +264,7 @@ impl<E: Engine + Drop> World<E> {
         ensures limit { (s : Federation) → RepresentsWorld E.takes E.stands_for self.old s → IsErrOf result WorldFault.Count ↔ MeetsPlainLimit s event.now }
         ensures answered { (s : Federation) → RepresentsWorld E.takes E.stands_for self.old s → IsReady s →
             AnswersEvent E.takes E.stands_for number (λ z. step_line z event.now) s self.new (H.seen home.old) (H.seen home.new) result }
-        ensures entered { (H.seen home.new).entered ≡ (H.seen home.old).entered }
+        ensures rest { OnlyOwnFilesChange (length self.old.cluster.members.items) (length self.old.cluster.coords.items) (H.seen home.old) (H.seen home.new) }
     {
         match event {
             Event::Begin { txn, coord } => self.begin(home, number, *txn, *coord),

@@ -10,6 +10,7 @@ ghost use Rattle.co_cluster.specs.Left.{AreLeftWith, member_disarmed, coord_disa
 ghost use Rattle.co_cluster.specs.Served.{HasEndedAs};
 ghost use Rattle.co_cluster.specs.Telling.{IsTold, IsToldBy};
 ghost use Rattle.co_world.specs.Standing.{RepresentsWorld, AreHeld, AreServed};
+ghost use Rattle.co_opening.specs.Rest.{OnlyOwnFilesChange};
 
 use crate::telling::items_of;
 use co_base::Mark;
@@ -86,7 +87,7 @@ impl<E: Engine + Drop> World<E> {
             IfErr result (AreLeftWith (H.seen home.new).file s (with_member (disarmed s) member (member_does member call (member_disarmed (s.member member))).state)) }
         ensures served { OnOk result (AreServed self.new (H.seen home.old) (H.seen home.new)) }
         ensures ended { IfErr result (λ fault. HasEndedAs fault (H.seen home.old) (H.seen home.new)) }
-        ensures entered { (H.seen home.new).entered ≡ (H.seen home.old).entered }
+        ensures rest { OnlyOwnFilesChange (length self.old.cluster.members.items) (length self.old.cluster.coords.items) (H.seen home.old) (H.seen home.new) }
     {
         self.cluster.member_does(home, member, call)
     }
@@ -110,7 +111,7 @@ impl<E: Engine + Drop> World<E> {
             IfErr result (AreLeftWith (H.seen home.new).file s (with_coord (disarmed s) coord (coord_does coord call (coord_disarmed (s.coord coord))).state)) }
         ensures served { OnOk result (AreServed self.new (H.seen home.old) (H.seen home.new)) }
         ensures ended { IfErr result (λ fault. HasEndedAs fault (H.seen home.old) (H.seen home.new)) }
-        ensures entered { (H.seen home.new).entered ≡ (H.seen home.old).entered }
+        ensures rest { OnlyOwnFilesChange (length self.old.cluster.members.items) (length self.old.cluster.coords.items) (H.seen home.old) (H.seen home.new) }
     {
         self.cluster.coord_does(home, coord, call)
     }

@@ -11,7 +11,7 @@ use Rattle.co_state.specs.Table.{look}
 use Rattle.co_plain.specs.Coordinator.{coord_commit, coord_deliver}
 use Rattle.co_cluster.specs.Calls.{coord_does, CoordMay}
 use Rattle.co_cluster.specs.Left.{IsLeftBy, coord_disarmed}
-use Rattle.co_cluster.proofs.Leaving.{kept_left, never_left, plan_left, restart_left, still_left}
+use Rattle.co_cluster.proofs.Leaving.{kept_left, never_left, own_spots, plan_left, restart_left, still_left}
 use Rattle.co_cluster.proofs.CoordLeaving.{checkpoint_left, commit_stable, coord_read, deliver_stable}
 use Rattle.co_cluster.specs.declared.calls.CoordCall.{CoordCall}
 use Rattle.co_cluster.proofs.Serving.{IsLeft, coord_checkpoint_ended, coord_checkpoint_served, coord_restarted, coord_unrestarted, plan_ended, plan_served}
@@ -156,7 +156,7 @@ returns-in-Checkpoint-clause-left g c = λ y r.
     let m = c.args.coord.now in
     let n = node.Coord m.number in
     subst (λ (k : CoordCall). IfErr c.checkpoint.result (IsLeftBy (g.H.Home.seen c.checkpoint.new.home).file n y.log.stable (coord_does m.number k (coord_disarmed y)).state.log.stable)) (sym c.in-Checkpoint.is)
-    (checkpoint_left m.number y m.log c.checkpoint.new.self.log (g.H.Home.seen c.args.home.now) (g.H.Home.seen c.checkpoint.new.home) c.checkpoint.result (c.checkpoint.ensures.answered y r) (λ that. kept_left n (g.H.Home.seen c.args.home.now) m.log y.log that r.log c.requires.kept))
+    (checkpoint_left m.number y m.log c.checkpoint.new.self.log (g.H.Home.seen c.args.home.now) (g.H.Home.seen c.checkpoint.new.home) c.checkpoint.result (own_spots n m.log r.log.owned c.requires.kept.held.spots).1 (c.checkpoint.ensures.answered y r) (λ that. kept_left n (g.H.Home.seen c.args.home.now) m.log y.log that r.log c.requires.kept))
 
 pub returns-in-Crash-clause-left : goal.returns-in-Crash-clause-left
 returns-in-Crash-clause-left g c = λ y r.

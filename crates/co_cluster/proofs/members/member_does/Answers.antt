@@ -10,7 +10,7 @@ use Rattle.co_plain.specs.LocalCommit.{member_local_commit}
 use Rattle.co_plain.specs.Member.{member_deliver, member_vote}
 use Rattle.co_cluster.specs.Calls.{member_does, MemberMay}
 use Rattle.co_cluster.specs.Left.{IsLeftBy, member_disarmed}
-use Rattle.co_cluster.proofs.Leaving.{checkpoint_left, deliver_stable, kept_left, local_commit_stable, member_read, never_left, plan_left, restart_left, still_left, vote_stable}
+use Rattle.co_cluster.proofs.Leaving.{checkpoint_left, deliver_stable, kept_left, local_commit_stable, member_read, never_left, own_spots, plan_left, restart_left, still_left, vote_stable}
 use Rattle.co_cluster.specs.declared.calls.MemberCall.{MemberCall}
 use Rattle.co_cluster.proofs.Serving.{IsLeft, checkpoint_ended, checkpoint_served, member_restarted, member_unrestarted, plan_ended, plan_served}
 use Rattle.co_cluster.proofs.members.member_does.Goals as goal
@@ -181,7 +181,7 @@ returns-in-Checkpoint-clause-left g c = λ x r.
     let m = c.args.member.now in
     let n = node.Member m.number in
     subst (λ (k : MemberCall). IfErr c.checkpoint.result (IsLeftBy (g.H.Home.seen c.checkpoint.new.home).file n x.log.stable (member_does m.number k (member_disarmed x)).state.log.stable)) (sym c.in-Checkpoint.is)
-    (checkpoint_left m.number x m.log c.checkpoint.new.self.log (g.H.Home.seen c.args.home.now) (g.H.Home.seen c.checkpoint.new.home) c.checkpoint.result (c.checkpoint.ensures.answered x r) (λ that. kept_left n (g.H.Home.seen c.args.home.now) m.log x.log that r.log c.requires.kept))
+    (checkpoint_left m.number x m.log c.checkpoint.new.self.log (g.H.Home.seen c.args.home.now) (g.H.Home.seen c.checkpoint.new.home) c.checkpoint.result (own_spots n m.log r.log.owned c.requires.kept.held.spots).1 (c.checkpoint.ensures.answered x r) (λ that. kept_left n (g.H.Home.seen c.args.home.now) m.log x.log that r.log c.requires.kept))
 
 pub returns-in-Crash-clause-left : goal.returns-in-Crash-clause-left
 returns-in-Crash-clause-left g c = λ x r.

@@ -4,6 +4,7 @@ use Rattle.co_base.specs.declared.mark.Mark.{Mark}
 use Rattle.co_base.specs.declared.node.Node.{Node}
 use Rattle.co_record.specs.Format.{newest}
 use Rattle.co_log.proofs.Answered.{fill_parts}
+use Rattle.co_log.proofs.Spots.{spare_only}
 use Rattle.co_log.specs.LogFile.{placed_from}
 use Rattle.co_log.specs.Spare.{IsOverfull, filling}
 use Rattle.co_node.specs.Answers.{IsAnswered}
@@ -70,3 +71,6 @@ returns-in-Err-clause-answered g c = λ owner l s.
     } in
     subst (λ (n : Node). IsAnswered n log.spare.spot (IsOverfull log items) l.stable that after old new c.stopped.result) s.owned
     (fault_answered log after log.spare.spot (IsOverfull log items) l.stable that old new _ c.in-Err.fault c.stopped.result wrote c.stopped.ensures)
+
+pub returns-in-Err-clause-rest : goal.returns-in-Err-clause-rest
+returns-in-Err-clause-rest g c = spare_only c.args.log.now c.requires.held.spots (g.H.Home.seen c.args.home.now) (g.H.Home.seen c.fill_spare.new.home) c.in-Err.ensures.called.rest

@@ -2,9 +2,9 @@ use Rattle.std.proofs.Common.{subst}
 use Rattle.std.specs.Prelude.{suc}
 use Rattle.co_base.specs.declared.node.Node.{Node}
 use Rattle.co_base.specs.declared.node.Node.TheVariants.{Coord}
-use Rattle.co_log.specs.Others.{OtherNodesStay}
 use Rattle.co_durable.specs.declared.fault.WorldFault.TheVariants.{Device, Memory}
 use Rattle.co_opening.specs.Judged.{IsOfMaking}
+use Rattle.co_opening.specs.Rest.{OnlyOneIsMade}
 use Rattle.co_opening.proofs.Handed.{handed, handed_back, handed_in, no_value, not_err, no_device}
 use Rattle.co_opening.proofs.Placed.{coord_at}
 use Rattle.co_opening.proofs.Stays.{own_log, own_again}
@@ -40,7 +40,7 @@ returns-in_err-make_fresh-clause-clean g c = no_value _ c.from_residual.result c
 
 pub returns-in_err-make_fresh-clause-rest : goal.returns-in_err-make_fresh-clause-rest
 returns-in_err-make_fresh-clause-rest g c =
-    subst (λ (n : Node). OtherNodesStay n (g.H.Home.seen c.args.home.now) (g.H.Home.seen c.make_fresh.new.home)) c.requires.kept.owned c.make_fresh.ensures.rest
+    subst (λ (n : Node). OnlyOneIsMade n (g.H.Home.seen c.args.home.now) (g.H.Home.seen c.make_fresh.new.home)) c.requires.kept.owned c.make_fresh.ensures.rest
 
 pub returns-in_err-make_fresh-clause-fault : goal.returns-in_err-make_fresh-clause-fault
 returns-in_err-make_fresh-clause-fault g c =
@@ -70,7 +70,7 @@ returns-in_err-attach-clause-clean g c = no_value _ c.from_residual-in_err-attac
 
 pub returns-in_err-attach-clause-rest : goal.returns-in_err-attach-clause-rest
 returns-in_err-attach-clause-rest g c =
-    subst (λ (n : Node). OtherNodesStay n (g.H.Home.seen c.args.home.now) (g.H.Home.seen c.make_fresh.new.home)) c.requires.kept.owned c.make_fresh.ensures.rest
+    subst (λ (n : Node). OnlyOneIsMade n (g.H.Home.seen c.args.home.now) (g.H.Home.seen c.make_fresh.new.home)) c.requires.kept.owned c.make_fresh.ensures.rest
 
 pub returns-in_err-attach-clause-fault : goal.returns-in_err-attach-clause-fault
 returns-in_err-attach-clause-fault g c = handed_in IsOfMaking c.from_residual-in_err-attach.result Memory c.from_residual-in_err-attach.ensures.1 tt
@@ -92,7 +92,7 @@ returns-clause-clean g c = c.in_ok-make_fresh.ensures.clean
 
 pub returns-clause-rest : goal.returns-clause-rest
 returns-clause-rest g c =
-    subst (λ (n : Node). OtherNodesStay n (g.H.Home.seen c.args.home.now) (g.H.Home.seen c.make_fresh.new.home)) c.requires.kept.owned c.make_fresh.ensures.rest
+    subst (λ (n : Node). OnlyOneIsMade n (g.H.Home.seen c.args.home.now) (g.H.Home.seen c.make_fresh.new.home)) c.requires.kept.owned c.make_fresh.ensures.rest
 
 pub returns-clause-device : goal.returns-clause-device
 returns-clause-device g c = λ spot is. absurd (not_err c.in_ok-attach.field-0 (Device spot) is)

@@ -14,6 +14,7 @@ use Rattle.co_opening.specs.declared.sort.Sort.TheVariants.{Coords}
 use Rattle.co_opening.proofs.From.{one_longer, both_next, both_left}
 use Rattle.co_opening.proofs.Handed.{handed, handed_back, handed_in, no_value, not_err, no_device}
 use Rattle.co_opening.proofs.Sorts.{number_valid, apart_sorts}
+use Rattle.co_opening.proofs.Rests.{opens_none, coord_opened}
 use Rattle.co_opening.proofs.Stays.{stays_still}
 use Rattle.co_opening.proofs.Turns.{leaves, left_first, one_less, all_done, place_below, both_on, all_on, marks_on, to_keep_on, kept_on}
 use Rattle.co_opening.proofs.coords.open_coords.Goals as goal
@@ -36,7 +37,7 @@ loop-log-init g c =
       kept = subst (AreOwnCoords home) (sym none) tt;
       clean = λ s was. was;
       others = λ k own. stays_still (Member k) home;
-      entered = refl;
+      opens = opens_none _ _ home;
       quiet = refl;
     }
 
@@ -53,12 +54,12 @@ open_coord-requires-clause-few g c =
 pub returns-in_err-coord-clause-others : goal.returns-in_err-coord-clause-others
 returns-in_err-coord-clause-others g c = λ k own.
     leaves (Coord (suc c.loop-log.place)) (Member k) (g.H.Home.seen c.args.home.now) (g.H.Home.seen c.loop-log.home) (g.H.Home.seen c.open_coord.new.home)
-    (number_valid Coords c.loop-log.place (place_below c.loop-log.place (length c.args.logs.items) 8 c.loop-log.log-iterator.rest.items c.next.new.self.rest.items c.in-Some.log c.in-Some.ensures.steps.0 c.loop-log.invariant.left c.requires.few)) own (λ e. apart_sorts k (suc c.loop-log.place) e) (c.loop-log.invariant.others k own) c.open_coord.ensures.rest.others
+    (number_valid Coords c.loop-log.place (place_below c.loop-log.place (length c.args.logs.items) 8 c.loop-log.log-iterator.rest.items c.next.new.self.rest.items c.in-Some.log c.in-Some.ensures.steps.0 c.loop-log.invariant.left c.requires.few)) own (λ e. apart_sorts k (suc c.loop-log.place) e) (c.loop-log.invariant.others k own) c.open_coord.ensures.rest.stay.others
 
 pub returns-in_err-push-clause-others : goal.returns-in_err-push-clause-others
 returns-in_err-push-clause-others g c = λ k own.
     leaves (Coord (suc c.loop-log.place)) (Member k) (g.H.Home.seen c.args.home.now) (g.H.Home.seen c.loop-log.home) (g.H.Home.seen c.open_coord.new.home)
-    (number_valid Coords c.loop-log.place (place_below c.loop-log.place (length c.args.logs.items) 8 c.loop-log.log-iterator.rest.items c.next.new.self.rest.items c.in-Some.log c.in-Some.ensures.steps.0 c.loop-log.invariant.left c.requires.few)) own (λ e. apart_sorts k (suc c.loop-log.place) e) (c.loop-log.invariant.others k own) c.open_coord.ensures.rest.others
+    (number_valid Coords c.loop-log.place (place_below c.loop-log.place (length c.args.logs.items) 8 c.loop-log.log-iterator.rest.items c.next.new.self.rest.items c.in-Some.log c.in-Some.ensures.steps.0 c.loop-log.invariant.left c.requires.few)) own (λ e. apart_sorts k (suc c.loop-log.place) e) (c.loop-log.invariant.others k own) c.open_coord.ensures.rest.stay.others
 
 pub open_coord-requires-clause-found : goal.open_coord-requires-clause-found
 open_coord-requires-clause-found g c =
@@ -79,15 +80,15 @@ loop-log-preserved g c =
       marked = λ found f.
           marks_on (λ n. coord_headers n found) (header_mark (Coord (suc c.loop-log.place)) (found (suc c.loop-log.place)).records) c.args.marks.now c.loop-log.marks c.open_coord.new.marks c.loop-log.place refl
           (c.in_ok-coord.ensures.marks (found (suc c.loop-log.place)) (both_next (λ q l t. IsCoordFound c.args.members (suc q) l t (found (suc q))) c.loop-log.place c.loop-log.log-iterator.rest.items c.next.new.self.rest.items c.loop-log.pasts.rest.items c.next-in-loop-log.new.self.rest.items c.in-Some.log c.in-Some-next.past c.in-Some.ensures.steps.0 c.in-Some-next.ensures.items (c.loop-log.invariant.found found f)).0) (c.loop-log.invariant.marked found f);
-      to_keep = to_keep_on Coords c.loop-log.place few (g.H.Home.seen c.loop-log.home) (g.H.Home.seen c.open_coord.new.home) c.open_coord.ensures.rest.others c.loop-log.log-iterator.rest.items c.next.new.self.rest.items c.in-Some.log c.in-Some.ensures.steps.0
+      to_keep = to_keep_on Coords c.loop-log.place few (g.H.Home.seen c.loop-log.home) (g.H.Home.seen c.open_coord.new.home) c.open_coord.ensures.rest.stay.others c.loop-log.log-iterator.rest.items c.next.new.self.rest.items c.in-Some.log c.in-Some.ensures.steps.0
           (let many : c.loop-log.place + length c.loop-log.log-iterator.rest.items ≡ (length c.args.logs.items) = c.loop-log.invariant.left in omega (arith, many, c.requires.few)) i.to_keep;
-      kept = kept_on Coords c.loop-log.place few (g.H.Home.seen c.loop-log.home) (g.H.Home.seen c.open_coord.new.home) c.open_coord.ensures.rest.others (λ x. x.log) c.loop-log.coords.items c.push.new.self.items c.in_ok-coord.coord c.in_ok-push.ensures.items
+      kept = kept_on Coords c.loop-log.place few (g.H.Home.seen c.loop-log.home) (g.H.Home.seen c.open_coord.new.home) c.open_coord.ensures.rest.stay.others (λ x. x.log) c.loop-log.coords.items c.push.new.self.items c.in_ok-coord.coord c.in_ok-push.ensures.items
           c.loop-log.invariant.done i.kept c.in_ok-coord.ensures.kept;
       clean = λ s was. c.in_ok-coord.ensures.clean s (c.loop-log.invariant.clean s was);
       others = λ k own.
           leaves (Coord (suc c.loop-log.place)) (Member k) (g.H.Home.seen c.args.home.now) (g.H.Home.seen c.loop-log.home) (g.H.Home.seen c.open_coord.new.home)
-          (number_valid Coords c.loop-log.place (place_below c.loop-log.place (length c.args.logs.items) 8 c.loop-log.log-iterator.rest.items c.next.new.self.rest.items c.in-Some.log c.in-Some.ensures.steps.0 c.loop-log.invariant.left c.requires.few)) own (λ e. apart_sorts k (suc c.loop-log.place) e) (c.loop-log.invariant.others k own) c.open_coord.ensures.rest.others;
-      entered = c.open_coord.ensures.rest.directory ∙ c.loop-log.invariant.entered;
+          (number_valid Coords c.loop-log.place (place_below c.loop-log.place (length c.args.logs.items) 8 c.loop-log.log-iterator.rest.items c.next.new.self.rest.items c.in-Some.log c.in-Some.ensures.steps.0 c.loop-log.invariant.left c.requires.few)) own (λ e. apart_sorts k (suc c.loop-log.place) e) (c.loop-log.invariant.others k own) c.open_coord.ensures.rest.stay.others;
+      opens = coord_opened c.args.members (length c.args.logs.items) c.loop-log.place (g.H.Home.seen c.args.home.now) (g.H.Home.seen c.loop-log.home) (g.H.Home.seen c.open_coord.new.home) (place_below c.loop-log.place (length c.args.logs.items) (length c.args.logs.items) c.loop-log.log-iterator.rest.items c.next.new.self.rest.items c.in-Some.log c.in-Some.ensures.steps.0 c.loop-log.invariant.left (omega arith)) (place_below c.loop-log.place (length c.args.logs.items) 8 c.loop-log.log-iterator.rest.items c.next.new.self.rest.items c.in-Some.log c.in-Some.ensures.steps.0 c.loop-log.invariant.left c.requires.few) c.loop-log.invariant.opens c.open_coord.ensures.rest;
       quiet = c.in_ok-coord.ensures.quiet (λ spot is. not_err c.in_ok-coord.coord (Device spot) is) ∙ i.quiet;
     }
 
@@ -112,8 +113,8 @@ returns-in_err-coord-clause-kept g c = no_value _ c.from_residual.result c.from_
 pub returns-in_err-coord-clause-clean : goal.returns-in_err-coord-clause-clean
 returns-in_err-coord-clause-clean g c = no_value _ c.from_residual.result c.from_residual.ensures.0
 
-pub returns-in_err-coord-clause-entered : goal.returns-in_err-coord-clause-entered
-returns-in_err-coord-clause-entered g c = c.open_coord.ensures.rest.directory ∙ c.loop-log.invariant.entered
+pub returns-in_err-coord-clause-opens : goal.returns-in_err-coord-clause-opens
+returns-in_err-coord-clause-opens g c = coord_opened c.args.members (length c.args.logs.items) c.loop-log.place (g.H.Home.seen c.args.home.now) (g.H.Home.seen c.loop-log.home) (g.H.Home.seen c.open_coord.new.home) (place_below c.loop-log.place (length c.args.logs.items) (length c.args.logs.items) c.loop-log.log-iterator.rest.items c.next.new.self.rest.items c.in-Some.log c.in-Some.ensures.steps.0 c.loop-log.invariant.left (omega arith)) (place_below c.loop-log.place (length c.args.logs.items) 8 c.loop-log.log-iterator.rest.items c.next.new.self.rest.items c.in-Some.log c.in-Some.ensures.steps.0 c.loop-log.invariant.left c.requires.few) c.loop-log.invariant.opens c.open_coord.ensures.rest
 
 pub returns-in_err-coord-clause-fault : goal.returns-in_err-coord-clause-fault
 returns-in_err-coord-clause-fault g c = handed_in IsOfMaking c.from_residual.result c.in_err-coord.field-0.0 c.from_residual.ensures.1 c.in_err-coord.ensures.fault
@@ -144,8 +145,8 @@ returns-in_err-push-clause-kept g c = no_value _ c.from_residual-in_err-push.res
 pub returns-in_err-push-clause-clean : goal.returns-in_err-push-clause-clean
 returns-in_err-push-clause-clean g c = no_value _ c.from_residual-in_err-push.result c.from_residual-in_err-push.ensures.0
 
-pub returns-in_err-push-clause-entered : goal.returns-in_err-push-clause-entered
-returns-in_err-push-clause-entered g c = c.open_coord.ensures.rest.directory ∙ c.loop-log.invariant.entered
+pub returns-in_err-push-clause-opens : goal.returns-in_err-push-clause-opens
+returns-in_err-push-clause-opens g c = coord_opened c.args.members (length c.args.logs.items) c.loop-log.place (g.H.Home.seen c.args.home.now) (g.H.Home.seen c.loop-log.home) (g.H.Home.seen c.open_coord.new.home) (place_below c.loop-log.place (length c.args.logs.items) (length c.args.logs.items) c.loop-log.log-iterator.rest.items c.next.new.self.rest.items c.in-Some.log c.in-Some.ensures.steps.0 c.loop-log.invariant.left (omega arith)) (place_below c.loop-log.place (length c.args.logs.items) 8 c.loop-log.log-iterator.rest.items c.next.new.self.rest.items c.in-Some.log c.in-Some.ensures.steps.0 c.loop-log.invariant.left c.requires.few) c.loop-log.invariant.opens c.open_coord.ensures.rest
 
 pub returns-in_err-push-clause-fault : goal.returns-in_err-push-clause-fault
 returns-in_err-push-clause-fault g c = handed_in IsOfMaking c.from_residual-in_err-push.result Memory c.from_residual-in_err-push.ensures.1 tt
@@ -177,8 +178,8 @@ returns-clause-clean g c = c.loop-log.invariant.clean
 pub returns-clause-others : goal.returns-clause-others
 returns-clause-others g c = c.loop-log.invariant.others
 
-pub returns-clause-entered : goal.returns-clause-entered
-returns-clause-entered g c = c.loop-log.invariant.entered
+pub returns-clause-opens : goal.returns-clause-opens
+returns-clause-opens g c = c.loop-log.invariant.opens
 
 pub returns-clause-device : goal.returns-clause-device
 returns-clause-device g c = λ spot is. absurd (not_err _ (Device spot) is)

@@ -6,6 +6,7 @@ use Rattle.co_outside.specs.declared.spot.Spot.{Spot}
 use Rattle.co_plain.specs.Opening.{Found, coord_headers}
 use Rattle.co_log.specs.Others.{NodeStays}
 use Rattle.co_opening.specs.Kept.{AreOwnLogs}
+use Rattle.co_opening.specs.Rest.{OnlyOpens}
 use Rattle.co_opening.specs.Running.{AreCoordsAt, AreOwnCoords}
 use Rattle.co_opening.specs.Standing.{AreCoordsFound}
 use Rattle.co_opening.proofs.coords.open_coords.Given as goal
@@ -21,6 +22,6 @@ invariant-loop-log g l = record {
   kept : AreOwnCoords (g.H.Home.seen l.home) l.coords.items;
   clean : (s : Spot) → IsClean (g.H.Home.seen l.initial.home) s → IsClean (g.H.Home.seen l.home) s;
   others : (m : ℕ) → IsValidNode (Member m) → NodeStays (Member m) (g.H.Home.seen l.initial.home) (g.H.Home.seen l.home);
-  entered : (g.H.Home.seen l.home).entered ≡ (g.H.Home.seen l.initial.home).entered;
+  opens : OnlyOpens l.members (length l.fn.logs.items) (g.H.Home.seen l.initial.home) (g.H.Home.seen l.home);
   quiet : (g.H.Home.seen l.home).faults ≡ (g.H.Home.seen l.initial.home).faults;
 }

@@ -1,13 +1,12 @@
 use Rattle.std.proofs.Common.{refl, sym, ◌∙◌}
 use Rattle.std.proofs.lemmas.Bool.{eqb-true, eqb-false}
 use Rattle.std.specs.Prelude.{Err}
-use Rattle.co_log.proofs.Spots.{current_only}
 use Rattle.co_log.specs.declared.fault.LogFault.TheVariants as log
 use Rattle.co_durable.specs.declared.fault.WorldFault.TheVariants.{Device, Memory}
 use Rattle.co_opening.specs.Judged.{IsOfMaking}
 use Rattle.co_opening.proofs.Handed.{handed_in, no_value, not_err, same_device, no_device}
 use Rattle.co_opening.proofs.Made.{still_stands, still_marked, may_make, fresh_stands, made_own, made_clean, making_as, making_failed}
-use Rattle.co_opening.proofs.Stays.{others_still}
+use Rattle.co_opening.proofs.Rests.{none_made, log_made}
 use Rattle.co_opening.proofs.making.make_fresh.Goals as goal
 
 -- ---- the log is not fresh
@@ -25,7 +24,7 @@ pub returns-then-not-fresh-clause-clean : goal.returns-then-not-fresh-clause-cle
 returns-then-not-fresh-clause-clean g c = λ s was. was
 
 pub returns-then-not-fresh-clause-rest : goal.returns-then-not-fresh-clause-rest
-returns-then-not-fresh-clause-rest g c = others_still c.args.log.now.node (g.H.Home.seen c.args.home.now)
+returns-then-not-fresh-clause-rest g c = none_made c.args.log.now.node (g.H.Home.seen c.args.home.now)
 
 pub returns-then-not-fresh-clause-device : goal.returns-then-not-fresh-clause-device
 returns-then-not-fresh-clause-device g c = λ spot is. absurd (not_err _ (Device spot) is)
@@ -54,7 +53,9 @@ returns-in_err-push-in-Ok-clause-clean g c = no_value _ c.from_residual.result c
 
 pub returns-in_err-push-in-Ok-clause-rest : goal.returns-in_err-push-in-Ok-clause-rest
 returns-in_err-push-in-Ok-clause-rest g c =
-    current_only c.args.log.now c.requires.kept.kept.held.spots (g.H.Home.seen c.args.home.now) (g.H.Home.seen c.make.new.home) c.make.ensures.rest
+    let found = c.requires.stands in
+    let may = may_make found.0 c.args.log.now found.1 (g.H.Home.seen c.args.home.now) found.2 c.requires.kept.kept.held (eqb-true c.args.log.now.gate 0 (sym c.fresh.ensures ∙ c.if-not-fresh.false)) in
+    log_made c.args.log.now c.make.new.self (g.H.Home.seen c.args.home.now) (g.H.Home.seen c.make.new.home) c.make.result may.fresh c.requires.kept c.make.ensures
 
 pub returns-in_err-push-in-Ok-clause-fault : goal.returns-in_err-push-in-Ok-clause-fault
 returns-in_err-push-in-Ok-clause-fault g c = handed_in IsOfMaking c.from_residual.result Memory c.from_residual.ensures.1 tt
@@ -80,7 +81,9 @@ returns-in-Ok-clause-clean g c =
 
 pub returns-in-Ok-clause-rest : goal.returns-in-Ok-clause-rest
 returns-in-Ok-clause-rest g c =
-    current_only c.args.log.now c.requires.kept.kept.held.spots (g.H.Home.seen c.args.home.now) (g.H.Home.seen c.make.new.home) c.make.ensures.rest
+    let found = c.requires.stands in
+    let may = may_make found.0 c.args.log.now found.1 (g.H.Home.seen c.args.home.now) found.2 c.requires.kept.kept.held (eqb-true c.args.log.now.gate 0 (sym c.fresh.ensures ∙ c.if-not-fresh.false)) in
+    log_made c.args.log.now c.make.new.self (g.H.Home.seen c.args.home.now) (g.H.Home.seen c.make.new.home) c.make.result may.fresh c.requires.kept c.make.ensures
 
 pub returns-in-Ok-clause-device : goal.returns-in-Ok-clause-device
 returns-in-Ok-clause-device g c = λ spot is. absurd (not_err _ (Device spot) is)
@@ -92,7 +95,9 @@ returns-in-Ok-clause-quiet g c = λ quiet. c.in-Ok.ensures.answered.2.quiet
 
 pub returns-in-Err-Device-clause-rest : goal.returns-in-Err-Device-clause-rest
 returns-in-Err-Device-clause-rest g c =
-    current_only c.args.log.now c.requires.kept.kept.held.spots (g.H.Home.seen c.args.home.now) (g.H.Home.seen c.make.new.home) c.make.ensures.rest
+    let found = c.requires.stands in
+    let may = may_make found.0 c.args.log.now found.1 (g.H.Home.seen c.args.home.now) found.2 c.requires.kept.kept.held (eqb-true c.args.log.now.gate 0 (sym c.fresh.ensures ∙ c.if-not-fresh.false)) in
+    log_made c.args.log.now c.make.new.self (g.H.Home.seen c.args.home.now) (g.H.Home.seen c.make.new.home) c.make.result may.fresh c.requires.kept c.make.ensures
 
 pub returns-in-Err-Device-clause-device : goal.returns-in-Err-Device-clause-device
 returns-in-Err-Device-clause-device g c = λ spot is.
@@ -103,7 +108,9 @@ returns-in-Err-Device-clause-quiet g c = λ quiet. absurd (quiet c.in-Err-Device
 
 pub returns-in-Err-Memory-clause-rest : goal.returns-in-Err-Memory-clause-rest
 returns-in-Err-Memory-clause-rest g c =
-    current_only c.args.log.now c.requires.kept.kept.held.spots (g.H.Home.seen c.args.home.now) (g.H.Home.seen c.make.new.home) c.make.ensures.rest
+    let found = c.requires.stands in
+    let may = may_make found.0 c.args.log.now found.1 (g.H.Home.seen c.args.home.now) found.2 c.requires.kept.kept.held (eqb-true c.args.log.now.gate 0 (sym c.fresh.ensures ∙ c.if-not-fresh.false)) in
+    log_made c.args.log.now c.make.new.self (g.H.Home.seen c.args.home.now) (g.H.Home.seen c.make.new.home) c.make.result may.fresh c.requires.kept c.make.ensures
 
 pub returns-in-Err-Memory-clause-device : goal.returns-in-Err-Memory-clause-device
 returns-in-Err-Memory-clause-device g c = λ spot is. absurd (no_device (Err Memory) spot refl is)

@@ -16,6 +16,7 @@ use Rattle.co_opening.proofs.From.{one_longer, all_get, both_next, both_left}
 use Rattle.co_opening.proofs.Handed.{handed, handed_back, handed_in, no_value, not_err, no_device}
 use Rattle.co_opening.proofs.Made.{kind_at}
 use Rattle.co_opening.proofs.Sorts.{number_valid, sorts_apart}
+use Rattle.co_opening.proofs.Rests.{opens_none, member_opened}
 use Rattle.co_opening.proofs.Stays.{stays_still}
 use Rattle.co_opening.proofs.Turns.{leaves, left_first, one_less, all_done, place_below, both_on, all_on, marks_on, to_keep_on, kept_on}
 use Rattle.co_opening.proofs.members.open_members.Goals as goal
@@ -38,7 +39,7 @@ loop-log-init g c =
       kept = subst (AreOwnMembers home) (sym none) tt;
       clean = λ s was. was;
       others = λ k own. stays_still (Coord k) home;
-      entered = refl;
+      opens = opens_none _ _ home;
       quiet = refl;
     }
 
@@ -79,12 +80,12 @@ returns-in_err-member-clause-quiet g c = λ quiet.
 pub returns-in_err-member-clause-others : goal.returns-in_err-member-clause-others
 returns-in_err-member-clause-others g c = λ k own.
     leaves (Member (suc c.loop-log.place)) (Coord k) (g.H.Home.seen c.args.home.now) (g.H.Home.seen c.loop-log.home) (g.H.Home.seen c.open_member.new.home)
-    (number_valid Members c.loop-log.place (place_below c.loop-log.place (length c.args.kinds.now) 16 c.loop-log.log-iterator.rest.items c.next.new.self.rest.items c.in-Some.log c.in-Some.ensures.steps.0 c.loop-log.invariant.left c.requires.few)) own (λ e. sorts_apart k (suc c.loop-log.place) e) (c.loop-log.invariant.others k own) c.open_member.ensures.rest.others
+    (number_valid Members c.loop-log.place (place_below c.loop-log.place (length c.args.kinds.now) 16 c.loop-log.log-iterator.rest.items c.next.new.self.rest.items c.in-Some.log c.in-Some.ensures.steps.0 c.loop-log.invariant.left c.requires.few)) own (λ e. sorts_apart k (suc c.loop-log.place) e) (c.loop-log.invariant.others k own) c.open_member.ensures.rest.stay.others
 
 pub returns-in_err-push-clause-others : goal.returns-in_err-push-clause-others
 returns-in_err-push-clause-others g c = λ k own.
     leaves (Member (suc c.loop-log.place)) (Coord k) (g.H.Home.seen c.args.home.now) (g.H.Home.seen c.loop-log.home) (g.H.Home.seen c.open_member.new.home)
-    (number_valid Members c.loop-log.place (place_below c.loop-log.place (length c.args.kinds.now) 16 c.loop-log.log-iterator.rest.items c.next.new.self.rest.items c.in-Some.log c.in-Some.ensures.steps.0 c.loop-log.invariant.left c.requires.few)) own (λ e. sorts_apart k (suc c.loop-log.place) e) (c.loop-log.invariant.others k own) c.open_member.ensures.rest.others
+    (number_valid Members c.loop-log.place (place_below c.loop-log.place (length c.args.kinds.now) 16 c.loop-log.log-iterator.rest.items c.next.new.self.rest.items c.in-Some.log c.in-Some.ensures.steps.0 c.loop-log.invariant.left c.requires.few)) own (λ e. sorts_apart k (suc c.loop-log.place) e) (c.loop-log.invariant.others k own) c.open_member.ensures.rest.stay.others
 
 pub loop-log-preserved : goal.loop-log-preserved
 loop-log-preserved g c =
@@ -100,15 +101,15 @@ loop-log-preserved g c =
       marked = λ found f.
           marks_on (λ n. member_headers n found) (header_mark (Member (suc c.loop-log.place)) (found (suc c.loop-log.place)).records) c.args.marks.now c.loop-log.marks c.open_member.new.marks c.loop-log.place refl
           (c.in_ok-member.ensures.marks (found (suc c.loop-log.place)) (both_next (λ q l t. IsMemberFound c.args.coords (suc q) l t (found (suc q))) c.loop-log.place c.loop-log.log-iterator.rest.items c.next.new.self.rest.items c.loop-log.pasts.rest.items c.next-in-loop-log.new.self.rest.items c.in-Some.log c.in-Some-next.past c.in-Some.ensures.steps.0 c.in-Some-next.ensures.items (c.loop-log.invariant.found found f)).0) (c.loop-log.invariant.marked found f);
-      to_keep = to_keep_on Members c.loop-log.place few (g.H.Home.seen c.loop-log.home) (g.H.Home.seen c.open_member.new.home) c.open_member.ensures.rest.others c.loop-log.log-iterator.rest.items c.next.new.self.rest.items c.in-Some.log c.in-Some.ensures.steps.0
+      to_keep = to_keep_on Members c.loop-log.place few (g.H.Home.seen c.loop-log.home) (g.H.Home.seen c.open_member.new.home) c.open_member.ensures.rest.stay.others c.loop-log.log-iterator.rest.items c.next.new.self.rest.items c.in-Some.log c.in-Some.ensures.steps.0
           (let many : c.loop-log.place + length c.loop-log.log-iterator.rest.items ≡ (length c.args.kinds.now) = c.loop-log.invariant.left in omega (arith, many, c.requires.few)) i.to_keep;
-      kept = kept_on Members c.loop-log.place few (g.H.Home.seen c.loop-log.home) (g.H.Home.seen c.open_member.new.home) c.open_member.ensures.rest.others (λ x. x.log) c.loop-log.members.items c.push.new.self.items c.in_ok-member.member c.in_ok-push.ensures.items
+      kept = kept_on Members c.loop-log.place few (g.H.Home.seen c.loop-log.home) (g.H.Home.seen c.open_member.new.home) c.open_member.ensures.rest.stay.others (λ x. x.log) c.loop-log.members.items c.push.new.self.items c.in_ok-member.member c.in_ok-push.ensures.items
           c.loop-log.invariant.done i.kept c.in_ok-member.ensures.kept;
       clean = λ s was. c.in_ok-member.ensures.clean s (c.loop-log.invariant.clean s was);
       others = λ k own.
           leaves (Member (suc c.loop-log.place)) (Coord k) (g.H.Home.seen c.args.home.now) (g.H.Home.seen c.loop-log.home) (g.H.Home.seen c.open_member.new.home)
-          (number_valid Members c.loop-log.place (place_below c.loop-log.place (length c.args.kinds.now) 16 c.loop-log.log-iterator.rest.items c.next.new.self.rest.items c.in-Some.log c.in-Some.ensures.steps.0 c.loop-log.invariant.left c.requires.few)) own (λ e. sorts_apart k (suc c.loop-log.place) e) (c.loop-log.invariant.others k own) c.open_member.ensures.rest.others;
-      entered = c.open_member.ensures.rest.directory ∙ c.loop-log.invariant.entered;
+          (number_valid Members c.loop-log.place (place_below c.loop-log.place (length c.args.kinds.now) 16 c.loop-log.log-iterator.rest.items c.next.new.self.rest.items c.in-Some.log c.in-Some.ensures.steps.0 c.loop-log.invariant.left c.requires.few)) own (λ e. sorts_apart k (suc c.loop-log.place) e) (c.loop-log.invariant.others k own) c.open_member.ensures.rest.stay.others;
+      opens = member_opened (length c.args.kinds.now) c.args.coords c.loop-log.place (g.H.Home.seen c.args.home.now) (g.H.Home.seen c.loop-log.home) (g.H.Home.seen c.open_member.new.home) (place_below c.loop-log.place (length c.args.kinds.now) (length c.args.kinds.now) c.loop-log.log-iterator.rest.items c.next.new.self.rest.items c.in-Some.log c.in-Some.ensures.steps.0 c.loop-log.invariant.left (omega arith)) (place_below c.loop-log.place (length c.args.kinds.now) 16 c.loop-log.log-iterator.rest.items c.next.new.self.rest.items c.in-Some.log c.in-Some.ensures.steps.0 c.loop-log.invariant.left c.requires.few) c.loop-log.invariant.opens c.open_member.ensures.rest;
       quiet = c.in_ok-member.ensures.quiet (λ spot is. not_err c.in_ok-member.member (Device spot) is) ∙ i.quiet;
     }
 
@@ -133,8 +134,8 @@ returns-in_err-member-clause-kept g c = no_value _ c.from_residual.result c.from
 pub returns-in_err-member-clause-clean : goal.returns-in_err-member-clause-clean
 returns-in_err-member-clause-clean g c = no_value _ c.from_residual.result c.from_residual.ensures.0
 
-pub returns-in_err-member-clause-entered : goal.returns-in_err-member-clause-entered
-returns-in_err-member-clause-entered g c = c.open_member.ensures.rest.directory ∙ c.loop-log.invariant.entered
+pub returns-in_err-member-clause-opens : goal.returns-in_err-member-clause-opens
+returns-in_err-member-clause-opens g c = member_opened (length c.args.kinds.now) c.args.coords c.loop-log.place (g.H.Home.seen c.args.home.now) (g.H.Home.seen c.loop-log.home) (g.H.Home.seen c.open_member.new.home) (place_below c.loop-log.place (length c.args.kinds.now) (length c.args.kinds.now) c.loop-log.log-iterator.rest.items c.next.new.self.rest.items c.in-Some.log c.in-Some.ensures.steps.0 c.loop-log.invariant.left (omega arith)) (place_below c.loop-log.place (length c.args.kinds.now) 16 c.loop-log.log-iterator.rest.items c.next.new.self.rest.items c.in-Some.log c.in-Some.ensures.steps.0 c.loop-log.invariant.left c.requires.few) c.loop-log.invariant.opens c.open_member.ensures.rest
 
 pub returns-in_err-member-clause-fault : goal.returns-in_err-member-clause-fault
 returns-in_err-member-clause-fault g c = handed_in IsOfMaking c.from_residual.result c.in_err-member.field-0.0 c.from_residual.ensures.1 c.in_err-member.ensures.fault
@@ -156,8 +157,8 @@ returns-in_err-push-clause-kept g c = no_value _ c.from_residual-in_err-push.res
 pub returns-in_err-push-clause-clean : goal.returns-in_err-push-clause-clean
 returns-in_err-push-clause-clean g c = no_value _ c.from_residual-in_err-push.result c.from_residual-in_err-push.ensures.0
 
-pub returns-in_err-push-clause-entered : goal.returns-in_err-push-clause-entered
-returns-in_err-push-clause-entered g c = c.open_member.ensures.rest.directory ∙ c.loop-log.invariant.entered
+pub returns-in_err-push-clause-opens : goal.returns-in_err-push-clause-opens
+returns-in_err-push-clause-opens g c = member_opened (length c.args.kinds.now) c.args.coords c.loop-log.place (g.H.Home.seen c.args.home.now) (g.H.Home.seen c.loop-log.home) (g.H.Home.seen c.open_member.new.home) (place_below c.loop-log.place (length c.args.kinds.now) (length c.args.kinds.now) c.loop-log.log-iterator.rest.items c.next.new.self.rest.items c.in-Some.log c.in-Some.ensures.steps.0 c.loop-log.invariant.left (omega arith)) (place_below c.loop-log.place (length c.args.kinds.now) 16 c.loop-log.log-iterator.rest.items c.next.new.self.rest.items c.in-Some.log c.in-Some.ensures.steps.0 c.loop-log.invariant.left c.requires.few) c.loop-log.invariant.opens c.open_member.ensures.rest
 
 pub returns-in_err-push-clause-fault : goal.returns-in_err-push-clause-fault
 returns-in_err-push-clause-fault g c = handed_in IsOfMaking c.from_residual-in_err-push.result Memory c.from_residual-in_err-push.ensures.1 tt
@@ -189,8 +190,8 @@ returns-clause-clean g c = c.loop-log.invariant.clean
 pub returns-clause-others : goal.returns-clause-others
 returns-clause-others g c = c.loop-log.invariant.others
 
-pub returns-clause-entered : goal.returns-clause-entered
-returns-clause-entered g c = c.loop-log.invariant.entered
+pub returns-clause-opens : goal.returns-clause-opens
+returns-clause-opens g c = c.loop-log.invariant.opens
 
 pub returns-clause-device : goal.returns-clause-device
 returns-clause-device g c = λ spot is. absurd (not_err _ (Device spot) is)

@@ -6,6 +6,7 @@ use Rattle.co_outside.specs.declared.spot.Spot.{Spot}
 use Rattle.co_plain.specs.Opening.{Found, member_headers}
 use Rattle.co_log.specs.Others.{NodeStays}
 use Rattle.co_opening.specs.Kept.{AreOwnLogs}
+use Rattle.co_opening.specs.Rest.{OnlyOpens}
 use Rattle.co_opening.specs.Running.{AreMembersAt, AreOwnMembers}
 use Rattle.co_opening.specs.Standing.{AreMembersFound}
 use Rattle.co_opening.proofs.members.open_members.Given as goal
@@ -21,6 +22,6 @@ invariant-loop-log g l = record {
   kept : AreOwnMembers (g.H.Home.seen l.home) l.members.items;
   clean : (s : Spot) → IsClean (g.H.Home.seen l.initial.home) s → IsClean (g.H.Home.seen l.home) s;
   others : (c : ℕ) → IsValidNode (Coord c) → NodeStays (Coord c) (g.H.Home.seen l.initial.home) (g.H.Home.seen l.home);
-  entered : (g.H.Home.seen l.home).entered ≡ (g.H.Home.seen l.initial.home).entered;
+  opens : OnlyOpens (length l.kinds) l.coords (g.H.Home.seen l.initial.home) (g.H.Home.seen l.home);
   quiet : (g.H.Home.seen l.home).faults ≡ (g.H.Home.seen l.initial.home).faults;
 }

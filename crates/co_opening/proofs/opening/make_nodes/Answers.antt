@@ -6,9 +6,11 @@ use Rattle.co_durable.specs.declared.fault.WorldFault.TheVariants.{Device}
 use Rattle.co_durable.proofs.Readings.{fails_later}
 use Rattle.co_plain.specs.Opening.{member_headers, coord_headers}
 use Rattle.co_opening.specs.Judged.{IsOfMaking}
+use Rattle.co_opening.specs.Rest.{OnlyOpens}
 use Rattle.co_opening.specs.Running.{AreMembersAt, AreCoordsAt}
 use Rattle.co_opening.specs.Standing.{AreCoordsFound}
 use Rattle.co_opening.proofs.Handed.{handed, handed_back, handed_in, no_value, not_err}
+use Rattle.co_opening.proofs.Rests.{opens_on}
 use Rattle.co_opening.proofs.Opened.{opened_nodes, kept_nodes, coords_left, own_members_stay}
 use Rattle.co_opening.proofs.opening.make_nodes.Goals as goal
 
@@ -89,8 +91,8 @@ returns-in_err-members-clause-kept g c = no_value _ c.from_residual.result c.fro
 pub returns-in_err-members-clause-clean : goal.returns-in_err-members-clause-clean
 returns-in_err-members-clause-clean g c = no_value _ c.from_residual.result c.from_residual.ensures.0
 
-pub returns-in_err-members-clause-entered : goal.returns-in_err-members-clause-entered
-returns-in_err-members-clause-entered g c = c.open_members.ensures.entered
+pub returns-in_err-members-clause-opens : goal.returns-in_err-members-clause-opens
+returns-in_err-members-clause-opens g c = subst (λ n. OnlyOpens n c.args.head.now.coords (g.H.Home.seen c.args.home.now) (g.H.Home.seen c.open_members.new.home)) (ap (λ (ks : List Kind). length ks) c.as_slice-kinds.ensures) c.open_members.ensures.opens
 
 pub returns-in_err-members-clause-fault : goal.returns-in_err-members-clause-fault
 returns-in_err-members-clause-fault g c = handed_in IsOfMaking c.from_residual.result c.in_err-members.field-0.0 c.from_residual.ensures.1 c.in_err-members.ensures.fault
@@ -112,8 +114,12 @@ returns-in_err-coords-clause-kept g c = no_value _ c.from_residual-in_err-coords
 pub returns-in_err-coords-clause-clean : goal.returns-in_err-coords-clause-clean
 returns-in_err-coords-clause-clean g c = no_value _ c.from_residual-in_err-coords.result c.from_residual-in_err-coords.ensures.0
 
-pub returns-in_err-coords-clause-entered : goal.returns-in_err-coords-clause-entered
-returns-in_err-coords-clause-entered g c = c.open_coords.ensures.entered ∙ c.open_members.ensures.entered
+pub returns-in_err-coords-clause-opens : goal.returns-in_err-coords-clause-opens
+returns-in_err-coords-clause-opens g c = 
+    opens_on (length c.args.head.now.kinds) c.args.head.now.coords (g.H.Home.seen c.args.home.now) (g.H.Home.seen c.open_members.new.home) (g.H.Home.seen c.open_coords.new.home)
+    (subst (λ n. OnlyOpens n c.args.head.now.coords (g.H.Home.seen c.args.home.now) (g.H.Home.seen c.open_members.new.home)) (ap (λ (ks : List Kind). length ks) c.as_slice-kinds.ensures) c.open_members.ensures.opens)
+    (subst (λ n. OnlyOpens (length c.args.head.now.kinds) n (g.H.Home.seen c.open_members.new.home) (g.H.Home.seen c.open_coords.new.home)) c.requires.judged.2.many_coords
+    (subst (λ n. OnlyOpens n (length c.args.logs.coords.items) (g.H.Home.seen c.open_members.new.home) (g.H.Home.seen c.open_coords.new.home)) c.len-count.ensures c.open_coords.ensures.opens))
 
 pub returns-in_err-coords-clause-fault : goal.returns-in_err-coords-clause-fault
 returns-in_err-coords-clause-fault g c = handed_in IsOfMaking c.from_residual-in_err-coords.result c.in_err-coords.field-0.0 c.from_residual-in_err-coords.ensures.1 c.in_err-coords.ensures.fault
@@ -124,8 +130,12 @@ returns-in_err-coords-clause-quiet g c = λ quiet.
 
 -- ---- all are opened
 
-pub returns-clause-entered : goal.returns-clause-entered
-returns-clause-entered g c = c.open_coords.ensures.entered ∙ c.open_members.ensures.entered
+pub returns-clause-opens : goal.returns-clause-opens
+returns-clause-opens g c = 
+    opens_on (length c.args.head.now.kinds) c.args.head.now.coords (g.H.Home.seen c.args.home.now) (g.H.Home.seen c.open_members.new.home) (g.H.Home.seen c.open_coords.new.home)
+    (subst (λ n. OnlyOpens n c.args.head.now.coords (g.H.Home.seen c.args.home.now) (g.H.Home.seen c.open_members.new.home)) (ap (λ (ks : List Kind). length ks) c.as_slice-kinds.ensures) c.open_members.ensures.opens)
+    (subst (λ n. OnlyOpens (length c.args.head.now.kinds) n (g.H.Home.seen c.open_members.new.home) (g.H.Home.seen c.open_coords.new.home)) c.requires.judged.2.many_coords
+    (subst (λ n. OnlyOpens n (length c.args.logs.coords.items) (g.H.Home.seen c.open_members.new.home) (g.H.Home.seen c.open_coords.new.home)) c.len-count.ensures c.open_coords.ensures.opens))
 
 pub returns-clause-device : goal.returns-clause-device
 returns-clause-device g c = λ spot is. absurd (not_err _ (Device spot) is)

@@ -1,4 +1,4 @@
-use Rattle.std.proofs.Common.{◌≡◌, List, ap, subst, ◌∙◌}
+use Rattle.std.proofs.Common.{◌≡◌, List, length, ap, subst, ◌∙◌}
 use Rattle.std.specs.FinMap.{keys}
 use Rattle.co_outside.specs.declared.spot.Spot.{Spot}
 use Rattle.co_recover.specs.declared.past.CoordPast.{CoordPast}
@@ -11,6 +11,7 @@ use Rattle.co_opening.specs.Judged.{IsUncounted, IsOfMaking, IsOfJudging}
 use Rattle.co_opening.specs.Opened.{IsUnopened, IsOfFound}
 use Rattle.co_opening.proofs.Handed.{handed, handed_back, handed_in, handed_at, no_value, not_err, of_error}
 use Rattle.co_opening.proofs.Judged.{uncounted}
+use Rattle.co_opening.proofs.Rests.{opens_on, opens_read}
 use Rattle.co_opening.proofs.Opened.{making_unopened, making_unfound, clean_moved}
 use Rattle.co_opening.proofs.opening.open_nodes.Goals as goal
 
@@ -51,8 +52,8 @@ pub returns-in_err-logs-clause-untouched : goal.returns-in_err-logs-clause-untou
 returns-in_err-logs-clause-untouched g c =
     handed_in (λ fault. IsOfFound fault → (s : Spot) → (g.H.Home.seen c.attach_all.new.home).file s ≡ (g.H.Home.seen c.args.home.now).file s) c.from_residual.result c.in_err-logs.field-0.0 c.from_residual.ensures.1 (λ found s. c.attach_all.ensures.reads.files s)
 
-pub returns-in_err-logs-clause-entered : goal.returns-in_err-logs-clause-entered
-returns-in_err-logs-clause-entered g c = c.attach_all.ensures.reads.directory
+pub returns-in_err-logs-clause-opens : goal.returns-in_err-logs-clause-opens
+returns-in_err-logs-clause-opens g c = opens_read (length c.args.head.now.kinds) c.args.head.now.coords (g.H.Home.seen c.args.home.now) (g.H.Home.seen c.attach_all.new.home) c.attach_all.ensures.reads
 
 pub returns-in_err-logs-clause-device : goal.returns-in_err-logs-clause-device
 returns-in_err-logs-clause-device g c = λ spot is. c.in_err-logs.ensures.device spot (handed_back c.from_residual.result c.in_err-logs.field-0.0 (Device spot) c.from_residual.ensures.1 is)
@@ -79,8 +80,8 @@ pub returns-in_err-pasts-clause-untouched : goal.returns-in_err-pasts-clause-unt
 returns-in_err-pasts-clause-untouched g c =
     handed_in (λ fault. IsOfFound fault → (s : Spot) → (g.H.Home.seen c.attach_all.new.home).file s ≡ (g.H.Home.seen c.args.home.now).file s) c.from_residual-in_err-pasts.result c.in_err-pasts.field-0.0 c.from_residual-in_err-pasts.ensures.1 (λ found s. c.attach_all.ensures.reads.files s)
 
-pub returns-in_err-pasts-clause-entered : goal.returns-in_err-pasts-clause-entered
-returns-in_err-pasts-clause-entered g c = c.attach_all.ensures.reads.directory
+pub returns-in_err-pasts-clause-opens : goal.returns-in_err-pasts-clause-opens
+returns-in_err-pasts-clause-opens g c = opens_read (length c.args.head.now.kinds) c.args.head.now.coords (g.H.Home.seen c.args.home.now) (g.H.Home.seen c.attach_all.new.home) c.attach_all.ensures.reads
 
 pub returns-in_err-pasts-clause-device : goal.returns-in_err-pasts-clause-device
 returns-in_err-pasts-clause-device g c = λ spot is.
@@ -104,8 +105,8 @@ pub returns-in_err-used-clause-untouched : goal.returns-in_err-used-clause-untou
 returns-in_err-used-clause-untouched g c =
     handed_in (λ fault. IsOfFound fault → (s : Spot) → (g.H.Home.seen c.attach_all.new.home).file s ≡ (g.H.Home.seen c.args.home.now).file s) c.from_residual-in_err-used.result c.in_err-used.field-0.0 c.from_residual-in_err-used.ensures.1 (λ found s. c.attach_all.ensures.reads.files s)
 
-pub returns-in_err-used-clause-entered : goal.returns-in_err-used-clause-entered
-returns-in_err-used-clause-entered g c = c.attach_all.ensures.reads.directory
+pub returns-in_err-used-clause-opens : goal.returns-in_err-used-clause-opens
+returns-in_err-used-clause-opens g c = opens_read (length c.args.head.now.kinds) c.args.head.now.coords (g.H.Home.seen c.args.home.now) (g.H.Home.seen c.attach_all.new.home) c.attach_all.ensures.reads
 
 pub returns-in_err-used-clause-device : goal.returns-in_err-used-clause-device
 returns-in_err-used-clause-device g c = λ spot is.
@@ -151,8 +152,10 @@ returns-clause-untouched g c =
     of_error IsOfMaking (λ fault. IsOfFound fault → (s : Spot) → (g.H.Home.seen c.make_nodes.new.home).file s ≡ (g.H.Home.seen c.args.home.now).file s) c.make_nodes.result
     (λ fault is found. absurd (making_unfound fault is found)) c.make_nodes.ensures.fault
 
-pub returns-clause-entered : goal.returns-clause-entered
-returns-clause-entered g c = c.make_nodes.ensures.entered ∙ c.attach_all.ensures.reads.directory
+pub returns-clause-opens : goal.returns-clause-opens
+returns-clause-opens g c = 
+    opens_on (length c.args.head.now.kinds) c.args.head.now.coords (g.H.Home.seen c.args.home.now) (g.H.Home.seen c.attach_all.new.home) (g.H.Home.seen c.make_nodes.new.home)
+    (opens_read (length c.args.head.now.kinds) c.args.head.now.coords (g.H.Home.seen c.args.home.now) (g.H.Home.seen c.attach_all.new.home) c.attach_all.ensures.reads) c.make_nodes.ensures.opens
 
 pub returns-clause-device : goal.returns-clause-device
 returns-clause-device g c = λ spot is.

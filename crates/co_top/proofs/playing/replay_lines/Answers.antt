@@ -4,9 +4,12 @@ use Rattle.co_schedule.specs.Lines.{ahead}
 use Rattle.co_top.specs.Front.{AtStart}
 use Rattle.co_top.specs.Heads.{IsEventRead}
 use Rattle.co_top.specs.Played.{IsOver}
-use Rattle.co_top.specs.Telling.{IsToldOf}
+use Rattle.co_opening.proofs.Rests.{unchanged, changes_on}
+use Rattle.co_top.specs.Replayed.{status_of}
+use Rattle.co_top.specs.Running.{IsBetween}
+use Rattle.co_top.specs.Telling.{IsToldOf, HasEnded}
 use Rattle.co_top.specs.declared.status.Status.TheVariants as status
-use Rattle.co_top.proofs.Plays.{plays_out, plays_on, reads_over, read_behind, told_over, err_is}
+use Rattle.co_top.proofs.Plays.{plays_out, plays_on, reads_over, read_behind, told_over, err_is, head_changes, ended_behind, read_ended}
 use Rattle.co_top.proofs.playing.replay_lines.Goals as goal
 
 pub loop-number-init : goal.loop-number-init
@@ -19,7 +22,7 @@ loop-number-init g c = (
         read = c.requires.read;
         is_left = λ t e. e;
       },
-  refl,
+  unchanged _ _ _,
   refl,
   refl,
   refl,
@@ -88,9 +91,41 @@ loop-number-preserved g c = (
       (rw c.in-Some.is at c.in_ok-event.ensures.one (length p.done.events) p.counted)
       (subst (λ n. IsToldOf g.E.Engine.takes g.E.Engine.stands_for z n c.in-Some.event (g.K.Sink.told c.loop-number.out) (g.K.Sink.told c.tell_event.new.out) home c.tell_event.new.world (Ok tt))
       p.counted (c.in_ok-tell_event-in-Some.ensures.told z p.stands.stands (ready p.done.events p.done.valid).ready)),
-  c.tell_event.ensures.entered ∙ c.loop-number.invariant.1,
+  (let w = c.requires.stands in
+      let p = c.loop-number.invariant.0 w.0 w.1 w.2 in
+      let z = run (lines p.done.events) w.0 in
+      changes_on (length c.args.head.now.kinds) c.args.head.now.coords (g.H.Home.seen c.args.home.now) (g.H.Home.seen c.loop-number.home) (g.H.Home.seen c.tell_event.new.home) c.loop-number.invariant.1
+      (head_changes g.E.Engine.takes g.E.Engine.stands_for c.loop-number.world c.args.head.now z (g.H.Home.seen c.loop-number.home) (g.H.Home.seen c.tell_event.new.home) p.stands.stands (w.2 p.done.events p.done.valid) c.tell_event.ensures.rest)),
   c.in_ok-tell_event-in-Some.ensures.ended ∙ c.loop-number.invariant.2,
   c.in_ok-tell_event-in-Some.ensures.quiet (λ z. let e : Ok tt ≡ Err status.Write = z in cc) ∙ c.loop-number.invariant.3,
   c.in_ok-event.ensures.quiet (λ z. let e : Ok c.in_ok-event.field-0 ≡ Err status.Read = z in cc) ∙ c.loop-number.invariant.4,
-  λ s clean. c.in_ok-tell_event-in-Some.ensures.clean s (c.loop-number.invariant.5 s clean),
+  λ s clean. c.in_ok-tell_event-in-Some.ensures.clean tt s (c.loop-number.invariant.5 s clean),
 )
+
+pub returns-in_err-tell_event-in-Some-clause-rest : goal.returns-in_err-tell_event-in-Some-clause-rest
+returns-in_err-tell_event-in-Some-clause-rest g c =
+    let w = c.requires.stands in
+    let p = c.loop-number.invariant.0 w.0 w.1 w.2 in
+    let z = run (lines p.done.events) w.0 in
+    changes_on (length c.args.head.now.kinds) c.args.head.now.coords (g.H.Home.seen c.args.home.now) (g.H.Home.seen c.loop-number.home) (g.H.Home.seen c.tell_event.new.home) c.loop-number.invariant.1
+    (head_changes g.E.Engine.takes g.E.Engine.stands_for c.loop-number.world c.args.head.now z (g.H.Home.seen c.loop-number.home) (g.H.Home.seen c.tell_event.new.home) p.stands.stands (w.2 p.done.events p.done.valid) c.tell_event.ensures.rest)
+
+pub returns-in_err-event-clause-ended : goal.returns-in_err-event-clause-ended
+returns-in_err-event-clause-ended g c =
+    subst (HasEnded (g.H.Home.seen c.args.home.now) (g.H.Home.seen c.loop-number.home)) (sym (err_is c.from_residual.result c.in_err-event.field-0.0 c.from_residual.ensures))
+    (read_ended (g.H.Home.seen c.args.home.now) (g.H.Home.seen c.loop-number.home) c.in_err-event.field-0.0 c.in_err-event.ensures.own c.loop-number.invariant.2)
+
+pub returns-in_err-tell_event-in-Some-clause-ended : goal.returns-in_err-tell_event-in-Some-clause-ended
+returns-in_err-tell_event-in-Some-clause-ended g c =
+    subst (HasEnded (g.H.Home.seen c.args.home.now) (g.H.Home.seen c.tell_event.new.home)) (sym (err_is c.from_residual-in_err-tell_event-in-Some.result c.in_err-tell_event-in-Some.field-0.0 c.from_residual-in_err-tell_event-in-Some.ensures))
+    (ended_behind (g.H.Home.seen c.args.home.now) (g.H.Home.seen c.loop-number.home) (g.H.Home.seen c.tell_event.new.home) (Err c.in_err-tell_event-in-Some.field-0.0) c.loop-number.invariant.2 c.loop-number.invariant.1.files.told c.in_err-tell_event-in-Some.ensures.ended)
+
+pub returns-in_err-tell_event-in-Some-clause-clean : goal.returns-in_err-tell_event-in-Some-clause-clean
+returns-in_err-tell_event-in-Some-clause-clean g c = λ between s was.
+    c.in_err-tell_event-in-Some.ensures.clean (subst (λ o. IsBetween (status_of o)) (err_is c.from_residual-in_err-tell_event-in-Some.result c.in_err-tell_event-in-Some.field-0.0 c.from_residual-in_err-tell_event-in-Some.ensures) between) s (c.loop-number.invariant.5 s was)
+
+pub returns-in_err-event-clause-clean : goal.returns-in_err-event-clause-clean
+returns-in_err-event-clause-clean g c = λ between. c.loop-number.invariant.5
+
+pub returns-in-None-clause-clean : goal.returns-in-None-clause-clean
+returns-in-None-clause-clean g c = λ between. c.loop-number.invariant.5

@@ -7,8 +7,8 @@ use Rattle.co_world.proofs.Nodes.{held_left}
 use Rattle.co_top.specs.Telling.{IsToldOf, IsTextPut, HasEnded}
 use Rattle.co_top.specs.declared.status.Status.{Status}
 use Rattle.co_top.specs.declared.status.Status.TheVariants as status
-use Rattle.co_top.proofs.Ending.{on_any}
-use Rattle.co_top.proofs.Plays.{told_as, untold, ended_as, put_ended, not_write}
+use Rattle.co_top.specs.Running.{IsBetween}
+use Rattle.co_top.proofs.Plays.{told_as, untold, ended_as, put_ended, not_write, fault_clean}
 use Rattle.co_top.proofs.playing.tell_event.Goals as goal
 
 pub returns-in-Ok-clause-told : goal.returns-in-Ok-clause-told
@@ -43,7 +43,12 @@ returns-in-Err-clause-failed g c = λ h.
     absurd (not_write c.in-Err.fault (sym c.undone.ensures ∙ is))
 
 pub returns-in-Ok-clause-clean : goal.returns-in-Ok-clause-clean
-returns-in-Ok-clause-clean g c = let w = c.requires.stands in on_any _ c.tell.result (c.in-Ok.ensures.answered w.0 w.1 w.2).served.clean
+returns-in-Ok-clause-clean g c = let w = c.requires.stands in λ between. (c.in-Ok.ensures.answered w.0 w.1 w.2).served.clean
+
+pub returns-in-Err-clause-clean : goal.returns-in-Err-clause-clean
+returns-in-Err-clause-clean g c = λ between.
+    let w = c.requires.stands in
+    fault_clean _ _ c.in-Err.fault (c.in-Err.ensures.answered w.0 w.1 w.2).ended (subst IsBetween c.undone.ensures between)
 
 pub returns-in-Ok-clause-ended : goal.returns-in-Ok-clause-ended
 returns-in-Ok-clause-ended g c =

@@ -1,17 +1,22 @@
-use Rattle.std.proofs.Common.{◌≡◌, ◌∙◌, ◌++◌, List, ℕ, Option, Some, Err, Result, refl, sym, ap, subst}
+use Rattle.std.proofs.Common.{◌≡◌, length, ◌∙◌, ◌++◌, List, ℕ, Option, Some, Err, Result, refl, sym, ap, subst}
 use Rattle.std.specs.Prelude.{IfErr}
 use Rattle.co_message.specs.declared.item.Item.{Item}
 use Rattle.co_plain.specs.Opening.{opened}
 use Rattle.co_schedule.specs.Lines.{ahead}
 use Rattle.co_top.specs.Heads.{IsReadStatus, IsEnding}
 use Rattle.co_top.specs.Played.{StaysReady, IsOver}
-use Rattle.co_top.specs.Ran.{IsRunEnd}
+use Rattle.co_top.specs.Ran.{IsEventFault, IsRunEnd, NoHead, Unopened}
+use Rattle.co_top.specs.Running.{IsBetween}
+use Rattle.co_top.specs.Telling.{HasEnded}
+use Rattle.co_base.specs.declared.head.Head.{Head}
+use Rattle.co_opening.specs.Rest.{OnlyOwnFilesChange}
+use Rattle.co_outside.specs.declared.spot.Spot.{Spot}
 use Rattle.co_top.specs.Replayed.{status_of, opening_text, IsOpeningTold}
 use Rattle.co_top.specs.declared.status.Status.{Status}
 use Rattle.co_top.specs.declared.status.Status.TheVariants as status
-use Rattle.co_top.proofs.Ending.{over, unopened, opening_over, opening_ends, over_ends, on_any, on_kept, same_error, ended_quiet, failed_as}
+use Rattle.co_top.proofs.Ending.{over, opening_over, opening_ends, over_ends, on_any, same_error, ended_quiet, failed_as}
 use Rattle.co_top.proofs.Laws.{ready}
-use Rattle.co_top.proofs.Plays.{err_is, not_err}
+use Rattle.co_top.proofs.Plays.{err_is, not_err, refused_between}
 use Rattle.co_top.proofs.replay.replayed.Goals as goal
 
 pub returns-in_err-lines-clause-write : goal.returns-in_err-lines-clause-write
@@ -22,20 +27,41 @@ pub returns-in_err-lines-clause-device : goal.returns-in_err-lines-clause-device
 returns-in_err-lines-clause-device g c = λ spot h.
     absurd (subst (λ (o : Result (Unit {0}) Status). IfErr o IsReadStatus) h (subst (λ (o : Result (Unit {0}) Status). IfErr o IsReadStatus) (sym (err_is c.from_residual.result c.in_err-lines.field-0.0 c.from_residual.ensures)) c.in_err-lines.ensures.own))
 
+pub returns-in_err-lines-clause-end : goal.returns-in_err-lines-clause-end
+returns-in_err-lines-clause-end g c = λ input held l t.
+    subst (λ o. IsRunEnd g.H.Home.seen c.args.resume input (g.S.Source.left c.read_first.new.source) held (g.K.Sink.told c.args.out.now) c.args.home.now c.args.home.now (status_of o))
+    (sym (err_is c.from_residual.result c.in_err-lines.field-0.0 c.from_residual.ensures)) (NoHead (t, c.in_err-lines.ensures.streamed input l) refl (c.in_err-lines.ensures.fault input l))
+
 pub returns-in_err-world-clause-end : goal.returns-in_err-world-clause-end
 returns-in_err-world-clause-end g c = λ input held l t.
     let read = c.in_ok-lines.ensures.read input l in
-    subst (λ o. IsRunEnd c.args.resume input (g.S.Source.left c.read_first.new.source) held (g.H.Home.seen c.args.home.now).file (g.H.Home.seen c.open.new.home).file (g.K.Sink.told c.args.out.now) (status_of o))
+    subst (λ o. IsRunEnd g.H.Home.seen c.args.resume input (g.S.Source.left c.read_first.new.source) held (g.K.Sink.told c.args.out.now) c.args.home.now c.open.new.home (status_of o))
     (sym (err_is c.from_residual-in_err-world.result c.in_err-world.field-0.0 c.from_residual-in_err-world.ensures))
-    (unopened c.args.resume input (g.S.Source.left c.read_first.new.source) (c.in_ok-lines.ensures.streamed input l) held (g.H.Home.seen c.args.home.now).file (g.H.Home.seen c.open.new.home).file (g.K.Sink.told c.args.out.now) c.in_ok-lines.head read.0 read.1 t c.in_err-world.field-0.0 c.in_err-world.ensures.refused c.in_err-world.ensures.untouched)
+    (Unopened (t, c.in_ok-lines.ensures.streamed input l)
+    (record { head = c.in_ok-lines.head; text = read.0; headed = read.1; cause = c.in_err-world.ensures.refused; untouched = c.in_err-world.ensures.untouched; left = c.open.ensures.made }))
+
+pub returns-in_err-world-clause-others : goal.returns-in_err-world-clause-others
+returns-in_err-world-clause-others g c = λ input l s apart. let read = c.in_ok-lines.ensures.read input l in c.open.ensures.made.own.others s (λ own. apart c.in_ok-lines.head read.0 read.1 own)
+
+pub returns-in_err-world-clause-clean : goal.returns-in_err-world-clause-clean
+returns-in_err-world-clause-clean g c = λ between s was.
+    let is = err_is c.from_residual-in_err-world.result c.in_err-world.field-0.0 c.from_residual-in_err-world.ensures in
+    let of = refused_between (g.H.Home.seen c.args.home.now).file c.in_ok-lines.head c.args.resume c.in_err-world.field-0.0 c.in_err-world.ensures.refused (subst (λ o. IsBetween (status_of o)) is between) in
+    λ f told. was f (sym (c.in_err-world.ensures.untouched of s) ∙ told)
+
+pub returns-in_err-head-clause-others : goal.returns-in_err-head-clause-others
+returns-in_err-head-clause-others g c = λ input l s apart. let read = c.in_ok-lines.ensures.read input l in c.open.ensures.made.own.others s (λ own. apart c.in_ok-lines.head read.0 read.1 own)
+
+pub returns-in_err-head-clause-clean : goal.returns-in_err-head-clause-clean
+returns-in_err-head-clause-clean g c = λ between. c.in_ok-world.ensures.clean
 
 pub returns-in_err-head-clause-end : goal.returns-in_err-head-clause-end
 returns-in_err-head-clause-end g c = λ input held l t.
     let read = c.in_ok-lines.ensures.read input l in
-    subst (λ o. IsRunEnd c.args.resume input (g.S.Source.left c.read_first.new.source) held (g.H.Home.seen c.args.home.now).file (g.H.Home.seen c.open.new.home).file (g.K.Sink.told c.tell_opening.new.out) (status_of o))
+    subst (λ o. IsRunEnd g.H.Home.seen c.args.resume input (g.S.Source.left c.read_first.new.source) held (g.K.Sink.told c.tell_opening.new.out) c.args.home.now c.open.new.home (status_of o))
     (sym (err_is c.from_residual-in_err-head.result c.in_err-head.field-0.0 c.from_residual-in_err-head.ensures))
-    (opening_over g.E.Engine.takes g.E.Engine.stands_for c.args.resume input (g.S.Source.left c.read_first.new.source) (c.in_ok-lines.ensures.streamed input l) held (g.H.Home.seen c.args.home.now).file c.in_ok-lines.head read.0 read.1 c.in_ok-world.world c.in_ok-world.items c.in_ok-world.ensures.opened
-    (g.H.Home.seen c.open.new.home) c.in_ok-world.ensures.held (g.K.Sink.told c.tell_opening.new.out) c.in_err-head.field-0.0
+    (opening_over g.E.Engine.takes g.E.Engine.stands_for g.H.Home.seen c.args.resume input (g.S.Source.left c.read_first.new.source) (c.in_ok-lines.ensures.streamed input l) held c.args.home.now c.in_ok-lines.head read.0 read.1 c.in_ok-world.world c.in_ok-world.items c.in_ok-world.ensures.opened
+    c.open.new.home c.in_ok-world.ensures.held (g.K.Sink.told c.tell_opening.new.out) c.in_err-head.field-0.0
     (subst (λ o. IsOpeningTold c.in_ok-lines.head c.in_ok-world.items o (g.K.Sink.told c.tell_opening.new.out) (Err c.in_err-head.field-0.0)) t
     (subst (λ (xs : List Item). IsOpeningTold c.in_ok-lines.head xs (g.K.Sink.told c.args.out.now) (g.K.Sink.told c.tell_opening.new.out) (Err c.in_err-head.field-0.0)) c.as_slice.ensures c.in_err-head.ensures.told)))
 
@@ -70,14 +96,19 @@ returns-clause-end g c = λ input held l t.
     let stays : StaysReady c.in_ok-head.head s0 = subst (λ h. StaysReady h s0) (sym c.in_ok-head.ensures.told.0) (ready head at.found_member at.found_coord at.may) in
     let put : g.K.Sink.told c.tell_opening.new.out ≡ Some (held ++ opening_text head items) =
     c.in_ok-head.ensures.told.1 held t ∙ ap (λ (xs : List Item). Some (held ++ opening_text head xs)) c.as_slice.ensures in
-    over g.E.Engine.takes g.E.Engine.stands_for c.args.resume input held (g.H.Home.seen c.args.home.now).file head read.0 read.1 c.in_ok-world.world items at (g.S.Source.left c.replay_lines-ended.new.source) (g.K.Sink.told c.replay_lines-ended.new.out) home c.replay_lines-ended.new.world c.replay_lines-ended.result
+    let differs : (spot : Spot) (place : ℕ) (kept got : Option ℕ) → c.replay_lines-ended.result ≡ Err (status.Differs spot place kept got) → IsEventFault (g.H.Home.seen c.args.home.now).file (status.Differs spot place kept got) =
+    λ spot place kept got e.
+        let h : HasEnded (g.H.Home.seen c.open.new.home) home (Err (status.Differs spot place kept got)) = subst (HasEnded (g.H.Home.seen c.open.new.home) home) e c.replay_lines-ended.ensures.ended in
+        (c.open.ensures.made.own.told spot h.1, h.2) in
+    over g.E.Engine.takes g.E.Engine.stands_for g.H.Home.seen c.args.resume input held c.args.home.now head read.0 read.1 c.in_ok-world.world items at (g.S.Source.left c.replay_lines-ended.new.source) (g.K.Sink.told c.replay_lines-ended.new.out) c.replay_lines-ended.new.home c.replay_lines-ended.new.world c.replay_lines-ended.result
+    differs
     (subst (λ (m : Option (List ℕ)). IsOver g.E.Engine.takes g.E.Engine.stands_for head s0 (Some read.0) (g.S.Source.left c.replay_lines-ended.new.source) m (g.K.Sink.told c.replay_lines-ended.new.out) home c.replay_lines-ended.new.world c.replay_lines-ended.result) put
     (subst (λ (a : Option (List ℕ)). IsOver g.E.Engine.takes g.E.Engine.stands_for head s0 a (g.S.Source.left c.replay_lines-ended.new.source) (g.K.Sink.told c.tell_opening.new.out) (g.K.Sink.told c.replay_lines-ended.new.out) home c.replay_lines-ended.new.world c.replay_lines-ended.result) read.2
     (subst (λ h. IsOver g.E.Engine.takes g.E.Engine.stands_for h s0 (ahead c.in_ok-lines.lines (g.S.Source.left c.read_first.new.source)) (g.S.Source.left c.replay_lines-ended.new.source) (g.K.Sink.told c.tell_opening.new.out) (g.K.Sink.told c.replay_lines-ended.new.out) home c.replay_lines-ended.new.world c.replay_lines-ended.result)
     c.in_ok-head.ensures.told.0 (c.replay_lines-ended.ensures.over s0 at.stands stays))))
 
 pub returns-clause-entered : goal.returns-clause-entered
-returns-clause-entered g c = on_any _ c.replay_lines-ended.result (c.replay_lines-ended.ensures.entered ∙ c.in_ok-world.ensures.entered)
+returns-clause-entered g c = on_any _ c.replay_lines-ended.result (c.replay_lines-ended.ensures.rest.directory ∙ c.in_ok-world.ensures.entered)
 
 pub returns-clause-device : goal.returns-clause-device
 returns-clause-device g c = λ spot h.
@@ -103,4 +134,11 @@ returns-clause-quiet_home g c = λ other.
     ∙ c.in_ok-world.ensures.quiet (λ spot e. not_err _ (status.Device spot) e)
 
 pub returns-clause-clean : goal.returns-clause-clean
-returns-clause-clean g c = on_kept _ _ c.replay_lines-ended.result (λ later s is. later s (c.in_ok-world.ensures.clean s is)) c.replay_lines-ended.ensures.clean
+returns-clause-clean g c = λ between s was. c.replay_lines-ended.ensures.clean between s (c.in_ok-world.ensures.clean s was)
+
+pub returns-clause-others : goal.returns-clause-others
+returns-clause-others g c = λ input l s apart.
+    let read = c.in_ok-lines.ensures.read input l in
+    let rest =
+    subst (λ (h : Head). OnlyOwnFilesChange (length h.kinds) h.coords (g.H.Home.seen c.open.new.home) (g.H.Home.seen c.replay_lines-ended.new.home)) c.in_ok-head.ensures.told.0 c.replay_lines-ended.ensures.rest in
+    rest.files.others s (λ own. apart c.in_ok-lines.head read.0 read.1 own) ∙ c.open.ensures.made.own.others s (λ own. apart c.in_ok-lines.head read.0 read.1 own)

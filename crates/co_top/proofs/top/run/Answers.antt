@@ -1,34 +1,115 @@
-use Rattle.co_top.proofs.Completing.{done_or_wanting}
-use Rattle.std.proofs.Common.{subst}
-use Rattle.co_top.specs.Command.{resumes}
+use Rattle.std.proofs.Common.{◌≡◌, ◌∙◌, refl, sym, subst}
+use Rattle.co_top.specs.Checking.{ChecksAs}
+use Rattle.co_top.specs.Command.{is_run, is_records, is_check, is_trial, resumes, directory_of, trial_number, trial_events}
 use Rattle.co_top.specs.Ran.{IsRunEnd}
+use Rattle.co_top.specs.Records.{WritesRecords}
+use Rattle.co_top.specs.Running.{RunsAs}
+use Rattle.co_top.specs.Trials.{TriesAs}
+use Rattle.co_top.specs.Views.{source_seen, sink_seen}
+use Rattle.co_top.specs.declared.status.Status.{Status}
+use Rattle.co_top.specs.declared.status.Status.TheVariants as status
+use Rattle.co_top.proofs.Completing.{done_or_wanting}
 use Rattle.co_top.proofs.Headlines.{whole_run}
 use Rattle.co_top.proofs.Judging.{exact_of as exact_check}
 use Rattle.co_top.proofs.Recording.{exact_of}
 use Rattle.co_top.proofs.Refusing.{refused_exactly}
+use Rattle.co_top.proofs.Trying.{is_a_trial, trial_within, not_usage}
 use Rattle.co_top.proofs.top.run.Goals as goal
 
-pub returns-clause-headline : goal.returns-clause-headline
-returns-clause-headline g c = λ input held is left told done.
-    let old = (g.H.Home.seen c.args.home.now).file in
-    let new = (g.H.Home.seen c.command-status.new.home).file in
-    let out = g.K.Sink.told c.command-status.new.out in
-    let rest = g.S.Source.left c.command-status.new.source in
-    whole_run (resumes c.args.words.now) input rest held old new out (subst (IsRunEnd (resumes c.args.words.now) input rest held old new out) done (c.command-status.ensures.run input held is left told))
+-- ---- a run
 
-pub returns-clause-exact : goal.returns-clause-exact
-returns-clause-exact g c = λ is told. exact_of (g.H.Home.seen c.args.home.now).file told c.command-status.result (c.command-status.ensures.causes is)
+pub returns-in-Run-clause-run : goal.returns-in-Run-clause-run
+returns-in-Run-clause-run g c = λ is.
+    let e = c.replay-status.ensures in
+    let left = g.S.Source.left c.replay-status.new.source in
+    let out = g.K.Sink.told c.replay-status.new.out in
+    let runs = λ r d (ended : Status).
+    RunsAs g.H.Home.seen r d (source_seen (g.S.Source.left c.args.source.now) (g.S.Source.faults c.args.source.now)) (source_seen left (g.S.Source.faults c.replay-status.new.source))
+    (sink_seen (g.K.Sink.told c.args.out.now) (g.K.Sink.faults c.args.out.now)) (sink_seen out (g.K.Sink.faults c.replay-status.new.out)) c.args.home.now c.replay-status.new.home ended in
+    let ran : runs c.in-Run.resume c.in-Run.directory.now c.replay-status.result =
+    record {
+      end = e.end;
+      others = e.others;
+      refused = λ input held l t. refused_exactly g.H.Home.seen c.in-Run.resume input left held out c.args.home.now c.replay-status.new.home c.replay-status.result (e.end input held l t);
+      complete = λ input held l t free.
+          done_or_wanting g.H.Home.seen c.in-Run.resume input left held out c.args.home.now c.replay-status.new.home _ _ _ _ _ _ c.replay-status.result e.read e.write (λ spot is. (e.device spot is).count) (e.end input held l t) free;
+      clean = e.clean;
+      entered = e.entered;
+      read = record { failed = e.read; quiet = e.quiet_source };
+      write = record { failed = e.write; quiet = e.quiet_sink };
+      device = record { failed = e.device; quiet = e.quiet_home };
+    } in
+    subst (λ r. runs r (directory_of c.args.words.now) c.told.result) c.in-Run.ensures.2
+    (subst (λ d. runs c.in-Run.resume d c.told.result) c.in-Run.ensures.1 (subst (λ s. runs c.in-Run.resume c.in-Run.directory.now s) (sym c.told.ensures.same) ran))
 
-pub returns-clause-judged : goal.returns-clause-judged
-returns-clause-judged g c = λ input held is left told.
-    exact_check input held (g.K.Sink.told c.command-status.new.out) c.command-status.result (c.command-status.ensures.checked input held is left told)
+pub returns-in-Run-clause-headline : goal.returns-in-Run-clause-headline
+returns-in-Run-clause-headline g c = λ input held is l t done r files whole.
+    let left = g.S.Source.left c.replay-status.new.source in
+    let out = g.K.Sink.told c.replay-status.new.out in
+    let end = subst (λ r. IsRunEnd g.H.Home.seen r input left held out c.args.home.now c.replay-status.new.home c.replay-status.result) c.in-Run.ensures.2 (c.replay-status.ensures.end input held l t) in
+    whole_run g.H.Home.seen (resumes c.args.words.now) input left held out c.args.home.now c.replay-status.new.home
+    (subst (IsRunEnd g.H.Home.seen (resumes c.args.words.now) input left held out c.args.home.now c.replay-status.new.home) (sym c.told.ensures.same ∙ done) end) r files whole
 
-pub returns-clause-refused : goal.returns-clause-refused
-returns-clause-refused g c = λ input held is left told.
-    refused_exactly _ input (g.S.Source.left c.command-status.new.source) held (g.H.Home.seen c.args.home.now).file (g.H.Home.seen c.command-status.new.home).file (g.K.Sink.told c.command-status.new.out) c.command-status.result
-    (c.command-status.ensures.run input held is left told)
+-- ---- the records
 
-pub returns-clause-complete : goal.returns-clause-complete
-returns-clause-complete g c = λ input held is left told unhindered.
-    done_or_wanting _ input (g.S.Source.left c.command-status.new.source) held (g.H.Home.seen c.args.home.now).file (g.H.Home.seen c.command-status.new.home).file (g.K.Sink.told c.command-status.new.out) _ _ _ _ _ _ c.command-status.result
-    c.command-status.ensures.read c.command-status.ensures.write (λ spot e. (c.command-status.ensures.device spot e).count) (c.command-status.ensures.run input held is left told) unhindered
+pub returns-in-Records-clause-records : goal.returns-in-Records-clause-records
+returns-in-Records-clause-records g c = λ is.
+    let e = c.records-status.ensures in
+    let writes = λ d (ended : Status).
+    WritesRecords d (sink_seen (g.K.Sink.told c.args.out.now) (g.K.Sink.faults c.args.out.now)) (sink_seen (g.K.Sink.told c.records-status.new.out) (g.K.Sink.faults c.records-status.new.out))
+    (g.H.Home.seen c.args.home.now) (g.H.Home.seen c.records-status.new.home) ended in
+    let wrote : writes c.in-Records.directory.now c.records-status.result =
+    record {
+      cause = e.cause;
+      exact = λ told. exact_of (g.H.Home.seen c.args.home.now).file told c.records-status.result e.cause;
+      durable = e.durable;
+      files = e.files;
+      entered = e.entered;
+      write = record { failed = e.write; quiet = e.quiet_sink };
+      device = record { failed = e.device; quiet = e.quiet_home };
+    } in
+    (refl, subst (λ d. writes d c.told-in-Records.result) c.in-Records.ensures.1 (subst (λ s. writes c.in-Records.directory.now s) (sym c.told-in-Records.ensures.same) wrote))
+
+-- ---- a transcript is judged
+
+pub returns-in-Check-clause-check : goal.returns-in-Check-clause-check
+returns-in-Check-clause-check g c = λ is.
+    let e = c.check-status.ensures in
+    let out = g.K.Sink.told c.check-status.new.out in
+    let checks = λ (ended : Status).
+    ChecksAs (source_seen (g.S.Source.left c.args.source.now) (g.S.Source.faults c.args.source.now)) (source_seen (g.S.Source.left c.check-status.new.source) (g.S.Source.faults c.check-status.new.source))
+    (sink_seen (g.K.Sink.told c.args.out.now) (g.K.Sink.faults c.args.out.now)) (sink_seen out (g.K.Sink.faults c.check-status.new.out)) ended in
+    let checked : checks c.check-status.result =
+    record {
+      end = e.end;
+      judged = λ input held l t. exact_check input held out c.check-status.result (e.end input held l t);
+      read = record { failed = e.read; quiet = e.quiet_source };
+      write = record { failed = e.write; quiet = e.quiet_sink };
+    } in
+    (refl, subst checks (sym c.told-in-Check.ensures.same) checked)
+
+-- ---- a trial
+
+pub trial-status-requires : goal.trial-status-requires
+trial-status-requires g c =
+    let is = c.in-Trial.ensures in
+    let within = trial_within c.args.words.now is.0.as_trial in
+    (rw is.2 within.0, rw is.2 within.1)
+
+pub returns-in-Trial-clause-usage : goal.returns-in-Trial-clause-usage
+returns-in-Trial-clause-usage g c =
+    let never : c.told-in-Trial.result ≡ status.Usage → ⊥ = λ e. not_usage c.trial-status.result c.trial-status.ensures.own (sym c.told-in-Trial.ensures.same ∙ e) in (
+      (
+        λ e. absurd (never e),
+        λ none. let is = c.in-Trial.ensures.0 in absurd (is_a_trial (is_run c.args.words.now) (is_records c.args.words.now) (is_check c.args.words.now) (is_trial c.args.words.now) is.as_trial none),
+      ),
+      λ e. absurd (never e),
+    )
+
+pub returns-in-Trial-clause-trial : goal.returns-in-Trial-clause-trial
+returns-in-Trial-clause-trial g c = λ is.
+    let e = c.trial-status.ensures in
+    let tries = λ n m (ended : Status). TriesAs n m (sink_seen (g.K.Sink.told c.args.out.now) (g.K.Sink.faults c.args.out.now)) (sink_seen (g.K.Sink.told c.trial-status.new.out) (g.K.Sink.faults c.trial-status.new.out)) ended in
+    let tried : tries c.in-Trial.number c.in-Trial.events c.trial-status.result = record { end = e.end; write = record { failed = e.write; quiet = e.quiet } } in
+    let own = c.in-Trial.ensures in
+    (refl, refl, subst (λ n. tries n (trial_events c.args.words.now) c.told-in-Trial.result) own.1 (subst (λ m. tries c.in-Trial.number m c.told-in-Trial.result) own.2 (subst (λ s. tries c.in-Trial.number c.in-Trial.events s) (sym c.told-in-Trial.ensures.same) tried)))

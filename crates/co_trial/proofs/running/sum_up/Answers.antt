@@ -42,7 +42,6 @@ returns g c =
       begun = c.begun.ensures z d.stands;
       committed = c.count.ensures ∙ d.decided.count;
       digest = c.in_ok-digest.ensures _ d.told_all;
-      compared = compared;
       equal = compared.1 (ap (λ f. numbered_rows f 1 3) (alone o n k d.valid d.settling d.settles));
       events = refl;
       number_is = refl;

@@ -1,6 +1,8 @@
 use Rattle.std.proofs.Common.{◌≡◌, ◌<◌, ◌-◌, length, suc, refl, sym, subst, arith}
 use Rattle.std.specs.Prelude.{ℕ}
 use Rattle.std.specs.Vec.{with_item}
+use Rattle.co_base.specs.declared.node.Node.TheVariants as node
+use Rattle.co_opening.proofs.Rests.{node_changes}
 use Rattle.co_cluster.specs.Calls.{MemberMay, member_does}
 use Rattle.co_plain.specs.Federation.{with_member}
 use Rattle.co_plain.specs.Step.{disarmed}
@@ -77,3 +79,19 @@ returns-in-Err-clause-left g c = λ s r.
     let here = at_place w.members.items (c.from.result - 1) c.index_mut.result.now place c.index_mut.ensures.value in
     subst (AreLeftWith (g.H.Home.seen c.member_does.new.home).file s (with_member (disarmed s) c.args.member (member_does c.args.member c.args.call (member_disarmed (s.member c.args.member))).state)) (sym c.of_node.ensures)
     (member_fault g.E.Engine.takes g.E.Engine.stands_for w s r (g.H.Home.seen c.args.home.now) (g.H.Home.seen c.member_does.new.home) c.requires.held c.args.member (c.from.result - 1) c.index_mut.result.now c.args.call next here c.in-Err.ensures.rest.others c.in-Err.fault c.in-Err.ensures.left)
+
+pub returns-in-Ok-clause-rest : goal.returns-in-Ok-clause-rest
+returns-in-Ok-clause-rest g c =
+    let w = c.args.self.now in
+    let place : c.from.result - 1 < length w.members.items = omega arith in
+    let here = at_place w.members.items (c.from.result - 1) c.index_mut.result.now place c.index_mut.ensures.value in
+    let number = (c.requires.stands.1.member (c.from.result - 1) c.index_mut.result.now here).number in
+    node_changes (length w.members.items) (length w.coords.items) (node.Member c.index_mut.result.now.number) (g.H.Home.seen c.args.home.now) (g.H.Home.seen c.member_does.new.home) (omega (arith, number), omega (arith, number, place)) c.in-Ok.ensures.rest
+
+pub returns-in-Err-clause-rest : goal.returns-in-Err-clause-rest
+returns-in-Err-clause-rest g c =
+    let w = c.args.self.now in
+    let place : c.from.result - 1 < length w.members.items = omega arith in
+    let here = at_place w.members.items (c.from.result - 1) c.index_mut.result.now place c.index_mut.ensures.value in
+    let number = (c.requires.stands.1.member (c.from.result - 1) c.index_mut.result.now here).number in
+    node_changes (length w.members.items) (length w.coords.items) (node.Member c.index_mut.result.now.number) (g.H.Home.seen c.args.home.now) (g.H.Home.seen c.member_does.new.home) (omega (arith, number), omega (arith, number, place)) c.in-Err.ensures.rest

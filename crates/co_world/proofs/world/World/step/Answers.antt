@@ -1,8 +1,9 @@
-use Rattle.std.proofs.Common.{length, subst, refl}
+use Rattle.std.proofs.Common.{length, subst}
 use Rattle.co_message.specs.declared.event.Event.{Event}
 use Rattle.co_schedule.specs.View.{IsEventFor}
 use Rattle.co_world.proofs.Acting.{own_member}
 use Rattle.co_world.proofs.Limits.{through, limits_alike}
+use Rattle.co_opening.proofs.Rests.{unchanged}
 use Rattle.co_cluster.proofs.Ready.{votes_again}
 use Rattle.co_world.proofs.Ends.{no_limit, of_memory}
 use Rattle.co_world.proofs.Stepped.{limit_of, answered_at, alone_at}
@@ -22,7 +23,7 @@ returns-in-Begin g c =
       count = count;
       limit = λ s r. through count (limits_alike g.E.Engine.takes g.E.Engine.stands_for c.args.self.now s r c.args.event.now);
       answered = λ s r ready. answered_at g.E.Engine.takes g.E.Engine.stands_for c.args.number c.in-Begin.is s c.begin.new.self (g.H.Home.seen c.args.home.now) (g.H.Home.seen c.begin.new.home) c.begin.result (c.begin.ensures.answered s r);
-      entered = c.begin.ensures.entered;
+      rest = c.begin.ensures.rest;
     }
 
 pub begin_local-requires : goal.begin_local-requires
@@ -38,7 +39,7 @@ returns-in-Local g c =
       answered = λ s r ready.
           alone_at g.E.Engine.takes g.E.Engine.stands_for c.args.number c.in-Local.is s c.args.self.now c.begin_local.new.self (g.H.Home.seen c.args.home.now) c.begin_local.result r c.requires.held (c.begin_local.ensures.items s r) (c.begin_local.ensures.stands s r)
           (c.begin_local.ensures.held (g.H.Home.seen c.args.home.now) c.requires.held) c.begin_local.ensures.ended;
-      entered = refl;
+      rest = unchanged _ _ _;
     }
 
 pub reads-requires-clause-in_head : goal.reads-requires-clause-in_head
@@ -57,7 +58,7 @@ returns-in-Read g c =
       answered = λ s r ready.
           alone_at g.E.Engine.takes g.E.Engine.stands_for c.args.number c.in-Read.is s c.args.self.now c.reads.new.self (g.H.Home.seen c.args.home.now) c.reads.result r c.requires.held (c.reads.ensures.items s r ready) (c.reads.ensures.stands s r ready)
           (c.reads.ensures.held (g.H.Home.seen c.args.home.now) c.requires.held) (of_memory c.reads.result c.reads.ensures.memory);
-      entered = refl;
+      rest = unchanged _ _ _;
     }
 
 pub writes-requires-clause-in_head : goal.writes-requires-clause-in_head
@@ -76,7 +77,7 @@ returns-in-Write g c =
       answered = λ s r ready.
           alone_at g.E.Engine.takes g.E.Engine.stands_for c.args.number c.in-Write.is s c.args.self.now c.writes.new.self (g.H.Home.seen c.args.home.now) c.writes.result r c.requires.held (c.writes.ensures.items s r ready) (c.writes.ensures.stands s r ready)
           (c.writes.ensures.held (g.H.Home.seen c.args.home.now) c.requires.held) (of_memory c.writes.result c.writes.ensures.memory);
-      entered = refl;
+      rest = unchanged _ _ _;
     }
 
 pub erases-requires-clause-in_head : goal.erases-requires-clause-in_head
@@ -95,7 +96,7 @@ returns-in-Erase g c =
       answered = λ s r ready.
           alone_at g.E.Engine.takes g.E.Engine.stands_for c.args.number c.in-Erase.is s c.args.self.now c.erases.new.self (g.H.Home.seen c.args.home.now) c.erases.result r c.requires.held (c.erases.ensures.items s r ready) (c.erases.ensures.stands s r ready)
           (c.erases.ensures.held (g.H.Home.seen c.args.home.now) c.requires.held) (of_memory c.erases.result c.erases.ensures.memory);
-      entered = refl;
+      rest = unchanged _ _ _;
     }
 
 pub scans-requires-clause-in_head : goal.scans-requires-clause-in_head
@@ -114,7 +115,7 @@ returns-in-Scan g c =
       answered = λ s r ready.
           alone_at g.E.Engine.takes g.E.Engine.stands_for c.args.number c.in-Scan.is s c.args.self.now c.scans.new.self (g.H.Home.seen c.args.home.now) c.scans.result r c.requires.held (c.scans.ensures.items s r ready) (c.scans.ensures.stands s r ready)
           (c.scans.ensures.held (g.H.Home.seen c.args.home.now) c.requires.held) (of_memory c.scans.result c.scans.ensures.memory);
-      entered = refl;
+      rest = unchanged _ _ _;
     }
 
 pub end-requires-clause-stands : goal.end-requires-clause-stands
@@ -127,7 +128,7 @@ returns-in-Commit g c =
       count = count;
       limit = λ s r. through count (limits_alike g.E.Engine.takes g.E.Engine.stands_for c.args.self.now s r c.args.event.now);
       answered = λ s r ready. answered_at g.E.Engine.takes g.E.Engine.stands_for c.args.number c.in-Commit.is s c.end.new.self (g.H.Home.seen c.args.home.now) (g.H.Home.seen c.end.new.home) c.end.result (c.end.ensures.answered s r ready);
-      entered = c.end.ensures.entered;
+      rest = c.end.ensures.rest;
     }
 
 pub end-requires-in-Abort-clause-stands : goal.end-requires-in-Abort-clause-stands
@@ -140,7 +141,7 @@ returns-in-Abort g c =
       count = count;
       limit = λ s r. through count (limits_alike g.E.Engine.takes g.E.Engine.stands_for c.args.self.now s r c.args.event.now);
       answered = λ s r ready. answered_at g.E.Engine.takes g.E.Engine.stands_for c.args.number c.in-Abort.is s c.end-in-Abort.new.self (g.H.Home.seen c.args.home.now) (g.H.Home.seen c.end-in-Abort.new.home) c.end-in-Abort.result (c.end-in-Abort.ensures.answered s r ready);
-      entered = c.end-in-Abort.ensures.entered;
+      rest = c.end-in-Abort.ensures.rest;
     }
 
 pub deliver-requires-clause-in_head : goal.deliver-requires-clause-in_head
@@ -157,7 +158,7 @@ returns-in-Deliver g c =
       count = count;
       limit = λ s r. through count (limits_alike g.E.Engine.takes g.E.Engine.stands_for c.args.self.now s r c.args.event.now);
       answered = λ s r ready. answered_at g.E.Engine.takes g.E.Engine.stands_for c.args.number c.in-Deliver.is s c.deliver.new.self (g.H.Home.seen c.args.home.now) (g.H.Home.seen c.deliver.new.home) c.deliver.result (c.deliver.ensures.answered s r ready);
-      entered = c.deliver.ensures.entered;
+      rest = c.deliver.ensures.rest;
     }
 
 pub at_member-requires-clause-in_head : goal.at_member-requires-clause-in_head
@@ -179,7 +180,7 @@ returns-in-Vote g c =
       count = count;
       limit = λ s r. through count (limits_alike g.E.Engine.takes g.E.Engine.stands_for c.args.self.now s r c.args.event.now);
       answered = λ s r ready. answered_at g.E.Engine.takes g.E.Engine.stands_for c.args.number c.in-Vote.is s c.at_member.new.self (g.H.Home.seen c.args.home.now) (g.H.Home.seen c.at_member.new.home) c.at_member.result (c.at_member.ensures.answered s r);
-      entered = c.at_member.ensures.entered;
+      rest = c.at_member.ensures.rest;
     }
 
 pub at_member-requires-in-Ask-clause-in_head : goal.at_member-requires-in-Ask-clause-in_head
@@ -196,7 +197,7 @@ returns-in-Ask g c =
       count = count;
       limit = λ s r. through count (limits_alike g.E.Engine.takes g.E.Engine.stands_for c.args.self.now s r c.args.event.now);
       answered = λ s r ready. answered_at g.E.Engine.takes g.E.Engine.stands_for c.args.number c.in-Ask.is s c.at_member-in-Ask.new.self (g.H.Home.seen c.args.home.now) (g.H.Home.seen c.at_member-in-Ask.new.home) c.at_member-in-Ask.result (c.at_member-in-Ask.ensures.answered s r);
-      entered = c.at_member-in-Ask.ensures.entered;
+      rest = c.at_member-in-Ask.ensures.rest;
     }
 
 pub at_coord-requires-clause-in_head : goal.at_coord-requires-clause-in_head
@@ -213,7 +214,7 @@ returns-in-Resend g c =
       count = count;
       limit = λ s r. through count (limits_alike g.E.Engine.takes g.E.Engine.stands_for c.args.self.now s r c.args.event.now);
       answered = λ s r ready. answered_at g.E.Engine.takes g.E.Engine.stands_for c.args.number c.in-Resend.is s c.at_coord.new.self (g.H.Home.seen c.args.home.now) (g.H.Home.seen c.at_coord.new.home) c.at_coord.result (c.at_coord.ensures.answered s r);
-      entered = c.at_coord.ensures.entered;
+      rest = c.at_coord.ensures.rest;
     }
 
 pub timer-requires-clause-in_head : goal.timer-requires-clause-in_head
@@ -230,7 +231,7 @@ returns-in-Timer g c =
       count = count;
       limit = λ s r. through count (limits_alike g.E.Engine.takes g.E.Engine.stands_for c.args.self.now s r c.args.event.now);
       answered = λ s r ready. answered_at g.E.Engine.takes g.E.Engine.stands_for c.args.number c.in-Timer.is s c.timer.new.self (g.H.Home.seen c.args.home.now) (g.H.Home.seen c.timer.new.home) c.timer.result (c.timer.ensures.answered s r);
-      entered = c.timer.ensures.entered;
+      rest = c.timer.ensures.rest;
     }
 
 pub crash-requires-clause-in_head : goal.crash-requires-clause-in_head
@@ -247,7 +248,7 @@ returns-in-Crash g c =
       count = count;
       limit = λ s r. through count (limits_alike g.E.Engine.takes g.E.Engine.stands_for c.args.self.now s r c.args.event.now);
       answered = λ s r ready. answered_at g.E.Engine.takes g.E.Engine.stands_for c.args.number c.in-Crash.is s c.crash.new.self (g.H.Home.seen c.args.home.now) (g.H.Home.seen c.crash.new.home) c.crash.result (c.crash.ensures.answered s r);
-      entered = c.crash.ensures.entered;
+      rest = c.crash.ensures.rest;
     }
 
 pub restart-requires-clause-in_head : goal.restart-requires-clause-in_head
@@ -264,7 +265,7 @@ returns-in-Restart g c =
       count = count;
       limit = λ s r. through count (limits_alike g.E.Engine.takes g.E.Engine.stands_for c.args.self.now s r c.args.event.now);
       answered = λ s r ready. answered_at g.E.Engine.takes g.E.Engine.stands_for c.args.number c.in-Restart.is s c.restart.new.self (g.H.Home.seen c.args.home.now) (g.H.Home.seen c.restart.new.home) c.restart.result (c.restart.ensures.answered s r);
-      entered = c.restart.ensures.entered;
+      rest = c.restart.ensures.rest;
     }
 
 pub checkpoint-requires-clause-in_head : goal.checkpoint-requires-clause-in_head
@@ -281,7 +282,7 @@ returns-in-Checkpoint g c =
       count = count;
       limit = λ s r. through count (limits_alike g.E.Engine.takes g.E.Engine.stands_for c.args.self.now s r c.args.event.now);
       answered = λ s r ready. answered_at g.E.Engine.takes g.E.Engine.stands_for c.args.number c.in-Checkpoint.is s c.checkpoint.new.self (g.H.Home.seen c.args.home.now) (g.H.Home.seen c.checkpoint.new.home) c.checkpoint.result (c.checkpoint.ensures.answered s r);
-      entered = c.checkpoint.ensures.entered;
+      rest = c.checkpoint.ensures.rest;
     }
 
 pub arm-requires-clause-in_head : goal.arm-requires-clause-in_head
@@ -302,5 +303,5 @@ returns-in-Arm g c =
       count = count;
       limit = λ s r. through count (limits_alike g.E.Engine.takes g.E.Engine.stands_for c.args.self.now s r c.args.event.now);
       answered = λ s r ready. answered_at g.E.Engine.takes g.E.Engine.stands_for c.args.number c.in-Arm.is s c.arm.new.self (g.H.Home.seen c.args.home.now) (g.H.Home.seen c.arm.new.home) c.arm.result (c.arm.ensures.answered s r);
-      entered = c.arm.ensures.entered;
+      rest = c.arm.ensures.rest;
     }
