@@ -1,0 +1,19 @@
+//! Who waits for whom, and how these waits hang together: in an order, or in a knot.
+//!
+//! A wait says that a vote is held, and by which transaction. Where every chain of waits ends, the transactions stand in an order, each with the
+//! length of its longest chain; else some close to a cycle, and one of them is told, always the same one. The chains are gone through depth
+//! first (Tarjan, *Depth-first search and linear graph algorithms*, 1972), each wait once.
+#![tactic(auto)]
+
+mod holding;
+mod knot;
+mod ranking;
+mod search;
+mod turning;
+mod untangling;
+mod wait;
+
+pub use holding::knot_holds;
+pub use knot::{Knot, Legs, Rank, Ranks};
+pub use untangling::untangle;
+pub use wait::{Wait, Waits};
