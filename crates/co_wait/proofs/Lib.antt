@@ -5,3 +5,4 @@ pub mod Moves
 pub mod Turns
 pub mod Cycles
 pub mod Orders
+pub mod Tests

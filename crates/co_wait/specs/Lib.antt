@@ -1,3 +1,5 @@
 pub mod Chains
 pub mod Knots
+pub mod Holding
 pub mod Searching
+pub mod Testing
