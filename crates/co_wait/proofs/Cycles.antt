@@ -106,7 +106,7 @@ walk_leads : (path : List Pause) (first t : ℕ) → LeadFrom first path t → l
 walk_leads [] first t lead = lead
 walk_leads (p ∷ path) first t lead = walk_leads path p.wait.by t lead.1
 
-lead_of-append : (front back : List Wait) (t : ℕ) → lead_of t (front ++ back) ≡ lead_of (lead_of t front) back
+pub lead_of-append : (front back : List Wait) (t : ℕ) → lead_of t (front ++ back) ≡ lead_of (lead_of t front) back
 lead_of-append [] back t = refl
 lead_of-append (w ∷ front) back t = lead_of-append front back w.by
 

@@ -6,3 +6,5 @@ pub mod Turns
 pub mod Cycles
 pub mod Orders
 pub mod Tests
+pub mod Rounds
+pub mod Once

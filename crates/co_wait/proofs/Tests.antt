@@ -147,7 +147,7 @@ rank_stands (r ∷ ranks) t rank e = by (rank_stands ranks t rank) (cases_Bool (
         (found.0, (suc found.1.0, omega (arith, found.1.1), found.1.2), found.2, found.3)
 
 -- and where each stands once, one that stands there is found
-rank_found : (ranks : List Rank) (s : Rank) → AllPairs (λ r s. r.txn ≢ s.txn) ranks → Contains ranks s → rank_of ranks s.txn ≡ Some s.rank
+pub rank_found : (ranks : List Rank) (s : Rank) → AllPairs (λ r s. r.txn ≢ s.txn) ranks → Contains ranks s → rank_of ranks s.txn ≡ Some s.rank
 rank_found [] s once c = absurd (let lt : c.0 < 0 = c.1 in omega arith)
 rank_found (r ∷ ranks) s once c = by (rank_found ranks s (pairs_tail (λ (x : Rank). x.txn) r ranks once)) c.0 c.1 c.2
   where
@@ -172,7 +172,7 @@ below_parts None p h = absurd (let z : false ≡ true = h in cc)
 one_rank : (ranks : List Rank) (t rank : ℕ) → rank_of ranks t ≡ Some rank → Any (λ r. r.txn ≡ t) ranks
 one_rank ranks t rank e = let r = rank_stands ranks t rank e in (r.1.0, r.0, r.1.1, r.1.2, r.2)
 
-some_rank : {a b : ℕ} → Some a ≡ Some b → a ≡ b
+pub some_rank : {a b : ℕ} → Some a ≡ Some b → a ≡ b
 some_rank e = cc
 
 pub order_from_test : (waits : List Wait) (ranks : List Rank) → order_test waits ranks ≡ true → OrderHolds waits ranks

@@ -7,6 +7,7 @@
 
 mod holding;
 mod knot;
+mod laws;
 mod ranking;
 mod search;
 mod turning;
@@ -15,5 +16,6 @@ mod wait;
 
 pub use holding::knot_holds;
 pub use knot::{Knot, Legs, Rank, Ranks};
+pub use laws::{knots_hold, orders_have_no_cycle, waits_have_one_knot};
 pub use untangling::untangle;
 pub use wait::{Wait, Waits};
