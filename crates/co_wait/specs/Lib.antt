@@ -3,3 +3,4 @@ pub mod Knots
 pub mod Holding
 pub mod Searching
 pub mod Testing
+pub mod Text
