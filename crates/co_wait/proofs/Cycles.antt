@@ -1,22 +1,20 @@
 -- Waits that were followed until a transaction came again are the walk, and close to the cycle.
-use Rattle.std.proofs.Common.{◌≡◌, ◌≢◌, ℕ, zero, suc, ◌+◌, ◌<◌, ◌≤◌, ◌⊎◌, inl, inr, Bool, true, false, List, [], ◌∷◌, ◌++◌, map, take, drop, length, get_or, nat_eq, refl, sym, ap, ◌∙◌, subst, drop-cons, arith, Result, Ok, Err, Vec, Global}
-use Rattle.std.specs.Prelude.{All, AllPairs, Any, Contains, HoldsAt, IfOk}
+use Rattle.std.proofs.Common.{◌≡◌, ◌≢◌, ℕ, zero, suc, ◌<◌, ◌≤◌, ◌⊎◌, inl, inr, true, false, List, [], ◌∷◌, ◌++◌, map, take, drop, length, get_or, nat_eq, refl, sym, ap, ◌∙◌, subst, drop-cons, arith, Result, Ok, Err, Vec, Global}
+use Rattle.std.specs.Prelude.{AllPairs, Any, Contains, HoldsAt, IfOk}
 use Rattle.std.specs.declared.alloc.AllocError.{AllocError}
 use Rattle.std.specs.List.{list_any}
 use Rattle.std.proofs.lemmas.Bool.{cases_order, cases_Bool, eqb-true, eq-eqb}
 use Rattle.std.proofs.lemmas.List.{get_or-map, length-map, map-append, take-append-drop}
-use Rattle.std.proofs.lemmas.List.Elements.{All-head, All-tail, All-contains}
+use Rattle.std.proofs.lemmas.List.Elements.{All-contains}
 use Rattle.std.proofs.lemmas.List.Folds.{Any-from_list_any, list_any-from_Any}
-use Rattle.std.proofs.lemmas.Map.Views.{list_any-from_Contains}
-use Rattle.co_state.specs.Table.{Table, look}
+use Rattle.co_state.specs.Table.{Table}
 use Rattle.co_wait.specs.declared.search.Pause.{Pause}
 use Rattle.co_wait.specs.declared.search.Progress.{Progress}
-use Rattle.co_wait.specs.declared.search.Progress.TheVariants.{Open, Ended}
 use Rattle.co_wait.specs.declared.wait.Wait.{Wait}
 use Rattle.co_wait.specs.Chains.{IsWaitBefore, IsInWaits, IsChain, IsRank, IsSetAside}
-use Rattle.co_wait.specs.Knots.{IsLeastLeft, IsTakenFrom, IsWalkFrom, lead_of, ComesAgain, AreOfDistinct, IsTurned, IsCycle}
-use Rattle.co_wait.specs.Searching.{StandsAt, HasEnded, IsSoFar, IsGoneThrough, IsPausedAt, LeadFrom, ArePausedApart, HasComeAgain, BeginsWith, IsRingOf}
-use Rattle.co_wait.proofs.Places.{one_of, same_at, ordered_at, at_default}
+use Rattle.co_wait.specs.Knots.{IsTakenFrom, IsWalkFrom, lead_of, ComesAgain, AreOfDistinct, IsTurned, IsCycle}
+use Rattle.co_wait.specs.Searching.{StandsAt, HasEnded, IsSoFar, IsPausedAt, LeadFrom, ArePausedApart, HasComeAgain, BeginsWith, IsRingOf}
+use Rattle.co_wait.proofs.Places.{one_of, same_at, ordered_at}
 
 -- ---- whose chains do not end
 
@@ -135,7 +133,7 @@ waits_or_not waits t = by (cases_Bool (list_any (λ w. nat_eq w.held t) waits))
     by (inr missing) = inr (λ w c own. let z : true ≡ false = sym (found_one waits t w c own) ∙ missing in cc)
 
 pub no_chain : (waits : List Wait) (t : ℕ) → ((w : Wait) → Contains waits w → w.held ≢ t) → IsRank waits t 0
-no_chain waits t none = record { reached = ([], tt, refl); longest = λ chain h. empty chain h; }
+no_chain waits t none = record { reached = ([], tt, refl); longest = λ chain h. empty chain h }
   where
     empty : (chain : List Wait) → IsChain waits t chain → length chain ≤ 0
     empty [] h = omega arith

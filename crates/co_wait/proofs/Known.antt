@@ -1,16 +1,15 @@
 -- What is known of transactions, and how many they are.
-use Rattle.std.proofs.Common.{◌≡◌, ◌≢◌, ℕ, ◌+◌, ◌^◌, ◌<◌, ◌≤◌, ◌⊎◌, inl, inr, Bool, true, false, cond, List, map, length, nat_eq, Option, None, Some, refl, sym, ap, ◌∙◌, subst, arith}
+use Rattle.std.proofs.Common.{◌≡◌, ◌≢◌, ℕ, ◌+◌, ◌<◌, ◌≤◌, ◌⊎◌, inl, inr, true, cond, None, Some, sym, ap, ◌∙◌, subst}
 use Rattle.std.specs.Prelude.{All, is_some}
 use Rattle.std.specs.List.{list_any}
 use Rattle.std.specs.FinMap.{entries, keys, len, len-entries, len-insert, contains_key-keys}
-use Rattle.std.specs.Ordering.{nat_cmp, eq_by_cmp}
 use Rattle.std.specs.Cmp.{nat_cmp_total}
 use Rattle.std.proofs.lemmas.Cmp.{nat_eq_equiv}
 use Rattle.std.proofs.lemmas.List.{length-map}
 use Rattle.std.proofs.lemmas.Map.Views.{All-from_any, length-le_from_below}
 use Rattle.co_state.specs.Table.{Table, look, holds, put}
 use Rattle.co_state.proofs.Tables.{same_test}
-use Rattle.co_law_base.proofs.Lookups.{put_here, put_there, put_cases, found_holds, holds_found}
+use Rattle.co_law_base.proofs.Lookups.{put_there, put_cases, found_holds, holds_found}
 use Rattle.co_recover.proofs.Ascending.{keys_ascend}
 use Rattle.co_wait.specs.declared.search.Progress.{Progress}
 use Rattle.co_wait.specs.declared.search.Progress.TheVariants.{Open, Ended}
@@ -20,7 +19,7 @@ use Rattle.co_wait.specs.Searching.{HasEnded, KeepsEnded}
 pub few : {X : Type 0} (table : Table X) (n : ℕ) → ((t : ℕ) → holds table t ≡ true → t < n) → len table ≤ n
 few table n below =
     let all : All (λ t. t < n) (keys table) =
-          All-from_any nat_eq_equiv (λ t. t < n) (keys table) (λ t found. below t (contains_key-keys table t ∙ (λ i. list_any (λ k. same_test t k i) (keys table)) ∙ found)) in
+    All-from_any nat_eq_equiv (λ t. t < n) (keys table) (λ t found. below t (contains_key-keys table t ∙ (λ i. list_any (λ k. same_test t k i) (keys table)) ∙ found)) in
     subst (λ k. k ≤ n) (length-map (entries table) (λ e. e.0) ∙ sym (len-entries table)) (length-le_from_below n (keys table) (keys_ascend table) all)
 
 pub one_more : {X : Type 0} (table : Table X) (t : ℕ) (x : X) → look table t ≡ None → len (put table t x) ≡ len table + 1

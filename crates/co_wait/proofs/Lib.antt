@@ -8,3 +8,4 @@ pub mod Orders
 pub mod Tests
 pub mod Rounds
 pub mod Once
+pub mod Ascending

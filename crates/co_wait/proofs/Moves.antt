@@ -1,21 +1,21 @@
 -- Steps of a search through chains.
-use Rattle.std.proofs.Common.{◌≡◌, ◌≢◌, ℕ, suc, ◌+◌, ◌-◌, ◌*◌, ◌^◌, ◌<◌, ◌≤◌, max, ◌⊎◌, inl, inr, true, List, [], ◌∷◌, ◌++◌, length, get_or, Option, None, Some, Result, Ok, Err, refl, sym, ap, ◌∙◌, subst, length-append, arith}
+use Rattle.std.proofs.Common.{◌≡◌, ◌≢◌, ℕ, ◌+◌, ◌-◌, ◌*◌, ◌^◌, ◌<◌, ◌≤◌, max, ◌⊎◌, inl, inr, true, List, [], ◌∷◌, ◌++◌, length, get_or, None, Some, Result, Ok, Err, refl, sym, ap, ◌∙◌, subst, length-append, arith}
 use Rattle.std.specs.Prelude.{All, AllPairs, Any, Contains, sum_by, IfOk, OnOk}
 use Rattle.std.specs.declared.alloc.AllocError.{AllocError}
 use Rattle.std.specs.FinMap.{len}
-use Rattle.std.proofs.lemmas.Bool.{cases_order, cases_lt}
+use Rattle.std.proofs.lemmas.Bool.{cases_lt}
 use Rattle.std.proofs.lemmas.List.Elements.{All-nil, All-weaker, All-push}
 use Rattle.std.proofs.lemmas.List.Quantifiers.{all_pairs_push, Any-push}
 use Rattle.std.proofs.lemmas.List.Sums.{sum_by-append}
 use Rattle.co_state.specs.Table.{Table, look, put, holds}
-use Rattle.co_law_base.proofs.Lookups.{put_here, put_there, put_cases, found_holds}
+use Rattle.co_law_base.proofs.Lookups.{put_here, put_there, put_cases}
 use Rattle.co_wait.specs.declared.search.Pause.{Pause}
 use Rattle.co_wait.specs.declared.search.Progress.{Progress}
 use Rattle.co_wait.specs.declared.search.Progress.TheVariants.{Open, Ended}
 use Rattle.co_wait.specs.declared.search.Visit.{Visit}
 use Rattle.co_wait.specs.declared.wait.Wait.{Wait}
 use Rattle.co_wait.specs.Chains.{IsWaitBefore, IsInWaits, IsChain, IsRank}
-use Rattle.co_wait.specs.Searching.{StandsAt, BeginsAt, HasNoneAt, HasEnded, IsSoFar, NoneIsOpen, KeepsEnded, IsGoneThrough, IsPausedAt, LeadFrom, ArePausedApart, AreCounted, IsSearching, HasComeAgain, HasGoneThrough, IsNextFirst, work_from, work_left}
+use Rattle.co_wait.specs.Searching.{StandsAt, BeginsAt, HasNoneAt, HasEnded, IsSoFar, KeepsEnded, IsGoneThrough, IsPausedAt, LeadFrom, ArePausedApart, AreCounted, IsSearching, HasComeAgain, HasGoneThrough, IsNextFirst, work_from, work_left}
 use Rattle.co_wait.proofs.Lists.{front_all, last_all, front_pairs, last_pairs, any_cases, any_front}
 use Rattle.co_wait.proofs.Places.{same_at, one_of, none_behind}
 use Rattle.co_wait.proofs.Known.{few, one_more, no_more, keeps, open_not_ended, none_not_ended, still, known_before, known_or_new}
@@ -54,7 +54,7 @@ all_still waits known t x path kept apart all =
 -- ---- a transaction whose waits were all taken
 
 module _ (waits : List Wait) (ordered : AllPairs IsWaitBefore waits) (known : Table Progress) (so_far : IsSoFar waits known) (t place longest : ℕ)
-         (gone : IsGoneThrough waits known t place longest) (is_open : look known t ≡ Some Open) (none : HasNoneAt waits t place) where
+    (gone : IsGoneThrough waits known t place longest) (is_open : look known t ≡ Some Open) (none : HasNoneAt waits t place) where
   after : Table Progress
   after = put known t (Ended longest)
 
@@ -73,7 +73,7 @@ module _ (waits : List Wait) (ordered : AllPairs IsWaitBefore waits) (known : Ta
       omega arith
 
   pub left_ranked : IsRank waits t longest
-  left_ranked = record { reached = gone.reached; longest = no_longer; }
+  left_ranked = record { reached = gone.reached; longest = no_longer }
 
   pub left_so_far : IsSoFar waits (put known t (Ended longest))
   left_so_far = record {
@@ -108,7 +108,7 @@ weight waits p = work_from waits p.place
 -- ---- back to the wait that was followed last
 
 module _ (waits : List Wait) (ordered : AllPairs IsWaitBefore waits) (first : ℕ) (known : Table Progress) (front : List Pause) (p : Pause) (visit : Visit)
-         (s : IsSearching waits first known (front ++ p ∷ []) visit) (none : HasNoneAt waits visit.txn visit.place) where
+    (s : IsSearching waits first known (front ++ p ∷ []) visit) (none : HasNoneAt waits visit.txn visit.place) where
   now : Table Progress
   now = put known visit.txn (Ended visit.longest)
 
@@ -178,7 +178,7 @@ module _ (waits : List Wait) (ordered : AllPairs IsWaitBefore waits) (first : �
 -- ---- all chains of the first one end
 
 module _ (waits : List Wait) (ordered : AllPairs IsWaitBefore waits) (first : ℕ) (known : Table Progress) (visit : Visit)
-         (s : IsSearching waits first known [] visit) (none : HasNoneAt waits visit.txn visit.place) where
+    (s : IsSearching waits first known [] visit) (none : HasNoneAt waits visit.txn visit.place) where
   pub done : HasGoneThrough waits first (put known visit.txn (Ended visit.longest))
   done = record {
     rest = record {
@@ -212,7 +212,7 @@ pub leave_back : (waits : List Wait) (first : ℕ) (old new : Table Progress) (p
 leave_back waits first old new path front p visit ordered none s cut is =
     let apart = subst (λ list. IsSearching waits first old list visit) cut s in
     let Made : List Pause → Table Progress → Type 0 = λ list known.
-          IsSearching waits first known front (record { txn = p.wait.held; place = p.place; longest = p.longest }) × (work_left waits known front p.place < work_left waits old list visit.place) in
+    IsSearching waits first known front (record { txn = p.wait.held; place = p.place; longest = p.longest }) × (work_left waits known front p.place < work_left waits old list visit.place) in
     subst (λ list. Made list new) (sym cut) (subst (Made (front ++ p ∷ [])) (sym is) (back_searching waits ordered first old front p visit apart none, back_less waits ordered first old front p visit apart none))
 
 pub leave_done : (waits : List Wait) (first : ℕ) (old new : Table Progress) (path : List Pause) (visit : Visit) → AllPairs IsWaitBefore waits → HasNoneAt waits visit.txn visit.place →
@@ -284,8 +284,8 @@ begin_with waits known new first path visit next small is nothing made =
 -- ---- a wait is followed
 
 module _ (waits : List Wait) (first : ℕ) (known : Table Progress) (path : List Pause) (visit next : Visit) (w : Wait) (s : IsSearching waits first known path visit)
-         (here : StandsAt waits visit.place w) (own : w.held ≡ visit.txn) (unknown : look known w.by ≡ None) (small : w.by < 2 ^ 32)
-         (onward : next.txn ≡ w.by) (nothing : next.longest ≡ 0) (begins : BeginsAt waits w.by next.place) where
+    (here : StandsAt waits visit.place w) (own : w.held ≡ visit.txn) (unknown : look known w.by ≡ None) (small : w.by < 2 ^ 32)
+    (onward : next.txn ≡ w.by) (nothing : next.longest ≡ 0) (begins : BeginsAt waits w.by next.place) where
   after_open : Table Progress
   after_open = put known w.by Open
 
@@ -424,24 +424,26 @@ pub pass_on : (waits : List Wait) (first : ℕ) (known : Table Progress) (path :
     look known w.by ≡ Some (Ended rank) → next ≡ record { txn = visit.txn; place = visit.place + 1; longest = max visit.longest (rank + 1) } →
     IsSearching waits first known path next × (work_left waits known path next.place < work_left waits known path visit.place)
 pass_on waits first known path visit next w rank s here own ended is =
-    subst (λ next. IsSearching waits first known path next × (work_left waits known path next.place < work_left waits known path visit.place)) (sym is)
-    (record {
-      so_far = s.so_far;
-      paused = s.paused;
-      lead = s.lead;
-      apart = s.apart;
-      new = s.new;
-      gone = pass_gone waits known visit.txn visit.place visit.longest rank w s.so_far s.gone here own ended;
-      is_open = s.is_open;
-      opened = s.opened;
-      counted = record {
-        count = s.counted.count;
-        fits = s.counted.fits;
-        ranks = s.counted.ranks;
-        here = let lt : rank < s.counted.count = s.counted.ranks w.by rank ended in let le : visit.longest ≤ s.counted.count = s.counted.here in omega arith;
-        paused = s.counted.paused;
-      };
-    }, let lt : visit.place < length waits = here.0 in less (length waits) visit.place ((2 ^ 32 - len known) * (length waits + 2) + sum_by (λ p. work_from waits p.place) path) lt)
+    subst (λ next. IsSearching waits first known path next × (work_left waits known path next.place < work_left waits known path visit.place)) (sym is) (
+      record {
+        so_far = s.so_far;
+        paused = s.paused;
+        lead = s.lead;
+        apart = s.apart;
+        new = s.new;
+        gone = pass_gone waits known visit.txn visit.place visit.longest rank w s.so_far s.gone here own ended;
+        is_open = s.is_open;
+        opened = s.opened;
+        counted = record {
+          count = s.counted.count;
+          fits = s.counted.fits;
+          ranks = s.counted.ranks;
+          here = let lt : rank < s.counted.count = s.counted.ranks w.by rank ended in let le : visit.longest ≤ s.counted.count = s.counted.here in omega arith;
+          paused = s.counted.paused;
+        };
+      },
+      let lt : visit.place < length waits = here.0 in less (length waits) visit.place ((2 ^ 32 - len known) * (length waits + 2) + sum_by (λ p. work_from waits p.place) path) lt,
+    )
   where
     less : (n place rest : ℕ) → place < n → rest + (1 + (n - (place + 1))) < rest + (1 + (n - place))
     less n place rest lt = omega arith

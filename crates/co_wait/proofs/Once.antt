@@ -1,13 +1,13 @@
 -- Waits have one knot: ranks are one, the walk has one next wait, and the ring is turned in one way.
-use Rattle.std.proofs.Common.{◌≡◌, ◌≢◌, ℕ, zero, suc, ◌+◌, ◌<◌, ◌≤◌, ◌⊎◌, inl, inr, List, [], ◌∷◌, ◌++◌, length, get_or, refl, sym, ap, ◌∙◌, subst, append_assoc, append-nil, arith}
-use Rattle.std.specs.Prelude.{All, AllPairs, Any, Contains, ◌↔◌}
+use Rattle.std.proofs.Common.{◌≡◌, ◌≢◌, ℕ, zero, suc, ◌<◌, ◌≤◌, ◌⊎◌, inl, inr, List, [], ◌∷◌, ◌++◌, length, get_or, refl, sym, ap, ◌∙◌, subst, append_assoc, append-nil, arith}
+use Rattle.std.specs.Prelude.{All, AllPairs, Any, Contains}
 use Rattle.std.proofs.lemmas.Bool.{cases_order}
 use Rattle.std.proofs.lemmas.List.Elements.{All-append, All-cons, All-head, All-tail, All-contains}
 use Rattle.co_wait.specs.declared.knot.Knot.{Knot}
 use Rattle.co_wait.specs.declared.knot.Knot.TheVariants.{Cycle, Order}
 use Rattle.co_wait.specs.declared.knot.Rank.{Rank}
 use Rattle.co_wait.specs.declared.wait.Wait.{Wait}
-use Rattle.co_wait.specs.Chains.{IsWaitBefore, IsInWaits, IsRank, IsSetAside}
+use Rattle.co_wait.specs.Chains.{IsWaitBefore, IsRank}
 use Rattle.co_wait.specs.Knots.{IsOrder, IsLeastLeft, IsTakenFrom, IsWalkFrom, lead_of, ComesAgain, AreOfDistinct, LeastIsFirst, IsTurned, IsCycle, IsKnot}
 use Rattle.co_wait.specs.Searching.{BeginsWith}
 use Rattle.co_wait.proofs.Places.{ordered_at, same_at}
@@ -74,8 +74,8 @@ ranks_once waits (r ∷ ranks) (s ∷ others) up up' to from a b =
     let high = least_of s others r up' (to r.txn (0, r, omega arith, refl, refl)) in
     let e = same_head waits r s low high (All-head (λ r. IsRank waits r.txn r.rank) r ranks a) (All-head (λ r. IsRank waits r.txn r.rank) s others b) in
     let rest = ranks_once waits ranks others (rising_tail r ranks up) (rising_tail s others up')
-          (behind r s ranks others (ap (λ (x : Rank). x.txn) e) up to) (behind s r others ranks (sym (ap (λ (x : Rank). x.txn) e)) up' from)
-          (All-tail (λ r. IsRank waits r.txn r.rank) r ranks a) (All-tail (λ r. IsRank waits r.txn r.rank) s others b) in
+    (behind r s ranks others (ap (λ (x : Rank). x.txn) e) up to) (behind s r others ranks (sym (ap (λ (x : Rank). x.txn) e)) up' from)
+    (All-tail (λ r. IsRank waits r.txn r.rank) r ranks a) (All-tail (λ r. IsRank waits r.txn r.rank) s others b) in
     λ i. e i ∷ rest i
 
 -- ---- the walk
@@ -116,10 +116,10 @@ walks_once waits ordered (w ∷ one) [] done t h k apart apart' again again' = a
 walks_once waits ordered (w ∷ one) (v ∷ other) done t h k apart apart' again again' =
     let same = next_once waits ordered w v h.1 k.1 (h.0 ∙ sym k.0) in
     let rest = walks_once waits ordered one other (done ++ w ∷ []) w.by h.2 (subst (λ (x : Wait). IsWalkFrom waits x.by other) (sym same) k.2)
-          (subst AreOfDistinct (sym (append_assoc done (w ∷ []) one)) apart)
-          (subst AreOfDistinct (sym (append_assoc done (w ∷ []) other)) (subst (λ x. AreOfDistinct (done ++ x ∷ other)) (sym same) apart'))
-          (subst (Any (λ x. x.held ≡ lead_of w.by one)) (sym (append_assoc done (w ∷ []) one)) again)
-          (subst (Any (λ x. x.held ≡ lead_of w.by other)) (sym (append_assoc done (w ∷ []) other)) (subst (λ (y : Wait). Any (λ x. x.held ≡ lead_of y.by other) (done ++ y ∷ other)) (sym same) again')) in
+    (subst AreOfDistinct (sym (append_assoc done (w ∷ []) one)) apart)
+    (subst AreOfDistinct (sym (append_assoc done (w ∷ []) other)) (subst (λ x. AreOfDistinct (done ++ x ∷ other)) (sym same) apart'))
+    (subst (Any (λ x. x.held ≡ lead_of w.by one)) (sym (append_assoc done (w ∷ []) one)) again)
+    (subst (Any (λ x. x.held ≡ lead_of w.by other)) (sym (append_assoc done (w ∷ []) other)) (subst (λ (y : Wait). Any (λ x. x.held ≡ lead_of y.by other) (done ++ y ∷ other)) (sym same) again')) in
     λ i. same i ∷ rest i
 
 -- ---- the ring
@@ -214,10 +214,10 @@ cycles_once waits ordered legs others one other =
     let start = start_once waits one.start other.start one.least other.least in
     let walk = subst (λ t. IsWalkFrom waits t (other.before ++ other.ring)) (sym start) other.walk in
     let same = walks_once waits ordered (one.before ++ one.ring) (other.before ++ other.ring) [] one.start one.walk walk one.first_time other.first_time
-          (has_again one.before one.ring (lead_of one.start (one.before ++ one.ring)) (begins_at one.before one.ring one.start one.again))
-          (has_again other.before other.ring (lead_of one.start (other.before ++ other.ring)) (begins_at other.before other.ring one.start other.again)) in
+    (has_again one.before one.ring (lead_of one.start (one.before ++ one.ring)) (begins_at one.before one.ring one.start one.again))
+    (has_again other.before other.ring (lead_of one.start (other.before ++ other.ring)) (begins_at other.before other.ring one.start other.again)) in
     let rings = rings_once one.before other.before one.ring other.ring (lead_of one.start (one.before ++ one.ring)) same one.first_time (begins_at one.before one.ring one.start one.again)
-          (subst (λ list. BeginsWith (lead_of one.start list) other.ring) (sym same) (begins_at other.before other.ring one.start other.again)) in
+    (subst (λ list. BeginsWith (lead_of one.start list) other.ring) (sym same) (begins_at other.before other.ring one.start other.again)) in
     turns_once one.ring legs others (distinct_back one.before one.ring one.first_time) one.turned (subst (λ ring. IsTurned ring others) (sym rings.1) other.turned)
 
 no_cycle_too : (waits : List Wait) (ranks : List Rank) (legs : List Wait) → IsOrder waits ranks → IsCycle waits legs → ⊥

@@ -1,5 +1,5 @@
 -- What is known where all chains end is the order.
-use Rattle.std.proofs.Common.{◌≡◌, ◌≢◌, T, ℕ, zero, suc, ◌+◌, ◌<◌, ◌≤◌, ◌⊎◌, inl, inr, Bool, true, false, cond, List, [], ◌∷◌, map, length, get_or, Option, None, Some, refl, sym, ap, ◌∙◌, subst, arith}
+use Rattle.std.proofs.Common.{◌≡◌, ◌≢◌, ℕ, suc, ◌+◌, ◌<◌, ◌≤◌, ◌⊎◌, inl, inr, Bool, true, false, cond, List, [], ◌∷◌, map, length, get_or, Option, None, Some, refl, sym, ap, ◌∙◌, subst, arith}
 use Rattle.std.specs.Prelude.{All, AllPairs, Any, Contains, is_some}
 use Rattle.std.specs.FinMap.{entries, entries_sorted, get-entries}
 use Rattle.std.specs.FinMap.Entries.{find}
@@ -18,7 +18,7 @@ use Rattle.co_wait.specs.declared.search.Progress.TheVariants.{Open, Ended}
 use Rattle.co_wait.specs.declared.wait.Wait.{Wait}
 use Rattle.co_wait.specs.Chains.{IsWaitBefore, IsInWaits, IsRank}
 use Rattle.co_wait.specs.Knots.{IsOrder}
-use Rattle.co_wait.specs.Searching.{StandsAt, HasEnded, IsSoFar, NoneIsOpen, IsAtRest, IsNextFirst, ranked_of, rank_in}
+use Rattle.co_wait.specs.Searching.{StandsAt, HasEnded, NoneIsOpen, IsAtRest, IsNextFirst, ranked_of, rank_in}
 use Rattle.co_wait.proofs.Places.{same_at, held_rises}
 
 any_cons : (P : Rank → Type 0) (r : Rank) (ranks : List Rank) → Any P ranks → Any P (r ∷ ranks)

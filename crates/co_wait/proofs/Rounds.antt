@@ -1,17 +1,14 @@
 -- A cycle goes round from any of its waits, and under an order none does.
-use Rattle.std.proofs.Common.{◌≡◌, ◌≢◌, ℕ, zero, suc, ◌+◌, ◌<◌, ◌≤◌, ◌⊎◌, inl, inr, List, [], ◌∷◌, ◌++◌, length, get_or, Some, refl, sym, ap, ◌∙◌, subst, append-nil, length-append, arith}
-use Rattle.std.specs.Prelude.{All, AllPairs, Any, Contains}
-use Rattle.std.proofs.lemmas.Bool.{cases_lt}
-use Rattle.std.proofs.lemmas.List.{get_or_default, get_or_append_left}
+use Rattle.std.proofs.Common.{◌≡◌, ◌≢◌, ℕ, zero, suc, ◌<◌, ◌≤◌, inl, inr, List, [], ◌∷◌, ◌++◌, length, get_or, refl, sym, ap, ◌∙◌, subst, arith}
+use Rattle.std.specs.Prelude.{All, Contains}
 use Rattle.std.proofs.lemmas.List.Elements.{All-nil, All-cons, All-head, All-tail, All-append}
-use Rattle.std.proofs.Math.Seq.{get_or-append_right}
 use Rattle.co_wait.specs.declared.knot.Knot.{Knot}
 use Rattle.co_wait.specs.declared.knot.Knot.TheVariants.{Cycle, Order}
 use Rattle.co_wait.specs.declared.knot.Rank.{Rank}
 use Rattle.co_wait.specs.declared.wait.Wait.{Wait}
-use Rattle.co_wait.specs.Chains.{IsInWaits, IsChain, IsRank}
+use Rattle.co_wait.specs.Chains.{IsInWaits, IsRank}
 use Rattle.co_wait.specs.Holding.{LeadOn, GoRound, CycleHolds, OrderHolds, KnotHolds}
-use Rattle.co_wait.specs.Knots.{IsOrder, IsTakenFrom, IsWalkFrom, lead_of, ComesAgain, AreOfDistinct, LeastIsFirst, IsTurned, IsCycle, IsKnot}
+use Rattle.co_wait.specs.Knots.{IsOrder, IsWalkFrom, lead_of, ComesAgain, AreOfDistinct, LeastIsFirst, IsCycle, IsKnot}
 use Rattle.co_wait.specs.Testing.{rank_of}
 use Rattle.co_wait.proofs.Tests.{rank_found, some_rank}
 

@@ -1,8 +1,8 @@
 -- The tests of a knot pass where it holds.
-use Rattle.std.proofs.Common.{◌≡◌, ◌≢◌, ℕ, zero, suc, ◌<◌, ◌⊎◌, inl, inr, Bool, true, false, not, ◌&&◌, ◌||◌, ◌==◌, nat_eq, nat_lt, List, [], ◌∷◌, length, get_or, Option, None, Some, if◌then◌else◌, cond, refl, sym, ap, ◌∙◌, subst, arith}
-use Rattle.std.specs.Prelude.{All, AllPairs, Any, Contains, ◌↔◌}
+use Rattle.std.proofs.Common.{◌≡◌, ◌≢◌, ℕ, zero, suc, ◌<◌, ◌⊎◌, inl, inr, Bool, true, false, not, ◌&&◌, ◌||◌, ◌==◌, nat_lt, List, [], ◌∷◌, length, get_or, Option, None, Some, cond, refl, sym, ap, ◌∙◌, subst, arith}
+use Rattle.std.specs.Prelude.{All, AllPairs, Any, Contains}
 use Rattle.std.specs.List.{list_any, list_all}
-use Rattle.std.proofs.lemmas.Bool.{and_parts, and_from, or_cases, or_left, or_right, eqb-true, eq-eqb, cases_Bool, not_from_false, cond-true, cond-false, eqb-false}
+use Rattle.std.proofs.lemmas.Bool.{and_parts, and_from, or_cases, or_left, or_right, eqb-true, eq-eqb, cases_Bool, not_from_false, cond-true, cond-false}
 use Rattle.std.proofs.lemmas.Bool.Decides.{nat_tests}
 use Rattle.std.proofs.lemmas.List.Folds.{Any-from_list_any, list_any-from_Any}
 use Rattle.std.proofs.lemmas.List.{get_or_default}
@@ -213,7 +213,7 @@ pub test_from_order : (waits : List Wait) (ranks : List Rank) → OrderHolds wai
 test_from_order waits ranks h =
     and_from _ _
     (and_from _ _ (pairs_apart (λ r. r.txn) ranks h.once)
-     (list_all-from_AllPass (λ r. in_waits waits r.txn) ranks (λ k d lt. from_in waits (get_or ranks k d).txn ((h.whole (get_or ranks k d).txn).1 (k, get_or ranks k d, lt, get_or_default ranks k (get_or ranks k d) d lt, refl)))))
+    (list_all-from_AllPass (λ r. in_waits waits r.txn) ranks (λ k d lt. from_in waits (get_or ranks k d).txn ((h.whole (get_or ranks k d).txn).1 (k, get_or ranks k d, lt, get_or_default ranks k (get_or ranks k d) d lt, refl)))))
     (list_all-from_AllPass (falls ranks) waits (λ k d lt. falls_at (get_or waits k d) (k, lt, get_or_default waits k (get_or waits k d) d lt)))
   where
     found : (t : ℕ) → IsInWaits waits t → (r : Rank) × Contains ranks r × (r.txn ≡ t) × (rank_of ranks t ≡ Some r.rank)

@@ -1,5 +1,5 @@
 -- A ring is turned.
-use Rattle.std.proofs.Common.{◌≡◌, ℕ, suc, ◌<◌, ◌≤◌, List, [], ◌∷◌, ◌++◌, length, take, drop, get_or, refl, sym, ap, ◌∙◌, subst, drop-cons, arith}
+use Rattle.std.proofs.Common.{◌≡◌, ℕ, suc, ◌<◌, ◌≤◌, List, ◌++◌, length, take, drop, get_or, sym, ap, ◌∙◌, subst, drop-cons}
 use Rattle.std.specs.Prelude.{All}
 use Rattle.std.proofs.lemmas.List.{get_or_default, take-append-drop}
 use Rattle.std.proofs.lemmas.List.Elements.{All-append, All-drop, All-take}
@@ -19,7 +19,7 @@ turned_at ring legs place lt least is = record {
   joined = is;
   least = subst LeastIsFirst (sym (is ∙ ap (λ back. back ++ take place ring) (drop-cons ring place d lt)))
       (All-append (λ v. (get_or ring place d).held ≤ v.held) (drop (suc place) ring) (take place ring) (All-drop (λ v. (get_or ring place d).held ≤ v.held) (suc place) ring above)
-       (All-take (λ v. (get_or ring place d).held ≤ v.held) place ring above));
+      (All-take (λ v. (get_or ring place d).held ≤ v.held) place ring above));
 }
   where
     d : Wait

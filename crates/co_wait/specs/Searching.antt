@@ -1,5 +1,5 @@
 -- How far a search through chains has come.
-use Rattle.std.specs.Prelude.{ℕ, true, ◌≡◌, ◌≢◌, ◌<◌, ◌≤◌, ◌⊎◌, ◌+◌, ◌-◌, ◌*◌, ◌^◌, List, [], ◌∷◌, ◌++◌, map, Option, None, Some, length, All, AllPairs, Any, Contains, MatchOption, slice_index_or, sum_by}
+use Rattle.std.specs.Prelude.{ℕ, true, ◌≡◌, ◌≢◌, ◌<◌, ◌≤◌, ◌⊎◌, ◌+◌, ◌-◌, ◌*◌, ◌^◌, List, [], ◌∷◌, ◌++◌, map, None, Some, length, All, AllPairs, Any, Contains, slice_index_or, sum_by}
 use Rattle.std.specs.FinMap.{len}
 use Rattle.co_state.specs.Table.{Table, look, holds}
 use Rattle.co_wait.specs.declared.knot.Rank.{Rank}

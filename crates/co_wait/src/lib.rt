@@ -8,6 +8,7 @@
 mod holding;
 mod knot;
 mod laws;
+mod ordering;
 mod ranking;
 mod search;
 mod text;
@@ -18,6 +19,7 @@ mod wait;
 pub use holding::knot_holds;
 pub use knot::{Knot, Legs, Rank, Ranks};
 pub use laws::{knots_hold, orders_have_no_cycle, waits_have_one_knot};
+pub use ordering::are_ascending;
 pub use text::waits_text;
 pub use untangling::untangle;
 pub use wait::{Wait, Waits};

@@ -62,11 +62,11 @@ fn first_place(waits: &[Wait], txn: Txn) -> usize
     requires { AllPairs IsWaitBefore waits.now }
     ensures { BeginsAt waits.now txn result }
 {
-    waits.partition_point(|wait: &Wait| -> bool
-        ensures { result ≡ nat_lt wait.now.held txn }
-    {
-        wait.held < txn
-    })
+    waits.partition_point(
+        |wait: &Wait| -> bool
+            ensures { result ≡ nat_lt wait.now.held txn }
+        { wait.held < txn },
+    )
 }
 
 /// The wait of a transaction at a place.
@@ -74,11 +74,7 @@ fn own_wait(waits: &[Wait], txn: Txn, place: usize) -> Option<Wait>
     ensures { MatchOption result (HasNoneAt waits.now txn place) (λ w. StandsAt waits.now place w × (w.held ≡ txn)) }
 {
     let wait = waits.get(place)?;
-    if wait.held == txn {
-        Some(*wait)
-    } else {
-        None
-    }
+    if wait.held == txn { Some(*wait) } else { None }
 }
 
 /// Begins to go through a transaction.

@@ -1,5 +1,5 @@
 -- The tests pass exactly where the knot holds.
-use Rattle.std.proofs.Common.{◌≡◌, true, rules, sym, ◌∙◌, subst}
+use Rattle.std.proofs.Common.{◌≡◌, rules, sym, ◌∙◌}
 use Rattle.co_wait.specs.Testing.{knot_test}
 use Rattle.co_wait.proofs.Tests.{holds_from_test, test_from_holds}
 use Rattle.co_wait.proofs.holding.knot_holds.Goals as goal

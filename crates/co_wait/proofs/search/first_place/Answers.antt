@@ -8,4 +8,4 @@ pub returns : goal.returns
 returns c =
     begins c.args.waits.now c.args.txn c.partition_point.result c.partition_point.ensures.bound
     (IsPartitionPoint-from_clause (λ w. nat_lt w.held c.args.txn) c.args.waits.now c.partition_point.result c.partition_point.ensures.partitioned
-     (partitioned c.args.waits.now c.args.txn c.requires) (λ a r f' called. search rules))
+    (partitioned c.args.waits.now c.args.txn c.requires) (λ a r f' called. search rules))

@@ -10,7 +10,7 @@ use Rattle.co_wait.proofs.search.leave.Goals as goal
 pub returns-in-Some-clause-next : goal.returns-in-Some-clause-next
 returns-in-Some-clause-next c =
     λ waits first ordered none s.
-      leave_back waits first c.args.known.now c.insert.new.self c.args.path.now.items c.pop.new.self.items c.in-Some.pause c.args.visit ordered none s c.in-Some.ensures.items c.in_ok-insert.ensures.ok
+    leave_back waits first c.args.known.now c.insert.new.self c.args.path.now.items c.pop.new.self.items c.in-Some.pause c.args.visit ordered none s c.in-Some.ensures.items c.in_ok-insert.ensures.ok
 
 pub returns-in-Some-clause-kept : goal.returns-in-Some-clause-kept
 returns-in-Some-clause-kept c =
@@ -19,7 +19,7 @@ returns-in-Some-clause-kept c =
 pub returns-in-None-clause-next : goal.returns-in-None-clause-next
 returns-in-None-clause-next c =
     λ waits first ordered none s.
-      leave_done waits first c.args.known.now c.insert.new.self c.args.path.now.items c.args.visit ordered none s (nil_from_length c.args.path.now.items (sym c.args.path.now.ok.0 ∙ c.in-None.ensures.cases.0)) c.in_ok-insert.ensures.ok
+    leave_done waits first c.args.known.now c.insert.new.self c.args.path.now.items c.args.visit ordered none s (nil_from_length c.args.path.now.items (sym c.args.path.now.ok.0 ∙ c.in-None.ensures.cases.0)) c.in_ok-insert.ensures.ok
 
 pub returns-in-None-clause-kept : goal.returns-in-None-clause-kept
 returns-in-None-clause-kept c =

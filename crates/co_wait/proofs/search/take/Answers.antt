@@ -1,5 +1,5 @@
 -- A wait is passed, followed, or closes.
-use Rattle.std.proofs.Common.{◌≡◌, ◌++◌, ◌∷◌, [], ap, ◌∙◌, rules}
+use Rattle.std.proofs.Common.{◌++◌, ◌∷◌, [], ap, ◌∙◌, rules}
 use Rattle.co_wait.proofs.Moves.{pass_on, rank_fits, come_again}
 use Rattle.co_wait.proofs.search.take.Goals as goal
 

@@ -1,4 +1,3 @@
-use Rattle.std.proofs.Common.{ℕ}
 use Rattle.co_wait.specs.Searching.{IsSearching, KeepsEnded, work_left}
 use Rattle.co_wait.proofs.untangling.search.Given as goal
 
