@@ -16,9 +16,10 @@ use Rattle.co_plain.specs.declared.member_state.MemberState.{MemberState}
 use Rattle.co_undecided.specs.Kept.{coord_asked}
 use Rattle.co_member.specs.Reading.{verdict_where}
 use Rattle.co_law_base.proofs.Lookups.{look_none, is_nothing}
-use Rattle.co_cluster.specs.Listed.{is_undecided, is_undecided_up, any_to, AreNoted, found_to, where_so, doubt_of, doubt_at, IsDoubt, IsDoubtBefore, held_where, wait_of, wait_at, IsWait, IsWaitBefore}
+use Rattle.co_cluster.specs.Listed.{is_undecided, is_undecided_up, any_to, AreNoted, found_to, where_so, doubt_of, doubt_at, IsDoubt, IsDoubtBefore, held_where, wait_of, wait_at, IsWait}
 use Rattle.co_cluster.specs.declared.doubting.Doubt.{Doubt}
-use Rattle.co_cluster.specs.declared.waiting.Wait.{Wait}
+use Rattle.co_wait.specs.declared.wait.Wait.{Wait}
+use Rattle.co_wait.specs.Chains.{IsWaitBefore}
 use Rattle.co_cluster.proofs.Pairwise.{any_at, any_there, found_in, found_there, IsGiven, given_in, given_there, found_ascends, given_ascends, pairs_ascend, key_in, in_key}
 
 -- ---- open transactions

@@ -11,7 +11,7 @@ use Rattle.co_plain.specs.Quiet.{IsMember}
 use Rattle.co_undecided.specs.Kept.{coord_asked}
 use Rattle.co_member.specs.Reading.{verdict_where}
 use Rattle.co_cluster.specs.declared.doubting.Doubt.{Doubt}
-use Rattle.co_cluster.specs.declared.waiting.Wait.{Wait}
+use Rattle.co_wait.specs.declared.wait.Wait.{Wait}
 
 -- active or voted
 abbrev pub is_undecided : EngineState → ℕ → Bool
@@ -83,7 +83,3 @@ pub record IsWait (s : Federation) (w : Wait) : Type 0 where
   pub up : (s.member w.member).up ≡ true
   pub active : holds (s.member w.member).engine.active w.held ≡ true
   pub held : verdict_where (s.member w.member).engine w.held (look (s.member w.member).asked w.held) ≡ Some (HeldBy w.by)
-
--- by the held transaction, and then by its member
-abbrev pub IsWaitBefore : Wait → Wait → Type 0
-IsWaitBefore w v = (w.held < v.held) ⊎ ((w.held ≡ v.held) × (w.member < v.member))

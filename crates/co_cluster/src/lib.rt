@@ -24,7 +24,7 @@ mod walking;
 
 pub use calls::{CoordCall, MemberCall};
 pub use cluster::Cluster;
+pub use co_wait::{Wait, Waits};
 pub use doubting::{Doubt, Doubts};
 pub use dues::Due;
 pub use exchanges::{Exchange, ExchangeKind};
-pub use waiting::{Wait, Waits};

@@ -2,28 +2,16 @@
 ghost use Rattle.std.specs.Prelude.{◌≡◌, ◌≤◌, ◌++◌, length, flat_map, AllPairs, Contains, IfOk, OnOk, ◌↔◌};
 ghost use Rattle.co_plain.specs.Federation.{Federation};
 ghost use Rattle.co_vote.specs.Ballots.{verdict_of};
-ghost use Rattle.co_cluster.specs.Listed.{found_to, holder, held_at, wait_at, IsWait, IsWaitBefore};
+ghost use Rattle.co_wait.specs.Chains.{IsWaitBefore};
+ghost use Rattle.co_cluster.specs.Listed.{found_to, holder, held_at, wait_at, IsWait};
 ghost use Rattle.co_cluster.specs.Standing.{RepresentsCluster};
 
 use crate::cluster::Cluster;
-use co_base::{Sequence, Txn};
+use co_base::Txn;
 use co_engine::Engine;
 use co_vote::{Ballot, Phase};
+use co_wait::{Wait, Waits};
 use std::alloc::AllocError;
-
-/// A vote that was asked for and is held.
-#[derive(Clone, Copy)]
-pub struct Wait {
-    /// The number of the member.
-    pub member: u8,
-    /// The transaction whose vote is held.
-    pub held: Txn,
-    /// The least transaction in its way.
-    pub by: Txn,
-}
-
-/// Held votes: ascending by the held transaction, then by member.
-pub type Waits = Sequence<Wait>;
 
 /// The transaction in the way of a vote.
 fn holder(ballot: &Ballot<'_>) -> Option<Txn>

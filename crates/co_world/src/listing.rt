@@ -6,14 +6,16 @@ ghost use Rattle.co_plain.specs.DurableRecords.{durable_in};
 ghost use Rattle.co_plain.specs.Federation.{Federation};
 ghost use Rattle.co_plain.specs.Quiet.{IsOpen};
 ghost use Rattle.co_cluster.specs.Conditions.{IsReady};
-ghost use Rattle.co_cluster.specs.Listed.{IsDoubt, IsDoubtBefore, IsWait, IsWaitBefore};
+ghost use Rattle.co_cluster.specs.Listed.{IsDoubt, IsDoubtBefore, IsWait};
+ghost use Rattle.co_wait.specs.Chains.{IsWaitBefore};
 ghost use Rattle.co_world.specs.Standing.{RepresentsWorld};
 
 use crate::world::World;
 use co_base::Txns;
-use co_cluster::{Doubt, Doubts, Wait, Waits};
+use co_cluster::{Doubt, Doubts};
 use co_engine::Engine;
 use co_serial::MemberRows;
+use co_wait::{Wait, Waits};
 use std::alloc::AllocError;
 
 impl<E: Engine + Drop> World<E> {

@@ -2,8 +2,9 @@ use Rattle.std.proofs.Common.{◌≡◌, ◌↔◌, ℕ, List, length, flat_map,
 use Rattle.std.specs.Prelude.{AllPairs, Contains}
 use Rattle.std.proofs.lemmas.Result.{IfOk-weaker}
 use Rattle.co_plain.specs.Federation.{Federation}
-use Rattle.co_cluster.specs.Listed.{found_to, wait_at, IsWait, IsWaitBefore}
-use Rattle.co_cluster.specs.declared.waiting.Wait.{Wait}
+use Rattle.co_cluster.specs.Listed.{found_to, wait_at, IsWait}
+use Rattle.co_wait.specs.declared.wait.Wait.{Wait}
+use Rattle.co_wait.specs.Chains.{IsWaitBefore}
 use Rattle.co_cluster.proofs.Listing.{waits_listed, waits_ascend}
 use Rattle.co_cluster.proofs.cluster.Cluster.waits.Goals as goal
 

@@ -1,0 +1,11 @@
+pub mod Lists
+pub mod Places
+pub mod Known
+pub mod Moves
+pub mod Turns
+pub mod Cycles
+pub mod Orders
+pub mod Tests
+pub mod Rounds
+pub mod Once
+pub mod Ascending

@@ -1,0 +1,6 @@
+pub mod Chains
+pub mod Knots
+pub mod Holding
+pub mod Searching
+pub mod Testing
+pub mod Text
