@@ -12,7 +12,6 @@ use Rattle.co_log.proofs.Spots.{current_only, stays_elsewhere}
 use Rattle.co_log.specs.Attaching.{IsWithin}
 use Rattle.co_log.specs.Calls.{HasMade}
 use Rattle.co_disk.specs.DiskModel.{DiskState, laid_over, read_of}
-
 use Rattle.co_log.specs.Current.{HaveNoBatch, IsCurrentMade, IsMadeCurrent}
 use Rattle.co_log.specs.Fresh.{IsFresh, header_alone}
 use Rattle.co_log.specs.LogView.{LogView, IsHeld, HasSpots, spot_of}

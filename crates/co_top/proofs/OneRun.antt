@@ -1,5 +1,5 @@
 -- Over files that are told a run that reaches the end of its input is one.
-use Rattle.std.proofs.Common.{◌≡◌, ◌⊎◌, inl, inr, ℕ, zero, suc, ◌≤◌, ◌<◌, Bool, List, [], ◌∷◌, ◌++◌, length, Option, None, Some, Ok, refl, sym, ap, ◌∙◌, subst, arith}
+use Rattle.std.proofs.Common.{◌≡◌, ◌⊎◌, inl, inr, ℕ, zero, suc, ◌≤◌, ◌<◌, Bool, List, [], ◌∷◌, ◌++◌, length, Option, None, Some, Result, Ok, refl, sym, ap, ◌∙◌, subst, arith}
 use Rattle.std.specs.Prelude.{◌==◌, ◌&&◌, nat_le, true, false, if◌then◌else◌}
 use Rattle.co_base.specs.declared.head.Head.{Head}
 use Rattle.co_base.specs.declared.node.Node.{Node}
@@ -19,6 +19,7 @@ use Rattle.co_schedule.proofs.EventLaws.{words_of_line, same_event}
 use Rattle.co_schedule.specs.Limits.{longest_line}
 use Rattle.co_schedule.specs.LineText.{next_line}
 use Rattle.co_schedule.specs.Spelling.{line_text}
+use Rattle.co_schedule.specs.declared.fault.LinesFault.{LinesFault}
 use Rattle.std.specs.List.{AllByRecursion}
 use Rattle.co_top.proofs.Again.{one_between}
 use Rattle.co_top.proofs.Completing.{behind_lines, line_at, no_line, stands_rest}
@@ -38,20 +39,20 @@ line_once head e f one two same =
     (sym (words_of_line (length head.kinds) head.coords e (line_text e) (omega (arith, head.members)) (omega (arith, head.coordinators)) one.0 refl)
     ∙ words_of_line (length head.kinds) head.coords f (line_text e) (omega (arith, head.members)) (omega (arith, head.coordinators)) two.0 same)
 
-some_line : {a b : List ℕ} → Ok (Some a) ≡ Ok (Some b) → a ≡ b
-some_line e = cc
+some_line : (a b : List ℕ) → ◌≡◌ {A = Result (Option (List ℕ)) LinesFault} (Ok (Some a)) (Ok (Some b)) → a ≡ b
+some_line a b e = cc
 
 -- as many lines behind a head have the same events
 front_once : (head : Head) (text : List ℕ) (es os : List Event) (rest left : List ℕ) → StandsBehind head text es rest → StandsBehind head text os left → length es ≡ length os → es ≡ os
 front_once head text es os rest left (AtStart t) (AtStart u) same = refl
 front_once head text es os rest left (AtStart t) (OneMore u before events e earlier line next) same = absurd (let z : 0 ≡ length (events ++ e ∷ []) = same in omega (arith, z, count_more events e))
 front_once head text es os rest left (OneMore t before events e earlier line next) (AtStart u) same = absurd (let z : length (events ++ e ∷ []) ≡ 0 = same in omega (arith, z, count_more events e))
-front_once head text es os rest left (OneMore t before events e earlier line next) (OneMore u behind others f sooner mark then) same =
+front_once head text es os rest left (OneMore t before events e earlier line next) (OneMore u behind others f sooner mark following) same =
     let many : length events ≡ length others = (let z : length (events ++ e ∷ []) ≡ length (others ++ f ∷ []) = same in omega (arith, z, count_more events e, count_more others f)) in
     let front = front_once head text events others before behind earlier sooner many in
     let here : before ≡ behind = stands_rest head text events before earlier ∙ ap (λ n. behind_lines n text) many ∙ sym (stands_rest head text others behind sooner) in
-    let read = sym next ∙ ap (λ n. next_line longest_line most (suc n) before) many ∙ ap (next_line longest_line most (suc (length others))) here ∙ then in
-    let last = line_once head e f line mark (some_line read) in
+    let read = sym next ∙ ap (λ n. next_line longest_line most (suc n) before) many ∙ ap (next_line longest_line most (suc (length others))) here ∙ following in
+    let last = line_once head e f line mark (some_line (line_text e) (line_text f) read) in
     ap (λ (xs : List Event). xs ++ e ∷ []) front ∙ ap (λ (x : Event). others ++ x ∷ []) last
 
 compared : (n k : ℕ) → (n < k) ⊎ ((n ≡ k) ⊎ (k < n))

@@ -1,5 +1,5 @@
 -- What a sound run leaves is soundly found by a run over it with the same nodes.
-use Rattle.std.proofs.Common.{◌≡◌, ◌⊎◌, inl, inr, ℕ, ◌≤◌, Bool, true, false, ◌&&◌, List, [], ◌∷◌, ◌++◌, length, reverse, Option, None, sym, ap, subst, ◌∙◌, arith}
+use Rattle.std.proofs.Common.{◌≡◌, ◌⊎◌, inl, inr, ℕ, ◌≤◌, Bool, true, false, ◌&&◌, List, [], ◌∷◌, ◌++◌, length, reverse, Option, None, refl, sym, ap, subst, ◌∙◌, arith}
 use Rattle.std.proofs.lemmas.Bool.{leb-true}
 use Rattle.std.specs.Prelude.{nat_le, if◌then◌else◌}
 use Rattle.std.proofs.lemmas.Bool.{and_parts}
@@ -11,6 +11,9 @@ use Rattle.co_durable.specs.Told as files
 use Rattle.co_law.proofs.LeftLogs.{left_sound}
 use Rattle.co_law.specs.LeftLogs.{records_left}
 use Rattle.co_log.specs.NodeFiles.{newest_first}
+use Rattle.co_law_node.specs.WholeNodes.{AreWhole}
+use Rattle.co_law_runs.proofs.Fitting.{Fit}
+use Rattle.std.specs.List.{AllByRecursion}
 use Rattle.co_node.specs.Answers.{AreTold}
 use Rattle.co_opening.specs.Found.{IsFoundIn}
 use Rattle.co_cluster.specs.Left.{HasStable}
@@ -74,8 +77,13 @@ module _ {resume : Bool} {input more : List ℕ} {old new : Spot → Option File
       cl : ℕ → List Record
       cl c = (s.coord c).log.stable
 
+      both : AllByRecursion (files.IsTold new) (member_nodes n) × AllByRecursion (files.IsTold new) (coord_nodes r.head.coords)
       both = split_told new (member_nodes n) (coord_nodes r.head.coords) told
+
+      whole : AreWhole n r.head.coords s
       whole = whole_after r.head r.found_member r.found_coord r.may hs own
+
+      fit : Fit n r.head.coords (start_of r) s
       fit = fit_after r.head r.found_member r.found_coord r.may hs own
 
       kept : AreSound (λ m. records_left n ml m) (λ c. records_left r.head.coords cl c)

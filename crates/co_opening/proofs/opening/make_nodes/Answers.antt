@@ -115,7 +115,7 @@ pub returns-in_err-coords-clause-clean : goal.returns-in_err-coords-clause-clean
 returns-in_err-coords-clause-clean g c = no_value _ c.from_residual-in_err-coords.result c.from_residual-in_err-coords.ensures.0
 
 pub returns-in_err-coords-clause-opens : goal.returns-in_err-coords-clause-opens
-returns-in_err-coords-clause-opens g c = 
+returns-in_err-coords-clause-opens g c =
     opens_on (length c.args.head.now.kinds) c.args.head.now.coords (g.H.Home.seen c.args.home.now) (g.H.Home.seen c.open_members.new.home) (g.H.Home.seen c.open_coords.new.home)
     (subst (λ n. OnlyOpens n c.args.head.now.coords (g.H.Home.seen c.args.home.now) (g.H.Home.seen c.open_members.new.home)) (ap (λ (ks : List Kind). length ks) c.as_slice-kinds.ensures) c.open_members.ensures.opens)
     (subst (λ n. OnlyOpens (length c.args.head.now.kinds) n (g.H.Home.seen c.open_members.new.home) (g.H.Home.seen c.open_coords.new.home)) c.requires.judged.2.many_coords
@@ -131,7 +131,7 @@ returns-in_err-coords-clause-quiet g c = λ quiet.
 -- ---- all are opened
 
 pub returns-clause-opens : goal.returns-clause-opens
-returns-clause-opens g c = 
+returns-clause-opens g c =
     opens_on (length c.args.head.now.kinds) c.args.head.now.coords (g.H.Home.seen c.args.home.now) (g.H.Home.seen c.open_members.new.home) (g.H.Home.seen c.open_coords.new.home)
     (subst (λ n. OnlyOpens n c.args.head.now.coords (g.H.Home.seen c.args.home.now) (g.H.Home.seen c.open_members.new.home)) (ap (λ (ks : List Kind). length ks) c.as_slice-kinds.ensures) c.open_members.ensures.opens)
     (subst (λ n. OnlyOpens (length c.args.head.now.kinds) n (g.H.Home.seen c.open_members.new.home) (g.H.Home.seen c.open_coords.new.home)) c.requires.judged.2.many_coords

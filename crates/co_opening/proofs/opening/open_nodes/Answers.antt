@@ -153,7 +153,7 @@ returns-clause-untouched g c =
     (λ fault is found. absurd (making_unfound fault is found)) c.make_nodes.ensures.fault
 
 pub returns-clause-opens : goal.returns-clause-opens
-returns-clause-opens g c = 
+returns-clause-opens g c =
     opens_on (length c.args.head.now.kinds) c.args.head.now.coords (g.H.Home.seen c.args.home.now) (g.H.Home.seen c.attach_all.new.home) (g.H.Home.seen c.make_nodes.new.home)
     (opens_read (length c.args.head.now.kinds) c.args.head.now.coords (g.H.Home.seen c.args.home.now) (g.H.Home.seen c.attach_all.new.home) c.attach_all.ensures.reads) c.make_nodes.ensures.opens
 

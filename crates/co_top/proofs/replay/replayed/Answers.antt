@@ -98,8 +98,8 @@ returns-clause-end g c = λ input held l t.
     c.in_ok-head.ensures.told.1 held t ∙ ap (λ (xs : List Item). Some (held ++ opening_text head xs)) c.as_slice.ensures in
     let differs : (spot : Spot) (place : ℕ) (kept got : Option ℕ) → c.replay_lines-ended.result ≡ Err (status.Differs spot place kept got) → IsEventFault (g.H.Home.seen c.args.home.now).file (status.Differs spot place kept got) =
     λ spot place kept got e.
-        let h : HasEnded (g.H.Home.seen c.open.new.home) home (Err (status.Differs spot place kept got)) = subst (HasEnded (g.H.Home.seen c.open.new.home) home) e c.replay_lines-ended.ensures.ended in
-        (c.open.ensures.made.own.told spot h.1, h.2) in
+    let h : HasEnded (g.H.Home.seen c.open.new.home) home (Err (status.Differs spot place kept got)) = subst (HasEnded (g.H.Home.seen c.open.new.home) home) e c.replay_lines-ended.ensures.ended in
+    (c.open.ensures.made.own.told spot h.1, h.2) in
     over g.E.Engine.takes g.E.Engine.stands_for g.H.Home.seen c.args.resume input held c.args.home.now head read.0 read.1 c.in_ok-world.world items at (g.S.Source.left c.replay_lines-ended.new.source) (g.K.Sink.told c.replay_lines-ended.new.out) c.replay_lines-ended.new.home c.replay_lines-ended.new.world c.replay_lines-ended.result
     differs
     (subst (λ (m : Option (List ℕ)). IsOver g.E.Engine.takes g.E.Engine.stands_for head s0 (Some read.0) (g.S.Source.left c.replay_lines-ended.new.source) m (g.K.Sink.told c.replay_lines-ended.new.out) home c.replay_lines-ended.new.world c.replay_lines-ended.result) put
