@@ -1,10 +1,11 @@
-"""Faults of the disk: each sync, each write, each cut and each order to drop a file's copies fails, one in each run; then calls that are short or interrupted.
+"""Faults of the disk: each sync, each write and each cut fails, one in each run; then calls that are short or interrupted.
 
     python3 bench/faults.py PROGRAM
 
 A run in which one fails ends with status 6, or as it does without; what it told is a front of the whole text. Right behind it `records` gives the records of what was
 told as decided, or with one transaction more, and a resumed run opens the files. `bench/faults.c` keeps a second copy of each file, which stands for the disk: after a
-sync that failed the system still gives what the disk has not. So the power is cut behind `records` too, and it has to give the same once more.
+sync that failed the system still gives what the disk has not. So the power is cut behind `records` too, and it has to give the same once more: where it does not, the
+script says so and fails. The program as it is fails so in five places, since std has no call that drops the system's copies of a file.
 Short and interrupted calls change nothing. `bench/memory.py` does the same with want of memory, and has the runs.
 """
 import os
@@ -18,7 +19,7 @@ from promises import Reading, records_of
 from schedules import may_be_left
 
 HERE = os.path.dirname(os.path.abspath(__file__))
-KINDS = (("fsync", "error"), ("pwrite", "error"), ("pwrite", "space"), ("pwrite", "torn"), ("ftruncate", "error"), ("fadvise", "error"))
+KINDS = (("fsync", "error"), ("pwrite", "error"), ("pwrite", "space"), ("pwrite", "torn"), ("ftruncate", "error"))
 
 
 class Place:
