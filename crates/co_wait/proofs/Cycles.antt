@@ -12,8 +12,8 @@ use Rattle.co_wait.specs.declared.search.Pause.{Pause}
 use Rattle.co_wait.specs.declared.search.Progress.{Progress}
 use Rattle.co_wait.specs.declared.wait.Wait.{Wait}
 use Rattle.co_wait.specs.Chains.{IsWaitBefore, IsInWaits, IsChain, IsRank, IsSetAside}
-use Rattle.co_wait.specs.Knots.{IsTakenFrom, IsWalkFrom, lead_of, ComesAgain, AreOfDistinct, IsTurned, IsCycle}
-use Rattle.co_wait.specs.Searching.{StandsAt, HasEnded, IsSoFar, IsPausedAt, LeadFrom, ArePausedApart, HasComeAgain, BeginsWith, IsRingOf}
+use Rattle.co_wait.specs.Knots.{IsNextOnWalk, IsWalkFrom, lead_of, ComesAgain, AreOfDistinct, IsTurned, IsCycle}
+use Rattle.co_wait.specs.Searching.{IsAtPlace, IsKnownToEnd, IsSoFar, IsPausedAt, LeadFrom, ArePausedApart, HasComeAgain, BeginsWithTxn, IsRingOf}
 use Rattle.co_wait.proofs.Places.{one_of, same_at, ordered_at}
 
 -- ---- whose chains do not end
@@ -71,7 +71,7 @@ module _ (waits : List Wait) (first : ℕ) (known : Table Progress) (path : List
   pub path_left : (u : ℕ) → Any (λ q. q.wait.held ≡ u) path → ¬ IsSetAside waits u
   path_left u any = never_ends waits u (λ n. long_chain n u any)
 
-  pub taken : AllPairs IsWaitBefore waits → (p : Pause) → Contains path p → IsTakenFrom waits p.wait
+  pub taken : AllPairs IsWaitBefore waits → (p : Pause) → Contains path p → IsNextOnWalk waits p.wait
   taken ordered p c = record {
     one = one_of waits p.place p.wait paused.here;
     left = path_left p.wait.by (onward p c);
@@ -87,7 +87,7 @@ module _ (waits : List Wait) (first : ℕ) (known : Table Progress) (path : List
 
       least : (v : Wait) (d : Contains waits v) → v.held ≡ p.wait.held → v.member < p.wait.member → (d.0 ≡ p.place) ⊎ ((d.0 < p.place) ⊎ (p.place < d.0)) → IsSetAside waits v.by
       least v d own lesser (inl e) =
-          let same : p.wait ≡ v = same_at waits p.place p.wait v paused.here (subst (λ k. StandsAt waits k v) e (d.1, d.2)) in
+          let same : p.wait ≡ v = same_at waits p.place p.wait v paused.here (subst (λ k. IsAtPlace waits k v) e (d.1, d.2)) in
           let members : p.wait.member ≡ v.member = ap (λ (x : Wait). x.member) same in
           absurd (omega (arith, lesser))
       least v d own lesser (inr (inl lt)) = let passed = paused.gone.passed d.0 v lt (d.1, d.2) own in (passed.0, met.so_far.ranked v.by passed.0 passed.1)
@@ -95,7 +95,7 @@ module _ (waits : List Wait) (first : ℕ) (known : Table Progress) (path : List
 
 -- ---- the walk
 
-walk_along : (waits : List Wait) (path : List Pause) (first t : ℕ) → LeadFrom first path t → ((p : Pause) → Contains path p → IsTakenFrom waits p.wait) → IsWalkFrom waits first (map (λ p. p.wait) path)
+walk_along : (waits : List Wait) (path : List Pause) (first t : ℕ) → LeadFrom first path t → ((p : Pause) → Contains path p → IsNextOnWalk waits p.wait) → IsWalkFrom waits first (map (λ p. p.wait) path)
 walk_along waits [] first t lead taken = tt
 walk_along waits (p ∷ path) first t lead taken =
     (lead.0, taken p (0, omega arith, refl), walk_along waits path p.wait.by t lead.1 (λ q c. taken q (suc c.0, omega (arith, c.1), c.2)))
@@ -108,7 +108,7 @@ pub lead_of-append : (front back : List Wait) (t : ℕ) → lead_of t (front ++ 
 lead_of-append [] back t = refl
 lead_of-append (w ∷ front) back t = lead_of-append front back w.by
 
-again_from : (ring : List Wait) (t u : ℕ) → BeginsWith t ring → lead_of u ring ≡ t → ComesAgain ring
+again_from : (ring : List Wait) (t u : ℕ) → BeginsWithTxn t ring → lead_of u ring ≡ t → ComesAgain ring
 again_from [] t u begins leads = begins
 again_from (w ∷ ring) t u begins leads = leads ∙ sym begins
 
@@ -139,7 +139,7 @@ no_chain waits t none = record { reached = ([], tt, refl); longest = λ chain h.
     empty [] h = omega arith
     empty (w ∷ chain) h = absurd (none w h.0 h.1)
 
-pub aside_below : (waits : List Wait) (known : Table Progress) (first : ℕ) → IsSoFar waits known → ((w : Wait) → Contains waits w → w.held < first → HasEnded known w.held) → (u : ℕ) → u < first → IsSetAside waits u
+pub aside_below : (waits : List Wait) (known : Table Progress) (first : ℕ) → IsSoFar waits known → ((w : Wait) → Contains waits w → w.held < first → IsKnownToEnd known w.held) → (u : ℕ) → u < first → IsSetAside waits u
 aside_below waits known first so_far before u lt = by (waits_or_not waits u)
   where
     by : Any (λ w. w.held ≡ u) waits ⊎ ((w : Wait) → Contains waits w → w.held ≢ u) → IsSetAside waits u
@@ -155,7 +155,7 @@ first_of_path [] first t lead any = absurd (let lt : any.0 < 0 = any.2 in omega 
 first_of_path (p ∷ path) first t lead any = (0, p, omega arith, refl, lead.0)
 
 pub cycle_from : (waits : List Wait) (first : ℕ) (known : Table Progress) (path : List Pause) (t : ℕ) (ring legs : List Wait) → AllPairs IsWaitBefore waits → HasComeAgain waits first known path t → IsInWaits waits first →
-    ((w : Wait) → Contains waits w → w.held < first → HasEnded known w.held) → IsRingOf path t ring → IsTurned ring legs → IsCycle waits legs
+    ((w : Wait) → Contains waits w → w.held < first → IsKnownToEnd known w.held) → IsRingOf path t ring → IsTurned ring legs → IsCycle waits legs
 cycle_from waits first known path t ring legs ordered met one before from turned = record {
   start = first;
   before = from.before;
@@ -176,7 +176,7 @@ pub ring_at : (path : List Pause) (t place : ℕ) (ring : List Wait) → place <
 ring_at path t place ring lt here is = record {
   before = map (λ p. p.wait) (take place path);
   cut = ap (map (λ p. p.wait)) (sym (take-append-drop place path)) ∙ map-append (λ (p : Pause). p.wait) (take place path) (drop place path) ∙ ap (λ back. map (λ p. p.wait) (take place path) ++ back) (sym is);
-  first = subst (BeginsWith t) (sym (is ∙ ap (map (λ p. p.wait)) (drop-cons path place d lt))) (here d);
+  first = subst (BeginsWithTxn t) (sym (is ∙ ap (map (λ p. p.wait)) (drop-cons path place d lt))) (here d);
 }
   where
     d : Pause

@@ -13,7 +13,7 @@ use Rattle.co_law_base.proofs.Lookups.{put_there, put_cases, found_holds, holds_
 use Rattle.co_recover.proofs.Ascending.{keys_ascend}
 use Rattle.co_wait.specs.declared.search.Progress.{Progress}
 use Rattle.co_wait.specs.declared.search.Progress.TheVariants.{Open, Ended}
-use Rattle.co_wait.specs.Searching.{HasEnded, KeepsEnded}
+use Rattle.co_wait.specs.Searching.{IsKnownToEnd, KeepsEnded}
 
 -- a table of numbers below a bound has no more entries than the bound
 pub few : {X : Type 0} (table : Table X) (n : ℕ) → ((t : ℕ) → holds table t ≡ true → t < n) → len table ≤ n
@@ -38,7 +38,7 @@ open_not_ended known t is rank e = let z : Some Open ≡ Some (Ended rank) = sym
 pub none_not_ended : (known : Table Progress) (t : ℕ) → look known t ≡ None → (rank : ℕ) → look known t ≢ Some (Ended rank)
 none_not_ended known t is rank e = let z : None ≡ Some (Ended rank) = sym is ∙ e in cc
 
-pub still : (old new : Table Progress) (t : ℕ) → KeepsEnded old new → HasEnded old t → HasEnded new t
+pub still : (old new : Table Progress) (t : ℕ) → KeepsEnded old new → IsKnownToEnd old t → IsKnownToEnd new t
 still old new t kept ended = (ended.0, kept t ended.0 ended.1)
 
 -- who is known after an entry was laid in

@@ -15,7 +15,7 @@ use Rattle.co_wait.specs.declared.search.Progress.TheVariants.{Open, Ended}
 use Rattle.co_wait.specs.declared.search.Visit.{Visit}
 use Rattle.co_wait.specs.declared.wait.Wait.{Wait}
 use Rattle.co_wait.specs.Chains.{IsWaitBefore, IsInWaits, IsChain, IsRank}
-use Rattle.co_wait.specs.Searching.{StandsAt, BeginsAt, HasNoneAt, HasEnded, IsSoFar, KeepsEnded, IsGoneThrough, IsPausedAt, LeadFrom, ArePausedApart, AreCounted, IsSearching, HasComeAgain, HasGoneThrough, IsNextFirst, work_from, work_left}
+use Rattle.co_wait.specs.Searching.{IsAtPlace, BeginsAt, HasNoneAt, IsKnownToEnd, IsSoFar, KeepsEnded, IsGoneThrough, IsPausedAt, LeadFrom, ArePausedApart, RanksAreCounted, IsSearching, HasComeAgain, HasGoneThrough, IsNextFirst, work_from, work_left}
 use Rattle.co_wait.proofs.Lists.{front_all, last_all, front_pairs, last_pairs, any_cases, any_front}
 use Rattle.co_wait.proofs.Places.{same_at, one_of, none_behind}
 use Rattle.co_wait.proofs.Known.{few, one_more, no_more, keeps, open_not_ended, none_not_ended, still, known_before, known_or_new}
@@ -88,7 +88,7 @@ module _ (waits : List Wait) (ordered : AllPairs IsWaitBefore waits) (known : Ta
       rank_by u rank (inr other) = so_far.ranked u rank other.1
 
       onward_by : (u rank : ℕ) (w : Wait) → Contains waits w → w.held ≡ u → ((t ≡ u) × (Ended longest ≡ Ended rank)) ⊎ ((t ≢ u) × (look known u ≡ Some (Ended rank))) →
-          HasEnded (put known t (Ended longest)) w.by
+          IsKnownToEnd (put known t (Ended longest)) w.by
       onward_by u rank w c own (inl same) = let p = passed w c (own ∙ sym same.0) in (p.0, leave_keeps w.by p.0 p.1)
       onward_by u rank w c own (inr other) = still known (put known t (Ended longest)) w.by leave_keeps (so_far.onward u rank other.1 w c own)
 
@@ -150,7 +150,7 @@ module _ (waits : List Wait) (ordered : AllPairs IsWaitBefore waits) (first : �
       by (inl same) = let e : visit.longest ≡ rank = ended_same same.1 in let le : visit.longest ≤ s.counted.count = s.counted.here in omega arith
       by (inr other) = let lt : rank < s.counted.count = s.counted.ranks t rank other.1 in omega arith
 
-  counted_back : AreCounted (put known visit.txn (Ended visit.longest)) front p.longest
+  counted_back : RanksAreCounted (put known visit.txn (Ended visit.longest)) front p.longest
   counted_back = record {
     count = s.counted.count + 1;
     fits = let fits : s.counted.count + length (front ++ p ∷ []) < len known = s.counted.fits in omega (arith, fits, length-append front (p ∷ []), same_size);
@@ -234,7 +234,7 @@ opened_so_far waits known t so_far unknown one small = record {
     ranked_by u rank (inl same) = absurd (let z : Open ≡ Ended rank = same.1 in cc)
     ranked_by u rank (inr other) = so_far.ranked u rank other.1
 
-    onward_by : (u rank : ℕ) (v : Wait) → Contains waits v → v.held ≡ u → ((t ≡ u) × (Open ≡ Ended rank)) ⊎ ((t ≢ u) × (look known u ≡ Some (Ended rank))) → HasEnded (put known t Open) v.by
+    onward_by : (u rank : ℕ) (v : Wait) → Contains waits v → v.held ≡ u → ((t ≡ u) × (Open ≡ Ended rank)) ⊎ ((t ≢ u) × (look known u ≡ Some (Ended rank))) → IsKnownToEnd (put known t Open) v.by
     onward_by u rank v c is (inl same) = absurd (let z : Open ≡ Ended rank = same.1 in cc)
     onward_by u rank v c is (inr other) = still known (put known t Open) v.by (keeps known t Open (none_not_ended known t unknown)) (so_far.onward u rank other.1 v c is)
 
@@ -284,7 +284,7 @@ begin_with waits known new first path visit next small is nothing made =
 -- ---- a wait is followed
 
 module _ (waits : List Wait) (first : ℕ) (known : Table Progress) (path : List Pause) (visit next : Visit) (w : Wait) (s : IsSearching waits first known path visit)
-    (here : StandsAt waits visit.place w) (own : w.held ≡ visit.txn) (unknown : look known w.by ≡ None) (small : w.by < 2 ^ 32)
+    (here : IsAtPlace waits visit.place w) (own : w.held ≡ visit.txn) (unknown : look known w.by ≡ None) (small : w.by < 2 ^ 32)
     (onward : next.txn ≡ w.by) (nothing : next.longest ≡ 0) (begins : BeginsAt waits w.by next.place) where
   after_open : Table Progress
   after_open = put known w.by Open
@@ -314,7 +314,7 @@ module _ (waits : List Wait) (first : ℕ) (known : Table Progress) (path : List
   more : len (put known w.by Open) ≡ len known + 1
   more = one_more known w.by Open unknown
 
-  counted_on : AreCounted (put known w.by Open) (path ++ record { wait = w; place = visit.place; longest = visit.longest } ∷ []) next.longest
+  counted_on : RanksAreCounted (put known w.by Open) (path ++ record { wait = w; place = visit.place; longest = visit.longest } ∷ []) next.longest
   counted_on = record {
     count = s.counted.count;
     fits = omega (arith, s.counted.fits, length-append path (record { wait = w; place = visit.place; longest = visit.longest } ∷ []), more);
@@ -375,7 +375,7 @@ module _ (waits : List Wait) (first : ℕ) (known : Table Progress) (path : List
           (2 ^ 32 - b) * (n + 2) + whole + (1 + (n - from)) < (2 ^ 32 - a) * (n + 2) + front + (1 + (n - at))
       less n a b front whole at from is room parts = omega (arith, one_less a b (n + 2) is room)
 
-pub follow_on : (waits : List Wait) (first : ℕ) (old new : Table Progress) (path longer : List Pause) (visit next : Visit) (w : Wait) → StandsAt waits visit.place w → w.held ≡ visit.txn → look old w.by ≡ None → w.by < 2 ^ 32 →
+pub follow_on : (waits : List Wait) (first : ℕ) (old new : Table Progress) (path longer : List Pause) (visit next : Visit) (w : Wait) → IsAtPlace waits visit.place w → w.held ≡ visit.txn → look old w.by ≡ None → w.by < 2 ^ 32 →
     next.txn ≡ w.by → next.longest ≡ 0 → BeginsAt waits w.by next.place → longer ≡ path ++ record { wait = w; place = visit.place; longest = visit.longest } ∷ [] → new ≡ put old w.by Open →
     IsSearching waits first old path visit → IsSearching waits first new longer next × (work_left waits new longer next.place < work_left waits old path visit.place)
 follow_on waits first old new path longer visit next w here own unknown small onward nothing begins pushed is s =
@@ -383,7 +383,7 @@ follow_on waits first old new path longer visit next w here own unknown small on
     subst (λ list. Made list new) (sym pushed) (subst (Made (path ++ record { wait = w; place = visit.place; longest = visit.longest } ∷ [])) (sym is)
     (follow_searching waits first old path visit next w s here own unknown small onward nothing begins, follow_less waits first old path visit next w s here own unknown small onward nothing begins))
 
-pub follow_result : (waits : List Wait) (first : ℕ) (old new : Table Progress) (path longer : List Pause) (visit : Visit) (w : Wait) (result : Result Visit AllocError) → StandsAt waits visit.place w → w.held ≡ visit.txn → look old w.by ≡ None → w.by < 2 ^ 32 →
+pub follow_result : (waits : List Wait) (first : ℕ) (old new : Table Progress) (path longer : List Pause) (visit : Visit) (w : Wait) (result : Result Visit AllocError) → IsAtPlace waits visit.place w → w.held ≡ visit.txn → look old w.by ≡ None → w.by < 2 ^ 32 →
     longer ≡ path ++ record { wait = w; place = visit.place; longest = visit.longest } ∷ [] → OnOk result (new ≡ put old w.by Open) → IfOk result (λ next. (next.txn ≡ w.by) × (next.longest ≡ 0) × BeginsAt waits w.by next.place) →
     IsSearching waits first old path visit → IfOk result (λ next. IsSearching waits first new longer next × (work_left waits new longer next.place < work_left waits old path visit.place))
 follow_result waits first old new path longer visit w (Ok next) here own unknown small pushed is begins s = follow_on waits first old new path longer visit next w here own unknown small begins.0 begins.1 begins.2 pushed is s
@@ -404,7 +404,7 @@ longest_over waits t longest rank w c own is reached = by (cases_lt longest (ran
     by (inl less) = let e : length is.reached.0 ≡ rank = is.reached.2 in (w ∷ is.reached.0, (c, own, is.reached.1), omega arith)
     by (inr more) = let e : length reached.0 ≡ longest = reached.2 in (reached.0, reached.1, omega arith)
 
-pub pass_gone : (waits : List Wait) (known : Table Progress) (t place longest rank : ℕ) (w : Wait) → IsSoFar waits known → IsGoneThrough waits known t place longest → StandsAt waits place w → w.held ≡ t →
+pub pass_gone : (waits : List Wait) (known : Table Progress) (t place longest rank : ℕ) (w : Wait) → IsSoFar waits known → IsGoneThrough waits known t place longest → IsAtPlace waits place w → w.held ≡ t →
     look known w.by ≡ Some (Ended rank) → IsGoneThrough waits known t (place + 1) (max longest (rank + 1))
 pass_gone waits known t place longest rank w so_far gone here own ended = record {
   within = let lt : place < length waits = here.0 in omega arith;
@@ -413,14 +413,14 @@ pass_gone waits known t place longest rank w so_far gone here own ended = record
   reached = longest_over waits t longest rank w (one_of waits place w here) own (so_far.ranked w.by rank ended) gone.reached;
 }
   where
-    passed_by : (i : ℕ) (v : Wait) → StandsAt waits i v → v.held ≡ t → (i < place) ⊎ (place ≤ i) → i < place + 1 → (r : ℕ) × (look known v.by ≡ Some (Ended r)) × (r < max longest (rank + 1))
+    passed_by : (i : ℕ) (v : Wait) → IsAtPlace waits i v → v.held ≡ t → (i < place) ⊎ (place ≤ i) → i < place + 1 → (r : ℕ) × (look known v.by ≡ Some (Ended r)) × (r < max longest (rank + 1))
     passed_by i v at is (inl before) lt = let p = gone.passed i v before at is in let less : p.0 < longest = p.2 in (p.0, p.1, omega arith)
     passed_by i v at is (inr from) lt =
         let e : i ≡ place = omega arith in
-        let same : w ≡ v = same_at waits place w v here (subst (λ k. StandsAt waits k v) e at) in
+        let same : w ≡ v = same_at waits place w v here (subst (λ k. IsAtPlace waits k v) e at) in
         (rank, subst (λ (x : Wait). look known x.by ≡ Some (Ended rank)) same ended, omega arith)
 
-pub pass_on : (waits : List Wait) (first : ℕ) (known : Table Progress) (path : List Pause) (visit next : Visit) (w : Wait) (rank : ℕ) → IsSearching waits first known path visit → StandsAt waits visit.place w → w.held ≡ visit.txn →
+pub pass_on : (waits : List Wait) (first : ℕ) (known : Table Progress) (path : List Pause) (visit next : Visit) (w : Wait) (rank : ℕ) → IsSearching waits first known path visit → IsAtPlace waits visit.place w → w.held ≡ visit.txn →
     look known w.by ≡ Some (Ended rank) → next ≡ record { txn = visit.txn; place = visit.place + 1; longest = max visit.longest (rank + 1) } →
     IsSearching waits first known path next × (work_left waits known path next.place < work_left waits known path visit.place)
 pass_on waits first known path visit next w rank s here own ended is =
@@ -460,7 +460,7 @@ rank_fits waits first known path visit t rank s ended =
 
 -- ---- a wait leads to a transaction that is gone through
 
-pub come_again : (waits : List Wait) (first : ℕ) (known : Table Progress) (path longer : List Pause) (visit : Visit) (w : Wait) → IsSearching waits first known path visit → StandsAt waits visit.place w → w.held ≡ visit.txn →
+pub come_again : (waits : List Wait) (first : ℕ) (known : Table Progress) (path longer : List Pause) (visit : Visit) (w : Wait) → IsSearching waits first known path visit → IsAtPlace waits visit.place w → w.held ≡ visit.txn →
     look known w.by ≡ Some Open → longer ≡ path ++ record { wait = w; place = visit.place; longest = visit.longest } ∷ [] → HasComeAgain waits first known longer w.by
 come_again waits first known path longer visit w s here own opened pushed =
     subst (λ list. HasComeAgain waits first known list w.by) (sym pushed)

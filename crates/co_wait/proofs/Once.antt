@@ -8,8 +8,8 @@ use Rattle.co_wait.specs.declared.knot.Knot.TheVariants.{Cycle, Order}
 use Rattle.co_wait.specs.declared.knot.Rank.{Rank}
 use Rattle.co_wait.specs.declared.wait.Wait.{Wait}
 use Rattle.co_wait.specs.Chains.{IsWaitBefore, IsRank}
-use Rattle.co_wait.specs.Knots.{IsOrder, IsLeastLeft, IsTakenFrom, IsWalkFrom, lead_of, ComesAgain, AreOfDistinct, LeastIsFirst, IsTurned, IsCycle, IsKnot}
-use Rattle.co_wait.specs.Searching.{BeginsWith}
+use Rattle.co_wait.specs.Knots.{IsOrder, IsLeastLeft, IsNextOnWalk, IsWalkFrom, lead_of, ComesAgain, AreOfDistinct, LeastIsFirst, IsTurned, IsCycle, IsKnot}
+use Rattle.co_wait.specs.Searching.{BeginsWithTxn}
 use Rattle.co_wait.proofs.Places.{ordered_at, same_at}
 use Rattle.co_wait.proofs.Rounds.{all_back, all_front, distinct_across, distinct_head, distinct_tail, distinct_back}
 use Rattle.co_wait.proofs.Cycles.{lead_of-append}
@@ -92,7 +92,7 @@ wait_once waits ordered v w c d held member = by (cases_order c.0 d.0)
     by (inr (inl lt)) = absurd (not_both v w held member (ordered_at waits ordered c.0 d.0 v w lt (c.1, c.2) (d.1, d.2)))
     by (inr (inr gt)) = absurd (not_both w v (sym held) (sym member) (ordered_at waits ordered d.0 c.0 w v gt (d.1, d.2) (c.1, c.2)))
 
-next_once : (waits : List Wait) → AllPairs IsWaitBefore waits → (v w : Wait) → IsTakenFrom waits v → IsTakenFrom waits w → v.held ≡ w.held → v ≡ w
+next_once : (waits : List Wait) → AllPairs IsWaitBefore waits → (v w : Wait) → IsNextOnWalk waits v → IsNextOnWalk waits w → v.held ≡ w.held → v ≡ w
 next_once waits ordered v w one other held = by (cases_order v.member w.member)
   where
     by : (v.member ≡ w.member) ⊎ ((v.member < w.member) ⊎ (w.member < v.member)) → v ≡ w
@@ -124,16 +124,16 @@ walks_once waits ordered (w ∷ one) (v ∷ other) done t h k apart apart' again
 
 -- ---- the ring
 
-begins_at : (before ring : List Wait) (t : ℕ) → ComesAgain ring → BeginsWith (lead_of t (before ++ ring)) ring
+begins_at : (before ring : List Wait) (t : ℕ) → ComesAgain ring → BeginsWithTxn (lead_of t (before ++ ring)) ring
 begins_at before [] t again = again
 begins_at before (w ∷ ring) t again = sym again ∙ sym (lead_of-append before (w ∷ ring) t)
 
-has_again : (before ring : List Wait) (u : ℕ) → BeginsWith u ring → Any (λ v. v.held ≡ u) (before ++ ring)
+has_again : (before ring : List Wait) (u : ℕ) → BeginsWithTxn u ring → Any (λ v. v.held ≡ u) (before ++ ring)
 has_again [] [] u begins = absurd begins
 has_again [] (w ∷ ring) u begins = (0, w, omega arith, refl, begins)
 has_again (v ∷ before) ring u begins = let any = has_again before ring u begins in (suc any.0, any.1, omega (arith, any.2), any.3, any.4)
 
-not_later : (before ring : List Wait) (w : Wait) (u : ℕ) → w.held ≡ u → BeginsWith u ring → All (λ v. w.held ≢ v.held) (before ++ ring) → ⊥
+not_later : (before ring : List Wait) (w : Wait) (u : ℕ) → w.held ≡ u → BeginsWithTxn u ring → All (λ v. w.held ≢ v.held) (before ++ ring) → ⊥
 not_later before [] w u own begins apart = begins
 not_later before (v ∷ ring) w u own begins apart = All-head (λ v. w.held ≢ v.held) v ring (all_back (λ v. w.held ≢ v.held) before (v ∷ ring) apart) (own ∙ sym begins)
 
@@ -143,7 +143,7 @@ cons_head v w vs ws e = cc
 cons_tail : (v w : Wait) (vs ws : List Wait) → v ∷ vs ≡ w ∷ ws → vs ≡ ws
 cons_tail v w vs ws e = cc
 
-rings_once : (one other ring ring' : List Wait) (u : ℕ) → one ++ ring ≡ other ++ ring' → AreOfDistinct (one ++ ring) → BeginsWith u ring → BeginsWith u ring' → (one ≡ other) × (ring ≡ ring')
+rings_once : (one other ring ring' : List Wait) (u : ℕ) → one ++ ring ≡ other ++ ring' → AreOfDistinct (one ++ ring) → BeginsWithTxn u ring → BeginsWithTxn u ring' → (one ≡ other) × (ring ≡ ring')
 rings_once [] [] ring ring' u e apart begins begins' = (refl, e)
 rings_once [] (v ∷ other) [] ring' u e apart begins begins' = absurd begins
 rings_once [] (v ∷ other) (w ∷ ring) ring' u e apart begins begins' =
@@ -159,11 +159,11 @@ rings_once (v ∷ one) (w ∷ other) ring ring' u e apart begins begins' =
 -- ---- the turn
 
 -- the transaction of the first leg, above which are all
-head_of : (legs : List Wait) → LeastIsFirst legs → (u : ℕ) × BeginsWith u legs × All (λ v. u ≤ v.held) legs
+head_of : (legs : List Wait) → LeastIsFirst legs → (u : ℕ) × BeginsWithTxn u legs × All (λ v. u ≤ v.held) legs
 head_of [] least = absurd least
 head_of (w ∷ legs) least = (w.held, refl, All-cons (λ v. w.held ≤ v.held) w legs (omega arith) least)
 
-no_higher_head : (legs : List Wait) (u a : ℕ) → BeginsWith u legs → All (λ v. a ≤ v.held) legs → a ≤ u
+no_higher_head : (legs : List Wait) (u a : ℕ) → BeginsWithTxn u legs → All (λ v. a ≤ v.held) legs → a ≤ u
 no_higher_head [] u a begins all = absurd begins
 no_higher_head (w ∷ legs) u a begins all = let le : a ≤ w.held = All-head (λ v. a ≤ v.held) w legs all in omega (arith, begins)
 
@@ -179,24 +179,24 @@ module _ (P : Wait → Type 0) (ring legs : List Wait) (turned : IsTurned ring l
       subst (All P) (sym turned.cut) (All-append P turned.front turned.back (all_back P turned.back turned.front parts) (all_front P turned.back turned.front parts))
 
 -- a cut before the first leg
-cut_at : (ring legs front back : List Wait) (u : ℕ) → ring ≡ front ++ back → legs ≡ back ++ front → BeginsWith u legs →
-    (f : List Wait) × (b : List Wait) × (ring ≡ f ++ b) × (legs ≡ b ++ f) × BeginsWith u b
+cut_at : (ring legs front back : List Wait) (u : ℕ) → ring ≡ front ++ back → legs ≡ back ++ front → BeginsWithTxn u legs →
+    (f : List Wait) × (b : List Wait) × (ring ≡ f ++ b) × (legs ≡ b ++ f) × BeginsWithTxn u b
 cut_at ring legs front [] u cut joined begins =
     let whole : ring ≡ legs = cut ∙ append-nil front ∙ sym joined in
     ([], legs, whole, sym (append-nil legs), begins)
-cut_at ring legs front (w ∷ back) u cut joined begins = (front, w ∷ back, cut, joined, subst (BeginsWith u) joined begins)
+cut_at ring legs front (w ∷ back) u cut joined begins = (front, w ∷ back, cut, joined, subst (BeginsWithTxn u) joined begins)
 
 turns_once : (ring legs others : List Wait) → AreOfDistinct ring → IsTurned ring legs → IsTurned ring others → legs ≡ others
 turns_once ring legs others apart one other = by (head_of legs one.least) (head_of others other.least)
   where
-    by : (u : ℕ) × BeginsWith u legs × All (λ v. u ≤ v.held) legs → (u : ℕ) × BeginsWith u others × All (λ v. u ≤ v.held) others → legs ≡ others
+    by : (u : ℕ) × BeginsWithTxn u legs × All (λ v. u ≤ v.held) legs → (u : ℕ) × BeginsWithTxn u others × All (λ v. u ≤ v.held) others → legs ≡ others
     by h k =
         let low : h.0 ≤ k.0 = no_higher_head others k.0 h.0 k.1 (of_ring (λ v. h.0 ≤ v.held) ring others other (of_legs (λ v. h.0 ≤ v.held) ring legs one h.2)) in
         let high : k.0 ≤ h.0 = no_higher_head legs h.0 k.0 h.1 (of_ring (λ v. k.0 ≤ v.held) ring legs one (of_legs (λ v. k.0 ≤ v.held) ring others other k.2)) in
         let same : h.0 ≡ k.0 = omega arith in
         let a = cut_at ring legs one.front one.back h.0 one.cut one.joined h.1 in
         let b = cut_at ring others other.front other.back k.0 other.cut other.joined k.1 in
-        let parts = rings_once a.0 b.0 a.1 b.1 h.0 (sym a.2 ∙ b.2) (subst AreOfDistinct a.2 apart) a.4 (subst (λ u. BeginsWith u b.1) (sym same) b.4) in
+        let parts = rings_once a.0 b.0 a.1 b.1 h.0 (sym a.2 ∙ b.2) (subst AreOfDistinct a.2 apart) a.4 (subst (λ u. BeginsWithTxn u b.1) (sym same) b.4) in
         a.3 ∙ ap (λ list. list ++ a.0) parts.1 ∙ ap (λ list. b.1 ++ list) parts.0 ∙ sym b.3
 
 -- ---- the knot
@@ -217,7 +217,7 @@ cycles_once waits ordered legs others one other =
     (has_again one.before one.ring (lead_of one.start (one.before ++ one.ring)) (begins_at one.before one.ring one.start one.again))
     (has_again other.before other.ring (lead_of one.start (other.before ++ other.ring)) (begins_at other.before other.ring one.start other.again)) in
     let rings = rings_once one.before other.before one.ring other.ring (lead_of one.start (one.before ++ one.ring)) same one.first_time (begins_at one.before one.ring one.start one.again)
-    (subst (λ list. BeginsWith (lead_of one.start list) other.ring) (sym same) (begins_at other.before other.ring one.start other.again)) in
+    (subst (λ list. BeginsWithTxn (lead_of one.start list) other.ring) (sym same) (begins_at other.before other.ring one.start other.again)) in
     turns_once one.ring legs others (distinct_back one.before one.ring one.first_time) one.turned (subst (λ ring. IsTurned ring others) (sym rings.1) other.turned)
 
 no_cycle_too : (waits : List Wait) (ranks : List Rank) (legs : List Wait) → IsOrder waits ranks → IsCycle waits legs → ⊥

@@ -18,7 +18,7 @@ use Rattle.co_wait.specs.declared.search.Progress.TheVariants.{Open, Ended}
 use Rattle.co_wait.specs.declared.wait.Wait.{Wait}
 use Rattle.co_wait.specs.Chains.{IsWaitBefore, IsInWaits, IsRank}
 use Rattle.co_wait.specs.Knots.{IsOrder}
-use Rattle.co_wait.specs.Searching.{StandsAt, HasEnded, NoneIsOpen, IsAtRest, IsNextFirst, ranked_of, rank_in}
+use Rattle.co_wait.specs.Searching.{IsAtPlace, IsKnownToEnd, NoneIsOpen, IsBetweenSearches, IsNextFirst, ranked_of, rank_in}
 use Rattle.co_wait.proofs.Places.{same_at, held_rises}
 
 any_cons : (P : Rank → Type 0) (r : Rank) (ranks : List Rank) → Any P ranks → Any P (r ∷ ranks)
@@ -38,7 +38,7 @@ all_ranks : (P : ℕ → Progress → Type 0) (Q : Rank → Type 0) (es : List (
 all_ranks P Q [] f each = All-nil Q
 all_ranks P Q (e ∷ es) f each = All-cons Q (ranked_of e) (map ranked_of es) (f e.0 e.1 each.0) (all_ranks P Q es f each.1)
 
-module _ (waits : List Wait) (known : Table Progress) (rest : IsAtRest waits known) (all : (w : Wait) → Contains waits w → HasEnded known w.held) where
+module _ (waits : List Wait) (known : Table Progress) (rest : IsBetweenSearches waits known) (all : (w : Wait) → Contains waits w → IsKnownToEnd known w.held) where
   rank_of_entry : (t : ℕ) (x : Progress) → look known t ≡ Some x → IsRank waits t (rank_in x)
   rank_of_entry t Open e = absurd (rest.none t e)
   rank_of_entry t (Ended rank) e = rest.so_far.ranked t rank e
@@ -49,10 +49,10 @@ module _ (waits : List Wait) (known : Table Progress) (rest : IsAtRest waits kno
   listed : (t : ℕ) → IsInWaits waits t → Any (λ r. r.txn ≡ t) (map ranked_of (entries known))
   listed t one = by (all one.1 (one.0, one.2, one.3)) one.4
     where
-      of_ended : (u : ℕ) → HasEnded known u → Any (λ r. r.txn ≡ u) (map ranked_of (entries known))
+      of_ended : (u : ℕ) → IsKnownToEnd known u → Any (λ r. r.txn ≡ u) (map ranked_of (entries known))
       of_ended u ended = found_rank (entries known) u (Ended ended.0) (sym (get-entries known u) ∙ ended.1)
 
-      by : HasEnded known one.1.held → (one.1.held ≡ t) ⊎ (one.1.by ≡ t) → Any (λ r. r.txn ≡ t) (map ranked_of (entries known))
+      by : IsKnownToEnd known one.1.held → (one.1.held ≡ t) ⊎ (one.1.by ≡ t) → Any (λ r. r.txn ≡ t) (map ranked_of (entries known))
       by ended (inl e) = subst (λ u. Any (λ r. r.txn ≡ u) (map ranked_of (entries known))) e (of_ended one.1.held ended)
       by ended (inr e) =
           subst (λ u. Any (λ r. r.txn ≡ u) (map ranked_of (entries known))) e
@@ -90,7 +90,7 @@ none_among known none = all_entries (entries known) (each_entry (λ t x. look kn
     all_entries [] h = All-nil (λ (e : ℕ × Progress). e.1 ≢ Open)
     all_entries (e ∷ es) h = All-cons (λ (f : ℕ × Progress). f.1 ≢ Open) e es (not_open e.0 e.1 h.0) (all_entries es h.1)
 
-pub rest_at_first : (waits : List Wait) → IsAtRest waits no_entries
+pub rest_at_first : (waits : List Wait) → IsBetweenSearches waits no_entries
 rest_at_first waits = record {
   so_far = record {
     ranked = λ t rank e. never t (Ended rank) e;
@@ -108,10 +108,10 @@ rest_at_first waits = record {
     nobody : {A : Type 0} → (t : ℕ) → holds (no_entries {X = Progress}) t ≡ true → A
     nobody t h = let f = holds_found (no_entries {X = Progress}) t h in never t f.0 f.1
 
-pub known_ended : (waits : List Wait) (known : Table Progress) (t : ℕ) → IsAtRest waits known → holds known t ≡ true → HasEnded known t
+pub known_ended : (waits : List Wait) (known : Table Progress) (t : ℕ) → IsBetweenSearches waits known → holds known t ≡ true → IsKnownToEnd known t
 known_ended waits known t rest h = let f = holds_found known t h in by f.0 f.1
   where
-    by : (x : Progress) → look known t ≡ Some x → HasEnded known t
+    by : (x : Progress) → look known t ≡ Some x → IsKnownToEnd known t
     by Open e = absurd (rest.none t e)
     by (Ended rank) e = (rank, e)
 
@@ -122,18 +122,18 @@ not_known known t h = by (look known t) refl h
     by None e k = e
     by (Some x) e k = absurd (let z : true ≡ false = k in cc)
 
-pub ended_more : (waits : List Wait) (known : Table Progress) (index : ℕ) (item : Wait) → StandsAt waits index item → HasEnded known item.held →
-    ((i : ℕ) (w : Wait) → i < index → StandsAt waits i w → HasEnded known w.held) → (i : ℕ) (w : Wait) → i < index + 1 → StandsAt waits i w → HasEnded known w.held
+pub ended_more : (waits : List Wait) (known : Table Progress) (index : ℕ) (item : Wait) → IsAtPlace waits index item → IsKnownToEnd known item.held →
+    ((i : ℕ) (w : Wait) → i < index → IsAtPlace waits i w → IsKnownToEnd known w.held) → (i : ℕ) (w : Wait) → i < index + 1 → IsAtPlace waits i w → IsKnownToEnd known w.held
 ended_more waits known index item here ended before i w lt at = by (cases_lt i index)
   where
-    by : (i < index) ⊎ (index ≤ i) → HasEnded known w.held
+    by : (i < index) ⊎ (index ≤ i) → IsKnownToEnd known w.held
     by (inl less) = before i w less at
     by (inr past) =
         let e : i ≡ index = omega arith in
-        subst (λ (x : Wait). HasEnded known x.held) (same_at waits index item w here (subst (λ k. StandsAt waits k w) e at)) ended
+        subst (λ (x : Wait). IsKnownToEnd known x.held) (same_at waits index item w here (subst (λ k. IsAtPlace waits k w) e at)) ended
 
-pub next_first : (waits : List Wait) (known : Table Progress) (index : ℕ) (item : Wait) → AllPairs IsWaitBefore waits → IsAtRest waits known → StandsAt waits index item → holds known item.held ≡ false →
-    ((i : ℕ) (w : Wait) → i < index → StandsAt waits i w → HasEnded known w.held) → IsNextFirst waits known item.held
+pub next_first : (waits : List Wait) (known : Table Progress) (index : ℕ) (item : Wait) → AllPairs IsWaitBefore waits → IsBetweenSearches waits known → IsAtPlace waits index item → holds known item.held ≡ false →
+    ((i : ℕ) (w : Wait) → i < index → IsAtPlace waits i w → IsKnownToEnd known w.held) → IsNextFirst waits known item.held
 next_first waits known index item ordered rest here missing before = record {
   rest = rest;
   one = (index, item, here.0, here.1, refl);
@@ -141,9 +141,9 @@ next_first waits known index item ordered rest here missing before = record {
   before = λ w c lt. by w c lt (cases_order c.0 index);
 }
   where
-    by : (w : Wait) (c : Contains waits w) → w.held < item.held → (c.0 ≡ index) ⊎ ((c.0 < index) ⊎ (index < c.0)) → HasEnded known w.held
+    by : (w : Wait) (c : Contains waits w) → w.held < item.held → (c.0 ≡ index) ⊎ ((c.0 < index) ⊎ (index < c.0)) → IsKnownToEnd known w.held
     by w c lt (inl e) =
-        let same : item ≡ w = same_at waits index item w here (subst (λ k. StandsAt waits k w) e (c.1, c.2)) in
+        let same : item ≡ w = same_at waits index item w here (subst (λ k. IsAtPlace waits k w) e (c.1, c.2)) in
         let held : item.held ≡ w.held = ap (λ (x : Wait). x.held) same in
         absurd (omega arith)
     by w c lt (inr (inl less)) = before c.0 w less (c.1, c.2)

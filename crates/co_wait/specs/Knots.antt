@@ -19,7 +19,7 @@ pub record IsLeastLeft (waits : List Wait) (t : ℕ) : Type 0 where
   pub least : (u : ℕ) → IsInWaits waits u → u < t → IsSetAside waits u
 
 -- The wait that the walk takes from its transaction: of those whose `by` is left, that of the least member.
-pub record IsTakenFrom (waits : List Wait) (w : Wait) : Type 0 where
+pub record IsNextOnWalk (waits : List Wait) (w : Wait) : Type 0 where
   pub one : Contains waits w
   pub left : ¬ IsSetAside waits w.by
   pub least : (v : Wait) → Contains waits v → v.held ≡ w.held → v.member < w.member → IsSetAside waits v.by
@@ -27,7 +27,7 @@ pub record IsTakenFrom (waits : List Wait) (w : Wait) : Type 0 where
 -- the walk from a transaction
 abbrev pub IsWalkFrom : List Wait → ℕ → List Wait → Type 0
 IsWalkFrom waits t [] = Unit {0}
-IsWalkFrom waits t (w ∷ walk) = (w.held ≡ t) × IsTakenFrom waits w × IsWalkFrom waits w.by walk
+IsWalkFrom waits t (w ∷ walk) = (w.held ≡ t) × IsNextOnWalk waits w × IsWalkFrom waits w.by walk
 
 -- the transaction to which waits lead from this one
 abbrev pub lead_of : ℕ → List Wait → ℕ

@@ -54,13 +54,13 @@ abbrev pub knot_test : List Wait → Knot → Bool
 knot_test waits (Cycle legs) = cycle_test waits legs
 knot_test waits (Order ranks) = order_test waits ranks
 
-abbrev pub is_before : Wait → Wait → Bool
-is_before w v = nat_lt w.held v.held || ((w.held == v.held) && nat_lt w.member v.member)
+abbrev pub is_wait_before : Wait → Wait → Bool
+is_wait_before w v = nat_lt w.held v.held || ((w.held == v.held) && nat_lt w.member v.member)
 
 -- each one comes before the next one
 abbrev pub goes_up : Wait → List Wait → Bool
 goes_up w [] = true
-goes_up w (v ∷ waits) = is_before w v && goes_up v waits
+goes_up w (v ∷ waits) = is_wait_before w v && goes_up v waits
 
 abbrev pub ascends : List Wait → Bool
 ascends [] = true

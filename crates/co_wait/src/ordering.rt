@@ -1,13 +1,13 @@
 //! Whether waits are in their order.
 ghost use Rattle.std.specs.Prelude.{◌≡◌, ◌↔◌, AllPairs, IsTrue};
 ghost use Rattle.co_wait.specs.Chains.{IsWaitBefore};
-ghost use Rattle.co_wait.specs.Testing.{is_before, goes_up, ascends};
+ghost use Rattle.co_wait.specs.Testing.{is_wait_before, goes_up, ascends};
 
 use crate::wait::{Wait, Waits};
 
 /// Whether a wait comes before another one.
-fn is_before(wait: &Wait, next: &Wait) -> bool
-    ensures { result ≡ is_before wait.now next.now }
+fn is_wait_before(wait: &Wait, next: &Wait) -> bool
+    ensures { result ≡ is_wait_before wait.now next.now }
 {
     wait.held < next.held || (wait.held == next.held && wait.member < next.member)
 }
@@ -18,7 +18,7 @@ fn goes_up(first: &Wait, rest: &[Wait]) -> bool
 {
     let mut last = *first;
     for wait in rest {
-        if !is_before(&last, wait) {
+        if !is_wait_before(&last, wait) {
             return false;
         }
         last = *wait;

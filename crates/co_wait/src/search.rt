@@ -2,7 +2,7 @@
 ghost use Rattle.std.specs.Prelude.{◌≡◌, ◌+◌, ◌-◌, ◌^◌, ◌<◌, ◌≤◌, ℕ, List, None, max, nat_lt, length, AllPairs, IfOk, OnOk, MatchOption};
 ghost use Rattle.co_state.specs.Table.{look, put};
 ghost use Rattle.co_wait.specs.Chains.{IsWaitBefore};
-ghost use Rattle.co_wait.specs.Searching.{StandsAt, BeginsAt, HasNoneAt, HasEnded, KeepsEnded, IsSearching, IsNext, work_left};
+ghost use Rattle.co_wait.specs.Searching.{IsAtPlace, BeginsAt, HasNoneAt, IsKnownToEnd, KeepsEnded, IsSearching, StepsOn, work_left};
 
 use crate::wait::Wait;
 use co_base::Txn;
@@ -71,7 +71,7 @@ fn first_place(waits: &[Wait], txn: Txn) -> usize
 
 /// The wait of a transaction at a place.
 fn own_wait(waits: &[Wait], txn: Txn, place: usize) -> Option<Wait>
-    ensures { MatchOption result (HasNoneAt waits.now txn place) (λ w. StandsAt waits.now place w × (w.held ≡ txn)) }
+    ensures { MatchOption result (HasNoneAt waits.now txn place) (λ w. IsAtPlace waits.now place w × (w.held ≡ txn)) }
 {
     let wait = waits.get(place)?;
     if wait.held == txn { Some(*wait) } else { None }
@@ -124,11 +124,11 @@ fn follow(
     wait: Wait,
 ) -> Result<Visit, AllocError>
     requires ordered { AllPairs IsWaitBefore waits.now }
-    requires here { StandsAt waits.now visit.place wait }
+    requires here { IsAtPlace waits.now visit.place wait }
     requires own { wait.held ≡ visit.txn }
     requires unknown { look known.old wait.by ≡ None }
     ensures next { (first : ℕ) → IsSearching waits.now first known.old path.old.items visit →
-        IfOk result (λ next. IsNext waits.now first known.new path.new.items (work_left waits.now known.old path.old.items visit.place) (Next.Visit next)) }
+        IfOk result (λ next. StepsOn waits.now first known.new path.new.items (work_left waits.now known.old path.old.items visit.place) (Next.Visit next)) }
     ensures kept { OnOk result (KeepsEnded known.old known.new) }
 {
     let onward = wait.by;
@@ -139,7 +139,7 @@ fn follow(
 /// Goes back from a transaction whose waits were all taken.
 fn leave(known: &mut Known, path: &mut Vec<Pause>, visit: Visit) -> Result<Next, AllocError>
     ensures next { (waits : List Wait) (first : ℕ) → AllPairs IsWaitBefore waits → HasNoneAt waits visit.txn visit.place → IsSearching waits first known.old path.old.items visit →
-        IfOk result (IsNext waits first known.new path.new.items (work_left waits known.old path.old.items visit.place)) }
+        IfOk result (StepsOn waits first known.new path.new.items (work_left waits known.old path.old.items visit.place)) }
     ensures kept { (first : ℕ) (waits : List Wait) → IsSearching waits first known.old path.old.items visit → OnOk result (KeepsEnded known.old known.new) }
 {
     known.insert(
@@ -168,10 +168,10 @@ fn take(
 ) -> Result<Next, AllocError>
     requires ordered { AllPairs IsWaitBefore waits.now }
     requires searching { (first : ℕ) × IsSearching waits.now first known.old path.old.items visit }
-    requires here { StandsAt waits.now visit.place wait }
+    requires here { IsAtPlace waits.now visit.place wait }
     requires own { wait.held ≡ visit.txn }
     ensures next { (first : ℕ) → IsSearching waits.now first known.old path.old.items visit →
-        IfOk result (IsNext waits.now first known.new path.new.items (work_left waits.now known.old path.old.items visit.place)) }
+        IfOk result (StepsOn waits.now first known.new path.new.items (work_left waits.now known.old path.old.items visit.place)) }
     ensures kept { OnOk result (KeepsEnded known.old known.new) }
 {
     match known.get(wait.by).copied() {
@@ -195,7 +195,7 @@ pub(crate) fn go_on(
     requires ordered { AllPairs IsWaitBefore waits.now }
     requires searching { (first : ℕ) × IsSearching waits.now first known.old path.old.items visit }
     ensures next { (first : ℕ) → IsSearching waits.now first known.old path.old.items visit →
-        IfOk result (IsNext waits.now first known.new path.new.items (work_left waits.now known.old path.old.items visit.place)) }
+        IfOk result (StepsOn waits.now first known.new path.new.items (work_left waits.now known.old path.old.items visit.place)) }
     ensures kept { OnOk result (KeepsEnded known.old known.new) }
 {
     match own_wait(waits, visit.txn, visit.place) {

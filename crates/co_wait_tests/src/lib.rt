@@ -1,0 +1,5 @@
+//! Tests of waits and their knots.
+#![tactic(auto)]
+
+#[cfg(test)]
+mod knots;
