@@ -12,3 +12,5 @@ pub mod Headlines
 pub mod Completing
 pub mod Refusing
 pub mod Trying
+mod Followed
+mod Waited

@@ -11,3 +11,5 @@ pub mod Records
 pub mod Checking
 pub mod Complete
 pub mod Trials
+pub mod Following
+pub mod Waiting

@@ -2,6 +2,7 @@
 #![tactic(auto)]
 
 mod checking;
+mod following;
 mod lines;
 mod playing;
 mod records;
@@ -9,6 +10,7 @@ mod replay;
 mod status;
 mod top;
 mod trials;
+mod waiting;
 mod words;
 
 pub use status::{LimitKind, Status};
