@@ -14,3 +14,5 @@ pub mod Refusing
 pub mod OneRun
 pub mod Resuming
 pub mod Trying
+mod Followed
+mod Waited

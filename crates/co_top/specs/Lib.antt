@@ -13,3 +13,5 @@ pub mod Checking
 pub mod Complete
 pub mod Running
 pub mod Trials
+pub mod Following
+pub mod Waiting

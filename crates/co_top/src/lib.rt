@@ -2,6 +2,7 @@
 #![tactic(auto)]
 
 mod checking;
+mod following;
 mod lines;
 mod playing;
 mod records;
@@ -10,6 +11,7 @@ mod runs;
 mod status;
 mod top;
 mod trials;
+mod waiting;
 mod words;
 
 pub use runs::{runs_go_on, there_is_one_run};

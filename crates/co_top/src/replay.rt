@@ -51,7 +51,7 @@ fn enter<H: Home>(alloc: Global, home: &mut H, directory: &str) -> Result<(), St
 }
 
 /// Opens the federation of a head over the logs in the directory that was entered.
-fn attach<E: Engine + Drop, H: Home>(
+pub(crate) fn attach<E: Engine + Drop, H: Home>(
     alloc: Global,
     home: &mut H,
     head: &Head,
@@ -150,7 +150,7 @@ fn tell_opening<K: Sink>(
 }
 
 /// Reads the first line of the source: a reader of the lines behind it, and the head.
-fn read_first<S: Source>(alloc: Global, source: &mut S) -> Result<(Lines, Head), Status>
+pub(crate) fn read_first<S: Source>(alloc: Global, source: &mut S) -> Result<(Lines, Head), Status>
     ensures read { (text : List ℕ) → S.left source.old ≡ Some text → IfOk result (λ r. IsHeadRead text (ahead r.0 (S.left source.new)) (Ok r.1)) }
     ensures fault { (text : List ℕ) → S.left source.old ≡ Some text → IfErr result (IsHeadFault text) }
     ensures streamed { (text : List ℕ) → S.left source.old ≡ Some text → IsStreamed text (S.left source.new) }

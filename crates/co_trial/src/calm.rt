@@ -10,8 +10,9 @@ use std::alloc::Global;
 
 /// A directory of logs in memory at which no call fails but for want of memory.
 #[derive(Drop)]
-pub(crate) struct CalmHome {
-    pub(crate) memory: HomeMemory,
+pub struct CalmHome {
+    /// The directory.
+    pub memory: HomeMemory,
     pub ghost never_fails: { memory.fail.items ≡ [] },
 }
 
@@ -29,7 +30,7 @@ fn answered<T>(answer: Result<T, HomeFault>) -> Result<T, HomeFault>
 
 impl CalmHome {
     /// No files, each of them clean. Takes no memory.
-    pub(crate) fn new(alloc: Global) -> CalmHome
+    pub fn new(alloc: Global) -> CalmHome
         ensures files { (s : Spot) → s.part < 2 → memory_file result.memory s ≡ Some empty_file }
         ensures entered { memory_entered result.memory ≡ None }
     {

@@ -11,5 +11,6 @@ mod running;
 mod summary;
 mod tally;
 
+pub use calm::CalmHome;
 pub use running::trial;
 pub use summary::Summary;
