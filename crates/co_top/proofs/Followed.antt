@@ -174,7 +174,7 @@ module _ {E : Type 0} (takes : Kind → Type 0) (stands_for : E → EngineState 
     unreached_by (status.Limit (limit.Line line)) own p = Halted (fresh p.done) (p.cause text refl)
     unreached_by (status.Limit limit.Lines) own p = Halted (fresh p.done) (p.cause text refl)
     unreached_by (status.Limit limit.Transactions) own p = let next = p.next text refl in Halted (fresh p.done) (p.event, next.0, next.1, p.limit)
-    unreached_by (status.Limit (limit.Log spot)) own p = let next = p.next text refl in Halted (fresh p.failed.done) (p.event, next.0, next.1, p.outgrows)
+    unreached_by (status.Limit (limit.Log spot)) own p = let next = p.next text refl in Halted (fresh p.done) (p.event, next.0, next.1, p.outgrows)
     unreached_by status.Memory own p = NoHead tt
     unreached_by (status.OldLog spot) own p = absurd own
     unreached_by (status.NotSerial txn line) own p = absurd own

@@ -78,8 +78,17 @@ trial_within (word ∷ number ∷ events ∷ []) e =
 trial_within (word ∷ number ∷ events ∷ other ∷ words) e = absurd cc
 
 -- a trial is a command
-pub is_a_trial : (run records check trial : Bool) → trial ≡ true → (run || (records || (check || trial))) ≡ false → ⊥
-is_a_trial true records check trial is none = let z : true ≡ false = none in cc
-is_a_trial false true check trial is none = let z : true ≡ false = none in cc
-is_a_trial false false true trial is none = let z : true ≡ false = none in cc
-is_a_trial false false false trial is none = let z : true ≡ false = sym is ∙ none in cc
+pub is_a_trial : (run records check trial waits : Bool) → trial ≡ true → (run || (records || (check || (trial || waits)))) ≡ false → ⊥
+is_a_trial true records check trial waits is none = let z : true ≡ false = none in cc
+is_a_trial false true check trial waits is none = let z : true ≡ false = none in cc
+is_a_trial false false true trial waits is none = let z : true ≡ false = none in cc
+is_a_trial false false false true waits is none = let z : true ≡ false = none in cc
+is_a_trial false false false false waits is none = let z : false ≡ true = is in cc
+
+-- and so are held votes
+pub is_for_waits : (run records check trial waits : Bool) → waits ≡ true → (run || (records || (check || (trial || waits)))) ≡ false → ⊥
+is_for_waits true records check trial waits is none = let z : true ≡ false = none in cc
+is_for_waits false true check trial waits is none = let z : true ≡ false = none in cc
+is_for_waits false false true trial waits is none = let z : true ≡ false = none in cc
+is_for_waits false false false true waits is none = let z : true ≡ false = none in cc
+is_for_waits false false false false waits is none = let z : true ≡ false = sym is ∙ none in cc

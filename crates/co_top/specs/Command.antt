@@ -7,7 +7,7 @@ use Rattle.std.specs.String.{string_bytes}
 use Rattle.co_schedule.specs.Places.{is_number}
 use Rattle.co_trial.specs.Trials.{most_trial_events}
 use Rattle.co_top.specs.declared.words.Command.{Command}
-use Rattle.co_top.specs.declared.words.Command.TheVariants.{Run, Records, Check, Trial, Unknown}
+use Rattle.co_top.specs.declared.words.Command.TheVariants.{Run, Records, Check, Waits, Trial, Unknown}
 
 -- at least one byte, and the first one is no dash
 abbrev pub is_directory : List ℕ → Bool
@@ -42,6 +42,11 @@ abbrev pub is_check : {A : Type 0} → List (String A) → Bool
 is_check (word ∷ []) = is_word (codes "check") word
 is_check _ = false
 
+-- `waits` alone
+abbrev pub is_waits : {A : Type 0} → List (String A) → Bool
+is_waits (word ∷ []) = is_word (codes "waits") word
+is_waits _ = false
+
 -- `trial`, a number of 64 bits, and how many events
 abbrev pub is_trial : {A : Type 0} → List (String A) → Bool
 is_trial (word ∷ number ∷ events ∷ []) =
@@ -58,7 +63,7 @@ trial_events (word ∷ number ∷ events ∷ words) = digits_value 10 (string_by
 trial_events _ = 0
 
 abbrev pub is_command : {A : Type 0} → List (String A) → Bool
-is_command words = is_run words || (is_records words || (is_check words || is_trial words))
+is_command words = is_run words || (is_records words || (is_check words || (is_trial words || is_waits words)))
 
 -- the word that names the directory
 abbrev pub directory_of : {A : Type 0} → List (String A) → List ℕ
@@ -68,19 +73,21 @@ directory_of (word ∷ directory ∷ []) = string_bytes directory
 directory_of (word ∷ first ∷ second ∷ words) = if is_word (codes "--resume") first then string_bytes second else string_bytes first
 
 -- the words are this one of the commands alone
-pub record IsOne {A : Type 0} (words : List (String A)) (run records check trial : Bool) : Type 0 where
+pub record IsOne {A : Type 0} (words : List (String A)) (run records check trial waits : Bool) : Type 0 where
   pub as_run : is_run words ≡ run
   pub as_records : is_records words ≡ records
   pub as_check : is_check words ≡ check
   pub as_trial : is_trial words ≡ trial
+  pub as_waits : is_waits words ≡ waits
 
 -- the command that the words are
 abbrev pub IsCommand : {A : Type 0} → List (String A) → Command → Type 0
-IsCommand words (Run directory resume) = IsOne words true false false false × (directory.now ≡ directory_of words) × (resume ≡ resumes words)
-IsCommand words (Records directory) = IsOne words false true false false × (directory.now ≡ directory_of words)
-IsCommand words Check = IsOne words false false true false
-IsCommand words (Trial number events) = IsOne words false false false true × (number ≡ trial_number words) × (events ≡ trial_events words)
-IsCommand words Unknown = IsOne words false false false false
+IsCommand words (Run directory resume) = IsOne words true false false false false × (directory.now ≡ directory_of words) × (resume ≡ resumes words)
+IsCommand words (Records directory) = IsOne words false true false false false × (directory.now ≡ directory_of words)
+IsCommand words Check = IsOne words false false true false false
+IsCommand words Waits = IsOne words false false false false true
+IsCommand words (Trial number events) = IsOne words false false false true false × (number ≡ trial_number words) × (events ≡ trial_events words)
+IsCommand words Unknown = IsOne words false false false false false
 
 -- these two words are the number and the events of a trial, or not
 abbrev pub IsTrialOf : {A : Type 0} → String A → String A → Option Command → Type 0

@@ -27,7 +27,7 @@ pub record HasReached {E : Type 0} (takes : Kind → Type 0) (stands_for : E →
 -- why the next line was not done
 abbrev pub IsHalt : {input : List ℕ} → RanFresh input → Status → Type 0
 IsHalt f (status.Limit limit.Transactions) = IsAtLimit f.ran
-IsHalt f (status.Limit (limit.Log spot)) = IsOutgrown f.ran
+IsHalt f (status.Limit (limit.Log spot)) = IsOutgrown f.ran spot
 IsHalt f ended = IsLineFault f.ran.head (length f.ran.events) f.ran.rest ended
 
 -- The head is none, or a line behind it was not done.

@@ -9,6 +9,7 @@ use Rattle.co_wait.specs.declared.knot.Knot.{Knot}
 use Rattle.co_wait.specs.declared.wait.Wait.{Wait}
 use Rattle.co_top.specs.Following.{RanFresh, IsUnreached}
 use Rattle.co_top.specs.Ran.{end_of}
+use Rattle.co_top.specs.Views.{SourceView, SinkView, TellsRead, TellsWrite}
 use Rattle.co_top.specs.declared.status.Status.{Status}
 use Rattle.co_top.specs.declared.status.Status.TheVariants as status
 
@@ -46,3 +47,9 @@ IsOfWaits status.Write = Unit {0}
 IsOfWaits (status.Limit what) = Unit {0}
 IsOfWaits status.Memory = Unit {0}
 IsOfWaits _ = ⊥
+
+-- The command `waits`: how it ends, over what is seen of the source and the sink.
+pub record WaitsAs (source_old source_new : SourceView) (out_old out_new : SinkView) (ended : Status) : Type 0 where
+  pub end : (input held : List ℕ) → source_old.left ≡ Some input → out_old.told ≡ Some held → IsWaitsEnd input held out_new.told ended
+  pub read : TellsRead source_old source_new ended
+  pub write : TellsWrite out_old out_new ended

@@ -2,7 +2,7 @@
 ghost use Rattle.std.specs.Prelude.{◌≡◌, ◌≤◌, ◌↔◌, ℕ, List, [], Some, true, false, length};
 ghost use Rattle.co_durable.specs.Told.{AreTold};
 ghost use Rattle.co_top.specs.Checking.{ChecksAs};
-ghost use Rattle.co_top.specs.Command.{is_run, is_records, is_check, is_trial, is_command, resumes, directory_of, trial_number, trial_events};
+ghost use Rattle.co_top.specs.Command.{is_run, is_records, is_check, is_trial, is_waits, is_command, resumes, directory_of, trial_number, trial_events};
 ghost use Rattle.co_top.specs.Ends.{IsNoted, note_of};
 ghost use Rattle.co_top.specs.Headline.{IsWholeRun};
 ghost use Rattle.co_top.specs.Ran.{Ran};
@@ -10,12 +10,14 @@ ghost use Rattle.co_top.specs.Records.{WritesRecords};
 ghost use Rattle.co_top.specs.Running.{RunsAs};
 ghost use Rattle.co_top.specs.Trials.{TriesAs};
 ghost use Rattle.co_top.specs.Views.{source_seen, sink_seen};
+ghost use Rattle.co_top.specs.Waiting.{WaitsAs};
 
 use crate::checking::check;
 use crate::records::records;
 use crate::replay::replay;
 use crate::status::{Status, put_note};
 use crate::trials::trial;
+use crate::waiting::waits;
 use crate::words::{Command, command_of};
 use co_any::AnyEngine;
 use co_outside::{Home, Sink, Source, put_all};
@@ -49,6 +51,10 @@ use std::alloc::Global;
 /// at a line of more than 16,777,216 bytes and behind as many lines; `Read` and `Write` only where the source or the sink failed. The directory is
 /// not touched.
 ///
+/// `waits` replays the schedule of the source over fresh logs in a directory in memory, and writes the held votes of its end, each with the least transaction that it waits for, and their
+/// knot: a cycle, or an order in which every wait leads to a lesser rank. A schedule that is not done to its end writes nothing, with the status that `run` has over fresh logs. The directory is not
+/// touched.
+///
 /// `trial NUMBER EVENTS` makes a federation of a member of each kind and two coordinators, and a schedule of so many events from the number, runs it
 /// over a directory in memory, settles what is open then, and writes one line of JSON: how many transactions were begun and committed, the SHA-256 of
 /// the transcript, whether the durable records are those of the serial run (they are), the two numbers, how many transactions are open (none), and
@@ -77,6 +83,9 @@ pub fn run<S: Source, K: Sink, N: Sink, H: Home>(
         (sink_seen (K.told out.old) (K.faults out.old)) (sink_seen (K.told out.new) (K.faults out.new)) result }
     ensures trial { is_trial words.now ≡ true → (source.new ≡ source.old) × (home.new ≡ home.old)
         × TriesAs (trial_number words.now) (trial_events words.now) (sink_seen (K.told out.old) (K.faults out.old)) (sink_seen (K.told out.new) (K.faults out.new)) result }
+    ensures waits { is_waits words.now ≡ true → (home.new ≡ home.old)
+        × WaitsAs (source_seen (S.left source.old) (S.faults source.old)) (source_seen (S.left source.new) (S.faults source.new))
+        (sink_seen (K.told out.old) (K.faults out.old)) (sink_seen (K.told out.new) (K.faults out.new)) result }
     ensures noted { (held : List ℕ) → N.told notes.old ≡ Some held → IsNoted held (note_of result) (N.told notes.new) }
     ensures counts { N.faults notes.old ≤ N.faults notes.new }
 {
@@ -91,6 +100,10 @@ pub fn run<S: Source, K: Sink, N: Sink, H: Home>(
         }
         Command::Check => {
             let status = check(alloc, source, out);
+            told(alloc, notes, status)
+        }
+        Command::Waits => {
+            let status = waits::<AnyEngine, S, K>(alloc, source, out);
             told(alloc, notes, status)
         }
         Command::Trial { number, events } => {

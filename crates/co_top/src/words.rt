@@ -24,6 +24,8 @@ pub(crate) enum Command<'a> {
     },
     /// The transcript of the source is judged.
     Check,
+    /// The held votes at the end of the schedule of the source are written, and their knot.
+    Waits,
     /// A trial is run.
     Trial {
         /// The number that its schedule is made from.
@@ -58,6 +60,9 @@ fn of_one<'a>(command: &String) -> Command<'a>
 {
     if is_word(command, b"check") {
         return Command::Check;
+    }
+    if is_word(command, b"waits") {
+        return Command::Waits;
     }
     Command::Unknown
 }

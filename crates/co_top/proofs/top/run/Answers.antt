@@ -1,11 +1,12 @@
 use Rattle.std.proofs.Common.{◌≡◌, ◌∙◌, refl, sym, subst}
 use Rattle.co_top.specs.Checking.{ChecksAs}
-use Rattle.co_top.specs.Command.{is_run, is_records, is_check, is_trial, resumes, directory_of, trial_number, trial_events}
+use Rattle.co_top.specs.Command.{is_run, is_records, is_check, is_trial, is_waits, resumes, directory_of, trial_number, trial_events}
 use Rattle.co_top.specs.Ran.{IsRunEnd}
 use Rattle.co_top.specs.Records.{WritesRecords}
 use Rattle.co_top.specs.Running.{RunsAs}
 use Rattle.co_top.specs.Trials.{TriesAs}
 use Rattle.co_top.specs.Views.{source_seen, sink_seen}
+use Rattle.co_top.specs.Waiting.{WaitsAs, IsOfWaits}
 use Rattle.co_top.specs.declared.status.Status.{Status}
 use Rattle.co_top.specs.declared.status.Status.TheVariants as status
 use Rattle.co_top.proofs.Completing.{done_or_wanting}
@@ -13,7 +14,7 @@ use Rattle.co_top.proofs.Headlines.{whole_run}
 use Rattle.co_top.proofs.Judging.{exact_of as exact_check}
 use Rattle.co_top.proofs.Recording.{exact_of}
 use Rattle.co_top.proofs.Refusing.{refused_exactly}
-use Rattle.co_top.proofs.Trying.{is_a_trial, trial_within, not_usage}
+use Rattle.co_top.proofs.Trying.{is_a_trial, is_for_waits, trial_within, not_usage}
 use Rattle.co_top.proofs.top.run.Goals as goal
 
 -- ---- a run
@@ -88,6 +89,27 @@ returns-in-Check-clause-check g c = λ is.
     } in
     (refl, subst checks (sym c.told-in-Check.ensures.same) checked)
 
+-- ---- held votes
+
+pub returns-in-Waits-clause-waits : goal.returns-in-Waits-clause-waits
+returns-in-Waits-clause-waits g c = λ is.
+    let e = c.waits-status.ensures in
+    let waits = λ (ended : Status).
+    WaitsAs (source_seen (g.S.Source.left c.args.source.now) (g.S.Source.faults c.args.source.now)) (source_seen (g.S.Source.left c.waits-status.new.source) (g.S.Source.faults c.waits-status.new.source))
+    (sink_seen (g.K.Sink.told c.args.out.now) (g.K.Sink.faults c.args.out.now)) (sink_seen (g.K.Sink.told c.waits-status.new.out) (g.K.Sink.faults c.waits-status.new.out)) ended in
+    let waited : waits c.waits-status.result = record { end = e.end; read = record { failed = e.read; quiet = e.quiet_source }; write = record { failed = e.write; quiet = e.quiet_sink } } in
+    (refl, subst waits (sym c.told-in-Waits.ensures.same) waited)
+
+pub returns-in-Waits-clause-usage : goal.returns-in-Waits-clause-usage
+returns-in-Waits-clause-usage g c =
+    let never : c.told-in-Waits.result ≡ status.Usage → ⊥ = λ e. subst IsOfWaits (sym c.told-in-Waits.ensures.same ∙ e) c.waits-status.ensures.own in (
+      (
+        λ e. absurd (never e),
+        λ none. absurd (is_for_waits (is_run c.args.words.now) (is_records c.args.words.now) (is_check c.args.words.now) (is_trial c.args.words.now) (is_waits c.args.words.now) c.in-Waits.ensures.as_waits none),
+      ),
+      λ e. absurd (never e),
+    )
+
 -- ---- a trial
 
 pub trial-status-requires : goal.trial-status-requires
@@ -101,7 +123,7 @@ returns-in-Trial-clause-usage g c =
     let never : c.told-in-Trial.result ≡ status.Usage → ⊥ = λ e. not_usage c.trial-status.result c.trial-status.ensures.own (sym c.told-in-Trial.ensures.same ∙ e) in (
       (
         λ e. absurd (never e),
-        λ none. let is = c.in-Trial.ensures.0 in absurd (is_a_trial (is_run c.args.words.now) (is_records c.args.words.now) (is_check c.args.words.now) (is_trial c.args.words.now) is.as_trial none),
+        λ none. let is = c.in-Trial.ensures.0 in absurd (is_a_trial (is_run c.args.words.now) (is_records c.args.words.now) (is_check c.args.words.now) (is_trial c.args.words.now) (is_waits c.args.words.now) is.as_trial none),
       ),
       λ e. absurd (never e),
     )
