@@ -1,4 +1,4 @@
-use Rattle.std.proofs.Common.{◌≡◌, ◌∙◌, refl, sym, subst}
+use Rattle.std.proofs.Common.{◌≡◌, ◌∙◌, ℕ, Bool, List, refl, sym, subst}
 use Rattle.co_top.specs.Checking.{ChecksAs}
 use Rattle.co_top.specs.Command.{is_run, is_records, is_check, is_trial, is_waits, resumes, directory_of, trial_number, trial_events}
 use Rattle.co_top.specs.Ran.{IsRunEnd}
@@ -24,7 +24,7 @@ returns-in-Run-clause-run g c = λ is.
     let e = c.replay-status.ensures in
     let left = g.S.Source.left c.replay-status.new.source in
     let out = g.K.Sink.told c.replay-status.new.out in
-    let runs = λ r d (ended : Status).
+    let runs : Bool → List ℕ → Status → Type 0 = λ r d ended.
     RunsAs g.H.Home.seen r d (source_seen (g.S.Source.left c.args.source.now) (g.S.Source.faults c.args.source.now)) (source_seen left (g.S.Source.faults c.replay-status.new.source))
     (sink_seen (g.K.Sink.told c.args.out.now) (g.K.Sink.faults c.args.out.now)) (sink_seen out (g.K.Sink.faults c.replay-status.new.out)) c.args.home.now c.replay-status.new.home ended in
     let ran : runs c.in-Run.resume c.in-Run.directory.now c.replay-status.result =
@@ -56,7 +56,7 @@ returns-in-Run-clause-headline g c = λ input held is l t done r files whole.
 pub returns-in-Records-clause-records : goal.returns-in-Records-clause-records
 returns-in-Records-clause-records g c = λ is.
     let e = c.records-status.ensures in
-    let writes = λ d (ended : Status).
+    let writes : List ℕ → Status → Type 0 = λ d ended.
     WritesRecords d (sink_seen (g.K.Sink.told c.args.out.now) (g.K.Sink.faults c.args.out.now)) (sink_seen (g.K.Sink.told c.records-status.new.out) (g.K.Sink.faults c.records-status.new.out))
     (g.H.Home.seen c.args.home.now) (g.H.Home.seen c.records-status.new.home) ended in
     let wrote : writes c.in-Records.directory.now c.records-status.result =
@@ -131,7 +131,7 @@ returns-in-Trial-clause-usage g c =
 pub returns-in-Trial-clause-trial : goal.returns-in-Trial-clause-trial
 returns-in-Trial-clause-trial g c = λ is.
     let e = c.trial-status.ensures in
-    let tries = λ n m (ended : Status). TriesAs n m (sink_seen (g.K.Sink.told c.args.out.now) (g.K.Sink.faults c.args.out.now)) (sink_seen (g.K.Sink.told c.trial-status.new.out) (g.K.Sink.faults c.trial-status.new.out)) ended in
+    let tries : ℕ → ℕ → Status → Type 0 = λ n m ended. TriesAs n m (sink_seen (g.K.Sink.told c.args.out.now) (g.K.Sink.faults c.args.out.now)) (sink_seen (g.K.Sink.told c.trial-status.new.out) (g.K.Sink.faults c.trial-status.new.out)) ended in
     let tried : tries c.in-Trial.number c.in-Trial.events c.trial-status.result = record { end = e.end; write = record { failed = e.write; quiet = e.quiet } } in
     let own = c.in-Trial.ensures in
     (refl, refl, subst (λ n. tries n (trial_events c.args.words.now) c.told-in-Trial.result) own.1 (subst (λ m. tries c.in-Trial.number m c.told-in-Trial.result) own.2 (subst (λ s. tries c.in-Trial.number c.in-Trial.events s) (sym c.told-in-Trial.ensures.same) tried)))
