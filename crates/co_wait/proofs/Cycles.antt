@@ -47,6 +47,9 @@ leads_on (q ∷ path) first t lead p c = by (leads_on path q.wait.by t lead.1) c
     by rest (suc k) lt is = later (rest p (k, omega (arith, lt), is))
 
 module _ (waits : List Wait) (first : ℕ) (known : Table Progress) (path : List Pause) (t : ℕ) (met : HasComeAgain waits first known path t) where
+  of_path : ℕ → Type 0
+  of_path u = Any (λ q. q.wait.held ≡ u) path
+
   onward : (p : Pause) → Contains path p → Any (λ q. q.wait.held ≡ p.wait.by) path
   onward p c = by (leads_on path first t met.lead p c)
     where

@@ -55,6 +55,9 @@ all_still waits known t x path kept apart all =
 
 module _ (waits : List Wait) (ordered : AllPairs IsWaitBefore waits) (known : Table Progress) (so_far : IsSoFar waits known) (t place longest : ℕ)
     (gone : IsGoneThrough waits known t place longest) (is_open : look known t ≡ Some Open) (none : HasNoneAt waits t place) where
+  after : Table Progress
+  after = put known t (Ended longest)
+
   pub leave_keeps : KeepsEnded known (put known t (Ended longest))
   leave_keeps = keeps known t (Ended longest) (open_not_ended known t is_open)
 
@@ -99,10 +102,16 @@ lead_pop : (path : List Pause) (first u : ℕ) (p : Pause) → LeadFrom first (p
 lead_pop [] first u p lead = (sym lead.0, lead.1)
 lead_pop (q ∷ path) first u p lead = let rest = lead_pop path q.wait.by u p lead.1 in ((lead.0, rest.0), rest.1)
 
+weight : List Wait → Pause → ℕ
+weight waits p = work_from waits p.place
+
 -- ---- back to the wait that was followed last
 
 module _ (waits : List Wait) (ordered : AllPairs IsWaitBefore waits) (first : ℕ) (known : Table Progress) (front : List Pause) (p : Pause) (visit : Visit)
     (s : IsSearching waits first known (front ++ p ∷ []) visit) (none : HasNoneAt waits visit.txn visit.place) where
+  now : Table Progress
+  now = put known visit.txn (Ended visit.longest)
+
   kept : KeepsEnded known (put known visit.txn (Ended visit.longest))
   kept = leave_keeps waits ordered known s.so_far visit.txn visit.place visit.longest s.gone s.is_open none
 
@@ -277,11 +286,17 @@ begin_with waits known new first path visit next small is nothing made =
 module _ (waits : List Wait) (first : ℕ) (known : Table Progress) (path : List Pause) (visit next : Visit) (w : Wait) (s : IsSearching waits first known path visit)
     (here : IsAtPlace waits visit.place w) (own : w.held ≡ visit.txn) (unknown : look known w.by ≡ None) (small : w.by < 2 ^ 32)
     (onward : next.txn ≡ w.by) (nothing : next.longest ≡ 0) (begins : BeginsAt waits w.by next.place) where
+  after_open : Table Progress
+  after_open = put known w.by Open
+
   pub follow_keeps : KeepsEnded known (put known w.by Open)
   follow_keeps = keeps known w.by Open (none_not_ended known w.by unknown)
 
   others : (t : ℕ) → look known t ≡ Some Open → w.by ≢ t
   others t e same = let z : None ≡ Some Open = sym unknown ∙ ap (look known) same ∙ e in cc
+
+  paused_here : Pause
+  paused_here = record { wait = w; place = visit.place; longest = visit.longest }
 
   is_paused : IsPausedAt waits (put known w.by Open) (record { wait = w; place = visit.place; longest = visit.longest })
   is_paused = record {
