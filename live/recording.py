@@ -3,40 +3,13 @@
 A server has a directory of its own and listens on a socket in it alone. A session is one client process: a line of SQL goes in, its rows come out.
 Nothing here is trusted by the judge: it judges the transcript and nothing else.
 """
-import glob
-import os
 import shutil
 import subprocess
 import tempfile
 
+from servers import MariaDBServer, PostgreSQLServer
+
 END = 'end-of-answer'
-
-
-def newest(pattern, name):
-    found = sorted(glob.glob(pattern)) or [each for each in [shutil.which(name)] if each]
-    if not found:
-        raise SystemExit(f'{name} is not installed: see live/setup.sh')
-    return found[-1]
-
-
-def as_user(name, words):
-    """A server refuses to run as root; so it runs as its own user there."""
-    return ['setpriv', f'--reuid={name}', f'--regid={name}', '--clear-groups', *words] if os.geteuid() == 0 else words
-
-
-class Server:
-    def __init__(self, user):
-        self.user, self.place = user, tempfile.mkdtemp(prefix='live-')
-        os.chmod(self.place, 0o755)
-        if os.geteuid() == 0:
-            shutil.chown(self.place, user)
-
-    def run(self, words):
-        subprocess.run(as_user(self.user, words), check=True, stdout=subprocess.DEVNULL, stderr=subprocess.DEVNULL, cwd='/')
-
-    def close(self):
-        self.stop()
-        shutil.rmtree(self.place, ignore_errors=True)
 
 
 class Session:
@@ -62,23 +35,19 @@ class Session:
         self.client.wait()
 
 
-class PostgreSQL(Server):
+class PostgreSQL(PostgreSQLServer):
     """A server at SERIALIZABLE that takes prepared transactions."""
 
     kind = 'mv'
 
     def __init__(self):
-        super().__init__('postgres')
-        tools = os.path.dirname(newest('/usr/lib/postgresql/*/bin/initdb', 'initdb'))
-        self.control = [f'{tools}/pg_ctl', '-D', f'{self.place}/data', '-w']
-        self.run([f'{tools}/initdb', '-D', f'{self.place}/data', '-A', 'trust', '-U', 'judge'])
-        with open(f'{self.place}/data/postgresql.conf', 'a') as settings:
-            settings.write(f"listen_addresses = ''\nunix_socket_directories = '{self.place}'\nmax_prepared_transactions = 16\ndefault_transaction_isolation = 'serializable'\n")
-        self.run([*self.control, '-l', f'{self.place}/log', 'start'])
+        super().__init__(tempfile.mkdtemp(prefix='live-'), superuser='judge')
+        self.start('serializable')
         self.session().ask('create table records(k text primary key, v text)')
 
-    def stop(self):
-        self.run([*self.control, '-m', 'immediate', 'stop'])
+    def close(self):
+        self.stop()
+        shutil.rmtree(self.place, ignore_errors=True)
 
     def session(self):
         return Session(['psql', '-X', '-q', '-A', '-t', '-h', self.place, '-U', 'judge', '-d', 'postgres'], f'\\echo {END}')
@@ -96,37 +65,24 @@ class PostgreSQL(Server):
         session.ask(f"commit prepared '{name}'")
 
 
-class MariaDB(Server):
+class MariaDB(MariaDBServer):
     """A server at SERIALIZABLE whose transactions are XA branches."""
 
     kind = 'lock'
 
     def __init__(self):
-        super().__init__('mysql')
-        self.run([newest('/usr/bin/mariadb-install-db', 'mariadb-install-db'), '--no-defaults', f'--datadir={self.place}/data', '--auth-root-authentication-method=normal', '--skip-test-db'])
-        words = [newest('/usr/sbin/mariadbd', 'mariadbd'), '--no-defaults', f'--datadir={self.place}/data', f'--socket={self.place}/socket', '--skip-networking',
-                 '--transaction-isolation=SERIALIZABLE', f'--pid-file={self.place}/pid', f'--log-error={self.place}/log']
-        self.server = subprocess.Popen(as_user('mysql', words), stdout=subprocess.DEVNULL, stderr=subprocess.DEVNULL, cwd='/')
-        for _ in range(300):
-            if subprocess.run(self.client('-e', 'select 1'), capture_output=True).returncode == 0:
-                break
-            if self.server.poll() is not None:
-                raise SystemExit(f'mariadbd did not start: see {self.place}/log')
-            subprocess.run(['sleep', '0.1'])
+        super().__init__(tempfile.mkdtemp(prefix='live-'))
+        self.start('SERIALIZABLE')
         first = self.session()
-        first.ask('create database federation')
         first.ask('create table federation.records(k varchar(32) primary key, v varchar(4096)) engine=innodb')
         first.close()
 
-    def client(self, *more):
-        return ['mariadb', '--no-defaults', '-u', 'root', f'--socket={self.place}/socket', *more]
-
-    def stop(self):
-        self.server.terminate()
-        self.server.wait()
+    def close(self):
+        self.stop()
+        shutil.rmtree(self.place, ignore_errors=True)
 
     def session(self):
-        return Session(self.client('-n', '-N', '-B', '--force'), f"select '{END}';")
+        return Session([*self.client(), '-n', '-N', '-B', '--force'], f"select '{END}';")
 
     def begin(self, session, name):
         session.ask('use federation')

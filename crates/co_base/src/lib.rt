@@ -3,6 +3,9 @@
 //!
 //! A `Key`, a `Value`, a `Range`, `Rows` and `Txns` are valid from the moment they are made, and a
 //! contract sees each as what it stands for: text as its bytes, a list as a list.
+//!
+//! **What is proved.** Keys, values and ranges are valid; `new` accepts exactly what is valid and names the first fault; orders by bytes; node bytes both ways; equal
+//! copies; the counts of participants, by member.
 #![tactic(auto)]
 
 mod copies;

@@ -8,7 +8,7 @@ use Rattle.co_check.specs.declared.client.Client.{Client}
 use Rattle.co_check.specs.declared.ledger.Ledger.{Ledger}
 use Rattle.co_check.specs.declared.place.Place.{Place}
 use Rattle.co_check.specs.Account.{Account, Committed, client_in, client_of, with_client, begun, begun_by, told, told_to, commits_at, committed_at, is_by}
-use Rattle.co_check.specs.Kept.{Keeps, IsChange, IsJudged, IsNext, Follows}
+use Rattle.co_check.specs.Kept.{Keeps, IsChange, IsJudged, IsKept, kept_more, IsNext, Follows}
 use Rattle.co_check.specs.Shape.{Read, at_place}
 
 -- a line that changes the account goes on at its place
@@ -21,12 +21,17 @@ pub breaks : (o : Option Account) (place : Place) (after : Ledger) → IsChange 
 breaks None place after is = tt
 breaks (Some a) place after is = absurd (let z : false ≡ true = is.0 in cc)
 
+-- one more transaction is kept
+kept_on : (o : Option (List Committed)) (committed : List Committed) (d : Committed) → IsKept o committed → IsKept (kept_more o d) (d ∷ committed)
+kept_on None committed d h = tt
+kept_on (Some kept) committed d h = ap (λ ds. d ∷ ds) h
+
 -- what is known of one transaction is another
 changed : (l mid new : Ledger) (a : Account) (t : ℕ) (client other : Client) → Keeps l a → mid ≡ record l { clients = without l.clients t } →
     new ≡ record mid { clients = put mid.clients t client } → client ≡ other → Keeps new (with_client a t other)
 changed l mid new a t client other k m n e =
     subst (λ z. Keeps z (with_client a t other)) (sym (n ∙ ap {A = Ledger} (λ z. record z { clients = put z.clients t client }) m))
-    (record { clients = put-without l.clients t client ∙ (λ i. put (k.clients i) t (e i)); count = k.count; judged = k.judged })
+    (record { clients = put-without l.clients t client ∙ (λ i. put (k.clients i) t (e i)); count = k.count; judged = k.judged; kept = k.kept })
 
 known : (l : Ledger) (a : Account) (t : ℕ) → Keeps l a → client_in (look l.clients t) ≡ client_of a t
 known l a t k = ap (λ m. client_in (look m t)) k.clients
@@ -50,13 +55,14 @@ tells_kept l mid new a t o client after k undecided c f m n =
     subst (λ b. Keeps new (told_to a t o (client_of a t) b)) (sym (ap {A = Client} (λ z. z.decided) (sym (known l a t k)) ∙ undecided))
     (changed l mid new a t after (record (client_of a t) { told = o ∷ (client_of a t).told }) k m n (f ∙ ap {A = Client} (λ z. record z { told = o ∷ z.told }) (c ∙ known l a t k)))
 
-pub commits_kept : (l mid ran new : Ledger) (a : Account) (t : ℕ) (at : Node) (client after : Client) → Keeps l a → is_by (client_in (look l.clients t)).by at ≡ true →
+pub commits_kept : (l mid held ran new : Ledger) (a : Account) (t : ℕ) (at : Node) (client after : Client) → Keeps l a → is_by (client_in (look l.clients t)).by at ≡ true →
     (client_in (look l.clients t)).decided ≡ false → client ≡ client_in (look l.clients t) → mid ≡ record l { clients = without l.clients t } →
-    ((committed : List Committed) → IsJudged mid.differs mid.map committed → IsJudged ran.differs ran.map (record { txn = t; told = client.told } ∷ committed)) →
-    ran.clients ≡ mid.clients → ran.transactions ≡ mid.transactions → after ≡ record { by = client.by; told = []; decided = true } →
-    new.clients ≡ put ran.clients t after → new.transactions ≡ ran.transactions + 1 → new.map ≡ ran.map → new.differs ≡ ran.differs →
+    held ≡ record mid { kept = kept_more mid.kept (record { txn = t; told = client.told }) } →
+    ((committed : List Committed) → IsJudged held.differs held.map committed → IsJudged ran.differs ran.map (record { txn = t; told = client.told } ∷ committed)) →
+    ran.clients ≡ held.clients → ran.transactions ≡ held.transactions → ran.kept ≡ held.kept → after ≡ record { by = client.by; told = []; decided = true } →
+    new.clients ≡ put ran.clients t after → new.transactions ≡ ran.transactions + 1 → new.map ≡ ran.map → new.differs ≡ ran.differs → new.kept ≡ ran.kept →
     IsChange (commits_at a t (client_of a t) (is_by (client_of a t).by at)) true new
-commits_kept l mid ran new a t at client after k decides undecided c m judged rc rt f nc nt nm nd =
+commits_kept l mid held ran new a t at client after k decides undecided c m hm judged rc rt rk f nc nt nm nd nk =
     subst (λ b. IsChange (commits_at a t (client_of a t) b) true new) (sym (ap {A = Client} (λ z. is_by z.by at) (sym same) ∙ decides))
     (subst (λ b. IsChange (committed_at a t (client_of a t) b) true new) (sym (ap {A = Client} (λ z. z.decided) (sym same) ∙ undecided)) (refl, kept))
   where
@@ -73,14 +79,17 @@ commits_kept l mid ran new a t at client after k decides undecided c m judged rc
     kept =
         record {
           clients =
-              nc ∙ ap (λ z. put z t after) (rc ∙ ap {A = Ledger} (λ z. z.clients) m) ∙ put-without l.clients t after
+              nc ∙ ap (λ z. put z t after) (rc ∙ ap {A = Ledger} (λ z. z.clients) hm ∙ ap {A = Ledger} (λ z. z.clients) m) ∙ put-without l.clients t after
               ∙ (λ i. put (k.clients i) t ((f ∙ ap {A = Client} (λ z. record { by = z.by; told = []; decided = true }) is) i));
-          count = let e : ran.transactions ≡ length a.committed = rt ∙ ap {A = Ledger} (λ z. z.transactions) m ∙ k.count in omega (arith, nt, e);
+          count = let e : ran.transactions ≡ length a.committed = rt ∙ ap {A = Ledger} (λ z. z.transactions) hm ∙ ap {A = Ledger} (λ z. z.transactions) m ∙ k.count in omega (arith, nt, e);
           judged =
               subst (λ o. IsJudged o new.map (newest ∷ a.committed)) (sym nd)
               (subst (λ z. IsJudged ran.differs z (newest ∷ a.committed)) (sym nm)
               (subst (λ z. IsJudged ran.differs ran.map (record { txn = t; told = z } ∷ a.committed)) (ap {A = Client} (λ z. z.told) is)
-              (judged a.committed (subst {A = Ledger} (λ z. IsJudged z.differs z.map a.committed) (sym m) k.judged))));
+              (judged a.committed (subst {A = Ledger} (λ z. IsJudged z.differs z.map a.committed) (sym hm) (subst {A = Ledger} (λ z. IsJudged z.differs z.map a.committed) (sym m) k.judged)))));
+          kept =
+              subst (λ o. IsKept o (newest ∷ a.committed)) (sym (nk ∙ rk ∙ ap {A = Ledger} (λ z. z.kept) hm ∙ ap {A = Ledger} (λ z. kept_more z.kept (record { txn = t; told = client.told })) m ∙ ap {A = Client} (λ z. kept_more l.kept (record { txn = t; told = z.told })) is))
+              (kept_on l.kept a.committed newest k.kept);
         }
 
 -- ---- lines

@@ -14,9 +14,9 @@ use Rattle.co_transcript.proofs.ItemLaws.{one_line}
 use Rattle.co_check.specs.declared.checker.Checker.{Checker}
 use Rattle.co_check.specs.declared.fault.CheckFault.{CheckFault}
 use Rattle.co_check.specs.declared.fault.CheckFault.TheVariants as fault
-use Rattle.co_check.specs.declared.verdict.Verdict.{Verdict}
+use Rattle.co_check.specs.declared.verdict.Ending.{Ending}
 use Rattle.co_schedule.specs.Limits.{most_of_text}
-use Rattle.co_check.specs.Checked.{IsTakenAs, IsTaken, IsEnd, IsCheck, BreaksShape, IsBroken, StandsBehind, AtStart, OneMore, fault_of}
+use Rattle.co_check.specs.Checked.{IsTakenAs, IsTaken, IsEnd, IsCheck, IsReading, verdict_of, BreaksShape, IsBroken, StandsBehind, AtStart, OneMore, fault_of}
 use Rattle.co_check.specs.Kept.{Follows}
 use Rattle.co_check.specs.Shape.{Read, next, next_of, read_from, unread}
 use Rattle.co_check.specs.Taking.{HasTaken, IsStep, told_as, further_of, judged_of}
@@ -99,9 +99,9 @@ line_steps text old new left_old left_new checker number line (Err fault.Read) h
 line_steps text old new left_old left_new checker number line (Err (fault.Long at)) h n e behind count t = absurd t
 line_steps text old new left_old left_new checker number line (Err fault.Many) h n e behind count t = absurd t
 
-pub ends_so : (text : List ℕ) (old new : Lines) (left_old left_new : Option (List ℕ)) (checker : Checker) (number : ℕ) (o : Result Verdict CheckFault) →
+pub ends_so : (text : List ℕ) (old new : Lines) (left_old left_new : Option (List ℕ)) (checker : Checker) (number : ℕ) (o : Result Ending CheckFault) →
     (h : HasTaken text old left_old checker) → lines_read old + 1 ≡ number → next_line most_of_text most_of_text (lines_read old) h.rest ≡ Ok None → IsEnd h.shaped number o → IsStep text new left_new (judged_of o)
-ends_so text old new left_old left_new checker number (Ok verdict) h n e t =
+ends_so text old new left_old left_new checker number (Ok ending) h n e t =
     record {
       items = h.items;
       account = h.shaped.account;
@@ -109,7 +109,8 @@ ends_so text old new left_old left_new checker number (Ok verdict) h n e t =
       all = subst (StandsBehind text h.items) (none_left (lines_read old) h.rest e) h.front;
       shaped = h.is_shaped;
       whole = t.0;
-      judged = t.1;
+      judged = t.1.0;
+      kept = t.1.1;
     }
 ends_so text old new left_old left_new checker number (Err (fault.Text at)) h n e t =
     let none : h.rest ≡ [] = none_left (lines_read old) h.rest e in
@@ -163,3 +164,9 @@ at_start text lines left checker none count all follows =
       is_rest = ap (λ o. ahead lines o) all ∙ ap (λ bytes. Some (bytes ++ text)) none;
       count = count;
     }
+
+-- who reads a text, checks it
+pub reading_checks : (text : List ℕ) (o : Result Ending CheckFault) → IsReading text o → IsCheck text (verdict_of o)
+reading_checks text (Ok ending) h =
+    record { items = h.items; account = h.account; place = h.place; all = h.all; shaped = h.shaped; whole = h.whole; judged = h.judged }
+reading_checks text (Err why) h = h

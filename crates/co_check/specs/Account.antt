@@ -17,11 +17,7 @@ use Rattle.co_state.specs.Table.{Table, no_entries, look, put}
 use Rattle.co_base.specs.Nodes.{same_node}
 use Rattle.co_check.specs.declared.client.Answered.{Answered}
 use Rattle.co_check.specs.declared.client.Client.{Client}
-
--- a decided transaction with the operations that were answered before its decision, newest first
-pub record Committed : Type 0 where
-  pub txn : ℕ
-  pub told : List Answered
+pub use Rattle.co_check.specs.declared.client.Committed.{Committed}
 
 pub record Account : Type 0 where
   pub clients : Table Client

@@ -11,9 +11,10 @@ use Rattle.co_transcript.specs.Spelling.{item_text}
 use Rattle.co_check.specs.Account.{Account}
 use Rattle.co_check.specs.declared.place.Place.{Place}
 use Rattle.co_check.specs.declared.checker.Checker.{Checker}
-use Rattle.co_check.specs.Kept.{Follows}
+use Rattle.co_check.specs.Kept.{Follows, IsKept}
 use Rattle.co_check.specs.Shape.{Read, read, is_whole, next, next_of}
 use Rattle.co_check.specs.Serial.{IsSerial, IsFirstToDiffer, serial_after}
+use Rattle.co_check.specs.declared.verdict.Ending.{Ending}
 use Rattle.co_check.specs.declared.verdict.Verdict.{Verdict}
 use Rattle.co_check.specs.declared.verdict.Verdict.TheVariants.{Serial, Differs}
 use Rattle.co_check.specs.declared.fault.CheckFault.{CheckFault}
@@ -32,6 +33,10 @@ BreaksShape r line = (it : Item) → IsItem it → line ≡ item_text it → nex
 abbrev pub IsJudgedAs : Account → Verdict → Type 0
 IsJudgedAs a (Serial transactions map) = IsSerial a.committed × (transactions ≡ length a.committed) × (family_of map ≡ serial_after a.committed)
 IsJudgedAs a (Differs txn line told serial) = IsFirstToDiffer a.committed txn line told serial
+
+-- and the committed transactions are kept, where they were to be
+abbrev pub IsEndedAs : Account → Ending → Type 0
+IsEndedAs a ending = IsJudgedAs a ending.verdict × IsKept ending.kept a.committed
 
 -- one more item was taken, which keeps the shape; or it breaks the shape
 abbrev pub IsTakenAs : Read → ℕ → Item → Result Checker CheckFault → Type 0
@@ -52,8 +57,8 @@ IsTaken r number line (Err (fault.Long at)) = ⊥
 IsTaken r number line (Err fault.Many) = ⊥
 
 -- the input ends before the line of this number
-abbrev pub IsEnd : Read → ℕ → Result Verdict CheckFault → Type 0
-IsEnd r number (Ok verdict) = (is_whole r.place ≡ true) × IsJudgedAs r.account verdict
+abbrev pub IsEnd : Read → ℕ → Result Ending CheckFault → Type 0
+IsEnd r number (Ok ending) = (is_whole r.place ≡ true) × IsEndedAs r.account ending
 IsEnd r number (Err (fault.Text at)) = (at ≡ number) × (is_whole r.place ≡ false)
 IsEnd r number (Err fault.Memory) = ⊥
 IsEnd r number (Err fault.Read) = ⊥
@@ -69,6 +74,17 @@ pub record IsVerdict (text : List ℕ) (verdict : Verdict) : Type 0 where
   pub shaped : read items ≡ Some (record { place = place; account = account })
   pub whole : is_whole place ≡ true
   pub judged : IsJudgedAs account verdict
+
+-- the same, with the committed transactions that were kept
+pub record IsEnding (text : List ℕ) (ending : Ending) : Type 0 where
+  pub items : List Item
+  pub account : Account
+  pub place : Place
+  pub all : StandsBehind text items []
+  pub shaped : read items ≡ Some (record { place = place; account = account })
+  pub whole : is_whole place ≡ true
+  pub judged : IsJudgedAs account ending.verdict
+  pub kept : IsKept ending.kept account.committed
 
 -- the first line that is no item or breaks the shape, or the line past the end where the last group is not whole
 abbrev pub IsBroken : Option Read → List ℕ → Type 0
@@ -109,3 +125,12 @@ IsCheck text (Err (fault.Long line)) = IsLineFault text (fault.Long line)
 IsCheck text (Err fault.Many) = IsLineFault text fault.Many
 IsCheck text (Err fault.Read) = Unit {0}
 IsCheck text (Err fault.Memory) = Unit {0}
+
+-- Reading a text answers its verdict with what was kept, or the same faults.
+abbrev pub IsReading : List ℕ → Result Ending CheckFault → Type 0
+IsReading text (Ok ending) = IsEnding text ending
+IsReading text (Err why) = IsCheck text (Err why)
+
+abbrev pub verdict_of : Result Ending CheckFault → Result Verdict CheckFault
+verdict_of (Ok ending) = Ok ending.verdict
+verdict_of (Err why) = Err why

@@ -1,5 +1,5 @@
 -- For which account a ledger stands, and what one more line leaves of it.
-use Rattle.std.specs.Prelude.{Bool, true, false, ◌≡◌, List, length, Option, None, Some}
+use Rattle.std.specs.Prelude.{Bool, true, false, ◌≡◌, List, ◌∷◌, length, Option, None, Some}
 use Rattle.co_serial.specs.Records.{Records}
 use Rattle.co_serial.specs.Family.{family_of}
 use Rattle.co_check.specs.declared.checker.Checker.{Checker}
@@ -15,10 +15,20 @@ abbrev pub IsJudged : Option Difference → List Records → List Committed → 
 IsJudged None map committed = IsSerial committed × (family_of map ≡ serial_after committed)
 IsJudged (Some d) map committed = IsFirstToDiffer committed d.txn d.at.number d.at.told d.at.serial
 
+-- the decided transactions are kept, or nothing is
+abbrev pub IsKept : Option (List Committed) → List Committed → Type 0
+IsKept None committed = Unit {0}
+IsKept (Some kept) committed = kept ≡ committed
+
+abbrev pub kept_more : Option (List Committed) → Committed → Option (List Committed)
+kept_more None d = None
+kept_more (Some kept) d = Some (d ∷ kept)
+
 pub record Keeps (l : Ledger) (a : Account) : Type 0 where
   pub clients : l.clients ≡ a.clients
   pub count : l.transactions ≡ length a.committed
   pub judged : IsJudged l.differs l.map a.committed
+  pub kept : IsKept l.kept a.committed
 
 -- a change of the account that may break the shape: it is told whether it did not
 abbrev pub IsChange : Option Account → Bool → Ledger → Type 0

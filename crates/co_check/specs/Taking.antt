@@ -10,9 +10,9 @@ use Rattle.co_check.specs.declared.fault.CheckFault.{CheckFault}
 use Rattle.co_check.specs.declared.fault.CheckFault.TheVariants as fault
 use Rattle.co_check.specs.declared.lines.Step.{Step}
 use Rattle.co_check.specs.declared.lines.Step.TheVariants.{Further, Judged}
-use Rattle.co_check.specs.declared.verdict.Verdict.{Verdict}
+use Rattle.co_check.specs.declared.verdict.Ending.{Ending}
 use Rattle.co_schedule.specs.Limits.{most_of_text}
-use Rattle.co_check.specs.Checked.{IsCheck, StandsBehind}
+use Rattle.co_check.specs.Checked.{IsReading, StandsBehind}
 use Rattle.co_check.specs.Kept.{Follows}
 use Rattle.co_check.specs.Shape.{Read, read}
 
@@ -36,13 +36,13 @@ pub record HasTaken (text : List ℕ) (lines : Lines) (left : Option (List ℕ))
 -- one more line keeps this, or the text is checked
 abbrev pub IsStep : List ℕ → Lines → Option (List ℕ) → Result Step CheckFault → Type 0
 IsStep text lines left (Ok (Further checker)) = HasTaken text lines left checker
-IsStep text lines left (Ok (Judged verdict)) = IsCheck text (Ok verdict)
-IsStep text lines left (Err why) = IsCheck text (Err why)
+IsStep text lines left (Ok (Judged ending)) = IsReading text (Ok ending)
+IsStep text lines left (Err why) = IsReading text (Err why)
 
 -- one more line is counted, and tells of one transaction at most
 abbrev pub IsFurther : ℕ → Checker → Lines → Result Step CheckFault → Type 0
 IsFurther number old lines (Ok (Further checker)) = IsWithin (number + 1) lines × (checker.ledger.transactions ≤ old.ledger.transactions + 1)
-IsFurther number old lines (Ok (Judged verdict)) = Unit {0}
+IsFurther number old lines (Ok (Judged ending)) = Unit {0}
 IsFurther number old lines (Err why) = Unit {0}
 
 -- what a reader of lines says is the fault
@@ -58,6 +58,6 @@ further_of (Ok after) = Ok (Further after)
 further_of (Err why) = Err why
 
 -- the step at the end
-abbrev pub judged_of : Result Verdict CheckFault → Result Step CheckFault
-judged_of (Ok verdict) = Ok (Judged verdict)
+abbrev pub judged_of : Result Ending CheckFault → Result Step CheckFault
+judged_of (Ok ending) = Ok (Judged ending)
 judged_of (Err why) = Err why

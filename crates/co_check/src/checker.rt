@@ -8,7 +8,7 @@ use crate::fault::CheckFault;
 use crate::ledger::Ledger;
 use crate::place::Place;
 use crate::shaping::next;
-use crate::verdict::Verdict;
+use crate::verdict::Ending;
 use co_message::Item;
 use co_transcript::{ItemFault, read_item};
 use std::alloc::Global;
@@ -23,14 +23,14 @@ pub(crate) struct Checker {
 }
 
 impl Checker {
-    /// Nothing was read.
-    pub(crate) fn new(alloc: Global) -> Checker
+    /// Nothing was read. Decided transactions are kept where that is asked for.
+    pub(crate) fn new(alloc: Global, keeps: bool) -> Checker
         ensures follows { Follows result unread }
         ensures none { result.ledger.transactions ≡ 0 }
     {
         Checker {
             place: Place::AtFront,
-            ledger: Ledger::new(alloc),
+            ledger: Ledger::new(alloc, keeps),
         }
     }
 
@@ -76,8 +76,8 @@ impl Checker {
         }
     }
 
-    /// The verdict, where the input ends before the line of this number.
-    pub(crate) fn end(self, number: u32) -> Result<Verdict, CheckFault>
+    /// The verdict and what was kept, where the input ends before the line of this number.
+    pub(crate) fn end(self, number: u32) -> Result<Ending, CheckFault>
         ensures judged { (r : Read) → Follows self r → IsEnd r number result }
         ensures never { IsErrOf result CheckFault.Read → ⊥ }
     {
@@ -85,7 +85,7 @@ impl Checker {
         let whole = place.is_whole();
         drop(place);
         if whole {
-            return Ok(ledger.verdict());
+            return Ok(ledger.ending());
         }
         drop(ledger);
         Err(CheckFault::Text { line: number })

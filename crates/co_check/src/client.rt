@@ -1,5 +1,5 @@
 //! What is known of one transaction.
-use co_base::{Node, Reply};
+use co_base::{Node, Reply, Txn};
 use co_serial::Site;
 use co_state::History;
 
@@ -23,4 +23,13 @@ pub struct Client {
     pub told: History<Answered>,
     /// Whether it is decided.
     pub decided: bool,
+}
+
+/// A decided transaction.
+#[derive(Drop)]
+pub struct Committed {
+    /// The transaction.
+    pub txn: Txn,
+    /// The operations that were answered before its decision, newest first.
+    pub told: History<Answered>,
 }

@@ -3,12 +3,13 @@ ghost use Rattle.std.specs.Prelude.{◌≡◌, ◌≤◌, ◌<◌, ◌+◌, ◌^
 ghost use Rattle.co_base.specs.declared.mark.MarkKind.TheVariants as kind;
 ghost use Rattle.co_state.specs.Table.{look, put, without};
 ghost use Rattle.co_check.specs.Account.{Account, Committed, no_account, unknown, client_in, is_by, begun, told, begins, operates, operated, marked, marked_by, replied};
-ghost use Rattle.co_check.specs.Checked.{IsJudgedAs};
-ghost use Rattle.co_check.specs.Kept.{Keeps, IsChange, IsJudged};
+ghost use Rattle.co_check.specs.Checked.{IsJudgedAs, IsEndedAs};
+ghost use Rattle.co_check.specs.Kept.{Keeps, IsChange, IsJudged, kept_more};
 
-use crate::client::{Answered, Client};
+use crate::client::{Answered, Client, Committed};
+use crate::copies::copy_told;
 use crate::serial::{Unlike, first_unlike};
-use crate::verdict::Verdict;
+use crate::verdict::{Ending, Verdict};
 use co_base::{Mark, MarkKind, Node, Op, Reply, Txn};
 use co_message::{Answer, Event};
 use co_serial::{SerialMap, Site};
@@ -32,6 +33,7 @@ pub(crate) struct Ledger {
     transactions: u32,
     map: SerialMap,
     differs: Option<Difference>,
+    kept: Option<History<Committed>>,
 }
 
 /// Nothing is known of a transaction.
@@ -78,16 +80,22 @@ fn decided_at(alloc: Global, by: Option<Node>) -> Client
 }
 
 impl Ledger {
-    /// Nothing was told.
-    pub(crate) fn new(alloc: Global) -> Ledger
+    /// Nothing was told. Decided transactions are kept where that is asked for.
+    pub(crate) fn new(alloc: Global, keeps: bool) -> Ledger
         ensures { Keeps result no_account }
     {
+        let kept = if keeps {
+            Some(History::new(alloc))
+        } else {
+            None
+        };
         Ledger {
             alloc,
             clients: Table::new(alloc),
             transactions: 0,
             map: SerialMap::new(alloc),
             differs: None,
+            kept,
         }
     }
 
@@ -262,10 +270,25 @@ impl Ledger {
             told,
             decided: _,
         } = self.take(t);
+        self.keep(t, &told)?;
         self.run(t, told)?;
         self.transactions += 1;
         self.lay(t, decided_at(self.alloc, by))?;
         Ok(true)
+    }
+
+    /// Keeps what a decided transaction was answered, where that is asked for.
+    fn keep(&mut self, t: Txn, told: &History<Answered>) -> Result<(), AllocError>
+        ensures { OnOk result (self.new ≡ record self.old { kept = kept_more self.old.kept (record { txn = t; told = told.now }) }) }
+    {
+        let alloc = self.alloc;
+        match &mut self.kept {
+            Some(kept) => {
+                let told = copy_told(alloc, told)?;
+                kept.push(Committed { txn: t, told })
+            }
+            None => Ok(()),
+        }
     }
 
     /// Whether this node decides the transaction.
@@ -282,7 +305,7 @@ impl Ledger {
     fn run(&mut self, t: Txn, told: History<Answered>) -> Result<(), AllocError>
         ensures judged { (committed : List Committed) → IsJudged self.old.differs self.old.map committed →
             OnOk result (IsJudged self.new.differs self.new.map (record { txn = t; told = told } ∷ committed)) }
-        ensures rest { OnOk result ((self.new.clients ≡ self.old.clients) × (self.new.transactions ≡ self.old.transactions)) }
+        ensures rest { OnOk result ((self.new.clients ≡ self.old.clients) × (self.new.transactions ≡ self.old.transactions) × (self.new.kept ≡ self.old.kept)) }
     {
         if self.differs.is_some() {
             return Ok(());
@@ -296,9 +319,9 @@ impl Ledger {
         }
     }
 
-    /// What the committed transactions were found to be.
-    pub(crate) fn verdict(self) -> Verdict
-        ensures { (a : Account) → Keeps self a → IsJudgedAs a result }
+    /// What the committed transactions were found to be, and those of them that were kept.
+    pub(crate) fn ending(self) -> Ending
+        ensures { (a : Account) → Keeps self a → IsEndedAs a result }
     {
         let Ledger {
             alloc: _,
@@ -306,8 +329,9 @@ impl Ledger {
             transactions,
             map,
             differs,
+            kept,
         } = self;
-        match differs {
+        let verdict = match differs {
             None => Verdict::Serial { transactions, map },
             Some(Difference { txn, at }) => Verdict::Differs {
                 txn,
@@ -315,6 +339,7 @@ impl Ledger {
                 told: at.told,
                 serial: at.serial,
             },
-        }
+        };
+        Ending { verdict, kept }
     }
 }

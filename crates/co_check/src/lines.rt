@@ -2,12 +2,12 @@
 ghost use Rattle.std.specs.Prelude.{◌≡◌, ◌<◌, ◌≤◌, ◌+◌, ◌^◌, ℕ, List, Some, IsErrOf};
 ghost use Rattle.co_outside.specs.Faults.{HasRisen};
 ghost use Rattle.co_outside.specs.Onward.{past, IsOnward, LiesAhead};
-ghost use Rattle.co_check.specs.Checked.{IsCheck};
+ghost use Rattle.co_check.specs.Checked.{IsCheck, IsReading, verdict_of};
 ghost use Rattle.co_check.specs.Taking.{HasTaken, IsWithin, IsStep, IsFurther, told_as, further_of, judged_of};
 
 use crate::checker::Checker;
 use crate::fault::CheckFault;
-use crate::verdict::Verdict;
+use crate::verdict::{Ending, Verdict};
 use co_outside::Source;
 use co_schedule::{Lines, LinesFault, MOST_OF_TEXT};
 use std::alloc::Global;
@@ -29,7 +29,7 @@ enum Step {
     /// It is an item that keeps the shape.
     Further(Checker),
     /// There is none, and the transcript is whole.
-    Judged(Verdict),
+    Judged(Ending),
 }
 
 /// The step of a line that was taken so.
@@ -40,10 +40,10 @@ fn further(taken: Result<Checker, CheckFault>) -> Result<Step, CheckFault>
 }
 
 /// The step at the end.
-fn judged(verdict: Result<Verdict, CheckFault>) -> Result<Step, CheckFault>
-    ensures { result ≡ judged_of verdict }
+fn judged(ending: Result<Ending, CheckFault>) -> Result<Step, CheckFault>
+    ensures { result ≡ judged_of ending }
 {
-    Ok(Step::Judged(verdict?))
+    Ok(Step::Judged(ending?))
 }
 
 /// Takes the next line, which has this number; where there is none, the transcript is judged.
@@ -74,6 +74,39 @@ fn take_line<S: Source>(
     }
 }
 
+/// Reads a transcript from the source, and gives the verdict on it; with the committed transactions, where they are to be kept. The faults are
+/// those of `check_items`.
+pub fn read_items<S: Source>(
+    alloc: Global,
+    source: &mut S,
+    keeps: bool,
+) -> Result<Ending, CheckFault>
+    ensures checked { (text : List ℕ) → S.left source.old ≡ Some text → IsReading text result }
+    ensures heard { (text more : List ℕ) → LiesAhead (past S.gave S.ended S.went_on source.old) (past S.gave S.ended S.went_on source.new) text more → IsReading text result }
+    ensures counts { S.faults source.old ≤ S.faults source.new }
+    ensures read { IsErrOf result CheckFault.Read → HasRisen (S.faults source.old) (S.faults source.new) }
+    ensures quiet { (IsErrOf result CheckFault.Read → ⊥) → S.faults source.new ≡ S.faults source.old }
+{
+    let mut lines = Lines::new(alloc, MOST_OF_TEXT, MOST_OF_TEXT)?;
+    let mut checker = Checker::new(alloc, keeps);
+    for number in 1..MOST_OF_TEXT + 2 {
+        match take_line(alloc, &mut lines, source, checker, number)? {
+            Step::Further(after) => checker = after,
+            Step::Judged(ending) => return Ok(ending),
+        }
+    }
+    unreachable!()
+}
+
+/// The verdict of an ending.
+fn verdict_of(read: Result<Ending, CheckFault>) -> Result<Verdict, CheckFault>
+    ensures { result ≡ verdict_of read }
+{
+    let Ending { verdict, kept } = read?;
+    drop(kept);
+    Ok(verdict)
+}
+
 /// Reads a transcript from the source and tells whether its committed transactions read what the serial run reads.
 ///
 /// `Serial` comes only where the transcript is well shaped and each committed transaction was answered, before its decision, as when run
@@ -89,13 +122,5 @@ pub fn check_items<S: Source>(alloc: Global, source: &mut S) -> Result<Verdict, 
     ensures read { IsErrOf result CheckFault.Read → HasRisen (S.faults source.old) (S.faults source.new) }
     ensures quiet { (IsErrOf result CheckFault.Read → ⊥) → S.faults source.new ≡ S.faults source.old }
 {
-    let mut lines = Lines::new(alloc, MOST_OF_TEXT, MOST_OF_TEXT)?;
-    let mut checker = Checker::new(alloc);
-    for number in 1..MOST_OF_TEXT + 2 {
-        match take_line(alloc, &mut lines, source, checker, number)? {
-            Step::Further(after) => checker = after,
-            Step::Judged(verdict) => return Ok(verdict),
-        }
-    }
-    unreachable!()
+    verdict_of(read_items(alloc, source, false))
 }

@@ -12,7 +12,7 @@ fn same_text(one: &[u8], other: &[u8]) -> bool
 }
 
 /// Whether two values are the same, or both are missing.
-fn same_value(one: &Option<Value>, other: &Option<Value>) -> bool
+pub fn same_value(one: &Option<Value>, other: &Option<Value>) -> bool
     ensures same { result ≡ true → one.now ≡ other.now }
     ensures differs { result ≡ false → one.now ≢ other.now }
 {
@@ -50,7 +50,7 @@ fn same_rows(one: &[Row], other: &[Row]) -> bool
 }
 
 /// Whether two replies are the same.
-pub(crate) fn is_same(one: &Reply, other: &Reply) -> bool
+pub fn is_same(one: &Reply, other: &Reply) -> bool
     ensures same { result ≡ true → one.now ≡ other.now }
     ensures differs { result ≡ false → one.now ≢ other.now }
 {

@@ -1,6 +1,8 @@
 //! What checking a transcript gives.
+use crate::client::Committed;
 use co_base::{Reply, Txn};
 use co_serial::SerialMap;
+use co_state::History;
 
 /// Whether the committed transactions read what the serial run reads.
 #[derive(Drop)]
@@ -23,4 +25,13 @@ pub enum Verdict {
         /// What the serial run answers.
         serial: Reply,
     },
+}
+
+/// What a transcript ends with.
+#[derive(Drop)]
+pub struct Ending {
+    /// Whether the committed transactions read what the serial run reads.
+    pub verdict: Verdict,
+    /// The committed transactions, newest first, where they were kept.
+    pub kept: Option<History<Committed>>,
 }

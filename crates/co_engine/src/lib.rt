@@ -3,6 +3,8 @@
 //! An engine stands for a state, by a relation of its own. Each call answers as that state does, and
 //! afterwards the engine stands for the state that the call leaves. What engines keep alike stands here too:
 //! a roll of the undecided transactions, and the dump of one that writes in place.
+//!
+//! **What is proved.** The contract of all engines, by the engine state; `play` answers any list of calls as the state does, proved once over the trait.
 #![tactic(auto)]
 
 mod answers;

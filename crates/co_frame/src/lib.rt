@@ -2,6 +2,10 @@
 //!
 //! A batch counts only behind an open gate, and a gate is opened only once its batch is stable, so a
 //! file holds its old batches or its old ones and the new one (the commit of a log write as one byte).
+//!
+//! **What is proved.** A walk over a log file lends exactly the batches of its text and stops, or is broken, exactly where the text does. A batch behind a gate that is
+//! not open changes nothing; opening the gate adds exactly that batch. What the image of a gate says of its batch, and of a spare file, is computed
+//! as defined.
 #![tactic(auto)]
 
 mod batch;

@@ -4,6 +4,9 @@
 //! operation looks at the others. After want of memory an index is only dropped.
 //!
 //! Tables by key, which the engines share, stand here too.
+//!
+//! **What is proved.** Where the index tells what the undecided transactions read and wrote, and each call keeps it so, the pairs that an operation gives are exactly
+//! those that are there after it and were not there before, each once.
 #![tactic(auto)]
 
 mod index;

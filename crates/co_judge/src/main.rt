@@ -2,15 +2,18 @@
 //! order of their decisions.
 //!
 //! `co_judge` reads a transcript from standard input, and writes `serial N` and the records that the serial run leaves, or `not serial T LINE`.
-//! `co_judge why` writes also what was answered there, and what the serial run answers. A note of how it ended goes to standard error.
+//! `co_judge why` writes also what was answered there, and what the serial run answers. `co_judge order` writes an order of the committed
+//! transactions in which they are serial, or why there is none. A note of how it ended goes to standard error.
 #![tactic(auto)]
 
 ghost use Rattle.std.specs.Prelude.{◌≡◌, ◌↔◌, ℕ, List, Some, None};
 ghost use Rattle.co_outside.specs.Onward.{past, LiesAhead};
 ghost use Rattle.co_check.specs.Judge.{detail_of, IsOutcome};
 ghost use Rattle.co_check.specs.declared.text.Detail.{Detail};
+ghost use Rattle.co_order.specs.Answer.{IsOrdered};
 
 use co_check::{Outcome, VerdictFault, judge, note_outcome};
+use co_order::{Answer, judge_order};
 use co_outside::{Sink, SinkStd, Source, SourceStd};
 use std::alloc::Global;
 use std::env;
@@ -45,6 +48,38 @@ fn judge_streams<R: Read + Drop, W: Write + Drop, N: Write + Drop>(
     judge(alloc, words, source, out, notes)
 }
 
+/// Whether the words ask for an order.
+fn asks_for_order(words: &[String]) -> bool {
+    match words {
+        [word] => word.as_str() == "order",
+        _ => false,
+    }
+}
+
+/// Looks for an order of what a stream gives, and writes the answer to a stream. It is one to each text that begins with the bytes that were given, and goes
+/// on with whatever comes behind them, with nothing where the stream ended.
+fn order_streams<R: Read + Drop, W: Write + Drop>(
+    alloc: Global,
+    source: &mut SourceStd<R>,
+    out: &mut SinkStd<W>,
+) -> Result<Answer, VerdictFault>
+    ensures heard { (text more : List ℕ) →
+        let now = past ⟦<SourceStd<R> as Source>⟧.gave ⟦<SourceStd<R> as Source>⟧.ended ⟦<SourceStd<R> as Source>⟧.went_on in
+        LiesAhead (now source.old) (now source.new) text more → IsOrdered text result }
+{
+    judge_order(alloc, source, out)
+}
+
+/// Looks for an order over the standard streams.
+fn order_here(rt: &HostRuntime) -> u8 {
+    let mut source = SourceStd::new(rt.stdin());
+    let mut out = SinkStd::new(rt.stdout());
+    match order_streams(rt.alloc(), &mut source, &mut out) {
+        Ok(answer) => answer.code(),
+        Err(fault) => refused(rt, Outcome::Ended(Err(fault))).code(),
+    }
+}
+
 /// Judges over the standard streams.
 fn judge_here(rt: &HostRuntime, words: &[String]) -> Outcome {
     let mut source = SourceStd::new(rt.stdin());
@@ -62,7 +97,12 @@ fn refused(rt: &HostRuntime, outcome: Outcome) -> Outcome {
 
 fn main(rt: HostRuntime) -> ExitCode {
     let outcome = match words_of(&rt) {
-        Ok(words) => judge_here(&rt, &words),
+        Ok(words) => {
+            if asks_for_order(&words) {
+                return ExitCode::from(order_here(&rt));
+            }
+            judge_here(&rt, &words)
+        }
         Err(e) if e.kind() == ErrorKind::OutOfMemory => {
             refused(&rt, Outcome::Ended(Err(VerdictFault::Memory)))
         }

@@ -45,7 +45,7 @@ all_start kinds coords fm fc g =
       opened = g.sound;
     }
 
-opened_stay : (s z : Federation) → Grows s z → AreSound s.opened_member s.opened_coord → AreSound z.opened_member z.opened_coord
+pub opened_stay : (s z : Federation) → Grows s z → AreSound s.opened_member s.opened_coord → AreSound z.opened_member z.opened_coord
 opened_stay s z g h = subst (λ logs. AreSound logs z.opened_coord) (sym g.members) (subst (AreSound s.opened_member) (sym g.coords) h)
 
 -- a guard over sound logs is one over any
@@ -87,7 +87,7 @@ guard_any s (FillCoordSpare c) g = g
 guard_any s (BeginLocal t m) g = g
 guard_any s (AskEnd t) g = g
 
-all_move : (s : Federation) → AllFacts s → (move : Move) → Guard s move → AllFacts (effect s move)
+pub all_move : (s : Federation) → AllFacts s → (move : Move) → Guard s move → AllFacts (effect s move)
 all_move s a move g =
     record {
       facts = move_keeps s a.facts move g;

@@ -202,6 +202,17 @@ module _ (s : Federation) (f : Facts s) (p : CommitRecords s) where
           by (inl k) = none k
           by (inr k) = p c u ns (unended_one (s.coord c).log.stable u ns ((f.coords c).committed u ns k.0 k.1).recorded)
 
+  pub cast_records : (t m c n : ℕ) → CommitRecords (effect s (Cast t m c n))
+  cast_records t m c n = kept (Cast t m c n) refl (λ d. refl)
+
+  pub local_records : (t m : ℕ) → CommitRecords (effect s (CommitLocally t m))
+  local_records t m = now (look s.sessions t) refl
+    where
+      now : (x : Option Session) → look s.sessions t ≡ x → CommitRecords (effect s (CommitLocally t m))
+      now None e = same (CommitLocally t m) (λ u ms k. inr (subst (λ ds. TookPartIn ds u ms) (sym (ap (λ x. (marked_over s t x).decided) e)) k)) (λ c. ap (λ x. ((marked_over s t x).coord c).log.stable) e)
+      now (Some session) e =
+          same (CommitLocally t m) (λ u ms k. inr (subst (λ ds. TookPartIn ds u ms) (sym (ap (λ x. (marked_over s t x).decided) e)) k)) (λ c. ap (λ x. ((marked_over s t x).coord c).log.stable) e)
+
   pub move_records : (move : Move) → Guard s move → CommitRecords (effect s move)
   move_records (Decide t c) h = decides t c h
   move_records (FillCoordSpare c) h = stays (FillCoordSpare c) (filled c)
@@ -215,18 +226,13 @@ module _ (s : Federation) (f : Facts s) (p : CommitRecords s) where
       now : (x : Option Session) → look s.sessions t ≡ x → CommitRecords (effect s (AskEnd t))
       now None e = kept (AskEnd t) (ap (λ x. (marked_over s t x).decided) e) (λ c. ap (λ x. ((marked_over s t x).coord c).log.stable) e)
       now (Some session) e = kept (AskEnd t) (ap (λ x. (marked_over s t x).decided) e) (λ c. ap (λ x. ((marked_over s t x).coord c).log.stable) e)
-  move_records (CommitLocally t m) h = now (look s.sessions t) refl
-    where
-      now : (x : Option Session) → look s.sessions t ≡ x → CommitRecords (effect s (CommitLocally t m))
-      now None e = same (CommitLocally t m) (λ u ms k. inr (subst (λ ds. TookPartIn ds u ms) (sym (ap (λ x. (marked_over s t x).decided) e)) k)) (λ c. ap (λ x. ((marked_over s t x).coord c).log.stable) e)
-      now (Some session) e =
-          same (CommitLocally t m) (λ u ms k. inr (subst (λ ds. TookPartIn ds u ms) (sym (ap (λ x. (marked_over s t x).decided) e)) k)) (λ c. ap (λ x. ((marked_over s t x).coord c).log.stable) e)
+  move_records (CommitLocally t m) h = local_records t m
   move_records (RecordYes t c m) h =
       kept (RecordYes t c m) (ap (λ o. (record_yes s t c m o).decided) h.2) (λ d. ap (λ o. ((record_yes s t c m o).coord d).log.stable) h.2 ∙ at_one c _ refl d)
   move_records (RecordAck t c m) h =
       kept (RecordAck t c m) (ap (λ o. (record_ack s t c m o).decided) h.2) (λ d. ap (λ o. ((record_ack s t c m o).coord d).log.stable) h.2 ∙ at_one c _ refl d)
   move_records (MarkAsked t m c n) h = kept (MarkAsked t m c n) refl (λ d. refl)
-  move_records (Cast t m c n) h = kept (Cast t m c n) refl (λ d. refl)
+  move_records (Cast t m c n) h = cast_records t m c n
   move_records (DropActive t m) h = kept (DropActive t m) refl (λ d. refl)
   move_records (DropVoted t m) h = kept (DropVoted t m) refl (λ d. refl)
   move_records (Install t m) h = kept (Install t m) refl (λ d. refl)

@@ -16,7 +16,7 @@ use Rattle.co_law_moves.specs.EventMoves.{moves_of}
 use Rattle.co_law_moves.specs.MoveTraces.{IsItsMoves, IsDisarmedEverywhere, told_with, moves_trace}
 use Rattle.co_law_moves.proofs.ItemsTold.{no_rest}
 use Rattle.co_law_moves.proofs.StepsMade.{event_made}
-use Rattle.co_law_moves.proofs.StepsTold.{step_told}
+use Rattle.co_law_moves.proofs.StepsTold.{step_told, step_sends}
 use Rattle.co_law.proofs.AllBack.{all_back}
 
 event_is_made : (s : Federation) → Facts s → (h : Happening) → IsTrueVerdict s h → h ≢ happening.Disarm → IsItsMoves s h
@@ -26,6 +26,7 @@ event_is_made s f h v n =
       leaves = m.same;
       guarded = m.guards;
       tells = ap (trace_from None) (sym (no_rest (told_with h (step s h).items))) ∙ step_told s f h [] ∙ no_rest (moves_trace (moves_of s h) s);
+      sends = step_sends s f h;
     }
 
 pub every_event : (s : Federation) (h : Happening) → AllInvariants s → IsTrueVerdict s h → h ≢ happening.Disarm → IsItsMoves s h

@@ -22,7 +22,7 @@ use Rattle.co_plain.specs.Member.{prepare_record}
 use Rattle.co_plain.specs.LocalCommit.{local_coord}
 use Rattle.co_plain.specs.Sessions.{count_at, asked_to_end}
 use Rattle.co_plain.specs.Federation.{Federation, with_member, with_session}
-use Rattle.co_plain.specs.Decisions.{is_decided, replies_of, sites_of, told_of, told_in, asked_in, votes_for}
+use Rattle.co_plain.specs.Decisions.{is_decided, replies_of, sites_of, told_of, told_in, asked_in, votes_for, is_asked}
 use Rattle.co_plain.specs.SoundLogs.{unended_in}
 use Rattle.co_plain.specs.Invariants.{Memory, Stable, view, stands, told_changes, Replays, VotedAreConflictFree}
 use Rattle.co_plain.specs.Moves.{CommitLocally, effect, Guard, with_decision, marked_over, session_by_member, local_state}
@@ -315,7 +315,15 @@ module _ (s : Federation) (f : Facts s) (t m : ℕ) (old : Session) (g : Alone s
 unasked_undecided : (s : Federation) → Facts s → (t m : ℕ) (old : Session) → look s.sessions t ≡ Some old → old.by ≡ node.Member m → old.asked ≡ false → is_decided s.decided t ≡ false
 unasked_undecided s f t m old e b a = false_from_ne_true (is_decided s.decided t) (λ h. let z : true ≡ false = sym (f.numbers.local_asked t m old e b h) ∙ a in cc)
 
-pub keeps_local : (s : Federation) → Facts s → (t m : ℕ) → Guard s (CommitLocally t m) → Facts (effect s (CommitLocally t m))
+-- what a local commit rests on: a client that asks for the first time, operations, and a yes
+abbrev pub MayCommitLocally : Federation → ℕ → ℕ → Type 0
+MayCommitLocally s t m =
+    session_by_member (look s.sessions t) m × (is_asked s t ≡ false) × (1 ≤ count_at (told_of s t) m) × SaysYes (s.member m).engine t (count_at (told_of s t) m)
+
+pub may_commit_locally : (s : Federation) (t m : ℕ) → Guard s (CommitLocally t m) → MayCommitLocally s t m
+may_commit_locally s t m g = (g.0, g.1, g.2, yes_parts (s.member m).engine t (count_at (told_of s t) m) g.3)
+
+pub keeps_local : (s : Federation) → Facts s → (t m : ℕ) → MayCommitLocally s t m → Facts (effect s (CommitLocally t m))
 keeps_local s f t m g = by (look s.sessions t) refl g.0
   where
     by : (o : Option Session) → look s.sessions t ≡ o → session_by_member o m → Facts (effect s (CommitLocally t m))
@@ -333,5 +341,5 @@ keeps_local s f t m g = by (look s.sessions t) refl g.0
           asks = refl;
           undecided = unasked_undecided s f t m old e h (sym (ap asked_in e) ∙ g.1);
           some' = subst (λ ts. 1 ≤ count_at ts m) (sym same) g.2;
-          says = subst (λ n. SaysYes (s.member m).engine t n) (ap (λ ts. count_at ts m) (sym same)) (yes_parts (s.member m).engine t (count_at (told (rest_of s) t) m) g.3);
+          says = subst (λ n. SaysYes (s.member m).engine t n) (ap (λ ts. count_at ts m) (sym same)) g.3;
         })))

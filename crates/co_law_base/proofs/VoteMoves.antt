@@ -62,8 +62,15 @@ asked_unsettled s f t c m n g absent d =
     by (inl h) = held (look (s.coord c).table t) refl h
     by (inr h) = let z : true ≡ false = sym h ∙ (neither_stands (view Memory (s.member m)) t absent).1 in cc
 
+-- what a vote rests on: the message that asks for it, and a yes
+abbrev pub MayCast : Federation → ℕ → ℕ → ℕ → ℕ → Type 0
+MayCast s t m c n = (was_sent s.sent (message.Prepare t c m n) ≡ true) × SaysYes (s.member m).engine t n
+
+pub may_cast : (s : Federation) (t m c n : ℕ) → Guard s (Cast t m c n) → MayCast s t m c n
+may_cast s t m c n g = (g.0, yes_parts (s.member m).engine t n g.1)
+
 -- a yes is forced
-pub keeps_cast : (s : Federation) → Facts s → (t m c n : ℕ) → Guard s (Cast t m c n) → Facts (effect s (Cast t m c n))
+pub keeps_cast : (s : Federation) → Facts s → (t m c n : ℕ) → MayCast s t m c n → Facts (effect s (Cast t m c n))
 keeps_cast s f t m c n g =
     member_change s f m y
     (record {
@@ -90,7 +97,7 @@ keeps_cast s f t m c n g =
     vote = record { coord = c; count = n; sets = sets_of (operations_of (s.member m).engine t) }
 
     yes' : SaysYes (s.member m).engine t n
-    yes' = yes_parts (s.member m).engine t n g.1
+    yes' = g.1
 
     a : ActiveFacts (rest_of s) m (s.member m) t (operations_of (s.member m).engine t)
     a = x.active t (operations_of b t) (active_found b t (subst (λ k. 1 ≤ k) (sym yes'.count) (f.sent.prepares_count t c m n g.0).1))

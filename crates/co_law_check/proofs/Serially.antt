@@ -10,7 +10,7 @@ use Rattle.co_state.specs.declared.engine_state.Vote.{Vote}
 use Rattle.std.specs.FinMap.{entries, len-entries, len-empty}
 use Rattle.std.specs.Ordering.{nat_cmp}
 use Rattle.co_plain.specs.declared.session.Decided.{Decided}
-use Rattle.co_check.specs.Account.{Committed}
+use Rattle.co_check.specs.declared.client.Committed.{Committed}
 use Rattle.co_check.specs.Runs.{sites, replies}
 use Rattle.co_check.specs.Serial.{IsSerial, no_records, serial_after}
 use Rattle.co_check.specs.declared.client.Answered.{Answered}

@@ -14,7 +14,8 @@ use Rattle.co_plain.specs.declared.session.Told.{Told}
 use Rattle.co_transcript.specs.Items.{IsItem}
 use Rattle.co_transcript.specs.Spelling.{item_text}
 use Rattle.co_schedule.specs.Limits.{most_of_text}
-use Rattle.co_check.specs.Account.{Account, Committed, client_of}
+use Rattle.co_check.specs.declared.client.Committed.{Committed}
+use Rattle.co_check.specs.Account.{Account, client_of}
 use Rattle.co_check.specs.Runs.{sites, replies}
 use Rattle.co_check.specs.Serial.{IsSerial, serial_after}
 use Rattle.co_check.specs.Shape.{read, is_whole}

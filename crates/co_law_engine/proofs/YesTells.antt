@@ -49,11 +49,15 @@ neither None b e = (refl, e)
 neither (Some t) None e = absurd (let q : Some t ≡ None = e in cc)
 neither (Some t) (Some u) e = absurd (let q : Some (min t u) ≡ None = e in cc)
 
--- the parts of a yes
+-- the least voted transaction in the way
+abbrev pub voted_holder : EngineState → ℕ → Option ℕ
+voted_holder b t = least_where (λ u vote. not (u == t) && voted_holds (sets_of (operations_of b t)) vote.sets) b.voted
+
+-- The parts of a yes that anything rests on: nobody voted is in the way. That no active reader is, which the rule asks for too, is a courtesy to it.
 pub record SaysYes (b : EngineState) (t n : ℕ) : Type 0 where
   pub count : kept_count b t ≡ n
   pub fresh : stale_key b t ≡ None
-  pub free : holder_of b t (sets_of (operations_of b t)) ≡ None
+  pub free : voted_holder b t ≡ None
 
 pub yes_parts : (b : EngineState) (t n : ℕ) → vote_of b t n ≡ VoteYes → SaysYes b t n
 yes_parts b t n h = by (kept_count b t == n) refl (stale_key b t) refl (holder_of b t (sets_of (operations_of b t))) refl
@@ -62,7 +66,7 @@ yes_parts b t n h = by (kept_count b t == n) refl (stale_key b t) refl (holder_o
     yes_as c k = ap (λ z. if z then unless_stale (stale_key b t) (holder_of b t (sets_of (operations_of b t))) else LostOperations) c ∙ ap (λ z. unless_stale z (holder_of b t (sets_of (operations_of b t)))) k
 
     by : (c : Bool) → (kept_count b t == n) ≡ c → (k : Option (List ℕ)) → stale_key b t ≡ k → (o : Option ℕ) → holder_of b t (sets_of (operations_of b t)) ≡ o → SaysYes b t n
-    by true c None k None o = record { count = eqb-true (kept_count b t) n c; fresh = k; free = o }
+    by true c None k None o = record { count = eqb-true (kept_count b t) n c; fresh = k; free = (neither _ _ o).1 }
     by false c k0 k o0 o = absurd (let q : LostOperations ≡ VoteYes = sym (ap (λ z. if z then unless_stale (stale_key b t) (holder_of b t (sets_of (operations_of b t))) else LostOperations) c) ∙ h in cc)
     by true c (Some key) k o0 o = absurd (let q : StaleRead key ≡ VoteYes = sym (yes_as c k) ∙ h in cc)
     by true c None k (Some u) o = absurd (let q : HeldBy u ≡ VoteYes = sym (yes_as c k ∙ ap unless_held o) ∙ h in cc)
@@ -70,7 +74,7 @@ yes_parts b t n h = by (kept_count b t == n) refl (stale_key b t) refl (holder_o
 -- no voted transaction is in conflict
 pub yes_apart : (b : EngineState) (t n u : ℕ) (vote : Vote) → SaysYes b t n → t ≢ u → look b.voted u ≡ Some vote → voted_holds (sets_of (operations_of b t)) vote.sets ≡ false
 yes_apart b t n u vote y apart f =
-    let p = passes_none (λ v other. not (v == t) && voted_holds (sets_of (operations_of b t)) other.sets) b.voted u vote (neither _ _ y.free).1 f in
+    let p = passes_none (λ v other. not (v == t) && voted_holds (sets_of (operations_of b t)) other.sets) b.voted u vote y.free f in
     sym (ap (λ c. not c && voted_holds (sets_of (operations_of b t)) vote.sets) (ne_eqb u t (λ e. apart (sym e)))) ∙ p
 
 pub no_keys : (ks : List (List ℕ)) → least_key ks ≡ None → ks ≡ []

@@ -18,7 +18,7 @@ use Rattle.co_plain.specs.Invariants.{ends_only}
 use Rattle.co_plain.specs.Moves.{Move, Send, effect}
 use Rattle.co_law_base.proofs.Facts.{Rest, OnlyAborts}
 use Rattle.co_law_moves.specs.EventMoves.{sends, drop_moves}
-use Rattle.co_law_moves.specs.MoveTraces.{move_trace, moves_trace}
+use Rattle.co_law_moves.specs.MoveTraces.{move_trace, moves_trace, messages_in, sent_by, sent_by_move}
 
 abbrev pub marks_trace : List Mark → List Trace
 marks_trace [] = []
@@ -54,11 +54,29 @@ items_trace last marks notes a rest =
     ∙ log_items last marks ((map item.Sent notes ++ item.Answered a ∷ []) ++ rest)
     ∙ ap (λ k. marks_trace marks ++ k) (ap (trace_from last) (more (map item.Sent notes) (item.Answered a ∷ []) rest) ∙ sent_items last notes (item.Answered a ∷ rest) ∙ answer_item last a rest)
 
--- marks and an answer that tell of these moves alone
-abbrev pub Tells : List Mark → Answer → List Move → Type 0
-Tells marks a moves = ((s : Federation) → marks_trace marks ≡ moves_trace moves s) × ((e : Event) → traced_answer e a ≡ [])
+-- marks, messages and an answer that tell of these moves alone
+abbrev pub Tells : List Mark → List Message → Answer → List Move → Type 0
+Tells marks notes a moves = ((s : Federation) → marks_trace marks ≡ moves_trace moves s) × ((e : Event) → traced_answer e a ≡ []) × (sent_by moves ≡ notes)
 
-pub tells_items : (last : Option Event) (marks : List Mark) (notes : List Message) (a : Answer) (moves : List Move) → Tells marks a moves → (s : Federation) (rest : List ItemKind) →
+-- the messages among the items of an event
+pub items_messages : (marks : List Mark) (notes : List Message) (a : Answer) → messages_in (items_of marks notes a) ≡ notes
+items_messages (mark ∷ marks) notes a = items_messages marks notes a
+items_messages [] (note ∷ notes) a = ap (λ k. note ∷ k) (items_messages [] notes a)
+items_messages [] [] a = refl
+
+-- messages that are sent, and behind another move
+pub sent_back : (notes : List Message) → sent_by (sends notes) ≡ notes
+sent_back [] = refl
+sent_back (note ∷ notes) = ap (λ k. note ∷ k) (sent_back notes)
+
+pub sent_behind : (move : Move) (notes : List Message) → sent_by_move move ≡ [] → sent_by (move ∷ sends notes) ≡ notes
+sent_behind move notes e = (λ i. e i ++ sent_back notes i)
+
+pub drops_sent : (b : Bool) (t m : ℕ) (note : Message) → sent_by (drop_moves b t m ++ Send note ∷ []) ≡ note ∷ []
+drops_sent true t m note = refl
+drops_sent false t m note = refl
+
+pub tells_items : (last : Option Event) (marks : List Mark) (notes : List Message) (a : Answer) (moves : List Move) → Tells marks notes a moves → (s : Federation) (rest : List ItemKind) →
     trace_from last (items_of marks notes a ++ rest) ≡ moves_trace moves s ++ trace_from None rest
 tells_items last marks notes a moves t s rest =
     items_trace last marks notes a rest ∙ (λ i. t.0 s i ++ (silent last i ++ trace_from None rest))

@@ -23,14 +23,15 @@ use Rattle.co_law_base.proofs.Facts.{rest_of, Facts}
 use Rattle.co_law_base.proofs.Carrying.{LivesOn}
 use Rattle.co_law_base.proofs.TwoViews.{memory_to_stable, stable_to_memory, committed_both}
 use Rattle.co_law_base.proofs.LogMoves.{dead_there}
+use Rattle.co_law_base.proofs.VoteMoves.{MayCast}
 use Rattle.co_law_moves.proofs.Standings.{votes_own}
-use Rattle.co_law_moves.proofs.Onward.{Onward, absent_votes, holds_put_off, holds_put_on, holds_without_off, member_alike, member_onward, none_without, present}
+use Rattle.co_law_moves.proofs.Onward.{Onward, absent_casts, holds_put_off, holds_put_on, holds_without_off, member_alike, member_onward, none_without, present}
 
 module _ (s : Federation) (f : Facts s) where
   pub mark : (t m c n : ℕ) → Onward s (effect s (MarkAsked t m c n))
   mark t m c n = member_alike s m _ refl refl
 
-  pub cast : (t m c n : ℕ) → Guard s (Cast t m c n) → Onward s (effect s (Cast t m c n))
+  pub cast : (t m c n : ℕ) → MayCast s t m c n → Onward s (effect s (Cast t m c n))
   cast t m c n g = member_onward s m (cast_state (s.member m) t c n) stand (λ u h. h) nowhere
     where
       vote : Vote
@@ -52,7 +53,7 @@ module _ (s : Federation) (f : Facts s) where
           by : (b : Bool) → (t == u) ≡ b → present (cast_state (s.member m) t c n) u ≡ false
           by true e =
               let p = f.sent.prepares_count t c m n g.0 in
-              absurd (absent_votes (s.member m).engine t n g.1 p.1 (ap (holds (s.member m).engine.active) (eqb-true t u e) ∙ parts.0))
+              absurd (absent_casts (s.member m).engine t n g.1 p.1 (ap (holds (s.member m).engine.active) (eqb-true t u e) ∙ parts.0))
           by false e =
               let q = or_parts _ _ parts.1 in
               or_from _ _ (none_without (s.member m).engine.active t u parts.0) (or_from _ _ (holds_put_off (s.member m).engine.voted t vote u (eqb-false t u e) ∙ q.0) q.1)

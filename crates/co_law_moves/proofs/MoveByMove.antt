@@ -14,14 +14,14 @@ use Rattle.co_law_base.proofs.Lookups.{holds_found}
 use Rattle.co_law_base.proofs.Facts.{rest_of, takes, ByTold, Named, took, AtDecision, InOpened, alive, belongs, Facts}
 use Rattle.co_law_base.proofs.CoordMoves.{keeps_record_yes, keeps_record_ack, keeps_collect, keeps_leave, keeps_end, keeps_coord_crash, keeps_coord_restart, keeps_coord_arm, keeps_coord_close, keeps_coord_fill}
 use Rattle.co_law_base.proofs.LogMoves.{as_belongs, dead_there, keeps_mark, keeps_drop_active, keeps_drop_voted, keeps_member_crash, keeps_member_restart, keeps_member_arm, keeps_member_close}
-use Rattle.co_law_base.proofs.VoteMoves.{as_settled, keeps_cast, keeps_install}
+use Rattle.co_law_base.proofs.VoteMoves.{as_settled, may_cast, keeps_cast, keeps_install}
 use Rattle.co_law_base.proofs.Filling.{keeps_member_fill}
 use Rattle.co_law_base.proofs.Beginning.{keeps_begin, keeps_begin_local}
 use Rattle.co_law_base.proofs.Asking.{keeps_ask}
 use Rattle.co_law_base.proofs.Operating.{keeps_operate}
 use Rattle.co_law_base.proofs.Sending.{Allowed, keeps_send}
 use Rattle.co_law_base.proofs.AtCoord.{keeps_decide}
-use Rattle.co_law_base.proofs.Locally.{keeps_local}
+use Rattle.co_law_base.proofs.Locally.{may_commit_locally, keeps_local}
 
 pub as_takes : (s : Federation) (t m : ℕ) → TakesPart s t m → takes (rest_of s) t m
 as_takes s t m (HeldOperations h) = ByTold h
@@ -53,11 +53,11 @@ allowed s f (message.Ack t m c) g = g
 pub move_keeps : (s : Federation) → Facts s → (move : Move) → Guard s move → Facts (effect s move)
 move_keeps s f (Operate t m o) g = keeps_operate s f t m o g
 move_keeps s f (MarkAsked t m c n) g = keeps_mark s f t m c n g
-move_keeps s f (Cast t m c n) g = keeps_cast s f t m c n g
+move_keeps s f (Cast t m c n) g = keeps_cast s f t m c n (may_cast s t m c n g)
 move_keeps s f (DropActive t m) g = keeps_drop_active s f t m g
 move_keeps s f (DropVoted t m) g = keeps_drop_voted s f t m g
 move_keeps s f (Install t m) g = keeps_install s f t m g
-move_keeps s f (CommitLocally t m) g = keeps_local s f t m g
+move_keeps s f (CommitLocally t m) g = keeps_local s f t m (may_commit_locally s t m g)
 move_keeps s f (CrashMember m) g = keeps_member_crash s f m g
 move_keeps s f (RestartMember m) g = keeps_member_restart s f m g
 move_keeps s f (ArmMember m stop) g = keeps_member_arm s f m stop g

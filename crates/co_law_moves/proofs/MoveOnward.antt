@@ -38,7 +38,9 @@ use Rattle.co_law_base.proofs.Carrying.{at_each, one_belongs, belongs_seen}
 use Rattle.co_law_base.proofs.LogMoves.{not_held, local_apart}
 use Rattle.co_law_base.proofs.Asking.{same_reading}
 use Rattle.co_law_base.proofs.CoordMoves.{holds_put}
-use Rattle.co_law_moves.proofs.Onward.{entry_onward, Onward, absent_votes, back_without, coord_onward, holds_put_off, holds_without_off, member_alike, none_without, nothing_kept, onward_same, present}
+use Rattle.co_law_moves.proofs.Onward.{entry_onward, Onward, absent_casts, back_without, coord_onward, holds_put_off, holds_without_off, member_alike, none_without, nothing_kept, onward_same, present}
+use Rattle.co_law_base.proofs.VoteMoves.{may_cast}
+use Rattle.co_law_base.proofs.Locally.{MayCommitLocally, may_commit_locally}
 use Rattle.co_law_moves.proofs.MemberOnward as members
 
 module _ (s : Federation) (f : Facts s) where
@@ -242,7 +244,7 @@ module _ (s : Federation) (f : Facts s) where
           count u k false d = subst (λ z. count_at (told_of s u) k ≤ count_at (told_in z) k) (sym (put_there s.sessions t new u (eqb-false t u d))) (omega arith)
 
   -- a member decides alone
-  local : (t m : ℕ) → Guard s (CommitLocally t m) → Onward s (effect s (CommitLocally t m))
+  pub local : (t m : ℕ) → MayCommitLocally s t m → Onward s (effect s (CommitLocally t m))
   local t m g = by (look s.sessions t) refl g.0
     where
       vote : Vote
@@ -272,7 +274,7 @@ module _ (s : Federation) (f : Facts s) where
 
           now : (b : Bool) → (t == u) ≡ b →
               (holds (without (s.member m).engine.active t) u || (holds (without (put (s.member m).engine.voted t vote) t) u || holds (with_number (s.member m).committed t) u)) ≡ false
-          now true d = absurd (absent_votes (s.member m).engine t (count_at (told_of s t) m) g.3 g.2 (ap (holds (s.member m).engine.active) (eqb-true t u d) ∙ p.0))
+          now true d = absurd (absent_casts (s.member m).engine t (count_at (told_of s t) m) g.3 g.2 (ap (holds (s.member m).engine.active) (eqb-true t u d) ∙ p.0))
           now false d =
               or_from _ _ (none_without (s.member m).engine.active t u p.0)
               (or_from _ _ (none_without (put (s.member m).engine.voted t vote) t u (holds_put_off (s.member m).engine.voted t vote u (eqb-false t u d) ∙ q.0)) (holds_put_off (s.member m).committed t tt u (eqb-false t u d) ∙ q.1))
@@ -308,11 +310,11 @@ module _ (s : Federation) (f : Facts s) where
   pub move_onward : (move : Move) → Guard s move → Onward s (effect s move)
   move_onward (Operate t m o) g = operate t m o g
   move_onward (MarkAsked t m c n) g = members.mark s f t m c n
-  move_onward (Cast t m c n) g = members.cast s f t m c n g
+  move_onward (Cast t m c n) g = members.cast s f t m c n (may_cast s t m c n g)
   move_onward (DropActive t m) g = members.drop_active s f t m g
   move_onward (DropVoted t m) g = members.drop_voted s f t m g
   move_onward (Install t m) g = members.install s f t m g
-  move_onward (CommitLocally t m) g = local t m g
+  move_onward (CommitLocally t m) g = local t m (may_commit_locally s t m g)
   move_onward (CrashMember m) g = members.crash s f m
   move_onward (RestartMember m) g = member_alike s m _ refl refl
   move_onward (ArmMember m stop) g = member_alike s m _ refl refl

@@ -17,7 +17,7 @@ use Rattle.co_plain.specs.Federation.{Federation, with_member, with_coord}
 use Rattle.co_plain.specs.Decisions.{told_of, is_decided}
 use Rattle.co_plain.specs.Step.{disarmed}
 use Rattle.co_plain.specs.Invariants.{Memory, view, stands}
-use Rattle.co_law_engine.proofs.YesTells.{yes_parts}
+use Rattle.co_law_engine.proofs.YesTells.{SaysYes, yes_parts}
 use Rattle.co_law_base.proofs.Lookups.{put_here, put_there, without_here, without_there, without_cases, holds_found, found_holds}
 use Rattle.co_law_base.proofs.Facts.{rest_of, alive, belongs, settled_at}
 use Rattle.co_law_base.proofs.Carrying.{LivesOn, at_each}
@@ -143,11 +143,14 @@ entry_onward s t c e x is = coord_onward s c (with_table (s.coord c) (put (s.coo
 pub nothing_kept : (b : EngineState) (t : ℕ) → holds b.active t ≡ false → kept_count b t ≡ 0
 nothing_kept b t h = ap (λ o. length (operations_in o)) (not_held b.active t h)
 
-pub absent_votes : (b : EngineState) (t n : ℕ) → vote_of b t n ≡ VoteYes → 1 ≤ n → holds b.active t ≡ false → ⊥
-absent_votes b t n v l h =
-    let q : 0 ≡ n = sym (nothing_kept b t h) ∙ (yes_parts b t n v).count in
+pub absent_casts : (b : EngineState) (t n : ℕ) → SaysYes b t n → 1 ≤ n → holds b.active t ≡ false → ⊥
+absent_casts b t n v l h =
+    let q : 0 ≡ n = sym (nothing_kept b t h) ∙ v.count in
     let k : 1 ≤ 0 = subst (λ j. 1 ≤ j) (sym q) l in
     omega (arith, k)
+
+pub absent_votes : (b : EngineState) (t n : ℕ) → vote_of b t n ≡ VoteYes → 1 ≤ n → holds b.active t ≡ false → ⊥
+absent_votes b t n v l h = absent_casts b t n (yes_parts b t n v) l h
 
 pub disarm_onward : (s : Federation) → Onward s (disarmed s)
 disarm_onward s =

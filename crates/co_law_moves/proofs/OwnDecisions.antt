@@ -18,7 +18,7 @@ use Rattle.co_plain.specs.Federation.{Federation, with_session, with_member, wit
 use Rattle.co_plain.specs.Decisions.{is_decided, told_of, told_in, asked_in}
 use Rattle.co_plain.specs.Invariants.{Memory, Stable, view, stands}
 use Rattle.co_plain.specs.Moves.{CommitLocally, Decide, effect, Guard, with_decision, decide_entry, decide_members, marked_over, session_by_member, local_state}
-use Rattle.co_law_engine.proofs.YesTells.{SaysYes, yes_parts, yes_apart}
+use Rattle.co_law_engine.proofs.YesTells.{SaysYes, yes_apart}
 use Rattle.co_law_base.proofs.Lookups.{put_here, put_there, without_cases, found_holds}
 use Rattle.co_law_base.proofs.Facts.{rest_of, told, over, by_coord, OpenEntry}
 use Rattle.co_law_base.proofs.Carrying.{at_each, by_coord_begun}
@@ -28,7 +28,7 @@ use Rattle.co_law_base.proofs.ViewMoves.{neither_stands, holds_without, still_ho
 use Rattle.co_law_base.proofs.KeptTold.{kept_install, stamps_more}
 use Rattle.co_law_base.proofs.VoteMoves.{active_found}
 use Rattle.co_law_base.proofs.AtCoord.{coord_each}
-use Rattle.co_law_base.proofs.Locally.{local_vote, member_after, coord_still}
+use Rattle.co_law_base.proofs.Locally.{MayCommitLocally, local_vote, member_after, coord_still}
 use Rattle.co_plain.specs.CoordInvariants.{OwnEnds}
 use Rattle.co_law_moves.proofs.Own.{spent, told_there, OwnView, OwnActive, OwnMember, OwnNumbers, OwnFacts}
 use Rattle.co_law_moves.proofs.OwnMembers.{own_member}
@@ -175,7 +175,7 @@ module _ (s : Federation) (f : OwnFacts s) (t m : ℕ) (old : Session) (here : l
   alone_own : OwnFacts (with_decision (with_member s m (local_state (s.member m) t (count_at (told (rest_of s) t) m))) t)
   alone_own = subst (λ o. OwnFacts (with_decision (with_member s m (member_after s t m o)) t)) (sym middle_here) alone_then
 
-pub own_local : (s : Federation) → OwnFacts s → (t m : ℕ) → Guard s (CommitLocally t m) → OwnFacts (effect s (CommitLocally t m))
+pub own_local : (s : Federation) → OwnFacts s → (t m : ℕ) → MayCommitLocally s t m → OwnFacts (effect s (CommitLocally t m))
 own_local s f t m g = by (look s.sessions t) refl g.0
   where
     by : (o : Option Session) → look s.sessions t ≡ o → session_by_member o m → OwnFacts (effect s (CommitLocally t m))
@@ -189,4 +189,4 @@ own_local s f t m g = by (look s.sessions t) refl g.0
         (subst (λ n. OwnFacts (with_decision (with_member s1 m (local_state (s.member m) t n)) t)) (ap (λ ts. count_at ts m) same)
         (alone_own s1 (asks_own s f t old e) t m (asked_to_end old) found' h refl undecided'
         (subst (λ ts. 1 ≤ count_at ts m) (sym same) g.2)
-        (subst (λ n. SaysYes (s.member m).engine t n) (ap (λ ts. count_at ts m) (sym same)) (yes_parts (s.member m).engine t (count_at (told (rest_of s) t) m) g.3))))
+        (subst (λ n. SaysYes (s.member m).engine t n) (ap (λ ts. count_at ts m) (sym same)) g.3)))

@@ -27,7 +27,7 @@ use Rattle.co_plain.specs.Wire.{was_sent}
 use Rattle.co_plain.specs.Federation.{Federation, with_member}
 use Rattle.co_plain.specs.Invariants.{Side, Memory, Stable, view, stands}
 use Rattle.co_plain.specs.Moves.{MarkAsked, Cast, DropActive, DropVoted, Install, CrashMember, RestartMember, ArmMember, CloseMemberSpare, FillMemberSpare, effect, cast_state}
-use Rattle.co_law_engine.proofs.YesTells.{SaysYes, yes_parts, yes_apart}
+use Rattle.co_law_engine.proofs.YesTells.{yes_apart}
 use Rattle.co_law_base.proofs.Lookups.{is_nothing, look_none, put_cases, without_cases, holds_found, found_holds}
 use Rattle.co_law_base.proofs.Carrying.{at_each}
 use Rattle.co_law_base.proofs.ViewRules.{cast_free, forget_free, install_free}
@@ -35,7 +35,7 @@ use Rattle.co_law_base.proofs.TwoViews.{both_sides}
 use Rattle.co_law_base.proofs.ViewMoves.{neither_stands, holds_without, still_holds, put_holds, forget_stands, cast_stands, install_stands, forget_apart, cast_apart, install_apart, forget_leaves, cast_leaves, install_leaves}
 use Rattle.co_law_base.proofs.KeptTold.{kept_same, kept_install, stamps_more}
 use Rattle.co_law_base.proofs.LogMoves.{without_absent, not_held}
-use Rattle.co_law_base.proofs.VoteMoves.{active_found}
+use Rattle.co_law_base.proofs.VoteMoves.{MayCast, active_found}
 use Rattle.co_law_base.proofs.Filling.{spare_tells}
 use Rattle.co_law_moves.proofs.Own.{spent, told_there, AtCoord, OwnView, OwnActive, OwnMember, OwnFacts}
 
@@ -264,8 +264,8 @@ module _ (s : Federation) (f : OwnFacts s) (m : ℕ) where
       same = spare_tells m (s.member m) (next_generation (generation_of (s.member m).log.stable))
 
   -- a yes is forced
-  pub own_yes : (t c n : ℕ) → was_sent s.sent (message.Prepare t c m n) ≡ true → vote_of (s.member m).engine t n ≡ VoteYes → OwnFacts (effect s (Cast t m c n))
-  own_yes t c n g v =
+  pub own_yes : (t c n : ℕ) → MayCast s t m c n → OwnFacts (effect s (Cast t m c n))
+  own_yes t c n (g, yes') =
       own_member s f m y
       (record {
         views = both_sides (OwnView s.sessions s.used) y same
@@ -284,9 +284,6 @@ module _ (s : Federation) (f : OwnFacts s) (m : ℕ) where
 
       vote : Vote
       vote = record { coord = c; count = n; sets = sets_of (operations_of (s.member m).engine t) }
-
-      yes' : SaysYes (s.member m).engine t n
-      yes' = yes_parts (s.member m).engine t n v
 
       found : look (s.member m).engine.active t ≡ Some (operations_of (s.member m).engine t)
       found = active_found (s.member m).engine t (subst (λ k. 1 ≤ k) (sym yes'.count) (f.sent.prepares t c m n g).2)

@@ -2,6 +2,8 @@
 use Rattle.std.proofs.Common.{List, [], ◌∷◌}
 use Rattle.co_plain.specs.Federation.{Federation}
 use Rattle.co_plain.specs.Moves.{Move, Operate, MarkAsked, Cast, DropActive, DropVoted, Install, CommitLocally, CrashMember, RestartMember, ArmMember, CloseMemberSpare, FillMemberSpare, Begin, Collect, RecordYes, Decide, Leave, RecordAck, End, CrashCoord, RestartCoord, ArmCoord, CloseCoordSpare, FillCoordSpare, BeginLocal, AskEnd, Send, effect, all_effects}
+use Rattle.co_law_base.proofs.VoteMoves.{may_cast}
+use Rattle.co_law_base.proofs.Locally.{may_commit_locally}
 use Rattle.co_law_moves.specs.OwnGuards.{AnyLogs, GuardOver, GuardsOver}
 use Rattle.co_law_moves.proofs.Own.{OwnFacts}
 use Rattle.co_law_moves.proofs.OwnMembers as members
@@ -13,11 +15,11 @@ use Rattle.co_law_moves.proofs.OwnDecisions as decisions
 pub own_move : (s : Federation) → OwnFacts s → (move : Move) → GuardOver AnyLogs s move → OwnFacts (effect s move)
 own_move s f (Operate t m o) g = operations.own_operate s f t m o g
 own_move s f (MarkAsked t m c n) g = members.own_mark s f m t c n g.0 g.1
-own_move s f (Cast t m c n) g = members.own_yes s f m t c n g.0 g.1
+own_move s f (Cast t m c n) g = members.own_yes s f m t c n (may_cast s t m c n g)
 own_move s f (DropActive t m) g = members.own_drop_active s f m t g
 own_move s f (DropVoted t m) g = members.own_drop_voted s f m t g.0
 own_move s f (Install t m) g = members.own_installed s f m t g.0
-own_move s f (CommitLocally t m) g = decisions.own_local s f t m g
+own_move s f (CommitLocally t m) g = decisions.own_local s f t m (may_commit_locally s t m g)
 own_move s f (CrashMember m) g = members.own_crash s f m
 own_move s f (RestartMember m) g = members.own_restart s f m
 own_move s f (ArmMember m stop) g = members.own_arm s f m stop

@@ -1,5 +1,5 @@
 -- The items of every event tell exactly of its moves.
-use Rattle.std.proofs.Common.{◌≡◌, ℕ, Bool, true, false, ◌==◌, if◌then◌else◌, List, [], ◌∷◌, ◌++◌, Option, None, Some, refl, ap, ◌∙◌}
+use Rattle.std.proofs.Common.{◌≡◌, ℕ, Bool, true, false, ◌==◌, if◌then◌else◌, List, [], ◌∷◌, ◌++◌, Option, None, Some, refl, sym, ap, ◌∙◌}
 use Rattle.co_base.specs.declared.leaves.Leaves.{Leaves}
 use Rattle.co_base.specs.declared.node.Node.{Node}
 use Rattle.co_base.specs.declared.node.Node.TheVariants as node
@@ -41,27 +41,28 @@ use Rattle.co_state.specs.VotingRule.{kept_count}
 use Rattle.co_plain.specs.Step.{operated}
 use Rattle.co_law_base.proofs.Facts.{OnlyAborts, rest_of}
 use Rattle.co_law_moves.specs.EventMoves.{unless_lock, operation_moves}
-use Rattle.co_law_moves.specs.MoveTraces.{moves_trace, told_with}
+use Rattle.co_law_moves.specs.MoveTraces.{moves_trace, told_with, messages_in, sent_by}
 use Rattle.co_plain.specs.Step.{up_member, member_step, up_coord, coord_step, coord_answers, local_answers, is_used, begin_where, local_where, operate, operate_with, commit_at, commit_with, abort_at, abort_with, arrives, deliver, timer_at, crash_at, restart_at, arm_at, checkpoint_at, step_line, step}
 use Rattle.co_plain.specs.Moves.{Move, Begin, BeginLocal, CrashMember, CrashCoord, ArmMember, ArmCoord, RestartMember, RestartCoord}
 use Rattle.co_law_base.proofs.Facts.{Facts}
 use Rattle.co_law_moves.specs.EventMoves.{where_up, begin_moves, restart_moves, operate_moves, operate_with_moves, commit_entry_moves, local_commit_moves, commit_at_moves, commit_with_moves, abort_entry_moves, local_abort_moves, abort_at_moves, abort_with_moves, prepare_moves, commit_moves, abort_moves, decision_moves, yes_moves, no_moves, ask_moves, ack_moves, arrival_moves, timer_moves, coord_timer_moves, timer_at_moves, crash_at_moves, restart_at_moves, arm_at_moves, member_checkpoint_moves, coord_checkpoint_moves, checkpoint_at_moves, again_moves, question_moves, resend_moves, line_moves, moves_of}
-use Rattle.co_law_moves.proofs.ItemsTold.{tells_items}
+use Rattle.co_law_moves.proofs.ItemsTold.{tells_items, items_messages}
 use Rattle.co_law_moves.proofs.NodesTold as nodes
 
 abbrev pub Says : Federation → Option Event → List Move → Stepped → Type 0
-Says s last moves z = (rest : List ItemKind) → trace_from last (z.items ++ rest) ≡ moves_trace moves s ++ trace_from None rest
+Says s last moves z =
+    ((rest : List ItemKind) → trace_from last (z.items ++ rest) ≡ moves_trace moves s ++ trace_from None rest) × (messages_in z.items ≡ sent_by moves)
 
 -- an answer that changes nothing
 refused : (last : Option Event) (s : Federation) (a : Answer) → ((e : Event) → traced_answer e a ≡ []) → Says s last [] (answers s a)
-refused None s a q = λ rest. refl
-refused (Some e) s a q = λ rest. ap (λ k. k ++ trace_from None rest) (q e)
+refused None s a q = (λ rest. refl, refl)
+refused (Some e) s a q = (λ rest. ap (λ k. k ++ trace_from None rest) (q e), refl)
 
 at_m : (last : Option Event) (s : Federation) (m : ℕ) (did : MemberStep) (moves : List Move) → nodes.MemberTells did moves → Says s last moves (at_member s m did)
-at_m last s m did moves t = tells_items last did.marks (message_list did.sent) did.answer moves t s
+at_m last s m did moves t = (tells_items last did.marks (message_list did.sent) did.answer moves t s, items_messages did.marks (message_list did.sent) did.answer ∙ sym t.2)
 
 at_c : (last : Option Event) (s : Federation) (c : ℕ) (did : CoordStep) (moves : List Move) → nodes.CoordTells did moves → Says s last moves (at_coord s c did)
-at_c last s c did moves t = tells_items last did.marks did.sent did.answer moves t s
+at_c last s c did moves t = (tells_items last did.marks did.sent did.answer moves t s, items_messages did.marks did.sent did.answer ∙ sym t.2)
 
 module _ (s : Federation) (f : Facts s) where
   w : (m : ℕ) → OnlyAborts (rest_of s) (s.member m).log.waiting
@@ -83,14 +84,14 @@ module _ (s : Federation) (f : Facts s) where
       by false = refused last s (answer.Down (node.Coord c)) (λ e. refl)
 
   begins : (t c : ℕ) (used up : Bool) → Says s (Some (event.Begin t c)) (begin_moves (Begin t c) used up) (begin_where s t c used up)
-  begins t c true up = λ rest. refl
-  begins t c false true = λ rest. refl
-  begins t c false false = λ rest. refl
+  begins t c true up = (λ rest. refl, refl)
+  begins t c false true = (λ rest. refl, refl)
+  begins t c false false = (λ rest. refl, refl)
 
   begins_local : (t m : ℕ) (used up : Bool) → Says s (Some (event.Local t m)) (begin_moves (BeginLocal t m) used up) (local_where s t m used up)
-  begins_local t m true up = λ rest. refl
-  begins_local t m false true = λ rest. refl
-  begins_local t m false false = λ rest. refl
+  begins_local t m true up = (λ rest. refl, refl)
+  begins_local t m false true = (λ rest. refl, refl)
+  begins_local t m false false = (λ rest. refl, refl)
 
   -- an operation
   operation : (e : Event) (t m : ℕ) (o : Op) → operation_in e ≡ Some (t, m, o) → (session : Session) (up : Bool) →
@@ -106,30 +107,35 @@ module _ (s : Federation) (f : Facts s) where
       marks_none (Some u) rest = refl
       marks_none None rest = refl
 
+      silent : (z : Option ℕ) → messages_in (at_member s m (unless_blocked (s.member m) t o z)).items ≡ sent_by (unless_lock t m o z)
+      silent (Some u) = refl
+      silent None = refl
+
       full : (b : Bool) → Says s (Some e) (if b then [] else unless_lock t m o (lock_blocker (s.member m).engine t o)) (at_member s m (if b then says (s.member m) answer.TooMany else unless_blocked (s.member m) t o (lock_blocker (s.member m).engine t o)))
-      full true = λ rest. refl
-      full false = λ rest. ap (trace_from (Some e)) (marks_none (lock_blocker (s.member m).engine t o) rest) ∙ blocked (lock_blocker (s.member m).engine t o) rest
+      full true = (λ rest. refl, refl)
+      full false =
+          (λ rest. ap (trace_from (Some e)) (marks_none (lock_blocker (s.member m).engine t o) rest) ∙ blocked (lock_blocker (s.member m).engine t o) rest, silent (lock_blocker (s.member m).engine t o))
 
       kept : (b : Bool) → Says s (Some e) (if b then (if count_at session.told m == most_operations then [] else unless_lock t m o (lock_blocker (s.member m).engine t o)) else [])
           (at_member s m (if b
           then (if count_at session.told m == most_operations then says (s.member m) answer.TooMany else unless_blocked (s.member m) t o (lock_blocker (s.member m).engine t o))
           else says (s.member m) (answer.Gone (counted (kept_count (s.member m).engine t)) (counted (count_at session.told m)))))
-      kept false = λ rest. refl
+      kept false = (λ rest. refl, refl)
       kept true = full (count_at session.told m == most_operations)
 
   operates : (e : Event) (t m : ℕ) (o : Op) → operation_in e ≡ Some (t, m, o) → Says s (Some e) (operate_moves s t m o) (operate s t m o)
   operates e t m o q = by (look s.sessions t)
     where
       asked : (session : Session) (b : Bool) → Says s (Some e) (operate_with_moves s t m o (if b then Refuses answer.Asked else Grants session)) (operate_with s t m o (if b then Refuses answer.Asked else Grants session))
-      asked session true = λ rest. refl
+      asked session true = (λ rest. refl, refl)
       asked session false = operation e t m o q session (s.member m).up
 
       visits : (session : Session) (b : Bool) → Says s (Some e) (operate_with_moves s t m o (if b then unless_asked session else Refuses answer.NotBegun)) (operate_with s t m o (if b then unless_asked session else Refuses answer.NotBegun))
-      visits session false = λ rest. refl
+      visits session false = (λ rest. refl, refl)
       visits session true = asked session session.asked
 
       by : (z : Option Session) → Says s (Some e) (operate_with_moves s t m o (leave_to_visit z m)) (operate_with s t m o (leave_to_visit z m))
-      by None = λ rest. refl
+      by None = (λ rest. refl, refl)
       by (Some session) = visits session (may_visit session.by m)
 
   commits_at : (e : Event) (t : ℕ) (session : Session) (at : Node) → Says s (Some e) (commit_at_moves s t session at) (commit_at s t session at)
@@ -137,45 +143,45 @@ module _ (s : Federation) (f : Facts s) where
     where
       by : (up : Bool) → Says s (Some e) (where_up up (commit_entry_moves (s.coord c) t c (parts_of session.told) (look (s.coord c).table t))) (coord_answers s t session c up (coord_commit c (s.coord c) t (parts_of session.told)))
       by true = at_c (Some e) s c (coord_commit c (s.coord c) t (parts_of session.told)) (commit_entry_moves (s.coord c) t c (parts_of session.told) (look (s.coord c).table t)) (nodes.commit_entry_told c (s.coord c) (f.coords c).ends t (parts_of session.told) (look (s.coord c).table t))
-      by false = λ rest. refl
+      by false = (λ rest. refl, refl)
   commits_at e t session (node.Member m) = by (s.member m).up
     where
       by : (up : Bool) → Says s (Some e) (where_up up (local_commit_moves (s.member m) t m (count_at session.told m))) (local_answers s t session m up (member_local_commit m (s.member m) t (count_at session.told m)))
       by true = at_m (Some e) s m (member_local_commit m (s.member m) t (count_at session.told m)) (local_commit_moves (s.member m) t m (count_at session.told m)) (nodes.local_commit_told (rest_of s) m (s.member m) (w m) t (count_at session.told m))
-      by false = λ rest. refl
+      by false = (λ rest. refl, refl)
 
   aborts_at : (e : Event) (t : ℕ) (session : Session) (at : Node) → Says s (Some e) (abort_at_moves s t session at) (abort_at s t session at)
   aborts_at e t session (node.Coord c) = by (s.coord c).up
     where
       by : (up : Bool) → Says s (Some e) (where_up up (abort_entry_moves t c (parts_of session.told) (look (s.coord c).table t))) (coord_answers s t session c up (coord_abort c (s.coord c) t (parts_of session.told)))
       by true = at_c (Some e) s c (coord_abort c (s.coord c) t (parts_of session.told)) (abort_entry_moves t c (parts_of session.told) (look (s.coord c).table t)) (nodes.abort_entry_told c (s.coord c) (f.coords c).ends t (parts_of session.told) (look (s.coord c).table t))
-      by false = λ rest. refl
+      by false = (λ rest. refl, refl)
   aborts_at e t session (node.Member m) = by (s.member m).up
     where
       by : (up : Bool) → Says s (Some e) (where_up up (local_abort_moves t m (standing_of (s.member m) t))) (local_answers s t session m up (member_local_abort (s.member m) t))
       by true = at_m (Some e) s m (member_local_abort (s.member m) t) (local_abort_moves t m (standing_of (s.member m) t)) (nodes.local_abort_told (rest_of s) m (s.member m) (w m) t (standing_of (s.member m) t))
-      by false = λ rest. refl
+      by false = (λ rest. refl, refl)
 
   commits : (e : Event) (t : ℕ) → Says s (Some e) (commit_with_moves s t (leave_to_end (look s.sessions t))) (commit_with s t (leave_to_end (look s.sessions t)))
   commits e t = by (look s.sessions t)
     where
       asked : (session : Session) (b : Bool) → Says s (Some e) (commit_with_moves s t (if b then Refuses answer.Asked else Grants session)) (commit_with s t (if b then Refuses answer.Asked else Grants session))
-      asked session true = λ rest. refl
+      asked session true = (λ rest. refl, refl)
       asked session false = commits_at e t session session.by
 
       by : (z : Option Session) → Says s (Some e) (commit_with_moves s t (leave_to_end z)) (commit_with s t (leave_to_end z))
-      by None = λ rest. refl
+      by None = (λ rest. refl, refl)
       by (Some session) = asked session session.asked
 
   aborts : (e : Event) (t : ℕ) → Says s (Some e) (abort_with_moves s t (leave_to_end (look s.sessions t))) (abort_with s t (leave_to_end (look s.sessions t)))
   aborts e t = by (look s.sessions t)
     where
       asked : (session : Session) (b : Bool) → Says s (Some e) (abort_with_moves s t (if b then Refuses answer.Asked else Grants session)) (abort_with s t (if b then Refuses answer.Asked else Grants session))
-      asked session true = λ rest. refl
+      asked session true = (λ rest. refl, refl)
       asked session false = aborts_at e t session session.by
 
       by : (z : Option Session) → Says s (Some e) (abort_with_moves s t (leave_to_end z)) (abort_with s t (leave_to_end z))
-      by None = λ rest. refl
+      by None = (λ rest. refl, refl)
       by (Some session) = asked session session.asked
 
   arrival : (last : Option Event) (note : Message) → Says s last (arrival_moves s note) (arrives s note)
@@ -199,23 +205,23 @@ module _ (s : Federation) (f : Facts s) where
     where
       by : (b : Bool) → Says s (Some e) (if b then arrival_moves s note else []) (if b then arrives s note else answers s answer.Unsent)
       by true = arrival (Some e) note
-      by false = λ rest. refl
+      by false = (λ rest. refl, refl)
 
   timer : (e : Event) (t : ℕ) (at : Node) → Says s (Some e) (timer_at_moves s t at) (timer_at s t at)
   timer e t (node.Member m) = where_member (Some e) m (λ x. member_timer x t) (timer_moves t m (standing_of (s.member m) t)) (nodes.timer_told (rest_of s) m (s.member m) (w m) t (standing_of (s.member m) t))
   timer e t (node.Coord c) = where_coord (Some e) c (λ y. coord_timer c y t) (coord_timer_moves t c (look (s.coord c).table t)) (nodes.coord_timer_told c (s.coord c) (f.coords c).ends t (look (s.coord c).table t))
 
   crash : (e : Event) (at : Node) → Says s (Some e) (crash_at_moves s at) (crash_at s at)
-  crash e (node.Member m) = where_member (Some e) m member_crash (CrashMember m ∷ []) (λ z. refl, λ e. refl)
-  crash e (node.Coord c) = where_coord (Some e) c coord_crash (CrashCoord c ∷ []) (λ z. refl, λ e. refl)
+  crash e (node.Member m) = where_member (Some e) m member_crash (CrashMember m ∷ []) (λ z. refl, λ e. refl, refl)
+  crash e (node.Coord c) = where_coord (Some e) c coord_crash (CrashCoord c ∷ []) (λ z. refl, λ e. refl, refl)
 
   restart : (e : Event) (at : Node) → Says s (Some e) (restart_at_moves s at) (restart_at s at)
   restart e (node.Member m) = at_m (Some e) s m (member_restart (s.member m)) (restart_moves (RestartMember m) (s.member m).up) (nodes.restart_told (rest_of s) m (s.member m) (w m) (s.member m).up)
   restart e (node.Coord c) = at_c (Some e) s c (coord_restart (s.coord c)) (restart_moves (RestartCoord c) (s.coord c).up) (nodes.coord_restart_told c (s.coord c) (f.coords c).ends (s.coord c).up)
 
   arm : (e : Event) (call : ℕ) (leaves : Leaves) (at : Node) → Says s (Some e) (arm_at_moves s call leaves at) (arm_at s call leaves at)
-  arm e call leaves (node.Member m) = where_member (Some e) m (λ x. member_arm x call leaves) (ArmMember m (Some (record { call = call; leaves = leaves })) ∷ []) (λ z. refl, λ e. refl)
-  arm e call leaves (node.Coord c) = where_coord (Some e) c (λ y. coord_arm y call leaves) (ArmCoord c (Some (record { call = call; leaves = leaves })) ∷ []) (λ z. refl, λ e. refl)
+  arm e call leaves (node.Member m) = where_member (Some e) m (λ x. member_arm x call leaves) (ArmMember m (Some (record { call = call; leaves = leaves })) ∷ []) (λ z. refl, λ e. refl, refl)
+  arm e call leaves (node.Coord c) = where_coord (Some e) c (λ y. coord_arm y call leaves) (ArmCoord c (Some (record { call = call; leaves = leaves })) ∷ []) (λ z. refl, λ e. refl, refl)
 
   checkpoint : (e : Event) (at : Node) → Says s (Some e) (checkpoint_at_moves s at) (checkpoint_at s at)
   checkpoint e (node.Member m) = where_member (Some e) m (member_checkpoint m) (member_checkpoint_moves (s.member m) m (s.member m).log.spare_closed) (nodes.checkpoint_told (rest_of s) m (s.member m) (w m) (s.member m).log.spare_closed)
@@ -248,6 +254,12 @@ module _ (s : Federation) (f : Facts s) where
 
 -- what a step tells, with what is told after it
 pub step_told : (s : Federation) → Facts s → (h : Happening) (rest : List ItemKind) → trace_from None (told_with h (step s h).items ++ rest) ≡ moves_trace (moves_of s h) s ++ trace_from None rest
-step_told s f (happening.Line e) rest = line s f e rest
-step_told s f (happening.Hand t m commit) rest = hand s f t m commit rest
+step_told s f (happening.Line e) rest = (line s f e).0 rest
+step_told s f (happening.Hand t m commit) rest = (hand s f t m commit).0 rest
 step_told s f happening.Disarm rest = refl
+
+-- and which messages it sends
+pub step_sends : (s : Federation) → Facts s → (h : Happening) → messages_in (told_with h (step s h).items) ≡ sent_by (moves_of s h)
+step_sends s f (happening.Line e) = (line s f e).1
+step_sends s f (happening.Hand t m commit) = (hand s f t m commit).1
+step_sends s f happening.Disarm = refl

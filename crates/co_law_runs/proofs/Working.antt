@@ -25,7 +25,6 @@ use Rattle.co_plain.specs.Decisions.{told_of, told_in, asked_in, is_decided}
 use Rattle.co_serial.specs.SerialRun.{with_at}
 use Rattle.co_plain.specs.Invariants.{Memory, view, stands}
 use Rattle.co_plain.specs.Moves.{Move, Operate, MarkAsked, Cast, DropActive, DropVoted, Install, CommitLocally, CrashMember, RestartMember, ArmMember, CloseMemberSpare, FillMemberSpare, Begin, Collect, RecordYes, Decide, Leave, RecordAck, End, CrashCoord, RestartCoord, ArmCoord, CloseCoordSpare, FillCoordSpare, BeginLocal, AskEnd, Send, Guard, effect, cast_state, install_state, local_state, with_decision, entered_reply, marked_over, session_by_member, may_operate_at, record_yes, record_ack}
-use Rattle.co_law_engine.proofs.YesTells.{yes_parts}
 use Rattle.co_law_base.proofs.Lookups.{put_here, look_none, holds_found, found_holds}
 use Rattle.co_law_base.proofs.Commits.{holds_cases, unended_seen}
 use Rattle.co_law_base.proofs.ViewMoves.{each_map, each_both, each_decided}
@@ -33,9 +32,11 @@ use Rattle.co_law_base.proofs.Facts.{rest_of, Begun, takes, ByTold, Named, OpenE
 use Rattle.co_law_base.proofs.Carrying.{LivesOn, at_each, one_belongs, by_coord_begun, settled_alive}
 use Rattle.co_law_base.proofs.TwoViews.{stable_to_memory}
 use Rattle.co_law_base.proofs.LogMoves.{local_apart}
-use Rattle.co_law_base.proofs.VoteMoves.{active_found, asked_unsettled}
+use Rattle.co_law_base.proofs.VoteMoves.{MayCast, may_cast, active_found, asked_unsettled}
+use Rattle.co_law_base.proofs.Locally.{MayCommitLocally, may_commit_locally}
 use Rattle.co_law_base.proofs.Asking.{same_reading}
 use Rattle.co_law_moves.proofs.Standings.{votes_own}
+use Rattle.co_law_moves.proofs.MemberOnward.{cast as cast_onward}
 use Rattle.co_law_moves.proofs.MoveOnward.{move_onward}
 use Rattle.co_law_moves.proofs.Onward.{Onward, holds_put_off, holds_without_off, back_without}
 
@@ -99,16 +100,16 @@ module _ (s : Federation) (f : Facts s) where
               (subst (λ z. 1 ≤ count_at (told_in z) m) (sym (put_here s.sessions t (with_told session (record { site = record { member = m; op = o }; reply = operation_reply (s.member m).engine t o }))))
               (subst (λ b. 1 ≤ (if b then count_at session.told m + 1 else count_at session.told m)) (sym (eq-eqb m m refl)) (omega arith)))))
 
-  cast : (t m c n : ℕ) → Guard s (Cast t m c n) → Working s → Working (effect s (Cast t m c n))
+  pub cast : (t m c n : ℕ) → MayCast s t m c n → Working s → Working (effect s (Cast t m c n))
   cast t m c n g =
-      at_member s m (cast_state (s.member m) t c n) (move_onward s f (Cast t m c n) g)
+      at_member s m (cast_state (s.member m) t c n) (cast_onward s f t m c n g)
       (λ u h. back_without (s.member m).engine.active t u h) stood
     where
       p : 1 ≤ n
       p = (f.sent.prepares_count t c m n g.0).1
 
       apart : stands (view Memory (s.member m)) t ≡ false
-      apart = ((f.members m).active t (operations_of (s.member m).engine t) (active_found (s.member m).engine t (subst (λ k. 1 ≤ k) (sym (yes_parts (s.member m).engine t n g.1).count) p))).apart
+      apart = ((f.members m).active t (operations_of (s.member m).engine t) (active_found (s.member m).engine t (subst (λ k. 1 ≤ k) (sym g.1.count) p))).apart
 
       stood : (u : ℕ) → is_decided s.decided u ≡ true → stands (view Memory (cast_state (s.member m) t c n)) u ≡ true → stands (view Memory (s.member m)) u ≡ true
       stood u d h = by (t == u) refl
@@ -177,7 +178,7 @@ module _ (s : Federation) (f : Facts s) where
       there (inl p) = ((f.coords c).idle t p.0, found_holds (s.coord c).table t entry.Idle p.0)
       there (inr p) = (((f.coords c).collecting t p.0 p.1 p.3).still, found_holds (s.coord c).table t (entry.Collecting p.0 p.1) p.3)
 
-  local : (t m : ℕ) → Guard s (CommitLocally t m) → Working s → Working (effect s (CommitLocally t m))
+  pub local : (t m : ℕ) → MayCommitLocally s t m → Working s → Working (effect s (CommitLocally t m))
   local t m g w = by (look s.sessions t) refl g.0
     where
       by : (z : Option Session) → look s.sessions t ≡ z → session_by_member z m → Working (effect s (CommitLocally t m))
@@ -234,11 +235,11 @@ module _ (s : Federation) (f : Facts s) where
   pub move_works : (move : Move) → Guard s move → Working s → Working (effect s move)
   move_works (Operate t m o) g = operate t m o g
   move_works (MarkAsked t m c n) g = at_member s m _ (move_onward s f (MarkAsked t m c n) g) (λ u h. h) (λ u d h. h)
-  move_works (Cast t m c n) g = cast t m c n g
+  move_works (Cast t m c n) g = cast t m c n (may_cast s t m c n g)
   move_works (DropActive t m) g = at_member s m (dropped (s.member m) t) (move_onward s f (DropActive t m) g) (λ u h. back_without (s.member m).engine.active t u h) (λ u d h. fewer t m u h)
   move_works (DropVoted t m) g = at_member s m _ (move_onward s f (DropVoted t m) g) (λ u h. back_without (s.member m).engine.active t u h) (λ u d h. fewer t m u h)
   move_works (Install t m) g = install t m g
-  move_works (CommitLocally t m) g = local t m g
+  move_works (CommitLocally t m) g = local t m (may_commit_locally s t m g)
   move_works (CrashMember m) g = crash m
   move_works (RestartMember m) g = at_member s m _ (move_onward s f (RestartMember m) g) (λ u h. h) (λ u d h. h)
   move_works (ArmMember m stop) g = at_member s m _ (move_onward s f (ArmMember m stop) g) (λ u h. h) (λ u d h. h)

@@ -7,6 +7,18 @@
 //! out before it is installed. The rules
 //! are those of commitment ordering (Raz, *The principle of commitment ordering*, VLDB 1992) and of two-phase commit with presumed abort (Mohan, Lindsay
 //! and Obermarck, *Transaction Management in the R\* Distributed Database Management System*, TODS 1986).
+//!
+//! **What is proved.**
+//!
+//! - The same of a member, over every engine that meets the contract of all engines: each event of the definitions is its plan, carried out
+//!   (`plans_are_steps`).
+//! - For every plain member that it stands for (`RepresentsMember`), `deliver`, `vote`, `timer`, `ask`, `local_commit`, `local_abort`, `checkpoint`,
+//!   `arm`, `disarm`, `crash` and `restart` answer, send and tell what the step of the definitions does, and leave it standing for the state after,
+//!   however a log write ends (`did`); so does `op`, of a transaction that has neither voted nor been installed.
+//! - A log write leaves the directory as its answer says (`answered`), and the files of other nodes (`rest`); `attach` gives a member that stands for
+//!   what its log tells (`opened`); the readings (`up`, `knows`, `open_after`, `ballot_of`, `coord_of`) are those of the state, and `past` is what
+//!   its log tells, also while it is down.
+//! - A restart meets no log that is not allowed.
 #![tactic(auto)]
 
 mod ballots;

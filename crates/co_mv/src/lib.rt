@@ -3,6 +3,9 @@
 //!
 //! It meets the contract of all engines. What it keeps of a key are exactly the versions that some active
 //! transaction, or a new one, can still read.
+//!
+//! **What is proved.** The multiversion engine meets the contract of all engines; the versions that it lists of a key are exactly those that some active transaction, or
+//! a new one, can still read.
 #![tactic(auto)]
 
 mod archive;

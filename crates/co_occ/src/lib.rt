@@ -5,6 +5,9 @@
 //! overwritten where a later install wrote a key of its range; whether a transaction has such a read is
 //! asked when it is to vote. For that the engine keeps the write sets of recent installs, and only those
 //! that came after the oldest read of an active transaction.
+//!
+//! **What is proved.** The engine with backward validation meets the contract of all engines, and keeps exactly the write sets of the installs after the oldest read of
+//! an active transaction.
 #![tactic(auto)]
 
 mod engine;

@@ -1,5 +1,5 @@
 -- A log that was attached, from all that its attaching says.
-use Rattle.std.proofs.Common.{◌≡◌, ℕ, Bool, true, false, Option, Result, Ok, Err, IfOk, subst, sym, ◌∙◌}
+use Rattle.std.proofs.Common.{◌≡◌, ℕ, Bool, true, false, List, Option, Result, Ok, Err, IfOk, subst, sym, ◌∙◌}
 use Rattle.std.specs.Prelude.{OnOk, IsErrOf}
 use Rattle.co_base.specs.Nodes.{IsValidNode}
 use Rattle.co_base.specs.declared.node.Node.{Node}
@@ -14,8 +14,9 @@ use Rattle.co_log.specs.Fresh.{IsFresh}
 use Rattle.co_log.specs.LogView.{LogView, IsHeld, spot_of}
 use Rattle.co_log.proofs.Ordered.{attached_unarmed}
 use Rattle.co_opening.specs.Kept.{IsOwnLog}
-use Rattle.co_durable.specs.declared.fault.WorldFault.TheVariants.{Bad, Full}
-use Rattle.co_opening.specs.Attached.{IsAttachedTo, IsUnattached}
+use Rattle.co_durable.specs.declared.fault.WorldFault.{WorldFault}
+use Rattle.co_durable.specs.declared.fault.WorldFault.TheVariants.{Device, Differs, InUse, Bad, Full, Count, Old, Memory}
+use Rattle.co_opening.specs.Attached.{IsAttachedTo, IsOfAttaching, IsUnattached, IsFirstUnattached}
 use Rattle.co_opening.specs.InUse.{IsUnusedNode}
 
 pub attached_to : (file : Spot → Option File) (resume : Bool) (node : Node) (log : LogView) → IsValidNode node
@@ -63,6 +64,17 @@ module _ (file : Spot → Option File) (resume : Bool) (node : Node) (fault : Lo
 
   pub full_unattached : (spot : Spot) → fault ≡ log.Full spot → IsUnattached file resume (Full spot) node
   full_unattached spot is = let on = (refused_as (log.Full spot) is).0 in (on, resumed (log.Full spot) is on)
+
+-- where logs were not attached, no other fault came
+pub attaching : (file : Spot → Option File) (resume : Bool) (nodes : List Node) (fault : WorldFault) → IsFirstUnattached file resume nodes fault → IsOfAttaching fault
+attaching file resume nodes (Device spot) f = tt
+attaching file resume nodes (Differs spot at kept other) f = absurd f
+attaching file resume nodes (InUse spot) f = tt
+attaching file resume nodes (Bad spot at) f = tt
+attaching file resume nodes (Full spot) f = tt
+attaching file resume nodes Count f = absurd f
+attaching file resume nodes (Old spot) f = absurd f
+attaching file resume nodes Memory f = tt
 
 -- no failure of the directory
 abbrev pub IsNoDevice : LogFault → Type 0

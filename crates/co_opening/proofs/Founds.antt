@@ -160,7 +160,7 @@ all_reversed : {A : Type 0} (P : A → Type 0) (xs : List A) → AllByRecursion 
 all_reversed P [] all = tt
 all_reversed P (x ∷ xs) all = subst (AllByRecursion P) (sym (reverse-append (x ∷ []) xs)) (all_append P (reverse xs) (x ∷ []) (all_reversed P xs all.1) (all.0, tt))
 
-read_writable : (bytes : List ℕ) (items : Items) → HasRecords bytes items → AllByRecursion IsWritable (newest_first items)
+pub read_writable : (bytes : List ℕ) (items : Items) → HasRecords bytes items → AllByRecursion IsWritable (newest_first items)
 read_writable bytes items has = all_reversed IsWritable (records_of items) (all_records items (hold_writable _ 0 has.0 items has.2))
 
 -- ---- what was found

@@ -29,7 +29,7 @@ use Rattle.co_durable.proofs.Pairs.{all_append, left_all, right_all, all_over, f
 use Rattle.co_opening.specs.Attached.{AreAttached, IsAttachedTo, IsUnattached, IsFirstUnattached}
 use Rattle.co_opening.specs.Fit.{AreFit}
 use Rattle.co_opening.specs.InUse.{IsUnusedNode, IsInUse}
-use Rattle.co_opening.specs.Judged.{IsOfJudging}
+use Rattle.co_opening.specs.Judged.{IsOfJudging, IsOfTelling}
 use Rattle.co_opening.specs.Opened.{IsUnopened}
 use Rattle.co_opening.specs.Standing.{IsCoordPastOf}
 use Rattle.co_opening.specs.Versions.{IsOfVersion, IsNewIn, IsOldIn, IsVersioned, IsLatest, IsOldAt, IsFirstOldLog}
@@ -98,15 +98,25 @@ module _ (file : Spot → Option File) (resume : Bool) where
   are_fresh none nodes logs pairs = right_all (IsAttachedTo file resume) IsFresh (λ node log att. att.fresh none) nodes logs pairs
 
 -- such logs are refused for these causes alone
-pub fallen_judged : (refuses : Items → Option ℕ) (logs : List LogView) (fault : WorldFault) → IsFirstToFall refuses logs fault → IsOfJudging fault
-fallen_judged refuses logs (Device spot) f = absurd f.bad
-fallen_judged refuses logs (Differs spot at kept other) f = absurd f.bad
-fallen_judged refuses logs (InUse spot) f = absurd f.bad
-fallen_judged refuses logs (Bad spot at) f = tt
-fallen_judged refuses logs (Full spot) f = absurd f.bad
-fallen_judged refuses logs Count f = absurd f.bad
-fallen_judged refuses logs (Old spot) f = absurd f.bad
-fallen_judged refuses logs Memory f = tt
+pub fallen_told : (refuses : Items → Option ℕ) (logs : List LogView) (fault : WorldFault) → IsFirstToFall refuses logs fault → IsOfTelling fault
+fallen_told refuses logs (Device spot) f = absurd f.bad
+fallen_told refuses logs (Differs spot at kept other) f = absurd f.bad
+fallen_told refuses logs (InUse spot) f = absurd f.bad
+fallen_told refuses logs (Bad spot at) f = tt
+fallen_told refuses logs (Full spot) f = absurd f.bad
+fallen_told refuses logs Count f = absurd f.bad
+fallen_told refuses logs (Old spot) f = absurd f.bad
+fallen_told refuses logs Memory f = tt
+
+pub told_judged : (fault : WorldFault) → IsOfTelling fault → IsOfJudging fault
+told_judged (Device spot) f = f
+told_judged (Differs spot at kept other) f = f
+told_judged (InUse spot) f = f
+told_judged (Bad spot at) f = tt
+told_judged (Full spot) f = f
+told_judged Count f = f
+told_judged (Old spot) f = absurd f
+told_judged Memory f = tt
 
 pub old_judged : (logs : List LogView) (fault : WorldFault) → IsFirstOldLog logs fault → IsOfJudging fault
 old_judged logs (Device spot) f = f
@@ -165,12 +175,12 @@ module _ (file : Spot → Option File) (resume : Bool) (head : Head) (member_log
 
   -- ---- logs of version 1
 
-  members_stand : (pasts : List MemberPast) → EachPair (IsPastOf head.coords) member_logs pasts → AllByRecursion (Stands file (member_refuses head.coords)) (member_nodes members)
+  pub members_stand : (pasts : List MemberPast) → EachPair (IsPastOf head.coords) member_logs pasts → AllByRecursion (Stands file (member_refuses head.coords)) (member_nodes members)
   members_stand pasts told =
       all_over (IsLogOf file) (LogStands (member_refuses head.coords)) (Stands file (member_refuses head.coords)) (stands file (member_refuses head.coords)) (member_nodes members) member_logs (logs_of file resume (member_nodes members) member_logs att.member)
       (left_all (IsPastOf head.coords) (LogStands (member_refuses head.coords)) (λ l t r items has. (r items has).0) member_logs pasts told)
 
-  coords_stand : (pasts : List CoordPast) → EachPair (IsCoordPastOf members) coord_logs pasts → AllByRecursion (Stands file (coord_refuses members)) (coord_nodes head.coords)
+  pub coords_stand : (pasts : List CoordPast) → EachPair (IsCoordPastOf members) coord_logs pasts → AllByRecursion (Stands file (coord_refuses members)) (coord_nodes head.coords)
   coords_stand pasts told =
       all_over (IsLogOf file) (LogStands (coord_refuses members)) (Stands file (coord_refuses members)) (stands file (coord_refuses members)) (coord_nodes head.coords) coord_logs (logs_of file resume (coord_nodes head.coords) coord_logs att.coord)
       (left_all (IsCoordPastOf members) (LogStands (coord_refuses members)) (λ l t r items has. (r items has).0) coord_logs pasts told)

@@ -54,7 +54,7 @@ version_once file node part other version more told c d =
     has_version_once node d.a d.b part other version more
     (subst (λ (bytes : List ℕ). HasVersion node d.a bytes part version) same_b (subst (λ (bytes : List ℕ). HasVersion node bytes c.b part version) same_a c.current)) d.current
 
-new_not_old : (file : Spot → Option File) (spot : Spot) (node : Node) → IsTold file node → IsNewIn file node → IsOldIn file spot node → ⊥
+pub new_not_old : (file : Spot → Option File) (spot : Spot) (node : Node) → IsTold file node → IsNewIn file node → IsOldIn file spot node → ⊥
 new_not_old file spot node told new old = let e : 2 ≡ 1 = (version_once file node new.0 old.0 2 1 told new.1 old.2).1 in omega (arith, e)
 
 old_once : (file : Spot → Option File) (spot other : Spot) (node : Node) → IsTold file node → IsOldIn file spot node → IsOldIn file other node → spot ≡ other

@@ -42,6 +42,17 @@ IsFirstUnattached file resume nodes Count = ⊥
 IsFirstUnattached file resume nodes (Old spot) = ⊥
 IsFirstUnattached file resume nodes Memory = Unit {0}
 
+-- the faults of logs that are attached
+abbrev pub IsOfAttaching : WorldFault → Type 0
+IsOfAttaching (Device spot) = Unit {0}
+IsOfAttaching (Differs spot at kept read) = ⊥
+IsOfAttaching (InUse spot) = Unit {0}
+IsOfAttaching (Bad spot at) = Unit {0}
+IsOfAttaching (Full spot) = Unit {0}
+IsOfAttaching Count = ⊥
+IsOfAttaching (Old spot) = ⊥
+IsOfAttaching Memory = Unit {0}
+
 -- the logs of all nodes, as they are attached
 pub record AreAttached (file : Spot → Option File) (resume : Bool) (members coords : ℕ) (member_logs coord_logs : List LogView) : Type 0 where
   pub member : EachPair (IsAttachedTo file resume) (member_nodes members) member_logs

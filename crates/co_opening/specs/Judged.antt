@@ -49,6 +49,17 @@ IsOfMaking Count = ⊥
 IsOfMaking (Old spot) = ⊥
 IsOfMaking Memory = Unit {0}
 
+-- the faults of logs that are told
+abbrev pub IsOfTelling : WorldFault → Type 0
+IsOfTelling (Device spot) = ⊥
+IsOfTelling (Differs spot at kept read) = ⊥
+IsOfTelling (InUse spot) = ⊥
+IsOfTelling (Bad spot at) = Unit {0}
+IsOfTelling (Full spot) = ⊥
+IsOfTelling Count = ⊥
+IsOfTelling (Old spot) = ⊥
+IsOfTelling Memory = Unit {0}
+
 -- the faults of logs that are judged
 abbrev pub IsOfJudging : WorldFault → Type 0
 IsOfJudging (Device spot) = ⊥

@@ -10,7 +10,7 @@ ghost use Rattle.co_log.specs.LogView.{spot_of};
 ghost use Rattle.co_log.specs.Others.{NodeStays, OtherFilesStay};
 ghost use Rattle.co_durable.specs.Pairs.{EachPair};
 ghost use Rattle.co_durable.specs.Reading.{OnlyReads};
-ghost use Rattle.co_opening.specs.Attached.{AreAttached, IsAttachedTo, IsUnattached, IsFirstUnattached};
+ghost use Rattle.co_opening.specs.Attached.{AreAttached, IsAttachedTo, IsOfAttaching, IsUnattached, IsFirstUnattached};
 ghost use Rattle.co_opening.specs.Kept.{IsOwnLog, AreOwnLogs};
 ghost use Rattle.co_opening.specs.Opened.{IsUnopened};
 ghost use Rattle.co_opening.specs.Sorts.{node_in, most_in, nodes_in};
@@ -24,11 +24,11 @@ use std::alloc::Global;
 
 /// The logs of all nodes of a federation.
 #[derive(Drop)]
-pub(crate) struct Logs {
+pub struct Logs {
     /// Those of the members, from member 1 on.
-    pub(crate) members: Vec<Log>,
+    pub members: Vec<Log>,
     /// Those of the coordinators, from coordinator 1 on.
-    pub(crate) coords: Vec<Log>,
+    pub coords: Vec<Log>,
 }
 
 /// Attaches the log of a node, whose files are as they were.
@@ -98,8 +98,13 @@ fn attach_sort<H: Home>(
     Ok(logs)
 }
 
-/// The logs of all nodes of a federation, members before coordinators.
-pub(crate) fn attach_all<H: Home>(
+/// The logs of all nodes of a federation in the directory that was entered, members before coordinators: fresh ones, or, where they are resumed,
+/// those that a run left, of either version. No file is written.
+///
+/// The first node whose log is not attached ends it. `InUse` comes exactly where a file has more than one byte and the logs are not resumed. Where
+/// they are resumed, `Full` comes where a file has more than 268,435,456 bytes, and `Bad` where the files of a node are no log, at the place of the
+/// first fault. `Device` comes where the directory failed, and only there; no other fault comes but want of memory.
+pub fn attach_all<H: Home>(
     alloc: Global,
     home: &mut H,
     head: &Head,
@@ -109,6 +114,7 @@ pub(crate) fn attach_all<H: Home>(
     ensures kept_members { IfOk result (λ logs. AreOwnLogs (H.seen home.new) node.Member 0 logs.members.items) }
     ensures kept_coords { IfOk result (λ logs. AreOwnLogs (H.seen home.new) node.Coord 0 logs.coords.items) }
     ensures refused { IfErr result (IsUnopened (H.seen home.old).file head.now resume) }
+    ensures faults { IfErr result IsOfAttaching }
     ensures reads { OnlyReads (H.seen home.old) (H.seen home.new) }
     ensures device { (spot : Spot) → IsErrOf result (WorldFault.Device spot) → HasFailed spot (H.seen home.old) (H.seen home.new) }
     ensures quiet { ((spot : Spot) → IsErrOf result (WorldFault.Device spot) → ⊥) → (H.seen home.new).faults ≡ (H.seen home.old).faults }

@@ -6,7 +6,7 @@ ghost use Rattle.co_outside.specs.declared.spot.Spot.{Spot};
 ghost use Rattle.co_durable.specs.Pairs.{EachPair};
 ghost use Rattle.co_durable.specs.Recovering.{member_refuses, coord_refuses, fallen, IsReadable, IsPastOf, LogFalls, IsFirstToFall};
 ghost use Rattle.co_opening.specs.Attached.{AreAttached};
-ghost use Rattle.co_opening.specs.Judged.{AreJudged, IsOfJudging};
+ghost use Rattle.co_opening.specs.Judged.{AreJudged, IsOfJudging, IsOfTelling};
 ghost use Rattle.co_opening.specs.Opened.{IsUnopened};
 ghost use Rattle.co_opening.specs.Standing.{IsCoordPastOf};
 ghost use Rattle.co_opening.specs.Versions.{IsVersioned, IsLatest, IsFirstOldLog};
@@ -20,11 +20,11 @@ use std::alloc::Global;
 
 /// What the logs of all nodes tell.
 #[derive(Drop)]
-pub(crate) struct Pasts {
+pub struct Pasts {
     /// Those of the members, from member 1 on.
-    pub(crate) members: Vec<MemberPast>,
+    pub members: Vec<MemberPast>,
     /// Those of the coordinators, from coordinator 1 on.
-    pub(crate) coords: Vec<CoordPast>,
+    pub coords: Vec<CoordPast>,
 }
 
 /// The fault of a log that was not recovered.
@@ -106,7 +106,23 @@ fn refuse_old(logs: &[Log]) -> Result<(), WorldFault>
     Ok(())
 }
 
-/// What the logs of all nodes tell, members before coordinators; and then each is to be of version 2.
+/// What the logs of all nodes tell, members before coordinators, of whatever version they are. The first log with a record that is not
+/// allowed at its place ends it, with `Bad` at the place of that record; no other fault comes but want of memory.
+pub fn tell(alloc: Global, head: &Head, logs: &Logs) -> Result<Pasts, WorldFault>
+    requires { (file : Spot → Option File) × (resume : Bool) × AreAttached file resume (length head.now.kinds) head.now.coords logs.now.members.items logs.now.coords.items }
+    ensures members { IfOk result (λ pasts. EachPair (IsPastOf head.now.coords) logs.now.members.items pasts.members.items) }
+    ensures coords { IfOk result (λ pasts. EachPair (IsCoordPastOf (length head.now.kinds)) logs.now.coords.items pasts.coords.items) }
+    ensures refused { (file : Spot → Option File) (resume : Bool) → AreAttached file resume (length head.now.kinds) head.now.coords logs.now.members.items logs.now.coords.items →
+        IfErr result (IsUnopened file head.now resume) }
+    ensures faults { IfErr result IsOfTelling }
+{
+    let count = head.kinds.len() as u8;
+    let members = member_pasts(alloc, logs.members.as_slice(), head.coords)?;
+    let coords = coord_pasts(alloc, logs.coords.as_slice(), count)?;
+    Ok(Pasts { members, coords })
+}
+
+/// What the logs of all nodes tell, each of which is to be of version 2.
 pub(crate) fn judge(alloc: Global, head: &Head, logs: &Logs) -> Result<Pasts, WorldFault>
     requires { (file : Spot → Option File) × (resume : Bool) × AreAttached file resume (length head.now.kinds) head.now.coords logs.now.members.items logs.now.coords.items }
     ensures judged { (file : Spot → Option File) (resume : Bool) → AreAttached file resume (length head.now.kinds) head.now.coords logs.now.members.items logs.now.coords.items →
@@ -115,10 +131,8 @@ pub(crate) fn judge(alloc: Global, head: &Head, logs: &Logs) -> Result<Pasts, Wo
         IfErr result (IsUnopened file head.now resume) }
     ensures faults { IfErr result IsOfJudging }
 {
-    let count = head.kinds.len() as u8;
-    let members = member_pasts(alloc, logs.members.as_slice(), head.coords)?;
-    let coords = coord_pasts(alloc, logs.coords.as_slice(), count)?;
+    let pasts = tell(alloc, head, logs)?;
     refuse_old(logs.members.as_slice())?;
     refuse_old(logs.coords.as_slice())?;
-    Ok(Pasts { members, coords })
+    Ok(pasts)
 }

@@ -3,6 +3,8 @@
 //! The rules are definitions in `specs/`: the tables of members and coordinators, one step for every
 //! event, runs, and what is promised of them. `docs/DEFINITIONS.md` says each in words. Beside the data the code
 //! has only what both sorts of nodes share.
+//!
+//! **What is proved.** Lists of members are computed as defined. Else it holds the definitions of the whole federation.
 #![tactic(auto)]
 
 mod coord_state;

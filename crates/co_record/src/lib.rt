@@ -1,4 +1,8 @@
 //! The records of a log.
+//!
+//! **What is proved.** In each of two versions a record has one spelling, and no spelling begins another; the two differ in the version byte of a header and in the
+//! greatest length of a value. `put_record` appends that of version 2 and only it; `read_record` gives exactly the record of the version that is
+//! asked for that stands at the front, else the first fault from the left with its place.
 #![tactic(auto)]
 
 mod element;

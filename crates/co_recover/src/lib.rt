@@ -1,4 +1,7 @@
 //! What the log of a node tells, read from its lent records.
+//!
+//! **What is proved.** A member's and a coordinator's log are recovered as defined: installed records by redo and undo, votes with all that they read and wrote, commits
+//! without end; a log with a record that is not allowed where it stands is refused at the first one, by its place.
 #![tactic(auto)]
 
 mod coord;

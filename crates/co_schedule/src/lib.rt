@@ -3,6 +3,10 @@
 //! Each event and each head has one line (`one_line`). Reading a line gives what it spells, or the
 //! first fault from the left. `Lines` lends the lines of a source one at a time and never holds more
 //! than one of them.
+//!
+//! **What is proved.** Lines both ways: `put_line` writes the one spelling; `read_line` and `read_head` read exactly what is spelled for a head, else name the first
+//! fault from the left. `Lines` lends the lines of a source one at a time, exactly, with `Long` and `Many` where the limits are passed, and holds one
+//! line at most: no more was ever taken of what lay ahead than a line and its newline may have (`HasMoved`).
 #![tactic(auto)]
 
 mod counts;

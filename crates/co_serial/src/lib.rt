@@ -3,6 +3,9 @@
 //! It knows no locks, versions, votes, messages or logs. What the federation answers is compared with
 //! it (Bernstein, Hadzilacos and Goodman, *Concurrency Control and Recovery in Database Systems*, 1987,
 //! on serial executions). It also has the text in which records of members are told.
+//!
+//! **What is proved.** `run_whole` gives the replies of the serial run and leaves its map; after want of memory the map has the effect of a prefix. A scan walks the
+//! records of its range alone. The line of a record has one text, and one function that writes it (`append_record`).
 #![tactic(auto)]
 
 mod changes;

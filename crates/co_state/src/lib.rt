@@ -4,6 +4,13 @@
 //! The rules are definitions in `specs/`, and no function here computes a whole one. Whatever an engine
 //! keeps instead of the state (locks and undo lists, write sets, chains of versions), its contract says
 //! its answers by these.
+//!
+//! **What is proved.** The rules of an engine's state, and what each call leaves of it, are definitions, and no function here computes a whole one. They are compared
+//! with what the engines do: the contract of all engines cites them (`co_engine`), as that of the undecided transactions of a member does for votes
+//! (`co_undecided`), and `co_plain_engine`, which keeps the state itself, plays the same rows as the others. What engines share is computed as
+//! defined: what an operation reads and changes, which reads and writes meet, what is in the way of an operation, the least key that was read and
+//! overwritten, the records after so many installs, changes laid over others. A list of records, into which records and changes are laid in any
+//! order, is the finite map that they make, and gives its rows in the order of the keys.
 #![tactic(auto)]
 
 mod changes;

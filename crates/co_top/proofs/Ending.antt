@@ -1,5 +1,5 @@
 -- How a replay ends, from how its lines were played behind the text of its head.
-use Rattle.std.proofs.Common.{◌≡◌, inl, inr, ℕ, ◌+◌, Bool, List, [], ◌∷◌, ◌++◌, length, take, Option, Some, Result, Ok, Err, refl, sym, ap, ◌∙◌, subst, append-nil, append_assoc}
+use Rattle.std.proofs.Common.{◌≡◌, inl, inr, ℕ, ◌+◌, ◌≤◌, Bool, List, [], ◌∷◌, ◌++◌, length, take, Option, None, Some, Result, Ok, Err, refl, sym, ap, ◌∙◌, subst, append-nil, append_assoc}
 use Rattle.std.specs.List.{AllByRecursion}
 use Rattle.co_base.specs.declared.head.Head.{Head}
 use Rattle.co_base.specs.declared.head.Kind.{Kind}
@@ -22,6 +22,8 @@ use Rattle.co_world.specs.Standing.{RepresentsWorld, AreHeld}
 use Rattle.co_world.specs.declared.world.World.{World}
 use Rattle.co_top.specs.Front.{IsHeaded, StandsBehind, AtStart, IsStreamed}
 use Rattle.co_top.specs.Played.{IsTold, IsToldInPart, StandsFor, IsStreamedBehind, IsLeftNear, HasFailed, HasStopped, IsOver}
+use Rattle.co_top.specs.PlayedOut.{HasPlayedOut}
+use Rattle.co_top.specs.declared.replay.Ended.{Ended}
 use Rattle.co_top.specs.Ran.{Ran, AreLeftBy, AreLeftByFault, HasRun, HasRunInPart, IsStop, IsEventFault, IsRunEnd, Stopped, CutOff, Failed, Wanted}
 use Rattle.co_outside.specs.Faults.{HasRisen}
 use Rattle.std.specs.Prelude.{OnOk, IfErr}
@@ -31,7 +33,9 @@ use Rattle.co_top.specs.Telling.{IsPutInPart, HasEnded}
 use Rattle.co_top.specs.declared.status.LimitKind.TheVariants as limit
 use Rattle.co_top.specs.declared.status.Status.{Status}
 use Rattle.co_top.specs.declared.status.Status.TheVariants as status
-use Rattle.co_top.proofs.Laws.{promised}
+use Rattle.co_law.proofs.FreshLogs.{empty_openable}
+use Rattle.co_law.proofs.GoingOn.{lines_true}
+use Rattle.co_top.proofs.Laws.{all_own, promised, ready}
 use Rattle.co_top.proofs.Lists.{take_behind}
 use Rattle.co_top.proofs.Left.{left_by, left_by_fault}
 use Rattle.co_top.proofs.Plays.{streamed_behind}
@@ -126,9 +130,9 @@ module _ {E H : Type 0} (takes : Kind → Type 0) (stands_for : E → EngineStat
       failed : (ended : Status) → IsEventFault old ended → HasFailed head s0 (Some text) now mid told home → IsRunEnd seen resume input now held told start end ended
       failed ended cause p = Failed (has_run p.done p.streamed) (near_left p.done.events p.done.valid p.done.left p.files) cause
 
-      pub over : (result : Result (Unit {0}) Status) → ((spot : Spot) (place : ℕ) (kept read : Option ℕ) → result ≡ Err (status.Differs spot place kept read) → IsEventFault old (status.Differs spot place kept read)) →
+      pub over : (result : Result ℕ Status) → ((spot : Spot) (place : ℕ) (kept read : Option ℕ) → result ≡ Err (status.Differs spot place kept read) → IsEventFault old (status.Differs spot place kept read)) →
           IsOver takes stands_for head s0 (Some text) now mid told home w result → IsRunEnd seen resume input now held told start end (status_of result)
-      over (Ok u) differs p = stopped p.0 p.1 (files_of p.0.events p.2) status.Done (p.3 text refl)
+      over (Ok number) differs p = stopped p.0 p.1 (files_of p.0.events p.2) status.Done (p.3 text refl)
       over (Err (status.Schedule line what)) differs p = at_line (status.Schedule line what) p (p.cause text refl)
       over (Err status.Read) differs p = at_line status.Read p (p.cause text refl)
       over (Err status.Write) differs p = let r = has_run_in_part p.0 p.1 in CutOff r (left_by r.ran home.file (files_of p.0.events p.2)) refl
@@ -156,6 +160,59 @@ module _ {E H : Type 0} (takes : Kind → Type 0) (stands_for : E → EngineStat
             left_by r home.file (files_of [] (record { stands = stands; held = kept })),
           )
 
+-- what a schedule leaves that was done to its end
+module _ {E H : Type 0} (takes : Kind → Type 0) (stands_for : E → EngineState → Type 0) (seen : H → HomeView) (resume : Bool) (start : H) (head : Head) (before : World E) (items : List Item)
+    (at : IsAttachedOver takes stands_for (seen start).file head resume before items) where
+  abbrev first_state : Federation
+  first_state = opened head.kinds head.coords at.found_member at.found_coord
+
+  pub played_out : (source text left held mid told : Option (List ℕ)) (home : HomeView) (ended : Ended E) →
+      ((input : List ℕ) → source ≡ Some input → (rest : List ℕ) × IsHeaded input head rest × (text ≡ Some rest)) → ((h : List ℕ) → held ≡ Some h → mid ≡ Some (h ++ opening_text head items)) →
+      ((spot : Spot) → home.file spot ≡ None → (seen start).file spot ≡ None) → ended.members ≡ length head.kinds → ended.number ≤ 262144 → IsOver takes stands_for head first_state text left mid told home ended.world (Ok ended.number) →
+      HasPlayedOut takes stands_for resume source left held told (seen start).file home ended
+  played_out source text left held mid told home ended headed put still members few p =
+      let nodes = ready head at.found_member at.found_coord at.may p.0.events p.0.valid in
+      record {
+        state = run (lines p.0.events) first_state;
+        stands = p.2.stands;
+        kept = p.2.held;
+        members = members ∙ sym (ap length nodes.kinds);
+        few = few;
+        reached = λ fresh.
+            let unused = at.unused fresh in
+            record {
+              kinds = head.kinds;
+              coords = head.coords;
+              found_member = at.found_member;
+              found_coord = at.found_coord;
+              happened = lines p.0.events;
+              few_members = head.members;
+              some_coord = head.some_coord;
+              few_coords = head.coordinators;
+              openable = empty_openable head.kinds head.coords at.found_member at.found_coord unused.members unused.coords;
+              may = at.may;
+              true_verdicts = lines_true p.0.events first_state;
+              own = all_own head p.0.events p.0.valid;
+              is = refl;
+            };
+        told_still = still;
+        nodes = λ input l. let read = headed input l in record { head = head; text = read.0; headed = read.1; members = nodes.kinds; coordinators = nodes.coordinators };
+        run = λ input h l t.
+            let read = headed input l in
+            let r = ran takes stands_for seen resume input h start head read.0 read.1 before items at p.0.events p.0.valid (p.0.left read.0 read.2) in
+            record {
+              done = record {
+                ran = r;
+                streamed = p.1 read.0 read.2;
+                promises = promised r;
+                transcript = whole_text takes stands_for seen resume input h start head read.0 read.1 before items at p.0.events told (p.0.whole (h ++ opening_text head items) (put h t));
+              };
+              whole = p.3 read.0 read.2;
+              leaves = refl;
+              last = p.4;
+            };
+      }
+
 -- the text of the first line was not put whole
 module _ {E H : Type 0} (takes : Kind → Type 0) (stands_for : E → EngineState → Type 0) (seen : H → HomeView) (resume : Bool) (input : List ℕ) (now : Option (List ℕ)) (streamed : IsStreamed input now) (held : List ℕ) (start : H) (head : Head) (text : List ℕ) (headed : IsHeaded input head text)
     (w : World E) (items : List Item) (at : IsAttachedOver takes stands_for (seen start).file head resume w items) (end : H) (kept : AreHeld (seen end) w) (told : Option (List ℕ)) where
@@ -174,9 +231,9 @@ opening_ends head items held told status.Write p = tt
 opening_ends head items held told status.Memory p = tt
 opening_ends head items held told _ p = absurd p
 
-pub over_ends : {E : Type 0} (takes : Kind → Type 0) (stands_for : E → EngineState → Type 0) (head : Head) (s0 : Federation) (text now held told : Option (List ℕ)) (home : HomeView) (w : World E) (o : Result (Unit {0}) Status) →
+pub over_ends : {E : Type 0} (takes : Kind → Type 0) (stands_for : E → EngineState → Type 0) (head : Head) (s0 : Federation) (text now held told : Option (List ℕ)) (home : HomeView) (w : World E) (o : Result ℕ Status) →
     IsOver takes stands_for head s0 text now held told home w o → IfErr o IsEnding
-over_ends takes stands_for head s text now held told home w (Ok u) p = tt
+over_ends takes stands_for head s text now held told home w (Ok number) p = tt
 over_ends takes stands_for head s text now held told home w (Err status.Done) p = absurd p
 over_ends takes stands_for head s text now held told home w (Err status.Usage) p = absurd p
 over_ends takes stands_for head s text now held told home w (Err (status.NotSerial txn number)) p = absurd p
@@ -198,18 +255,22 @@ error_or : {A E : Type 0} → E → Result A E → E
 error_or none (Ok x) = none
 error_or none (Err e) = e
 
+pub err_inner : {A E : Type 0} (x y : E) (o : Result A E) → o ≡ Err x → o ≡ Err y → x ≡ y
+unfolding error_or
+err_inner x y o is was = ap (error_or x) (sym is ∙ was)
+
 pub same_error : {A B E : Type 0} (x y : E) (one : Result A E) (other : Result B E) → one ≡ Err y → one ≡ Err x → other ≡ Err x → other ≡ Err y
 unfolding error_or
 same_error x y one other is was also = also ∙ ap Err (ap (error_or x) (sym was ∙ is))
 
 -- where the status names no file at which the directory failed, it met no fault
-pub ended_quiet : (old new : HomeView) (o : Result (Unit {0}) Status) → HasEnded old new o → ((spot : Spot) → o ≡ Err (status.Device spot) → ⊥) → new.faults ≡ old.faults
-ended_quiet old new (Err (status.Device spot)) ended other = absurd (other spot refl)
-ended_quiet old new (Err (status.Differs spot at kept read)) ended other = ended.0
-ended_quiet old new _ ended other = ended
+pub ended_quiet : (old new : HomeView) (ended : Status) → HasEnded old new ended → ((spot : Spot) → ended ≡ status.Device spot → ⊥) → new.faults ≡ old.faults
+ended_quiet old new (status.Device spot) h other = absurd (other spot refl)
+ended_quiet old new (status.Differs spot at kept read) h other = h.0
+ended_quiet old new _ h other = h
 
 -- the directory failed in this call, where it met no fault before
-pub failed_as : (old new : HomeView) (before : ℕ) (o : Result (Unit {0}) Status) (spot : Spot) → old.faults ≡ before → HasEnded old new o → o ≡ Err (status.Device spot) → HasRisen before new.faults × (new.last_failed ≡ spot)
-failed_as old new before o spot same ended is =
-    let h : HasEnded old new (Err (status.Device spot)) = subst (HasEnded old new) is ended in
-    (subst (λ n. HasRisen n new.faults) same h.0, h.1)
+pub failed_as : (old new : HomeView) (before : ℕ) (ended : Status) (spot : Spot) → old.faults ≡ before → HasEnded old new ended → ended ≡ status.Device spot → HasRisen before new.faults × (new.last_failed ≡ spot)
+failed_as old new before ended spot same h is =
+    let k : HasEnded old new (status.Device spot) = subst (HasEnded old new) is h in
+    (subst (λ n. HasRisen n new.faults) same k.0, k.1)

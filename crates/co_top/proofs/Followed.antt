@@ -1,5 +1,5 @@
 -- A schedule that is followed over a directory in memory: what never comes, and how far it came.
-use Rattle.std.proofs.Common.{◌≡◌, ◌⊎◌, ℕ, ◌+◌, ◌<◌, Bool, true, false, List, [], length, Option, None, Some, Result, Ok, Err, nat_lt, if◌then◌else◌, refl, sym, ap, ◌∙◌, subst, arith}
+use Rattle.std.proofs.Common.{◌≡◌, ℕ, ◌<◌, Bool, true, false, List, Option, None, Some, Result, Ok, Err, nat_lt, if◌then◌else◌, refl, sym, ◌∙◌, subst, arith}
 use Rattle.std.specs.Prelude.{IfErr}
 use Rattle.std.specs.Result.{IsErr, IsErrAnd}
 use Rattle.std.proofs.lemmas.Bool.Decides.{nat_tests}
@@ -8,7 +8,6 @@ use Rattle.co_base.specs.declared.head.Kind.{Kind}
 use Rattle.co_cluster.specs.Served.{HasEndedAs}
 use Rattle.co_durable.specs.declared.fault.WorldFault.{WorldFault}
 use Rattle.co_durable.specs.declared.fault.WorldFault.TheVariants as world
-use Rattle.co_message.specs.declared.event.Event.{Event}
 use Rattle.co_message.specs.declared.item.Item.{Item}
 use Rattle.co_outside.specs.declared.home_memory.HomeMemory.{HomeMemory}
 use Rattle.co_outside.specs.declared.spot.Spot.{Spot}
@@ -17,18 +16,16 @@ use Rattle.co_outside.specs.Home.{File, HomeView, empty_file}
 use Rattle.co_outside.specs.HomeMemory.{memory_file}
 use Rattle.co_plain.specs.Federation.{Federation}
 use Rattle.co_plain.specs.Opening.{opened}
-use Rattle.co_replay.specs.Schedule.{HasLine}
 use Rattle.co_state.specs.declared.engine_state.EngineState.{EngineState}
 use Rattle.co_trial.specs.Calm.{calm_seen}
 use Rattle.co_trial.proofs.Starting.{opening_fault}
 use Rattle.co_world.specs.Attached.{IsAttachedOver}
 use Rattle.co_world.specs.declared.world.World.{World}
 use Rattle.co_top.specs.Ends.{of_world}
-use Rattle.co_top.specs.Following.{RanFresh, HasReached, IsHalt, IsUnreached, NoHead, Halted, IsOfEvent, IsOfSchedule}
-use Rattle.co_top.specs.Front.{IsHeaded, StandsBehind}
+use Rattle.co_top.specs.Following.{RanFresh, HasReached, IsUnreached, NoHead, Halted, IsOfEvent, IsOfSchedule}
+use Rattle.co_top.specs.Front.{IsHeaded}
 use Rattle.co_top.specs.Heads.{IsReadStatus}
 use Rattle.co_top.specs.Played.{IsTold, IsOver}
-use Rattle.co_top.specs.Ran.{Ran}
 use Rattle.co_top.specs.Replayed.{IsUnopenedAs}
 use Rattle.co_top.specs.declared.status.LimitKind.TheVariants as limit
 use Rattle.co_top.specs.declared.status.Status.{Status}
@@ -156,9 +153,9 @@ module _ {E : Type 0} (takes : Kind → Type 0) (stands_for : E → EngineState 
   }
 
   module _ (now : Option (List ℕ)) (home : HomeView) (w : World E) where
-    pub reached_by : IsOver takes stands_for head (opened head.kinds head.coords at.found_member at.found_coord) (Some text) now None None home w (Ok tt) → HasReached takes stands_for input w
+    pub reached_by : (number : ℕ) → IsOver takes stands_for head (opened head.kinds head.coords at.found_member at.found_coord) (Some text) now None None home w (Ok number) → HasReached takes stands_for input w
     unfolding fresh
-    reached_by p = record { fresh = fresh p.0; whole = p.3 text refl; stands = p.2.stands }
+    reached_by number p = record { fresh = fresh p.0; whole = p.3 text refl; stands = p.2.stands }
 
     pub unreached_by : (why : Status) → IsOfSchedule why → IsOver takes stands_for head (opened head.kinds head.coords at.found_member at.found_coord) (Some text) now None None home w (Err why) → IsUnreached input why
     unfolding fresh

@@ -12,7 +12,7 @@ use Rattle.co_top.proofs.Left.{left_by}
 use Rattle.co_top.proofs.OneRun.{one_run}
 use Rattle.co_top.proofs.Resuming.{found_soundly}
 use Rattle.co_top.specs.Headline.{IsWholeRun}
-use Rattle.co_top.specs.Ran.{Ran, start_of, end_of, text_of, IsSameRun, IsRunEnd, NoHead, Unopened, Stopped, CutOff, Failed, Wanted}
+use Rattle.co_top.specs.Ran.{Ran, end_of, text_of, IsSameRun, IsRunEnd, NoHead, Unopened, Stopped, CutOff, Failed, Wanted}
 use Rattle.co_top.specs.declared.status.Status.TheVariants as status
 
 -- the same run has the same text, and leaves the same

@@ -116,10 +116,10 @@ module _ (file : Spot → Option File) (members coords : ℕ) (s : Federation) (
 
 -- ---- what a run left
 
--- happenings that hand no verdict, each of which names nodes of the head
-pub record ArePlain (members coords : ℕ) (hs : List Happening) : Type 0 where
+-- happenings that name nodes of the head, and hand true verdicts where they are handed
+pub record MayHappen (members coords : ℕ) (s : Federation) (hs : List Happening) : Type 0 where
   pub own : AreOwn members coords hs
-  pub handless : (s : Federation) → AreTrueVerdicts hs s
+  pub true_there : AreTrueVerdicts hs s
 
 pub own_more : (n k : ℕ) (hs more : List Happening) → AreOwn n k hs → AreOwn n k more → AreOwn n k (hs ++ more)
 own_more n k [] more own rest = rest
@@ -133,36 +133,36 @@ module _ {resume : Bool} {input : List ℕ} {old : Spot → Option File} (r : Ra
   abbrev members : ℕ
   members = length r.head.kinds
 
-  are_plain : ArePlain members r.head.coords (lines r.events)
-  are_plain = record { own = all_own r.head r.events r.valid; handless = lines_true r.events }
+  lines_may : MayHappen members r.head.coords (start_of r) (lines r.events)
+  lines_may = record { own = all_own r.head r.events r.valid; true_there = lines_true r.events (start_of r) }
 
-  more_plain : (more : List Happening) → AreOwn members r.head.coords more → ((s : Federation) → AreTrueVerdicts more s) → ArePlain members r.head.coords (lines r.events ++ more)
-  more_plain more own handless =
+  more_may : (more : List Happening) → AreOwn members r.head.coords more → ((s : Federation) → AreTrueVerdicts more s) → MayHappen members r.head.coords (start_of r) (lines r.events ++ more)
+  more_may more own handless =
       record {
         own = own_more members r.head.coords (lines r.events) more (all_own r.head r.events r.valid) own;
-        handless = lines_true_more r.events more handless;
+        true_there = lines_true_more r.events more handless (start_of r);
       }
 
-  left_after : (hs : List Happening) → ArePlain members r.head.coords hs → AreLeftAs file (run hs (start_of r)) → AreLeftAfter r hs file
-  left_after hs plain left =
-      let f = fit_after r.head r.found_member r.found_coord r.may hs plain.own in
+  pub left_after : (hs : List Happening) → MayHappen members r.head.coords (start_of r) hs → AreLeftAs file (run hs (start_of r)) → AreLeftAfter r hs file
+  left_after hs may left =
+      let f = fit_after r.head r.found_member r.found_coord r.may hs may.own in
       record {
         left = left;
         logs_alone = λ sound told.
-            durable_left file members r.head.coords (run hs (start_of r)) (whole_after r.head r.found_member r.found_coord r.may hs plain.own) (ap length f.kinds) f.coordinators left told
+            durable_left file members r.head.coords (run hs (start_of r)) (whole_after r.head r.found_member r.found_coord r.may hs may.own) (ap length f.kinds) f.coordinators left told
             (serial_records (start_of r) (run hs (start_of r)).decided)
-            (every_log r.head.kinds r.head.coords r.found_member r.found_coord hs (openable r sound) (plain.handless (start_of r)));
-        sound_logs = λ sound. every_sound r.head.kinds r.head.coords r.found_member r.found_coord hs (openable r sound) (plain.handless (start_of r));
+            (every_log r.head.kinds r.head.coords r.found_member r.found_coord hs (openable r sound) may.true_there);
+        sound_logs = λ sound. every_sound r.head.kinds r.head.coords r.found_member r.found_coord hs (openable r sound) may.true_there;
         may_resume = λ told.
             let s = run hs (start_of r) in
             let both = split_told file (member_nodes members) (coord_nodes r.head.coords) told in
-            may_again file r.head.kinds r.head.coords s (whole_after r.head r.found_member r.found_coord r.may hs plain.own) (writable_after r.head r.found_member r.found_coord r.may hs plain.own)
+            may_again file r.head.kinds r.head.coords s (whole_after r.head r.found_member r.found_coord r.may hs may.own) (writable_after r.head r.found_member r.found_coord r.may hs may.own)
             (λ m between. left.member m between.0 (omega (arith, between.1, ap length f.kinds)) (told_at file node.Member members m both.0 between))
             (λ c between. left.coord c between.0 (omega (arith, between.1, f.coordinators)) (told_at file node.Coord r.head.coords c both.1 between));
       }
 
   pub left_by : AreLeftAs file (end_of r) → AreLeftBy r file
-  left_by left = left_after (lines r.events) are_plain left
+  left_by left = left_after (lines r.events) lines_may left
 
   -- a fault left what was done, or what the event of the next line leaves
   pub left_by_fault : AreLeftAs file (end_of r)
@@ -174,7 +174,7 @@ module _ {resume : Bool} {input : List ℕ} {old : Spot → Option File} (r : Ra
       record {
         happened = lines r.events ++ more;
         up_to = inr (event, line, next.0, next.1, inl refl);
-        files = left_after (lines r.events ++ more) (more_plain more (all_own r.head (event ∷ []) (line, tt)) (λ s. (tt, tt)))
+        files = left_after (lines r.events ++ more) (more_may more (all_own r.head (event ∷ []) (line, tt)) (λ s. (tt, tt)))
             (subst (AreLeftAs file) (sym (run_more (lines r.events) more (start_of r))) after);
       }
   left_by_fault (inr (event, line, next, inr completed)) =
@@ -182,6 +182,6 @@ module _ {resume : Bool} {input : List ℕ} {old : Spot → Option File} (r : Ra
       record {
         happened = lines r.events ++ more;
         up_to = inr (event, line, next.0, next.1, inr refl);
-        files = left_after (lines r.events ++ more) (more_plain more (tt, all_own r.head (event ∷ []) (line, tt)) (λ s. (tt, (tt, tt))))
+        files = left_after (lines r.events ++ more) (more_may more (tt, all_own r.head (event ∷ []) (line, tt)) (λ s. (tt, (tt, tt))))
             (subst (AreLeftAs file) (sym (run_more (lines r.events) more (start_of r))) completed);
       }

@@ -16,3 +16,13 @@ pub mod Resuming
 pub mod Trying
 mod Followed
 mod Waited
+mod Breaking
+mod WaitsComplete
+mod Asking
+mod Migrations
+mod TurnsAlong
+mod TurnsTaken
+mod TurnsLeft
+mod TurnsListed
+mod FewDoubts
+mod Resolves

@@ -1,5 +1,5 @@
 -- One more line is played, or none is.
-use Rattle.std.proofs.Common.{◌≡◌, inl, inr, ℕ, suc, ◌+◌, Bool, true, false, List, [], ◌∷◌, ◌++◌, length, take, Option, None, Some, Result, Ok, Err, refl, sym, ap, ◌∙◌, subst, append-nil, append_assoc, arith, ◌≤◌}
+use Rattle.std.proofs.Common.{◌≡◌, inl, inr, ℕ, suc, ◌+◌, ◌-◌, Bool, true, false, List, [], ◌∷◌, ◌++◌, length, take, Option, None, Some, Result, Ok, Err, refl, sym, ap, ◌∙◌, subst, append-nil, append_assoc, arith, ◌≤◌}
 use Rattle.std.proofs.lemmas.List.{length-drop}
 use Rattle.std.proofs.Math.Seq.{take-length}
 use Rattle.std.specs.Result.{IsErr, IsErrAnd}
@@ -41,7 +41,7 @@ use Rattle.std.specs.List.{position_or_len}
 use Rattle.co_top.specs.Heads.{IsEventRead, IsReadStatus}
 use Rattle.co_top.specs.Played.{IsTold, IsToldInPart, StandsFor, IsStreamedBehind, IsLeftNear, HasFailed, HasFailedInPart, HasOutgrown, HasStopped, IsOver, HasMetLimit, IsReadyFor}
 use Rattle.co_top.specs.Ends.{of_world}
-use Rattle.co_top.specs.Replayed.{given_back, opening_text, IsUnopenedAs, IsOfFiles, IsOpeningTold}
+use Rattle.co_top.specs.Replayed.{status_of, given_back, opening_text, IsUnopenedAs, IsOfFiles, IsOpeningTold}
 use Rattle.co_top.specs.Running.{IsBetween}
 use Rattle.co_top.specs.Telling.{Outgrows, event_text, IsPut, IsPutInPart, IsTextPut, HasStepped, HasFaulted, HasEnded, IsToldOf}
 use Rattle.co_top.specs.declared.status.LimitKind.TheVariants as limit
@@ -199,8 +199,8 @@ module _ {E : Type 0} (takes : Kind → Type 0) (stands_for : E → EngineState 
       }
 
   -- there is no further line
-  pub plays_out : (now : Option (List ℕ)) → IsStreamedBehind head text now p.done.events p.done.left → (after : Option (List ℕ)) → ((t : List ℕ) → ahead ≡ Some t → IsEventRead head (length p.done.events) t after (Ok None)) → IsOver takes stands_for head s0 text now held told home w (Ok tt)
-  plays_out now streamed after f = (p.done, streamed, p.stands, λ t q. (f (p.done.left t q).0 (p.is_left t q)).1.0)
+  pub plays_out : (now : Option (List ℕ)) → IsStreamedBehind head text now p.done.events p.done.left → (after : Option (List ℕ)) → ((t : List ℕ) → ahead ≡ Some t → IsEventRead head (length p.done.events) t after (Ok None)) → IsOver takes stands_for head s0 text now held told home w (Ok (number - 1))
+  plays_out now streamed after f = (p.done, streamed, p.stands, λ t q. (f (p.done.left t q).0 (p.is_left t q)).1.0, let c = p.counted in omega (arith, c))
 
   stops : (now : Option (List ℕ)) → IsStreamedBehind head text now p.done.events p.done.left → (why : Status) (after : Option (List ℕ)) → ((t : List ℕ) → ahead ≡ Some t → IsEventRead head (length p.done.events) t after (Err why)) → HasStopped takes stands_for head s0 text now held told home w why
   stops now streamed why after f = record { done = p.done; streamed = streamed; stands = p.stands; cause = λ t q. f (p.done.left t q).0 (p.is_left t q) }
@@ -239,7 +239,7 @@ untold takes stands_for s number e held old new w (world.Old spot) h left before
 untold takes stands_for s number e held old new w world.Memory h left before met = inl (refl, left.0)
 
 -- how the directory ended
-pub ended_as : (old new : HomeView) (fault : WorldFault) → HasEndedAs fault old new → HasEnded old new (Err (of_world fault))
+pub ended_as : (old new : HomeView) (fault : WorldFault) → HasEndedAs fault old new → HasEnded old new (of_world fault)
 ended_as old new (world.Device spot) h = h
 ended_as old new (world.Differs spot place kept got) h = h
 ended_as old new (world.InUse spot) h = absurd h
@@ -261,7 +261,7 @@ not_write (world.Old spot) e = let z : status.OldLog spot ≡ status.Write = e i
 not_write world.Memory e = let z : status.Memory ≡ status.Write = e in cc
 
 -- a text that was put met no fault of the directory
-pub put_ended : (text : List ℕ) (held told : Option (List ℕ)) (old new : HomeView) (o : Result (Unit {0}) Status) → new.faults ≡ old.faults → IsTextPut text held told o → HasEnded old new o
+pub put_ended : (text : List ℕ) (held told : Option (List ℕ)) (old new : HomeView) (o : Result (Unit {0}) Status) → new.faults ≡ old.faults → IsTextPut text held told o → HasEnded old new (status_of o)
 put_ended text held told old new (Ok u) q p = q
 put_ended text held told old new (Err (status.Device spot)) q p = absurd p
 put_ended text held told old new (Err (status.Differs spot place kept got)) q p = absurd p
@@ -315,14 +315,13 @@ head_changes takes stands_for w head z old new r ready rest =
     (subst (λ m. OnlyOwnFilesChange m (length w.cluster.coords.items) old new) (r.cluster.kinds ∙ ap length ready.kinds) rest)
 
 -- a fault behind calls that met none
-pub ended_behind : (old mid new : HomeView) (o : Result (Unit {0}) Status) → mid.faults ≡ old.faults → ((s : Spot) → mid.file s ≡ None → old.file s ≡ None) → HasEnded mid new o → HasEnded old new o
-ended_behind old mid new (Ok u) same told h = h ∙ same
-ended_behind old mid new (Err (status.Device spot)) same told h = (subst (λ n. HasRisen n new.faults) same h.0, h.1)
-ended_behind old mid new (Err (status.Differs spot place kept got)) same told h = (h.0 ∙ same, told spot h.1, h.2)
-ended_behind old mid new (Err _) same told h = h ∙ same
+pub ended_behind : (old mid new : HomeView) (ended : Status) → mid.faults ≡ old.faults → ((s : Spot) → mid.file s ≡ None → old.file s ≡ None) → HasEnded mid new ended → HasEnded old new ended
+ended_behind old mid new (status.Device spot) same told h = (subst (λ n. HasRisen n new.faults) same h.0, h.1)
+ended_behind old mid new (status.Differs spot place kept got) same told h = (h.0 ∙ same, told spot h.1, h.2)
+ended_behind old mid new _ same told h = h ∙ same
 
 -- a line that gave no event
-pub read_ended : (old new : HomeView) (why : Status) → IsReadStatus why → new.faults ≡ old.faults → HasEnded old new (Err why)
+pub read_ended : (old new : HomeView) (why : Status) → IsReadStatus why → new.faults ≡ old.faults → HasEnded old new why
 read_ended old new (status.Device spot) own same = absurd own
 read_ended old new (status.Differs spot place kept got) own same = absurd own
 read_ended old new _ own same = same

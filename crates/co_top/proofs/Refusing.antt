@@ -1,7 +1,6 @@
 -- A run whose files are refused ends with that refusal.
 use Rattle.std.proofs.Common.{◌≡◌, ◌⊎◌, inl, inr, ℕ, Bool, List, length, Option, ap, subst}
 use Rattle.co_base.specs.declared.head.Head.{Head}
-use Rattle.co_outside.specs.declared.spot.Spot.{Spot}
 use Rattle.co_outside.specs.Home.{HomeView}
 use Rattle.co_durable.specs.Told.{AreTold}
 use Rattle.co_durable.specs.declared.fault.WorldFault.{WorldFault}
@@ -24,7 +23,7 @@ module _ {H : Type 0} (seen : H → HomeView) (resume : Bool) (input held : List
   Given ended = (ended ≡ of_world why) ⊎ HasGivenWay ended
 
   -- nothing was run
-  never_ran : Ran resume input (seen old).file → ⊥
+  pub never_ran : Ran resume input (seen old).file → ⊥
   never_ran r =
       let same : head ≡ r.head = one_head input head r.head text r.text headed r.headed in
       let files : AreTold (seen old).file (length r.head.kinds) r.head.coords = subst (λ (h : Head). AreTold (seen old).file (length h.kinds) h.coords) same are_told in

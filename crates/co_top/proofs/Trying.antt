@@ -1,14 +1,8 @@
 -- How a trial ends, by how the line of its summary was put.
-use Rattle.std.proofs.Common.{◌≡◌, ◌≤◌, ◌&&◌, ◌||◌, Bool, true, false, sym, ◌∙◌, inr, ℕ, List, [], ◌∷◌, Option, Some, Result, Ok, Err, subst}
+use Rattle.std.proofs.Common.{◌≡◌, inr, ℕ, List, Option, Some, Result, Ok, Err, subst}
 use Rattle.co_outside.specs.declared.spot.Spot.{Spot}
-use Rattle.std.specs.Prelude.{codes}
-use Rattle.std.specs.String.{string_bytes}
-use Rattle.std.specs.declared.string.String.{String}
-use Rattle.co_schedule.proofs.Numbers.{both, is_number-true}
-use Rattle.co_schedule.specs.Places.{is_number}
-use Rattle.co_trial.specs.Trials.{IsTrial, most_trial_events}
+use Rattle.co_trial.specs.Trials.{IsTrial}
 use Rattle.co_trial.specs.declared.summary.Summary.{Summary}
-use Rattle.co_top.specs.Command.{is_word, is_trial, trial_events}
 use Rattle.co_top.specs.Replayed.{status_of}
 use Rattle.co_top.specs.Trials.{IsSummaryTold, IsOfTrial, IsTrialEnd}
 use Rattle.co_top.specs.declared.status.Status.{Status}
@@ -64,31 +58,3 @@ not_device s spot own is = subst IsOfTrial is own
 pub write_of : (result : Result (Unit {0}) Status) → status_of result ≡ status.Write → result ≡ Err status.Write
 write_of (Ok u) e = absurd (let z : status.Done ≡ status.Write = e in cc)
 write_of (Err why) e = let z : why ≡ status.Write = e in cc
-
--- the number of events of a trial is within its bounds
-pub trial_within : {A : Type 0} (words : List (String A)) → is_trial words ≡ true → (1 ≤ trial_events words) × (trial_events words ≤ most_trial_events)
-trial_within [] e = absurd cc
-trial_within (word ∷ []) e = absurd cc
-trial_within (word ∷ number ∷ []) e = absurd cc
-trial_within (word ∷ number ∷ events ∷ []) e =
-    let a = both (is_word (codes "trial") word) (is_number 0 18446744073709551615 (string_bytes number) && is_number 1 most_trial_events (string_bytes events)) e in
-    let b = both (is_number 0 18446744073709551615 (string_bytes number)) (is_number 1 most_trial_events (string_bytes events)) a.1 in
-    let c = is_number-true 1 most_trial_events (string_bytes events) b.1 in
-    (c.0, c.1)
-trial_within (word ∷ number ∷ events ∷ other ∷ words) e = absurd cc
-
--- a trial is a command
-pub is_a_trial : (run records check trial waits : Bool) → trial ≡ true → (run || (records || (check || (trial || waits)))) ≡ false → ⊥
-is_a_trial true records check trial waits is none = let z : true ≡ false = none in cc
-is_a_trial false true check trial waits is none = let z : true ≡ false = none in cc
-is_a_trial false false true trial waits is none = let z : true ≡ false = none in cc
-is_a_trial false false false true waits is none = let z : true ≡ false = none in cc
-is_a_trial false false false false waits is none = let z : false ≡ true = is in cc
-
--- and so are held votes
-pub is_for_waits : (run records check trial waits : Bool) → waits ≡ true → (run || (records || (check || (trial || waits)))) ≡ false → ⊥
-is_for_waits true records check trial waits is none = let z : true ≡ false = none in cc
-is_for_waits false true check trial waits is none = let z : true ≡ false = none in cc
-is_for_waits false false true trial waits is none = let z : true ≡ false = none in cc
-is_for_waits false false false true waits is none = let z : true ≡ false = none in cc
-is_for_waits false false false false waits is none = let z : true ≡ false = sym is ∙ none in cc

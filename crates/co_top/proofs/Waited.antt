@@ -1,10 +1,9 @@
 -- How the writing of held votes ends.
-use Rattle.std.proofs.Common.{◌≡◌, ◌⊎◌, inl, inr, ℕ, List, ◌++◌, Option, Some, Result, Ok, Err, refl, sym, ap, ◌∙◌, subst}
-use Rattle.co_outside.specs.declared.spot.Spot.{Spot}
-use Rattle.co_top.specs.Following.{IsUnreached, NoHead, IsOfSchedule}
+use Rattle.std.proofs.Common.{◌≡◌, inl, inr, ℕ, List, Option, Some, Result, Ok, Err, refl, subst}
+use Rattle.co_top.specs.Following.{IsOfSchedule}
 use Rattle.co_top.specs.Replayed.{status_of}
 use Rattle.co_top.specs.Telling.{IsTextPut}
-use Rattle.co_top.specs.Waiting.{HasWaits, text_of_waits, IsWaitsEnd, Written, CutOff, Unwritten, IsOfWaits}
+use Rattle.co_top.specs.Waiting.{HasWaits, text_of_waits, IsWaitsEnd, Written, CutOff, IsOfWaits}
 use Rattle.co_top.specs.declared.status.Status.{Status}
 use Rattle.co_top.specs.declared.status.Status.TheVariants as status
 

@@ -1,5 +1,5 @@
 -- How a command ends: its exit status, its note, and which status stands for a fault.
-use Rattle.std.specs.Prelude.{ℕ, ◌≡◌, ◌++◌, ◌∷◌, ◌/◌, ◌%◌, List, [], take, Option, None, Some, codes, decimal, slice_index_or}
+use Rattle.std.specs.Prelude.{ℕ, ◌++◌, ◌∷◌, ◌/◌, ◌%◌, List, [], Option, None, Some, codes, decimal, slice_index_or}
 use Rattle.co_outside.specs.Spots.{spot_name}
 use Rattle.co_durable.specs.declared.fault.WorldFault.{WorldFault}
 use Rattle.co_durable.specs.declared.fault.WorldFault.TheVariants as world
@@ -70,10 +70,6 @@ abbrev pub note_of : Status → List ℕ
 note_of status.Done = []
 note_of (status.NotSerial txn line) = []
 note_of ended = words_of ended ++ 10 ∷ []
-
--- the note, or a front of it where it could not be put whole
-abbrev pub IsNoted : List ℕ → List ℕ → Option (List ℕ) → Type 0
-IsNoted held note told = (count : ℕ) × (told ≡ Some (held ++ take count note))
 
 abbrev pub of_world : WorldFault → Status
 of_world (world.Device spot) = status.Device spot

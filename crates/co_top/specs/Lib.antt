@@ -6,6 +6,7 @@ pub mod Played
 pub mod Telling
 pub mod Views
 pub mod Ran
+pub mod PlayedOut
 pub mod Headline
 pub mod Replayed
 pub mod Records
@@ -15,3 +16,6 @@ pub mod Running
 pub mod Trials
 pub mod Following
 pub mod Waiting
+pub mod Resolving
+pub mod Turns
+pub mod Migrating

@@ -1,5 +1,5 @@
 -- How far the lines behind a head were done, what was told of them, and for what the federation stands then.
-use Rattle.std.specs.Prelude.{ℕ, ◌≡◌, ◌⊎◌, List, [], ◌++◌, length, take, Option, Some, Result, Ok, Err}
+use Rattle.std.specs.Prelude.{ℕ, suc, ◌≡◌, ◌⊎◌, List, [], ◌++◌, length, take, Option, Some, Result, Ok, Err}
 use Rattle.std.specs.List.{AllByRecursion}
 use Rattle.co_base.specs.declared.head.Head.{Head}
 use Rattle.co_base.specs.declared.head.Kind.{Kind}
@@ -99,10 +99,10 @@ pub record HasStopped {E : Type 0} (takes : Kind → Type 0) (stands_for : E →
   pub stands : StandsFor takes stands_for s0 home w done.events
   pub cause : (t : List ℕ) (e : text ≡ Some t) → IsLineFault head (length done.events) (done.left t e).0 ended
 
--- How the lines behind a head end, by the status.
-abbrev pub IsOver : {E : Type 0} → (Kind → Type 0) → (E → EngineState → Type 0) → Head → Federation → Option (List ℕ) → Option (List ℕ) → Option (List ℕ) → Option (List ℕ) → HomeView → World E → Result (Unit {0}) Status → Type 0
-IsOver takes stands_for head s0 text now held told home w (Ok u) =
-    (done : IsTold head s0 text held told) × IsStreamedBehind head text now done.events done.left × StandsFor takes stands_for s0 home w done.events × ((t : List ℕ) (e : text ≡ Some t) → (done.left t e).0 ≡ [])
+-- How the lines behind a head end, by the status: at the end of the text with the number of the last line.
+abbrev pub IsOver : {E : Type 0} → (Kind → Type 0) → (E → EngineState → Type 0) → Head → Federation → Option (List ℕ) → Option (List ℕ) → Option (List ℕ) → Option (List ℕ) → HomeView → World E → Result ℕ Status → Type 0
+IsOver takes stands_for head s0 text now held told home w (Ok number) =
+    (done : IsTold head s0 text held told) × IsStreamedBehind head text now done.events done.left × StandsFor takes stands_for s0 home w done.events × ((t : List ℕ) (e : text ≡ Some t) → (done.left t e).0 ≡ []) × (number ≡ suc (length done.events))
 IsOver takes stands_for head s0 text now held told home w (Err (status.Schedule line what)) = HasStopped takes stands_for head s0 text now held told home w (status.Schedule line what)
 IsOver takes stands_for head s0 text now held told home w (Err (status.Limit (limit.Line line))) = HasStopped takes stands_for head s0 text now held told home w (status.Limit (limit.Line line))
 IsOver takes stands_for head s0 text now held told home w (Err (status.Limit limit.Lines)) = HasStopped takes stands_for head s0 text now held told home w (status.Limit limit.Lines)

@@ -14,8 +14,8 @@ use Rattle.co_top.specs.declared.status.LimitKind.TheVariants as limit
 use Rattle.co_top.specs.declared.status.Status.{Status}
 use Rattle.co_top.specs.declared.status.Status.TheVariants as status
 
-abbrev pub status_of : Result (Unit {0}) Status → Status
-status_of (Ok u) = status.Done
+abbrev pub status_of : {A : Type 0} → Result A Status → Status
+status_of (Ok a) = status.Done
 status_of (Err ended) = ended
 
 -- the text of the first line: the head, and what opening told

@@ -39,9 +39,9 @@ IsTextPut text held told (Err status.Memory) = IsPutInPart text held told
 IsTextPut text held told (Err _) = ⊥
 
 -- The directory failed at the file that the status names, or it met no fault; only a file that it does not tell can differ.
-abbrev pub HasEnded : HomeView → HomeView → Result (Unit {0}) Status → Type 0
-HasEnded old new (Err (status.Device spot)) = HasRisen old.faults new.faults × (new.last_failed ≡ spot)
-HasEnded old new (Err (status.Differs spot at kept read)) = (new.faults ≡ old.faults) × (old.file spot ≡ None) × (spot.part < 2)
+abbrev pub HasEnded : HomeView → HomeView → Status → Type 0
+HasEnded old new (status.Device spot) = HasRisen old.faults new.faults × (new.last_failed ≡ spot)
+HasEnded old new (status.Differs spot at kept read) = (new.faults ≡ old.faults) × (old.file spot ≡ None) × (spot.part < 2)
 HasEnded old new _ = new.faults ≡ old.faults
 
 -- the federation stands for the state that the event leaves, and the directory holds its logs

@@ -54,7 +54,7 @@ fn do_event<E: Engine + Drop>(
     }
 }
 
-/// Does the lines behind the head, up to the end or to the first line that gives no event.
+/// Does the lines behind the head, up to the end or to the first line that gives no event. Gives the number of the last line.
 fn follow_lines<E: Engine + Drop, S: Source>(
     alloc: Global,
     lines: &mut Lines,
@@ -62,7 +62,7 @@ fn follow_lines<E: Engine + Drop, S: Source>(
     head: &Head,
     world: &mut World<E>,
     home: &mut CalmHome,
-) -> Result<(), Status>
+) -> Result<u32, Status>
     requires read { HasRead 1 lines.old }
     requires held { AreHeld (calm_seen home.old.memory) world.old }
     requires stands { (s0 : Federation) × RepresentsWorld E.takes E.stands_for world.old s0 × StaysReady head.now s0 }
@@ -75,7 +75,7 @@ fn follow_lines<E: Engine + Drop, S: Source>(
     for number in 2..LINES + 2 {
         match event_of(alloc, lines, source, head, number)? {
             Some(event) => do_event(world, home, number, event)?,
-            None => return Ok(()),
+            None => return Ok(number - 1),
         }
     }
     unreachable!()
@@ -98,7 +98,7 @@ pub(crate) fn reached<E: Engine + Drop, S: Source>(
     let mut home = CalmHome::new(alloc);
     let (mut world, _) = attach::<E, CalmHome>(alloc, &mut home, &head, false)?;
     match follow_lines(alloc, &mut lines, source, &head, &mut world, &mut home) {
-        Ok(()) => Ok(world),
+        Ok(_) => Ok(world),
         Err(status) => {
             drop(world);
             Err(status)

@@ -94,7 +94,7 @@ fn tell_event<E: Engine + Drop, K: Sink, H: Home>(
         IsToldOf E.takes E.stands_for s number event (K.told out.old) (K.told out.new) (H.seen home.new) world.new result }
     ensures rest { OnlyOwnFilesChange (length world.old.cluster.members.items) (length world.old.cluster.coords.items) (H.seen home.old) (H.seen home.new) }
     ensures clean { IsBetween (status_of result) → (s : Spot) → IsClean (H.seen home.old) s → IsClean (H.seen home.new) s }
-    ensures ended { HasEnded (H.seen home.old) (H.seen home.new) result }
+    ensures ended { HasEnded (H.seen home.old) (H.seen home.new) (status_of result) }
     ensures failed { IsErrOf result Status.Write → HasRisen (K.faults out.old) (K.faults out.new) }
     ensures quiet { (IsErrOf result Status.Write → ⊥) → K.faults out.new ≡ K.faults out.old }
 {
@@ -104,7 +104,7 @@ fn tell_event<E: Engine + Drop, K: Sink, H: Home>(
     }
 }
 
-/// Does and tells the lines behind the head, up to the end or to the first line that gives no event.
+/// Does and tells the lines behind the head, up to the end or to the first line that gives no event. Gives the number of the last line.
 pub(crate) fn replay_lines<E: Engine + Drop, S: Source, K: Sink, H: Home>(
     alloc: Global,
     lines: &mut Lines,
@@ -113,15 +113,16 @@ pub(crate) fn replay_lines<E: Engine + Drop, S: Source, K: Sink, H: Home>(
     world: &mut World<E>,
     home: &mut H,
     out: &mut K,
-) -> Result<(), Status>
+) -> Result<u32, Status>
     requires read { HasRead 1 lines.old }
     requires held { AreHeld (H.seen home.old) world.old }
     requires stands { (s0 : Federation) × RepresentsWorld E.takes E.stands_for world.old s0 × StaysReady head.now s0 }
     ensures over { (s0 : Federation) → RepresentsWorld E.takes E.stands_for world.old s0 → StaysReady head.now s0 →
         IsOver E.takes E.stands_for head.now s0 (ahead lines.old (S.left source.old)) (S.left source.new) (K.told out.old) (K.told out.new) (H.seen home.new) world.new result }
+    ensures few { IfOk result (λ number. number ≤ 262144) }
     ensures rest { OnlyOwnFilesChange (length head.now.kinds) head.now.coords (H.seen home.old) (H.seen home.new) }
     ensures clean { IsBetween (status_of result) → (s : Spot) → IsClean (H.seen home.old) s → IsClean (H.seen home.new) s }
-    ensures ended { HasEnded (H.seen home.old) (H.seen home.new) result }
+    ensures ended { HasEnded (H.seen home.old) (H.seen home.new) (status_of result) }
     ensures failed { IsErrOf result Status.Write → HasRisen (K.faults out.old) (K.faults out.new) }
     ensures read { IsErrOf result Status.Read → HasRisen (S.faults source.old) (S.faults source.new) }
     ensures quiet_source { (IsErrOf result Status.Read → ⊥) → S.faults source.new ≡ S.faults source.old }
@@ -130,7 +131,7 @@ pub(crate) fn replay_lines<E: Engine + Drop, S: Source, K: Sink, H: Home>(
     for number in 2..LINES + 2 {
         match event_of(alloc, lines, source, head, number)? {
             Some(event) => tell_event(alloc, world, home, out, number, event)?,
-            None => return Ok(()),
+            None => return Ok(number - 1),
         }
     }
     unreachable!()

@@ -14,6 +14,7 @@ ghost use Rattle.co_world.specs.Standing.{AreHeld};
 ghost use Rattle.co_schedule.specs.Lines.{ahead};
 ghost use Rattle.co_top.specs.Front.{HasRead, IsHeadFault, IsStreamed};
 ghost use Rattle.co_top.specs.Heads.{IsEnding, IsHeadRead, IsReadStatus};
+ghost use Rattle.co_top.specs.PlayedOut.{HasPlayedOut};
 ghost use Rattle.co_top.specs.Ran.{IsRunEnd};
 ghost use Rattle.co_top.specs.Running.{AreOthersKept, IsBetween};
 ghost use Rattle.co_opening.specs.Rest.{AreFoundOrMade, OnlyOpens};
@@ -165,19 +166,31 @@ pub(crate) fn read_first<S: Source>(alloc: Global, source: &mut S) -> Result<(Li
     Ok((lines, head))
 }
 
-/// Replays the schedule of the source over the logs of a directory, up to its end or to what ends it before.
-fn replayed<E: Engine + Drop, S: Source, K: Sink, H: Home>(
+/// A federation behind the last line of its schedule.
+#[derive(Drop)]
+pub(crate) struct Ended<E> {
+    /// What the lines left.
+    pub(crate) world: World<E>,
+    /// How many members the head has.
+    pub(crate) members: u8,
+    /// The number of the last line.
+    pub(crate) number: u32,
+}
+
+/// Replays the schedule of the source over the logs of a directory, up to its end or to what ends it before. Gives what its last line left.
+pub(crate) fn replay_to_end<E: Engine + Drop, S: Source, K: Sink, H: Home>(
     alloc: Global,
     directory: &str,
     resume: bool,
     source: &mut S,
     out: &mut K,
     home: &mut H,
-) -> Result<(), Status>
+) -> Result<Ended<E>, Status>
     requires kinds { (kind : Kind) → E.takes kind }
     ensures end { (input held : List ℕ) → S.left source.old ≡ Some input → K.told out.old ≡ Some held →
         IsRunEnd H.seen resume input (S.left source.new) held (K.told out.new) home.old home.new (status_of result) }
     ensures others { (input : List ℕ) → S.left source.old ≡ Some input → AreOthersKept input (H.seen home.old).file (H.seen home.new).file }
+    ensures reached { IfOk result (HasPlayedOut E.takes E.stands_for resume (S.left source.old) (S.left source.new) (K.told out.old) (K.told out.new) (H.seen home.old).file (H.seen home.new)) }
     ensures own { IfErr result IsEnding }
     ensures entered { OnOk result ((H.seen home.new).entered ≡ Some directory.now) }
     ensures read { IsErrOf result Status.Read → HasRisen (S.faults source.old) (S.faults source.new) }
@@ -191,9 +204,17 @@ fn replayed<E: Engine + Drop, S: Source, K: Sink, H: Home>(
     let (mut lines, head) = read_first(alloc, source)?;
     let (mut world, items) = open::<E, H>(alloc, home, directory, &head, resume)?;
     let head = tell_opening(alloc, out, head, items.as_slice())?;
-    let ended = replay_lines(alloc, &mut lines, source, &head, &mut world, home, out);
-    drop(world);
-    ended
+    match replay_lines(alloc, &mut lines, source, &head, &mut world, home, out) {
+        Ok(number) => Ok(Ended {
+            world,
+            members: head.kinds.len() as u8,
+            number,
+        }),
+        Err(status) => {
+            drop(world);
+            Err(status)
+        }
+    }
 }
 
 /// Replays the schedule of the source over the logs of a directory: over fresh ones, or over those that a run left. The engine is one that takes every kind.
@@ -219,8 +240,11 @@ pub(crate) fn replay<E: Engine + Drop, S: Source, K: Sink, H: Home>(
     ensures quiet_home { ((spot : Spot) → result ≡ Status.Device spot → ⊥) → (H.seen home.new).faults ≡ (H.seen home.old).faults }
     ensures clean { IsBetween result → (s : Spot) → IsClean (H.seen home.old) s → IsClean (H.seen home.new) s }
 {
-    match replayed::<E, S, K, H>(alloc, directory, resume, source, out, home) {
-        Ok(()) => Status::Done,
+    match replay_to_end::<E, S, K, H>(alloc, directory, resume, source, out, home) {
+        Ok(ended) => {
+            drop(ended);
+            Status::Done
+        }
         Err(status) => status,
     }
 }

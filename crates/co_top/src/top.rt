@@ -1,26 +1,32 @@
 //! The top call.
-ghost use Rattle.std.specs.Prelude.{◌≡◌, ◌≤◌, ◌↔◌, ℕ, List, [], Some, true, false, length};
+ghost use Rattle.std.specs.Prelude.{◌≡◌, ◌≤◌, ◌↔◌, ℕ, Bool, List, [], Some, length};
 ghost use Rattle.co_durable.specs.Told.{AreTold};
 ghost use Rattle.co_top.specs.Checking.{ChecksAs};
-ghost use Rattle.co_top.specs.Command.{is_run, is_records, is_check, is_trial, is_waits, is_command, resumes, directory_of, trial_number, trial_events};
-ghost use Rattle.co_top.specs.Ends.{IsNoted, note_of};
+ghost use Rattle.co_top.specs.Command.{AsksRun, AsksRecords, AsksResolve, AsksMigrate, AsksCheck, AsksWaits, AsksTrial, AsksNothing, asked_by};
+ghost use Rattle.co_outside.specs.Sink.{HasNoted};
+ghost use Rattle.co_top.specs.Ends.{note_of};
 ghost use Rattle.co_top.specs.Headline.{IsWholeRun};
+ghost use Rattle.co_top.specs.Migrating.{MigratesAs};
 ghost use Rattle.co_top.specs.Ran.{Ran};
 ghost use Rattle.co_top.specs.Records.{WritesRecords};
+ghost use Rattle.co_top.specs.Resolving.{ResolvesAs};
 ghost use Rattle.co_top.specs.Running.{RunsAs};
 ghost use Rattle.co_top.specs.Trials.{TriesAs};
 ghost use Rattle.co_top.specs.Views.{source_seen, sink_seen};
 ghost use Rattle.co_top.specs.Waiting.{WaitsAs};
 
 use crate::checking::check;
+use crate::migrating::migrate;
+use crate::note::note_of;
 use crate::records::records;
 use crate::replay::replay;
-use crate::status::{Status, put_note};
+use crate::resolving::resolve;
+use crate::status::Status;
 use crate::trials::trial;
 use crate::waiting::waits;
 use crate::words::{Command, command_of};
 use co_any::AnyEngine;
-use co_outside::{Home, Sink, Source, put_all};
+use co_outside::{Home, Sink, SinkFault, Source, put_all};
 use std::alloc::Global;
 
 /// Runs a command: its words, without the name of the program, the source of a schedule or a transcript, the sink of what the command writes, the
@@ -43,6 +49,16 @@ use std::alloc::Global;
 /// writes no file. `Device` comes only where the home failed, `Limit` where a file is too long and `BadLog` where the files of a node are no
 /// log, or a record stands where it may not, each at the first such file; `Write` only where the sink of the records failed.
 ///
+/// `resolve DIR` does what `run DIR` does over fresh logs, with its statuses by the same causes. Where the schedule was done to its end, the members that are in doubt then take their turns, listed once, ascending by
+/// transaction and then by member: each asks the other members, ascending, until one tells a commit or an abort (cooperative termination: Skeen, Nonblocking commit protocols, SIGMOD 1981). A verdict is told as the
+/// message `decide` that the coordinator would have sent, behind the timer that lets the other member go where the transaction is active there; the numbers follow that of the last line. Every verdict is true, so all
+/// that is promised of a run holds of the run with its verdicts. Last comes a line `doubt T M` for each doubt that remains, of members that are up. Where the schedule was not done to its end nobody is asked.
+///
+/// `migrate DIR` enters the directory, and makes it where it is missing, and fills the logs of version 1 of 16 members and 8 coordinators there: the spare file of each such node is closed where it is not,
+/// and filled in version 2 with what the log tells, as a checkpoint does, members ascending and then coordinators; it writes `migrated N`, N the number of nodes that were filled. All files are read and judged before the
+/// first write: `BadLog` and `Limit` come then as of `records`, and no file is changed. `Limit` comes also at a node whose filled file would be too long, or that has no next generation, with the earlier nodes filled.
+/// `Device` comes only where the home failed, `Write` only where the sink failed. A node of version 2, and one without a log, stays as it is.
+///
 /// `check` reads a transcript from the source, and trusts nothing that wrote it. Where its lines are items, and well shaped, as those of a run over
 /// fresh logs are, it judges the committed transactions: each has to have been answered, before its decision, as when run whole behind the earlier
 /// decisions. Where all were, it writes `serial N` and then the records of that serial run, N the number of decisions; else `not serial T LINE`, and
@@ -61,7 +77,7 @@ use std::alloc::Global;
 /// how many events settling took. NUMBER is 0 to 18,446,744,073,709,551,615 and EVENTS 1 to 60,000, in decimal digits. It reads nothing, and the
 /// directory is not touched; `Write` comes only where the sink failed.
 ///
-/// Every other list of words is `Usage`, and changes nothing but the sink of notes.
+/// Every other list of words is `Usage`, and changes nothing but the sink of notes. A note is put whole, or its sink failed or had no memory; it wants none itself.
 pub fn run<S: Source, K: Sink, N: Sink, H: Home>(
     alloc: Global,
     words: &[String],
@@ -70,23 +86,29 @@ pub fn run<S: Source, K: Sink, N: Sink, H: Home>(
     notes: &mut N,
     home: &mut H,
 ) -> Status
-    ensures headline { (input held : List ℕ) → is_run words.now ≡ true → S.left source.old ≡ Some input → K.told out.old ≡ Some held → result ≡ Status.Done →
-        (r : Ran (resumes words.now) input (H.seen home.old).file) → AreTold (H.seen home.old).file (length r.head.kinds) r.head.coords → r.rest ≡ [] → IsWholeRun r held (H.seen home.new).file (K.told out.new) }
-    ensures usage { ((result ≡ Status.Usage) ↔ (is_command words.now ≡ false)) × (result ≡ Status.Usage → (source.new ≡ source.old) × (out.new ≡ out.old) × (home.new ≡ home.old)) }
-    ensures run { is_run words.now ≡ true →
-        RunsAs H.seen (resumes words.now) (directory_of words.now) (source_seen (S.left source.old) (S.faults source.old)) (source_seen (S.left source.new) (S.faults source.new))
+    ensures headline { (directory input held : List ℕ) (resume : Bool) → asked_by words.now ≡ AsksRun directory resume → S.left source.old ≡ Some input → K.told out.old ≡ Some held → result ≡ Status.Done →
+        (r : Ran resume input (H.seen home.old).file) → AreTold (H.seen home.old).file (length r.head.kinds) r.head.coords → r.rest ≡ [] → IsWholeRun r held (H.seen home.new).file (K.told out.new) }
+    ensures usage { ((result ≡ Status.Usage) ↔ (asked_by words.now ≡ AsksNothing)) × (result ≡ Status.Usage → (source.new ≡ source.old) × (out.new ≡ out.old) × (home.new ≡ home.old)) }
+    ensures run { (directory : List ℕ) (resume : Bool) → asked_by words.now ≡ AsksRun directory resume →
+        RunsAs H.seen resume directory (source_seen (S.left source.old) (S.faults source.old)) (source_seen (S.left source.new) (S.faults source.new))
         (sink_seen (K.told out.old) (K.faults out.old)) (sink_seen (K.told out.new) (K.faults out.new)) home.old home.new result }
-    ensures records { is_records words.now ≡ true → (source.new ≡ source.old)
-        × WritesRecords (directory_of words.now) (sink_seen (K.told out.old) (K.faults out.old)) (sink_seen (K.told out.new) (K.faults out.new)) (H.seen home.old) (H.seen home.new) result }
-    ensures check { is_check words.now ≡ true → (home.new ≡ home.old)
+    ensures records { (directory : List ℕ) → asked_by words.now ≡ AsksRecords directory → (source.new ≡ source.old)
+        × WritesRecords directory (sink_seen (K.told out.old) (K.faults out.old)) (sink_seen (K.told out.new) (K.faults out.new)) (H.seen home.old) (H.seen home.new) result }
+    ensures resolve { (directory : List ℕ) → asked_by words.now ≡ AsksResolve directory →
+        ResolvesAs H.seen directory (source_seen (S.left source.old) (S.faults source.old)) (source_seen (S.left source.new) (S.faults source.new))
+        (sink_seen (K.told out.old) (K.faults out.old)) (sink_seen (K.told out.new) (K.faults out.new)) home.old home.new result }
+    ensures migrate { (directory : List ℕ) → asked_by words.now ≡ AsksMigrate directory → (source.new ≡ source.old)
+        × MigratesAs directory (sink_seen (K.told out.old) (K.faults out.old)) (sink_seen (K.told out.new) (K.faults out.new)) (H.seen home.old) (H.seen home.new) result }
+    ensures check { asked_by words.now ≡ AsksCheck → (home.new ≡ home.old)
         × ChecksAs (source_seen (S.left source.old) (S.faults source.old)) (source_seen (S.left source.new) (S.faults source.new))
         (sink_seen (K.told out.old) (K.faults out.old)) (sink_seen (K.told out.new) (K.faults out.new)) result }
-    ensures trial { is_trial words.now ≡ true → (source.new ≡ source.old) × (home.new ≡ home.old)
-        × TriesAs (trial_number words.now) (trial_events words.now) (sink_seen (K.told out.old) (K.faults out.old)) (sink_seen (K.told out.new) (K.faults out.new)) result }
-    ensures waits { is_waits words.now ≡ true → (home.new ≡ home.old)
+    ensures trial { (number events : ℕ) → asked_by words.now ≡ AsksTrial number events → (source.new ≡ source.old) × (home.new ≡ home.old)
+        × TriesAs number events (sink_seen (K.told out.old) (K.faults out.old)) (sink_seen (K.told out.new) (K.faults out.new)) result }
+    ensures waits { asked_by words.now ≡ AsksWaits → (home.new ≡ home.old)
         × WaitsAs (source_seen (S.left source.old) (S.faults source.old)) (source_seen (S.left source.new) (S.faults source.new))
         (sink_seen (K.told out.old) (K.faults out.old)) (sink_seen (K.told out.new) (K.faults out.new)) result }
-    ensures noted { (held : List ℕ) → N.told notes.old ≡ Some held → IsNoted held (note_of result) (N.told notes.new) }
+    ensures noted { (held : List ℕ) → N.told notes.old ≡ Some held →
+        HasNoted held (note_of result) (N.told notes.new) (N.faults notes.old) (N.faults notes.new) (N.lacks notes.old) (N.lacks notes.new) }
     ensures counts { N.faults notes.old ≤ N.faults notes.new }
 {
     match command_of(words) {
@@ -96,6 +118,14 @@ pub fn run<S: Source, K: Sink, N: Sink, H: Home>(
         }
         Command::Records { directory } => {
             let status = records(alloc, directory, out, home);
+            told(alloc, notes, status)
+        }
+        Command::Resolve { directory } => {
+            let status = resolve::<AnyEngine, S, K, H>(alloc, directory, source, out, home);
+            told(alloc, notes, status)
+        }
+        Command::Migrate { directory } => {
+            let status = migrate(alloc, directory, out, home);
             told(alloc, notes, status)
         }
         Command::Check => {
@@ -114,27 +144,16 @@ pub fn run<S: Source, K: Sink, N: Sink, H: Home>(
     }
 }
 
-/// The status again, with its note put. A failed note changes nothing.
+/// The status again, with its note put: whole, or a front of it where the sink failed or had no memory. That changes nothing else.
 fn told<N: Sink>(alloc: Global, notes: &mut N, status: Status) -> Status
     ensures same { result ≡ status }
-    ensures noted { (held : List ℕ) → N.told notes.old ≡ Some held → IsNoted held (note_of status) (N.told notes.new) }
+    ensures noted { (held : List ℕ) → N.told notes.old ≡ Some held →
+        HasNoted held (note_of status) (N.told notes.new) (N.faults notes.old) (N.faults notes.new) (N.lacks notes.old) (N.lacks notes.new) }
     ensures counts { N.faults notes.old ≤ N.faults notes.new }
 {
-    let mut note = Vec::new(alloc);
-    match put_note(alloc, &status, &mut note) {
-        Ok(()) => put_front(alloc, notes, note.as_slice()),
-        Err(_) => {}
+    let note = note_of(&status);
+    match put_all(alloc, notes, note.as_slice()) {
+        Ok(()) | Err(SinkFault::Failed) | Err(SinkFault::Memory) => {}
     }
     status
-}
-
-/// Puts a piece, or a front of it where the sink fails.
-fn put_front<N: Sink>(alloc: Global, notes: &mut N, piece: &[u8])
-    ensures noted { (held : List ℕ) → N.told notes.old ≡ Some held → IsNoted held piece.now (N.told notes.new) }
-    ensures counts { N.faults notes.old ≤ N.faults notes.new }
-{
-    match put_all(alloc, notes, piece) {
-        Ok(()) => {}
-        Err(_) => {}
-    }
 }

@@ -1,6 +1,7 @@
 //! The words of the command line.
-ghost use Rattle.std.specs.Prelude.{◌≡◌, ◌∷◌, [], true};
-ghost use Rattle.co_top.specs.Command.{IsCommand, IsTrialOf, is_directory, is_word};
+ghost use Rattle.std.specs.Prelude.{◌≡◌};
+ghost use Rattle.co_top.specs.Command.{IsCommand, asked_by, asked_alone, asked_of_directory, asked_of_two, asked_to_resume, asked_to_try, is_directory, is_word};
+ghost use Rattle.std.specs.String.{string_bytes};
 
 use co_schedule::long_number_within;
 
@@ -19,6 +20,16 @@ pub(crate) enum Command<'a> {
     },
     /// The durable records of the logs in a directory are written.
     Records {
+        /// Which directory.
+        directory: &'a str,
+    },
+    /// A schedule is replayed over fresh logs in a directory, and then members in doubt ask each other.
+    Resolve {
+        /// Which directory.
+        directory: &'a str,
+    },
+    /// The logs of version 1 in a directory are filled in version 2.
+    Migrate {
         /// Which directory.
         directory: &'a str,
     },
@@ -56,7 +67,7 @@ fn is_word(word: &String, text: &[u8]) -> bool
 
 /// A command of one word.
 fn of_one<'a>(command: &String) -> Command<'a>
-    ensures { IsCommand (command.now ∷ []) result }
+    ensures { IsCommand (asked_alone command.now) result }
 {
     if is_word(command, b"check") {
         return Command::Check;
@@ -69,7 +80,7 @@ fn of_one<'a>(command: &String) -> Command<'a>
 
 /// A command of two words.
 fn of_two<'a>(command: &String, directory: &'a String) -> Command<'a>
-    ensures { IsCommand (command.now ∷ directory.now ∷ []) result }
+    ensures { IsCommand (asked_of_directory command.now (string_bytes directory.now)) result }
 {
     if !is_directory(directory.as_bytes()) {
         return Command::Unknown;
@@ -85,31 +96,39 @@ fn of_two<'a>(command: &String, directory: &'a String) -> Command<'a>
             directory: directory.as_str(),
         };
     }
+    if is_word(command, b"resolve") {
+        return Command::Resolve {
+            directory: directory.as_str(),
+        };
+    }
+    if is_word(command, b"migrate") {
+        return Command::Migrate {
+            directory: directory.as_str(),
+        };
+    }
     Command::Unknown
 }
 
 /// A trial, where these are its number and the number of its events.
-fn trial_of<'a>(number: &String, events: &String) -> Option<Command<'a>>
-    ensures { IsTrialOf number.now events.now result }
+fn trial_of<'a>(number: &String, events: &String) -> Command<'a>
+    ensures { IsCommand (asked_to_try number.now events.now) result }
 {
-    let number = long_number_within(number.as_bytes(), 0, u64::MAX)?;
-    let events = long_number_within(events.as_bytes(), 1, MOST_TRIAL_EVENTS)?;
-    Some(Command::Trial {
-        number,
-        events: events as u32,
-    })
+    match (
+        long_number_within(number.as_bytes(), 0, u64::MAX),
+        long_number_within(events.as_bytes(), 1, MOST_TRIAL_EVENTS),
+    ) {
+        (Some(number), Some(events)) => Command::Trial {
+            number,
+            events: events as u32,
+        },
+        _ => Command::Unknown,
+    }
 }
 
-/// A command of three words: a trial, or a run that is resumed, with the name of a directory before the word for that or behind it.
-fn of_three<'a>(command: &String, first: &'a String, second: &'a String) -> Command<'a>
-    ensures { IsCommand (command.now ∷ first.now ∷ second.now ∷ []) result }
+/// A run that is resumed, with the name of a directory behind the word for that or before it.
+fn resumed<'a>(first: &'a String, second: &'a String) -> Command<'a>
+    ensures { IsCommand (asked_to_resume first.now second.now) result }
 {
-    if is_word(command, b"trial") {
-        return trial_of(first, second).unwrap_or(Command::Unknown);
-    }
-    if !is_word(command, b"run") {
-        return Command::Unknown;
-    }
     if is_word(first, b"--resume") && is_directory(second.as_bytes()) {
         return Command::Run {
             directory: second.as_str(),
@@ -125,9 +144,22 @@ fn of_three<'a>(command: &String, first: &'a String, second: &'a String) -> Comm
     Command::Unknown
 }
 
+/// A command of three words.
+fn of_three<'a>(command: &String, first: &'a String, second: &'a String) -> Command<'a>
+    ensures { IsCommand (asked_of_two command.now first.now second.now) result }
+{
+    if is_word(command, b"trial") {
+        return trial_of(first, second);
+    }
+    if is_word(command, b"run") {
+        return resumed(first, second);
+    }
+    Command::Unknown
+}
+
 /// The command that the words are.
 pub(crate) fn command_of(words: &[String]) -> Command<'_>
-    ensures { IsCommand words.now result }
+    ensures { IsCommand (asked_by words.now) result }
 {
     match words {
         [command] => of_one(command),

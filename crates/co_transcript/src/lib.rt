@@ -2,6 +2,8 @@
 //!
 //! Each item has one text (`one_text`). Reading a line gives the item whose text it is, or the place
 //! of the first fault from the left.
+//!
+//! **What is proved.** `put_item` writes the one spelling of an item; `read_item` reads exactly what is spelled, else names the place of the first fault.
 #![tactic(auto)]
 
 mod fault;

@@ -2,6 +2,11 @@
 //!
 //! An entry is made with the first operation. After that a mark, a vote and a drop take no memory, so that a member can force its
 //! record first and change what it keeps afterwards.
+//!
+//! **What is proved.** For every engine that meets the contract of all engines, every engine state that it stands for and every table of marks: operations, ballots (the
+//! voting rule, by the two walks of the graph), marks, votes, installs, drops and the readings (marks, coordinators, votes, sets, dumps, the next one
+//! above a number) are those of the state; the voted ones are walked in order, each with what it read and wrote; votes that are opened again stand as
+//! they were cast.
 #![tactic(auto)]
 
 mod entries;

@@ -9,7 +9,8 @@ use Rattle.co_durable.specs.Pairs.{EachPair}
 use Rattle.co_durable.proofs.Numbered.{so_many}
 use Rattle.co_durable.proofs.Pairs.{pairs_length}
 use Rattle.co_durable.proofs.Readings.{same_files, reads_on, fails_later}
-use Rattle.co_opening.specs.Attached.{IsFirstUnattached, IsAttachedTo}
+use Rattle.co_opening.specs.Attached.{IsFirstUnattached, IsAttachedTo, IsOfAttaching}
+use Rattle.co_opening.proofs.Attachings.{attaching}
 use Rattle.co_opening.specs.Opened.{IsUnopened}
 use Rattle.co_opening.proofs.Handed.{handed, handed_back, handed_in, no_value, not_err}
 use Rattle.co_opening.proofs.Judgings.{member_unattached, coord_unattached}
@@ -33,6 +34,16 @@ returns-in_err-coords-clause-refused g c =
     (subst (λ (f : Spot → Option File). IsFirstUnattached f c.args.resume (coord_nodes c.args.head.now.coords) c.in_err-coords.field-0.0)
     (same_files (g.H.Home.seen c.attach_sort.new.home).file file c.attach_sort.ensures.reads.files) c.in_err-coords.ensures.unattached) in
     handed_in (IsUnopened file c.args.head.now c.args.resume) c.from_residual-in_err-coords.result c.in_err-coords.field-0.0 c.from_residual-in_err-coords.ensures.1 un
+
+pub returns-in_err-members-clause-faults : goal.returns-in_err-members-clause-faults
+returns-in_err-members-clause-faults g c =
+    handed_in IsOfAttaching c.from_residual.result c.in_err-members.field-0.0 c.from_residual.ensures.1
+    (attaching (g.H.Home.seen c.args.home.now).file c.args.resume (member_nodes c.len-count.result) c.in_err-members.field-0.0 c.in_err-members.ensures.unattached)
+
+pub returns-in_err-coords-clause-faults : goal.returns-in_err-coords-clause-faults
+returns-in_err-coords-clause-faults g c =
+    handed_in IsOfAttaching c.from_residual-in_err-coords.result c.in_err-coords.field-0.0 c.from_residual-in_err-coords.ensures.1
+    (attaching (g.H.Home.seen c.attach_sort.new.home).file c.args.resume (coord_nodes c.args.head.now.coords) c.in_err-coords.field-0.0 c.in_err-coords.ensures.unattached)
 
 pub returns-clause-kept_members : goal.returns-clause-kept_members
 returns-clause-kept_members g c =

@@ -1,4 +1,4 @@
-use Rattle.std.proofs.Common.{◌≡◌, ◌∙◌, [], None, Some, Result, Ok, Err, IfErr, refl, sym, ap, subst, length}
+use Rattle.std.proofs.Common.{◌≡◌, ◌∙◌, ℕ, [], None, Some, Result, Ok, Err, IfErr, refl, sym, subst, length}
 use Rattle.co_plain.specs.Runs.{run, lines}
 use Rattle.co_schedule.specs.Lines.{ahead}
 use Rattle.co_trial.specs.Calm.{calm_seen}
@@ -38,7 +38,7 @@ returns-in_err-event-clause-over g c = λ s0 r ready.
 
 pub returns-in_err-event-clause-own : goal.returns-in_err-event-clause-own
 returns-in_err-event-clause-own g c =
-    subst (λ (o : Result (Unit {0}) Status). IfErr o IsOfSchedule) (sym (err_is c.from_residual.result c.in_err-event.field-0.0 c.from_residual.ensures)) (read_in_schedule c.in_err-event.field-0.0 c.in_err-event.ensures.own)
+    subst (λ (o : Result ℕ Status). IfErr o IsOfSchedule) (sym (err_is c.from_residual.result c.in_err-event.field-0.0 c.from_residual.ensures)) (read_in_schedule c.in_err-event.field-0.0 c.in_err-event.ensures.own)
 
 pub do_event-requires-clause-stands : goal.do_event-requires-clause-stands
 do_event-requires-clause-stands g c =
@@ -66,7 +66,7 @@ returns-in_err-do_event-in-Some-clause-over g c = λ s0 r ready.
 
 pub returns-in_err-do_event-in-Some-clause-own : goal.returns-in_err-do_event-in-Some-clause-own
 returns-in_err-do_event-in-Some-clause-own g c =
-    subst (λ (o : Result (Unit {0}) Status). IfErr o IsOfSchedule) (sym (err_is c.from_residual-in_err-do_event-in-Some.result c.in_err-do_event-in-Some.field-0.0 c.from_residual-in_err-do_event-in-Some.ensures))
+    subst (λ (o : Result ℕ Status). IfErr o IsOfSchedule) (sym (err_is c.from_residual-in_err-do_event-in-Some.result c.in_err-do_event-in-Some.field-0.0 c.from_residual-in_err-do_event-in-Some.ensures))
     (event_in_schedule c.in_err-do_event-in-Some.field-0.0 c.in_err-do_event-in-Some.ensures.own)
 
 pub returns-in_err-do_event-in-Some-clause-read : goal.returns-in_err-do_event-in-Some-clause-read

@@ -1,4 +1,4 @@
-use Rattle.std.proofs.Common.{◌≡◌, None, Some, Option, Ok, Err, List, ℕ, ap, subst}
+use Rattle.std.proofs.Common.{None, Option, Ok, Err, List, ℕ, ap, subst}
 use Rattle.co_plain.specs.Opening.{opened}
 use Rattle.co_plain.specs.Runs.{run, lines}
 use Rattle.co_trial.specs.Calm.{calm_seen}
@@ -39,8 +39,8 @@ returns-in-Ok-clause-reached g c = λ input l.
     let read = c.in_ok-lines.ensures.read input l in
     let s0 = opened head.kinds head.coords at.found_member at.found_coord in
     reached_by g.E.Engine.takes g.E.Engine.stands_for input (memory_file c.new-home.result.memory) c.new-home.ensures.files head read.0 read.1 c.in_ok-world.world c.in_ok-world.field-0-1 at
-    (g.S.Source.left c.follow_lines.new.source) (calm_seen c.follow_lines.new.home.memory) c.follow_lines.new.world
-    (subst (λ (a : Option (List ℕ)). IsOver g.E.Engine.takes g.E.Engine.stands_for head s0 a (g.S.Source.left c.follow_lines.new.source) None None (calm_seen c.follow_lines.new.home.memory) c.follow_lines.new.world (Ok tt)) read.2
+    (g.S.Source.left c.follow_lines.new.source) (calm_seen c.follow_lines.new.home.memory) c.follow_lines.new.world c.in-Ok.field-0
+    (subst (λ (a : Option (List ℕ)). IsOver g.E.Engine.takes g.E.Engine.stands_for head s0 a (g.S.Source.left c.follow_lines.new.source) None None (calm_seen c.follow_lines.new.home.memory) c.follow_lines.new.world (Ok c.in-Ok.field-0)) read.2
     (c.in-Ok.ensures.over s0 at.stands (ready head at.found_member at.found_coord at.may)))
 
 pub returns-clause-unreached : goal.returns-clause-unreached

@@ -112,13 +112,13 @@ returns-in_err-tell_event-in-Some-clause-rest g c =
 
 pub returns-in_err-event-clause-ended : goal.returns-in_err-event-clause-ended
 returns-in_err-event-clause-ended g c =
-    subst (HasEnded (g.H.Home.seen c.args.home.now) (g.H.Home.seen c.loop-number.home)) (sym (err_is c.from_residual.result c.in_err-event.field-0.0 c.from_residual.ensures))
+    subst (λ o. HasEnded (g.H.Home.seen c.args.home.now) (g.H.Home.seen c.loop-number.home) (status_of o)) (sym (err_is c.from_residual.result c.in_err-event.field-0.0 c.from_residual.ensures))
     (read_ended (g.H.Home.seen c.args.home.now) (g.H.Home.seen c.loop-number.home) c.in_err-event.field-0.0 c.in_err-event.ensures.own c.loop-number.invariant.2)
 
 pub returns-in_err-tell_event-in-Some-clause-ended : goal.returns-in_err-tell_event-in-Some-clause-ended
 returns-in_err-tell_event-in-Some-clause-ended g c =
-    subst (HasEnded (g.H.Home.seen c.args.home.now) (g.H.Home.seen c.tell_event.new.home)) (sym (err_is c.from_residual-in_err-tell_event-in-Some.result c.in_err-tell_event-in-Some.field-0.0 c.from_residual-in_err-tell_event-in-Some.ensures))
-    (ended_behind (g.H.Home.seen c.args.home.now) (g.H.Home.seen c.loop-number.home) (g.H.Home.seen c.tell_event.new.home) (Err c.in_err-tell_event-in-Some.field-0.0) c.loop-number.invariant.2 c.loop-number.invariant.1.files.told c.in_err-tell_event-in-Some.ensures.ended)
+    subst (λ o. HasEnded (g.H.Home.seen c.args.home.now) (g.H.Home.seen c.tell_event.new.home) (status_of o)) (sym (err_is c.from_residual-in_err-tell_event-in-Some.result c.in_err-tell_event-in-Some.field-0.0 c.from_residual-in_err-tell_event-in-Some.ensures))
+    (ended_behind (g.H.Home.seen c.args.home.now) (g.H.Home.seen c.loop-number.home) (g.H.Home.seen c.tell_event.new.home) c.in_err-tell_event-in-Some.field-0.0 c.loop-number.invariant.2 c.loop-number.invariant.1.files.told c.in_err-tell_event-in-Some.ensures.ended)
 
 pub returns-in_err-tell_event-in-Some-clause-clean : goal.returns-in_err-tell_event-in-Some-clause-clean
 returns-in_err-tell_event-in-Some-clause-clean g c = λ between s was.

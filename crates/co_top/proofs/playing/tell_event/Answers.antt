@@ -33,8 +33,8 @@ returns-in-Err-clause-told g c = λ s r ready.
 pub returns-in-Err-clause-ended : goal.returns-in-Err-clause-ended
 returns-in-Err-clause-ended g c =
     let w = c.requires.stands in
-    subst (λ (why : Status). HasEnded (g.H.Home.seen c.args.home.now)
-    (g.H.Home.seen c.step.new.home) (Err why)) (sym c.undone.ensures)
+    subst (HasEnded (g.H.Home.seen c.args.home.now)
+    (g.H.Home.seen c.step.new.home)) (sym c.undone.ensures)
     (ended_as _ _ c.in-Err.fault (c.in-Err.ensures.answered w.0 w.1 w.2).ended)
 
 pub returns-in-Err-clause-failed : goal.returns-in-Err-clause-failed

@@ -1,8 +1,9 @@
-use Rattle.std.proofs.Common.{◌≡◌, Result, Ok, Err, sym, subst}
+use Rattle.std.proofs.Common.{Result, sym, subst}
 use Rattle.co_top.specs.Ran.{end_of}
 use Rattle.co_top.specs.Replayed.{status_of}
 use Rattle.co_top.specs.Waiting.{IsWaitsEnd, Unwritten}
 use Rattle.co_top.specs.declared.status.Status.{Status}
+use Rattle.co_top.proofs.Breaking.{knot_of}
 use Rattle.co_top.proofs.Plays.{err_is}
 use Rattle.co_wait.specs.Text.{waits_text}
 use Rattle.co_top.proofs.Waited.{written, text_own}
@@ -25,7 +26,7 @@ returns-clause-end g c = λ input held l t.
       whole = r.whole;
       waits = c.in_ok-waits.waits;
       knot = c.in_ok-knot.knot;
-      is = record { ascending = c.in_ok-waits.ensures.ascending; listed = c.in_ok-waits.ensures.waits (end_of r.fresh.ran) r.stands; one = c.in_ok-knot.ensures };
+      is = knot_of r.fresh c.in_ok-waits.waits c.in_ok-knot.knot c.in_ok-waits.ensures.ascending (c.in_ok-waits.ensures.waits (end_of r.fresh.ran) r.stands) c.in_ok-knot.ensures;
     })
     (g.K.Sink.told c.args.out.now) (g.K.Sink.told c.tell_waits.new.out) c.tell_waits.result t c.tell_waits.ensures.told
 

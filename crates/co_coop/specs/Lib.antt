@@ -1,0 +1,4 @@
+pub mod Consulted
+pub mod Turn
+pub mod Resolution
+pub mod Remains

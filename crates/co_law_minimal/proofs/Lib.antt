@@ -1,0 +1,10 @@
+pub mod Tables
+pub mod Walks
+pub mod LostRun
+pub mod StaleRun
+pub mod ReaderRun
+pub mod WroteVotes
+pub mod WroteRun
+pub mod WriterRun
+pub mod Needed
+pub mod LeftOut

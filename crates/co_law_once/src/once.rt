@@ -1,0 +1,46 @@
+//! What is written at most once.
+ghost use Rattle.std.specs.Prelude.{ℕ, List};
+ghost use Rattle.co_base.specs.declared.head.Kind.{Kind};
+ghost use Rattle.co_base.specs.declared.node.Node.{Node};
+ghost use Rattle.co_plain.specs.declared.happening.Happening.{Happening};
+ghost use Rattle.co_plain.specs.CommitmentOrder.{trace_of};
+ghost use Rattle.co_plain.specs.Opening.{Found, opened};
+ghost use Rattle.co_plain.specs.Premises.{AreTrueVerdicts, AreOpenable};
+ghost use Rattle.co_law_moves.specs.MoveTraces.{items_along, messages_in};
+ghost use Rattle.co_law_once.specs.Costs.{AreFour, IsWithoutLoss};
+ghost use Rattle.co_law_once.specs.Once.{AtMostOnce, AreForcedOnce, moves_along, tells_commit_here};
+
+/// In every run each member forces the vote of a transaction at most once, and its install at most once, and each transaction is
+/// decided at most once, at one node; whatever messages come late and again, whatever is asked or resent, whichever nodes crash. A
+/// local transaction forces its vote and its install together, and is decided by it. So a transaction costs at most two forced
+/// writes at each member, and one at its coordinator, as two-phase commit with presumed abort does at best (Mohan, Lindsay and
+/// Obermarck, Transaction management in the R* distributed database management system, TODS 1986).
+pub fn records_are_forced_once()
+    ensures { (kinds : List Kind) (coords : ℕ) (found_member found_coord : ℕ → Found) (hs : List Happening) →
+        AreOpenable kinds coords found_member found_coord →
+        AreTrueVerdicts hs (opened kinds coords found_member found_coord) →
+        AreForcedOnce (moves_along hs (opened kinds coords found_member found_coord)) }
+{}
+
+/// So the items of a run tell of each commit record of a transaction at most once at each node: a decision that is repeated
+/// installs nothing again.
+pub fn commits_are_told_once()
+    ensures { (kinds : List Kind) (coords : ℕ) (found_member found_coord : ℕ → Found) (hs : List Happening) (at : Node) (t : ℕ) →
+        AreOpenable kinds coords found_member found_coord →
+        AreTrueVerdicts hs (opened kinds coords found_member found_coord) →
+        AtMostOnce (tells_commit_here at t) (trace_of (items_along hs (opened kinds coords found_member found_coord))) }
+{}
+
+/// Where nothing of a transaction is lost or mended, a commit costs four messages a participant: its prepare, its vote, its
+/// decision and its acknowledgement, as the transcript tells them, each at most once between the transaction and a member, and no
+/// question. Its client asks once, each prepare and each decision is delivered at most once, and neither a timer nor a vote that is
+/// tried again nor anything that is sent again or handed is of it; whatever happens to other transactions and to the nodes. With
+/// the two forced writes at each member and the one at its coordinator (`records_are_forced_once`) these are the counts of two-phase
+/// commit with presumed abort (Mohan, Lindsay and Obermarck, TODS 1986).
+pub fn commits_cost_four_messages()
+    ensures { (kinds : List Kind) (coords : ℕ) (found_member found_coord : ℕ → Found) (hs : List Happening) (t m : ℕ) →
+        AreOpenable kinds coords found_member found_coord →
+        AreTrueVerdicts hs (opened kinds coords found_member found_coord) →
+        IsWithoutLoss t hs →
+        AreFour t m (messages_in (items_along hs (opened kinds coords found_member found_coord))) }
+{}

@@ -1,0 +1,4 @@
+pub mod AnyState
+pub mod NodeEvents
+pub mod Disturbances
+pub mod Fairly

@@ -1,0 +1,2 @@
+pub mod CanBeSettled
+pub mod Rounds

@@ -1,0 +1,22 @@
+//! Every transaction ends: from any state of a run what is open can be ended.
+//!
+//! Each law is the contract of a function without a body.
+//!
+//! **What is proved.**
+//!
+//! - **Every transaction ends**. Any state of a run can be settled: some events of nodes and of the network, no client's, no more than a bound that
+//!   is read off the state, end all that is open, and leave the serial records (`any_state_can_be_settled`). Where no stop is armed, no event of a
+//!   node raises what is left, nor a delivery, late or again (`node_events_raise_nothing`), so however many come in between, settling stays within
+//!   the bound of the state before them (`disturbances_do_not_delay_settling`). And with all nodes up every transaction ends in at most three rounds
+//!   for each open pair and one for each open transaction (`every_transaction_ends`): a round has any such events, and among them one exchange that
+//!   can help, without interruption, or one timer that ends a transaction. That a scheduler makes rounds is asked of it, and no infinite run is
+//!   spoken of.
+#![tactic(auto)]
+
+mod any_state;
+mod disturbed;
+mod rounds;
+
+pub use any_state::any_state_can_be_settled;
+pub use disturbed::{disturbances_do_not_delay_settling, node_events_raise_nothing};
+pub use rounds::every_transaction_ends;

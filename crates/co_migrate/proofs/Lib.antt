@@ -1,0 +1,11 @@
+pub mod Closings
+pub mod Fillings
+pub mod Carried
+pub mod Refills
+pub mod ToldAgain
+pub mod Plans
+pub mod Apart
+pub mod Outcomes
+pub mod ReadPlans
+pub mod Keeping
+pub mod Again

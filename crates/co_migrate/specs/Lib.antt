@@ -1,0 +1,5 @@
+pub mod Telling
+pub mod Planning
+pub mod Refilling
+pub mod Migrating
+pub mod Kept

@@ -1,0 +1,29 @@
+//! What holds of every migration.
+ghost use Rattle.std.specs.Prelude.{ℕ, ◌≡◌, Option, Result};
+ghost use Rattle.std.specs.List.{AllByRecursion};
+ghost use Rattle.co_base.specs.Limits.{most_coordinators, most_members};
+ghost use Rattle.co_outside.specs.Home.{File};
+ghost use Rattle.co_outside.specs.declared.spot.Spot.{Spot};
+ghost use Rattle.co_plain.specs.Opening.{Found};
+ghost use Rattle.co_plain.specs.SoundLogs.{AreSound};
+ghost use Rattle.co_durable.specs.Told.{AreTold};
+ghost use Rattle.co_opening.specs.Found.{AreFound};
+ghost use Rattle.co_migrate.specs.declared.fault.MigrateFault.{MigrateFault};
+ghost use Rattle.co_migrate.specs.Kept.{records_in, KeepsRecords};
+ghost use Rattle.co_opening.specs.Versions.{IsNewIn};
+ghost use Rattle.co_migrate.specs.Migrating.{all_nodes, AreAllFilled, IsMigrated, NoFileChanges};
+
+/// Whatever a migration answers over a directory that tells its files: where the logs that are found in them are sound, those that are found then
+/// are, each of them is the old one or the old one migrated, and they give the same durable records.
+pub fn migrations_keep_records()
+    ensures { (old new : Spot → Option File) (result : Result ℕ MigrateFault) (found_member found_coord : ℕ → Found) → AreTold old most_members most_coordinators → IsMigrated old new result →
+        AreFound old most_members most_coordinators found_member found_coord → AreSound (records_in found_member) (records_in found_coord) → KeepsRecords new found_member found_coord }
+{}
+
+/// After a migration that was done each node that has a batch in a file has a current one of version 2. So another one behind it fills nothing,
+/// and changes no file.
+pub fn migrations_are_made_once()
+    ensures newest { (old new : Spot → Option File) (count : ℕ) → AreAllFilled old new count → AllByRecursion (IsNewIn new) all_nodes }
+    ensures again { (old new newer : Spot → Option File) (count again : ℕ) → AreTold new most_members most_coordinators → AreAllFilled old new count → AreAllFilled new newer again →
+        (again ≡ 0) × NoFileChanges new newer }
+{}

@@ -1,0 +1,9 @@
+pub mod Shape
+pub mod Read
+pub mod Lanes
+pub mod Course
+pub mod Entry
+pub mod Columns
+pub mod Picture
+pub mod Drawn
+pub mod Laws
