@@ -6,3 +6,8 @@ pub mod Origins
 pub mod Sending
 pub mod Counting
 pub mod Costing
+pub mod Waiting
+pub mod EndsAtCoord
+pub mod EndsAtMember
+pub mod EndsTold
+pub mod Ended

@@ -8,7 +8,7 @@ ghost use Rattle.co_plain.specs.Opening.{Found, opened};
 ghost use Rattle.co_plain.specs.Premises.{AreTrueVerdicts, AreOpenable};
 ghost use Rattle.co_law_moves.specs.MoveTraces.{items_along, messages_in};
 ghost use Rattle.co_law_once.specs.Costs.{AreFour, IsWithoutLoss};
-ghost use Rattle.co_law_once.specs.Once.{AtMostOnce, AreForcedOnce, moves_along, tells_commit_here};
+ghost use Rattle.co_law_once.specs.Once.{AtMostOnce, AreEndedOnce, AreForcedOnce, moves_along, tells_commit_here};
 
 /// In every run each member forces the vote of a transaction at most once, and its install at most once, and each transaction is
 /// decided at most once, at one node; whatever messages come late and again, whatever is asked or resent, whichever nodes crash. A
@@ -29,6 +29,18 @@ pub fn commits_are_told_once()
         AreOpenable kinds coords found_member found_coord →
         AreTrueVerdicts hs (opened kinds coords found_member found_coord) →
         AtMostOnce (tells_commit_here at t) (trace_of (items_along hs (opened kinds coords found_member found_coord))) }
+{}
+
+/// So the end record of a transaction becomes stable at most once in a run, at one node. An end is not forced: it waits in memory for
+/// the next commit of its coordinator, a crash loses it and a checkpoint drops it. After a crash the transaction is there again
+/// without its acknowledgements, and a new end may be written; but once an end is stable, none is written again. Nor is one of a
+/// transaction that the opened logs know and that has no commit without end in them: so the end becomes stable at most once in all
+/// runs over the same files. (`log c1 end 7` stands in the transcript where it became stable.)
+pub fn ends_are_told_once()
+    ensures { (kinds : List Kind) (coords : ℕ) (found_member found_coord : ℕ → Found) (hs : List Happening) →
+        AreOpenable kinds coords found_member found_coord →
+        AreTrueVerdicts hs (opened kinds coords found_member found_coord) →
+        AreEndedOnce (opened kinds coords found_member found_coord) (items_along hs (opened kinds coords found_member found_coord)) }
 {}
 
 /// Where nothing of a transaction is lost or mended, a commit costs four messages a participant: its prepare, its vote, its
