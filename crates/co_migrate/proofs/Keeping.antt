@@ -54,7 +54,7 @@ same_file f g o one two = let e : Some f ≡ Some g = sym one ∙ two in let s :
 pub within_file : (f : File) (o : Option File) → o ≡ Some f → length f.bytes ≤ most_log_bytes → IsWithin most_log_bytes o
 within_file f o is short g told = let e = same_file f g o is told in subst (λ (bytes : List ℕ). length bytes ≤ most_log_bytes) e short
 
-current_in : (file : Spot → Option File) (n : Node) (version generation part : ℕ) (items : Items) → part ≤ 1 → HasCurrentFile file n part version generation items → IsCurrentIn file n part items
+pub current_in : (file : Spot → Option File) (n : Node) (version generation part : ℕ) (items : Items) → part ≤ 1 → HasCurrentFile file n part version generation items → IsCurrentIn file n part items
 current_in file n version generation zero items h c = record {
   a = c.this.bytes;
   b = c.that.bytes;

@@ -9,3 +9,5 @@ pub mod Outcomes
 pub mod ReadPlans
 pub mod Keeping
 pub mod Again
+pub mod Grammar
+pub mod Imaged

@@ -74,7 +74,7 @@ next_of owner generation items begins bound below =
 turned_back : (xs : List Record) (h : Record) → reverse (reverse xs ++ h ∷ []) ≡ h ∷ xs
 turned_back xs h = reverse-append (reverse xs) (h ∷ []) ∙ ap (λ (rs : List Record). h ∷ rs) (reverse-reverse xs)
 
-all_turned : (P : Record → Type 0) (xs : List Record) → AllByRecursion P xs → AllByRecursion P (reverse xs)
+pub all_turned : (P : Record → Type 0) (xs : List Record) → AllByRecursion P xs → AllByRecursion P (reverse xs)
 all_turned P [] all = tt
 all_turned P (x ∷ xs) all = subst (AllByRecursion P) (sym (reverse-append (x ∷ []) xs)) (all_append P (reverse xs) (x ∷ []) (all_turned P xs all.1) (all.0, tt))
 
@@ -92,12 +92,18 @@ again_is m rs past is =
 migrated_member : (m : ℕ) (rs : List Record) → migrated (node.Member m) rs ≡ reverse (spare_items (member_over m rs)) ++ log.Header (node.Member m) (next_generation (generation_of (made (node.Member m) rs))) ∷ []
 migrated_member m rs = sym (spare_is m (member_over m rs) (next_generation (generation_of (made (node.Member m) rs))))
 
+-- oldest first, they are a header and what is told again
+pub member_items : (m : ℕ) (rs : List Record) →
+    reverse (migrated (node.Member m) rs) ≡ log.Header (node.Member m) (next_generation (generation_of (made (node.Member m) rs))) ∷ spare_items (member_over m rs)
+member_items m rs =
+    ap reverse (migrated_member m rs) ∙ turned_back (spare_items (member_over m rs)) (log.Header (node.Member m) (next_generation (generation_of (made (node.Member m) rs))))
+
 pub member_told : (m generation : ℕ) (rs : List Record) (past : MemberPast) → past ≡ past_of_member (recovered_view rs) → next_generation (generation_of (made (node.Member m) rs)) ≡ generation + 1
     → log.Header (node.Member m) (generation + 1) ∷ member_again past ≡ reverse (migrated (node.Member m) rs)
 member_told m generation rs past is next =
     let h = log.Header (node.Member m) (next_generation (generation_of (made (node.Member m) rs))) in
     ap (λ g. log.Header (node.Member m) g ∷ member_again past) (sym next) ∙ ap (λ (xs : List Record). h ∷ xs) (again_is m rs past is)
-    ∙ sym (turned_back (spare_items (member_over m rs)) h) ∙ ap reverse (sym (migrated_member m rs))
+    ∙ sym (member_items m rs)
 
 votes_fillable : (es : List (ℕ × Vote)) → AllByRecursion IsWithinBounds (map prepared es) → AllByRecursion IsFillable (map prepared es)
 votes_fillable [] all = tt
@@ -115,7 +121,7 @@ member_fillable m rs past is within =
 abbrev pub committed : ℕ × List ℕ → ℕ × Entry
 committed e = (e.0, entry.Committed e.1 [])
 
-abbrev commit : ℕ × List ℕ → Record
+abbrev pub commit : ℕ × List ℕ → Record
 commit e = log.Commit e.0 e.1
 
 find_committed : (t : ℕ) (es : List (ℕ × List ℕ)) → find nat_cmp t (map committed es) ≡ option_map (λ ms. entry.Committed ms []) (find nat_cmp t es)
@@ -173,13 +179,18 @@ migrated_coord c rs =
     let h = log.Header (node.Coord c) (next_generation (generation_of (made (node.Coord c) rs))) in
     ap (commits_onto (h ∷ [])) (entries_are (recovered_commits rs).unended) ∙ commits_are (h ∷ []) (entries (recovered_commits rs).unended)
 
+pub coord_items : (c : ℕ) (rs : List Record) →
+    reverse (migrated (node.Coord c) rs) ≡ log.Header (node.Coord c) (next_generation (generation_of (made (node.Coord c) rs))) ∷ map commit (entries (recovered_commits rs).unended)
+coord_items c rs =
+    ap reverse (migrated_coord c rs)
+    ∙ turned_back (map commit (entries (recovered_commits rs).unended)) (log.Header (node.Coord c) (next_generation (generation_of (made (node.Coord c) rs))))
+
 pub coord_told : (c generation : ℕ) (rs : List Record) (past : CoordPast) → past ≡ past_of_coord (recovered_commits rs) → next_generation (generation_of (made (node.Coord c) rs)) ≡ generation + 1
     → log.Header (node.Coord c) (generation + 1) ∷ coord_again past ≡ reverse (migrated (node.Coord c) rs)
 coord_told c generation rs past is next =
     let h = log.Header (node.Coord c) (next_generation (generation_of (made (node.Coord c) rs))) in
-    let commits = map commit (entries (recovered_commits rs).unended) in
     ap (λ g. log.Header (node.Coord c) g ∷ coord_again past) (sym next) ∙ ap (λ (xs : List Record). h ∷ xs) (coord_again_is rs past is)
-    ∙ sym (turned_back commits h) ∙ ap reverse (sym (migrated_coord c rs))
+    ∙ sym (coord_items c rs)
 
 commits_fillable : (es : List (ℕ × List ℕ)) → AllByRecursion IsWritable (map commit es) → AllByRecursion IsFillable (map commit es)
 commits_fillable [] all = tt

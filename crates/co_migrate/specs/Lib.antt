@@ -3,3 +3,4 @@ pub mod Planning
 pub mod Refilling
 pub mod Migrating
 pub mod Kept
+pub mod Images

@@ -1,5 +1,5 @@
 //! What holds of every migration.
-ghost use Rattle.std.specs.Prelude.{ℕ, ◌≡◌, Option, Result};
+ghost use Rattle.std.specs.Prelude.{ℕ, ◌≡◌, Option, Result, Err};
 ghost use Rattle.std.specs.List.{AllByRecursion};
 ghost use Rattle.co_base.specs.Limits.{most_coordinators, most_members};
 ghost use Rattle.co_outside.specs.Home.{File};
@@ -9,6 +9,8 @@ ghost use Rattle.co_plain.specs.SoundLogs.{AreSound};
 ghost use Rattle.co_durable.specs.Told.{AreTold};
 ghost use Rattle.co_opening.specs.Found.{AreFound};
 ghost use Rattle.co_migrate.specs.declared.fault.MigrateFault.{MigrateFault};
+ghost use Rattle.co_migrate.specs.declared.fault.MigrateFault.TheVariants.{Device};
+ghost use Rattle.co_migrate.specs.Images.{IsCutMigration};
 ghost use Rattle.co_migrate.specs.Kept.{records_in, KeepsRecords};
 ghost use Rattle.co_opening.specs.Versions.{IsNewIn};
 ghost use Rattle.co_migrate.specs.Migrating.{all_nodes, AreAllFilled, IsMigrated, NoFileChanges};
@@ -26,4 +28,15 @@ pub fn migrations_are_made_once()
     ensures newest { (old new : Spot → Option File) (count : ℕ) → AreAllFilled old new count → AllByRecursion (IsNewIn new) all_nodes }
     ensures again { (old new newer : Spot → Option File) (count again : ℕ) → AreTold new most_members most_coordinators → AreAllFilled old new count → AreAllFilled new newer again →
         (again ≡ 0) × NoFileChanges new newer }
+{}
+
+/// Every image of the files at each device call of a migration: of the spare file of one node as it is closed or filled, with the earlier nodes of version
+/// 1 filled and all other files byte for byte as they were. What it leaves is what a migration leaves where the device fails in that call: the node
+/// has its old records, or the migrated ones. So where the logs that were found are sound, those that are found after the crash are, and give the
+/// same durable records, and another migration fills the rest. The disks are those that a log write has at its calls (`disk_at`), in which
+/// `Log::close_spare` and `Log::fill_spare` may be stopped, with a batch of the migrated records.
+pub fn images_keep_records()
+    ensures left { (old image : Spot → Option File) → AreTold old most_members most_coordinators → IsCutMigration old image → (spot : Spot) × IsMigrated old image (Err (Device spot)) }
+    ensures records { (old image : Spot → Option File) (found_member found_coord : ℕ → Found) → AreTold old most_members most_coordinators → IsCutMigration old image →
+        AreFound old most_members most_coordinators found_member found_coord → AreSound (records_in found_member) (records_in found_coord) → KeepsRecords image found_member found_coord }
 {}

@@ -9,8 +9,8 @@
 //!   With any other fault some of the nodes are filled, in order, the next one has its old records, or after a fault of the directory those or the
 //!   migrated ones, and those behind it are as they were; `Full` names a file in which the migrated records have no room (`migrated`).
 //! - So at every answer: where the logs that were found are sound, those that are found then are, and give the same durable records
-//!   (`migrations_keep_records`). Not stated: that a migration behind a whole one fills nothing (a case shows it), that nothing but its cause keeps
-//!   it from being done, and what every image of a crash within it holds.
+//!   (`migrations_keep_records`). So it is of every image that a crash leaves at a device call of it (`images_keep_records`). Behind a migration that
+//!   was done another one fills nothing (`migrations_are_made_once`). Not stated: that nothing but its cause keeps it from being done.
 //! - `Device` comes where the directory failed, and only there (`device`, `quiet`); a file that was clean is after `Ok` (`clean`).
 #![tactic(auto)]
 
@@ -22,5 +22,5 @@ mod planning;
 mod telling;
 
 pub use fault::MigrateFault;
-pub use laws::{migrations_are_made_once, migrations_keep_records};
+pub use laws::{images_keep_records, migrations_are_made_once, migrations_keep_records};
 pub use migrating::{migrate, migrate_directory};
