@@ -33,8 +33,8 @@ pub fn migrations_are_made_once()
 /// Every image of the files at each device call of a migration: of the spare file of one node as it is closed or filled, with the earlier nodes of version
 /// 1 filled and all other files byte for byte as they were. What it leaves is what a migration leaves where the device fails in that call: the node
 /// has its old records, or the migrated ones. So where the logs that were found are sound, those that are found after the crash are, and give the
-/// same durable records, and another migration fills the rest. The disks are those that a log write has at its calls (`disk_at`), in which
-/// `Log::close_spare` and `Log::fill_spare` may be stopped, with a batch of the migrated records.
+/// same durable records. The files are stable where the migration begins, and each filled one is before the next node. The disks are those that a log
+/// write has at its calls (`disk_at`), in which `Log::close_spare` and `Log::fill_spare` may be stopped, with the batch of the migrated records.
 pub fn images_keep_records()
     ensures left { (old image : Spot → Option File) → AreTold old most_members most_coordinators → IsCutMigration old image → (spot : Spot) × IsMigrated old image (Err (Device spot)) }
     ensures records { (old image : Spot → Option File) (found_member found_coord : ℕ → Found) → AreTold old most_members most_coordinators → IsCutMigration old image →
