@@ -11,7 +11,7 @@ use Rattle.co_check.specs.declared.serial.Unlike.{Unlike}
 use Rattle.co_check.specs.Account.{Committed}
 use Rattle.co_check.specs.Kept.{IsJudged}
 use Rattle.co_check.specs.Runs.{sites, AreServed, IsUnlike}
-use Rattle.co_check.specs.Serial.{IsSerial, IsFirstToDiffer, no_records, serial_after}
+use Rattle.co_check.specs.Serial.{IsSerialFrom, IsFirstToDifferFrom, no_records, serial_from, serial_after}
 
 after-push : (all : AllRecords) (xs : List (List Site)) (x : List Site) → after all (xs ++ x ∷ []) ≡ after_whole (after all xs) x
 after-push all [] x = refl
@@ -21,15 +21,18 @@ abbrev run_of : Committed → List Site
 run_of d = sites (reverse d.told)
 
 -- the newest transaction runs behind the others
+pub more-from : (start : AllRecords) (d : Committed) (earlier : List Committed) → serial_from start (d ∷ earlier) ≡ after_whole (serial_from start earlier) (run_of d)
+more-from start d earlier =
+    ap (after start) (reverse-append (run_of d ∷ []) (map run_of earlier)) ∙ after-push start (reverse (map run_of earlier)) (run_of d)
+
 pub serial-more : (d : Committed) (earlier : List Committed) → serial_after (d ∷ earlier) ≡ after_whole (serial_after earlier) (run_of d)
-serial-more d earlier =
-    ap (after no_records) (reverse-append (run_of d ∷ []) (map run_of earlier)) ∙ after-push no_records (reverse (map run_of earlier)) (run_of d)
+serial-more = more-from no_records
 
 -- where one differs, it is the first whatever comes behind
-pub judged_on : (o : Option Difference) (records left : List Records) (committed : List Committed) (d : Committed) → is_some o ≡ true → IsJudged o records committed →
-    IsJudged o left (d ∷ committed)
-judged_on None records left committed d e h = absurd (let z : false ≡ true = e in cc)
-judged_on (Some found) records left committed d e h =
+pub judged_on : (start : AllRecords) (o : Option Difference) (records left : List Records) (committed : List Committed) (d : Committed) → is_some o ≡ true → IsJudged start o records committed →
+    IsJudged start o left (d ∷ committed)
+judged_on start None records left committed d e h = absurd (let z : false ≡ true = e in cc)
+judged_on start (Some found) records left committed d e h =
     record {
       later = d ∷ h.later;
       d = h.d;
@@ -40,18 +43,18 @@ judged_on (Some found) records left committed d e h =
       differs = h.differs;
     }
 
-pub served_onto : (all left : AllRecords) (told : List Answered) (committed : List Committed) (t : ℕ) (newest : List Answered) →
-    all ≡ serial_after committed → told ≡ reverse newest → IsSerial committed → AreServed all left told →
-    IsSerial (record { txn = t; told = newest } ∷ committed) × (left ≡ serial_after (record { txn = t; told = newest } ∷ committed))
-served_onto all left told committed t newest e r serial s =
+pub served_onto : (start all left : AllRecords) (told : List Answered) (committed : List Committed) (t : ℕ) (newest : List Answered) →
+    all ≡ serial_from start committed → told ≡ reverse newest → IsSerialFrom start committed → AreServed all left told →
+    IsSerialFrom start (record { txn = t; told = newest } ∷ committed) × (left ≡ serial_from start (record { txn = t; told = newest } ∷ committed))
+served_onto start all left told committed t newest e r serial s =
     let d : Committed = record { txn = t; told = newest } in
-    let one : AreServed (serial_after committed) left (reverse newest) = subst (λ z. AreServed z left (reverse newest)) e (subst (λ os. AreServed all left os) r s) in
-    ((one.same, serial), one.after ∙ sym (serial-more d committed))
+    let one : AreServed (serial_from start committed) left (reverse newest) = subst (λ z. AreServed z left (reverse newest)) e (subst (λ os. AreServed all left os) r s) in
+    ((one.same, serial), one.after ∙ sym (more-from start d committed))
 
-pub unlike_onto : (all : AllRecords) (told : List Answered) (committed : List Committed) (t : ℕ) (newest : List Answered) (u : Unlike) →
-    all ≡ serial_after committed → told ≡ reverse newest → IsSerial committed → IsUnlike all told u.number u.told u.serial →
-    IsFirstToDiffer (record { txn = t; told = newest } ∷ committed) t u.number u.told u.serial
-unlike_onto all told committed t newest u e r serial s =
+pub unlike_onto : (start all : AllRecords) (told : List Answered) (committed : List Committed) (t : ℕ) (newest : List Answered) (u : Unlike) →
+    all ≡ serial_from start committed → told ≡ reverse newest → IsSerialFrom start committed → IsUnlike all told u.number u.told u.serial →
+    IsFirstToDifferFrom start (record { txn = t; told = newest } ∷ committed) t u.number u.told u.serial
+unlike_onto start all told committed t newest u e r serial s =
     record {
       later = [];
       d = record { txn = t; told = newest };
@@ -63,7 +66,7 @@ unlike_onto all told committed t newest u e r serial s =
     }
 
 -- where none differed, the records are those of the serial run
-pub so_far : (o : Option Difference) (records : List Records) (committed : List Committed) → is_some o ≡ false → IsJudged o records committed →
-    (o ≡ None) × IsSerial committed × (family_of records ≡ serial_after committed)
-so_far None records committed e h = (refl, h.0, h.1)
-so_far (Some d) records committed e h = absurd (let z : true ≡ false = e in cc)
+pub so_far : (start : AllRecords) (o : Option Difference) (records : List Records) (committed : List Committed) → is_some o ≡ false → IsJudged start o records committed →
+    (o ≡ None) × IsSerialFrom start committed × (family_of records ≡ serial_from start committed)
+so_far start None records committed e h = (refl, h.0, h.1)
+so_far start (Some d) records committed e h = absurd (let z : true ≡ false = e in cc)

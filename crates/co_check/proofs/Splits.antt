@@ -5,7 +5,7 @@ use Rattle.co_serial.specs.SerialRun.{AllRecords, after_site, after_whole, run_w
 use Rattle.co_check.specs.declared.client.Answered.{Answered}
 use Rattle.co_check.specs.Account.{Committed}
 use Rattle.co_check.specs.Runs.{sites, replies, IsUnlike}
-use Rattle.co_check.specs.Serial.{IsSerial, IsFirstToDiffer, ReadsSerially, serial_after}
+use Rattle.co_check.specs.Serial.{IsSerial, IsSerialFrom, IsFirstToDiffer, IsFirstToDifferFrom, ReadsSeriallyFrom, no_records, serial_from}
 
 -- two places of one list: the same one, or one stands before the other
 pub data Split {A : Type 0} (xs : List A) (x : A) (us ys : List A) (y : A) (vs : List A) : Type 0 where
@@ -69,35 +69,39 @@ unlike_once all told n was serial k other_was other_serial u v = by (split u.bef
     by (Before ws a b) = absurd (not_before all v.before u.before u.at ws serial was a v.same u.is_serial u.is_told u.unlike)
     by (Behind ws a b) = absurd (not_before all u.before v.before v.at ws other_serial other_was a u.same v.is_serial v.is_told v.unlike)
 
--- ---- transactions
-
-serial_at : (later : List Committed) (d : Committed) (earlier : List Committed) → IsSerial (later ++ d ∷ earlier) → ReadsSerially earlier d
-serial_at [] d earlier h = h.0
-serial_at (x ∷ later) d earlier h = serial_at later d earlier h.1
-
--- where all read serially, none differs
-pub serial_or_not : (committed : List Committed) (t n : ℕ) (was serial : Reply) → IsSerial committed → IsFirstToDiffer committed t n was serial → ⊥
-serial_or_not committed t n was serial h f =
-    served_all (serial_after f.earlier) (reverse f.d.told) n was serial (serial_at f.later f.d f.earlier (subst IsSerial f.order h)) f.differs
-
--- one that differs does not stand among those that read serially
-not_earlier : (earlier : List Committed) (ws : List Committed) (d : Committed) (vs : List Committed) (n : ℕ) (was serial : Reply) → earlier ≡ ws ++ d ∷ vs → IsSerial earlier → IsUnlike (serial_after vs) (reverse d.told) n was serial → ⊥
-not_earlier earlier ws d vs n was serial is h u = served_all (serial_after vs) (reverse d.told) n was serial (serial_at ws d vs (subst IsSerial is h)) u
-
 pub record AreSameOnes (t n : ℕ) (was serial : Reply) (u k : ℕ) (other_was other_serial : Reply) : Type 0 where
   pub txn_is : t ≡ u
   pub operation : AreSame n was serial k other_was other_serial
 
-pub differs_once : (committed : List Committed) (t n : ℕ) (was serial : Reply) (u k : ℕ) (other_was other_serial : Reply) → IsFirstToDiffer committed t n was serial → IsFirstToDiffer committed u k other_was other_serial →
-    AreSameOnes t n was serial u k other_was other_serial
-differs_once committed t n was serial u k other_was other_serial f g = by (split f.later f.d f.earlier g.later g.d g.earlier (sym f.order ∙ g.order))
-  where
-    by : Split f.later f.d f.earlier g.later g.d g.earlier → AreSameOnes t n was serial u k other_was other_serial
-    by (Same a b c) =
-        record {
-          txn_is = f.is_txn ∙ ap (λ (d : Committed). d.txn) b ∙ sym g.is_txn;
-          operation = unlike_once (serial_after g.earlier) (reverse g.d.told) n was serial k other_was other_serial
-              (subst (λ (d : Committed). IsUnlike (serial_after g.earlier) (reverse d.told) n was serial) b (subst (λ ds. IsUnlike (serial_after ds) (reverse f.d.told) n was serial) c f.differs)) g.differs;
-        }
-    by (Before ws a b) = absurd (not_earlier f.earlier ws g.d g.earlier k other_was other_serial b f.serially g.differs)
-    by (Behind ws a b) = absurd (not_earlier g.earlier ws f.d f.earlier n was serial b g.serially f.differs)
+-- ---- transactions
+
+module _ (start : AllRecords) where
+  serial_at : (later : List Committed) (d : Committed) (earlier : List Committed) → IsSerialFrom start (later ++ d ∷ earlier) → ReadsSeriallyFrom start earlier d
+  serial_at [] d earlier h = h.0
+  serial_at (x ∷ later) d earlier h = serial_at later d earlier h.1
+
+  -- where all read serially, none differs
+  pub serial_or_not_from : (committed : List Committed) (t n : ℕ) (was serial : Reply) → IsSerialFrom start committed → IsFirstToDifferFrom start committed t n was serial → ⊥
+  serial_or_not_from committed t n was serial h f =
+      served_all (serial_from start f.earlier) (reverse f.d.told) n was serial (serial_at f.later f.d f.earlier (subst (IsSerialFrom start) f.order h)) f.differs
+
+  -- one that differs does not stand among those that read serially
+  not_earlier : (earlier : List Committed) (ws : List Committed) (d : Committed) (vs : List Committed) (n : ℕ) (was serial : Reply) → earlier ≡ ws ++ d ∷ vs → IsSerialFrom start earlier → IsUnlike (serial_from start vs) (reverse d.told) n was serial → ⊥
+  not_earlier earlier ws d vs n was serial is h u = served_all (serial_from start vs) (reverse d.told) n was serial (serial_at ws d vs (subst (IsSerialFrom start) is h)) u
+
+  pub differs_once_from : (committed : List Committed) (t n : ℕ) (was serial : Reply) (u k : ℕ) (other_was other_serial : Reply) → IsFirstToDifferFrom start committed t n was serial → IsFirstToDifferFrom start committed u k other_was other_serial →
+      AreSameOnes t n was serial u k other_was other_serial
+  differs_once_from committed t n was serial u k other_was other_serial f g = by (split f.later f.d f.earlier g.later g.d g.earlier (sym f.order ∙ g.order))
+    where
+      by : Split f.later f.d f.earlier g.later g.d g.earlier → AreSameOnes t n was serial u k other_was other_serial
+      by (Same a b c) =
+          record {
+            txn_is = f.is_txn ∙ ap (λ (d : Committed). d.txn) b ∙ sym g.is_txn;
+            operation = unlike_once (serial_from start g.earlier) (reverse g.d.told) n was serial k other_was other_serial
+                (subst (λ (d : Committed). IsUnlike (serial_from start g.earlier) (reverse d.told) n was serial) b (subst (λ ds. IsUnlike (serial_from start ds) (reverse f.d.told) n was serial) c f.differs)) g.differs;
+          }
+      by (Before ws a b) = absurd (not_earlier f.earlier ws g.d g.earlier k other_was other_serial b f.serially g.differs)
+      by (Behind ws a b) = absurd (not_earlier g.earlier ws f.d f.earlier n was serial b g.serially f.differs)
+
+pub serial_or_not : (committed : List Committed) (t n : ℕ) (was serial : Reply) → IsSerial committed → IsFirstToDiffer committed t n was serial → ⊥
+serial_or_not = serial_or_not_from no_records

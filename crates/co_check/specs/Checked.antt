@@ -6,6 +6,7 @@ use Rattle.co_schedule.specs.LineText.{first_line, behind_line, next_line}
 use Rattle.co_schedule.specs.declared.fault.LinesFault.{LinesFault}
 use Rattle.co_schedule.specs.declared.fault.LinesFault.TheVariants as lines
 use Rattle.co_serial.specs.Family.{family_of}
+use Rattle.co_serial.specs.SerialRun.{AllRecords}
 use Rattle.co_transcript.specs.Items.{IsItem}
 use Rattle.co_transcript.specs.Spelling.{item_text}
 use Rattle.co_check.specs.Account.{Account}
@@ -13,7 +14,7 @@ use Rattle.co_check.specs.declared.place.Place.{Place}
 use Rattle.co_check.specs.declared.checker.Checker.{Checker}
 use Rattle.co_check.specs.Kept.{Follows, IsKept}
 use Rattle.co_check.specs.Shape.{Read, read, is_whole, next, next_of}
-use Rattle.co_check.specs.Serial.{IsSerial, IsFirstToDiffer, serial_after}
+use Rattle.co_check.specs.Serial.{IsSerialFrom, IsFirstToDifferFrom, no_records, serial_from}
 use Rattle.co_check.specs.declared.verdict.Ending.{Ending}
 use Rattle.co_check.specs.declared.verdict.Verdict.{Verdict}
 use Rattle.co_check.specs.declared.verdict.Verdict.TheVariants.{Serial, Differs}
@@ -30,40 +31,36 @@ pub data StandsBehind : List ℕ → List Item → List ℕ → Type 0 where
 abbrev pub BreaksShape : Option Read → List ℕ → Type 0
 BreaksShape r line = (it : Item) → IsItem it → line ≡ item_text it → next_of r it ≡ None
 
+-- the committed transactions are judged so where their serial run begins with these records
+abbrev pub IsJudgedFrom : AllRecords → Account → Verdict → Type 0
+IsJudgedFrom start a (Serial transactions map) = IsSerialFrom start a.committed × (transactions ≡ length a.committed) × (family_of map ≡ serial_from start a.committed)
+IsJudgedFrom start a (Differs txn line told serial) = IsFirstToDifferFrom start a.committed txn line told serial
+
+-- where it begins with none
 abbrev pub IsJudgedAs : Account → Verdict → Type 0
-IsJudgedAs a (Serial transactions map) = IsSerial a.committed × (transactions ≡ length a.committed) × (family_of map ≡ serial_after a.committed)
-IsJudgedAs a (Differs txn line told serial) = IsFirstToDiffer a.committed txn line told serial
+IsJudgedAs = IsJudgedFrom no_records
 
 -- and the committed transactions are kept, where they were to be
-abbrev pub IsEndedAs : Account → Ending → Type 0
-IsEndedAs a ending = IsJudgedAs a ending.verdict × IsKept ending.kept a.committed
+abbrev pub IsEndedFrom : AllRecords → Account → Ending → Type 0
+IsEndedFrom start a ending = IsJudgedFrom start a ending.verdict × IsKept ending.kept a.committed
 
 -- one more item was taken, which keeps the shape; or it breaks the shape
-abbrev pub IsTakenAs : Read → ℕ → Item → Result Checker CheckFault → Type 0
-IsTakenAs r number it (Ok after) = (behind : Read) × (next r it ≡ Some behind) × Follows after behind
-IsTakenAs r number it (Err (fault.Text at)) = (at ≡ number) × (next r it ≡ None)
-IsTakenAs r number it (Err fault.Memory) = Unit {0}
-IsTakenAs r number it (Err fault.Read) = ⊥
-IsTakenAs r number it (Err (fault.Long at)) = ⊥
-IsTakenAs r number it (Err fault.Many) = ⊥
-
--- one more line was taken: it is the text of an item that keeps the shape; or it is no such line
-abbrev pub IsTaken : Read → ℕ → List ℕ → Result Checker CheckFault → Type 0
-IsTaken r number line (Ok after) = (it : Item) × (behind : Read) × IsItem it × (line ≡ item_text it) × (next r it ≡ Some behind) × Follows after behind
-IsTaken r number line (Err (fault.Text at)) = (at ≡ number) × BreaksShape (Some r) line
-IsTaken r number line (Err fault.Memory) = Unit {0}
-IsTaken r number line (Err fault.Read) = ⊥
-IsTaken r number line (Err (fault.Long at)) = ⊥
-IsTaken r number line (Err fault.Many) = ⊥
+abbrev pub IsTakenAs : AllRecords → Read → ℕ → Item → Result Checker CheckFault → Type 0
+IsTakenAs start r number it (Ok after) = (behind : Read) × (next r it ≡ Some behind) × Follows start after behind
+IsTakenAs start r number it (Err (fault.Text at)) = (at ≡ number) × (next r it ≡ None)
+IsTakenAs start r number it (Err fault.Memory) = Unit {0}
+IsTakenAs start r number it (Err fault.Read) = ⊥
+IsTakenAs start r number it (Err (fault.Long at)) = ⊥
+IsTakenAs start r number it (Err fault.Many) = ⊥
 
 -- the input ends before the line of this number
-abbrev pub IsEnd : Read → ℕ → Result Ending CheckFault → Type 0
-IsEnd r number (Ok ending) = (is_whole r.place ≡ true) × IsEndedAs r.account ending
-IsEnd r number (Err (fault.Text at)) = (at ≡ number) × (is_whole r.place ≡ false)
-IsEnd r number (Err fault.Memory) = ⊥
-IsEnd r number (Err fault.Read) = ⊥
-IsEnd r number (Err (fault.Long at)) = ⊥
-IsEnd r number (Err fault.Many) = ⊥
+abbrev pub IsEnd : AllRecords → Read → ℕ → Result Ending CheckFault → Type 0
+IsEnd start r number (Ok ending) = (is_whole r.place ≡ true) × IsEndedFrom start r.account ending
+IsEnd start r number (Err (fault.Text at)) = (at ≡ number) × (is_whole r.place ≡ false)
+IsEnd start r number (Err fault.Memory) = ⊥
+IsEnd start r number (Err fault.Read) = ⊥
+IsEnd start r number (Err (fault.Long at)) = ⊥
+IsEnd start r number (Err fault.Many) = ⊥
 
 -- All lines are items, and well shaped; the committed transactions are judged so.
 pub record IsVerdict (text : List ℕ) (verdict : Verdict) : Type 0 where

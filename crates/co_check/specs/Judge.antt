@@ -4,7 +4,7 @@ use Rattle.std.specs.Cmp.Lexicographic.{pointwise}
 use Rattle.std.specs.String.{string_bytes}
 use Rattle.std.specs.declared.string.String.{String}
 use Rattle.co_check.specs.Text.{told_in}
-use Rattle.co_check.specs.Written.{IsWrittenAs}
+use Rattle.co_check.specs.Written.{IsWrittenAs, IsWrittenResumed}
 use Rattle.co_check.specs.declared.judging.Outcome.{Outcome}
 use Rattle.co_check.specs.declared.judging.Outcome.TheVariants as outcome
 use Rattle.co_check.specs.declared.note.Note.{Note}
@@ -26,6 +26,11 @@ detail_of _ = None
 abbrev pub IsOutcome : Detail → List ℕ → List ℕ → Option (List ℕ) → Outcome → Type 0
 IsOutcome how text held told outcome.Usage = ⊥
 IsOutcome how text held told (outcome.Ended written) = IsWrittenAs (told_in how) text held told written
+
+-- how the judging of a resumed run ends
+abbrev pub IsResumedOutcome : List ℕ → List ℕ → Option (List ℕ) → Outcome → Type 0
+IsResumedOutcome text held told outcome.Usage = ⊥
+IsResumedOutcome text held told (outcome.Ended written) = IsWrittenResumed text held told written
 
 abbrev pub exit_code : Outcome → ℕ
 exit_code outcome.Usage = 2

@@ -1,19 +1,20 @@
--- For which account a ledger stands, and what one more line leaves of it.
+-- For which account a ledger stands whose serial run began with these records, and what one more line leaves of it.
 use Rattle.std.specs.Prelude.{Bool, true, false, ◌≡◌, List, ◌∷◌, length, Option, None, Some}
 use Rattle.co_serial.specs.Records.{Records}
 use Rattle.co_serial.specs.Family.{family_of}
+use Rattle.co_serial.specs.SerialRun.{AllRecords}
 use Rattle.co_check.specs.declared.checker.Checker.{Checker}
 use Rattle.co_check.specs.declared.ledger.Difference.{Difference}
 use Rattle.co_check.specs.declared.ledger.Ledger.{Ledger}
 use Rattle.co_check.specs.declared.place.Place.{Place}
 use Rattle.co_check.specs.Account.{Account, Committed}
-use Rattle.co_check.specs.Serial.{IsSerial, IsFirstToDiffer, serial_after}
+use Rattle.co_check.specs.Serial.{IsSerialFrom, IsFirstToDifferFrom, serial_from}
 use Rattle.co_check.specs.Shape.{Read}
 
 -- As long as no transaction differs, the records are those of the serial run; then the first that differs is kept.
-abbrev pub IsJudged : Option Difference → List Records → List Committed → Type 0
-IsJudged None map committed = IsSerial committed × (family_of map ≡ serial_after committed)
-IsJudged (Some d) map committed = IsFirstToDiffer committed d.txn d.at.number d.at.told d.at.serial
+abbrev pub IsJudged : AllRecords → Option Difference → List Records → List Committed → Type 0
+IsJudged start None map committed = IsSerialFrom start committed × (family_of map ≡ serial_from start committed)
+IsJudged start (Some d) map committed = IsFirstToDifferFrom start committed d.txn d.at.number d.at.told d.at.serial
 
 -- the decided transactions are kept, or nothing is
 abbrev pub IsKept : Option (List Committed) → List Committed → Type 0
@@ -24,24 +25,24 @@ abbrev pub kept_more : Option (List Committed) → Committed → Option (List Co
 kept_more None d = None
 kept_more (Some kept) d = Some (d ∷ kept)
 
-pub record Keeps (l : Ledger) (a : Account) : Type 0 where
+pub record Keeps (start : AllRecords) (l : Ledger) (a : Account) : Type 0 where
   pub clients : l.clients ≡ a.clients
   pub count : l.transactions ≡ length a.committed
-  pub judged : IsJudged l.differs l.map a.committed
+  pub judged : IsJudged start l.differs l.map a.committed
   pub kept : IsKept l.kept a.committed
 
 -- a change of the account that may break the shape: it is told whether it did not
-abbrev pub IsChange : Option Account → Bool → Ledger → Type 0
-IsChange None kept after = kept ≡ false
-IsChange (Some a) kept after = (kept ≡ true) × Keeps after a
+abbrev pub IsChange : AllRecords → Option Account → Bool → Ledger → Type 0
+IsChange start None kept after = kept ≡ false
+IsChange start (Some a) kept after = (kept ≡ true) × Keeps start after a
 
 -- where the transcript stands behind one more line, or nothing where the line breaks its shape
-abbrev pub IsNext : Option Read → Option Place → Ledger → Type 0
-IsNext None None after = Unit {0}
-IsNext None (Some place) after = ⊥
-IsNext (Some r) None after = ⊥
-IsNext (Some r) (Some place) after = (place ≡ r.place) × Keeps after r.account
+abbrev pub IsNext : AllRecords → Option Read → Option Place → Ledger → Type 0
+IsNext start None None after = Unit {0}
+IsNext start None (Some place) after = ⊥
+IsNext start (Some r) None after = ⊥
+IsNext start (Some r) (Some place) after = (place ≡ r.place) × Keeps start after r.account
 
-pub record Follows (c : Checker) (r : Read) : Type 0 where
+pub record Follows (start : AllRecords) (c : Checker) (r : Read) : Type 0 where
   pub place : c.place ≡ r.place
-  pub account : Keeps c.ledger r.account
+  pub account : Keeps start c.ledger r.account

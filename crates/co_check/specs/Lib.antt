@@ -4,6 +4,9 @@ pub mod Runs
 pub mod Serial
 pub mod Kept
 pub mod Checked
+pub mod Starts
+pub mod Stages
+pub mod Resumed
 pub mod Taking
 pub mod Text
 pub mod Written

@@ -3,12 +3,12 @@ ghost use Rattle.std.specs.Prelude.{◌≡◌, ◌≤◌, ◌↔◌, ℕ, List, 
 ghost use Rattle.co_outside.specs.Faults.{HasRisen};
 ghost use Rattle.co_outside.specs.Onward.{past, LiesAhead};
 ghost use Rattle.co_outside.specs.Sink.{HasNoted};
-ghost use Rattle.co_check.specs.Judge.{detail_of, is_why, exit_code, note_of, text_of_note, IsOutcome};
+ghost use Rattle.co_check.specs.Judge.{detail_of, is_why, exit_code, note_of, text_of_note, IsOutcome, IsResumedOutcome};
 ghost use Rattle.co_check.specs.declared.text.Detail.{Detail};
 
 use crate::note::{Note, put_note};
 use crate::text::Detail;
-use crate::writing::{Finding, VerdictFault, write_judged};
+use crate::writing::{Finding, Input, VerdictFault, write_judged, write_resumed_check};
 use co_outside::{Sink, Source};
 use std::alloc::Global;
 
@@ -118,7 +118,10 @@ fn outcome_of<S: Source, K: Sink>(
     ensures silent { (result ≡ Outcome.Ended (Err VerdictFault.Write) → ⊥) → K.faults out.new ≡ K.faults out.old }
 {
     match detail_of(words) {
-        Some(detail) => Outcome::Ended(write_judged(alloc, detail, source, out)),
+        Some(detail) => {
+            let judged = write_judged(alloc, Input::Transcript, detail, source, out);
+            Outcome::Ended(judged)
+        }
         None => Outcome::Usage,
     }
 }
@@ -167,6 +170,33 @@ pub fn judge<S: Source, K: Sink, N: Sink>(
         HasNoted held (note_of result) (N.told notes.new) (N.faults notes.old) (N.faults notes.new) (N.lacks notes.old) (N.lacks notes.new) }
 {
     let outcome = outcome_of(alloc, words, source, out);
+    note_outcome(alloc, notes, &outcome);
+    outcome
+}
+
+/// Judges a resumed run of a history: reads from the source the records from which the run started, a line `NODE KEY VALUE` each, and its
+/// transcript behind them, and writes to the sink whether its committed transactions were answered as in a serial run that begins with these
+/// records: `serial N` and the records that this run leaves, or `not serial T LINE`. It trusts nothing that wrote them.
+///
+/// Its clauses say what those of `judge` say, and so do its note and its faults: the lines of the records count where a fault names one. LINE is
+/// the number of an event.
+pub fn judge_resumed<S: Source, K: Sink, N: Sink>(
+    alloc: Global,
+    source: &mut S,
+    out: &mut K,
+    notes: &mut N,
+) -> Outcome
+    ensures judged { (text held : List ℕ) → S.left source.old ≡ Some text → K.told out.old ≡ Some held → IsResumedOutcome text held (K.told out.new) result }
+    ensures heard { (text more : List ℕ) → LiesAhead (past S.gave S.ended S.went_on source.old) (past S.gave S.ended S.went_on source.new) text more →
+        IsResumedOutcome text (K.took out.old) (Some (K.took out.new)) result }
+    ensures read { result ≡ Outcome.Ended (Err VerdictFault.Read) → HasRisen (S.faults source.old) (S.faults source.new) }
+    ensures quiet { (result ≡ Outcome.Ended (Err VerdictFault.Read) → ⊥) → S.faults source.new ≡ S.faults source.old }
+    ensures write { result ≡ Outcome.Ended (Err VerdictFault.Write) → HasRisen (K.faults out.old) (K.faults out.new) }
+    ensures silent { (result ≡ Outcome.Ended (Err VerdictFault.Write) → ⊥) → K.faults out.new ≡ K.faults out.old }
+    ensures noted { (held : List ℕ) → N.told notes.old ≡ Some held →
+        HasNoted held (note_of result) (N.told notes.new) (N.faults notes.old) (N.faults notes.new) (N.lacks notes.old) (N.lacks notes.new) }
+{
+    let outcome = Outcome::Ended(write_resumed_check(alloc, source, out));
     note_outcome(alloc, notes, &outcome);
     outcome
 }

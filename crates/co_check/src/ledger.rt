@@ -3,16 +3,19 @@ ghost use Rattle.std.specs.Prelude.{◌≡◌, ◌≤◌, ◌<◌, ◌+◌, ◌^
 ghost use Rattle.co_base.specs.declared.mark.MarkKind.TheVariants as kind;
 ghost use Rattle.co_state.specs.Table.{look, put, without};
 ghost use Rattle.co_check.specs.Account.{Account, Committed, no_account, unknown, client_in, is_by, begun, told, begins, operates, operated, marked, marked_by, replied};
-ghost use Rattle.co_check.specs.Checked.{IsJudgedAs, IsEndedAs};
+ghost use Rattle.co_check.specs.Checked.{IsEndedFrom};
 ghost use Rattle.co_check.specs.Kept.{Keeps, IsChange, IsJudged, kept_more};
+ghost use Rattle.co_check.specs.Serial.{no_records};
+ghost use Rattle.co_check.specs.Starts.{laid_in};
+ghost use Rattle.co_serial.specs.SerialRun.{AllRecords};
 
 use crate::client::{Answered, Client, Committed};
 use crate::copies::copy_told;
 use crate::serial::{Unlike, first_unlike};
 use crate::verdict::{Ending, Verdict};
-use co_base::{Mark, MarkKind, Node, Op, Reply, Txn};
+use co_base::{Mark, MarkKind, Node, Op, Reply, Row, Txn};
 use co_message::{Answer, Event};
-use co_serial::{SerialMap, Site};
+use co_serial::{MemberRow, SerialMap, Site};
 use co_state::{History, Table};
 use std::alloc::{AllocError, Global};
 
@@ -82,7 +85,8 @@ fn decided_at(alloc: Global, by: Option<Node>) -> Client
 impl Ledger {
     /// Nothing was told. Decided transactions are kept where that is asked for.
     pub(crate) fn new(alloc: Global, keeps: bool) -> Ledger
-        ensures { Keeps result no_account }
+        ensures kept { Keeps no_records result no_account }
+        ensures none { result.transactions ≡ 0 }
     {
         let kept = if keeps {
             Some(History::new(alloc))
@@ -97,6 +101,18 @@ impl Ledger {
             differs: None,
             kept,
         }
+    }
+
+    /// Lays in one more record with which the serial run begins.
+    pub(crate) fn lay_in(&mut self, row: MemberRow) -> Result<(), AllocError>
+        ensures kept { (start : AllRecords) → Keeps start self.old no_account → OnOk result (Keeps (laid_in start row) self.new no_account) }
+        ensures few { OnOk result (self.new.transactions ≡ self.old.transactions) }
+    {
+        let MemberRow {
+            member,
+            row: Row { key, value },
+        } = row;
+        self.map.set(member, key, value)
     }
 
     /// Whether a transaction is decided.
@@ -139,7 +155,7 @@ impl Ledger {
 
     /// A transaction was begun at the node that decides it. Gives whether it was not before.
     fn begin(&mut self, t: Txn, by: Node) -> Result<bool, AllocError>
-        ensures kept { (a : Account) → Keeps self.old a → IfOk result (λ kept. IsChange (begun a t by) kept self.new) }
+        ensures kept { (start : AllRecords) (a : Account) → Keeps start self.old a → IfOk result (λ kept. IsChange start (begun a t by) kept self.new) }
         ensures few { OnOk result (self.new.transactions ≡ self.old.transactions) }
     {
         if self.is_begun(t) {
@@ -152,7 +168,7 @@ impl Ledger {
 
     /// An operation was answered with a reply. It counts where its transaction is not decided.
     fn tell(&mut self, t: Txn, operation: Answered) -> Result<(), AllocError>
-        ensures kept { (a : Account) → Keeps self.old a → OnOk result (Keeps self.new (told a t operation)) }
+        ensures kept { (start : AllRecords) (a : Account) → Keeps start self.old a → OnOk result (Keeps start self.new (told a t operation)) }
         ensures few { OnOk result (self.new.transactions ≡ self.old.transactions) }
     {
         if self.is_decided(t) {
@@ -170,7 +186,7 @@ impl Ledger {
         event: Event,
         answer: Answer,
     ) -> Result<bool, AllocError>
-        ensures kept { (a : Account) → Keeps self.old a → IfOk result (λ kept. IsChange (replied a number event answer) kept self.new) }
+        ensures kept { (start : AllRecords) (a : Account) → Keeps start self.old a → IfOk result (λ kept. IsChange start (replied a number event answer) kept self.new) }
         ensures few { OnOk result (self.new.transactions ≡ self.old.transactions) }
     {
         match answer {
@@ -182,7 +198,7 @@ impl Ledger {
 
     /// An event was answered with `begun`.
     fn begins(&mut self, event: Event) -> Result<bool, AllocError>
-        ensures kept { (a : Account) → Keeps self.old a → IfOk result (λ kept. IsChange (begins a event) kept self.new) }
+        ensures kept { (start : AllRecords) (a : Account) → Keeps start self.old a → IfOk result (λ kept. IsChange start (begins a event) kept self.new) }
         ensures few { OnOk result (self.new.transactions ≡ self.old.transactions) }
     {
         match event {
@@ -194,7 +210,7 @@ impl Ledger {
 
     /// An event was answered with a reply.
     fn operates(&mut self, number: u32, event: Event, reply: Reply) -> Result<bool, AllocError>
-        ensures kept { (a : Account) → Keeps self.old a → IfOk result (λ kept. IsChange (operates a number event reply) kept self.new) }
+        ensures kept { (start : AllRecords) (a : Account) → Keeps start self.old a → IfOk result (λ kept. IsChange start (operates a number event reply) kept self.new) }
         ensures few { OnOk result (self.new.transactions ≡ self.old.transactions) }
     {
         match event {
@@ -226,7 +242,7 @@ impl Ledger {
         op: Op,
         reply: Reply,
     ) -> Result<bool, AllocError>
-        ensures kept { (a : Account) → Keeps self.old a → IfOk result (λ kept. IsChange (operated a number t member op reply) kept self.new) }
+        ensures kept { (start : AllRecords) (a : Account) → Keeps start self.old a → IfOk result (λ kept. IsChange start (operated a number t member op reply) kept self.new) }
         ensures few { OnOk result (self.new.transactions ≡ self.old.transactions) }
     {
         let site = Site { member, op };
@@ -244,7 +260,7 @@ impl Ledger {
     /// A record became stable. Gives whether it is no second decision of a transaction.
     pub(crate) fn mark(&mut self, mark: Mark) -> Result<bool, AllocError>
         requires { self.old.transactions + 1 < 2 ^ 32 }
-        ensures kept { (a : Account) → Keeps self.old a → IfOk result (λ kept. IsChange (marked a mark) kept self.new) }
+        ensures kept { (start : AllRecords) (a : Account) → Keeps start self.old a → IfOk result (λ kept. IsChange start (marked a mark) kept self.new) }
         ensures few { OnOk result (self.new.transactions ≤ self.old.transactions + 1) }
     {
         match mark.kind {
@@ -256,7 +272,7 @@ impl Ledger {
     /// A commit record of a transaction became stable at a node. It is the decision where that node decides the transaction.
     fn commit(&mut self, at: Node, t: Txn) -> Result<bool, AllocError>
         requires { self.old.transactions + 1 < 2 ^ 32 }
-        ensures kept { (a : Account) → Keeps self.old a → IfOk result (λ kept. IsChange (marked_by kind.Commit a at t) kept self.new) }
+        ensures kept { (start : AllRecords) (a : Account) → Keeps start self.old a → IfOk result (λ kept. IsChange start (marked_by kind.Commit a at t) kept self.new) }
         ensures few { OnOk result (self.new.transactions ≤ self.old.transactions + 1) }
     {
         if !self.decides(t, at) {
@@ -303,8 +319,8 @@ impl Ledger {
 
     /// Runs a decided transaction whole behind the earlier ones, as long as none of those differs.
     fn run(&mut self, t: Txn, told: History<Answered>) -> Result<(), AllocError>
-        ensures judged { (committed : List Committed) → IsJudged self.old.differs self.old.map committed →
-            OnOk result (IsJudged self.new.differs self.new.map (record { txn = t; told = told } ∷ committed)) }
+        ensures judged { (start : AllRecords) (committed : List Committed) → IsJudged start self.old.differs self.old.map committed →
+            OnOk result (IsJudged start self.new.differs self.new.map (record { txn = t; told = told } ∷ committed)) }
         ensures rest { OnOk result ((self.new.clients ≡ self.old.clients) × (self.new.transactions ≡ self.old.transactions) × (self.new.kept ≡ self.old.kept)) }
     {
         if self.differs.is_some() {
@@ -321,7 +337,7 @@ impl Ledger {
 
     /// What the committed transactions were found to be, and those of them that were kept.
     pub(crate) fn ending(self) -> Ending
-        ensures { (a : Account) → Keeps self a → IsEndedAs a result }
+        ensures { (start : AllRecords) (a : Account) → Keeps start self a → IsEndedFrom start a result }
     {
         let Ledger {
             alloc: _,

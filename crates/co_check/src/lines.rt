@@ -1,12 +1,15 @@
-//! The lines of a transcript.
+//! The lines of a transcript, and of records in front of one.
 ghost use Rattle.std.specs.Prelude.{◌≡◌, ◌<◌, ◌≤◌, ◌+◌, ◌^◌, ℕ, List, Some, IsErrOf};
 ghost use Rattle.co_outside.specs.Faults.{HasRisen};
 ghost use Rattle.co_outside.specs.Onward.{past, IsOnward, LiesAhead};
 ghost use Rattle.co_check.specs.Checked.{IsCheck, IsReading, verdict_of};
-ghost use Rattle.co_check.specs.Taking.{HasTaken, IsWithin, IsStep, IsFurther, told_as, further_of, judged_of};
+ghost use Rattle.co_check.specs.Resumed.{Stands, IsReadingFrom, IsResumedCheck};
+ghost use Rattle.co_check.specs.Stages.{Stage};
+ghost use Rattle.co_check.specs.Taking.{HasTaken, IsWithin, IsStep, IsFurther, decided_by, told_as, further_of, judged_of};
 
 use crate::checker::Checker;
 use crate::fault::CheckFault;
+use crate::reader::Reader;
 use crate::verdict::{Ending, Verdict};
 use co_outside::Source;
 use co_schedule::{Lines, LinesFault, MOST_OF_TEXT};
@@ -26,14 +29,14 @@ fn of_lines(fault: LinesFault) -> CheckFault
 
 /// What one more line comes to.
 enum Step {
-    /// It is an item that keeps the shape.
-    Further(Checker),
+    /// It may stand there.
+    Further(Reader),
     /// There is none, and the transcript is whole.
     Judged(Ending),
 }
 
 /// The step of a line that was taken so.
-fn further(taken: Result<Checker, CheckFault>) -> Result<Step, CheckFault>
+fn further(taken: Result<Reader, CheckFault>) -> Result<Step, CheckFault>
     ensures { result ≡ further_of taken }
 {
     Ok(Step::Further(taken?))
@@ -46,32 +49,52 @@ fn judged(ending: Result<Ending, CheckFault>) -> Result<Step, CheckFault>
     Ok(Step::Judged(ending?))
 }
 
-/// Takes the next line, which has this number; where there is none, the transcript is judged.
+/// Takes the next line, which has this number; where there is none, what was read is judged.
 fn take_line<S: Source>(
     alloc: Global,
     lines: &mut Lines,
     source: &mut S,
-    checker: Checker,
+    reader: Reader,
     number: u32,
 ) -> Result<Step, CheckFault>
-    requires few { checker.ledger.transactions + 1 < 2 ^ 32 }
+    requires few { decided_by reader + 1 < 2 ^ 32 }
     requires within { IsWithin number lines.old }
-    ensures checked { (text : List ℕ) → HasTaken text lines.old (S.left source.old) checker → IsStep text lines.new (S.left source.new) result }
-    ensures heard { (whole text more : List ℕ) → LiesAhead (past S.gave S.ended S.went_on source.old) (past S.gave S.ended S.went_on source.new) text more → HasTaken whole lines.old (Some text) checker → IsStep whole lines.new (Some more) result }
+    ensures checked { (s : Stage) (text : List ℕ) → HasTaken s text lines.old (S.left source.old) reader → IsStep s text lines.new (S.left source.new) result }
+    ensures heard { (s : Stage) (whole text more : List ℕ) → LiesAhead (past S.gave S.ended S.went_on source.old) (past S.gave S.ended S.went_on source.new) text more → HasTaken s whole lines.old (Some text) reader → IsStep s whole lines.new (Some more) result }
     ensures onward { IsOnward (past S.gave S.ended S.went_on source.old) (past S.gave S.ended S.went_on source.new) }
-    ensures further { IsFurther number checker lines.new result }
+    ensures further { IsFurther number reader lines.new result }
     ensures counts { S.faults source.old ≤ S.faults source.new }
     ensures read { IsErrOf result CheckFault.Read → HasRisen (S.faults source.old) (S.faults source.new) }
     ensures quiet { (IsErrOf result CheckFault.Read → ⊥) → S.faults source.new ≡ S.faults source.old }
 {
     match lines.next(source) {
-        Ok(Some(line)) => further(checker.line(alloc, number, line)),
-        Ok(None) => judged(checker.end(number)),
+        Ok(Some(line)) => further(reader.line(alloc, number, line)),
+        Ok(None) => judged(reader.end(number)),
         Err(fault) => {
-            drop(checker);
+            drop(reader);
             Err(of_lines(fault))
         }
     }
+}
+
+/// Reads on from what a reader read, and gives the verdict. The faults are those of `check_items`.
+fn read_on<S: Source>(alloc: Global, source: &mut S, reader: Reader) -> Result<Ending, CheckFault>
+    requires { decided_by reader ≡ 0 }
+    ensures checked { (s : Stage) (text : List ℕ) → Stands reader s → S.left source.old ≡ Some text → IsReadingFrom s text result }
+    ensures heard { (s : Stage) (text more : List ℕ) → Stands reader s → LiesAhead (past S.gave S.ended S.went_on source.old) (past S.gave S.ended S.went_on source.new) text more → IsReadingFrom s text result }
+    ensures counts { S.faults source.old ≤ S.faults source.new }
+    ensures read { IsErrOf result CheckFault.Read → HasRisen (S.faults source.old) (S.faults source.new) }
+    ensures quiet { (IsErrOf result CheckFault.Read → ⊥) → S.faults source.new ≡ S.faults source.old }
+{
+    let mut lines = Lines::new(alloc, MOST_OF_TEXT, MOST_OF_TEXT)?;
+    let mut reader = reader;
+    for number in 1..MOST_OF_TEXT + 2 {
+        match take_line(alloc, &mut lines, source, reader, number)? {
+            Step::Further(after) => reader = after,
+            Step::Judged(ending) => return Ok(ending),
+        }
+    }
+    unreachable!()
 }
 
 /// Reads a transcript from the source, and gives the verdict on it; with the committed transactions, where they are to be kept. The faults are
@@ -87,15 +110,11 @@ pub fn read_items<S: Source>(
     ensures read { IsErrOf result CheckFault.Read → HasRisen (S.faults source.old) (S.faults source.new) }
     ensures quiet { (IsErrOf result CheckFault.Read → ⊥) → S.faults source.new ≡ S.faults source.old }
 {
-    let mut lines = Lines::new(alloc, MOST_OF_TEXT, MOST_OF_TEXT)?;
-    let mut checker = Checker::new(alloc, keeps);
-    for number in 1..MOST_OF_TEXT + 2 {
-        match take_line(alloc, &mut lines, source, checker, number)? {
-            Step::Further(after) => checker = after,
-            Step::Judged(ending) => return Ok(ending),
-        }
-    }
-    unreachable!()
+    read_on(
+        alloc,
+        source,
+        Reader::Transcript(Checker::new(alloc, keeps)),
+    )
 }
 
 /// The verdict of an ending.
@@ -123,4 +142,19 @@ pub fn check_items<S: Source>(alloc: Global, source: &mut S) -> Result<Verdict, 
     ensures quiet { (IsErrOf result CheckFault.Read → ⊥) → S.faults source.new ≡ S.faults source.old }
 {
     verdict_of(read_items(alloc, source, false))
+}
+
+/// Reads from the source the records from which a resumed run started, a line `NODE KEY VALUE` each, and its transcript behind them, and tells
+/// whether its committed transactions read what a serial run reads that begins with these records.
+///
+/// The records stand as durable records are written: members ascending, and the keys of each ascending. The first line that is no record is the
+/// head of the transcript, and headers are not wanted. The rest is as `check_items` says; every line counts, those of the records too.
+pub fn check_resumed<S: Source>(alloc: Global, source: &mut S) -> Result<Verdict, CheckFault>
+    ensures checked { (text : List ℕ) → S.left source.old ≡ Some text → IsResumedCheck text result }
+    ensures heard { (text more : List ℕ) → LiesAhead (past S.gave S.ended S.went_on source.old) (past S.gave S.ended S.went_on source.new) text more → IsResumedCheck text result }
+    ensures counts { S.faults source.old ≤ S.faults source.new }
+    ensures read { IsErrOf result CheckFault.Read → HasRisen (S.faults source.old) (S.faults source.new) }
+    ensures quiet { (IsErrOf result CheckFault.Read → ⊥) → S.faults source.new ≡ S.faults source.old }
+{
+    verdict_of(read_on(alloc, source, Reader::new(alloc)))
 }

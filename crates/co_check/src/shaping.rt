@@ -2,6 +2,7 @@
 ghost use Rattle.std.specs.Prelude.{◌≡◌, ◌<◌, ◌≤◌, ◌+◌, ◌^◌, ◌==◌, false, Some, IfOk, OnOk};
 ghost use Rattle.co_check.specs.Account.{Account, marked, replied};
 ghost use Rattle.co_check.specs.Kept.{Keeps, IsNext};
+ghost use Rattle.co_serial.specs.SerialRun.{AllRecords};
 ghost use Rattle.co_check.specs.declared.ledger.Ledger.{Ledger};
 ghost use Rattle.co_check.specs.declared.place.Place.TheVariants.{InHead, InGroup, Behind};
 ghost use Rattle.co_check.specs.Shape.{has_node, has_members, has_coords, has_headers, with_header, number_at, at_place, at_front, is_open, opens, sends, in_head, in_group, behind, told_at, next};
@@ -93,7 +94,7 @@ fn is_open(answer: &Answer) -> bool
 
 /// The answer that ends the group of the head.
 fn opens(head: Head, seen: Sequence<Node>, answer: Answer) -> Option<Place>
-    ensures { (l : Ledger) (a : Account) → Keeps l a → IsNext (opens a head seen answer) result l }
+    ensures { (start : AllRecords) (l : Ledger) (a : Account) → Keeps start l a → IsNext start (opens a head seen answer) result l }
 {
     if is_open(&answer) && has_headers(seen.as_slice(), &head) {
         return Some(Place::Behind { head, number: 1 });
@@ -104,7 +105,7 @@ fn opens(head: Head, seen: Sequence<Node>, answer: Answer) -> Option<Place>
 
 /// A message in the group of the head, behind which no mark may stand: every header has been told.
 fn sends(head: Head, seen: Sequence<Node>) -> Option<Place>
-    ensures { (l : Ledger) (a : Account) → Keeps l a → IsNext (sends a head seen) result l }
+    ensures { (start : AllRecords) (l : Ledger) (a : Account) → Keeps start l a → IsNext start (sends a head seen) result l }
 {
     if has_headers(seen.as_slice(), &head) {
         return Some(Place::InHead {
@@ -124,7 +125,7 @@ fn in_head(
     sending: bool,
     what: ItemKind,
 ) -> Result<Option<Place>, AllocError>
-    ensures { (l : Ledger) (a : Account) → Keeps l a → IfOk result (λ place. IsNext (in_head a head seen sending what) place l) }
+    ensures { (start : AllRecords) (l : Ledger) (a : Account) → Keeps start l a → IfOk result (λ place. IsNext start (in_head a head seen sending what) place l) }
 {
     match what {
         ItemKind::Log(mark) if !sending => marked_in_head(head, seen, mark),
@@ -146,7 +147,7 @@ fn marked_in_group(
     mark: Mark,
 ) -> Result<Option<Place>, AllocError>
     requires { ledger.old.transactions + 1 < 2 ^ 32 }
-    ensures next { (a : Account) → Keeps ledger.old a → IfOk result (λ place. IsNext (at_place (InGroup head number event false) (marked a mark)) place ledger.new) }
+    ensures next { (start : AllRecords) (a : Account) → Keeps start ledger.old a → IfOk result (λ place. IsNext start (at_place (InGroup head number event false) (marked a mark)) place ledger.new) }
     ensures few { OnOk result (ledger.new.transactions ≤ ledger.old.transactions + 1) }
 {
     if ledger.mark(mark)? {
@@ -170,7 +171,7 @@ fn replied_in_group(
     answer: Answer,
 ) -> Result<Option<Place>, AllocError>
     requires { ledger.old.transactions + 1 < 2 ^ 32 }
-    ensures next { (a : Account) → Keeps ledger.old a → IfOk result (λ place. IsNext (at_place (Behind head number) (replied a number event answer)) place ledger.new) }
+    ensures next { (start : AllRecords) (a : Account) → Keeps start ledger.old a → IfOk result (λ place. IsNext start (at_place (Behind head number) (replied a number event answer)) place ledger.new) }
     ensures few { OnOk result (ledger.new.transactions ≤ ledger.old.transactions + 1) }
 {
     if ledger.reply(number, event, answer)? {
@@ -191,7 +192,7 @@ fn in_group(
     what: ItemKind,
 ) -> Result<Option<Place>, AllocError>
     requires { ledger.old.transactions + 1 < 2 ^ 32 }
-    ensures next { (a : Account) → Keeps ledger.old a → IfOk result (λ place. IsNext (in_group a head number event sending what) place ledger.new) }
+    ensures next { (start : AllRecords) (a : Account) → Keeps start ledger.old a → IfOk result (λ place. IsNext start (in_group a head number event sending what) place ledger.new) }
     ensures few { OnOk result (ledger.new.transactions ≤ ledger.old.transactions + 1) }
 {
     match what {
@@ -212,7 +213,7 @@ fn in_group(
 
 /// A line behind a whole group.
 fn behind(head: Head, number: u32, what: ItemKind) -> Option<Place>
-    ensures { (l : Ledger) (a : Account) → Keeps l a → IsNext (behind a head number what) result l }
+    ensures { (start : AllRecords) (l : Ledger) (a : Account) → Keeps start l a → IsNext start (behind a head number what) result l }
 {
     match what {
         ItemKind::Event(event) => {
@@ -236,7 +237,7 @@ fn behind(head: Head, number: u32, what: ItemKind) -> Option<Place>
 
 /// The first line, which is a head.
 fn at_front(alloc: Global, what: ItemKind) -> Option<Place>
-    ensures { (l : Ledger) (a : Account) → Keeps l a → IsNext (at_front a what) result l }
+    ensures { (start : AllRecords) (l : Ledger) (a : Account) → Keeps start l a → IsNext start (at_front a what) result l }
 {
     match what {
         ItemKind::Head(head) => Some(Place::InHead {
@@ -269,7 +270,7 @@ fn told_at(
 ) -> Result<Option<Place>, AllocError>
     requires few { ledger.old.transactions + 1 < 2 ^ 32 }
     requires numbered { number ≡ number_at place }
-    ensures next { (a : Account) → Keeps ledger.old a → IfOk result (λ after. IsNext (told_at a place what) after ledger.new) }
+    ensures next { (start : AllRecords) (a : Account) → Keeps start ledger.old a → IfOk result (λ after. IsNext start (told_at a place what) after ledger.new) }
     ensures few { OnOk result (ledger.new.transactions ≤ ledger.old.transactions + 1) }
 {
     match place {
@@ -297,7 +298,7 @@ pub(crate) fn next(
     item: Item,
 ) -> Result<Option<Place>, AllocError>
     requires { ledger.old.transactions + 1 < 2 ^ 32 }
-    ensures next { (a : Account) → Keeps ledger.old a → IfOk result (λ after. IsNext (next (record { place = place; account = a }) item) after ledger.new) }
+    ensures next { (start : AllRecords) (a : Account) → Keeps start ledger.old a → IfOk result (λ after. IsNext start (next (record { place = place; account = a }) item) after ledger.new) }
     ensures few { OnOk result (ledger.new.transactions ≤ ledger.old.transactions + 1) }
 {
     let Item { number, what } = item;

@@ -3,16 +3,25 @@ ghost use Rattle.std.specs.Prelude.{◌≡◌, ◌≤◌, ℕ, List, Some, IsErr
 ghost use Rattle.co_outside.specs.Faults.{HasRisen};
 ghost use Rattle.co_outside.specs.Onward.{past, LiesAhead};
 ghost use Rattle.co_check.specs.Text.{told_in};
-ghost use Rattle.co_check.specs.Written.{finding_of, fault_of, IsPutAs, IsWritten, IsWrittenAs};
+ghost use Rattle.co_check.specs.Written.{finding_of, fault_of, answers_of, IsPutAs, IsWritten, IsWrittenBy, IsWrittenResumed};
 
 use crate::fault::CheckFault;
-use crate::lines::check_items;
+use crate::lines::{check_items, check_resumed};
 use crate::text::{Detail, put_verdict};
 use crate::verdict::Verdict;
 use co_base::Txn;
 use co_outside::{Sink, SinkFault, Source, put_all};
 use std::alloc::{AllocError, Global};
 use thiserror::Error;
+
+/// What is judged.
+#[derive(Clone, Copy)]
+pub enum Input {
+    /// A transcript.
+    Transcript,
+    /// The records from which a resumed run started, and its transcript behind them.
+    Resumed,
+}
 
 /// What checking found.
 #[derive(Clone, Copy)]
@@ -111,15 +120,30 @@ fn write_verdict<K: Sink>(
     }
 }
 
-/// Reads a transcript, judges it and writes so much of the verdict.
+/// Reads an input and judges it.
+fn verdict_on<S: Source>(alloc: Global, input: Input, source: &mut S) -> Result<Verdict, CheckFault>
+    ensures checked { (text : List ℕ) → S.left source.old ≡ Some text → answers_of input text result }
+    ensures heard { (text more : List ℕ) → LiesAhead (past S.gave S.ended S.went_on source.old) (past S.gave S.ended S.went_on source.new) text more → answers_of input text result }
+    ensures counts { S.faults source.old ≤ S.faults source.new }
+    ensures read { IsErrOf result CheckFault.Read → HasRisen (S.faults source.old) (S.faults source.new) }
+    ensures quiet { (IsErrOf result CheckFault.Read → ⊥) → S.faults source.new ≡ S.faults source.old }
+{
+    match input {
+        Input::Transcript => check_items(alloc, source),
+        Input::Resumed => check_resumed(alloc, source),
+    }
+}
+
+/// Reads an input, judges it and writes so much of the verdict.
 pub(crate) fn write_judged<S: Source, K: Sink>(
     alloc: Global,
+    input: Input,
     detail: Detail,
     source: &mut S,
     out: &mut K,
 ) -> Result<Finding, VerdictFault>
-    ensures written { (text held : List ℕ) → S.left source.old ≡ Some text → K.told out.old ≡ Some held → IsWrittenAs (told_in detail) text held (K.told out.new) result }
-    ensures heard { (text more : List ℕ) → LiesAhead (past S.gave S.ended S.went_on source.old) (past S.gave S.ended S.went_on source.new) text more → IsWrittenAs (told_in detail) text (K.took out.old) (Some (K.took out.new)) result }
+    ensures written { (text held : List ℕ) → S.left source.old ≡ Some text → K.told out.old ≡ Some held → IsWrittenBy (told_in detail) (answers_of input) text held (K.told out.new) result }
+    ensures heard { (text more : List ℕ) → LiesAhead (past S.gave S.ended S.went_on source.old) (past S.gave S.ended S.went_on source.new) text more → IsWrittenBy (told_in detail) (answers_of input) text (K.took out.old) (Some (K.took out.new)) result }
     ensures reads { S.faults source.old ≤ S.faults source.new }
     ensures read { IsErrOf result VerdictFault.Read → HasRisen (S.faults source.old) (S.faults source.new) }
     ensures quiet { (IsErrOf result VerdictFault.Read → ⊥) → S.faults source.new ≡ S.faults source.old }
@@ -127,7 +151,7 @@ pub(crate) fn write_judged<S: Source, K: Sink>(
     ensures write { IsErrOf result VerdictFault.Write → HasRisen (K.faults out.old) (K.faults out.new) }
     ensures silent { (IsErrOf result VerdictFault.Write → ⊥) → K.faults out.new ≡ K.faults out.old }
 {
-    match check_items(alloc, source) {
+    match verdict_on(alloc, input, source) {
         Ok(verdict) => write_verdict(alloc, detail, out, &verdict),
         Err(fault) => Err(fault_of(fault)),
     }
@@ -152,5 +176,24 @@ pub fn write_check<S: Source, K: Sink>(
     ensures write { IsErrOf result VerdictFault.Write → HasRisen (K.faults out.old) (K.faults out.new) }
     ensures silent { (IsErrOf result VerdictFault.Write → ⊥) → K.faults out.new ≡ K.faults out.old }
 {
-    write_judged(alloc, Detail::Verdict, source, out)
+    write_judged(alloc, Input::Transcript, Detail::Verdict, source, out)
+}
+
+/// Reads from the source the records from which a resumed run started and its transcript behind them, judges it as `check_resumed` does, and writes
+/// the text of the verdict to the sink, as `write_check` does, with the same faults.
+pub fn write_resumed_check<S: Source, K: Sink>(
+    alloc: Global,
+    source: &mut S,
+    out: &mut K,
+) -> Result<Finding, VerdictFault>
+    ensures written { (text held : List ℕ) → S.left source.old ≡ Some text → K.told out.old ≡ Some held → IsWrittenResumed text held (K.told out.new) result }
+    ensures heard { (text more : List ℕ) → LiesAhead (past S.gave S.ended S.went_on source.old) (past S.gave S.ended S.went_on source.new) text more → IsWrittenResumed text (K.took out.old) (Some (K.took out.new)) result }
+    ensures reads { S.faults source.old ≤ S.faults source.new }
+    ensures read { IsErrOf result VerdictFault.Read → HasRisen (S.faults source.old) (S.faults source.new) }
+    ensures quiet { (IsErrOf result VerdictFault.Read → ⊥) → S.faults source.new ≡ S.faults source.old }
+    ensures counts { K.faults out.old ≤ K.faults out.new }
+    ensures write { IsErrOf result VerdictFault.Write → HasRisen (K.faults out.old) (K.faults out.new) }
+    ensures silent { (IsErrOf result VerdictFault.Write → ⊥) → K.faults out.new ≡ K.faults out.old }
+{
+    write_judged(alloc, Input::Resumed, Detail::Verdict, source, out)
 }

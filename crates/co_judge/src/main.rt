@@ -8,11 +8,11 @@
 
 ghost use Rattle.std.specs.Prelude.{◌≡◌, ◌↔◌, ℕ, List, Some, None};
 ghost use Rattle.co_outside.specs.Onward.{past, LiesAhead};
-ghost use Rattle.co_check.specs.Judge.{detail_of, IsOutcome};
+ghost use Rattle.co_check.specs.Judge.{detail_of, IsOutcome, IsResumedOutcome};
 ghost use Rattle.co_check.specs.declared.text.Detail.{Detail};
 ghost use Rattle.co_order.specs.Answer.{IsOrdered};
 
-use co_check::{Outcome, VerdictFault, judge, note_outcome};
+use co_check::{Outcome, VerdictFault, judge, judge_resumed, note_outcome};
 use co_order::{Answer, judge_order};
 use co_outside::{Sink, SinkStd, Source, SourceStd};
 use std::alloc::Global;
@@ -48,10 +48,27 @@ fn judge_streams<R: Read + Drop, W: Write + Drop, N: Write + Drop>(
     judge(alloc, words, source, out, notes)
 }
 
-/// Whether the words ask for an order.
-fn asks_for_order(words: &[String]) -> bool {
+/// Judges a resumed run that a stream gives, the records from which it started in front, and writes to streams. Of each text that begins with the bytes
+/// that were given, and goes on with whatever comes behind them, with nothing where the stream ended: the bytes that were taken are the verdict on it,
+/// whole or, with a fault, a front of that.
+fn resumed_streams<R: Read + Drop, W: Write + Drop, N: Write + Drop>(
+    alloc: Global,
+    source: &mut SourceStd<R>,
+    out: &mut SinkStd<W>,
+    notes: &mut SinkStd<N>,
+) -> Outcome
+    ensures heard { (text more : List ℕ) →
+        let now = past ⟦<SourceStd<R> as Source>⟧.gave ⟦<SourceStd<R> as Source>⟧.ended ⟦<SourceStd<R> as Source>⟧.went_on in
+        LiesAhead (now source.old) (now source.new) text more →
+        IsResumedOutcome text (⟦<SinkStd<W> as Sink>⟧.took out.old) (Some (⟦<SinkStd<W> as Sink>⟧.took out.new)) result }
+{
+    judge_resumed(alloc, source, out, notes)
+}
+
+/// Whether the words are this one.
+fn is_word(words: &[String], known: &str) -> bool {
     match words {
-        [word] => word.as_str() == "order",
+        [word] => word.as_str() == known,
         _ => false,
     }
 }
@@ -88,6 +105,14 @@ fn judge_here(rt: &HostRuntime, words: &[String]) -> Outcome {
     judge_streams(rt.alloc(), words, &mut source, &mut out, &mut notes)
 }
 
+/// Judges a resumed run over the standard streams.
+fn resumed_here(rt: &HostRuntime) -> Outcome {
+    let mut source = SourceStd::new(rt.stdin());
+    let mut out = SinkStd::new(rt.stdout());
+    let mut notes = SinkStd::new(rt.stderr());
+    resumed_streams(rt.alloc(), &mut source, &mut out, &mut notes)
+}
+
 /// Notes an outcome that came before any judging.
 fn refused(rt: &HostRuntime, outcome: Outcome) -> Outcome {
     let mut notes = SinkStd::new(rt.stderr());
@@ -98,10 +123,14 @@ fn refused(rt: &HostRuntime, outcome: Outcome) -> Outcome {
 fn main(rt: HostRuntime) -> ExitCode {
     let outcome = match words_of(&rt) {
         Ok(words) => {
-            if asks_for_order(&words) {
+            if is_word(&words, "order") {
                 return ExitCode::from(order_here(&rt));
             }
-            judge_here(&rt, &words)
+            if is_word(&words, "resumed") {
+                resumed_here(&rt)
+            } else {
+                judge_here(&rt, &words)
+            }
         }
         Err(e) if e.kind() == ErrorKind::OutOfMemory => {
             refused(&rt, Outcome::Ended(Err(VerdictFault::Memory)))

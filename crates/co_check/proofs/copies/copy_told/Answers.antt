@@ -1,4 +1,4 @@
-use Rattle.std.proofs.Common.{◌≡◌, ◌≤◌, ◌∙◌, ◌+◌, ◌∷◌, ◌++◌, [], length, take, reverse, ap, sym, arith, take_all}
+use Rattle.std.proofs.Common.{◌≤◌, ◌∙◌, ◌∷◌, length, take, reverse, ap, sym, arith, take_all}
 use Rattle.std.proofs.lemmas.List.{take_more, reverse-append, reverse-reverse}
 use Rattle.co_check.proofs.copies.copy_told.Goals as goal
 

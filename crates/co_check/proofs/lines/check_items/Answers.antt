@@ -1,6 +1,6 @@
-use Rattle.std.proofs.Common.{◌≡◌, sym, subst}
+use Rattle.std.proofs.Common.{sym, subst}
 use Rattle.co_check.specs.Checked.{IsCheck}
-use Rattle.co_check.proofs.Reading.{reading_checks}
+use Rattle.co_check.proofs.Plainly.{reading_checks}
 use Rattle.co_check.proofs.lines.check_items.Goals as goal
 
 pub returns-clause-checked : goal.returns-clause-checked

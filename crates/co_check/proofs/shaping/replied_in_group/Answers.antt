@@ -6,11 +6,11 @@ use Rattle.co_check.proofs.Ledgers.{goes_on, breaks}
 use Rattle.co_check.proofs.shaping.replied_in_group.Goals as goal
 
 pub returns-then-branch-clause-next : goal.returns-then-branch-clause-next
-returns-then-branch-clause-next c = λ a k.
+returns-then-branch-clause-next c = λ start a k.
     let after = replied a c.args.number c.args.event c.args.answer in
-    goes_on after (Behind c.args.head c.args.number) c.reply.new.self (subst (λ b. IsChange after b c.reply.new.self) c.if-branch.true (c.in_ok-reply.ensures.kept a k))
+    goes_on start after (Behind c.args.head c.args.number) c.reply.new.self (subst (λ b. IsChange start after b c.reply.new.self) c.if-branch.true (c.in_ok-reply.ensures.kept start a k))
 
 pub returns-else-branch-clause-next : goal.returns-else-branch-clause-next
-returns-else-branch-clause-next c = λ a k.
+returns-else-branch-clause-next c = λ start a k.
     let after = replied a c.args.number c.args.event c.args.answer in
-    breaks after (Behind c.args.head c.args.number) c.reply.new.self (subst (λ b. IsChange after b c.reply.new.self) c.if-branch.false (c.in_ok-reply.ensures.kept a k))
+    breaks start after (Behind c.args.head c.args.number) c.reply.new.self (subst (λ b. IsChange start after b c.reply.new.self) c.if-branch.false (c.in_ok-reply.ensures.kept start a k))
