@@ -66,19 +66,28 @@ def sweep(name, program, words, text, before, shim, work):
             if not whole[1].startswith(out):
                 faults.append(f"request {number}: told another text")
         if number and words[0] == "run" and os.path.isdir(directory):
-            faults += [f"request {number}: {it}" for it in left(program, directory, out, start)]
+            faults += [f"request {number}: {it}" for it in left(program, directory, text[0], out, start)]
         number += 1
     print(f"{name}: {all_requests} requests; {wanting} runs ended for want of memory, {same} as with all of it; {len(faults)} faults")
     return faults
 
 
-def left(program, directory, out, start):
+def left(program, directory, head, out, start):
+    """What does not hold of the files of a run: they give the records of what was told, and a run that is resumed opens them."""
     reading = Reading(start)
     for line in out.splitlines(True):
         if line.endswith("\n"):
             reading.line(line[:-1])
     found, fault = records(program, directory)
-    return [fault] if fault else may_be_left(reading, found)
+    return [fault] if fault else may_be_left(reading, found) + resumed(program, directory, head)
+
+
+def resumed(program, directory, head):
+    """What does not hold of a run that goes on over the files, with its head alone."""
+    done = subprocess.run([program, "run", "--resume", directory], input=f"{head}\n", stdout=subprocess.PIPE, stderr=subprocess.PIPE, text=True)
+    if done.returncode or not done.stdout.endswith(" reply open\n"):
+        return [f"a resumed run ended with {done.returncode}: {done.stderr.strip()}"]
+    return []
 
 
 def main():

@@ -10,6 +10,7 @@ reads, decisions, acknowledgements, agreement, and the records that the files gi
 import os
 import random
 import shutil
+import signal
 import subprocess
 import sys
 import tempfile
@@ -130,24 +131,24 @@ def records(program, directory):
 
 
 def run(program, directory, head, maker, start, resume, events):
-    """One run to its end, and what does not hold of it."""
+    """One run to its end, and what does not hold of it. Each line has an answer, the head too."""
     process, reading = started(program, directory, resume), Reading(start)
     say(process, head)
-    told(process, reading)
-    for _ in range(events):
-        say(process, maker.line(reading.sent))
-        if not told(process, reading):
+    unanswered = [] if told(process, reading) else ["the head has no answer"]
+    for number in range(2, 2 if unanswered else events + 2):
+        if not say(process, maker.line(reading.sent)) or not told(process, reading):
+            unanswered = [f"line {number} has no answer"]
             break
     process.stdin.close()
     rest, note = process.stdout.read(), process.stderr.read()
     code = process.wait()
     found, fault = records(program, directory)
     faults = [f"the run ended with {code}: {note.strip()}"] * (code != 0) + [f"behind the last answer: {rest}"] * bool(rest) + [fault] * bool(fault)
-    return found, reading, faults + ([] if fault else reading.end(found))
+    return found, reading, unanswered + faults + ([] if fault else reading.end(found))
 
 
 def killed(program, directory, head, maker, start, resume, chance):
-    """One run that is killed; what does not hold of what it told and left. The event that it was at may count or not."""
+    """One run that is killed; what does not hold of what it told and left. The event that it was at may count or not. A run that ends before it is killed is a fault."""
     process, reading = started(program, directory, resume), Reading(start)
     say(process, head)
     if told(process, reading):
@@ -160,11 +161,12 @@ def killed(program, directory, head, maker, start, resume, chance):
     for line in process.stdout.read().splitlines(True):
         if line.endswith("\n"):
             reading.line(line[:-1])
-    process.wait()
+    note, code = process.stderr.read(), process.wait()
+    ended = [] if code == -signal.SIGKILL else [f"the run ended with {code} before it was killed: {note.strip()}"]
     found, fault = records(program, directory)
     if fault:
-        return None, reading, [fault]
-    return found, reading, may_be_left(reading, found)
+        return None, reading, [*ended, fault]
+    return found, reading, ended + may_be_left(reading, found)
 
 
 def may_be_left(reading, found):

@@ -1,0 +1,111 @@
+"""Programs with a planted fault each, that the scripts beside this one have to find.
+
+    python3 bench/planted.py PROGRAM
+
+Each is the program behind a script of some lines. A check has to pass with the program itself and to fail with each of its planted faults.
+"""
+import os
+import stat
+import subprocess
+import sys
+import tempfile
+
+HERE = os.path.dirname(os.path.abspath(__file__))
+
+# A run of which only the first lines are handed on: it ends early, with 0.
+ENDS_EARLY = """
+if words[:1] == ["run"]:
+    child = subprocess.Popen([PROGRAM, *words], stdin=subprocess.PIPE)
+    for _ in range(12):
+        line = sys.stdin.buffer.readline()
+        child.stdin.write(line)
+        child.stdin.flush()
+        if not line:
+            break
+    child.stdin.close()
+    sys.exit(child.wait())
+"""
+# A resumed run is refused.
+REFUSES_TO_RESUME = """
+if "--resume" in words:
+    print("bad log: m1.a at 0", file=sys.stderr)
+    sys.exit(9)
+"""
+# The words of a run are answered by nothing.
+DOES_NOTHING = """
+if words[:1] == ["run"]:
+    sys.exit(0)
+"""
+# A committed transaction is told with another number.
+TELLS_ANOTHER_COMMIT = """
+if words[:1] == ["run"]:
+    child = subprocess.Popen([PROGRAM, *words], stdout=subprocess.PIPE, text=True)
+    for line in child.stdout:
+        parts = line.split(" ")
+        if parts[1:2] == ["log"] and parts[3] == "commit":
+            parts[4] = str(int(parts[4]) + 1) + "\\n"
+        sys.stdout.write(" ".join(parts))
+        sys.stdout.flush()
+    sys.exit(child.wait())
+"""
+# A run without memory leaves logs of version 1, which `records` reads and a run refuses.
+LEAVES_OLD_LOGS = """
+if words[:1] == ["run"]:
+    code = subprocess.run([PROGRAM, *words]).returncode
+    if code == 11 and os.path.isdir(words[-1]):
+        for name in os.listdir(words[-1]):
+            with open(f"{words[-1]}/{name}", "r+b") as file:
+                front = file.read(7)
+                if len(front) == 7 and front[5:7] == b"\\x01\\x02":
+                    file.seek(6)
+                    file.write(b"\\x01")
+    sys.exit(code)
+"""
+# What `records` writes lacks its last line.
+LOSES_A_RECORD = """
+if words[:1] == ["records"]:
+    done = subprocess.run([PROGRAM, *words], stdout=subprocess.PIPE)
+    sys.stdout.buffer.write(b"".join(done.stdout.splitlines(True)[:-1]))
+    sys.exit(done.returncode)
+"""
+
+CHECKS = [
+    (["schedules.py", "{}", "8000", "7"], [ENDS_EARLY, DOES_NOTHING, TELLS_ANOTHER_COMMIT, LOSES_A_RECORD]),
+    (["schedules.py", "{}", "kills", "12", "7"], [REFUSES_TO_RESUME, DOES_NOTHING, LOSES_A_RECORD]),
+    (["memory.py", "{}"], [LEAVES_OLD_LOGS]),
+]
+
+
+def planted(program, fault, work):
+    """A program that is the given one but for the fault."""
+    path = f"{work}/planted"
+    with open(path, "w") as file:
+        file.write(f"#!{sys.executable}\nimport os, subprocess, sys\nPROGRAM, words = {program!r}, sys.argv[1:]\n{fault}\nos.execv(PROGRAM, [PROGRAM, *words])\n")
+    os.chmod(path, os.stat(path).st_mode | stat.S_IXUSR)
+    return path
+
+
+def passes(words, program):
+    """Whether a check passes with the program, and what it said last."""
+    done = subprocess.run([sys.executable, f"{HERE}/{words[0]}", *(program if it == "{}" else it for it in words[1:])], stdout=subprocess.PIPE, stderr=subprocess.STDOUT, text=True)
+    return done.returncode == 0, (done.stdout.splitlines() or ["nothing"])[0][:100]
+
+
+def main():
+    program, wrong = os.path.abspath(sys.argv[1]), 0
+    names = {id(value): name.lower().replace("_", " ") for name, value in globals().items() if name.isupper() and isinstance(value, str)}
+    with tempfile.TemporaryDirectory() as work:
+        for words, faults in CHECKS:
+            check = " ".join(words).replace("{}", "PROGRAM")
+            good, said = passes(words, program)
+            wrong += not good
+            print(f"{check}: {'passes' if good else 'FAILS: ' + said}")
+            for fault in faults:
+                good, said = passes(words, planted(program, fault, work))
+                wrong += good
+                print(f"    {names[id(fault)]}: {'NOT FOUND' if good else 'found: ' + said}")
+    sys.exit(1 if wrong else 0)
+
+
+if __name__ == "__main__":
+    main()
