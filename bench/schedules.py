@@ -19,6 +19,7 @@ import time
 from promises import Reading, records_of, serve
 
 KINDS = ("lock", "occ", "mv")
+ENOUGH = 10  # differences, behind which no further series is played
 
 
 class Maker:
@@ -249,7 +250,7 @@ def main():
     seed = int(words[0]) if words else 1
     to_the_end = lambda program, directory, head, maker, start, resume, chance: run(program, directory, head, maker, start, resume, chance.randint(1, 800))
     runs = events = wrong = 0
-    while (runs if kills else events) < count:
+    while (runs if kills else events) < count and wrong < ENOUGH:
         chance = random.Random(seed * 1_000_000 + runs)
         done, faults = series(program, chance, killed if kills else to_the_end)
         runs, events = runs + 1, events + done
