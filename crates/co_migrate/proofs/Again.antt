@@ -1,4 +1,4 @@
--- Behind a migration that was done, another one fills nothing.
+-- Where all logs are of the newest version, as behind a migration that was done, a migration fills nothing.
 use Rattle.std.proofs.Common.{◌≡◌, ◌≢◌, ◌⊎◌, inl, inr, ℕ, zero, suc, ◌+◌, ◌-◌, ◌≤◌, List, [], ◌∷◌, length, Option, refl, sym, ap, subst, ◌∙◌, arith}
 use Rattle.std.specs.List.{AllByRecursion}
 use Rattle.co_base.specs.Limits.{most_coordinators, most_log_bytes, most_members}
@@ -80,8 +80,7 @@ none_old file (n ∷ nodes) olds told new (inr found) =
 pub all_newest : (old new : Spot → Option File) (count : ℕ) → AreAllFilled old new count → AllByRecursion (IsNewIn new) all_nodes
 all_newest old new count one = all_new old new all_nodes one.olds all_valid one.among one.filled (λ n own. filled_or_kept old new count one n own)
 
-pub fills_nothing : (old new newer : Spot → Option File) (count again : ℕ) → AreTold new most_members most_coordinators → AreAllFilled old new count → AreAllFilled new newer again → (again ≡ 0) × NoFileChanges new newer
-fills_nothing old new newer count again told one two =
-    let all = all_newest old new count one in
+pub fills_nothing : (new newer : Spot → Option File) (again : ℕ) → AreTold new most_members most_coordinators → AllByRecursion (IsNewIn new) all_nodes → AreAllFilled new newer again → (again ≡ 0) × NoFileChanges new newer
+fills_nothing new newer again told all two =
     let none = none_old new all_nodes two.olds (subst (AllByRecursion (IsTold new)) (sym all_nodes_are) told) all two.among in
     (two.many ∙ ap length none, λ s. two.only s (subst (AllByRecursion _) (sym none) tt))

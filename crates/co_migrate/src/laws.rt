@@ -22,11 +22,11 @@ pub fn migrations_keep_records()
         AreFound old most_members most_coordinators found_member found_coord → AreSound (records_in found_member) (records_in found_coord) → KeepsRecords new found_member found_coord }
 {}
 
-/// After a migration that was done each node that has a batch in a file has a current one of version 2. So another one behind it fills nothing,
-/// and changes no file.
+/// After a migration that was done each node that has a batch in a file has a current one of version 2. Where that is so, a migration that is done
+/// fills nothing, and changes no file.
 pub fn migrations_are_made_once()
     ensures newest { (old new : Spot → Option File) (count : ℕ) → AreAllFilled old new count → AllByRecursion (IsNewIn new) all_nodes }
-    ensures again { (old new newer : Spot → Option File) (count again : ℕ) → AreTold new most_members most_coordinators → AreAllFilled old new count → AreAllFilled new newer again →
+    ensures again { (new newer : Spot → Option File) (again : ℕ) → AreTold new most_members most_coordinators → AllByRecursion (IsNewIn new) all_nodes → AreAllFilled new newer again →
         (again ≡ 0) × NoFileChanges new newer }
 {}
 
