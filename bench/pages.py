@@ -9,7 +9,7 @@
 - The items that a page prints together stand so, without a gap, in one stored case or transcript; a line `..` stands for those that are left out.
 - The verdicts and runs that are printed are stored ones, and each transcript of `examples/` is a stored input, or is serial (`printed.py`).
 - Each command has words that its program knows, and its scripts and files exist. The words, exit codes and notes of the tables are those of the programs.
-- Each word in backticks, as `serial_reads`, stands in the code, the definitions, the proofs or the scripts. Each file that a page names exists.
+- Each word in backticks, as `serial_reads`, stands in the code, the definitions, the proofs or the scripts. Each file that a page names exists, and each crate has a row in the map.
 - Pages that have a budget are within it, and the sentences of no page have more than 20 words in the mean.
 - The numbers of lines, files and cases that pages say are those that are counted here and by `reading.py`.
 
@@ -96,6 +96,14 @@ def of_examples():
             yield f"{path} is not serial"
 
 
+def of_crates():
+    """Each crate has a row in the map."""
+    rows = [line.split(" | ")[0] for line in text_of("docs/ARCHITECTURE.md").splitlines() if line.startswith("| `co_")]
+    for crate in sorted(map(os.path.basename, glob.glob("crates/co_*"))):
+        if not any(f"`{crate}`" in row for row in rows):
+            yield f"docs/ARCHITECTURE.md has no row of {crate}"
+
+
 def of_reading():
     """The numbers of the README that are not those that are counted."""
     page = text_of("README.md")
@@ -126,7 +134,7 @@ def faults():
     for page in PAGES:
         for check in (of_files, of_identifiers, of_sentences):
             yield from check(page)
-    for check in (of_examples, of_reading, of_counts, of_budgets):
+    for check in (of_examples, of_crates, of_reading, of_counts, of_budgets):
         yield from check()
 
 

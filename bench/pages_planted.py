@@ -60,6 +60,8 @@ CHANGES = [
     ("docs/PROVED.md", "194 stored cases", "193 stored cases"),
     ("docs/PROVED.md", "bench/faults.py", "bench/fault.py"),
     ("docs/ARCHITECTURE.md", "| `co_world` |", "| `co_wurld` |"),
+    ("docs/ARCHITECTURE.md", "| `co_resumed_rows` |", "| `co_order_rows` |"),
+    ("docs/ARCHITECTURE.md", "`replay_lines`", "`replay_line`"),
     ("docs/DECISIONS.md", "refusals_come_first", "refusals_come_fist"),
     ("examples/two_servers.transcript", "9 reply got 0", "9 reply got 1"),
     ("examples/postgresql_and_mariadb.transcript", "got 0", "got 1"),
