@@ -104,6 +104,13 @@ def of_crates():
             yield f"docs/ARCHITECTURE.md has no row of {crate}"
 
 
+def of_wrong_bodies():
+    """`PROVED.md` says that wrong bodies stand in every crate with code but the programs, the tests and the plain engine."""
+    for crate in stored.without_wrong_bodies():
+        if crate != "co_plain_engine":
+            yield f"docs/PROVED.md: {crate} has no wrong bodies"
+
+
 def of_reading():
     """The numbers of the README that are not those that are counted."""
     page = text_of("README.md")
@@ -134,7 +141,7 @@ def faults():
     for page in PAGES:
         for check in (of_files, of_identifiers, of_sentences):
             yield from check(page)
-    for check in (of_examples, of_crates, of_reading, of_counts, of_budgets):
+    for check in (of_examples, of_crates, of_wrong_bodies, of_reading, of_counts, of_budgets):
         yield from check()
 
 

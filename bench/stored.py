@@ -204,6 +204,14 @@ def is_program(crate):
     return os.path.exists(f"crates/{crate}/src/main.rt")
 
 
+def without_wrong_bodies():
+    """The crates with code, of which no wrong body is stored; programs and tests have none."""
+    for crate in sorted(map(os.path.basename, glob.glob("crates/co_*"))):
+        code = any(re.search(r"(?m)^\s*\{$", text_of(path)) for path in glob.glob(f"crates/{crate}/src/**/*.rt", recursive=True))
+        if code and not (is_program(crate) or crate.endswith("_tests") or glob.glob(f"crates/{crate}/must-fail/*.edit")):
+            yield crate
+
+
 # ---- counted lines
 
 @functools.lru_cache(None)
