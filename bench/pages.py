@@ -7,9 +7,11 @@
   records, the waits and the lines of `resolve` that it tells, and each answer of its legend (`tutorial.py`).
 - The picture of each such schedule, in `docs/pictures/`, is what the stored run of `co_draw_rows` says is drawn of the transcript of that case.
 - The items that a page prints together stand so, without a gap, in one stored case or transcript; a line `..` stands for those that are left out.
-- The verdicts and runs that are printed are stored ones, and each transcript of `examples/` is a stored input, or is serial (`printed.py`).
+- The verdicts and runs that are printed, and the worked files of the formats, are stored ones (`printed.py`).
+- Each transcript of `examples/` is a stored input, or is serial.
 - Each command has words that its program knows, and its scripts and files exist. The words, exit codes and notes of the tables are those of the programs.
-- Each word in backticks, as `serial_reads`, stands in the code, the definitions, the proofs or the scripts. Each file that a page names exists, and each crate has a row in the map.
+- Each word in backticks, as `serial_reads`, stands in the code, the definitions, the proofs or the scripts.
+- Each file that a page names exists, each crate has a row in the map, and each one with code has wrong bodies.
 - Pages that have a budget are within it, and the sentences of no page have more than 20 words in the mean.
 - The numbers of lines, files and cases that pages say are those that are counted here and by `reading.py`.
 
@@ -30,12 +32,12 @@ from stored import text_of
 PAGES = ["README.md", *sorted(glob.glob("docs/*.md"))]
 MOST_BYTES = {"README.md": 6144, "docs/LIVE.md": 6144, "docs/PROVED.md": 12288, "docs/DECISIONS.md": 20480}
 MOST_WORDS = 20
-FILE = re.compile(r"`((?:crates|docs|bench|examples|live|co_\w+)/[\w./-]+)`")
+FILE = re.compile(r"[\w.-]+/[\w./-]*")
 SPAN = re.compile(r"`([^`\n]+)`|^```(.*?)^```", re.MULTILINE | re.DOTALL)
 NAME = re.compile(r"[A-Za-z_]\w*")
-# names of others (XA, a mount option, a tool), a place to fill in, and what a reader of the tutorial might write
+# names of others (XA, a mount option, a tool), a place to fill in, what a reader of the tutorial might write, how names begin, and a byte
 OUTSIDE = {"xa_start", "xa_end", "xa_prepare", "xa_commit", "xa_rollback", "xa_recover", "xa_forget", "XA_OK", "XA_RB", "local_lock", "grep",
-           "NameAs", "comment", "Alice", "Smith", "Alice_Smith"}
+           "NameAs", "comment", "Alice", "Smith", "Alice_Smith", "Is", "is_", "a5"}
 
 
 def sentences_of(page):
@@ -56,13 +58,18 @@ def of_sentences(page):
         yield f"{page}: its sentences have {sum(lengths) / len(lengths):.1f} words in the mean"
 
 
+def words_of(page):
+    """The words in backticks."""
+    for span, _ in SPAN.findall(text_of(page)):
+        yield from span.split()
+
+
 def of_files(page):
     """The files that a page names and that do not exist."""
-    for name in FILE.findall(text_of(page)):
-        if "NAME" in name or "/out/" in name:  # a place to fill in; a program that is built
+    for name in filter(FILE.fullmatch, words_of(page)):
+        if re.search(r"[A-Z]{4,}/|NAME|/out/", name):  # a place to fill in; a program that is built
             continue
-        paths = [name, f"crates/{name}", f"crates/{name}.antt", f"crates/{name}.rt"]
-        if not any(os.path.exists(path) for path in paths) and not glob.glob(f"crates/{name}.*"):
+        if not glob.glob(name) and not glob.glob(f"crates/{name}*") and not glob.glob(f"crates/*/{name}*"):
             yield f"{page}: {name} does not exist"
 
 
@@ -71,11 +78,12 @@ def is_joined(word):
 
 
 def names_of(page):
-    """The names of a page: each word in backticks that has small letters or is joined by `_`, and those that are joined in a drawing."""
-    for span, drawing in SPAN.findall(text_of(page)):
+    """The names of a page: in backticks each that has small letters or is joined by `_`, and those that are joined in a drawing."""
+    for _, drawing in SPAN.findall(text_of(page)):
         yield from filter(is_joined, NAME.findall(drawing))
-        if "/" not in span:
-            yield from (word for word in NAME.findall(span) if is_joined(word) or re.search("[a-z]{3}|[A-Z][a-z]{2}", word))
+    for word in words_of(page):
+        if "/" not in word:
+            yield from (name for name in NAME.findall(word) if is_joined(name) or len(name) > 1 and re.search("[a-z]", name))
 
 
 def of_identifiers(page):

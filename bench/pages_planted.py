@@ -15,7 +15,7 @@ sys.path.insert(0, os.path.dirname(os.path.abspath(__file__)))
 import pages
 from stored import text_of
 
-COPIED = ["README.md", "docs", "examples", "bench", "live"]
+COPIED = ["README.md", ".ci", "docs", "examples", "bench", "live"]
 COPIED_CASES = ["co_conform/data", "co_judge/stdin", "co_judge/stdout", "co_order_rows/data", "co_draw_rows/stdin", "co_draw_rows/stdout"]
 
 CHANGES = [
@@ -63,6 +63,11 @@ CHANGES = [
     ("docs/ARCHITECTURE.md", "| `co_world` |", "| `co_wurld` |"),
     ("docs/ARCHITECTURE.md", "| `co_resumed_rows` |", "| `co_order_rows` |"),
     ("docs/ARCHITECTURE.md", "`replay_lines`", "`replay_line`"),
+    ("docs/FORMATS.md", "| 44 | `03` `00000001`", "| 44 | `03` `00000002`"),
+    ("docs/FORMATS.md", "a5 00000008 03", "a5 00000009 03"),
+    ("docs/HISTORIES.md", "| 17 | Nothing", "| 16 | Nothing"),
+    ("docs/READING_PROOFS.md", "`crates/co_law_once/", "`crates/co_law_ance/"),
+    ("README.md", "`docs/DECISIONS.md`", "`dics/DECISIONS.md`"),
     ("docs/DECISIONS.md", "refusals_come_first", "refusals_come_fist"),
     ("examples/two_servers.transcript", "9 reply got 0", "9 reply got 1"),
     ("examples/postgresql_and_mariadb.transcript", "got 0", "got 1"),

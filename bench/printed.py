@@ -2,7 +2,10 @@
 import os
 import re
 
-from stored import commands, is_any_note, is_command, is_note, is_program, items_stored, knows, notes, serial_verdict, text_of, told_events, verdict_stored
+from stored import (
+    commands, files_stored, is_any_note, is_command, is_note, is_program, items_stored,
+    knows, notes, order_codes, serial_verdict, text_of, told_events, verdict_stored,
+)
 
 ITEM = re.compile(r"    (\d+ (?:event|log|send|reply) .*?)(?: {2,}.*)?$")
 HISTORY = "examples/a_history.transcript"
@@ -200,6 +203,29 @@ def of_judge_notes():
                 yield f"docs/HISTORIES.md: no status has {codes} and {each!r}"
 
 
+def of_order_codes():
+    """The answers of `co_judge order` and their codes."""
+    rows = rows_behind("docs/HISTORIES.md", "| Standard output | Exit code | What it claims |")
+    told = {IN_LINE.search(text)[1].split()[0]: code for text, code, _ in rows}
+    if told != order_codes():
+        yield f"docs/HISTORIES.md: the codes {told} in place of {order_codes()}"
+
+
+def of_worked_files():
+    """The worked files of the formats are files of cases, and the places in the table are where those bytes stand."""
+    page = "docs/FORMATS.md"
+    listed, place = "", 0
+    for told, spans, _ in rows_behind(page, "| Place | Bytes | Meaning |"):
+        if int(told) != place:
+            yield f"{page}: place {told} in place of {place}"
+        row = "".join(IN_LINE.findall(spans)).replace(" ", "")
+        listed, place = listed + row, place + len(row) // 2
+    drawn = [block.replace(" ", "").replace("\n", "") for block in re.findall(r"^```\n(.*?)^```$", text_of(page), flags=re.MULTILINE | re.DOTALL)]
+    for file in [listed, *drawn]:
+        if file not in files_stored():
+            yield f"{page}: no case has the file {file}"
+
+
 def of_said():
     """What the tutorial says that a mistake is answered with."""
     for _, said, _ in rows_behind("docs/TUTORIAL.md", "| You wrote | It says | Write |"):
@@ -221,4 +247,6 @@ def of_printed(pages):
     yield from of_words()
     yield from of_notes()
     yield from of_judge_notes()
+    yield from of_order_codes()
+    yield from of_worked_files()
     yield from of_said()

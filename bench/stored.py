@@ -64,6 +64,12 @@ def items_stored():
     return [text_of(path).splitlines() for path in [*sorted(glob.glob(f"{CASES}/*")), *sorted(glob.glob("examples/*.transcript"))]]
 
 
+@functools.lru_cache(None)
+def files_stored():
+    """The bytes of each file that a case comes to, in hex."""
+    return {line.split()[1] for path in glob.glob(f"{CASES}/*") for line in text_of(path).splitlines() if re.fullmatch(r"[mc]\d+\.[ab] [0-9a-f]+", line)}
+
+
 def verdict_stored():
     """The lines that `co_judge why` is stored to write of the run that it is given."""
     return text_of(f"{JUDGED}/stdout").splitlines()
@@ -181,6 +187,14 @@ def is_note(code, note):
 
 def is_any_note(note):
     return any(pattern and re.fullmatch(pattern, note) for _, pattern in notes())
+
+
+@functools.lru_cache(None)
+def order_codes():
+    """The exit code of each answer of `co_judge order`, by its first word."""
+    codes = dict(re.findall(r"Answer::(\w+).* => (\d+),", text_of("crates/co_order/src/judge.rt")))
+    answers = {"order": "Order", "values": "Repeat", "undecided": "Undecided"}
+    return {word: codes[answers.get(word, "Refuted")] for word in ["order", "unwritten", "torn", "cycle", "none", "values", "undecided"]}
 
 
 # ---- names

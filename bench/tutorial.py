@@ -80,7 +80,7 @@ def of_resolved(name, section):
 def of_pictures(page):
     """The picture of each schedule is what is drawn of the transcript of its case, and is shown; others are not there."""
     drawn = pictures()
-    names = [name for name, _ in sections_of(page)]
+    names = [name for name, _ in sections_of(page) if os.path.exists(case_of(name))]
     for name in names:
         transcript = "".join(f"{item}\n" for item in transcript_of(run_of(case_of(name), "run")[1]))
         path = f"docs/pictures/{name}.svg"
@@ -113,7 +113,7 @@ def of_tutorial():
         if os.path.basename(path).removesuffix(".schedule") not in explained:
             yield f"{PAGE} does not explain {path}"
     for name, section in explained.items():
-        if not os.path.exists(case_of(name)):
+        if not os.path.exists(case_of(name)) or not os.path.exists(f"examples/{name}.schedule"):
             yield f"no stored case plays examples/{name}.schedule"
             continue
         for check in (of_table, of_records, of_waits, of_resolved):
