@@ -13,10 +13,11 @@
 - Each word in backticks, as `serial_reads`, stands in the code, the definitions, the proofs or the scripts.
 - Each file that a page names exists, each crate has a row in the map, and each one with code has wrong bodies.
 - Pages that have a budget are within it, and the sentences of no page have more than 20 words in the mean.
-- The numbers of lines, files and cases that pages say are those that are counted here and by `reading.py`.
+- The README and `PROVED.md` name one toolchain. The numbers of lines, files and cases that pages say are those that are counted here and by `reading.py`.
 
 `pages_planted.py` changes one byte after the other, and sees that each is found.
 """
+import functools
 import glob
 import os
 import re
@@ -119,13 +120,17 @@ def of_wrong_bodies():
             yield f"docs/PROVED.md: {crate} has no wrong bodies"
 
 
+@functools.lru_cache(None)
+def rows_to_read():
+    """The rows of what is to be read, as they are counted."""
+    counted = [(title, reading.reached(names)) for title, names in reading.STATEMENTS]
+    return [f"| {title} | {len(files)} | {sum(map(reading.length, files)):,} |" for title, files in counted]
+
+
 def of_reading():
     """The numbers of the README that are not those that are counted."""
-    page = text_of("README.md")
-    for title, names in reading.STATEMENTS:
-        files = reading.reached(names)
-        row = f"| {title} | {len(files)} | {sum(map(reading.length, files)):,} |"
-        if row not in page:
+    for row in rows_to_read():
+        if row not in text_of("README.md"):
             yield f"README.md: {row!r} is what is counted"
 
 
@@ -134,6 +139,13 @@ def of_counts():
     for page, words in stored.counts():
         if words not in text_of(page):
             yield f"{page}: {words!r} is what is counted"
+
+
+def of_kit():
+    """The toolchain that the README and `PROVED.md` name is one."""
+    kits = {kit for page in ("README.md", "docs/PROVED.md") for kit in re.findall(r"rattle-kit-\w+", text_of(page))}
+    if len(kits) != 1:
+        yield f"README.md and docs/PROVED.md name {sorted(kits)}"
 
 
 def of_budgets():
@@ -149,7 +161,7 @@ def faults():
     for page in PAGES:
         for check in (of_files, of_identifiers, of_sentences):
             yield from check(page)
-    for check in (of_examples, of_crates, of_wrong_bodies, of_reading, of_counts, of_budgets):
+    for check in (of_examples, of_crates, of_wrong_bodies, of_reading, of_counts, of_kit, of_budgets):
         yield from check()
 
 

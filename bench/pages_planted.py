@@ -58,6 +58,7 @@ CHANGES = [
     ("docs/LIVE.md", "    live/often.py", "    live/oftn.py"),
     ("docs/LIVE.md", "live/servers.py stop", "live/servers.py stap"),
     ("docs/PROVED.md", " stored cases of", "0 stored cases of"),
+    ("docs/PROVED.md", "`rattle-kit-", "`rattle-kit-0"),
     ("docs/PROVED.md", "bench/faults.py", "bench/fault.py"),
     ("docs/PROVED.md", "| `held_is_exact` |", "| `held_is_exakt` |"),
     ("docs/ARCHITECTURE.md", "| `co_world` |", "| `co_wurld` |"),

@@ -59,15 +59,21 @@ def pictures():
     return dict(zip(transcripts, drawn))
 
 
+@functools.lru_cache(None)
+def cases_stored():
+    """The lines of each case."""
+    return [text_of(path).splitlines() for path in sorted(glob.glob(f"{CASES}/*"))]
+
+
 def items_stored():
     """The lines of each case and of each transcript of `examples/`."""
-    return [text_of(path).splitlines() for path in [*sorted(glob.glob(f"{CASES}/*")), *sorted(glob.glob("examples/*.transcript"))]]
+    return cases_stored() + [text_of(path).splitlines() for path in sorted(glob.glob("examples/*.transcript"))]
 
 
 @functools.lru_cache(None)
 def files_stored():
     """The bytes of each file that a case comes to, in hex."""
-    return {line.split()[1] for path in glob.glob(f"{CASES}/*") for line in text_of(path).splitlines() if re.fullmatch(r"[mc]\d+\.[ab] [0-9a-f]+", line)}
+    return {line.split()[1] for lines in cases_stored() for line in lines if re.fullmatch(r"[mc]\d+\.[ab] [0-9a-f]+", line)}
 
 
 def verdict_stored():
@@ -218,12 +224,15 @@ def is_program(crate):
     return os.path.exists(f"crates/{crate}/src/main.rt")
 
 
+@functools.lru_cache(None)
 def without_wrong_bodies():
     """The crates with code, of which no wrong body is stored; programs and tests have none."""
+    found = []
     for crate in sorted(map(os.path.basename, glob.glob("crates/co_*"))):
         code = any(re.search(r"(?m)^\s*\{$", text_of(path)) for path in glob.glob(f"crates/{crate}/src/**/*.rt", recursive=True))
         if code and not (is_program(crate) or crate.endswith("_tests") or glob.glob(f"crates/{crate}/must-fail/*.edit")):
-            yield crate
+            found.append(crate)
+    return found
 
 
 # ---- counted lines
