@@ -1,12 +1,15 @@
 """Faults of the disk: each sync, each write and each cut fails, one in each run; then calls that are short or interrupted.
 
-    python3 bench/faults.py PROGRAM
+    python3 bench/faults.py PROGRAM          the files are read again at once
+    python3 bench/faults.py PROGRAM power    and once more behind a power cut
 
 A run in which one fails ends with status 6, or as it does without; what it told is a front of the whole text. Right behind it `records` gives the records of what was
-told as decided, or with one transaction more, and a resumed run opens the files. `bench/faults.c` keeps a second copy of each file, which stands for the disk: after a
-sync that failed the system still gives what the disk has not. So the power is cut behind `records` too, and it has to give the same once more: where it does not, the
-script says so and fails. The program as it is fails so in five places, since std has no call that drops the system's copies of a file.
-Short and interrupted calls change nothing. `bench/memory.py` does the same with want of memory, and has the runs.
+told as decided, or with one transaction more, and a resumed run opens the files. Short and interrupted calls change nothing. `bench/memory.py` does the same with want
+of memory, and has the runs.
+
+With `power`, `bench/faults.c` keeps a second copy of each file, which stands for the disk: after a sync that failed the system still gives what the disk has not. The
+power is then cut behind `records`, and it has to give the same once more. The program as it is fails so in five places, since std has no call that drops the system's
+copies of a file; `docs/FORMATS.md` says what its users do instead.
 """
 import os
 import shutil
@@ -25,8 +28,8 @@ KINDS = (("fsync", "error"), ("pwrite", "error"), ("pwrite", "space"), ("pwrite"
 class Place:
     """A directory of logs, the disk below it, and the program with the faulty calls."""
 
-    def __init__(self, program, work):
-        self.program, self.shim = program, f"{work}/faults.so"
+    def __init__(self, program, work, loses_power):
+        self.program, self.shim, self.loses_power = program, f"{work}/faults.so", loses_power
         self.logs, self.disk, self.counted = f"{work}/logs", f"{work}/disk", f"{work}/count"
         subprocess.run(["cc", "-shared", "-fPIC", "-O2", "-o", self.shim, f"{HERE}/faults.c"], check=True)
 
@@ -62,6 +65,12 @@ class Place:
         code, out, note = self.play(["records"], [])
         return (records_of(out), []) if code == 0 else (None, [f"records {when} ended with {code}: {note}"])
 
+    def behind_power_cut(self, found):
+        """What does not hold of the files that the disk has, where `records` gave these before."""
+        self.cut_power()
+        again, faults = self.records("behind a power cut")
+        return faults if again is None or again == found else [f"records gave {sorted(found.items())}, and behind a power cut {sorted(again.items())}"]
+
     def left(self, head, start, out):
         """What does not hold of the files behind a run that told this."""
         if not os.path.isdir(self.logs):
@@ -73,11 +82,7 @@ class Place:
         found, faults = self.records("at once")
         if faults:
             return faults
-        faults = may_be_left(reading, found)
-        self.cut_power()
-        again, more = self.records("behind a power cut")
-        if again != found:
-            faults += more or [f"records gave {sorted(found.items())}, and behind a power cut {sorted(again.items())}"]
+        faults = may_be_left(reading, found) + (self.behind_power_cut(found) if self.loses_power else [])
         code, _, note = self.play(["run", "--resume"], [head])
         return faults + [f"the resumed run ended with {code}: {note}"] * (code != 0)
 
@@ -123,7 +128,7 @@ def slow(name, place, words, text, before, whole):
 def main():
     program, work, faults = os.path.abspath(sys.argv[1]), tempfile.mkdtemp(dir="/dev/shm" if os.path.isdir("/dev/shm") else None), []
     try:
-        place = Place(program, work)
+        place = Place(program, work, sys.argv[2:] == ["power"])
         for name, text in (("a transfer", TRANSFER), ("a stopped decision", STOPPED), ("a checkpoint and a restart", CHECKPOINT)):
             faults += sweep(name, place, ["run"], text, None)
         before = f"{work}/before"

@@ -73,6 +73,7 @@ CHECKS = [
     (["schedules.py", "{}", "8000", "7"], [ENDS_EARLY, DOES_NOTHING, TELLS_ANOTHER_COMMIT, LOSES_A_RECORD]),
     (["schedules.py", "{}", "kills", "12", "7"], [REFUSES_TO_RESUME, DOES_NOTHING, LOSES_A_RECORD]),
     (["memory.py", "{}"], [LEAVES_OLD_LOGS]),
+    (["faults.py", "{}"], [REFUSES_TO_RESUME, LOSES_A_RECORD]),
 ]
 
 

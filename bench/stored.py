@@ -120,16 +120,18 @@ def replies_stored():
 
 # ---- the words and the notes of the programs
 
-def words_in(path, function):
-    """The words that a function of a program compares with."""
-    body = text_of(path).split(f"fn {function}", 1)[1].split("\n}\n", 1)[0]
-    return re.findall(r'is_word\(\w+, b"([\w-]+)"\)', body)
+def words_in(function):
+    """The words that a function of `co_cli` takes."""
+    source = text_of(COMMANDS)
+    texts = dict(re.findall(r'Word::(\w+) => b"([\w-]+)"', source))
+    body = source.split(f"fn {function}", 1)[1].split("\n}\n", 1)[0]
+    return [texts[name] for name in re.findall(r"^ +Word::(\w+) => (?!Command::Unknown)", body, re.MULTILINE)]
 
 
 @functools.lru_cache(None)
 def commands():
     """The words of `co_cli`: by how many words there are, the first one."""
-    return {count: words_in(COMMANDS, function) for count, function in [(1, "of_one<"), (2, "of_two<"), (3, "of_three<")]}
+    return {count: words_in(function) for count, function in [(1, "alone<"), (2, "with_directory("), (3, "with_two<")]}
 
 
 def is_directory(word):

@@ -1,10 +1,11 @@
-//! Replays a schedule, writes the durable records of a directory of logs, judges a transcript, or runs a trial.
+//! The program: a federation whose schedule is replayed over logs in a directory, and what can be asked of it.
 //!
-//! `co_cli run DIR` reads a schedule from standard input and writes its transcript to standard output;
-//! `co_cli records DIR` writes the records that the logs in the directory give; `co_cli check` reads a
-//! transcript from standard input and tells whether its committed transactions read serially; and
-//! `co_cli trial NUMBER EVENTS` runs a made schedule over a directory in memory and writes what it came to.
-//! A note of how it ended goes to standard error.
+//! `co_cli run DIR` reads a schedule from standard input and writes its transcript to standard output, `co_cli run --resume DIR`
+//! over logs that a run left; `co_cli records DIR` writes the records that the logs in the directory give; `co_cli resolve DIR` does
+//! what `run DIR` does, and then members in doubt ask each other; `co_cli migrate DIR` fills logs of version 1 in version 2;
+//! `co_cli waits` writes the held votes at the end of a schedule, in their order or with their cycle; `co_cli check` reads a
+//! transcript from standard input and tells whether its committed transactions read serially; and `co_cli trial NUMBER EVENTS`
+//! runs a made schedule over a directory in memory and writes what it came to. A note of how it ended goes to standard error.
 #![tactic(auto)]
 
 use co_files::HomeStd;

@@ -1,12 +1,14 @@
 -- The words of the command line, and what they ask for.
-use Rattle.std.specs.Prelude.{ℕ, Bool, true, false, not, ◌==◌, ◌≡◌, ◌≤◌, ◌&&◌, nat_eq, List, [], ◌∷◌, codes, if◌then◌else◌}
-use Rattle.std.specs.Cmp.Lexicographic.{pointwise}
+use Rattle.std.specs.Prelude.{ℕ, Bool, true, false, not, ◌==◌, ◌≡◌, ◌≤◌, ◌&&◌, List, [], ◌∷◌, codes, find, if◌then◌else◌, Option, None, Some}
+use Rattle.std.specs.Str.{bytes_eq}
 use Rattle.std.specs.declared.string.String.{String}
 use Rattle.std.specs.Str.Parse.{digits_value}
 use Rattle.std.specs.String.{string_bytes}
 use Rattle.co_schedule.specs.Places.{is_number}
 use Rattle.co_trial.specs.Trials.{most_trial_events}
 use Rattle.co_top.specs.declared.words.Command.{Command}
+use Rattle.co_top.specs.declared.words.Word.{Word}
+use Rattle.co_top.specs.declared.words.Word.TheVariants as word
 use Rattle.co_top.specs.declared.words.Command.TheVariants.{Run, Records, Resolve, Migrate, Check, Waits, Trial, Unknown}
 
 -- A command: with the name of a directory, and whether its logs are those of an earlier run; or the number of a trial and of its events.
@@ -25,28 +27,47 @@ abbrev pub is_directory : List ℕ → Bool
 is_directory [] = false
 is_directory (b ∷ bs) = not (b == 45)
 
-abbrev pub is_word : {A : Type 0} → List ℕ → String A → Bool
-is_word text word = pointwise nat_eq (string_bytes word) text
+-- the words that begin a command
+abbrev pub word_text : Word → List ℕ
+word_text word.Run = codes "run"
+word_text word.Records = codes "records"
+word_text word.Resolve = codes "resolve"
+word_text word.Migrate = codes "migrate"
+word_text word.Check = codes "check"
+word_text word.Waits = codes "waits"
+word_text word.Trial = codes "trial"
+
+abbrev pub all_words : List Word
+all_words = word.Run ∷ word.Records ∷ word.Resolve ∷ word.Migrate ∷ word.Check ∷ word.Waits ∷ word.Trial ∷ []
+
+abbrev pub word_named : List ℕ → Option Word
+word_named text = find (λ w. bytes_eq (word_text w) text) all_words
+
+abbrev pub is_resume : List ℕ → Bool
+is_resume text = bytes_eq text (codes "--resume")
 
 -- a word alone
-abbrev pub asked_alone : {A : Type 0} → String A → Asked
-asked_alone word = if is_word (codes "check") word then AsksCheck else (if is_word (codes "waits") word then AsksWaits else AsksNothing)
+abbrev pub asked_alone : Word → Asked
+asked_alone word.Check = AsksCheck
+asked_alone word.Waits = AsksWaits
+asked_alone _ = AsksNothing
 
 -- a word and the name of a directory
-abbrev pub asked_over : {A : Type 0} → String A → List ℕ → Asked
-asked_over word directory =
-    if is_word (codes "run") word then AsksRun directory false
-    else (if is_word (codes "records") word then AsksRecords directory
-    else (if is_word (codes "resolve") word then AsksResolve directory else (if is_word (codes "migrate") word then AsksMigrate directory else AsksNothing)))
+abbrev pub asked_over : Word → List ℕ → Asked
+asked_over word.Run directory = AsksRun directory false
+asked_over word.Records directory = AsksRecords directory
+asked_over word.Resolve directory = AsksResolve directory
+asked_over word.Migrate directory = AsksMigrate directory
+asked_over _ directory = AsksNothing
 
-abbrev pub asked_of_directory : {A : Type 0} → String A → List ℕ → Asked
+abbrev pub asked_of_directory : Word → List ℕ → Asked
 asked_of_directory word directory = if is_directory directory then asked_over word directory else AsksNothing
 
 -- a run, with the name of a directory behind `--resume` or before it
 abbrev pub asked_to_resume : {A : Type 0} → String A → String A → Asked
 asked_to_resume first second =
-    if is_word (codes "--resume") first && is_directory (string_bytes second) then AsksRun (string_bytes second) true
-    else (if is_word (codes "--resume") second && is_directory (string_bytes first) then AsksRun (string_bytes first) true else AsksNothing)
+    if is_resume (string_bytes first) && is_directory (string_bytes second) then AsksRun (string_bytes second) true
+    else (if is_resume (string_bytes second) && is_directory (string_bytes first) then AsksRun (string_bytes first) true else AsksNothing)
 
 -- a trial: a number of 64 bits, and how many events
 abbrev pub asked_to_try : {A : Type 0} → String A → String A → Asked
@@ -54,18 +75,27 @@ asked_to_try number events =
     if is_number 0 18446744073709551615 (string_bytes number) && is_number 1 most_trial_events (string_bytes events)
     then AsksTrial (digits_value 10 (string_bytes number)) (digits_value 10 (string_bytes events)) else AsksNothing
 
-abbrev pub asked_of_two : {A : Type 0} → String A → String A → String A → Asked
-asked_of_two word first second =
-    if is_word (codes "trial") word then asked_to_try first second
-    else (if is_word (codes "run") word then asked_to_resume first second else AsksNothing)
+-- a word and two others
+abbrev pub asked_with_two : {A : Type 0} → Word → String A → String A → Asked
+asked_with_two word.Trial first second = asked_to_try first second
+asked_with_two word.Run first second = asked_to_resume first second
+asked_with_two _ first second = AsksNothing
+
+-- a word and those behind it
+abbrev pub asked_with : {A : Type 0} → Word → List (String A) → Asked
+asked_with word [] = asked_alone word
+asked_with word (directory ∷ []) = asked_of_directory word (string_bytes directory)
+asked_with word (first ∷ second ∷ []) = asked_with_two word first second
+asked_with word (first ∷ second ∷ third ∷ words) = AsksNothing
+
+abbrev pub asked_if : {A : Type 0} → Option Word → List (String A) → Asked
+asked_if None words = AsksNothing
+asked_if (Some word) words = asked_with word words
 
 -- what the words ask for; every other list of words asks for nothing
 abbrev pub asked_by : {A : Type 0} → List (String A) → Asked
 asked_by [] = AsksNothing
-asked_by (word ∷ []) = asked_alone word
-asked_by (word ∷ directory ∷ []) = asked_of_directory word (string_bytes directory)
-asked_by (word ∷ first ∷ second ∷ []) = asked_of_two word first second
-asked_by (word ∷ first ∷ second ∷ third ∷ words) = AsksNothing
+asked_by (first ∷ words) = asked_if (word_named (string_bytes first)) words
 
 -- this command is what is asked for; a trial has as many events as one may have
 abbrev pub IsCommand : Asked → Command → Type 0

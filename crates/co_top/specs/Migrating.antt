@@ -1,7 +1,7 @@
 -- How the command `migrate` ends, and what is written then.
 use Rattle.std.specs.Prelude.{ℕ, ◌≡◌, ◌⊎◌, List, [], ◌∷◌, ◌++◌, take, codes, decimal, Option, None, Some, Ok, Err}
 use Rattle.co_base.specs.Limits.{most_coordinators, most_members}
-use Rattle.co_outside.specs.Home.{File, HomeView}
+use Rattle.co_outside.specs.Home.{File, HomeView, IsClean}
 use Rattle.co_outside.specs.declared.spot.Spot.{Spot}
 use Rattle.co_durable.specs.Told.{AreTold}
 use Rattle.co_migrate.specs.Migrating.{IsMigrated}
@@ -47,11 +47,12 @@ IsOfMigrate (status.Limit (limit.Log spot)) = Unit {0}
 IsOfMigrate status.Memory = Unit {0}
 IsOfMigrate _ = ⊥
 
--- The command `migrate`: how it ends, over what is seen of the sink and the directory.
+-- The command `migrate`: how it ends, over what is seen of the sink and the directory. What it tells as migrated is synced.
 pub record MigratesAs (directory : List ℕ) (out_old out_new : SinkView) (old new : HomeView) (ended : Status) : Type 0 where
   pub end : AreTold old.file most_members most_coordinators → (held : List ℕ) → out_old.told ≡ Some held → IsMigrateEnd old.file new.file held out_new.told ended
   pub own : IsOfMigrate ended
   pub told : (s : Spot) → new.file s ≡ None → old.file s ≡ None
   pub entered : ended ≡ status.Done → new.entered ≡ Some directory
+  pub clean : ended ≡ status.Done → (s : Spot) → IsClean old s → IsClean new s
   pub write : TellsWrite out_old out_new ended
   pub device : TellsDevice old new ended

@@ -3,7 +3,7 @@ ghost use Rattle.std.specs.Prelude.{◌≡◌, ℕ, List, Some, None, IfOk, IsEr
 ghost use Rattle.co_base.specs.Limits.{most_coordinators, most_members};
 ghost use Rattle.co_durable.specs.Told.{AreTold};
 ghost use Rattle.co_outside.specs.Faults.{HasRisen};
-ghost use Rattle.co_outside.specs.Home.{HasFailed};
+ghost use Rattle.co_outside.specs.Home.{HasFailed, IsClean};
 ghost use Rattle.co_outside.specs.declared.spot.Spot.{Spot};
 ghost use Rattle.co_top.specs.Migrating.{migrated_text, of_migrate, IsMigrateEnd, IsOfMigrate};
 ghost use Rattle.co_top.specs.Replayed.{status_of};
@@ -65,6 +65,7 @@ fn told_migration<K: Sink, H: Home>(
     ensures quiet_home { ((spot : Spot) → IsErrOf result (Status.Device spot) → ⊥) → (H.seen home.new).faults ≡ (H.seen home.old).faults }
     ensures told { (s : Spot) → (H.seen home.new).file s ≡ None → (H.seen home.old).file s ≡ None }
     ensures entered { status_of result ≡ Status.Done → (H.seen home.new).entered ≡ Some directory.now }
+    ensures clean { status_of result ≡ Status.Done → (s : Spot) → IsClean (H.seen home.old) s → IsClean (H.seen home.new) s }
 {
     match migrate_directory(alloc, home, directory) {
         Ok(count) => tell_migrated(alloc, out, count),
@@ -88,6 +89,7 @@ pub(crate) fn migrate<K: Sink, H: Home>(
     ensures quiet_home { ((spot : Spot) → result ≡ Status.Device spot → ⊥) → (H.seen home.new).faults ≡ (H.seen home.old).faults }
     ensures told { (s : Spot) → (H.seen home.new).file s ≡ None → (H.seen home.old).file s ≡ None }
     ensures entered { result ≡ Status.Done → (H.seen home.new).entered ≡ Some directory.now }
+    ensures clean { result ≡ Status.Done → (s : Spot) → IsClean (H.seen home.old) s → IsClean (H.seen home.new) s }
 {
     match told_migration(alloc, directory, out, home) {
         Ok(()) => Status::Done,

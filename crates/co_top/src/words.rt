@@ -1,6 +1,6 @@
 //! The words of the command line.
 ghost use Rattle.std.specs.Prelude.{◌≡◌};
-ghost use Rattle.co_top.specs.Command.{IsCommand, asked_by, asked_alone, asked_of_directory, asked_of_two, asked_to_resume, asked_to_try, is_directory, is_word};
+ghost use Rattle.co_top.specs.Command.{IsCommand, asked_by, asked_alone, asked_of_directory, asked_with, asked_with_two, asked_to_resume, asked_to_try, is_directory, is_resume, word_text, word_named};
 ghost use Rattle.std.specs.String.{string_bytes};
 
 use co_schedule::long_number_within;
@@ -58,55 +58,54 @@ fn is_directory(word: &[u8]) -> bool
     }
 }
 
-/// Whether the word is this text.
-fn is_word(word: &String, text: &[u8]) -> bool
-    ensures { result ≡ is_word text.now word.now }
-{
-    word.as_bytes() == text
+/// The words that begin a command.
+#[derive(Clone, Copy)]
+enum Word {
+    Run,
+    Records,
+    Resolve,
+    Migrate,
+    Check,
+    Waits,
+    Trial,
 }
 
-/// A command of one word.
-fn of_one<'a>(command: &String) -> Command<'a>
-    ensures { IsCommand (asked_alone command.now) result }
+const WORDS: [Word; 7] = [
+    Word::Run,
+    Word::Records,
+    Word::Resolve,
+    Word::Migrate,
+    Word::Check,
+    Word::Waits,
+    Word::Trial,
+];
+
+fn text_of(word: Word) -> &'static [u8]
+    ensures { result.now ≡ word_text word }
 {
-    if is_word(command, b"check") {
-        return Command::Check;
+    match word {
+        Word::Run => b"run",
+        Word::Records => b"records",
+        Word::Resolve => b"resolve",
+        Word::Migrate => b"migrate",
+        Word::Check => b"check",
+        Word::Waits => b"waits",
+        Word::Trial => b"trial",
     }
-    if is_word(command, b"waits") {
-        return Command::Waits;
-    }
-    Command::Unknown
 }
 
-/// A command of two words.
-fn of_two<'a>(command: &String, directory: &'a String) -> Command<'a>
-    ensures { IsCommand (asked_of_directory command.now (string_bytes directory.now)) result }
+/// The word that this text is.
+fn word_of(text: &[u8]) -> Option<Word>
+    ensures { result ≡ word_named text.now }
 {
-    if !is_directory(directory.as_bytes()) {
-        return Command::Unknown;
-    }
-    if is_word(command, b"run") {
-        return Command::Run {
-            directory: directory.as_str(),
-            resume: false,
-        };
-    }
-    if is_word(command, b"records") {
-        return Command::Records {
-            directory: directory.as_str(),
-        };
-    }
-    if is_word(command, b"resolve") {
-        return Command::Resolve {
-            directory: directory.as_str(),
-        };
-    }
-    if is_word(command, b"migrate") {
-        return Command::Migrate {
-            directory: directory.as_str(),
-        };
-    }
-    Command::Unknown
+    WORDS.iter().copied().find(|word| text_of(*word) == text)
+}
+
+/// Whether this is the word for logs that a run left.
+fn is_resume(word: &String) -> bool
+    ensures { result ≡ is_resume (string_bytes word.now) }
+{
+    word.as_bytes() == b"--resume".as_slice()
 }
 
 /// A trial, where these are its number and the number of its events.
@@ -129,13 +128,13 @@ fn trial_of<'a>(number: &String, events: &String) -> Command<'a>
 fn resumed<'a>(first: &'a String, second: &'a String) -> Command<'a>
     ensures { IsCommand (asked_to_resume first.now second.now) result }
 {
-    if is_word(first, b"--resume") && is_directory(second.as_bytes()) {
+    if is_resume(first) && is_directory(second.as_bytes()) {
         return Command::Run {
             directory: second.as_str(),
             resume: true,
         };
     }
-    if is_word(second, b"--resume") && is_directory(first.as_bytes()) {
+    if is_resume(second) && is_directory(first.as_bytes()) {
         return Command::Run {
             directory: first.as_str(),
             resume: true,
@@ -144,17 +143,59 @@ fn resumed<'a>(first: &'a String, second: &'a String) -> Command<'a>
     Command::Unknown
 }
 
-/// A command of three words.
-fn of_three<'a>(command: &String, first: &'a String, second: &'a String) -> Command<'a>
-    ensures { IsCommand (asked_of_two command.now first.now second.now) result }
+/// A word, with the name of a directory behind it.
+fn with_directory(word: Word, directory: &String) -> Command<'_>
+    ensures { IsCommand (asked_of_directory word (string_bytes directory.now)) result }
 {
-    if is_word(command, b"trial") {
-        return trial_of(first, second);
+    if !is_directory(directory.as_bytes()) {
+        return Command::Unknown;
     }
-    if is_word(command, b"run") {
-        return resumed(first, second);
+    let directory = directory.as_str();
+    match word {
+        Word::Run => Command::Run {
+            directory,
+            resume: false,
+        },
+        Word::Records => Command::Records { directory },
+        Word::Resolve => Command::Resolve { directory },
+        Word::Migrate => Command::Migrate { directory },
+        Word::Check | Word::Waits | Word::Trial => Command::Unknown,
     }
-    Command::Unknown
+}
+
+/// A word alone.
+fn alone<'a>(word: Word) -> Command<'a>
+    ensures { IsCommand (asked_alone word) result }
+{
+    match word {
+        Word::Check => Command::Check,
+        Word::Waits => Command::Waits,
+        Word::Run | Word::Records | Word::Resolve | Word::Migrate | Word::Trial => Command::Unknown,
+    }
+}
+
+/// A word, with two others behind it.
+fn with_two<'a>(word: Word, first: &'a String, second: &'a String) -> Command<'a>
+    ensures { IsCommand (asked_with_two word first.now second.now) result }
+{
+    match word {
+        Word::Trial => trial_of(first, second),
+        Word::Run => resumed(first, second),
+        Word::Records | Word::Resolve | Word::Migrate | Word::Check | Word::Waits =>
+            Command::Unknown,
+    }
+}
+
+/// A word, with those behind it.
+fn with_words(word: Word, behind: &[String]) -> Command<'_>
+    ensures { IsCommand (asked_with word behind.now) result }
+{
+    match behind {
+        [] => alone(word),
+        [directory] => with_directory(word, directory),
+        [first, second] => with_two(word, first, second),
+        _ => Command::Unknown,
+    }
 }
 
 /// The command that the words are.
@@ -162,9 +203,10 @@ pub(crate) fn command_of(words: &[String]) -> Command<'_>
     ensures { IsCommand (asked_by words.now) result }
 {
     match words {
-        [command] => of_one(command),
-        [command, directory] => of_two(command, directory),
-        [command, first, second] => of_three(command, first, second),
-        _ => Command::Unknown,
+        [] => Command::Unknown,
+        [first, behind @ ..] => match word_of(first.as_bytes()) {
+            Some(word) => with_words(word, behind),
+            None => Command::Unknown,
+        },
     }
 }

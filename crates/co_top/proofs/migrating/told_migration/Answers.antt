@@ -19,3 +19,6 @@ returns-in-Err-clause-quiet_home g c = λ none. c.in-Err.ensures.quiet (λ spot 
 
 pub returns-in-Err-clause-entered : goal.returns-in-Err-clause-entered
 returns-in-Err-clause-entered g c = λ done. absurd (never_done c.in-Err.fault (sym c.of_migrate.ensures ∙ done))
+
+pub returns-in-Err-clause-clean : goal.returns-in-Err-clause-clean
+returns-in-Err-clause-clean g c = λ done. absurd (never_done c.in-Err.fault (sym c.of_migrate.ensures ∙ done))

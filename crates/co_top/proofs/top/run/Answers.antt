@@ -118,6 +118,7 @@ returns-in-Migrate-clause-migrate g c = λ directory is.
       own = e.own;
       told = e.told;
       entered = e.entered;
+      clean = e.clean;
       write = record { failed = e.write; quiet = e.quiet_sink };
       device = record { failed = e.device; quiet = e.quiet_home };
     } in
