@@ -18,7 +18,6 @@ import work
 from twin import Refused
 
 PAIRINGS = ['SER+SER', 'RR+RC', 'RC+RC lock lock', 'RR+kept']
-FIRST = 4_294_967_295  # the number of the transaction that lays a session's first records
 
 
 def manager_of(name):
@@ -65,22 +64,19 @@ def start_live(folder, co_cli, pairing, name, logs='logs', resume=False):
     return subprocess.Popen(words, stdout=subprocess.PIPE, stderr=subprocess.DEVNULL)
 
 
-def session(folder, before):
-    """A killed session's transcript as the judge takes it: what it began with is laid by a transaction in front, and the last event, where it was cut, is left out."""
+def whole_events(text):
+    """A transcript that a kill cut off, without its last event where that has no reply."""
+    lines = text.split('\n')[:-1]
+    while lines and lines[-1].split(' ')[1] != 'reply':
+        lines.pop()
+    return ''.join(f'{line}\n' for line in lines)
+
+
+def judge_session(folder, co_judge, before):
+    """The judge's word on a killed session, behind the records with which it began."""
     with open(f'{folder}/logs.transcript', errors='replace') as file:
-        items = [line.split(' ', 1)[1] for line in file.read().split('\n')[:-1]]
-    groups, group = [], []
-    for item in items:
-        group.append(item)
-        if item.startswith('reply '):
-            groups.append(group)
-            group = []
-    if not groups:
-        return None
-    head = [groups[0][0], 'log m1 header 1', 'log m2 header 1', 'log c1 header 1', 'reply open']
-    rows = [[f'event write {FIRST} {row}', 'reply done'] for row in before]
-    laid = [[f'event begin {FIRST} c1', 'reply begun'], *rows, [f'event commit {FIRST}', f'log c1 commit {FIRST}', 'reply committed']]
-    return ''.join(f'{place + 1} {item}\n' for place, group in enumerate([head, *laid, *groups[1:]]) for item in group)
+        transcript = whole_events(file.read())
+    return work.judge(co_judge, ''.join(f'{record}\n' for record in before) + transcript, 'resumed')
 
 
 def kill(child, rnd):
@@ -121,8 +117,7 @@ def run_kills(folder, programs, pairing, kills=30, manager='Manager'):
         counts.update(json.loads(line))
         time.sleep(0.1 + rnd.random() * 1.5)
         counts[f'killed {kill(child, rnd)}'] += 1
-        text = session(folder, before)
-        verdict = work.judge(co_judge, text) if text else 'serial'
+        verdict = judge_session(folder, co_judge, before)
         counts['sessions serial' if verdict.startswith('serial') else verdict] += 1
         counts['in doubt at a kill'] += sum(len(database.in_doubt()) for database in databases)
     try:
