@@ -18,6 +18,7 @@ import work
 from twin import Refused
 
 PAIRINGS = ['SER+SER', 'RR+RC', 'RC+RC lock lock', 'RR+kept']
+NOT_AGAIN, AT_ONE_ALONE, SECOND_MANAGER = 'the manager did not begin again', 'some are at one database alone', 'a second manager came in'
 
 
 def manager_of(name):
@@ -101,6 +102,7 @@ def laid_rows(rows):
 
 
 def run_kills(folder, programs, pairing, kills=30, manager='Manager'):
+    """Kills so often. Gives what is wrong."""
     co_cli, co_judge = programs
     databases = work.open_databases(folder, pairing)
     work.clean(databases, folder)
@@ -113,7 +115,7 @@ def run_kills(folder, programs, pairing, kills=30, manager='Manager'):
         line = child.stdout.readline()
         if not line:
             print(f'{pairing}: the manager did not begin again after kill {place}')
-            return False
+            return {NOT_AGAIN}
         counts.update(json.loads(line))
         time.sleep(0.1 + rnd.random() * 1.5)
         counts[f'killed {kill(child, rnd)}'] += 1
@@ -124,7 +126,7 @@ def run_kills(folder, programs, pairing, kills=30, manager='Manager'):
         last = manager_of(manager)(work.open_databases(folder, pairing), co_cli, f'{folder}/logs', resume=True)
     except SystemExit as end:
         print(f'{pairing}: {end}')
-        return False
+        return {NOT_AGAIN}
     code = last.program.close()
     for database in last.databases.values():
         database.close()
@@ -136,7 +138,8 @@ def run_kills(folder, programs, pairing, kills=30, manager='Manager'):
     lost, alone = len(acknowledged - at_first), len(at_first ^ at_second)
     print(f'{pairing}: {kills} kills, {len(acknowledged)} acknowledged, {len(at_first)} committed, {lost} lost, {alone} at one database alone, {doubts} in doubt, '
           f'rows {"are" if found == rows else "are NOT"} the records, {counts["sessions serial"]} sessions serial, {counts["in doubt at a kill"]} in doubt at the kills', flush=True)
-    return code == 0 and not lost and not alone and not doubts and found == rows and counts['sessions serial'] == kills
+    return work.failed({'the program ended by a fault': code == 0, 'acknowledged ones are lost': not lost, AT_ONE_ALONE: not alone, work.IN_DOUBT: not doubts,
+                        work.NOT_THE_RECORDS: found == rows, work.NOT_SERIAL: counts['sessions serial'] == kills})
 
 
 def directory(folder):
@@ -145,7 +148,7 @@ def directory(folder):
 
 
 def run_two(folder, programs, pairing, name):
-    """Two managers at once, with directories of their own: right where the second one does not begin, or the rows are the records of the first."""
+    """Two managers at once, with directories of their own. Gives what is wrong."""
     co_cli, _ = programs
     databases = work.open_databases(folder, pairing)
     work.clean(databases, folder)
@@ -160,11 +163,11 @@ def run_two(folder, programs, pairing, name):
     last.program.close()
     for database in last.databases.values():
         database.close()
-    return not begun and work.records(co_cli, last.directory()) == work.spelled_rows(databases)
+    return work.failed({SECOND_MANAGER: not begun, work.NOT_THE_RECORDS: work.records(co_cli, last.directory()) == work.spelled_rows(databases)})
 
 
 def run(folder, programs, kills=30):
-    return all([run_kills(folder, programs, pairing, kills) for pairing in PAIRINGS])
+    return not any([run_kills(folder, programs, pairing, kills) for pairing in PAIRINGS])
 
 
 if __name__ == '__main__':
