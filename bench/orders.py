@@ -4,6 +4,9 @@
 `orders.py JUDGE` makes 10,000 random histories of at most seven transactions, and 3,000 bent copies of one that needs cases, and has the
 built program JUDGE judge each with the word `order`. It fails where an answer is wrong, a certificate does not stand or an answer is
 `undecided`. `orders.py --random N --cases N --seed N JUDGE` makes so many. It shares nothing with the program.
+
+`orders.py rows` makes the stored output of `crates/co_order_rows` again, writes it, and fails where it is another one. Where the words of the page fix
+an answer it is made here; another one (an order, a derived cycle, cases) is taken as it is stored where it stands, and each order is tried.
 """
 import argparse
 import collections
@@ -191,6 +194,33 @@ class Words:
                     return True
         return False
 
+    def writers_of_next(self, record, source):
+        """The two least transactions that read a version of a record and wrote the record."""
+        return [txn for txn in sorted(self.told) if (txn, record) in self.left and self.source(txn, record) == source][:2]
+
+    def line_left(self, txn, record):
+        """The line of what a transaction left in a record."""
+        return self.left_line[txn, record][-1]
+
+    def line_read(self, txn, record):
+        """The line at which a transaction read a record from others first."""
+        return self.reads[txn, record][0][0]
+
+    def pairs(self, one, other):
+        """The pairs of lines that each force one transaction before another."""
+        records = {record for _, record in self.left}
+        for record in records:
+            source = self.source(one, record)
+            if self.source(other, record) == one:
+                yield self.line_left(one, record), self.line_read(other, record)
+            if source is not None and other in self.writers_of_next(record, source):
+                yield self.line_read(one, record), self.line_left(other, record)
+            if (other, record) in self.left and self.root(other, record) == other:
+                if (one, record) in self.left and self.root(one, record) == 'start':
+                    yield self.line_left(one, record), self.line_left(other, record)
+                if source is not None and self.root(source, record) == 'start':
+                    yield self.line_read(one, record), self.line_left(other, record)
+
     def by_others(self, one, other, first, second, known):
         for record, root in self.stands_in(one, first):
             for also, then in self.stands_in(other, second):
@@ -285,8 +315,7 @@ def two_line_cycle(words):
             if source is not None and source != 'start':
                 edges[source].add(txn)
             if source is not None:
-                wrote = [u for u in txns if (u, record) in words.left and words.source(u, record) == source][:2]
-                edges[txn] |= {u for u in wrote if u != txn}
+                edges[txn] |= {u for u in words.writers_of_next(record, source) if u != txn}
         for one in words.members(record, 'start'):
             edges[one] |= {u for u in txns if (u, record) in words.left and words.root(u, record) == u}
     for start in txns:
@@ -306,29 +335,43 @@ def two_line_cycle(words):
     return None
 
 
+def cycle_lines(words, cycle):
+    """A cycle by two lines as it is written: its edges in the order of the ring, each with its least pair."""
+    edges = zip(cycle, cycle[1:] + cycle[:1])
+    befores = ['before {} {} {} {}'.format(one, other, *min(words.pairs(one, other))) for one, other in edges]
+    return [' '.join(['cycle'] + [str(txn) for txn in cycle])] + befores
+
+
 # ---- judging an answer
+
+def fixed_answer(history, words):
+    """The lines and the status, where the page fixes them; else none."""
+    recorded = [txn for txn, _ in history]
+    if is_serial(history, recorded):
+        return [' '.join(['order'] + [str(txn) for txn in recorded])], 0
+    fault = local_fault(words)
+    if fault:
+        return [fault], 14
+    cycle = two_line_cycle(words)
+    return (cycle_lines(words, cycle), 14) if cycle else None
+
 
 def wrong(history, text, status):
     """What is wrong with an answer, or none."""
     lines = text.splitlines()
     if not lines:
         return 'no answer'
-    words, recorded = Words(history), [txn for txn, _ in history]
+    words = Words(history)
     word = lines[0].split(' ')[0]
-    if is_serial(history, recorded):
-        return None if (lines, status) == ([' '.join(['order'] + [str(txn) for txn in recorded])], 0) else 'the recorded order is serial'
-    fault = local_fault(words)
-    if fault:
-        return None if (lines, status) == ([fault], 14) else f'wanted {fault}'
-    cycle = two_line_cycle(words)
-    if cycle:
-        if status != 14 or lines[0] != ' '.join(['cycle'] + [str(txn) for txn in cycle]):
-            return f'wanted the cycle {cycle}'
-        return None if stands(words, lines) else 'a certificate that does not stand'
+    fixed = fixed_answer(history, words)
+    if fixed and (lines, status) != fixed:
+        return f'wanted {fixed}'
     if word == 'order':
         return None if status == 0 and is_serial(history, [int(each) for each in lines[0].split(' ')[1:]]) else 'an order that is not serial'
     if word in ('cycle', 'none'):
         return None if status == 14 and stands(words, lines) else 'a certificate that does not stand'
+    if word in ('unwritten', 'torn'):
+        return None if fixed else 'there is no such line'
     if word == 'values':
         many = [(line, txn) for (txn, record), reads in words.reads.items() for line, value in reads[:1] if len(words.sources(txn, record, value)) > 1]
         return None if many and status == 16 and lines == [f'values repeat {min(many)[1]} {min(many)[0]}'] else 'no read has two sources there'
@@ -426,7 +469,54 @@ def judged(judge, text):
     return ran.stdout.decode(), ran.returncode
 
 
+# ---- the stored rows
+
+ROWS = os.path.join(os.path.dirname(os.path.abspath(__file__)), '..', 'crates', 'co_order_rows')
+
+
+def stored_answers(text):
+    """The rows of a stored output: a name behind `#`, the lines of an answer, and its status."""
+    for row in text.split('# ')[1:]:
+        name, *lines, status = row.splitlines()
+        yield name, lines, int(status)
+
+
+def made_row(name, lines, status):
+    """What the output has to say of a history, and whether the page fixes it. What it does not fix is taken from the stored row, where that stands and
+    agrees with every order that is tried."""
+    with open(os.path.join(ROWS, 'data', name)) as file:
+        history = read_transcript(file.read())
+    fixed = fixed_answer(history, Words(history))
+    if fixed:
+        return *fixed, True
+    what = wrong(history, '\n'.join(lines), status)
+    real = has_order(history)
+    if not what and real != {'order': True, 'cycle': False, 'none': False}.get(lines[0].split(' ')[0], real):
+        what = f'there is {"an" if real else "no"} order'
+    return [what] if what else lines, status, False
+
+
+def rows():
+    """Makes the stored output of the worked histories again. Gives whether it is the one that is stored."""
+    with open(os.path.join(ROWS, 'stdin')) as file:
+        names = file.read().split()
+    with open(os.path.join(ROWS, 'stdout')) as file:
+        stored = file.read()
+    answers = {name: (lines, status) for name, lines, status in stored_answers(stored)}
+    made, fixed = '', 0
+    for name in names:
+        lines, status, is_fixed = made_row(name, *answers.get(name, (['nothing'], -1)))
+        made += '\n'.join([f'# {name}', *lines, str(status)]) + '\n'
+        fixed += is_fixed
+    same = made == stored
+    sys.stdout.write(made)
+    print(f'{len(names)} rows: {fixed} made by the page alone, {len(names) - fixed} checked as they are stored; {"the same" if same else "NOT the same"} as the stored output', file=sys.stderr)
+    return same
+
+
 def main():
+    if sys.argv[1:] == ['rows']:
+        return 0 if rows() else 1
     parse = argparse.ArgumentParser()
     parse.add_argument('judge')
     parse.add_argument('--random', type=int, default=10000)
@@ -440,7 +530,7 @@ def main():
         history = read_transcript(text)
         found, status = judged(args.judge, text)
         what = wrong(history, found, status)
-        word = found.split(' ')[0].strip()
+        word = (found.split() or [''])[0]
         counts['random' if number < args.random else 'cases', word] += 1
         real = has_order(history)
         if what is None and word in ('unwritten', 'torn', 'cycle', 'none') and real:

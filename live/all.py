@@ -9,6 +9,7 @@ import crash
 import dbkill
 import often
 import renew
+import spelling_test
 import wrong
 
 CHECKS = {  # each with what the short form gives it
@@ -17,7 +18,8 @@ CHECKS = {  # each with what the short form gives it
     'kills': (crash.run, [4]),
     'crashes of databases': (dbkill.run, [('mariadb',)]),
     'what the rule costs': (bench.rates, [3.0]),
-    'renewed under load': (renew.run, [10.0]),
+    'renewed under load': (renew.run, [10.0, 500]),
+    'spelling of keys': (lambda folder, programs: spelling_test.run(), []),
     'promises': (breaks.run, []),
     'wrong managers': (wrong.run, []),
 }

@@ -3,8 +3,10 @@
 import subprocess
 import sys
 import threading
+import time
 
 import work
+from dbkill import is_free
 from spelling import spell_key
 from twin import Manager, Refused
 
@@ -104,7 +106,37 @@ def one_directory(case):
     yield (other.returncode, other.stderr.decode().split('\n')[0]), (6, 'device fault: m1.a')
 
 
-CASES = [past_the_manager, rows_of_before, untold_reads, told_reads, any_letters, one_directory]
+def lose_lock(database):
+    """Ends the session that holds the manager's lock, as a database does with one that is idle for long."""
+    database.ask(database.TEXTS['kill'] % database.holder)
+    time.sleep(0.2)  # it ends a moment later
+
+
+def a_lost_lock(case):
+    """The lock of one database is lost: it is taken anew before the next branch there, and another manager stays out."""
+    first, second = case.databases
+    for database, other in ((first, second), (second, first)):
+        lose_lock(database)
+        yield (database.holds_lock(), other.holds_lock()), (False, True)
+        writer = case.manager.begin()
+        writer.write('m1', 'a', '1')
+        writer.write('m2', 'a', '1')
+        writer.commit()
+        yield (database.holds_lock(), [is_free(each) for each in work.open_databases(case.folder, 'RR+RC')]), (True, [False, False])
+
+
+def all_locks_lost(case):
+    """All are lost at once: another manager may have been here, so this one begins no branch any more."""
+    for database in case.databases:
+        lose_lock(database)
+    for member in case.manager.databases:
+        try:
+            yield case.manager.begin().read(member, 'a'), 'an end'
+        except SystemExit as end:
+            yield str(end), 'no lock stands any more, so another manager may have been here'
+
+
+CASES = [past_the_manager, rows_of_before, untold_reads, told_reads, any_letters, one_directory, a_lost_lock, all_locks_lost]
 
 
 def run(folder, programs):

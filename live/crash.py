@@ -18,7 +18,7 @@ import work
 from twin import Refused
 
 PAIRINGS = ['SER+SER', 'RR+RC', 'RC+RC lock lock', 'RR+kept']
-FIRST = 4_294_967_295  # the number of the transaction that lays a session's first records
+NOT_AGAIN, AT_ONE_ALONE, SECOND_MANAGER = 'the manager did not begin again', 'some are at one database alone', 'a second manager came in'
 
 
 def manager_of(name):
@@ -65,22 +65,19 @@ def start_live(folder, co_cli, pairing, name, logs='logs', resume=False):
     return subprocess.Popen(words, stdout=subprocess.PIPE, stderr=subprocess.DEVNULL)
 
 
-def session(folder, before):
-    """A killed session's transcript as the judge takes it: what it began with is laid by a transaction in front, and the last event, where it was cut, is left out."""
+def whole_events(text):
+    """A transcript that a kill cut off, without its last event where that has no reply."""
+    lines = text.split('\n')[:-1]
+    while lines and lines[-1].split(' ')[1] != 'reply':
+        lines.pop()
+    return ''.join(f'{line}\n' for line in lines)
+
+
+def judge_session(folder, co_judge, before):
+    """The judge's word on a killed session, behind the records with which it began."""
     with open(f'{folder}/logs.transcript', errors='replace') as file:
-        items = [line.split(' ', 1)[1] for line in file.read().split('\n')[:-1]]
-    groups, group = [], []
-    for item in items:
-        group.append(item)
-        if item.startswith('reply '):
-            groups.append(group)
-            group = []
-    if not groups:
-        return None
-    head = [groups[0][0], 'log m1 header 1', 'log m2 header 1', 'log c1 header 1', 'reply open']
-    rows = [[f'event write {FIRST} {row}', 'reply done'] for row in before]
-    laid = [[f'event begin {FIRST} c1', 'reply begun'], *rows, [f'event commit {FIRST}', f'log c1 commit {FIRST}', 'reply committed']]
-    return ''.join(f'{place + 1} {item}\n' for place, group in enumerate([head, *laid, *groups[1:]]) for item in group)
+        transcript = whole_events(file.read())
+    return work.judge(co_judge, ''.join(f'{record}\n' for record in before) + transcript, 'resumed')
 
 
 def kill(child, rnd):
@@ -105,6 +102,7 @@ def laid_rows(rows):
 
 
 def run_kills(folder, programs, pairing, kills=30, manager='Manager'):
+    """Kills so often. Gives what is wrong."""
     co_cli, co_judge = programs
     databases = work.open_databases(folder, pairing)
     work.clean(databases, folder)
@@ -117,19 +115,18 @@ def run_kills(folder, programs, pairing, kills=30, manager='Manager'):
         line = child.stdout.readline()
         if not line:
             print(f'{pairing}: the manager did not begin again after kill {place}')
-            return False
+            return {NOT_AGAIN}
         counts.update(json.loads(line))
         time.sleep(0.1 + rnd.random() * 1.5)
         counts[f'killed {kill(child, rnd)}'] += 1
-        text = session(folder, before)
-        verdict = work.judge(co_judge, text) if text else 'serial'
+        verdict = judge_session(folder, co_judge, before)
         counts['sessions serial' if verdict.startswith('serial') else verdict] += 1
         counts['in doubt at a kill'] += sum(len(database.in_doubt()) for database in databases)
     try:
         last = manager_of(manager)(work.open_databases(folder, pairing), co_cli, f'{folder}/logs', resume=True)
     except SystemExit as end:
         print(f'{pairing}: {end}')
-        return False
+        return {NOT_AGAIN}
     code = last.program.close()
     for database in last.databases.values():
         database.close()
@@ -141,7 +138,8 @@ def run_kills(folder, programs, pairing, kills=30, manager='Manager'):
     lost, alone = len(acknowledged - at_first), len(at_first ^ at_second)
     print(f'{pairing}: {kills} kills, {len(acknowledged)} acknowledged, {len(at_first)} committed, {lost} lost, {alone} at one database alone, {doubts} in doubt, '
           f'rows {"are" if found == rows else "are NOT"} the records, {counts["sessions serial"]} sessions serial, {counts["in doubt at a kill"]} in doubt at the kills', flush=True)
-    return code == 0 and not lost and not alone and not doubts and found == rows and counts['sessions serial'] == kills
+    return work.failed({'the program ended by a fault': code == 0, 'acknowledged ones are lost': not lost, AT_ONE_ALONE: not alone, work.IN_DOUBT: not doubts,
+                        work.NOT_THE_RECORDS: found == rows, work.NOT_SERIAL: counts['sessions serial'] == kills})
 
 
 def directory(folder):
@@ -150,7 +148,7 @@ def directory(folder):
 
 
 def run_two(folder, programs, pairing, name):
-    """Two managers at once, with directories of their own: right where the second one does not begin, or the rows are the records of the first."""
+    """Two managers at once, with directories of their own. Gives what is wrong."""
     co_cli, _ = programs
     databases = work.open_databases(folder, pairing)
     work.clean(databases, folder)
@@ -165,11 +163,11 @@ def run_two(folder, programs, pairing, name):
     last.program.close()
     for database in last.databases.values():
         database.close()
-    return not begun and work.records(co_cli, last.directory()) == work.spelled_rows(databases)
+    return work.failed({SECOND_MANAGER: not begun, work.NOT_THE_RECORDS: work.records(co_cli, last.directory()) == work.spelled_rows(databases)})
 
 
 def run(folder, programs, kills=30):
-    return all([run_kills(folder, programs, pairing, kills) for pairing in PAIRINGS])
+    return not any([run_kills(folder, programs, pairing, kills) for pairing in PAIRINGS])
 
 
 if __name__ == '__main__':

@@ -4,6 +4,7 @@ Each has one table `kv(k, v)`. A database is a member of the kind that its level
 """
 import contextlib
 import fcntl
+import os
 import sqlite3
 import time
 
@@ -55,7 +56,7 @@ class Database:
     Branch = Branch
 
     def __init__(self, level, kind=None, **where):
-        self.level, self.kind, self.where, self.idle, self.lock = level, kind or self.KINDS[level], where, [], None
+        self.level, self.kind, self.where, self.idle, self.lock, self.holder = level, kind or self.KINDS[level], where, [], None, None
 
     def begin(self, name):
         branch = self.Branch(self, self.idle.pop() if self.idle else self.connect(), name)
@@ -84,19 +85,27 @@ class Database:
         return list(self.ask('select k, v from kv order by k'))
 
     def exclude(self, patience=5.0):
-        """Takes the lock that one living manager holds here. It goes with the connection."""
-        self.lock, end = self.connect(), time.time() + patience
+        """Takes the lock that one living manager holds here. It goes with the session that took it."""
+        self.holder, self.lock, end = None, self.connect(), time.time() + patience
         while not self.takes_lock():
             if time.time() > end:
                 raise SystemExit(f'another manager is at {self.name()}')
             time.sleep(0.05)
+        self.holder = self.own_session(self.lock)
+
+    def holds_lock(self):
+        """Whether the session that took the lock is still there: it answers, and is the same one."""
+        try:
+            return self.holder is not None and self.own_session(self.lock) == self.holder
+        except self.Fault:
+            return False
 
     def close(self):
         """Ends all connections of this one, and lets go of the lock."""
         for connection in [self.lock, *self.idle]:
             with contextlib.suppress(self.Fault, AttributeError):
                 connection.close()
-        self.idle, self.lock = [], None
+        self.idle, self.lock, self.holder = [], None, None
 
     def takes_lock(self):
         cursor = self.lock.cursor()
@@ -260,6 +269,10 @@ class SQLite(Database):
         except BlockingIOError:
             return False
         return True
+
+    def own_session(self, lock):
+        """A lock of a file goes with the process alone."""
+        return os.getpid()
 
     def fence(self):
         """A killed manager has no session left: its statements were its own."""

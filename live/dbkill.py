@@ -1,7 +1,8 @@
 #!/usr/bin/python3
 """dbkill.py FOLDER CO_CLI CO_JUDGE: crashes each database under eight clients and starts it again; the manager lives on.
 
-Right where clients go on after each crash, none is stuck, and the history is serial and what the twin committed, the rows are the records and nothing is in doubt.
+Right where clients go on after each crash, none is stuck, and the history is serial and what the twin committed, the rows are the records and nothing is in doubt;
+and where the manager holds its lock at each database again, so that no other one could come in.
 """
 import sys
 import threading
@@ -12,7 +13,22 @@ from servers import servers
 from twin import Manager
 
 
-def run(folder, programs, crashes=('mariadb', 'postgresql', 'mariadb'), make=Manager):
+COULD_COME_IN = 'another manager could come in'
+
+
+def is_free(database):
+    """Whether another manager could take the lock there."""
+    try:
+        database.exclude(patience=0.0)
+        return True
+    except SystemExit:
+        return False
+    finally:
+        database.close()
+
+
+def findings(folder, programs, crashes=('mariadb', 'postgresql', 'mariadb'), make=Manager):
+    """Crashes these databases, one after another. Gives what is wrong."""
     co_cli, co_judge = programs
     databases = work.open_databases(folder, 'RC+RC lock lock')
     work.clean(databases, folder)
@@ -21,7 +37,7 @@ def run(folder, programs, crashes=('mariadb', 'postgresql', 'mariadb'), make=Man
     load.lay_rows()
     clients = threading.Thread(target=load.run)
     clients.start()
-    of_name, went_on = dict(zip(('postgresql', 'mariadb'), servers(folder))), []
+    of_name, went_on, free = dict(zip(('postgresql', 'mariadb'), servers(folder))), [], 0
     for name in crashes:
         time.sleep(2)
         of_name[name].crash()
@@ -29,6 +45,7 @@ def run(folder, programs, crashes=('mariadb', 'postgresql', 'mariadb'), make=Man
         before = load.counts['committed']
         time.sleep(4)
         went_on.append(load.counts['committed'] - before)
+        free += sum(is_free(database) for database in work.open_databases(folder, 'RC+RC lock lock'))
     load.end = 0
     clients.join(30)
     is_stuck = clients.is_alive()
@@ -40,10 +57,15 @@ def run(folder, programs, crashes=('mariadb', 'postgresql', 'mariadb'), make=Man
     same = work.records(co_cli, manager.directory()) == work.spelled_rows(databases)
     doubts = sum(len(database.in_doubt()) for database in databases)
     print(f'{len(crashes)} crashes of databases: {load.counts["committed"]} committed, {went_on} right behind each, {"a client is stuck" if is_stuck else "no client stuck"}; history {decisions}, twin {twin}, '
-          f'rows {"are" if same else "are NOT"} the records, {doubts} in doubt')
+          f'rows {"are" if same else "are NOT"} the records, {doubts} in doubt, {free} locks free for another manager')
     for database in databases:
         database.close()
-    return code == 0 and all(went_on) and decisions.startswith('serial') and twin == decisions and same and not doubts
+    return work.failed({'a client is stuck': not is_stuck, 'the program ended by a fault': is_stuck or code == 0, 'nobody goes on': all(went_on), work.NOT_SERIAL: decisions.startswith('serial'),
+                        work.TWIN_DIFFERS: twin == decisions, work.NOT_THE_RECORDS: same, work.IN_DOUBT: not doubts, COULD_COME_IN: not free})
+
+
+def run(folder, programs, crashes=('mariadb', 'postgresql', 'mariadb')):
+    return not findings(folder, programs, crashes)
 
 
 if __name__ == '__main__':

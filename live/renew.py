@@ -1,7 +1,7 @@
 #!/usr/bin/python3
 """renew.py FOLDER CO_CLI CO_JUDGE [SECONDS]: lets clients run while the program is begun anew each 2,500 lines, and moves to a new directory each 5,000 numbers.
 
-Right where the history is serial, the rows are the records and nothing is in doubt, after several of both.
+Right where the history is serial, the rows are the records and nothing is in doubt, and it was begun anew and moved once at least.
 """
 import functools
 import sys
@@ -10,11 +10,11 @@ import work
 from twin import Manager
 
 
-def run(folder, programs, seconds=60.0):
-    told = work.play(folder, programs, 'RC+RC lock lock', make=functools.partial(Manager, lines=2500, numbers=5000), seconds=seconds, transcript=False, keys=50, threads=8)
+def run(folder, programs, seconds=60.0, numbers=5000):
+    told = work.play(folder, programs, 'RC+RC lock lock', make=functools.partial(Manager, lines=2500, numbers=numbers), seconds=seconds, transcript=False, keys=50, threads=8)
     renewed, moved = (told['counts'].get(what, 0) for what in ('renewed', 'moved to a new directory'))
     print(f'{seconds:.0f} seconds: {told["committed"]} committed, {renewed} times begun anew, {moved} times moved; {told["decisions"]}, rows {"are" if told["rows are records"] else "are NOT"} the records, {told["in doubt"]} in doubt')
-    return told['decisions'].startswith('serial') and told['any order'].startswith('order') and told['rows are records'] and not told['in doubt'] and renewed > 0
+    return told['decisions'].startswith('serial') and told['any order'].startswith('order') and told['rows are records'] and not told['in doubt'] and renewed > 0 and moved > 0
 
 
 if __name__ == '__main__':

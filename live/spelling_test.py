@@ -2,6 +2,7 @@
 """spelling_test.py: spelled keys are visible letters, keep the order of the keys' bytes, and can be read again. A spelling that does not is seen."""
 import random
 import string
+import sys
 
 from spelling import read_key, spell_key
 
@@ -21,7 +22,8 @@ def faults(spell, read, keys):
             yield f'{lesser!r} is before {greater!r}, and {spelled[lesser]!r} is not before {spelled[greater]!r}'
 
 
-def main():
+def run():
+    """Whether no key is spelled wrongly, and each wrong spelling is seen."""
     rnd = random.Random(7)
     keys = {''.join(rnd.choices(LETTERS, k=rnd.randint(1, 2))) for _ in range(20000)}
     found = list(faults(spell_key, read_key, keys))
@@ -36,7 +38,7 @@ def main():
     for name in unseen:
         print(f'a key that is spelled {name} is not seen')
     print(f'{len(keys)} keys, {len(found)} faults; {len(wrong) - len(unseen)} of {len(wrong)} wrong spellings were seen')
-    raise SystemExit(1 if found or unseen else 0)
+    return not found and not unseen
 
 
 def read_key_or_none(word):
@@ -47,4 +49,4 @@ def read_key_or_none(word):
 
 
 if __name__ == '__main__':
-    main()
+    sys.exit(not run())

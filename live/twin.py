@@ -37,9 +37,10 @@ class Manager:
     def __init__(self, databases, program=None, folder=None, resume=False, transcript=None, patience=1.0, lines=200_000, numbers=60_000):
         self.databases = {f'm{place + 1}': database for place, database in enumerate(databases)}
         self.path, self.folder, self.transcript, self.patience, self.most_lines, self.most_numbers = program, folder, transcript, patience, lines, numbers
-        self.moved, self.counts, self.open, self.closing = threading.Condition(), {}, set(), False
+        self.moved, self.counts, self.open, self.closing, self.alone = threading.Condition(), {}, set(), False, threading.Lock()
         self.stage, self.writers, self.waits, self.turns = {}, {}, {}, {m: Turns() for m in self.databases}
-        self.exclude()
+        for database in databases:
+            self.exclude(database)
         # numbers from `session` to `limit` are on file, and may be of transactions that an earlier manager left open
         self.session, self.next, self.part, self.first = self.read_file() if resume else (1, 1, 0, 1)
         earlier, self.session, self.limit = self.session, self.next, self.next
@@ -53,9 +54,14 @@ class Manager:
                 for number in sorted({int(name[1:]) for name in doubts} | set(range(earlier, self.session))):
                     self.end_in_doubt(number, member, doubts)
 
-    def exclude(self):
-        for database in self.databases.values():
-            database.exclude()
+    def exclude(self, database):
+        """Keeps other managers out of a database before each branch there, for a lock goes with its session. One that is gone is taken anew while another one
+        stands, since a manager who comes in needs them all. Where none stands, one may have been here, and this manager ends."""
+        with self.alone:
+            if not database.holds_lock():
+                if database.lock and not any(other.holds_lock() for other in self.databases.values()):
+                    raise SystemExit('no lock stands any more, so another manager may have been here')
+                database.exclude()
 
     # -- the four rules --
 
@@ -140,9 +146,8 @@ class Manager:
             raise SystemExit(f'the program ended with {code}')
         if self.next - self.first < self.most_numbers:
             self.start_program(True)
-            for node in [*self.databases, COORDINATOR]:
-                self.program.tell(f'checkpoint {node}')  # closes the spare file
-                self.program.tell(f'checkpoint {node}')  # fills it
+            for node in [*self.databases, COORDINATOR] * 2:
+                self.program.tell(f'checkpoint {node}')  # the first one closes the spare file, the second one fills it
             self.count('renewed')
         else:
             self.move_on()
@@ -263,6 +268,7 @@ class Transaction:
         keys = operands[:1] if word == 'write' else operands
         spelled = [spell_key(key) for key in keys] + [spell_value(value) for value in operands[1:] if word == 'write']
         if is_first:
+            manager.exclude(database)
             self.branches[member] = database.begin(f't{self.number}')
             manager.come_to(self.number, member, 'active')
         branch = self.branches[member]

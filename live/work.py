@@ -175,6 +175,15 @@ def play_with_history(folder, programs, pairing, make=Manager, is_plain=False, s
     return told, history
 
 
-def is_right(told):
-    """Whether a run under the rule was: serial in the order of decisions, with as many transactions as the twin has, rows and records the same, and nothing in doubt."""
-    return told['decisions'].startswith('serial') and told['twin'] == told['decisions'] and told['rows are records'] and not told['in doubt'] and told['exit'] == 0
+NOT_SERIAL, TWIN_DIFFERS, NOT_THE_RECORDS, IN_DOUBT = 'the history is not serial', 'the twin committed others', 'the rows are not the records', 'branches stay in doubt'
+
+
+def failed(checks):
+    """What is wrong: the names of the checks that do not hold."""
+    return {name for name, holds in checks.items() if not holds}
+
+
+def faults(told):
+    """What is wrong with a run under the rule."""
+    return failed({NOT_SERIAL: told['decisions'].startswith('serial'), TWIN_DIFFERS: told['twin'] == told['decisions'], NOT_THE_RECORDS: told['rows are records'],
+                   IN_DOUBT: not told['in doubt'], 'the program ended by a fault': told['exit'] == 0})

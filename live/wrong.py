@@ -1,12 +1,15 @@
 #!/usr/bin/python3
-"""wrong.py FOLDER CO_CLI CO_JUDGE: five managers that each break a rule. Right where each is caught within five runs, by what the right one passes."""
+"""wrong.py FOLDER CO_CLI CO_JUDGE: six managers that each break a rule.
+
+Right where the right manager passes each check, and each wrong one is caught within five runs by the check that is named for it, with the finding that is named.
+"""
 import sys
 import threading
 
 import crash
 import dbkill
 import work
-from twin import Manager  # noqa: F401, the right one, by name
+from twin import Manager
 
 
 class VotesFirst(Manager):
@@ -44,43 +47,70 @@ class AsksNobody(Manager):
 class LetsASecondIn(Manager):
     """Takes no lock at the databases, so another manager with another directory may live beside it."""
 
-    def exclude(self):
-        for database in self.databases.values():
-            database.lock = database.connect()
+    def exclude(self, database):
+        database.lock = database.lock or database.connect()
 
 
-def caught_by_play(folder, programs, manager, pairing):
-    try:
-        return not work.is_right(work.play(folder, programs, pairing, make=manager, seconds=5.0, keys=6, threads=8))
-    except Exception as fault:  # a manager that ends by a fault of its own is caught too
-        return bool(str(fault)) or True
+class TakesItsLockOnce(Manager):
+    """Takes the lock when it begins, and does not look whether it still has it."""
+
+    def exclude(self, database):
+        if not database.lock:
+            database.exclude()
 
 
-def caught_by_crashes(folder, programs, manager, pairing):
-    return not dbkill.run(folder, programs, crashes=('mariadb', 'mariadb'), make=manager)
+def play(folder, programs, manager, pairing):
+    return work.faults(work.play(folder, programs, pairing, make=manager, seconds=5.0, keys=6, threads=8))
 
 
-def caught_by_kills(folder, programs, manager, pairing):
-    return not crash.run_kills(folder, programs, pairing, kills=8, manager=manager.__name__)
+def crashes(folder, programs, manager, pairing):
+    return dbkill.findings(folder, programs, crashes=('mariadb', 'mariadb'), make=manager)
 
 
-def caught_by_a_second(folder, programs, manager, pairing):
-    return not crash.run_two(folder, programs, pairing, manager.__name__)
+def kills(folder, programs, manager, pairing):
+    return crash.run_kills(folder, programs, pairing, kills=8, manager=manager.__name__)
 
 
-WRONG = [(VotesFirst, caught_by_crashes, 'RC+RC lock lock'), (TrustsAnswers, caught_by_play, 'RC+RU occ occ'), (CommitsAtWaiting, caught_by_play, 'RC+RC lock lock'),
-         (AsksNobody, caught_by_kills, 'RC+RC lock lock'), (LetsASecondIn, caught_by_a_second, 'RC+RC lock lock')]
+def two_managers(folder, programs, manager, pairing):
+    return crash.run_two(folder, programs, pairing, manager.__name__)
+
+
+WRONG = [  # the check that catches it, over which pairing, by what it finds
+    (VotesFirst, crashes, 'RC+RC lock lock', work.TWIN_DIFFERS),
+    (TrustsAnswers, play, 'RC+RU occ occ', work.NOT_SERIAL),
+    (CommitsAtWaiting, play, 'RC+RC lock lock', work.NOT_THE_RECORDS),
+    (AsksNobody, kills, 'RC+RC lock lock', crash.AT_ONE_ALONE),
+    (LetsASecondIn, two_managers, 'RC+RC lock lock', crash.SECOND_MANAGER),
+    (TakesItsLockOnce, crashes, 'RC+RC lock lock', dbkill.COULD_COME_IN),
+]
+
+
+def said(found):
+    return ', '.join(sorted(found)) or 'nothing is wrong'
+
+
+def is_passed(folder, programs, check, pairing):
+    """Whether the right manager passes a check."""
+    found = check(folder, programs, Manager, pairing)
+    print(f'the right manager, {check.__name__}, {pairing}: {said(found)}', flush=True)
+    return not found
+
+
+def is_caught(folder, programs, manager, check, pairing, finding):
+    """Whether the check finds in five runs what this manager does wrong. What else it finds does not count."""
+    for place in range(5):
+        found = check(folder, programs, manager, pairing)
+        print(f'{manager.__name__}, run {place + 1}: {said(found)}', flush=True)
+        if finding in found:
+            return True
+    print(f'{manager.__name__}: NOT CAUGHT in five runs')
+    return False
 
 
 def run(folder, programs):
+    right = all([is_passed(folder, programs, check, pairing) for check, pairing in dict.fromkeys((check, pairing) for _, check, pairing, _ in WRONG)])
     threading.excepthook = lambda _: None  # a wrong manager's clients may end by any fault
-    right = crash.run_two(folder, programs, 'RC+RC lock lock', 'Manager')
-    print(f'the right manager keeps a second one out: {right}')
-    for manager, is_caught, pairing in WRONG:
-        runs = next((place + 1 for place in range(5) if is_caught(folder, programs, manager, pairing)), None)
-        print(f'{manager.__name__}: {f"caught in run {runs}" if runs else "NOT CAUGHT in five runs"}', flush=True)
-        right &= runs is not None
-    return right
+    return right and all([is_caught(folder, programs, *wrong) for wrong in WRONG])
 
 
 if __name__ == '__main__':
