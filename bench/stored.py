@@ -100,7 +100,7 @@ def serial_verdict(transcript):
 
 
 def told_events(transcript):
-    """What the reads, writes and commits of a transcript come to, as the pages print a run."""
+    """What the reads, writes, votes and commits of a transcript come to, as the pages print a run."""
     lines = transcript.splitlines()
     for line, following in zip(lines, [*lines[1:], ""]):
         words = line.split()[2:]
@@ -110,6 +110,10 @@ def told_events(transcript):
             yield f"{words[1]} writes {words[3]} := {words[4]}"
         elif words[:1] == ["commit"] and line.split()[1] == "event":
             yield f"{words[1]} commits"
+        elif words[:2] == ["deliver", "prepare"] and " reply held " in following:
+            yield f"{words[2]} would commit: held by {following.split()[-1]}"
+        elif words[:1] == ["timer"] and following.endswith(" reply dropped"):
+            yield f"{words[1]} is ended by its timer"
 
 
 @functools.lru_cache(None)
