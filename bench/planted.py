@@ -2,7 +2,7 @@
 
     python3 bench/planted.py PROGRAM
 
-Each is the program behind a script of some lines. A check has to pass with the program itself and to fail with each of its planted faults.
+Each is the program behind some lines of Python or C. A check has to pass with the program itself and to fail with each of its planted faults.
 """
 import os
 import stat
@@ -48,18 +48,35 @@ if words[:1] == ["run"]:
         sys.stdout.flush()
     sys.exit(child.wait())
 """
-# A run without memory leaves logs of version 1, which `records` reads and a run refuses.
-LEAVES_OLD_LOGS = """
-if words[:1] == ["run"]:
-    code = subprocess.run([PROGRAM, *words]).returncode
-    if code == 11 and os.path.isdir(words[-1]):
-        for name in os.listdir(words[-1]):
-            with open(f"{words[-1]}/{name}", "r+b") as file:
-                front = file.read(7)
-                if len(front) == 7 and front[5:7] == b"\\x01\\x02":
-                    file.seek(6)
-                    file.write(b"\\x01")
-    sys.exit(code)
+# A run without memory leaves logs of version 1, which `records` reads and a run refuses. This one is in C, for it must want no memory itself.
+LEAVES_OLD_LOGS = r"""
+#include <fcntl.h>
+#include <stdio.h>
+#include <sys/wait.h>
+#include <unistd.h>
+
+static void make_old(const char *directory, char kind, int number, char part) {
+    char name[4096], front[8];
+    snprintf(name, sizeof name, "%s/%c%d.%c", directory, kind, number, part);
+    int file = open(name, O_RDWR);
+    if (file >= 0 && pread(file, front, 8, 0) == 8 && front[5] == 1 && front[6] == 2 && pwrite(file, "\001", 1, 6) != 1)
+        _exit(99);
+    close(file);
+}
+
+int main(int count, char **words) {
+    int child = fork(), ended;
+    if (child == 0)
+        execv(PROGRAM, words);
+    waitpid(child, &ended, 0);
+    if (WEXITSTATUS(ended) == 11)
+        for (int number = 1; number <= 16; number++)
+            for (const char *kind = "mc"; *kind; kind++) {
+                make_old(words[count - 1], *kind, number, 'a');
+                make_old(words[count - 1], *kind, number, 'b');
+            }
+    _exit(WEXITSTATUS(ended));
+}
 """
 # What `records` writes lacks its last line.
 LOSES_A_RECORD = """
@@ -80,6 +97,9 @@ CHECKS = [
 def planted(program, fault, work):
     """A program that is the given one but for the fault."""
     path = f"{work}/planted"
+    if "#include" in fault:
+        subprocess.run(["cc", "-x", "c", "-O1", f'-DPROGRAM="{program}"', "-o", path, "-"], input=fault, text=True, check=True)
+        return path
     with open(path, "w") as file:
         file.write(f"#!{sys.executable}\nimport os, subprocess, sys\nPROGRAM, words = {program!r}, sys.argv[1:]\n{fault}\nos.execv(PROGRAM, [PROGRAM, *words])\n")
     os.chmod(path, os.stat(path).st_mode | stat.S_IXUSR)
