@@ -1,5 +1,5 @@
--- The group of a head over fresh logs: a header of every node is told, and so the transcript is open.
-use Rattle.std.proofs.Common.{◌≡◌, ℕ, zero, suc, Bool, true, false, ◌&&◌, ◌||◌, List, [], ◌∷◌, ◌++◌, length, map, None, Some, if◌then◌else◌, refl, sym, ap, ◌∙◌, subst}
+-- The group of a head. Over fresh logs a header of every node is told, and so the transcript is open; behind records no header is wanted.
+use Rattle.std.proofs.Common.{◌≡◌, ℕ, zero, suc, Bool, true, false, ◌&&◌, ◌||◌, List, [], ◌∷◌, ◌++◌, length, map, None, Some, if◌then◌else◌, refl, sym, ap, ◌∙◌, subst, append_assoc}
 use Rattle.co_base.specs.declared.head.Head.{Head}
 use Rattle.co_base.specs.declared.mark.Mark.{Mark}
 use Rattle.co_base.specs.declared.node.Node.{Node}
@@ -13,6 +13,7 @@ use Rattle.co_plain.specs.Runs.{numbered}
 use Rattle.co_base.specs.Nodes.{same_node}
 use Rattle.co_check.specs.Account.{Account, no_account}
 use Rattle.co_check.specs.Shape.{unread, read_from, at_place, has_node, with_node, is_first_header, with_header, has_members, has_coords, has_headers}
+use Rattle.co_check.specs.Stages.{members_to, coords_to, nodes_of}
 use Rattle.co_check.specs.declared.place.Place.TheVariants.{InHead, Behind}
 use Rattle.co_law_check.proofs.Marks.{own}
 use Rattle.co_law_check.proofs.Groups.{numbered_more}
@@ -136,3 +137,53 @@ module _ (head : Head) where
         ap (read_from (Some (record { place = InHead head [] false; account = no_account }))) (numbered_more 1 (map item.Log headers) (item.Answered answer.Opened ∷ []) rest)
         ∙ marks_read no_account [] headers (numbered 1 (item.Answered answer.Opened ∷ []) ++ rest)
         ∙ ap (λ b. read_from (if b then at_place (Behind head 1) (Some no_account) else None) rest) (all_told [])
+
+  -- ---- the group behind records: the header of no node is wanted
+
+  front_has : (more seen : List Node) (at : Node) → has_node seen at ≡ true → has_node (more ++ seen) at ≡ true
+  front_has [] seen at h = h
+  front_has (n ∷ more) seen at h = by (front_has more seen at h) (same_node n at)
+    where
+      by : has_node (more ++ seen) at ≡ true → (b : Bool) → (b || has_node (more ++ seen) at) ≡ true
+      by rest true = refl
+      by rest false = rest
+
+  members_in : (n : ℕ) (more : List Node) → has_members (members_to n ++ more) n ≡ true
+  members_in zero more = refl
+  members_in (suc n) more =
+      both (has_node (members_to (suc n) ++ more) (node.Member (suc n))) (has_members (members_to (suc n) ++ more) n)
+      (longer_has (members_to (suc n)) more (node.Member (suc n)) (last_has (members_to n) (node.Member (suc n))))
+      (subst (λ ns. has_members ns n ≡ true) (sym (append_assoc (members_to n) (node.Member (suc n) ∷ []) more)) (members_in n (node.Member (suc n) ∷ more)))
+
+  longer_coords : (seen more : List Node) (n : ℕ) → has_coords seen n ≡ true → has_coords (seen ++ more) n ≡ true
+  longer_coords seen more zero h = refl
+  longer_coords seen more (suc n) h =
+      let p = parts (has_node seen (node.Coord (suc n))) (has_coords seen n) h in
+      both (has_node (seen ++ more) (node.Coord (suc n))) (has_coords (seen ++ more) n) (longer_has seen more (node.Coord (suc n)) p.0) (longer_coords seen more n p.1)
+
+  coords_in : (n : ℕ) → has_coords (coords_to n) n ≡ true
+  coords_in zero = refl
+  coords_in (suc n) =
+      both (has_node (coords_to (suc n)) (node.Coord (suc n))) (has_coords (coords_to (suc n)) n) (last_has (coords_to n) (node.Coord (suc n)))
+      (longer_coords (coords_to n) (node.Coord (suc n) ∷ []) n (coords_in n))
+
+  coords_behind : (more seen : List Node) (n : ℕ) → has_coords seen n ≡ true → has_coords (more ++ seen) n ≡ true
+  coords_behind more seen zero h = refl
+  coords_behind more seen (suc n) h =
+      let p = parts (has_node seen (node.Coord (suc n))) (has_coords seen n) h in
+      both (has_node (more ++ seen) (node.Coord (suc n))) (has_coords (more ++ seen) n) (front_has more seen (node.Coord (suc n)) p.0) (coords_behind more seen n p.1)
+
+  all_named : (marks : List Mark) → has_headers (seen_after (nodes_of head) marks) head ≡ true
+  all_named marks =
+      both _ _ (members_kept (nodes_of head) marks (length head.kinds) (members_in (length head.kinds) (coords_to head.coords)))
+      (coords_kept (nodes_of head) marks head.coords (coords_behind (members_to (length head.kinds)) (coords_to head.coords) head.coords (coords_in head.coords)))
+
+  -- what opening tells over any logs
+  pub read_opening : (fm fc : ℕ → Found) (rest : List Item) →
+      read_from (Some (record { place = InHead head (nodes_of head) false; account = no_account })) (numbered 1 (opening_items head.kinds head.coords fm fc) ++ rest)
+      ≡ read_from (Some (record { place = Behind head 1; account = no_account })) rest
+  read_opening fm fc rest =
+      let marks = member_headers (length head.kinds) fm ++ coord_headers head.coords fc in
+      ap (read_from (Some (record { place = InHead head (nodes_of head) false; account = no_account }))) (numbered_more 1 (map item.Log marks) (item.Answered answer.Opened ∷ []) rest)
+      ∙ marks_read no_account (nodes_of head) marks (numbered 1 (item.Answered answer.Opened ∷ []) ++ rest)
+      ∙ ap (λ b. read_from (if b then at_place (Behind head 1) (Some no_account) else None) rest) (all_named marks)

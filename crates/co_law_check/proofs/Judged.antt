@@ -58,7 +58,7 @@ wider_scans few most l [] h = tt
 wider_scans few most l (i ∷ is) h = (wider_kind few most l i.what (length (item_text i)) h.0, wider_scans few most l is h.1)
 
 -- each event has an item of its own
-events_fewer : (events : List Event) (n : ℕ) (s : Federation) → length events ≤ length (transcript n events s)
+pub events_fewer : (events : List Event) (n : ℕ) (s : Federation) → length events ≤ length (transcript n events s)
 events_fewer [] n s = omega arith
 events_fewer (e ∷ es) n s =
     let z = step_line s e in

@@ -20,7 +20,7 @@ use Rattle.co_law_check.proofs.Places.{items_clean}
 nothing_behind : (text : List ℕ) → drop (length text + 1) (text ++ newline ∷ []) ≡ []
 nothing_behind text = drop-append-add text (newline ∷ []) 1
 
-front : (lent : ℕ) (items : List Item) → AllByRecursion IsShortItem items → lent + length items ≤ most_of_text → IsFront lent (items_text items) items []
+pub front : (lent : ℕ) (items : List Item) → AllByRecursion IsShortItem items → lent + length items ≤ most_of_text → IsFront lent (items_text items) items []
 front lent [] each few = refl
 front lent (it ∷ items) each few =
     let text = item_text it in

@@ -1,12 +1,17 @@
 -- What a transcript tells of its transactions, beside what the federation keeps of them.
 use Rattle.std.specs.Prelude.{ℕ, true, false, ◌≡◌, ◌≤◌, List, [], ◌∷◌, length, map, Option, None, Some, Result, Ok}
+use Rattle.co_base.specs.declared.head.Head.{Head}
 use Rattle.co_base.specs.declared.node.Node.{Node}
 use Rattle.co_message.specs.declared.item.Item.{Item}
 use Rattle.co_serial.specs.Family.{family_of}
+use Rattle.co_serial.specs.MemberRows.{numbered_rows}
 use Rattle.co_serial.specs.Records.{Records}
+use Rattle.co_serial.specs.declared.member_row.MemberRow.{MemberRow}
 use Rattle.co_state.specs.Table.{Table, look}
 use Rattle.co_plain.specs.Decisions.{told_in, is_decided}
+use Rattle.co_plain.specs.DurableRecords.{durable_records}
 use Rattle.co_plain.specs.Federation.{Federation}
+use Rattle.co_plain.specs.Opening.{Found}
 use Rattle.co_plain.specs.Promises.{serial_records}
 use Rattle.co_plain.specs.declared.session.Decided.{Decided}
 use Rattle.co_plain.specs.declared.session.Session.{Session}
@@ -78,3 +83,7 @@ most_events = 883010
 -- the records that so many events write stand in one line that a checker reads
 abbrev pub most_writes : ℕ
 most_writes = 4062
+
+-- the records that the opened logs give, from which a resumed run starts: members ascending, and the keys of each
+abbrev pub start_rows : Head → (ℕ → Found) → (ℕ → Found) → List MemberRow
+start_rows head found_member found_coord = numbered_rows (durable_records (λ m. (found_member m).records) (λ c. (found_coord c).records)) 1 (length head.kinds)
