@@ -373,3 +373,10 @@ module _ (m : ℕ) where
           (member_prepare m x t coord count).sent ≡ Some (message.Vote t m d true)
       from t coord count d (inl p) = ap (λ st. (prepare_by m x t coord count st).sent) p.0 ∙ ap (λ c. Some (message.Vote t m c true)) p.1
       from t coord count d (inr p) = by t coord count d (standing_of x t) p.0 p.1
+
+  -- a no to a prepare, to whichever coordinator
+  pub no_sent_exact : (x : MemberState) (t coord count d : ℕ) →
+      Exactly ((member_prepare m x t coord count).sent ≡ Some (message.Vote t m d false)) (MayVote x t × ((coord ≡ d) × RefusesVote (vote_of x.engine t count)))
+  no_sent_exact x t coord count d =
+      prepares x t coord count (λ did. did.sent ≡ Some (message.Vote t m d false)) ((coord ≡ d) × RefusesVote (vote_of x.engine t count))
+      (not_a_no t m (coord_of x t) t m d) (λ h. let z : false ≡ true = ap sends_some h in cc) (sent_on (with_mark x t coord count) t coord count d) (sent_on x t coord count d)

@@ -1,7 +1,9 @@
 //! Which events decide a transaction, and what none changes.
 ghost use Rattle.std.specs.Prelude.{ℕ, Bool, true, false, List, ◌≡◌};
 ghost use Rattle.co_base.specs.declared.head.Kind.{Kind};
+ghost use Rattle.co_message.specs.declared.answer.Answer.TheVariants as answer;
 ghost use Rattle.co_message.specs.declared.event.Event.{Event};
+ghost use Rattle.co_message.specs.declared.message.Message.TheVariants as message;
 ghost use Rattle.co_plain.specs.AllInvariants.{AllInvariants};
 ghost use Rattle.co_plain.specs.declared.happening.Happening.{Happening};
 ghost use Rattle.co_plain.specs.declared.happening.Happening.TheVariants as happening;
@@ -13,6 +15,7 @@ ghost use Rattle.co_plain.specs.Runs.{run};
 ghost use Rattle.co_plain.specs.Step.{step, step_line};
 ghost use Rattle.co_law_node.specs.Causes.{Exactly};
 ghost use Rattle.co_law_exact.specs.Deciding.{HasNodesOf, IsDecidedBy};
+ghost use Rattle.co_law_exact.specs.Events.{AnswersWith, IsBlockedBy, IsHeldBy, SendsMessage, SendsNo, SendsYes};
 
 /// From every state with all invariants, as every state of a run is: an event decides a transaction that was not decided exactly
 /// where it is one of three. Its client asks a coordinator for the commit, and no member takes part; its client asks its own
@@ -38,4 +41,34 @@ pub fn opened_numbers_stay()
         AreOpenable kinds coords found_member found_coord →
         AreTrueVerdicts hs (opened kinds coords found_member found_coord) →
         HasNodesOf (opened kinds coords found_member found_coord) (run hs (opened kinds coords found_member found_coord)) }
+{}
+
+/// In every state, an event sends the yes of a transaction by a member to a coordinator exactly where it is one of two: a prepare of the
+/// transaction to the member, which was sent and finds the member up, or a vote of it that is tried again there; and either the
+/// transaction is voted already and for that coordinator, or the voting rule grants the vote and the write of the prepare record
+/// completes. No other event sends a yes, whatever it is; a vote that is tried again sends none of who is voted.
+pub fn yes_votes_are_exact_events()
+    ensures { (s : Federation) (t m c : ℕ) (e : Event) → Exactly (SendsMessage (step_line s e) (message.Vote t m c true)) (SendsYes s t m c e) }
+{}
+
+/// In every state, an event sends the no of a transaction by a member to a coordinator exactly where it is a prepare of the transaction
+/// to the member, which was sent and finds the member up, or a vote of it that is tried again there; the transaction is active there,
+/// or nowhere and asked by the prepare; and the voting rule finds operations of it lost or a read stale. No other event sends a no.
+pub fn no_votes_are_exact_events()
+    ensures { (s : Federation) (t m c : ℕ) (e : Event) → Exactly (SendsMessage (step_line s e) (message.Vote t m c false)) (SendsNo s t m c e) }
+{}
+
+/// In every state, an event answers that it is held by a transaction exactly where it is one of three at a member that is up: a prepare
+/// that was sent, a vote that is tried again, or the commit that its client asks of a local transaction with operations, for the first
+/// time; and the voting rule finds that transaction in the way, the least one. No other event is held.
+pub fn held_votes_are_exact_events()
+    ensures { (s : Federation) (u : ℕ) (e : Event) → Exactly (AnswersWith (step_line s e) (answer.Held u)) (IsHeldBy s u e) }
+{}
+
+/// In every state, an event answers that it is blocked by a transaction exactly where it is a read, a write, an erasure or a scan whose
+/// session is begun, lets its client visit the member and was not asked to end; the member is up, keeps as many operations of the
+/// transaction as the client was told of there, and fewer than it may; and that other transaction is the least holder of a lock in the
+/// way. No other event is blocked.
+pub fn blocked_operations_are_exact_events()
+    ensures { (s : Federation) (u : ℕ) (e : Event) → Exactly (AnswersWith (step_line s e) (answer.Blocked u)) (IsBlockedBy s u e) }
 {}

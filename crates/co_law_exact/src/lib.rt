@@ -22,7 +22,11 @@
 mod events;
 mod votes;
 
-pub use events::{decisions_are_exact_events, handed_verdicts_decide_nothing, opened_numbers_stay};
+pub use events::{
+    blocked_operations_are_exact_events, decisions_are_exact_events,
+    handed_verdicts_decide_nothing, held_votes_are_exact_events, no_votes_are_exact_events,
+    opened_numbers_stay, yes_votes_are_exact_events,
+};
 pub use votes::{
     blocked_is_exact, held_is_exact, no_is_exact, verdicts_are_exact, yes_sent_is_exact,
 };
