@@ -1,4 +1,4 @@
--- No event of a coordinator sends a vote, or answers that a vote is held or an operation blocked.
+-- No event of a coordinator sends a vote, gives an answer of the voting rule, or one to an operation.
 use Rattle.std.proofs.Common.{◌≡◌, ℕ, Bool, true, false, not, ◌&&◌, if◌then◌else◌, List, [], ◌∷◌, Option, None, Some, refl}
 use Rattle.std.specs.List.{list_any}
 use Rattle.co_base.specs.declared.part.Part.{Part}
@@ -22,7 +22,7 @@ use Rattle.co_plain.specs.LogWrite.{outcome_of, generation_of}
 use Rattle.co_plain.specs.CoordStep.{with_table, members_of, has_part, stopped_coord, coord_forced_by, coord_says}
 use Rattle.co_plain.specs.Coordinator.{waits, aborts, ask_commit, commit_entry, coord_commit, abort_entry, coord_abort, decided_by, yes_entry, no_entry, ask_entry, ended_by, ack_entry, timer_entry, coord_timer, resend_entry, coord_resend, coord_deliver, decisions_to, prepares_to, parts_lacking}
 use Rattle.co_plain.specs.CoordLog.{coord_stopped_fill, coord_fill_by, coord_close_by, coord_checkpoint_by, coord_checkpoint, coord_restart_by, coord_restart}
-use Rattle.co_law_exact.proofs.MemberTells.{is_vote, is_refusal}
+use Rattle.co_law_exact.proofs.MemberTells.{is_vote, is_told}
 
 -- prepares and decisions are no votes
 prepares_lack : (v : Bool) (c t : ℕ) (parts : List Part) → list_any (is_vote v) (prepares_to c t parts) ≡ false
@@ -35,10 +35,10 @@ decisions_lack v c t commit (m ∷ ms) = decisions_lack v c t commit ms
 
 module _ (v h b : Bool) where
   abbrev pub Lacks : CoordStep → Type 0
-  Lacks did = (list_any (is_vote v) did.sent ≡ false) × (is_refusal h b did.answer ≡ false)
+  Lacks did = (list_any (is_vote v) did.sent ≡ false) × (is_told h b did.answer ≡ false)
 
 module _ (v h b : Bool) (c : ℕ) (y : CoordState) where
-  forced : (next : CoordState) (batch : List Record) (a : Answer) (notes : List Message) → list_any (is_vote v) notes ≡ false → is_refusal h b a ≡ false → (o : Outcome) → Lacks v h b (coord_forced_by c next batch a notes o)
+  forced : (next : CoordState) (batch : List Record) (a : Answer) (notes : List Message) → list_any (is_vote v) notes ≡ false → is_told h b a ≡ false → (o : Outcome) → Lacks v h b (coord_forced_by c next batch a notes o)
   forced next batch a notes p q Completes = (p, q)
   forced next batch a notes p q (StopsAt call leaves) = by (batch_is_stable call leaves)
     where

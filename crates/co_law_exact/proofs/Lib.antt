@@ -8,4 +8,6 @@ pub mod MemberTells
 pub mod CoordTells
 pub mod LineTells
 pub mod VoteEvents
+pub mod Lost
+pub mod Alone
 pub mod AnswerEvents

@@ -1,4 +1,4 @@
--- What each event tells: no event but those of its own sends a vote, or answers that a vote is held or an operation blocked.
+-- What each event tells: no event but those of its own sends a vote, gives an answer of the voting rule, or one to an operation.
 use Rattle.std.proofs.Common.{◌≡◌, ℕ, Bool, true, false, not, if◌then◌else◌, List, [], ◌∷◌, Option, None, Some, refl, sym, ap, ◌∙◌, subst}
 use Rattle.std.specs.List.{list_any}
 use Rattle.co_base.specs.declared.leaves.Leaves.{Leaves}
@@ -29,7 +29,7 @@ use Rattle.co_plain.specs.Wire.{was_sent}
 use Rattle.co_law_moves.specs.MoveTraces.{messages_in}
 use Rattle.co_law_moves.proofs.ItemsTold.{items_messages}
 use Rattle.co_law_exact.specs.Events.{answer_in}
-use Rattle.co_law_exact.proofs.MemberTells.{is_vote, is_refusal}
+use Rattle.co_law_exact.proofs.MemberTells.{is_vote, is_told}
 use Rattle.co_law_exact.proofs.MemberTells as members
 use Rattle.co_law_exact.proofs.CoordTells as coords
 
@@ -39,24 +39,24 @@ items_answer (mark ∷ marks) notes a = items_answer marks notes a
 items_answer [] (note ∷ notes) a = items_answer [] notes a
 items_answer [] [] a = refl
 
-abbrev pub refuses : Bool → Bool → Option Answer → Bool
-refuses h b None = false
-refuses h b (Some a) = is_refusal h b a
+abbrev pub told_in : Bool → Bool → Option Answer → Bool
+told_in h b None = false
+told_in h b (Some a) = is_told h b a
 
 -- a step tells none of what is looked for
 abbrev pub Lacks : Bool → Bool → Bool → Stepped → Type 0
-Lacks v h b z = (list_any (is_vote v) (messages_in z.items) ≡ false) × (refuses h b (answer_in z.items) ≡ false)
+Lacks v h b z = (list_any (is_vote v) (messages_in z.items) ≡ false) × (told_in h b (answer_in z.items) ≡ false)
 
 at_m : (v h b : Bool) (s : Federation) (m : ℕ) (did : MemberStep) → members.Lacks v h b did → Lacks v h b (at_member s m did)
 at_m v h b s m did n = (
   ap (list_any (is_vote v)) (items_messages did.marks (message_list did.sent) did.answer) ∙ n.0,
-  ap (refuses h b) (items_answer did.marks (message_list did.sent) did.answer) ∙ n.1,
+  ap (told_in h b) (items_answer did.marks (message_list did.sent) did.answer) ∙ n.1,
 )
 
 at_c : (v h b : Bool) (s : Federation) (c : ℕ) (did : CoordStep) → coords.Lacks v h b did → Lacks v h b (at_coord s c did)
 at_c v h b s c did n = (
   ap (list_any (is_vote v)) (items_messages did.marks did.sent did.answer) ∙ n.0,
-  ap (refuses h b) (items_answer did.marks did.sent did.answer) ∙ n.1,
+  ap (told_in h b) (items_answer did.marks did.sent did.answer) ∙ n.1,
 )
 
 -- an event of a node that is up
@@ -88,7 +88,7 @@ end_cases : (P : Leave → Type 0) → P (Refuses answer.NotBegun) → P (Refuse
 end_cases P none asked grants None = none
 end_cases P none asked grants (Some session) = asked_cases P asked grants session
 
--- an operation is not held
+-- an operation gets no answer of the rule
 operates : (v h : Bool) (s : Federation) (t m : ℕ) (o : Op) → Lacks v h false (operate_with s t m o (leave_to_visit (look s.sessions t) m))
 operates v h s t m o = visit_cases (λ leave. Lacks v h false (operate_with s t m o leave)) (refl, refl) (refl, refl) granted m (look s.sessions t)
   where
@@ -102,7 +102,7 @@ operates v h s t m o = visit_cases (λ leave. Lacks v h false (operate_with s t 
         by true = at_m v h false (entered s t session m o (reply_in did.answer)) m did (members.op_lacks v h (s.member m) t (count_at session.told m) o)
         by false = (refl, refl)
 
--- a commit is not blocked
+-- a commit is no operation
 commits : (v b : Bool) (s : Federation) (t : ℕ) → Lacks v false b (commit_with s t (leave_to_end (look s.sessions t)))
 commits v b s t = end_cases (λ leave. Lacks v false b (commit_with s t leave)) (refl, refl) (refl, refl) (λ session. granted session session.by) (look s.sessions t)
   where
@@ -188,7 +188,7 @@ module _ (v h b : Bool) (s : Federation) where
   checkpoint (node.Member m) = of_member v h b s m (s.member m).up (member_checkpoint m (s.member m)) (members.checkpoint_lacks v h b m (s.member m))
   checkpoint (node.Coord c) = of_coord v h b s c (s.coord c).up (coord_checkpoint c (s.coord c)) (coords.checkpoint_lacks v h b c (s.coord c))
 
--- what an event may tell: operations may be blocked, commits held, and prepares and votes tried again held or granted
+-- what an event may tell: an operation its own answers, a commit those of the rule, and a prepare and a vote that is tried again a vote too
 abbrev pub MayLack : Bool → Bool → Bool → Event → Type 0
 MayLack v h b (event.Read t m key) = b ≡ false
 MayLack v h b (event.Write t m key value) = b ≡ false

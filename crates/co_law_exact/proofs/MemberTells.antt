@@ -1,4 +1,4 @@
--- Which events of a member send a vote, or answer that a vote is held or an operation blocked: no other than those of their own.
+-- Which events of a member send a vote, give an answer of the voting rule, or one to an operation: no other than those of their own.
 use Rattle.std.proofs.Common.{◌≡◌, ℕ, Bool, true, false, ◌==◌, if◌then◌else◌, List, [], ◌∷◌, Option, None, Some, refl}
 use Rattle.std.specs.List.{list_any}
 use Rattle.co_base.specs.declared.op.Op.{Op}
@@ -32,22 +32,27 @@ use Rattle.co_plain.specs.Member.{prepare_record, voted_state, vote_by, with_mar
 use Rattle.co_plain.specs.MemberLog.{stopped_fill, fill_by, close_by, checkpoint_by, member_checkpoint, restart_by, member_restart}
 use Rattle.co_plain.specs.LocalCommit.{local_coord, local_commit_by, local_abort_by, member_local_commit, member_local_abort}
 
--- a vote that is sent, and an answer that something is held or blocked, each where it is looked for
+-- a vote that is sent, an answer of the voting rule, and one to an operation, each where it is looked for
 abbrev pub is_vote : Bool → Message → Bool
 is_vote v (message.Vote t m c granted) = v
 is_vote v _ = false
 
-abbrev pub is_refusal : Bool → Bool → Answer → Bool
-is_refusal h b (answer.Held u) = h
-is_refusal h b (answer.Blocked u) = b
-is_refusal h b _ = false
+abbrev pub is_told : Bool → Bool → Answer → Bool
+is_told h b (answer.Held u) = h
+is_told h b (answer.NoStale key) = h
+is_told h b (answer.NoLost kept count) = h
+is_told h b (answer.Gone kept count) = b
+is_told h b answer.TooMany = b
+is_told h b (answer.Blocked u) = b
+is_told h b (answer.Replied reply) = b
+is_told h b _ = false
 
 -- a step of a member tells none of what is looked for
 abbrev pub Lacks : Bool → Bool → Bool → MemberStep → Type 0
-Lacks v h b did = (list_any (is_vote v) (message_list did.sent) ≡ false) × (is_refusal h b did.answer ≡ false)
+Lacks v h b did = (list_any (is_vote v) (message_list did.sent) ≡ false) × (is_told h b did.answer ≡ false)
 
 module _ (v h b : Bool) where
-  forced : (m : ℕ) (next : MemberState) (batch : List Record) (a : Answer) (last : Option Message) → list_any (is_vote v) (message_list last) ≡ false → is_refusal h b a ≡ false → (o : Outcome) →
+  forced : (m : ℕ) (next : MemberState) (batch : List Record) (a : Answer) (last : Option Message) → list_any (is_vote v) (message_list last) ≡ false → is_told h b a ≡ false → (o : Outcome) →
       Lacks v h b (forced_by m next batch a last o)
   forced m next batch a last p q Completes = (p, q)
   forced m next batch a last p q (StopsAt call leaves) = by (batch_is_stable call leaves)

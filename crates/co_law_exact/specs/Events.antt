@@ -1,19 +1,24 @@
--- Which events send a vote, hold one, and refuse an operation: the rule, with what session, wire and nodes that are down let through.
-use Rattle.std.specs.Prelude.{true, false, ◌≡◌, ◌≢◌, ◌≤◌, ◌⊎◌, List, [], ◌∷◌, Option, None, Some}
+-- Which events send a vote, and which give an answer of the voting rule or to an operation: the rule, with what sessions, the wire and
+-- nodes that are down let through.
+use Rattle.std.specs.Prelude.{ℕ, true, false, ◌≡◌, ◌≢◌, ◌≤◌, ◌⊎◌, List, [], ◌∷◌, Option, None, Some}
 use Rattle.co_base.specs.declared.node.Node.{Node}
 use Rattle.co_base.specs.declared.node.Node.TheVariants as node
 use Rattle.co_base.specs.declared.op.Op.{Op}
 use Rattle.co_base.specs.declared.op.Op.TheVariants as op
+use Rattle.co_base.specs.declared.reply.Reply.{Reply}
 use Rattle.co_base.specs.Limits.{most_operations}
 use Rattle.co_message.specs.declared.answer.Answer.{Answer}
+use Rattle.co_message.specs.declared.answer.Answer.TheVariants as answer
 use Rattle.co_message.specs.declared.event.Event.{Event}
 use Rattle.co_message.specs.declared.event.Event.TheVariants as event
 use Rattle.co_message.specs.declared.item.ItemKind.{ItemKind}
 use Rattle.co_message.specs.declared.item.ItemKind.TheVariants as item
 use Rattle.co_message.specs.declared.message.Message.{Message}
 use Rattle.co_message.specs.declared.message.Message.TheVariants as message
-use Rattle.co_state.specs.declared.verdict.Verdict.TheVariants.{HeldBy, VoteYes}
+use Rattle.co_state.specs.declared.verdict.Verdict.{Verdict}
+use Rattle.co_state.specs.declared.verdict.Verdict.TheVariants.{LostOperations, StaleRead, HeldBy, VoteYes}
 use Rattle.co_state.specs.LockRule.{lock_blocker}
+use Rattle.co_state.specs.ReadRule.{operation_reply}
 use Rattle.co_state.specs.Table.{look}
 use Rattle.co_state.specs.VotingRule.{kept_count, vote_of}
 use Rattle.co_plain.specs.declared.member_state.AskedMark.{AskedMark}
@@ -23,11 +28,12 @@ use Rattle.co_plain.specs.declared.standing.Standing.TheVariants.{IsVoted}
 use Rattle.co_plain.specs.Federation.{Federation, Stepped}
 use Rattle.co_plain.specs.Member.{coord_of}
 use Rattle.co_plain.specs.MemberStep.{standing_of}
-use Rattle.co_plain.specs.Numbers.{TxnNumber, MemberNumber, CoordNumber, Count}
+use Rattle.co_plain.specs.Numbers.{TxnNumber, MemberNumber, CoordNumber, Count, counted}
 use Rattle.co_plain.specs.Sessions.{count_at, may_visit}
+use Rattle.co_plain.specs.Step.{step_line}
 use Rattle.co_plain.specs.Wire.{was_sent}
 use Rattle.co_law_moves.specs.MoveTraces.{messages_in}
-use Rattle.co_law_node.specs.Causes.{is_completed}
+use Rattle.co_law_node.specs.Causes.{Exactly, is_completed}
 use Rattle.co_law_exact.specs.Votes.{MayVote, MayVoteAgain, RefusesVote}
 
 -- what a step tells: that it sends the message, and its answer
@@ -77,35 +83,71 @@ SendsNo s t m c (event.Deliver (message.Prepare u d k n)) =
 SendsNo s t m c (event.Vote u k) = (u ≡ t) × (k ≡ m) × ((s.member k).up ≡ true) × RefusesAgain (s.member k) u c
 SendsNo s t m c _ = ⊥
 
--- Which events are held by another transaction: a prepare, a vote that is tried again, and the commit of a local transaction.
-abbrev pub IsHeldAtHome : Federation → TxnNumber → TxnNumber → Session → Node → Type 0
-IsHeldAtHome s w t session (node.Coord c) = ⊥
-IsHeldAtHome s w t session (node.Member m) =
-    ((s.member m).up ≡ true) × (1 ≤ count_at session.told m) × (vote_of (s.member m).engine t (count_at session.told m) ≡ HeldBy w)
+-- Which events ask the voting rule: a prepare, a vote that is tried again, and the commit that the client of a local transaction asks for.
+-- The row says what the rule finds at the member, of how many operations that are carried, and of the count that the answer may name.
+abbrev pub AsksAtHome : (MemberState → TxnNumber → Count → Count → Type 0) → Federation → TxnNumber → Session → Node → Type 0
+AsksAtHome row s t session (node.Coord c) = ⊥
+AsksAtHome row s t session (node.Member m) =
+    ((s.member m).up ≡ true) × (1 ≤ count_at session.told m) × row (s.member m) t (count_at session.told m) (counted (count_at session.told m))
 
-abbrev pub IsHeldBy : Federation → TxnNumber → Event → Type 0
-IsHeldBy s w (event.Deliver (message.Prepare t d m n)) =
-    Arrives s (message.Prepare t d m n) m × MayVote (s.member m) t × (vote_of (s.member m).engine t n ≡ HeldBy w)
-IsHeldBy s w (event.Vote t m) =
-    ((s.member m).up ≡ true) × ((mark : AskedMark) × MayVoteAgain (s.member m) t mark × (vote_of (s.member m).engine t mark.count ≡ HeldBy w))
-IsHeldBy s w (event.Commit t) =
-    (session : Session) × (look s.sessions t ≡ Some session) × (session.asked ≡ false) × IsHeldAtHome s w t session session.by
-IsHeldBy s w _ = ⊥
+abbrev pub AsksTheRule : (MemberState → TxnNumber → Count → Count → Type 0) → Federation → Event → Type 0
+AsksTheRule row s (event.Deliver (message.Prepare t d m n)) = Arrives s (message.Prepare t d m n) m × MayVote (s.member m) t × row (s.member m) t n n
+AsksTheRule row s (event.Vote t m) = ((s.member m).up ≡ true) × ((mark : AskedMark) × MayVoteAgain (s.member m) t mark × row (s.member m) t mark.count mark.count)
+AsksTheRule row s (event.Commit t) = (session : Session) × (look s.sessions t ≡ Some session) × (session.asked ≡ false) × AsksAtHome row s t session session.by
+AsksTheRule row s _ = ⊥
+
+-- the rule finds this; and it finds operations lost, and keeps so many
+abbrev pub Finds : Verdict → MemberState → TxnNumber → Count → Count → Type 0
+Finds v x t carried named = vote_of x.engine t carried ≡ v
+
+abbrev pub FindsLost : Count → Count → MemberState → TxnNumber → Count → Count → Type 0
+FindsLost kept count x t carried named = (vote_of x.engine t carried ≡ LostOperations) × (counted (kept_count x.engine t) ≡ kept) × (named ≡ count)
+
+-- a step tells of its answer alone: it sends nothing, and no record becomes stable
+abbrev pub TellsAlone : Stepped → Answer → Type 0
+TellsAlone z a = z.items ≡ item.Answered a ∷ []
+
+-- The rule's answers: someone is in the way, a read is stale, or operations were lost. What is held tells nothing else.
+pub record VoteAnswersAreExact (s : Federation) (e : Event) : Type 0 where
+  pub held : (u : ℕ) → Exactly (AnswersWith (step_line s e) (answer.Held u)) (AsksTheRule (Finds (HeldBy u)) s e)
+  pub held_alone : (u : ℕ) → AnswersWith (step_line s e) (answer.Held u) → TellsAlone (step_line s e) (answer.Held u)
+  pub stale : (key : List ℕ) → Exactly (AnswersWith (step_line s e) (answer.NoStale key)) (AsksTheRule (Finds (StaleRead key)) s e)
+  pub lost : (kept count : ℕ) → Exactly (AnswersWith (step_line s e) (answer.NoLost kept count)) (AsksTheRule (FindsLost kept count) s e)
 
 -- The session lets its client operate at the member, and the member is up.
 abbrev pub MayOperate : Federation → TxnNumber → MemberNumber → Session → Type 0
 MayOperate s t m session =
     (look s.sessions t ≡ Some session) × (may_visit session.by m ≡ true) × (session.asked ≡ false) × ((s.member m).up ≡ true)
 
--- Which operations are blocked by another transaction.
-abbrev pub LockIsHeld : Federation → TxnNumber → TxnNumber → MemberNumber → Op → Type 0
-LockIsHeld s w t m o =
-    (session : Session) × MayOperate s t m session
-    × ((kept_count (s.member m).engine t ≡ count_at session.told m) × (count_at session.told m ≢ most_operations) × (lock_blocker (s.member m).engine t o ≡ Some w))
+-- Which operations come to a member; the row says what they find there, of how many that the client was told of.
+abbrev pub ComesToRow : (MemberState → TxnNumber → Count → Op → Type 0) → Federation → TxnNumber → MemberNumber → Op → Type 0
+ComesToRow row s t m o = (session : Session) × MayOperate s t m session × row (s.member m) t (count_at session.told m) o
 
-abbrev pub IsBlockedBy : Federation → TxnNumber → Event → Type 0
-IsBlockedBy s w (event.Read t m key) = LockIsHeld s w t m (op.Read key)
-IsBlockedBy s w (event.Write t m key value) = LockIsHeld s w t m (op.Write key value)
-IsBlockedBy s w (event.Erase t m key) = LockIsHeld s w t m (op.Erase key)
-IsBlockedBy s w (event.Scan t m span) = LockIsHeld s w t m (op.Scan span)
-IsBlockedBy s w _ = ⊥
+abbrev pub Operates : (MemberState → TxnNumber → Count → Op → Type 0) → Federation → Event → Type 0
+Operates row s (event.Read t m key) = ComesToRow row s t m (op.Read key)
+Operates row s (event.Write t m key value) = ComesToRow row s t m (op.Write key value)
+Operates row s (event.Erase t m key) = ComesToRow row s t m (op.Erase key)
+Operates row s (event.Scan t m span) = ComesToRow row s t m (op.Scan span)
+Operates row s _ = ⊥
+
+-- the rows of an operation: its operations here were lost, it has as many as it may, a lock is in its way, or it is done
+abbrev pub IsGone : Count → Count → MemberState → TxnNumber → Count → Op → Type 0
+IsGone kept count x t carried o = (kept_count x.engine t ≢ carried) × (counted (kept_count x.engine t) ≡ kept) × (counted carried ≡ count)
+
+abbrev pub IsFull : MemberState → TxnNumber → Count → Op → Type 0
+IsFull x t carried o = (kept_count x.engine t ≡ carried) × (carried ≡ most_operations)
+
+abbrev pub IsBlocked : TxnNumber → MemberState → TxnNumber → Count → Op → Type 0
+IsBlocked u x t carried o = (kept_count x.engine t ≡ carried) × (carried ≢ most_operations) × (lock_blocker x.engine t o ≡ Some u)
+
+abbrev pub IsDone : Reply → MemberState → TxnNumber → Count → Op → Type 0
+IsDone reply x t carried o =
+    (kept_count x.engine t ≡ carried) × (carried ≢ most_operations) × (lock_blocker x.engine t o ≡ None) × (operation_reply x.engine t o ≡ reply)
+
+-- The answers to an operation. What is blocked tells nothing else.
+pub record OperationAnswersAreExact (s : Federation) (e : Event) : Type 0 where
+  pub gone : (kept count : ℕ) → Exactly (AnswersWith (step_line s e) (answer.Gone kept count)) (Operates (IsGone kept count) s e)
+  pub full : Exactly (AnswersWith (step_line s e) answer.TooMany) (Operates IsFull s e)
+  pub blocked : (u : ℕ) → Exactly (AnswersWith (step_line s e) (answer.Blocked u)) (Operates (IsBlocked u) s e)
+  pub blocked_alone : (u : ℕ) → AnswersWith (step_line s e) (answer.Blocked u) → TellsAlone (step_line s e) (answer.Blocked u)
+  pub replied : (reply : Reply) → Exactly (AnswersWith (step_line s e) (answer.Replied reply)) (Operates (IsDone reply) s e)

@@ -1,7 +1,6 @@
 //! Which events decide a transaction, and what none changes.
 ghost use Rattle.std.specs.Prelude.{ℕ, Bool, true, false, List, ◌≡◌};
 ghost use Rattle.co_base.specs.declared.head.Kind.{Kind};
-ghost use Rattle.co_message.specs.declared.answer.Answer.TheVariants as answer;
 ghost use Rattle.co_message.specs.declared.event.Event.{Event};
 ghost use Rattle.co_message.specs.declared.message.Message.TheVariants as message;
 ghost use Rattle.co_plain.specs.AllInvariants.{AllInvariants};
@@ -15,7 +14,7 @@ ghost use Rattle.co_plain.specs.Runs.{run};
 ghost use Rattle.co_plain.specs.Step.{step, step_line};
 ghost use Rattle.co_law_node.specs.Causes.{Exactly};
 ghost use Rattle.co_law_exact.specs.Deciding.{HasNodesOf, IsDecidedBy};
-ghost use Rattle.co_law_exact.specs.Events.{AnswersWith, IsBlockedBy, IsHeldBy, SendsMessage, SendsNo, SendsYes};
+ghost use Rattle.co_law_exact.specs.Events.{OperationAnswersAreExact, SendsMessage, SendsNo, SendsYes, VoteAnswersAreExact};
 
 /// From every state with all invariants, as every state of a run is: an event decides a transaction that was not decided exactly
 /// where it is one of three. Its client asks a coordinator for the commit, and no member takes part; its client asks its own
@@ -58,17 +57,21 @@ pub fn no_votes_are_exact_events()
     ensures { (s : Federation) (t m c : ℕ) (e : Event) → Exactly (SendsMessage (step_line s e) (message.Vote t m c false)) (SendsNo s t m c e) }
 {}
 
-/// In every state, an event answers that it is held by a transaction exactly where it is one of three at a member that is up: a prepare
-/// that was sent, a vote that is tried again, or the commit that its client asks of a local transaction with operations, for the first
-/// time; and the voting rule finds that transaction in the way, the least one. No other event is held.
-pub fn held_votes_are_exact_events()
-    ensures { (s : Federation) (u : ℕ) (e : Event) → Exactly (AnswersWith (step_line s e) (answer.Held u)) (IsHeldBy s u e) }
+/// In every state, which events give an answer of the voting rule: a prepare that was sent and finds its member up, of who is active or
+/// nowhere there; a vote that is tried again at a member that is up, of who is active and was asked; and the commit that the client of
+/// a local transaction with operations asks of its own member, up, where it was not asked to end yet. The event answers `held` by the
+/// least one in the way exactly where the rule finds that one, and then tells nothing else: no message is sent, and no record becomes
+/// stable. It answers `no stale` of a key exactly where the rule finds the read of it stale, and `no lost` with two counts exactly
+/// where the rule finds that the member keeps the one of the other. No other event gives such an answer.
+pub fn vote_answers_are_exact_events()
+    ensures { (s : Federation) (e : Event) → VoteAnswersAreExact s e }
 {}
 
-/// In every state, an event answers that it is blocked by a transaction exactly where it is a read, a write, an erasure or a scan whose
-/// session is begun, lets its client visit the member and was not asked to end; the member is up, keeps as many operations of the
-/// transaction as the client was told of there, and fewer than it may; and that other transaction is the least holder of a lock in the
-/// way. No other event is blocked.
-pub fn blocked_operations_are_exact_events()
-    ensures { (s : Federation) (u : ℕ) (e : Event) → Exactly (AnswersWith (step_line s e) (answer.Blocked u)) (IsBlockedBy s u e) }
+/// In every state, which events answer an operation: a read, a write, an erasure or a scan, whose session is begun, lets its client visit
+/// the member and was not asked to end, at a member that is up. The event answers `gone` exactly where the member keeps another number
+/// of operations than the client was told of, `too many` exactly where these agree and are 1,024, and `blocked` by the least holder
+/// exactly where they agree, are fewer and a lock is in the way; then it tells nothing else. Else, and only then, it answers the reply
+/// of the read rule. No other event gives such an answer.
+pub fn operation_answers_are_exact_events()
+    ensures { (s : Federation) (e : Event) → OperationAnswersAreExact s e }
 {}
