@@ -30,13 +30,13 @@ use Rattle.co_law_node.specs.Causes.{Exactly, is_balloted, is_completed}
 use Rattle.co_law_exact.specs.Votes.{RefusesVote, MayVote, MayVoteAgain, NoIsExact, YesSentIsExact, IsSilent, HeldIsExact}
 
 -- numbers and keys that an answer names, and which answer it is
-abbrev rank : Answer → ℕ
+abbrev pub rank : Answer → ℕ
 rank (answer.NoLost kept count) = 1
 rank (answer.NoStale key) = 2
 rank (answer.Held u) = 3
 rank _ = 0
 
-abbrev count_named : ℕ → Answer → ℕ
+abbrev pub count_named : ℕ → Answer → ℕ
 count_named d (answer.NoLost kept count) = count
 count_named d _ = d
 
@@ -48,7 +48,7 @@ abbrev holder_named : ℕ → Answer → ℕ
 holder_named d (answer.Held u) = u
 holder_named d _ = d
 
-apart : {A : Type 0} (a b : Answer) → a ≡ b → rank a ≢ rank b → A
+pub apart : {A : Type 0} (a b : Answer) → a ≡ b → rank a ≢ rank b → A
 apart a b e n = absurd (n (ap rank e))
 
 -- a forced write gives no such answer, unless it is given
@@ -95,7 +95,7 @@ module _ (m : ℕ) where
   yes_rank : (x : MemberState) (t coord count : ℕ) → rank (vote_by m x t coord count VoteYes).answer ≡ 0
   yes_rank x t coord count = forced_rank m (voted_state x t coord count) (prepare_record t coord count (sets_of (operations_of x.engine t)) ∷ []) answer.Yes (Some (message.Vote t m coord true)) refl
 
-  no_yes : {A : Type 0} (x : MemberState) (t coord count : ℕ) (a : Answer) → (vote_by m x t coord count VoteYes).answer ≡ a → rank a ≢ 0 → A
+  pub no_yes : {A : Type 0} (x : MemberState) (t coord count : ℕ) (a : Answer) → (vote_by m x t coord count VoteYes).answer ≡ a → rank a ≢ 0 → A
   no_yes x t coord count a h n = absurd (n (sym (ap rank h) ∙ yes_rank x t coord count))
 
   -- on a verdict
@@ -146,7 +146,7 @@ module _ (m : ℕ) where
       from VoteYes e r = absurd r
 
   -- by where the transaction stands
-  prepares : (x : MemberState) (t coord count : ℕ) (P : MemberStep → Type 0) (Q : Type 0) → (P (says_and_sends x answer.Voted (message.Vote t m (coord_of x t) true)) → ⊥) → (P (says x answer.Already) → ⊥) →
+  pub prepares : (x : MemberState) (t coord count : ℕ) (P : MemberStep → Type 0) (Q : Type 0) → (P (says_and_sends x answer.Voted (message.Vote t m (coord_of x t) true)) → ⊥) → (P (says x answer.Already) → ⊥) →
       Exactly (P (vote_on m (with_mark x t coord count) t coord count)) Q → Exactly (P (vote_on m x t coord count)) Q → Exactly (P (member_prepare m x t coord count)) (MayVote x t × Q)
   prepares x t coord count P Q voted already marked plain = (to (standing_of x t), λ p. from (standing_of x t) p.0 p.1)
     where
@@ -162,7 +162,7 @@ module _ (m : ℕ) where
       from IsInstalled e q = absurd (let z : false ≡ true = e in cc)
       from IsAbsent e q = plain.1 q
 
-  tries : (x : MemberState) (t : ℕ) (P : MemberStep → Type 0) (Q : AskedMark → Type 0) → ((a : Answer) → rank a ≡ 0 → P (says x a) → ⊥) →
+  pub tries : (x : MemberState) (t : ℕ) (P : MemberStep → Type 0) (Q : AskedMark → Type 0) → ((a : Answer) → rank a ≡ 0 → P (says x a) → ⊥) →
       ((mark : AskedMark) → Exactly (P (vote_on m x t mark.coord mark.count)) (Q mark)) → Exactly (P (member_vote m x t)) ((mark : AskedMark) × MayVoteAgain x t mark × Q mark)
   tries x t P Q never on = (to (standing_of x t), from)
     where
@@ -180,9 +180,9 @@ module _ (m : ℕ) where
       from p =
           subst (λ st. P (vote_again_by m x t st)) (sym p.1.0) (subst (λ o. P (vote_where_asked m x t o)) (sym p.1.1) ((on p.0).1 p.2))
 
-  alone : (x : MemberState) (t carried : ℕ) (P : MemberStep → Type 0) (v : Verdict) → (P (says x answer.Absent) → ⊥) →
-      Exactly (P (local_commit_by m x t carried (vote_of x.engine t carried))) (vote_of x.engine t carried ≡ v) → Exactly (P (member_local_commit m x t carried)) ((1 ≤ carried) × (vote_of x.engine t carried ≡ v))
-  alone x t carried P v absent on = (to (carried == 0) refl, λ p. from (carried == 0) refl p.0 p.1)
+  pub alone : (x : MemberState) (t carried : ℕ) (P : MemberStep → Type 0) (Q : Type 0) → (P (says x answer.Absent) → ⊥) →
+      Exactly (P (local_commit_by m x t carried (vote_of x.engine t carried))) Q → Exactly (P (member_local_commit m x t carried)) ((1 ≤ carried) × Q)
+  alone x t carried P Q absent on = (to (carried == 0) refl, λ p. from (carried == 0) refl p.0 p.1)
     where
       some : (n : ℕ) → (n == 0) ≡ false → 1 ≤ n
       some n h = grind (arith, nat_tests, h)
@@ -190,16 +190,16 @@ module _ (m : ℕ) where
       none : (n : ℕ) → 1 ≤ n → (n == 0) ≡ false
       none n h = grind (arith, nat_tests, h)
 
-      to : (b : Bool) → (carried == 0) ≡ b → P (if b then says x answer.Absent else local_commit_by m x t carried (vote_of x.engine t carried)) → (1 ≤ carried) × (vote_of x.engine t carried ≡ v)
+      to : (b : Bool) → (carried == 0) ≡ b → P (if b then says x answer.Absent else local_commit_by m x t carried (vote_of x.engine t carried)) → (1 ≤ carried) × Q
       to true e h = absurd (absent h)
       to false e h = (some carried e, on.0 h)
 
-      from : (b : Bool) → (carried == 0) ≡ b → 1 ≤ carried → vote_of x.engine t carried ≡ v → P (if b then says x answer.Absent else local_commit_by m x t carried (vote_of x.engine t carried))
+      from : (b : Bool) → (carried == 0) ≡ b → 1 ≤ carried → Q → P (if b then says x answer.Absent else local_commit_by m x t carried (vote_of x.engine t carried))
       from true e l h = absurd (let z : true ≡ false = sym e ∙ none carried l in cc)
       from false e l h = on.1 h
 
   -- a local transaction's verdict
-  local_yes : (x : MemberState) (t carried : ℕ) → rank (local_commit_by m x t carried VoteYes).answer ≡ 0
+  pub local_yes : (x : MemberState) (t carried : ℕ) → rank (local_commit_by m x t carried VoteYes).answer ≡ 0
   local_yes x t carried =
       forced_rank m (installed_state (voted_state x t local_coord (counted carried)) t)
       (log.Commit t [] ∷ prepare_record t local_coord (counted carried) (sets_of (operations_of x.engine t)) ∷ []) answer.Committed None refl
@@ -232,7 +232,7 @@ module _ (m : ℕ) where
       by VoteYes h = absurd (let z : 0 ≡ 3 = sym (local_yes x t carried) ∙ ap rank h in omega (arith, z))
 
   -- another answer
-  never : (x : MemberState) (a b : Answer) → rank a ≡ 0 → rank b ≢ 0 → (says x a).answer ≡ b → ⊥
+  pub never : (x : MemberState) (a b : Answer) → rank a ≡ 0 → rank b ≢ 0 → (says x a).answer ≡ b → ⊥
   never x a b e n h = n (sym (ap rank h) ∙ e)
 
   -- the same count, the same coordinator
@@ -265,10 +265,10 @@ module _ (m : ℕ) where
             tries x t (λ did. did.sent ≡ Some (message.Vote t m coord false)) (λ mark. (mark.coord ≡ coord) × RefusesVote (vote_of x.engine t mark.count))
             (λ a e h. let z : false ≡ true = ap sends_some h in cc) (λ mark. sent_on x t mark.coord mark.count coord);
         lost_alone = λ t carried.
-            alone x t carried (λ did. did.answer ≡ answer.NoLost (counted (kept_count x.engine t)) (counted carried)) LostOperations
+            alone x t carried (λ did. did.answer ≡ answer.NoLost (counted (kept_count x.engine t)) (counted carried)) (vote_of x.engine t carried ≡ LostOperations)
             (never x answer.Absent (answer.NoLost (counted (kept_count x.engine t)) (counted carried)) refl (λ z. omega (arith, z))) (alone_lost x t carried);
         stale_alone = λ t carried key.
-            alone x t carried (λ did. did.answer ≡ answer.NoStale key) (StaleRead key)
+            alone x t carried (λ did. did.answer ≡ answer.NoStale key) (vote_of x.engine t carried ≡ StaleRead key)
             (never x answer.Absent (answer.NoStale key) refl (λ z. omega (arith, z))) (alone_stale x t carried key);
       }
 
@@ -290,7 +290,7 @@ module _ (m : ℕ) where
             (λ a e. never x a (answer.Held u) e (λ z. omega (arith, z))) (λ mark. held_on x t mark.coord mark.count u);
         again_stays = λ t u. again t u (standing_of x t) (look x.asked t);
         alone = λ t carried u.
-            alone x t carried (λ did. did.answer ≡ answer.Held u) (HeldBy u)
+            alone x t carried (λ did. did.answer ≡ answer.Held u) (vote_of x.engine t carried ≡ HeldBy u)
             (never x answer.Absent (answer.Held u) refl (λ z. omega (arith, z))) (alone_held x t carried u);
         alone_stays = λ t carried u. by_itself t carried u (carried == 0);
       }
@@ -373,3 +373,10 @@ module _ (m : ℕ) where
           (member_prepare m x t coord count).sent ≡ Some (message.Vote t m d true)
       from t coord count d (inl p) = ap (λ st. (prepare_by m x t coord count st).sent) p.0 ∙ ap (λ c. Some (message.Vote t m c true)) p.1
       from t coord count d (inr p) = by t coord count d (standing_of x t) p.0 p.1
+
+  -- a no to a prepare, to whichever coordinator
+  pub no_sent_exact : (x : MemberState) (t coord count d : ℕ) →
+      Exactly ((member_prepare m x t coord count).sent ≡ Some (message.Vote t m d false)) (MayVote x t × ((coord ≡ d) × RefusesVote (vote_of x.engine t count)))
+  no_sent_exact x t coord count d =
+      prepares x t coord count (λ did. did.sent ≡ Some (message.Vote t m d false)) ((coord ≡ d) × RefusesVote (vote_of x.engine t count))
+      (not_a_no t m (coord_of x t) t m d) (λ h. let z : false ≡ true = ap sends_some h in cc) (sent_on (with_mark x t coord count) t coord count d) (sent_on x t coord count d)

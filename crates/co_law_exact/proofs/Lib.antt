@@ -4,3 +4,10 @@ pub mod Operations
 pub mod QuietMoves
 pub mod DecidingMoves
 pub mod Decided
+pub mod MemberTells
+pub mod CoordTells
+pub mod LineTells
+pub mod VoteEvents
+pub mod Lost
+pub mod Alone
+pub mod AnswerEvents

@@ -14,6 +14,7 @@ use Rattle.co_plain.specs.declared.member_step.MemberStep.{MemberStep}
 use Rattle.co_plain.specs.Numbers.{counted}
 use Rattle.co_plain.specs.MemberStep.{says}
 use Rattle.co_plain.specs.Member.{unless_blocked, member_op}
+use Rattle.co_law_node.specs.Causes.{Exactly}
 use Rattle.co_law_exact.specs.Votes.{IsSilent, OperationIsExact}
 
 abbrev rank : Answer → ℕ
@@ -98,3 +99,27 @@ operations_exact x =
       );
       stays = λ t carried op. stays_by x t carried op (kept_count x.engine t == carried) (carried == most_operations) (lock_blocker x.engine t op);
     }
+
+-- with the counts that the answer names
+abbrev kept_named : ℕ → Answer → ℕ
+kept_named d (answer.Gone kept carried) = kept
+kept_named d _ = d
+
+abbrev carried_named : ℕ → Answer → ℕ
+carried_named d (answer.Gone kept carried) = carried
+carried_named d _ = d
+
+pub gone_exact : (x : MemberState) (t carried : ℕ) (op : Op) (kept count : ℕ) →
+    Exactly ((member_op x t carried op).answer ≡ answer.Gone kept count) ((kept_count x.engine t ≢ carried) × (counted (kept_count x.engine t) ≡ kept) × (counted carried ≡ count))
+gone_exact x t carried op kept count = (
+  to (kept_count x.engine t == carried) (carried == most_operations) (lock_blocker x.engine t op) refl,
+  λ p. ap (λ did. did.answer) (made x t carried op false (carried == most_operations) (lock_blocker x.engine t op) (ne_eqb (kept_count x.engine t) carried p.0) refl refl)
+      ∙ (λ i. answer.Gone (p.1 i) (p.2 i)),
+)
+  where
+    to : (k most : Bool) (blocker : Option ℕ) → (kept_count x.engine t == carried) ≡ k → (done x t carried op k most blocker).answer ≡ answer.Gone kept count →
+        (kept_count x.engine t ≢ carried) × (counted (kept_count x.engine t) ≡ kept) × (counted carried ≡ count)
+    to false most blocker e h = (eqb-false (kept_count x.engine t) carried e, ap (kept_named 0) h, ap (carried_named 0) h)
+    to true true blocker e h = apart answer.TooMany (answer.Gone kept count) h (λ z. omega (arith, z))
+    to true false (Some u) e h = apart (answer.Blocked u) (answer.Gone kept count) h (λ z. omega (arith, z))
+    to true false None e h = apart (answer.Replied (operation_reply x.engine t op)) (answer.Gone kept count) h (λ z. omega (arith, z))

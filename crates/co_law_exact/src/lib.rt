@@ -17,12 +17,21 @@
 //!   rule grants, and the last yes that lacks, each at a node that is up, where the write leaves the record stable, stopped or not; no other event
 //!   decides (`decisions_are_exact_events`), nor does a verdict that is handed (`handed_verdicts_decide_nothing`). No run over sound logs changes
 //!   which numbers stand in its opened logs, nor its members and coordinators (`opened_numbers_stay`).
+//! - **Which events vote, refuse and block**, in every state, and with what sessions, the wire and nodes that are down let through. A yes is sent
+//!   exactly by a prepare that was sent and a vote that is tried again, each at a member that is up, where the rule grants it and the record is
+//!   written, or, by the prepare, where the transaction is voted already (`yes_votes_are_exact_events`); a no exactly by these two where the rule
+//!   refuses (`no_votes_are_exact_events`). They and the commit of a local transaction answer what the rule finds, and no other event does
+//!   (`vote_answers_are_exact_events`); an operation answers exactly by its counts and its lock (`operation_answers_are_exact_events`).
 #![tactic(auto)]
 
 mod events;
 mod votes;
 
-pub use events::{decisions_are_exact_events, handed_verdicts_decide_nothing, opened_numbers_stay};
+pub use events::{
+    decisions_are_exact_events, handed_verdicts_decide_nothing, no_votes_are_exact_events,
+    opened_numbers_stay, operation_answers_are_exact_events, vote_answers_are_exact_events,
+    yes_votes_are_exact_events,
+};
 pub use votes::{
     blocked_is_exact, held_is_exact, no_is_exact, verdicts_are_exact, yes_sent_is_exact,
 };

@@ -32,7 +32,7 @@ both_same : (k m u t : ℕ) → ((k == m) && (u == t)) ≡ true → (k ≡ m) ×
 both_same k m u t h = let p = and_parts (k == m) (u == t) h in (eqb-true k m p.0, eqb-true u t p.1)
 
 module _ (t m : ℕ) where
-  vote_done : (s : Federation) → Facts s → (move : Move) → Guard s move → forces_vote t m move ≡ true → Spent t m (effect s move)
+  pub vote_done : (s : Federation) → Facts s → (move : Move) → Guard s move → forces_vote t m move ≡ true → Spent t m (effect s move)
   vote_done s f (Cast u k c n) g h =
       let p = both_same k m u t h in
       subst (λ v. Spent v m (effect s (Cast u k c n))) p.1 (subst (λ j. Spent u j (effect s (Cast u k c n))) p.0 (cast_spends s f u k c n g))
@@ -41,7 +41,7 @@ module _ (t m : ℕ) where
       subst (λ v. Spent v m (effect s (CommitLocally u k))) p.1 (subst (λ j. Spent u j (effect s (CommitLocally u k))) p.0 (local_spends s f u k g))
   vote_done s f _ g h = clash h
 
-  vote_never : (s : Federation) → Facts s → (move : Move) → Guard s move → Spent t m s → forces_vote t m move ≡ false
+  pub vote_never : (s : Federation) → Facts s → (move : Move) → Guard s move → Spent t m s → forces_vote t m move ≡ false
   vote_never s f (Cast u k c n) g d = false_from_ne_true _ (λ h. let p = both_same k m u t h in casts_not t m s f d u k c n g p.0 p.1)
   vote_never s f (CommitLocally u k) g d = false_from_ne_true _ (λ h. let p = both_same k m u t h in locally_not t m s f d u k g p.0 p.1)
   vote_never s f _ g d = refl

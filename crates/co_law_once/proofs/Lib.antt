@@ -11,3 +11,11 @@ pub mod EndsAtCoord
 pub mod EndsAtMember
 pub mod EndsTold
 pub mod Ended
+pub mod ForcedMarks
+pub mod ForcedAtMember
+pub mod ForcedAtCoord
+pub mod ForcedTold
+pub mod RecordsTold
+pub mod VotedBefore
+pub mod PreparesTold
+pub mod Writing

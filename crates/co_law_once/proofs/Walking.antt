@@ -85,7 +85,7 @@ module _ (p : Move → Bool) (Done : Federation → Type 0)
       subst (Once (moves_of s (happening.Hand t m commit))) k.same (moves_once (moves_of s (happening.Hand t m commit)) s f k.guards)
   step_once s f happening.Disarm v = record { once = tt; after = λ h. absurd (let z : false ≡ true = h in cc) }
 
-  run_idle : (hs : List Happening) (s : Federation) → Facts s → AreTrueVerdicts hs s → Done s → list_any p (moves_along hs s) ≡ false
+  pub run_idle : (hs : List Happening) (s : Federation) → Facts s → AreTrueVerdicts hs s → Done s → list_any p (moves_along hs s) ≡ false
   run_idle [] s f v d = refl
   run_idle (h ∷ hs) s f v d =
       let a = step_idle s f h v.0 d in

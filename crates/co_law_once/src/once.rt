@@ -8,6 +8,7 @@ ghost use Rattle.co_plain.specs.Opening.{Found, opened};
 ghost use Rattle.co_plain.specs.Premises.{AreTrueVerdicts, AreOpenable};
 ghost use Rattle.co_law_moves.specs.MoveTraces.{items_along, messages_in};
 ghost use Rattle.co_law_once.specs.Costs.{AreFour, IsWithoutLoss};
+ghost use Rattle.co_law_once.specs.Records.{AreForcedFew, ArePreparedOnce, CostsAsPresumedAbort};
 ghost use Rattle.co_law_once.specs.Once.{AtMostOnce, AreEndedOnce, AreForcedOnce, moves_along, tells_commit_here};
 
 /// In every run each member forces the vote of a transaction at most once, and its install at most once, and each transaction is
@@ -20,6 +21,17 @@ pub fn records_are_forced_once()
         AreOpenable kinds coords found_member found_coord →
         AreTrueVerdicts hs (opened kinds coords found_member found_coord) →
         AreForcedOnce (moves_along hs (opened kinds coords found_member found_coord)) }
+{}
+
+/// So the prepare record of a transaction becomes stable at most once at each member in a run. A write that is stopped with its gate
+/// closed loses the record, and the transaction does not vote there again: its operations are lost with it. A checkpoint carries the
+/// votes that it finds over to the new file, and is told as a checkpoint alone. Nor does a transaction vote that the opened logs know:
+/// it voted in an earlier run. (Where it was aborted there, the logs know it no more, and its number may be begun anew.)
+pub fn prepares_are_told_once()
+    ensures { (kinds : List Kind) (coords : ℕ) (found_member found_coord : ℕ → Found) (hs : List Happening) →
+        AreOpenable kinds coords found_member found_coord →
+        AreTrueVerdicts hs (opened kinds coords found_member found_coord) →
+        ArePreparedOnce (opened kinds coords found_member found_coord) (items_along hs (opened kinds coords found_member found_coord)) }
 {}
 
 /// So the items of a run tell of each commit record of a transaction at most once at each node: a decision that is repeated
@@ -55,4 +67,25 @@ pub fn commits_cost_four_messages()
         AreTrueVerdicts hs (opened kinds coords found_member found_coord) →
         IsWithoutLoss t hs →
         AreFour t m (messages_in (items_along hs (opened kinds coords found_member found_coord))) }
+{}
+
+/// So in every run, whatever is lost, repeated or resent, the items tell of at most two forced records of a transaction at each member,
+/// its prepare and its commit, and of at most one at all coordinators together, its decision. A local transaction has its two in one
+/// write, and none at a coordinator. An end and an abort are not forced: each waits for the next write.
+pub fn forced_records_are_few()
+    ensures { (kinds : List Kind) (coords : ℕ) (found_member found_coord : ℕ → Found) (hs : List Happening) (t m : ℕ) →
+        AreOpenable kinds coords found_member found_coord →
+        AreTrueVerdicts hs (opened kinds coords found_member found_coord) →
+        AreForcedFew t m (items_along hs (opened kinds coords found_member found_coord)) }
+{}
+
+/// So a commit without loss costs what two-phase commit with presumed abort pays for it, as the transcript tells: at most four messages
+/// between the transaction and each member, two forced records at the member, and one at the coordinators (Mohan, Lindsay and
+/// Obermarck, TODS 1986).
+pub fn commits_cost_as_presumed_abort()
+    ensures { (kinds : List Kind) (coords : ℕ) (found_member found_coord : ℕ → Found) (hs : List Happening) (t m : ℕ) →
+        AreOpenable kinds coords found_member found_coord →
+        AreTrueVerdicts hs (opened kinds coords found_member found_coord) →
+        IsWithoutLoss t hs →
+        CostsAsPresumedAbort t m (items_along hs (opened kinds coords found_member found_coord)) }
 {}
