@@ -27,13 +27,13 @@ CASES = [(1, 'write x A'), (1, 'write p A'), (2, 'write x B'), (2, 'write q B'),
 
 def read_transcript(text):
     """The committed transactions of a transcript in the order of their decisions, each with its operations."""
-    told, committed, event = collections.defaultdict(list), [], None
+    told, committed, event = collections.defaultdict(list), {}, None  # the committed by number, in their order
     for line in text.splitlines():
         number, word, *rest = line.split(' ')
         if word == 'event':
             event = rest
         elif word == 'log' and rest[1] == 'commit':
-            committed.append(int(rest[2]))
+            committed[int(rest[2])] = None
         elif word == 'reply' and event[0] in ('read', 'write', 'erase', 'scan') and rest[0] in ('got', 'missing', 'rows', 'done'):
             if int(event[1]) not in committed:
                 told[int(event[1])].append(Operation(int(number), event[2], event[0], tuple(event[3:]), tuple(rest)))

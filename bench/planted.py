@@ -1,8 +1,10 @@
 """Programs with a planted fault each, that the scripts beside this one have to find.
 
     python3 bench/planted.py PROGRAM
+    python3 bench/planted.py order JUDGE
 
-Each is the program behind some lines of Python or C. A check has to pass with the program itself and to fail with each of its planted faults.
+Each is the program behind some lines of Python or C. A check has to pass with the program itself and to fail with each of its planted faults. The second
+line plants faults in what `co_judge order` writes.
 """
 import os
 import stat
@@ -86,6 +88,52 @@ if words[:1] == ["records"]:
     sys.exit(done.returncode)
 """
 
+# The edges of a cycle by two lines come in another order.
+TURNS_THE_EDGES = """
+done = subprocess.run([PROGRAM, *words], stdout=subprocess.PIPE, text=True)
+first, *edges = done.stdout.splitlines(True) or [""]
+if first.startswith("cycle"):
+    edges.reverse()
+sys.stdout.write(first + "".join(edges))
+sys.exit(done.returncode)
+"""
+# An edge of a cycle has the greatest pair of lines that forces it, in place of the least.
+TAKES_THE_GREATEST_PAIR = f"""
+sys.path.insert(0, {HERE!r})
+import orders
+text = sys.stdin.read()
+done = subprocess.run([PROGRAM, *words], input=text, stdout=subprocess.PIPE, text=True)
+first, *edges = done.stdout.splitlines(True) or [""]
+if first.startswith("cycle"):
+    known = orders.Words(orders.read_transcript(text))
+    for place, edge in enumerate(edges):
+        one, other = map(int, edge.split(" ")[1:3])
+        pairs = list(known.pairs(one, other))
+        if pairs:
+            edges[place] = "before %d %d %d %d\\n" % (one, other, *max(pairs))
+sys.stdout.write(first + "".join(edges))
+sys.exit(done.returncode)
+"""
+# A case is left out of a refutation by cases.
+LEAVES_A_CASE_OUT = """
+done = subprocess.run([PROGRAM, *words], stdout=subprocess.PIPE, text=True)
+sys.stdout.write(done.stdout.split("or ")[0] if done.stdout.startswith("none") else done.stdout)
+sys.exit(done.returncode)
+"""
+# An order is the recorded one, whether that is serial or not.
+TAKES_THE_RECORDED_ORDER = f"""
+sys.path.insert(0, {HERE!r})
+import orders
+text = sys.stdin.read()
+done = subprocess.run([PROGRAM, *words], input=text, stdout=subprocess.PIPE, text=True)
+recorded = [str(txn) for txn, _ in orders.read_transcript(text)]
+sys.stdout.write(" ".join(["order", *recorded]) + "\\n" if done.stdout.startswith("order") else done.stdout)
+sys.exit(done.returncode)
+"""
+
+ORDER_CHECKS = [
+    (["orders.py", "--random", "200", "--cases", "20", "{}"], [TURNS_THE_EDGES, TAKES_THE_GREATEST_PAIR, LEAVES_A_CASE_OUT, TAKES_THE_RECORDED_ORDER]),
+]
 CHECKS = [
     (["schedules.py", "{}", "8000", "7"], [ENDS_EARLY, DOES_NOTHING, TELLS_ANOTHER_COMMIT, LOSES_A_RECORD]),
     (["schedules.py", "{}", "kills", "12", "7"], [REFUSES_TO_RESUME, DOES_NOTHING, LOSES_A_RECORD]),
@@ -113,10 +161,10 @@ def passes(words, program):
 
 
 def main():
-    program, wrong = os.path.abspath(sys.argv[1]), 0
+    program, wrong = os.path.abspath(sys.argv[-1]), 0
     names = {id(value): name.lower().replace("_", " ") for name, value in globals().items() if name.isupper() and isinstance(value, str)}
     with tempfile.TemporaryDirectory() as work:
-        for words, faults in CHECKS:
+        for words, faults in ORDER_CHECKS if sys.argv[1] == "order" else CHECKS:
             check = " ".join(words).replace("{}", "PROGRAM")
             good, said = passes(words, program)
             wrong += not good

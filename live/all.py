@@ -18,7 +18,7 @@ CHECKS = {  # each with what the short form gives it
     'kills': (crash.run, [4]),
     'crashes of databases': (dbkill.run, [('mariadb',)]),
     'what the rule costs': (bench.rates, [3.0]),
-    'renewed under load': (renew.run, [10.0, 500]),
+    'renewed under load': (renew.run, [10.0, 250, 30]),
     'spelling of keys': (lambda folder, programs: spelling_test.run(), []),
     'promises': (breaks.run, []),
     'wrong managers': (wrong.run, []),

@@ -158,6 +158,7 @@ class PostgreSQL(Database):
         'commit': "commit prepared '{name}'",
         'forget': "rollback prepared '{name}'",
         'cancel': 'rollback',
+        'end': 'commit',
         'doubts': 'select gid from pg_prepared_xacts where database = current_database()',
         'lock': 'select pg_try_advisory_lock(%s)',
         'session': 'select pg_backend_pid()',

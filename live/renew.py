@@ -10,8 +10,8 @@ import work
 from twin import Manager
 
 
-def run(folder, programs, seconds=60.0, numbers=5000):
-    told = work.play(folder, programs, 'RC+RC lock lock', make=functools.partial(Manager, lines=2500, numbers=numbers), seconds=seconds, transcript=False, keys=50, threads=8)
+def run(folder, programs, seconds=60.0, lines=2500, numbers=5000):
+    told = work.play(folder, programs, 'RC+RC lock lock', make=functools.partial(Manager, lines=lines, numbers=numbers), seconds=seconds, transcript=False, keys=50, threads=8)
     renewed, moved = (told['counts'].get(what, 0) for what in ('renewed', 'moved to a new directory'))
     print(f'{seconds:.0f} seconds: {told["committed"]} committed, {renewed} times begun anew, {moved} times moved; {told["decisions"]}, rows {"are" if told["rows are records"] else "are NOT"} the records, {told["in doubt"]} in doubt')
     return told['decisions'].startswith('serial') and told['any order'].startswith('order') and told['rows are records'] and not told['in doubt'] and renewed > 0 and moved > 0
