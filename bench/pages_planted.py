@@ -60,7 +60,7 @@ CHANGES = [
     ("docs/PROVED.md", " stored cases of", "0 stored cases of"),
     ("docs/PROVED.md", "`rattle-kit-", "`rattle-kit-0"),
     ("docs/PROVED.md", "bench/faults.py", "bench/fault.py"),
-    ("docs/PROVED.md", "| `held_is_exact` |", "| `held_is_exakt` |"),
+    ("docs/PROVED.md", "`held_is_exact`, ", "`held_is_exakt`, "),
     ("docs/ARCHITECTURE.md", "| `co_world` |", "| `co_wurld` |"),
     ("docs/ARCHITECTURE.md", "| `co_resumed_rows` |", "| `co_order_rows` |"),
     ("docs/ARCHITECTURE.md", "`replay_lines`", "`replay_line`"),
