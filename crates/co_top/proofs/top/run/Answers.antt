@@ -104,6 +104,14 @@ returns-in-Resolve-clause-usage g c =
       λ e. absurd (never e),
     )
 
+pub returns-in-Resolve-clause-noted : goal.returns-in-Resolve-clause-noted
+returns-in-Resolve-clause-noted g c = λ held is.
+    subst
+    (λ (s : Status).
+    HasNoted held (note_of s) (g.N.Sink.told c.told-in-Resolve.new.notes) (g.N.Sink.faults c.args.notes.now) (g.N.Sink.faults c.told-in-Resolve.new.notes) (g.N.Sink.lacks c.args.notes.now)
+    (g.N.Sink.lacks c.told-in-Resolve.new.notes))
+    (sym c.told-in-Resolve.ensures.same) (c.told-in-Resolve.ensures.noted held is)
+
 -- ---- logs are migrated
 
 pub returns-in-Migrate-clause-migrate : goal.returns-in-Migrate-clause-migrate
@@ -123,6 +131,14 @@ returns-in-Migrate-clause-migrate g c = λ directory is.
       device = record { failed = e.device; quiet = e.quiet_home };
     } in
     (refl, subst (λ d. migrates d c.told-in-Migrate.result) (migrate_asked (sym c.in-Migrate.ensures ∙ is)) (subst (λ s. migrates c.in-Migrate.directory.now s) (sym c.told-in-Migrate.ensures.same) migrated))
+
+pub returns-in-Migrate-clause-noted : goal.returns-in-Migrate-clause-noted
+returns-in-Migrate-clause-noted g c = λ held is.
+    subst
+    (λ (s : Status).
+    HasNoted held (note_of s) (g.N.Sink.told c.told-in-Migrate.new.notes) (g.N.Sink.faults c.args.notes.now) (g.N.Sink.faults c.told-in-Migrate.new.notes) (g.N.Sink.lacks c.args.notes.now)
+    (g.N.Sink.lacks c.told-in-Migrate.new.notes))
+    (sym c.told-in-Migrate.ensures.same) (c.told-in-Migrate.ensures.noted held is)
 
 -- ---- a transcript is judged
 
