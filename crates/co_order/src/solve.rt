@@ -153,7 +153,7 @@ fn search(alloc: Global, history: &[Committed], web: &Web) -> Result<Answer, All
     }
     let mut ranks = web.digest.places.clone()?;
     let mut lastly = false;
-    for _ in 0..MOST_ROUNDS {
+    for round in 0..MOST_ROUNDS {
         let ranked = ranked_edges(alloc, web, ranks.as_slice())?;
         let nodes = ranked_nodes(web);
         let order = sorted(alloc, count, nodes, ranked.as_slice(), ranks.as_slice())?;
@@ -172,6 +172,7 @@ fn search(alloc: Global, history: &[Committed], web: &Web) -> Result<Answer, All
             edges.as_slice(),
             ranked.as_slice(),
             nodes,
+            round,
             &mut ranks,
         )?;
         match settled {
@@ -233,7 +234,20 @@ enum Settled {
     Open,
 }
 
-/// Searches each knot of the edges by itself, and ranks its transactions anew.
+/// A knot with the first writers of the blocks in which its transactions stand, and theirs, so many steps; as many as a knot may have.
+fn grown(alloc: Global, web: &Web, ids: &[usize], steps: usize) -> Result<Vec<usize>, AllocError> {
+    let mut knot = Vec::from_slice(alloc, ids)?;
+    for _ in 0..steps {
+        let more = web.with_roots(alloc, knot.as_slice())?;
+        if more.len() == knot.len() || more.len() > MOST_OF_KNOT {
+            break;
+        }
+        knot = more;
+    }
+    Ok(knot)
+}
+
+/// Searches each knot of the edges by itself, grown by so many steps, and ranks its transactions anew.
 fn settle_knots(
     alloc: Global,
     history: &[Committed],
@@ -241,6 +255,7 @@ fn settle_knots(
     edges: &[Edge],
     ranked: &[Edge],
     nodes: usize,
+    steps: usize,
     ranks: &mut Vec<usize>,
 ) -> Result<Settled, AllocError>
     ensures { IfOk result (IsSettled history.now) }
@@ -270,10 +285,11 @@ fn settle_knots(
             }
         }
     }
-    for (_, ids) in knots.iter() {
-        if ids.len() > MOST_OF_KNOT {
+    for (_, knot) in knots.iter() {
+        if knot.len() > MOST_OF_KNOT {
             return Ok(Settled::Open);
         }
+        let ids = grown(alloc, web, knot.as_slice(), steps)?;
         let mut build = fresh(alloc, history, web);
         let found = search_knot(alloc, &mut build, ids.as_slice(), ranks.as_slice(), edges)?;
         match found {

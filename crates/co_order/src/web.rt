@@ -249,6 +249,14 @@ pub(crate) fn web_of(alloc: Global, digest: Digest) -> Result<Web, AllocError> {
     })
 }
 
+/// Appends the first writer of a block, where it has one.
+fn push_root(into: &mut Vec<usize>, block: usize) -> Result<(), AllocError> {
+    if block >= VERSION {
+        into.push(block - VERSION)?;
+    }
+    Ok(())
+}
+
 impl Web {
     /// The block that a read stands in; 0 where it has two sources.
     pub(crate) fn block_of(&self, read: &Read) -> usize {
@@ -260,6 +268,43 @@ impl Web {
                 None => 0,
             },
         }
+    }
+
+    /// These transactions with the first writers of the blocks in which they stand, ascending.
+    pub(crate) fn with_roots(
+        &self,
+        alloc: Global,
+        ids: &[usize],
+    ) -> Result<Vec<usize>, AllocError> {
+        let mut found: Vec<usize> = Vec::new(alloc);
+        for txn in ids {
+            found.push(*txn)?;
+            let behind = txn.saturating_add(1);
+            for place in number_at(self.digest.left_starts.as_slice(), *txn)..number_at(
+                self.digest.left_starts.as_slice(),
+                behind,
+            ) {
+                push_root(&mut found, number_at(self.blocks.as_slice(), place))?;
+            }
+            for place in number_at(self.digest.read_starts.as_slice(), *txn)..number_at(
+                self.digest.read_starts.as_slice(),
+                behind,
+            ) {
+                if let Some(read) = self.digest.read_at(place) {
+                    push_root(&mut found, self.block_of(&read))?;
+                }
+            }
+        }
+        found.as_mut_slice().sort_unstable();
+        let mut distinct: Vec<usize> = Vec::new(alloc);
+        let mut next = 0usize;
+        for txn in found.as_slice() {
+            if *txn >= next {
+                distinct.push(*txn)?;
+                next = txn.saturating_add(1);
+            }
+        }
+        Ok(distinct)
     }
 
     /// Who wrote, of the group of a read.
