@@ -70,7 +70,7 @@ SendsYes s t m c (event.Deliver (message.Prepare u d k n)) =
 SendsYes s t m c (event.Vote u k) = (u ≡ t) × (k ≡ m) × ((s.member k).up ≡ true) × GrantsAgain (s.member k) u c
 SendsYes s t m c _ = ⊥
 
--- A no: the rule refuses the vote, of whom is active or nowhere.
+-- A no: the rule refuses the vote of who is active or nowhere.
 abbrev pub RefusesPrepare : MemberState → TxnNumber → CoordNumber → Count → CoordNumber → Type 0
 RefusesPrepare x t coord count c = MayVote x t × ((coord ≡ c) × RefusesVote (vote_of x.engine t count))
 
