@@ -1,5 +1,5 @@
 -- The table of a transcript, in Markdown: a row for each event, a column for each node.
-use Rattle.std.specs.Prelude.{ℕ, Bool, true, false, if◌then◌else◌, List, [], ◌∷◌, ◌++◌, take, position, Option, None, Some, codes, decimal}
+use Rattle.std.specs.Prelude.{ℕ, zero, suc, Bool, true, false, if◌then◌else◌, List, [], ◌∷◌, ◌++◌, length, codes, decimal}
 use Rattle.co_base.specs.declared.node.Node.{Node}
 use Rattle.co_message.specs.declared.item.Item.{Item}
 use Rattle.co_picture.specs.Picture.{head_of}
@@ -19,12 +19,18 @@ abbrev pub titles_text : List Node → List ℕ
 titles_text [] = []
 titles_text (node ∷ nodes) = title_text node ++ titles_text nodes
 
-abbrev pub rules_text : List Node → List ℕ
-rules_text [] = []
-rules_text (node ∷ nodes) = codes "---|" ++ rules_text nodes
+abbrev pub rules_text : ℕ → List ℕ
+rules_text zero = []
+rules_text (suc count) = rules_text count ++ codes "---|"
+
+abbrev pub title_line : List Node → List ℕ
+title_line nodes = codes "| Line | Event |" ++ (titles_text nodes ++ codes "\n")
+
+abbrev pub rule_line : List Node → List ℕ
+rule_line nodes = codes "|---|---|" ++ (rules_text (length nodes) ++ codes "\n")
 
 abbrev pub front_text : List Node → List ℕ
-front_text nodes = codes "| Line | Event |" ++ (titles_text nodes ++ (codes "\n|---|---|" ++ (rules_text nodes ++ codes "\n")))
+front_text nodes = title_line nodes ++ rule_line nodes
 
 -- ---- cells
 
@@ -51,18 +57,20 @@ node_cells parts (node ∷ nodes) = node_cell parts node ++ node_cells parts nod
 
 -- ---- rows
 
-abbrev pub parts_before : List Entry → Option ℕ → List Entry
-parts_before entries None = entries
-parts_before entries (Some at) = take at entries
-
--- what belongs to an event: all up to the next one
+-- what belongs to an event, of all that is told behind it: all up to the next event
 abbrev pub parts_of : List Entry → List Entry
-parts_of entries = parts_before entries (position begins entries)
+parts_of [] = []
+parts_of (entry ∷ entries) = if begins entry then [] else entry ∷ parts_of entries
 
--- the number and the event, what has no column beside it, and a cell for each node
+abbrev pub number_cell : ℕ → List ℕ
+number_cell number = codes "| " ++ (decimal number ++ codes " |")
+
+-- the event, and what has no column beside it
+abbrev pub event_cell : Entry → List Entry → List ℕ
+event_cell event parts = 32 ∷ (event.text ++ (cell_text true Beside parts ++ codes " |"))
+
 abbrev pub row_text : List Node → Entry → List Entry → List ℕ
-row_text nodes event parts =
-    codes "| " ++ (decimal event.number ++ (codes " | " ++ (event.text ++ (cell_text true Beside parts ++ (codes " |" ++ (node_cells parts nodes ++ codes "\n"))))))
+row_text nodes event parts = number_cell event.number ++ (event_cell event parts ++ (node_cells parts nodes ++ codes "\n"))
 
 abbrev pub row_at : List Node → Entry → List Entry → List ℕ
 row_at nodes entry entries = if begins entry then row_text nodes entry (parts_of entries) else []

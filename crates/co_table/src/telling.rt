@@ -1,10 +1,10 @@
 //! The table of a transcript, in Markdown.
-ghost use Rattle.std.specs.Prelude.{◌≡◌, ◌<◌, ◌≤◌, ◌+◌, ◌++◌, ◌∷◌, [], length, position, OnOk, IfOk, codes, decimal, option_copied};
+ghost use Rattle.std.specs.Prelude.{◌≡◌, ◌<◌, ◌≤◌, ◌+◌, ◌++◌, ◌∷◌, [], length, OnOk, IfOk, codes, decimal, option_copied};
 ghost use Rattle.co_picture.specs.Picture.{head_of};
 ghost use Rattle.co_picture.specs.Read.{most_lines_drawn};
 ghost use Rattle.co_schedule.specs.Spelling.{node_word};
 ghost use Rattle.co_table.specs.Place.{nodes_of};
-ghost use Rattle.co_table.specs.Table.{title_text, titles_text, rules_text, front_text, begins, part_text, cell_text, node_cell, node_cells, parts_before, parts_of, row_text, row_at, rows_text, table_in, table_text};
+ghost use Rattle.co_table.specs.Table.{title_text, titles_text, rules_text, title_line, rule_line, front_text, part_text, cell_text, node_cell, node_cells, parts_of, number_cell, event_cell, row_text, row_at, rows_text, table_in, table_text};
 ghost use Rattle.co_table.specs.Entry.{entries_of};
 
 use crate::entry::{Entry, entries_of};
@@ -33,25 +33,40 @@ fn append_title(into: &mut Vec<u8>, node: Node) -> Result<(), AllocError>
     into.extend_from_slice(b" |")
 }
 
-/// Appends the rules under the titles of the nodes.
-fn append_rules(into: &mut Vec<u8>, nodes: &[Node]) -> Result<(), AllocError>
-    ensures { OnOk result (into.new.items ≡ into.old.items ++ rules_text nodes.now) }
+/// Appends the rules under so many titles.
+fn append_rules(into: &mut Vec<u8>, count: usize) -> Result<(), AllocError>
+    ensures { OnOk result (into.new.items ≡ into.old.items ++ rules_text count) }
 {
-    for _ in nodes {
+    for _ruled in 0..count {
         into.extend_from_slice(b"---|")?;
     }
     Ok(())
+}
+
+/// Appends the line of the titles.
+fn append_title_line(into: &mut Vec<u8>, nodes: &[Node]) -> Result<(), AllocError>
+    ensures { OnOk result (into.new.items ≡ into.old.items ++ title_line nodes.now) }
+{
+    into.extend_from_slice(b"| Line | Event |")?;
+    append_titles(into, nodes)?;
+    into.extend_from_slice(b"\n")
+}
+
+/// Appends the line of the rules.
+fn append_rule_line(into: &mut Vec<u8>, nodes: &[Node]) -> Result<(), AllocError>
+    ensures { OnOk result (into.new.items ≡ into.old.items ++ rule_line nodes.now) }
+{
+    into.extend_from_slice(b"|---|---|")?;
+    append_rules(into, nodes.len())?;
+    into.extend_from_slice(b"\n")
 }
 
 /// Appends the first two lines.
 fn append_front(into: &mut Vec<u8>, nodes: &[Node]) -> Result<(), AllocError>
     ensures { OnOk result (into.new.items ≡ into.old.items ++ front_text nodes.now) }
 {
-    into.extend_from_slice(b"| Line | Event |")?;
-    append_titles(into, nodes)?;
-    into.extend_from_slice(b"\n|---|---|")?;
-    append_rules(into, nodes)?;
-    into.extend_from_slice(b"\n")
+    append_title_line(into, nodes)?;
+    append_rule_line(into, nodes)
 }
 
 /// Appends what is told of an item, behind something else or not.
@@ -110,10 +125,35 @@ fn append_node_cells(
 fn parts_of(entries: &[Entry]) -> &[Entry]
     ensures { result.now ≡ parts_of entries.now }
 {
-    match entries.iter().position(|entry| entry.place.is_front()) {
-        Some(at) => &entries[..at],
-        None => entries,
+    for (at, entry) in entries.iter().enumerate() {
+        if entry.place.is_front() {
+            return &entries[..at];
+        }
     }
+    entries
+}
+
+/// Appends the cell of a number.
+fn append_number_cell(into: &mut Vec<u8>, number: u32) -> Result<(), AllocError>
+    ensures { OnOk result (into.new.items ≡ into.old.items ++ number_cell number) }
+{
+    into.extend_from_slice(b"| ")?;
+    into.extend_from_slice(Buffer::new().format(number).as_bytes())?;
+    into.extend_from_slice(b" |")
+}
+
+/// Appends the cell of an event, with what has no column.
+fn append_event_cell(
+    into: &mut Vec<u8>,
+    event: &Entry,
+    parts: &[Entry],
+) -> Result<(), AllocError>
+    ensures { OnOk result (into.new.items ≡ into.old.items ++ event_cell event.now parts.now) }
+{
+    into.push(b' ')?;
+    into.extend_from_slice(event.text.as_slice())?;
+    append_cell(into, true, Place::Beside, parts)?;
+    into.extend_from_slice(b" |")
 }
 
 /// Appends the row of an event.
@@ -125,12 +165,8 @@ fn append_row(
 ) -> Result<(), AllocError>
     ensures { OnOk result (into.new.items ≡ into.old.items ++ row_text nodes.now event.now parts.now) }
 {
-    into.extend_from_slice(b"| ")?;
-    into.extend_from_slice(Buffer::new().format(event.number).as_bytes())?;
-    into.extend_from_slice(b" | ")?;
-    into.extend_from_slice(event.text.as_slice())?;
-    append_cell(into, true, Place::Beside, parts)?;
-    into.extend_from_slice(b" |")?;
+    append_number_cell(into, event.number)?;
+    append_event_cell(into, event, parts)?;
     append_node_cells(into, parts, nodes)?;
     into.extend_from_slice(b"\n")
 }

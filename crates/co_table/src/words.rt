@@ -14,9 +14,6 @@ use co_schedule::{append_event, append_head, append_node, append_number, append_
 use co_transcript::put_item;
 use std::alloc::{AllocError, Global};
 
-/// An arrow to the right, in UTF-8.
-const ARROW: &[u8; 3] = b"\xE2\x86\x92";
-
 /// Appends a letter as a cell has it: a bar would end the cell.
 fn append_letter(into: &mut Vec<u8>, letter: u8) -> Result<(), AllocError>
     ensures { OnOk result (into.new.items ≡ into.old.items ++ escaped_letter letter) }
@@ -70,10 +67,10 @@ fn append_of(into: &mut Vec<u8>, word: &[u8], txn: Txn) -> Result<(), AllocError
 }
 
 /// Appends the words of a message but its sender and its receiver.
-fn append_brief(into: &mut Vec<u8>, message: Message) -> Result<(), AllocError>
-    ensures { OnOk result (into.new.items ≡ into.old.items ++ behind (brief_words message)) }
+fn append_brief(into: &mut Vec<u8>, message: &Message) -> Result<(), AllocError>
+    ensures { OnOk result (into.new.items ≡ into.old.items ++ behind (brief_words message.now)) }
 {
-    match message {
+    match *message {
         Message::Prepare { txn, count, .. } => {
             append_of(into, b"prepare", txn)?;
             append_number(into, u64::from(count))
@@ -91,12 +88,12 @@ fn append_brief(into: &mut Vec<u8>, message: Message) -> Result<(), AllocError>
     }
 }
 
-/// Appends what is sent, and to whom.
-fn append_sent(into: &mut Vec<u8>, message: Message) -> Result<(), AllocError>
-    ensures { OnOk result (into.new.items ≡ into.old.items ++ (arrow ++ behind (node_word (receiver message) ∷ brief_words message))) }
+/// Appends what is sent, behind an arrow, and to whom.
+fn append_sent(into: &mut Vec<u8>, message: &Message) -> Result<(), AllocError>
+    ensures { OnOk result (into.new.items ≡ into.old.items ++ (arrow ++ behind (node_word (receiver message.now) ∷ brief_words message.now))) }
 {
-    into.extend_from_slice(ARROW)?;
-    append_node(into, receiver(message))?;
+    into.extend_from_slice(b"\xE2\x86\x92")?;
+    append_node(into, receiver(*message))?;
     append_brief(into, message)
 }
 
@@ -125,7 +122,7 @@ fn append_words(into: &mut Vec<u8>, line: &[u8], what: &ItemKind) -> Result<(), 
             into.extend_from_slice(b"`")
         }
         ItemKind::Log(mark) => append_mark(into, mark),
-        ItemKind::Sent(message) => append_sent(into, *message),
+        ItemKind::Sent(message) => append_sent(into, message),
         ItemKind::Answered(_) => append_answer(into, told_of(line, what)),
     }
 }
