@@ -1,11 +1,10 @@
 -- Each node has one column.
-use Rattle.std.proofs.Common.{◌≡◌, ℕ, zero, suc, ◌+◌, ◌≤◌, ◌<◌, Bool, true, false, ◌==◌, ◌||◌, List, [], ◌∷◌, ◌++◌, length, map, Option, None, Some, refl, sym, ap, ◌∙◌, arith}
-use Rattle.std.specs.List.{list_any}
+use Rattle.std.proofs.Common.{◌≡◌, ℕ, zero, suc, ◌+◌, ◌≤◌, ◌<◌, Bool, true, false, ◌==◌, ◌||◌, List, [], ◌∷◌, ◌++◌, length, map, Option, None, Some, refl, ap, arith}
 use Rattle.co_base.specs.Nodes.{same_node}
 use Rattle.co_base.specs.declared.head.Head.{Head}
 use Rattle.co_base.specs.declared.node.Node.{Node}
 use Rattle.co_base.specs.declared.node.Node.TheVariants.{Member, Coord}
-use Rattle.co_table.specs.Laws.{one_if, cells_of, cells_with, IsInOneCell}
+use Rattle.co_table.specs.Laws.{one_if, cells_with, IsInOneCell}
 use Rattle.co_table.specs.Place.{coords_to, members_to, nodes_of, has_node}
 use Rattle.co_table.specs.declared.place.Place.TheVariants.{Beside, At}
 
@@ -23,7 +22,6 @@ times-append node (x ∷ xs) ys = omega (arith, times-append node xs ys)
 times_one_more : (node other : Node) (xs : List Node) → times node (xs ++ other ∷ []) ≡ times node xs + one_if (same_node other node)
 unfolding times
 times_one_more node other xs = omega (arith, times-append node xs (other ∷ []))
-
 
 -- ---- coordinators
 
@@ -43,8 +41,11 @@ coords_once : (count k : ℕ) → times (Coord k) (coords_to count) ≤ 1
 unfolding times
 coords_once zero k = omega arith
 coords_once (suc count) k =
-    omega (arith, times_one_more (Coord k) (Coord (suc count)) (coords_to count),
-    one_or_none (suc count) k (times (Coord k) (coords_to count)) (λ same. coords_below count k (omega (arith, same))) (coords_once count k))
+    omega (
+      arith,
+      times_one_more (Coord k) (Coord (suc count)) (coords_to count),
+      one_or_none (suc count) k (times (Coord k) (coords_to count)) (λ same. coords_below count k (omega (arith, same))) (coords_once count k),
+    )
 
 coords_no_member : (count k : ℕ) → times (Member k) (coords_to count) ≡ 0
 unfolding times
@@ -63,8 +64,11 @@ members_once : (count k : ℕ) → times (Member k) (members_to count) ≤ 1
 unfolding times
 members_once zero k = omega arith
 members_once (suc count) k =
-    omega (arith, times_one_more (Member k) (Member (suc count)) (members_to count),
-    one_or_none (suc count) k (times (Member k) (members_to count)) (λ same. members_below count k (omega (arith, same))) (members_once count k))
+    omega (
+      arith,
+      times_one_more (Member k) (Member (suc count)) (members_to count),
+      one_or_none (suc count) k (times (Member k) (members_to count)) (λ same. members_below count k (omega (arith, same))) (members_once count k),
+    )
 
 members_no_coord : (count k : ℕ) → times (Coord k) (members_to count) ≡ 0
 unfolding times

@@ -1,5 +1,5 @@
 -- Each item is told once.
-use Rattle.std.proofs.Common.{◌≡◌, ℕ, Bool, true, false, ◌+◌, if◌then◌else◌, List, [], ◌∷◌, ◌++◌, Option, None, Some, refl, sym, ap, ◌∙◌, subst}
+use Rattle.std.proofs.Common.{◌≡◌, Bool, true, false, if◌then◌else◌, List, [], ◌∷◌, ◌++◌, Option, None, Some, refl, sym, ap, ◌∙◌}
 use Rattle.co_base.specs.declared.head.Head.{Head}
 use Rattle.co_base.specs.declared.node.Node.{Node}
 use Rattle.co_message.specs.declared.answer.Answer.{Answer}
@@ -13,11 +13,10 @@ use Rattle.co_picture.specs.Picture.{head_in, head_of}
 use Rattle.co_picture.specs.declared.course.Course.{Course}
 use Rattle.co_table.proofs.Columns.{beside_once, column_once}
 use Rattle.co_table.specs.Entry.{entry_of, entries_from, entries_of}
-use Rattle.co_table.specs.Laws.{IsInOneCell, IsInCellOf, HasPlaceOfAnswer, HasPlace, IsTold, AreTold, NoneTold, OneTold, row_entries, told_in_rows, IsToldOnce}
+use Rattle.co_table.specs.Laws.{IsInOneCell, IsInCellOf, HasPlaceOfAnswer, HasPlace, AreTold, NoneTold, OneTold, told_in_rows, IsToldOnce}
 use Rattle.co_table.specs.Place.{nodes_of, has_node, place_of_node, place_where, place_of_answer, place_of, is_front}
 use Rattle.co_table.specs.Table.{begins, parts_of}
 use Rattle.co_table.specs.declared.entry.Entry.{Entry}
-use Rattle.co_table.specs.declared.place.Place.{Place}
 use Rattle.co_table.specs.declared.place.Place.TheVariants.{Beside, At}
 
 -- ---- places

@@ -108,11 +108,7 @@ fn append_node_cell(into: &mut Vec<u8>, parts: &[Entry], node: Node) -> Result<(
 }
 
 /// Appends the cells of the nodes.
-fn append_node_cells(
-    into: &mut Vec<u8>,
-    parts: &[Entry],
-    nodes: &[Node],
-) -> Result<(), AllocError>
+fn append_node_cells(into: &mut Vec<u8>, parts: &[Entry], nodes: &[Node]) -> Result<(), AllocError>
     ensures { OnOk result (into.new.items ≡ into.old.items ++ node_cells parts.now nodes.now) }
 {
     for node in nodes {
@@ -143,11 +139,7 @@ fn append_number_cell(into: &mut Vec<u8>, number: u32) -> Result<(), AllocError>
 }
 
 /// Appends the cell of an event, with what has no column.
-fn append_event_cell(
-    into: &mut Vec<u8>,
-    event: &Entry,
-    parts: &[Entry],
-) -> Result<(), AllocError>
+fn append_event_cell(into: &mut Vec<u8>, event: &Entry, parts: &[Entry]) -> Result<(), AllocError>
     ensures { OnOk result (into.new.items ≡ into.old.items ++ event_cell event.now parts.now) }
 {
     into.push(b' ')?;
