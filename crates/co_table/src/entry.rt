@@ -1,5 +1,5 @@
 //! What a table tells of each item of a transcript.
-ghost use Rattle.std.specs.Prelude.{◌≡◌, ◌<◌, ◌≤◌, ◌+◌, ◌^◌, ◌++◌, length, IfOk};
+ghost use Rattle.std.specs.Prelude.{◌≡◌, ◌≤◌, length, IfOk};
 ghost use Rattle.co_picture.specs.Read.{most_lines_drawn};
 ghost use Rattle.co_table.specs.Entry.{entry_of, entries_of};
 

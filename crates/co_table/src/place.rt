@@ -1,7 +1,7 @@
 //! Where the items of a transcript stand in its table.
-ghost use Rattle.std.specs.Prelude.{◌≡◌, ◌≤◌, ◌+◌, ◌++◌, IfOk};
+ghost use Rattle.std.specs.Prelude.{◌≡◌, ◌++◌, IfOk};
 ghost use Rattle.co_picture.specs.Picture.{head_of};
-ghost use Rattle.co_table.specs.Place.{coords_to, members_to, nodes_of, has_node, place_of_node, place_where, place_of_answer, place_of, is_front, same_place};
+ghost use Rattle.co_table.specs.Place.{coords_to, members_to, nodes_of, has_node, place_of_node, place_of_answer, place_of, is_front, same_place};
 
 use co_base::Node;
 use co_message::{Answer, Item, ItemKind};

@@ -1,11 +1,7 @@
 //! The table of a transcript, in Markdown.
-ghost use Rattle.std.specs.Prelude.{◌≡◌, ◌<◌, ◌≤◌, ◌+◌, ◌++◌, ◌∷◌, [], length, OnOk, IfOk, codes, decimal, option_copied};
-ghost use Rattle.co_picture.specs.Picture.{head_of};
+ghost use Rattle.std.specs.Prelude.{◌≡◌, ◌≤◌, ◌++◌, length, OnOk, IfOk};
 ghost use Rattle.co_picture.specs.Read.{most_lines_drawn};
-ghost use Rattle.co_schedule.specs.Spelling.{node_word};
-ghost use Rattle.co_table.specs.Place.{nodes_of};
-ghost use Rattle.co_table.specs.Table.{title_text, titles_text, rules_text, title_line, rule_line, front_text, part_text, cell_text, node_cell, node_cells, parts_of, number_cell, event_cell, row_text, row_at, rows_text, table_in, table_text};
-ghost use Rattle.co_table.specs.Entry.{entries_of};
+ghost use Rattle.co_table.specs.Table.{title_text, titles_text, rules_text, title_line, rule_line, front_text, part_text, cell_text, node_cell, node_cells, parts_of, number_cell, event_cell, row_text, row_at, rows_text, table_text};
 
 use crate::entry::{Entry, entries_of};
 use crate::place::{Place, nodes_of};

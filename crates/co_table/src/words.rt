@@ -1,6 +1,5 @@
 //! What a table says of each item.
 ghost use Rattle.std.specs.Prelude.{◌≡◌, ◌++◌, ◌∷◌, [], OnOk, IfOk, codes, decimal};
-ghost use Rattle.co_picture.specs.Entry.{told_of};
 ghost use Rattle.co_picture.specs.Lanes.{receiver};
 ghost use Rattle.co_schedule.specs.Spelling.{node_word};
 ghost use Rattle.co_schedule.specs.Words.{behind};
