@@ -52,11 +52,18 @@ def transcript_of(lines):
     return [line for line in lines if re.match(r"\d+ (event|log|send|reply) ", line)]
 
 
-def pictures():
-    """What is drawn of each transcript of the stored run."""
-    transcripts = text_of(f"{DRAWN}/stdin").split("===\n")
-    drawn = re.split(r"^=== \d+\n", text_of(f"{DRAWN}/stdout"), flags=re.MULTILINE)
-    return dict(zip(transcripts, drawn))
+@functools.lru_cache(None)
+def shown_stored():
+    """What becomes of each stored transcript with each list of words."""
+    came, transcript, shown = iter(re.split(r"^=== \d+\n", text_of(f"{DRAWN}/stdout"), flags=re.MULTILINE)), "", {}
+    for line in text_of(f"{DRAWN}/stdin").splitlines(keepends=True):
+        if line.startswith("==="):
+            words = line[3:].strip()
+            shown[transcript, words] = next(came)
+            transcript = transcript if words else ""
+        else:
+            transcript += line
+    return shown
 
 
 @functools.lru_cache(None)
@@ -160,12 +167,20 @@ def judge_words():
     return re.findall(r'is_word\(&words, "(\w+)"\)', text_of(f"{JUDGED}/src/main.rt")) + re.findall(r'codes "(\w+)"', text_of("crates/co_check/specs/Judge.antt"))[:1]
 
 
+@functools.lru_cache(None)
+def draw_words():
+    """The words that `co_draw` knows."""
+    return re.findall(r'b"(\w+)"', text_of("crates/co_table/src/asked.rt"))
+
+
 def knows(program, words):
     """Whether a program knows these words."""
     if program == "co_cli":
         return is_command(words)
     if program == "co_judge":
         return not words or len(words) == 1 and words[0] in judge_words()
+    if program == "co_draw":
+        return not words or len(words) == 1 and words[0] in draw_words()
     return not words
 
 

@@ -3,8 +3,7 @@ import glob
 import os
 import re
 
-import table
-from stored import CASES, DRAWN, pictures, replies_stored, run_of, text_of, transcript_of
+from stored import CASES, DRAWN, replies_stored, run_of, shown_stored, text_of, transcript_of
 
 PAGE = "docs/TUTORIAL.md"
 RECORD = re.compile(r"`([mc]\d+ [^` ]+ [^` ]+)`")
@@ -28,17 +27,26 @@ def rows_of(section):
     return [row.removesuffix(" | Why |") for row in rows]
 
 
+def shown_of(name, words):
+    """What `co_draw` makes with these words of the transcript of a case, where it is stored."""
+    items = transcript_of(run_of(case_of(name), "run")[1])
+    return shown_stored().get(("".join(f"{item}\n" for item in items), words))
+
+
 def prose_of(section):
     return "\n".join(line for line in section.splitlines() if not line.startswith("|"))
 
 
 def of_table(name, section):
-    """Each row is what the case comes to in that line."""
-    given, came = run_of(case_of(name), "run")
+    """Each row is what the case comes to in that line, as `co_draw table` tells it."""
+    given, _ = run_of(case_of(name), "run")
     if given != text_of(f"examples/{name}.schedule"):
         yield f"{case_of(name)} plays something else than examples/{name}.schedule"
-    rows = rows_of(section)
-    wanted = [line.removesuffix(" |") for line in table.markdown(transcript_of(came)) if not line.startswith("|--")]
+    rows, told = rows_of(section), shown_of(name, "table")
+    if told is None:
+        yield f"{DRAWN}/stdin does not tell {name} as a table"
+        return
+    wanted = [line.removesuffix(" |") for line in told.splitlines() if not line.startswith("|--")]
     for row, want in zip(rows, wanted):
         if row != want:
             yield f"{PAGE}, {name}: {row!r} in place of {want!r}"
@@ -79,14 +87,12 @@ def of_resolved(name, section):
 
 def of_pictures(page):
     """The picture of each schedule is what is drawn of the transcript of its case, and is shown; others are not there."""
-    drawn = pictures()
     names = [name for name, _ in sections_of(page) if os.path.exists(case_of(name))]
     for name in names:
-        transcript = "".join(f"{item}\n" for item in transcript_of(run_of(case_of(name), "run")[1]))
-        path = f"docs/pictures/{name}.svg"
-        if transcript not in drawn:
+        path, drawn = f"docs/pictures/{name}.svg", shown_of(name, "")
+        if drawn is None:
             yield f"{DRAWN}/stdin does not have the transcript of {name}"
-        elif not os.path.exists(path) or text_of(path) != drawn[transcript]:
+        elif not os.path.exists(path) or text_of(path) != drawn:
             yield f"{path} is not what is drawn of {name}"
         if f"](pictures/{name}.svg)" not in page:
             yield f"{PAGE} does not show {path}"

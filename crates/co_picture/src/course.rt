@@ -36,7 +36,7 @@ pub struct Course {
 }
 
 /// Whether two nodes are the same one.
-pub(crate) fn same_node(one: Node, other: Node) -> bool
+pub fn same_node(one: Node, other: Node) -> bool
     ensures { result ≡ same_node one other }
 {
     match (one, other) {
@@ -111,7 +111,7 @@ pub(crate) fn decides(homes: &[Home], mark: &Mark) -> bool
 
 impl Course {
     /// Nothing was told.
-    pub(crate) fn new(alloc: Global) -> Course
+    pub fn new(alloc: Global) -> Course
         ensures { result ≡ at_first }
     {
         Course {
@@ -188,7 +188,7 @@ impl Course {
     }
 
     /// One more item.
-    pub(crate) fn item(&mut self, alloc: Global, item: &Item) -> Result<(), AllocError>
+    pub fn item(&mut self, alloc: Global, item: &Item) -> Result<(), AllocError>
         requires { self.old.decided + 1 < 2 ^ 64 }
         ensures ok { OnOk result (self.new ≡ after self.old item.now.what) }
         ensures few { OnOk result (self.new.decided ≤ self.old.decided + 1) }

@@ -83,7 +83,7 @@ fn behind_word(text: &[u8]) -> &[u8]
 
 /// The words of an item that are shown, of its line: not its number and not what it is. Of a record the node is left out, since it
 /// stands in the lane of that, and of a delivery the word `deliver`.
-fn told_of<'a>(line: &'a [u8], what: &ItemKind) -> &'a [u8]
+pub fn told_of<'a>(line: &'a [u8], what: &ItemKind) -> &'a [u8]
     ensures { result.now ≡ told_of line.now what.now }
 {
     let told = behind_word(behind_word(line));
@@ -122,7 +122,7 @@ fn append_title(into: &mut Vec<u8>, course: &Course, what: &ItemKind) -> Result<
 
 /// The line of an item, without its newline.
 #[tactic(auto, using(crate::proofs::Texts::long_line, crate::proofs::Texts::without_newline))]
-fn line_of<'a>(line: &'a [u8], item: &Item) -> &'a [u8]
+pub fn line_of<'a>(line: &'a [u8], item: &Item) -> &'a [u8]
     requires { line.now ≡ item_text item.now ++ 10 ∷ [] }
     ensures { result.now ≡ item_text item.now }
 {

@@ -31,7 +31,7 @@ impl Lane {
 }
 
 /// The node that a message comes from.
-pub(crate) fn sender(message: Message) -> Node
+pub fn sender(message: Message) -> Node
     ensures { result ≡ sender message }
 {
     match message {
@@ -42,7 +42,7 @@ pub(crate) fn sender(message: Message) -> Node
 }
 
 /// The node that a message goes to.
-pub(crate) fn receiver(message: Message) -> Node
+pub fn receiver(message: Message) -> Node
     ensures { result ≡ receiver message }
 {
     match message {

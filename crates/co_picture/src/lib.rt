@@ -20,11 +20,11 @@ mod reading;
 mod stand;
 
 pub use column::Column;
-pub use course::{Course, Home};
+pub use course::{Course, Home, same_node};
 pub use drawing::drawing_of;
-pub use entry::{Entry, Link, Role};
+pub use entry::{Entry, Link, Role, line_of, told_of};
 pub use fault::DrawFault;
-pub use lane::Lane;
+pub use lane::{Lane, receiver, sender};
 pub use laws::{
     arrows_come_from_the_latest_sending, each_item_is_drawn_once, pictures_lie_within_the_page,
 };

@@ -1,0 +1,4 @@
+pub mod Formed
+pub mod Columns
+pub mod Once
+pub mod Appending
