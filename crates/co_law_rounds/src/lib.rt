@@ -15,8 +15,10 @@
 
 mod any_state;
 mod disturbed;
+mod fair;
 mod rounds;
 
 pub use any_state::any_state_can_be_settled;
 pub use disturbed::{disturbances_do_not_delay_settling, node_events_raise_nothing};
+pub use fair::{fair_rounds_end_every_transaction, fair_rounds_lower};
 pub use rounds::every_transaction_ends;
