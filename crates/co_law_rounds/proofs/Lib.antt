@@ -13,3 +13,5 @@ pub mod Trying
 pub mod Fairly
 pub mod FairLowering
 pub mod FairEnding
+pub mod Arriving
+pub mod RoundsExist

@@ -48,3 +48,16 @@ pub fn fair_rounds_end_every_transaction()
         3 * open_pairs (run hs (opened kinds coords found_member found_coord)) + open_count (run hs (opened kinds coords found_member found_coord)) ≤ length rounds →
         NothingOpen (after_rounds rounds (run hs (opened kinds coords found_member found_coord))) }
 {}
+
+/// And where all nodes are up and no stop is armed there is a fair round, in every state of a run: what is sent again, asked and
+/// answered comes to an end, since each delivery sends only messages that stand later in an exchange.
+pub fn there_is_a_fair_round()
+    ensures { (kinds : List Kind) (coords : ℕ) (found_member found_coord : ℕ → Found) (hs : List Happening) →
+        AreOpenable kinds coords found_member found_coord →
+        AreOwnLogs kinds coords found_member found_coord →
+        AreTrueVerdicts hs (opened kinds coords found_member found_coord) →
+        AreOwn (length kinds) coords hs →
+        IsUnarmed (run hs (opened kinds coords found_member found_coord)) →
+        AllUp (run hs (opened kinds coords found_member found_coord)) →
+        (round : List Event) × IsFairRound (run hs (opened kinds coords found_member found_coord)) round }
+{}
