@@ -1,5 +1,5 @@
 -- What a delivery sends has a lower rank than what is delivered; so deliveries of what is sent come to an end.
-use Rattle.std.proofs.Common.{◌≡◌, ◌⊎◌, inl, inr, ℕ, zero, suc, Bool, true, false, not, ◌&&◌, ◌≤◌, if◌then◌else◌, List, [], ◌∷◌, ◌++◌, map, Option, None, Some, refl, sym, ap, subst, arith}
+use Rattle.std.proofs.Common.{◌≡◌, ◌⊎◌, inl, inr, ℕ, zero, suc, Bool, true, false, not, ◌&&◌, ◌≤◌, if◌then◌else◌, List, [], ◌∷◌, ◌++◌, map, Option, None, Some, refl, ap, subst, arith}
 use Rattle.co_base.specs.declared.mark.Mark.{Mark}
 use Rattle.co_message.specs.declared.answer.Answer.{Answer}
 use Rattle.co_message.specs.declared.answer.Answer.TheVariants as answer
@@ -31,7 +31,7 @@ use Rattle.co_plain.specs.declared.standing.Standing.{Standing}
 use Rattle.co_plain.specs.declared.standing.Standing.TheVariants.{IsActive, IsVoted, IsInstalled, IsAbsent}
 use Rattle.co_plain.specs.CoordStep.{has_part, members_of, with_table, coord_says, coord_forced_by, stopped_coord}
 use Rattle.co_plain.specs.Coordinator.{yes_entry, no_entry, decided_by, ack_entry, ended_by, waits, aborts, decisions_to, ask_entry, coord_deliver, coord_vote}
-use Rattle.co_plain.specs.Federation.{Federation, Stepped, at_coord, at_member, answers, items_of, message_list}
+use Rattle.co_plain.specs.Federation.{Federation, answers, items_of, message_list}
 use Rattle.co_plain.specs.LogWrite.{outcome_of}
 use Rattle.co_plain.specs.Member.{prepare_record, voted_state, installed_state, with_mark, vote_by, prepare_by, commit_by, abort_by, member_decide, member_deliver}
 use Rattle.co_plain.specs.MemberStep.{standing_of, forced_by, stopped_member}

@@ -1,5 +1,5 @@
 -- Where all nodes are up, there is a fair round.
-use Rattle.std.proofs.Common.{◌≡◌, ◌⊎◌, inl, inr, ℕ, zero, suc, Bool, true, false, ◌==◌, ◌||◌, ◌≤◌, List, [], ◌∷◌, ◌++◌, length, refl, sym, ap, ◌∙◌, subst, arith}
+use Rattle.std.proofs.Common.{◌≡◌, ◌⊎◌, inl, inr, ℕ, zero, suc, Bool, true, false, ◌==◌, ◌≤◌, List, [], ◌∷◌, ◌++◌, length, refl, sym, ap, ◌∙◌, subst, arith}
 use Rattle.std.proofs.lemmas.Bool.{or_cases, eqb-true, eqb-false}
 use Rattle.std.proofs.lemmas.List.{append_assoc}
 use Rattle.co_base.specs.declared.head.Kind.{Kind}
@@ -11,7 +11,7 @@ use Rattle.co_plain.specs.Numbers.{has_number}
 use Rattle.co_plain.specs.Opening.{Found, opened}
 use Rattle.co_plain.specs.Premises.{AreTrueVerdicts, AreOwn, AreOwnLogs, AreOpenable}
 use Rattle.co_plain.specs.Runs.{run}
-use Rattle.co_plain.specs.Quiet.{IsMember, IsCoordinator, IsOpen, IsQuiet}
+use Rattle.co_plain.specs.Quiet.{IsQuiet}
 use Rattle.co_plain.specs.Settling.{SettlesBy, ByRestart, ByExchange, ByTimer}
 use Rattle.co_law_settle.specs.SettlingTurns.{AllUp, IsUnarmed, SomethingOpen, NothingOpen}
 use Rattle.co_law_settle.specs.SettlingMeasure.{numbers_in_state}
