@@ -26,11 +26,11 @@ use Rattle.co_law_rounds.proofs.NodeEvents.{Onward, onward_then}
 use Rattle.co_law_rounds.proofs.Disturbances.{onward_all}
 
 -- what a round leaves
-record RoundDone (pairs : ℕ → List ℕ) (numbers : List ℕ) (s z : Federation) : Type 0 where
-  onward : Onward s z
-  lower : suc (left_of pairs numbers z) ≤ left_of pairs numbers s
+pub record RoundDone (pairs : ℕ → List ℕ) (numbers : List ℕ) (s z : Federation) : Type 0 where
+  pub onward : Onward s z
+  pub lower : suc (left_of pairs numbers z) ≤ left_of pairs numbers s
 
-round_done : (pairs : ℕ → List ℕ) (numbers : List ℕ) (s : Federation) (events : List Event) → Calm s → AreCounted pairs numbers s → IsRound s events → RoundDone pairs numbers s (run (lines events) s)
+pub round_done : (pairs : ℕ → List ℕ) (numbers : List ℕ) (s : Federation) (events : List Event) → Calm s → AreCounted pairs numbers s → IsRound s events → RoundDone pairs numbers s (run (lines events) s)
 round_done pairs numbers s events calm c r = record { onward = onward_all events s calm own; lower = lower }
   where
     y : Federation

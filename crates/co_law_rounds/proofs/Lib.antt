@@ -1,4 +1,17 @@
 pub mod AnyState
+pub mod OneStep
 pub mod NodeEvents
+pub mod Telling
+pub mod EntryMoves
 pub mod Disturbances
+pub mod Following
+pub mod LackingVotes
+pub mod UnaskedOnes
+pub mod Acknowledging
+pub mod Asking
+pub mod Trying
 pub mod Fairly
+pub mod FairLowering
+pub mod FairEnding
+pub mod Arriving
+pub mod RoundsExist

@@ -47,6 +47,7 @@ use Rattle.co_law_settle.specs.SettlingTurns.{AllUp}
 use Rattle.co_law_settle.proofs.AtMember.{falls_twice, member_same, dropped_falls, marked_falls, voted_falls, installed_falls, VoteDid, SaysNo, SaysYes, Holds, vote_did}
 use Rattle.co_law_settle.proofs.AtCoord.{coord_same, yes_noted, no_noted, ack_noted, idle_ends}
 use Rattle.co_law_rounds.specs.CanBeSettled.{MakesItself}
+use Rattle.co_law_rounds.proofs.OneStep.{OneStep, one_same, one_member, one_coord}
 
 -- what a calm state goes to
 pub record Onward (s z : Federation) : Type 0 where
@@ -59,6 +60,17 @@ onward_same s calm = record { falls = falls_same s; calm = calm; up = λ u. u }
 
 pub onward_then : (s w z : Federation) → Onward s w → Onward w z → Onward s z
 onward_then s w z a b = record { falls = falls_on s w z a.falls b.falls; calm = b.calm; up = λ u. b.up (a.up u) }
+
+-- by one event
+pub record Moved (s z : Federation) : Type 0 where
+  pub onward : Onward s z
+  pub one : OneStep s z
+
+moved : {s z : Federation} → OneStep s z → Onward s z → Moved s z
+moved one onward = record { onward = onward; one = one }
+
+moved_same : (s : Federation) → Calm s → Moved s s
+moved_same s calm = record { onward = onward_same s calm; one = one_same s }
 
 -- one member, at one transaction
 module _ (x : MemberState) (t m : ℕ) (unarmed : x.log.armed ≡ None) where
@@ -157,11 +169,11 @@ module _ (s : Federation) (f : Facts s) (c t : ℕ) (unarmed : (s.coord c).log.a
   same_coord : CoordFalls s t (s.coord c) (s.coord c)
   same_coord = coord_same s t (s.coord c) unarmed
 
-  vote_noted : (m : ℕ) (granted : Bool) → was_sent s.sent (message.Vote t m c granted) ≡ true → CoordFalls s t (s.coord c) (coord_vote c (s.coord c) t m granted).state
+  pub vote_noted : (m : ℕ) (granted : Bool) → was_sent s.sent (message.Vote t m c granted) ≡ true → CoordFalls s t (s.coord c) (coord_vote c (s.coord c) t m granted).state
   vote_noted m true sent = (yes_noted s f c t m unarmed (look (s.coord c).table t) refl sent).falls
   vote_noted m false sent = (no_noted s f c t m unarmed (look (s.coord c).table t) refl).falls
 
-  asked_noted : (m : ℕ) → CoordFalls s t (s.coord c) (ask_entry c (s.coord c) t m (look (s.coord c).table t)).state
+  pub asked_noted : (m : ℕ) → CoordFalls s t (s.coord c) (ask_entry c (s.coord c) t m (look (s.coord c).table t)).state
   asked_noted m = by (look (s.coord c).table t)
     where
       by : (o : Option Entry) → CoordFalls s t (s.coord c) (ask_entry c (s.coord c) t m o).state
@@ -170,7 +182,7 @@ module _ (s : Federation) (f : Facts s) (c t : ℕ) (unarmed : (s.coord c).log.a
       by (Some (entry.Collecting parts yeses)) = same_coord
       by (Some (entry.Committed members acks)) = same_coord
 
-  acked_noted : (m : ℕ) → CoordFalls s t (s.coord c) (ack_entry (s.coord c) t m (look (s.coord c).table t)).state
+  pub acked_noted : (m : ℕ) → CoordFalls s t (s.coord c) (ack_entry (s.coord c) t m (look (s.coord c).table t)).state
   acked_noted m = by (look (s.coord c).table t) refl
     where
       counted : (members acks : List ℕ) → look (s.coord c).table t ≡ Some (entry.Committed members acks) → (b : Bool) → (has_number members m && not (has_number acks m)) ≡ b →
@@ -186,7 +198,7 @@ module _ (s : Federation) (f : Facts s) (c t : ℕ) (unarmed : (s.coord c).log.a
       by (Some (entry.Collecting parts yeses)) h = same_coord
       by (Some (entry.Committed members acks)) h = counted members acks h (has_number members m && not (has_number acks m)) refl
 
-  timer_noted : CoordFalls s t (s.coord c) (timer_entry c (s.coord c) t (look (s.coord c).table t)).state
+  pub timer_noted : CoordFalls s t (s.coord c) (timer_entry c (s.coord c) t (look (s.coord c).table t)).state
   timer_noted = by (look (s.coord c).table t)
     where
       by : (o : Option Entry) → CoordFalls s t (s.coord c) (timer_entry c (s.coord c) t o).state
@@ -195,7 +207,7 @@ module _ (s : Federation) (f : Facts s) (c t : ℕ) (unarmed : (s.coord c).log.a
       by (Some (entry.Collecting parts yeses)) = idle_ends s f c t 0 unarmed
       by (Some (entry.Committed members acks)) = same_coord
 
-  resent_noted : CoordFalls s t (s.coord c) (resend_entry c (s.coord c) t (look (s.coord c).table t)).state
+  pub resent_noted : CoordFalls s t (s.coord c) (resend_entry c (s.coord c) t (look (s.coord c).table t)).state
   resent_noted = by (look (s.coord c).table t)
     where
       by : (o : Option Entry) → CoordFalls s t (s.coord c) (resend_entry c (s.coord c) t o).state
@@ -206,52 +218,52 @@ module _ (s : Federation) (f : Facts s) (c t : ℕ) (unarmed : (s.coord c).log.a
 
 module _ (s : Federation) (calm : Calm s) where
   -- a step of a member that is up, or of none
-  member_onward : (e : Event) (m t : ℕ) (does : MemberState → MemberStep) → step_line s e ≡ member_step s m does → MemberFalls t (s.member m) (does (s.member m)).state → Onward s (step_line s e).state
-  member_onward e m t does same f = by (s.member m).up refl
+  member_moved : (e : Event) (m t : ℕ) (does : MemberState → MemberStep) → step_line s e ≡ member_step s m does → MemberFalls t (s.member m) (does (s.member m)).state → Moved s (step_line s e).state
+  member_moved e m t does same f = by (s.member m).up refl
     where
-      by : (b : Bool) → (s.member m).up ≡ b → Onward s (step_line s e).state
+      by : (b : Bool) → (s.member m).up ≡ b → Moved s (step_line s e).state
       by true u =
           let is = same ∙ ap (λ b. up_member s m b (does (s.member m))) u in
-          record {
+          moved (subst (λ z. OneStep s z.state) (sym is) (one_member s m t (does (s.member m)) f)) (record {
             falls = subst (λ z. Falls s z.state) (sym is) (member_falls s m t (does (s.member m)) f);
             calm = subst (λ z. Calm z.state) (sym is) (member_calm s m t (does (s.member m)) f calm (subst (λ z. Facts z.state) is (step_keeps s calm.facts (happening.Line e) tt)));
             up = λ a. subst (λ z. AllUp z.state) (sym is) (member_up s m t (does (s.member m)) f a);
-          }
-      by false u = subst (λ z. Onward s z.state) (sym (same ∙ ap (λ b. up_member s m b (does (s.member m))) u)) (onward_same s calm)
+          })
+      by false u = subst (λ z. Moved s z.state) (sym (same ∙ ap (λ b. up_member s m b (does (s.member m))) u)) (moved_same s calm)
 
-  coord_onward : (e : Event) (c t : ℕ) (does : CoordState → CoordStep) → step_line s e ≡ coord_step s c does → CoordFalls s t (s.coord c) (does (s.coord c)).state → Onward s (step_line s e).state
-  coord_onward e c t does same f = by (s.coord c).up refl
+  coord_moved : (e : Event) (c t : ℕ) (does : CoordState → CoordStep) → step_line s e ≡ coord_step s c does → CoordFalls s t (s.coord c) (does (s.coord c)).state → Moved s (step_line s e).state
+  coord_moved e c t does same f = by (s.coord c).up refl
     where
-      by : (b : Bool) → (s.coord c).up ≡ b → Onward s (step_line s e).state
+      by : (b : Bool) → (s.coord c).up ≡ b → Moved s (step_line s e).state
       by true u =
           let is = same ∙ ap (λ b. up_coord s c b (does (s.coord c))) u in
-          record {
+          moved (subst (λ z. OneStep s z.state) (sym is) (one_coord s c t (does (s.coord c)) f)) (record {
             falls = subst (λ z. Falls s z.state) (sym is) (coord_falls s c t (does (s.coord c)) f);
             calm = subst (λ z. Calm z.state) (sym is) (coord_calm s c t (does (s.coord c)) f calm (subst (λ z. Facts z.state) is (step_keeps s calm.facts (happening.Line e) tt)));
             up = λ a. subst (λ z. AllUp z.state) (sym is) (coord_up s c t (does (s.coord c)) f a);
-          }
-      by false u = subst (λ z. Onward s z.state) (sym (same ∙ ap (λ b. up_coord s c b (does (s.coord c))) u)) (onward_same s calm)
+          })
+      by false u = subst (λ z. Moved s z.state) (sym (same ∙ ap (λ b. up_coord s c b (does (s.coord c))) u)) (moved_same s calm)
 
   -- a message that was sent
-  delivered : (note : Message) → was_sent s.sent note ≡ true → step_line s (event.Deliver note) ≡ arrives s note → Onward s (step_line s (event.Deliver note)).state
+  delivered : (note : Message) → was_sent s.sent note ≡ true → step_line s (event.Deliver note) ≡ arrives s note → Moved s (step_line s (event.Deliver note)).state
   delivered (message.Prepare t c m n) h same =
-      member_onward (event.Deliver (message.Prepare t c m n)) m t (λ x. member_deliver m x (message.Prepare t c m n)) same
+      member_moved (event.Deliver (message.Prepare t c m n)) m t (λ x. member_deliver m x (message.Prepare t c m n)) same
       (prepare_falls (s.member m) t m (calm.members m) c n (calm.facts.sent.prepares_count t c m n h).1)
   delivered (message.Decide t c m commit) h same =
-      member_onward (event.Deliver (message.Decide t c m commit)) m t (λ x. member_deliver m x (message.Decide t c m commit)) same (decision_falls (s.member m) t m (calm.members m) c commit)
+      member_moved (event.Deliver (message.Decide t c m commit)) m t (λ x. member_deliver m x (message.Decide t c m commit)) same (decision_falls (s.member m) t m (calm.members m) c commit)
   delivered (message.Vote t m c granted) h same =
-      coord_onward (event.Deliver (message.Vote t m c granted)) c t (λ y. coord_deliver c y (message.Vote t m c granted)) same (vote_noted s calm.facts c t (calm.coords c) m granted h)
+      coord_moved (event.Deliver (message.Vote t m c granted)) c t (λ y. coord_deliver c y (message.Vote t m c granted)) same (vote_noted s calm.facts c t (calm.coords c) m granted h)
   delivered (message.Ask t m c) h same =
-      coord_onward (event.Deliver (message.Ask t m c)) c t (λ y. coord_deliver c y (message.Ask t m c)) same (asked_noted s calm.facts c t (calm.coords c) m)
+      coord_moved (event.Deliver (message.Ask t m c)) c t (λ y. coord_deliver c y (message.Ask t m c)) same (asked_noted s calm.facts c t (calm.coords c) m)
   delivered (message.Ack t m c) h same =
-      coord_onward (event.Deliver (message.Ack t m c)) c t (λ y. coord_deliver c y (message.Ack t m c)) same (acked_noted s calm.facts c t (calm.coords c) m)
+      coord_moved (event.Deliver (message.Ack t m c)) c t (λ y. coord_deliver c y (message.Ack t m c)) same (acked_noted s calm.facts c t (calm.coords c) m)
 
-  delivery : (note : Message) → Onward s (step_line s (event.Deliver note)).state
+  delivery : (note : Message) → Moved s (step_line s (event.Deliver note)).state
   delivery note = by (was_sent s.sent note) refl
     where
-      by : (b : Bool) → was_sent s.sent note ≡ b → Onward s (step_line s (event.Deliver note)).state
+      by : (b : Bool) → was_sent s.sent note ≡ b → Moved s (step_line s (event.Deliver note)).state
       by true e = delivered note e (ap (λ b. if b then arrives s note else answers s answer.Unsent) e)
-      by false e = subst (λ z. Onward s z.state) (sym (ap (λ b. if b then arrives s note else answers s answer.Unsent) e)) (onward_same s calm)
+      by false e = subst (λ z. Moved s z.state) (sym (ap (λ b. if b then arrives s note else answers s answer.Unsent) e)) (moved_same s calm)
 
   member_restart_falls : (m : ℕ) (b : Bool) → MemberFalls 0 (s.member m) (restart_by (s.member m) b).state
   member_restart_falls m true = member_same 0 (s.member m) (calm.members m)
@@ -262,33 +274,36 @@ module _ (s : Federation) (calm : Calm s) where
   coord_restart_falls c false = record { unarmed = calm.coords c; up = λ u. refl; others = λ u n. refl; votes = λ m h. h; acks = λ m h. inl h; idles = λ h. h }
 
   -- a restart is answered by a node that is down too
-  restart_onward : (at : Node) → Onward s (step_line s (event.Restart at)).state
-  restart_onward (node.Member m) =
+  restart_moved : (at : Node) → Moved s (step_line s (event.Restart at)).state
+  restart_moved (node.Member m) =
       let f = member_restart_falls m (s.member m).up in
       let did = restart_by (s.member m) (s.member m).up in
-      record {
+      moved (one_member s m 0 did f) (record {
         falls = member_falls s m 0 did f;
         calm = member_calm s m 0 did f calm (step_keeps s calm.facts (happening.Line (event.Restart (node.Member m))) tt);
         up = member_up s m 0 did f;
-      }
-  restart_onward (node.Coord c) =
+      })
+  restart_moved (node.Coord c) =
       let f = coord_restart_falls c (s.coord c).up in
       let did = coord_restart_by (s.coord c) (s.coord c).up in
-      record {
+      moved (one_coord s c 0 did f) (record {
         falls = coord_falls s c 0 did f;
         calm = coord_calm s c 0 did f calm (step_keeps s calm.facts (happening.Line (event.Restart (node.Coord c))) tt);
         up = coord_up s c 0 did f;
-      }
+      })
 
-  timer_onward : (t : ℕ) (at : Node) → Onward s (step_line s (event.Timer t at)).state
-  timer_onward t (node.Member m) = member_onward (event.Timer t (node.Member m)) m t (λ x. member_timer x t) refl (timer_falls (s.member m) t m (calm.members m))
-  timer_onward t (node.Coord c) = coord_onward (event.Timer t (node.Coord c)) c t (λ y. coord_timer c y t) refl (timer_noted s calm.facts c t (calm.coords c))
+  timer_moved : (t : ℕ) (at : Node) → Moved s (step_line s (event.Timer t at)).state
+  timer_moved t (node.Member m) = member_moved (event.Timer t (node.Member m)) m t (λ x. member_timer x t) refl (timer_falls (s.member m) t m (calm.members m))
+  timer_moved t (node.Coord c) = coord_moved (event.Timer t (node.Coord c)) c t (λ y. coord_timer c y t) refl (timer_noted s calm.facts c t (calm.coords c))
 
-  pub event_onward : (e : Event) → MakesItself e → Onward s (step_line s e).state
-  event_onward (event.Deliver note) i = delivery note
-  event_onward (event.Vote t m) i = member_onward (event.Vote t m) m t (λ x. member_vote m x t) refl (again_falls (s.member m) t m (calm.members m))
-  event_onward (event.Timer t at) i = timer_onward t at
-  event_onward (event.Ask t m) i = member_onward (event.Ask t m) m t (λ x. member_ask m x t) refl (question_falls (s.member m) t m (calm.members m))
-  event_onward (event.Resend t c) i = coord_onward (event.Resend t c) c t (λ y. coord_resend c y t) refl (resent_noted s calm.facts c t (calm.coords c))
-  event_onward (event.Restart at) i = restart_onward at
-  event_onward _ i = absurd i
+  pub event_moved : (e : Event) → MakesItself e → Moved s (step_line s e).state
+  event_moved (event.Deliver note) i = delivery note
+  event_moved (event.Vote t m) i = member_moved (event.Vote t m) m t (λ x. member_vote m x t) refl (again_falls (s.member m) t m (calm.members m))
+  event_moved (event.Timer t at) i = timer_moved t at
+  event_moved (event.Ask t m) i = member_moved (event.Ask t m) m t (λ x. member_ask m x t) refl (question_falls (s.member m) t m (calm.members m))
+  event_moved (event.Resend t c) i = coord_moved (event.Resend t c) c t (λ y. coord_resend c y t) refl (resent_noted s calm.facts c t (calm.coords c))
+  event_moved (event.Restart at) i = restart_moved at
+  event_moved _ i = absurd i
+
+pub event_onward : (s : Federation) → Calm s → (e : Event) → MakesItself e → Onward s (step_line s e).state
+event_onward s calm e i = (event_moved s calm e i).onward

@@ -1,2 +1,3 @@
 pub mod CanBeSettled
+pub mod FairRounds
 pub mod Rounds
