@@ -1,4 +1,4 @@
--- Fair rounds: events of nodes among which one exchange that can help, or one timer that ends a transaction, goes through.
+-- Rounds that help: events of nodes among which one exchange that can help, or one timer that ends a transaction, goes through.
 use Rattle.std.specs.Prelude.{◌≡◌, List, [], ◌∷◌, ◌++◌}
 use Rattle.co_message.specs.declared.event.Event.{Event}
 use Rattle.co_plain.specs.Federation.{Federation}

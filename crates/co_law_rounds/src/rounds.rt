@@ -1,4 +1,4 @@
-//! Every transaction ends, in a bounded number of fair rounds.
+//! Every transaction ends, in a bounded number of rounds in each of which something helps.
 ghost use Rattle.std.specs.Prelude.{ℕ, List, ◌≡◌, ◌≤◌, ◌+◌, ◌*◌, length};
 ghost use Rattle.co_base.specs.declared.head.Kind.{Kind};
 ghost use Rattle.co_message.specs.declared.event.Event.{Event};
@@ -10,11 +10,11 @@ ghost use Rattle.co_plain.specs.Runs.{run};
 ghost use Rattle.co_law_settle.specs.SettlingTurns.{AllUp, IsUnarmed, NothingOpen};
 ghost use Rattle.co_law_rounds.specs.Rounds.{IsRound, AreRounds, after_rounds};
 
-/// Every transaction ends, in a bounded number of fair rounds, from any state of a run in which no stop is armed and every node is
+/// Every transaction ends, in a bounded number of rounds, from any state of a run in which no stop is armed and every node is
 /// up. A round is any events of nodes and any deliveries, late, again or in vain, among which one exchange that can help goes
 /// through without interruption, or one timer fires where it ends a transaction. Rounds are no more than three for each open pair
 /// of a transaction and a member and one for each open transaction; where one is open there is another round; so after that many
-/// nothing is open. No infinite run is spoken of: that a fair scheduler makes rounds is asked of the scheduler.
+/// nothing is open. Rounds that are fair in words help so (`fair_rounds_lower`).
 pub fn every_transaction_ends()
     ensures few { (kinds : List Kind) (coords : ℕ) (found_member found_coord : ℕ → Found) (hs : List Happening) (rounds : List (List Event)) →
         AreOpenable kinds coords found_member found_coord →
