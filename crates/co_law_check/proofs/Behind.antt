@@ -1,18 +1,16 @@
 -- A checker that reads the transcript of a run behind the records that the opened logs give finds it serial.
-use Rattle.std.proofs.Common.{◌≡◌, ℕ, zero, suc, ◌+◌, ◌<◌, ◌≤◌, Bool, true, false, ◌&&◌, nat_le, List, [], ◌∷◌, ◌++◌, length, map, Option, None, Some, Result, Ok, if◌then◌else◌, refl, sym, ap, ◌∙◌, subst, arith, append_assoc, append-nil, length-append}
+use Rattle.std.proofs.Common.{◌≡◌, ℕ, zero, suc, ◌+◌, ◌<◌, ◌≤◌, Bool, true, false, List, [], ◌∷◌, ◌++◌, length, map, Some, Result, Ok, if◌then◌else◌, refl, sym, ap, ◌∙◌, subst, arith, append_assoc, append-nil, length-append}
 use Rattle.std.proofs.Math.Seq.{take-append_seam, drop-append-add}
 use Rattle.std.proofs.lemmas.Fmt.{length-decimal-le}
-use Rattle.std.specs.FinMap.{empty, entries}
+use Rattle.std.specs.FinMap.{entries}
 use Rattle.std.specs.List.{AllByRecursion}
 use Rattle.std.specs.Prelude.{decimal}
 use Rattle.co_base.specs.Limits.{most_members}
 use Rattle.co_base.specs.declared.head.Head.{Head}
-use Rattle.co_base.specs.declared.row.Row.{Row}
 use Rattle.co_message.specs.declared.event.Event.{Event}
 use Rattle.co_message.specs.declared.item.Item.{Item}
 use Rattle.co_message.specs.declared.item.ItemKind.TheVariants as item
 use Rattle.co_record.specs.Spelling.{IsSpelled}
-use Rattle.co_record.specs.declared.record.Record.{Record}
 use Rattle.co_schedule.specs.Limits.{most_of_text}
 use Rattle.co_schedule.specs.LineText.{newline, behind_line, next_line}
 use Rattle.co_schedule.specs.View.{IsKey}
@@ -46,7 +44,7 @@ use Rattle.co_law_items.proofs.Opened.{as_record}
 use Rattle.co_law_items.proofs.Rows.{found_items}
 use Rattle.co_law_items.proofs.Texts.{short_item}
 use Rattle.co_check.proofs.Entries.{record_fits, written_so}
-use Rattle.co_check.proofs.Fronts.{IsFrontOf, items_front, items_on, resumed_at_end, IsJudgedAt}
+use Rattle.co_check.proofs.Fronts.{IsFrontOf, items_front, items_on, resumed_at_end}
 use Rattle.co_check.proofs.Splits.{serial_or_not_from}
 use Rattle.co_check.specs.Account.{Account, no_account, client_in}
 use Rattle.co_check.specs.Checked.{IsJudgedFrom}
@@ -54,7 +52,7 @@ use Rattle.co_check.specs.Once.{IsOfText}
 use Rattle.co_check.specs.Resumed.{IsResumedCheck}
 use Rattle.co_check.specs.Serial.{IsSerialFrom, serial_from}
 use Rattle.co_check.specs.Shape as shape
-use Rattle.co_check.specs.Stages.{Stage, InTranscript, at_records, nodes_of, read_from, read_on}
+use Rattle.co_check.specs.Stages.{InTranscript, at_records, nodes_of, read_from, read_on}
 use Rattle.co_check.specs.Starts.{IsRecord, record_text, record_words, record_places}
 use Rattle.co_check.specs.declared.entry.Entry.{Entry}
 use Rattle.co_check.specs.declared.entry.Entry.TheVariants as entry

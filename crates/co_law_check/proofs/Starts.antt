@@ -16,7 +16,7 @@ use Rattle.co_serial.specs.Records.{row_of, all_rows}
 use Rattle.co_serial.specs.SerialRun.{AllRecords}
 use Rattle.co_serial.specs.declared.member_row.MemberRow.{MemberRow}
 use Rattle.co_check.specs.Serial.{no_records}
-use Rattle.co_check.specs.Stages.{Stage, InRecords, at_records, read_from}
+use Rattle.co_check.specs.Stages.{InRecords, at_records, read_from}
 use Rattle.co_check.specs.Starts.{name_of, is_behind, laid_in}
 use Rattle.co_check.specs.declared.entry.Entry.{Entry}
 use Rattle.co_check.specs.declared.entry.Entry.TheVariants as entry
