@@ -21,9 +21,7 @@ use Rattle.co_serial.specs.RecordText.{record_line, records_text}
 use Rattle.co_serial.specs.Records.{Records, all_rows, with_changes}
 use Rattle.co_serial.specs.SerialRun.{AllRecords}
 use Rattle.co_serial.specs.declared.member_row.MemberRow.{MemberRow}
-use Rattle.co_state.specs.Table.{look, no_entries}
 use Rattle.co_state.specs.declared.engine_state.Vote.{Vote}
-use Rattle.co_plain.specs.Decisions.{told_in}
 use Rattle.co_plain.specs.DurableRecords.{durable_records, laid_where}
 use Rattle.co_plain.specs.Federation.{Federation}
 use Rattle.co_plain.specs.MemberView.{recovered_view}
@@ -34,7 +32,6 @@ use Rattle.co_plain.specs.Runs.{run, numbered, transcript, lines}
 use Rattle.co_replay.specs.Schedule.{HasLine}
 use Rattle.co_replay.specs.Transcript.{items_text, run_items}
 use Rattle.co_law_base.proofs.ImageRules.{EachEntry}
-use Rattle.co_law_base.proofs.Lookups.{look_none}
 use Rattle.co_law.proofs.EveryRun.{every_acknowledged, every_read}
 use Rattle.co_law.proofs.GoingOn.{lines_true}
 use Rattle.co_law_items.specs.Scans.{HasFewRows, HasShortScan, IsItemOfFewRows}
@@ -46,7 +43,7 @@ use Rattle.co_law_items.proofs.Texts.{short_item}
 use Rattle.co_check.proofs.Entries.{record_fits, written_so}
 use Rattle.co_check.proofs.Fronts.{IsFrontOf, items_front, items_on, resumed_at_end}
 use Rattle.co_check.proofs.Splits.{serial_or_not_from}
-use Rattle.co_check.specs.Account.{Account, no_account, client_in}
+use Rattle.co_check.specs.Account.{Account, no_account}
 use Rattle.co_check.specs.Checked.{IsJudgedFrom}
 use Rattle.co_check.specs.Once.{IsOfText}
 use Rattle.co_check.specs.Resumed.{IsResumedCheck}
@@ -60,8 +57,9 @@ use Rattle.co_check.specs.declared.fault.CheckFault.{CheckFault}
 use Rattle.co_check.specs.declared.place.Place.TheVariants.{InHead, Behind}
 use Rattle.co_check.specs.declared.verdict.Verdict.{Verdict}
 use Rattle.co_check.specs.declared.verdict.Verdict.TheVariants as verdict
-use Rattle.co_law_check.specs.Told.{by_in, AreAlike, Tells, IsFoundSerial, IsShortItem}
+use Rattle.co_law_check.specs.Told.{IsFoundSerial, IsShortItem}
 use Rattle.co_law_check.proofs.Cutting.{newline_at, text_of_clean}
+use Rattle.co_law_check.proofs.Fresh.{nothing_told}
 use Rattle.co_law_check.proofs.Heads.{read_opening}
 use Rattle.co_law_check.proofs.Judged.{events_fewer}
 use Rattle.co_law_check.proofs.Serially.{as_many, no_start, same_after_from, serially_from}
@@ -146,15 +144,6 @@ module _ (head : Head) (fm fc : ℕ → Found) (events : List Event) (openable :
 
   rows_spelled : AllByRecursion IsRecord rows
   rows_spelled = rows_are start start_named (length head.kinds) 1 (omega arith) (let l = head.members in omega (arith, l))
-
-  nothing_told : Tells no_account s0.sessions s0.decided
-  nothing_told =
-      record {
-        by = λ t. ap (λ o. (client_in o).by) (look_none t) ∙ sym (ap by_in (look_none t));
-        told = λ t h. subst (λ o. AreAlike (client_in o).told (told_in (look no_entries t))) (sym (look_none t)) (subst (λ o. AreAlike [] (told_in o)) (sym (look_none t)) (refl, refl));
-        settled = λ t. ap (λ o. (client_in o).decided) (look_none t);
-        committed = tt;
-      }
 
   found : (a : Account) (answer : Result Verdict CheckFault) (judged : Verdict) → IsSerialFrom start a.committed → length a.committed ≡ length z.decided → serial_from start a.committed ≡ serial_records s0 z.decided →
       answer ≡ Ok judged → IsJudgedFrom start a judged → IsFoundSerial answer s0 z

@@ -24,21 +24,22 @@ use Rattle.co_law_check.proofs.Heads.{read_head}
 use Rattle.co_law_check.proofs.Serially.{as_many, same_after, serially, starts_empty}
 use Rattle.co_law_check.proofs.Transcripts.{read_events}
 
+-- a federation that was opened has no session yet, and decided nothing
+pub nothing_told : Tells no_account no_entries []
+nothing_told =
+    record {
+      by = λ t. ap (λ o. (client_in o).by) (look_none t) ∙ sym (ap by_in (look_none t));
+      told = λ t h. subst (λ o. AreAlike (client_in o).told (told_in (look no_entries t))) (sym (look_none t)) (subst (λ o. AreAlike [] (told_in o)) (sym (look_none t)) (refl, refl));
+      settled = λ t. ap (λ o. (client_in o).decided) (look_none t);
+      committed = tt;
+    }
+
 module _ (head : Head) (fm fc : ℕ → Found) (events : List Event) (fresh_members : (m : ℕ) → (fm m).records ≡ []) (fresh_coords : (c : ℕ) → (fc c).records ≡ []) (valid : AllByRecursion (HasLine head) events) where
   abbrev s0 : Federation
   s0 = opened head.kinds head.coords fm fc
 
   openable : AreOpenable head.kinds head.coords fm fc
   openable = empty_openable head.kinds head.coords fm fc fresh_members fresh_coords
-
-  nothing_told : Tells no_account s0.sessions s0.decided
-  nothing_told =
-      record {
-        by = λ t. ap (λ o. (client_in o).by) (look_none t) ∙ sym (ap by_in (look_none t));
-        told = λ t h. subst (λ o. AreAlike (client_in o).told (told_in (look no_entries t))) (sym (look_none t)) (subst (λ o. AreAlike [] (told_in o)) (sym (look_none t)) (refl, refl));
-        settled = λ t. ap (λ o. (client_in o).decided) (look_none t);
-        committed = tt;
-      }
 
   pub told_serially : IsToldSerially (run_items head fm fc events) s0 (run (lines events) s0)
   told_serially =

@@ -3,12 +3,12 @@ pub mod Groups
 pub mod Events
 pub mod Transcripts
 pub mod Heads
-pub mod Starts
 pub mod Serially
 pub mod Fresh
 pub mod Judged
-pub mod Behind
 pub mod Cutting
 pub mod Places
 pub mod Standing
 pub mod Wholes
+pub mod Starts
+pub mod Behind

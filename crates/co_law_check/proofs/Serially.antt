@@ -64,7 +64,7 @@ module _ (start : AllRecords) (is_start : start ≡ no_records) (cs : List Commi
   pub serially : Reads start ds → IsSerial cs
   serially r = subst (λ s. IsSerialFrom s cs) is_start (serially_from start cs ds h r)
 
-nothing_in : {A : Type 0} (xs : List A) → length xs ≡ 0 → xs ≡ []
+pub nothing_in : {A : Type 0} (xs : List A) → length xs ≡ 0 → xs ≡ []
 nothing_in [] none = refl
 nothing_in (x ∷ xs) none = absurd (omega (arith, none))
 

@@ -1,6 +1,6 @@
 -- The records of members, read line by line, are laid in again as they were.
-use Rattle.std.proofs.Common.{◌≡◌, ℕ, zero, suc, ◌+◌, ◌<◌, ◌≤◌, ◌==◌, ◌⊎◌, inl, inr, Bool, true, false, ◌&&◌, ◌||◌, nat_lt, nat_le, T, List, [], ◌∷◌, ◌++◌, length, map, Option, None, Some, if◌then◌else◌, refl, sym, ap, ◌∙◌, subst, arith, append_assoc, append-nil}
-use Rattle.std.proofs.lemmas.Bool.{ne_eqb}
+use Rattle.std.proofs.Common.{◌≡◌, ℕ, zero, suc, ◌+◌, ◌<◌, ◌≤◌, ◌==◌, ◌⊎◌, inl, inr, Bool, true, false, ◌&&◌, nat_lt, nat_le, T, List, [], ◌∷◌, ◌++◌, map, Option, None, Some, if◌then◌else◌, refl, sym, ap, ◌∙◌, subst, arith, append_assoc, append-nil}
+use Rattle.std.proofs.lemmas.Bool.{ne_eqb, or_left, or_right}
 use Rattle.std.proofs.lemmas.Bool.Decides.{nat_tests}
 use Rattle.std.proofs.lemmas.Cmp.{nat_list_cmp_total}
 use Rattle.std.proofs.lemmas.List.{map-append}
@@ -21,7 +21,10 @@ use Rattle.co_check.specs.Starts.{name_of, is_behind, laid_in}
 use Rattle.co_check.specs.declared.entry.Entry.{Entry}
 use Rattle.co_check.specs.declared.entry.Entry.TheVariants as entry
 use Rattle.co_check.specs.declared.starting.RecordName.{RecordName}
+use Rattle.co_schedule.proofs.Numbers.{and_true}
 use Rattle.co_law_check.proofs.Marks.{own}
+use Rattle.co_law_check.proofs.Serially.{nothing_in}
+use Rattle.co_law_check.proofs.Standing.{append_one}
 
 -- ---- entries in the order of their keys
 
@@ -60,10 +63,6 @@ next_below : (xs : List Pair) (y z : Pair) (zs : List Pair) → T (is_sorted key
 next_below [] y z zs h = below_one y.0 [] z zs (parts (below_all key_cmp y.0 (z ∷ zs)) (is_sorted key_cmp (z ∷ zs)) h).0
 next_below (x ∷ xs) y z zs h = next_below xs y z zs (parts (below_all key_cmp x.0 (xs ++ y ∷ z ∷ zs)) (is_sorted key_cmp (xs ++ y ∷ z ∷ zs)) h).1
 
-nothing_in : {A : Type 0} (xs : List A) → length xs ≡ 0 → xs ≡ []
-nothing_in [] none = refl
-nothing_in (x ∷ xs) none = absurd (omega (arith, none))
-
 no_entry : entries (empty {X = List ℕ} {R = key_cmp}) ≡ []
 no_entry = nothing_in _ (sym (len-entries (empty {X = List ℕ} {R = key_cmp})) ∙ len-empty key_cmp (List ℕ))
 
@@ -78,25 +77,9 @@ abbrev IsUpTo : ℕ → Option RecordName → Type 0
 IsUpTo m None = Unit {0}
 IsUpTo m (Some name) = name.member ≤ m
 
-or_right : (a b : Bool) → b ≡ true → (a || b) ≡ true
-or_right true b h = refl
-or_right false b h = h
-
-or_left : (a b : Bool) → a ≡ true → (a || b) ≡ true
-or_left true b h = refl
-or_left false b h = absurd (let z : false ≡ true = h in cc)
-
-both : (a b : Bool) → a ≡ true → b ≡ true → (a && b) ≡ true
-both true b g h = h
-both false b g h = absurd (let z : false ≡ true = g in cc)
-
 follows : (m : ℕ) (xs : List Pair) (y : Pair) (ys : List Pair) → T (is_sorted key_cmp (xs ++ y ∷ ys)) → MayFollow (Some (name_of (record { member = m; row = row_of y }))) m ys
 follows m xs y [] h = tt
-follows m xs y (z ∷ zs) h = or_right (nat_lt m m) (m == m && is_lt (key_cmp y.0 z.0)) (both (m == m) (is_lt (key_cmp y.0 z.0)) (own m) (ap is_lt (next_below xs y z zs h)))
-
-append_one : {A : Type 0} (xs : List A) (x : A) (ys : List A) → (xs ++ x ∷ []) ++ ys ≡ xs ++ x ∷ ys
-append_one [] x ys = refl
-append_one (z ∷ xs) x ys = ap (λ zs. z ∷ zs) (append_one xs x ys)
+follows m xs y (z ∷ zs) h = or_right (nat_lt m m) (m == m && is_lt (key_cmp y.0 z.0)) (and_true (m == m) (is_lt (key_cmp y.0 z.0)) (own m) (ap is_lt (next_below xs y z zs h)))
 
 -- where a reader stands behind these of a member that has those already
 record AreRead (m : ℕ) (last : Option RecordName) (start : AllRecords) (xs ys : List Pair) : Type 0 where
